@@ -1,0 +1,130 @@
+//! A configuration: what the object text gives, in numbers.
+
+use crate::letters::Letters;
+use crate::sequence::{Sequence, Text};
+use crate::state::StateSet;
+
+/// The number of a host or a service, its place in the configuration.
+#[derive(Clone, Copy, Debug, PartialEq, Eq)]
+pub struct ObjectId(pub u16);
+
+/// The number of a contact.
+#[derive(Clone, Copy, Debug, PartialEq, Eq)]
+pub struct ContactId(pub u16);
+
+/// The number of a lane: a notification command that some contact uses.
+#[derive(Clone, Copy, Debug, PartialEq, Eq)]
+pub struct LaneId(pub u8);
+
+/// The number of a time period.
+#[derive(Clone, Copy, Debug, PartialEq, Eq)]
+pub struct PeriodId(pub u16);
+
+/// A host or a service, with its notification settings (chapter "Object Definitions").
+#[derive(Drop)]
+pub struct Object {
+    /// A host's name, or a service's description.
+    pub name: Text,
+    /// The host of a service; none for a host.
+    pub host: Option<ObjectId>,
+    /// `notifications_enabled`.
+    pub enabled: bool,
+    /// `notification_options`.
+    pub options: Letters,
+    /// `notification_period`; none is always.
+    pub period: Option<PeriodId>,
+    /// `notification_interval`, in units of 60 seconds: 0 to 1,000,000, and 0 is "never again".
+    pub interval: u32,
+    /// `first_notification_delay`, in units of 60 seconds: 0 to 1,000,000.
+    pub delay: u32,
+    /// The contacts that are notified where no escalation matches.
+    pub contacts: Sequence<ContactId>,
+}
+
+/// Who is notified, of what and how (chapter "Object Definitions").
+#[derive(Drop)]
+pub struct Contact {
+    pub name: Text,
+    /// What holds for hosts.
+    pub hosts: Rights,
+    /// What holds for services.
+    pub services: Rights,
+}
+
+/// What a contact is notified of, for one kind of object.
+#[derive(Drop)]
+pub struct Rights {
+    /// `host_notifications_enabled` or `service_notifications_enabled`.
+    pub enabled: bool,
+    /// `host_notification_options` or `service_notification_options`.
+    pub options: Letters,
+    /// `host_notification_period` or `service_notification_period`; none is always.
+    pub period: Option<PeriodId>,
+    /// `host_notification_commands` or `service_notification_commands`.
+    pub lanes: Sequence<LaneId>,
+}
+
+/// A lane: a notification command that some contact uses.
+#[derive(Drop)]
+pub struct Lane {
+    /// The name of the command.
+    pub name: Text,
+}
+
+/// Seconds of a local day, from `start` on and before `end`: at most 86,400 both.
+#[derive(Clone, Copy, Debug, PartialEq, Eq)]
+pub struct Range {
+    pub start: u32,
+    pub end: u32,
+}
+
+/// A time period (chapter "Time Periods").
+#[derive(Drop)]
+pub struct Period {
+    pub name: Text,
+    /// The ranges of each weekday, Sunday first.
+    pub days: [Sequence<Range>; 7],
+    /// The periods that are taken out of this one.
+    pub excludes: Sequence<PeriodId>,
+}
+
+/// An escalation of one object (chapter "Notification Escalations").
+#[derive(Drop)]
+pub struct Escalation {
+    pub object: ObjectId,
+    /// `first_notification`: 0 to 1,000,000.
+    pub first: u32,
+    /// `last_notification`: 0 to 1,000,000, and 0 is "without end".
+    pub last: u32,
+    /// `notification_interval`, in units of 60 seconds: 0 to 1,000,000.
+    pub interval: u32,
+    /// `escalation_period`; none is always.
+    pub period: Option<PeriodId>,
+    /// `escalation_options`.
+    pub options: Letters,
+    pub contacts: Sequence<ContactId>,
+}
+
+/// A notification dependency of one object on another (chapter "Host and Service Dependencies").
+#[derive(Clone, Copy, Debug)]
+pub struct Dependency {
+    pub dependent: ObjectId,
+    pub master: ObjectId,
+    /// `inherits_parent`.
+    pub inherits: bool,
+    /// `notification_failure_criteria`.
+    pub states: StateSet,
+    /// `dependency_period`; none is always.
+    pub period: Option<PeriodId>,
+}
+
+/// All that the object text gives.
+#[derive(Drop)]
+pub struct Config {
+    pub objects: Sequence<Object>,
+    pub contacts: Sequence<Contact>,
+    pub lanes: Sequence<Lane>,
+    pub periods: Sequence<Period>,
+    pub escalations: Sequence<Escalation>,
+    pub dependencies: Sequence<Dependency>,
+}

@@ -1,0 +1,11 @@
+//! The data of the notification engine, and in `specs/` the definitions that every crate's contracts
+//! cite: who is due which notice after a list of events.
+#![tactic(auto)]
+
+pub mod config;
+pub mod event;
+pub mod letters;
+pub mod notice;
+pub mod sequence;
+pub mod state;
+pub mod zone;
