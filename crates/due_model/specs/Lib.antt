@@ -1,0 +1,11 @@
+pub mod Local
+pub mod Periods
+pub mod Readings
+pub mod Rules
+pub mod Escalations
+pub mod Dependencies
+pub mod Histories
+pub mod Due
+pub mod Accepted
+pub mod Covered
+pub mod Rows

@@ -1,7 +1,6 @@
 //! The time zone in which periods are read.
 
-use jiff::tz::TimeZone;
-use jiff_tz::Tzif;
+use jiff::tz::{TimeZone, Tzif};
 
 /// A time zone, which owns all that it needs.
 #[derive(Drop)]

@@ -1,0 +1,207 @@
+-- The rules of an attempt: what is attempted, its letter, and the filters in their order.
+use Rattle.std.specs.Prelude.{ℕ, ◌+◌, ◌*◌, Bool, true, false, not, ◌&&◌, ◌||◌, List, [], ◌∷◌, nat_lt, nat_le, ◌==◌, Option, Some, None, if◌then◌else◌}
+use Rattle.due_model.specs.declared.event.EventKind.{EventKind}
+use Rattle.due_model.specs.declared.event.EventKind.TheVariants as event
+use Rattle.due_model.specs.declared.event.DowntimeChange.{DowntimeChange}
+use Rattle.due_model.specs.declared.event.DowntimeChange.TheVariants as change
+use Rattle.due_model.specs.declared.state.State.{State}
+use Rattle.due_model.specs.declared.state.State.TheVariants as state
+use Rattle.due_model.specs.declared.letters.Letter.{Letter}
+use Rattle.due_model.specs.declared.letters.Letter.TheVariants as letter
+use Rattle.due_model.specs.declared.letters.Letters.{Letters}
+use Rattle.due_model.specs.declared.notice.Kind.{Kind}
+use Rattle.due_model.specs.declared.notice.Kind.TheVariants as kind
+use Rattle.due_model.specs.declared.notice.Filter.{Filter}
+use Rattle.due_model.specs.declared.notice.Filter.TheVariants as filter
+use Rattle.due_model.specs.declared.config.Config.{Config}
+use Rattle.due_model.specs.declared.config.PeriodId.{PeriodId}
+use Rattle.due_model.specs.declared.config.Rights.{Rights}
+use Rattle.due_model.specs.declared.zone.Zone.{Zone}
+use Rattle.due_model.specs.Periods.{in_period}
+use Rattle.due_model.specs.Readings.{is_ok_state, is_problem_state, depth_changed}
+
+-- what is kept of an object apart from its notices: its hard state, how many downtimes run, whether it is flapping
+pub record Standing : Type 0 where
+  pub state : State
+  pub depth : ℕ
+  pub flapping : Bool
+
+-- a ready moment that has come
+abbrev pub has_come : Option ℕ → ℕ → Bool
+has_come None t = false
+has_come (Some ready) t = nat_le ready t
+
+-- the kind that ends a downtime, and the kind that begins one
+abbrev pub downtime_kind : DowntimeChange → Kind
+downtime_kind change.Start = kind.DowntimeStart
+downtime_kind change.End = kind.DowntimeEnd
+downtime_kind change.Cancelled = kind.DowntimeCancelled
+
+-- What an event attempts on object o, which stood so before it and whose ready moment is that, at moment t
+-- (chapter "Notifications"). A hard problem state is always an attempt, and an OK state after a problem is
+-- one. The clock attempts a problem again once its ready moment has come. Flapping and downtime are told of
+-- where the event changes whether the object is flapping, or in downtime.
+abbrev pub attempted : ℕ → EventKind → Standing → Option ℕ → ℕ → Option Kind
+attempted o event.Clock old ready t = if is_problem_state old.state && has_come ready t then Some kind.Problem else None
+attempted o (event.Program on) old ready t = None
+attempted o (event.Hard p s) old ready t =
+    if not (p.0 == o) then None
+    else (if is_problem_state s then Some kind.Problem
+    else (if is_ok_state s && is_problem_state old.state then Some kind.Recovery else None))
+attempted o (event.Downtime p change) old ready t =
+    if not (p.0 == o) then None
+    else (if nat_lt 0 old.depth
+    then (if nat_lt 0 (depth_changed change old.depth) then None else Some (downtime_kind change))
+    else (if nat_lt 0 (depth_changed change old.depth) then Some (downtime_kind change) else None))
+attempted o (event.Flapping p starts) old ready t =
+    if not (p.0 == o) then None
+    else (if starts then (if old.flapping then None else Some kind.FlappingStart)
+    else (if old.flapping then Some kind.FlappingStop else None))
+
+-- the letter of a state (chapter "Object Definitions", `notification_options`)
+abbrev pub state_letter : State → Letter
+state_letter state.Pending = letter.Recovery
+state_letter state.Up = letter.Recovery
+state_letter state.Down = letter.Down
+state_letter state.Unreachable = letter.Unreachable
+state_letter state.Fine = letter.Recovery
+state_letter state.Warning = letter.Warning
+state_letter state.Unknown = letter.Unknown
+state_letter state.Critical = letter.Critical
+
+-- the letter of a notification: that of the state for a problem, else that of its kind
+abbrev pub letter_of : Kind → State → Letter
+letter_of kind.Problem s = state_letter s
+letter_of kind.Recovery s = letter.Recovery
+letter_of kind.FlappingStart s = letter.Flapping
+letter_of kind.FlappingStop s = letter.Flapping
+letter_of kind.DowntimeStart s = letter.Downtime
+letter_of kind.DowntimeEnd s = letter.Downtime
+letter_of kind.DowntimeCancelled s = letter.Downtime
+
+-- whether a letter is in a set
+abbrev pub has_letter : Letters → Letter → Bool
+has_letter set letter.Down = set.down
+has_letter set letter.Unreachable = set.unreachable
+has_letter set letter.Warning = set.warning
+has_letter set letter.Unknown = set.unknown
+has_letter set letter.Critical = set.critical
+has_letter set letter.Recovery = set.recovery
+has_letter set letter.Flapping = set.flapping
+has_letter set letter.Downtime = set.downtime
+
+-- whether two states are one
+abbrev pub same_state : State → State → Bool
+same_state s t = state_number s == state_number t
+  where
+    state_number : State → ℕ
+    state_number state.Pending = 0
+    state_number state.Up = 1
+    state_number state.Down = 2
+    state_number state.Unreachable = 3
+    state_number state.Fine = 4
+    state_number state.Warning = 5
+    state_number state.Unknown = 6
+    state_number state.Critical = 7
+
+-- a notification that is attempted
+pub record Attempt : Type 0 where
+  pub kind : Kind
+  pub state : State
+  pub moment : ℕ
+
+-- the last problem notice of the running problem; its gap is in seconds
+pub record Last : Type 0 where
+  pub state : State
+  pub moment : ℕ
+  pub gap : ℕ
+
+-- what the filters of an object read
+pub record View : Type 0 where
+  -- the program switch is on
+  pub program : Bool
+  pub enabled : Bool
+  -- the object, or a service's host, is in downtime
+  pub down : Bool
+  pub flapping : Bool
+  pub options : Letters
+  -- how many problem notices of this problem went out
+  pub sent : ℕ
+  pub period : Option PeriodId
+  -- a notification dependency fails
+  pub depends : Bool
+  -- when this problem began
+  pub began : ℕ
+  -- `first_notification_delay`, in units of 60 seconds
+  pub delay : ℕ
+  pub last : Option Last
+
+-- the kinds of which a filter speaks
+abbrev pub is_problem : Kind → Bool
+is_problem kind.Problem = true
+is_problem kind.Recovery = false
+is_problem kind.FlappingStart = false
+is_problem kind.FlappingStop = false
+is_problem kind.DowntimeStart = false
+is_problem kind.DowntimeEnd = false
+is_problem kind.DowntimeCancelled = false
+
+abbrev pub is_recovery : Kind → Bool
+is_recovery kind.Problem = false
+is_recovery kind.Recovery = true
+is_recovery kind.FlappingStart = false
+is_recovery kind.FlappingStop = false
+is_recovery kind.DowntimeStart = false
+is_recovery kind.DowntimeEnd = false
+is_recovery kind.DowntimeCancelled = false
+
+abbrev pub is_of_downtime : Kind → Bool
+is_of_downtime kind.Problem = false
+is_of_downtime kind.Recovery = false
+is_of_downtime kind.FlappingStart = false
+is_of_downtime kind.FlappingStop = false
+is_of_downtime kind.DowntimeStart = true
+is_of_downtime kind.DowntimeEnd = true
+is_of_downtime kind.DowntimeCancelled = true
+
+-- a problem, or the recovery from one
+abbrev pub is_of_problem : Kind → Bool
+is_of_problem k = is_problem k || is_recovery k
+
+-- the moment of the next notice of the same state, after one at this moment with this gap; never, where that is 0
+abbrev pub next_notice : (moment gap : ℕ) → Option ℕ
+next_notice moment gap = if gap == 0 then None else Some (moment + gap)
+
+-- the last notice reported the same state, and its gap is 0 or hasn't passed
+abbrev pub is_too_soon : Option Last → Attempt → Bool
+is_too_soon None a = false
+is_too_soon (Some last) a = same_state last.state a.state && not (has_come (next_notice last.moment last.gap) a.moment)
+
+-- the first filter of a list that fails
+abbrev pub first_failing : List (Bool × Filter) → Option Filter
+first_failing [] = None
+first_failing (test ∷ tests) = if test.0 then Some test.1 else first_failing tests
+
+-- The first of an object's filters that fails, in their order (chapter "Notifications", "What Filters Must
+-- Be Passed In Order For Notifications To Be Sent?").
+abbrev pub failing : Config → Zone → View → Attempt → Option Filter
+failing c zone v a = first_failing (
+    (not v.program, filter.Program)
+    ∷ (not v.enabled, filter.Disabled)
+    ∷ (not (is_of_downtime a.kind) && v.down, filter.Downtime)
+    ∷ (is_of_problem a.kind && v.flapping, filter.Flapping)
+    ∷ (not (has_letter v.options (letter_of a.kind a.state)), filter.Options)
+    ∷ (is_recovery a.kind && v.sent == 0, filter.NoProblem)
+    ∷ (not (in_period c zone v.period a.moment), filter.Period)
+    ∷ (is_of_problem a.kind && v.depends, filter.Dependency)
+    ∷ (is_problem a.kind && v.sent == 0 && nat_lt a.moment (v.began + 60 * v.delay), filter.FirstDelay)
+    ∷ (is_problem a.kind && is_too_soon v.last a, filter.Interval)
+    ∷ [])
+
+-- The first of a contact's filters that fails, in their order (the same chapter).
+abbrev pub contact_failing : Config → Zone → Rights → Attempt → Option Filter
+contact_failing c zone rights a = first_failing (
+    (not rights.enabled, filter.ContactDisabled)
+    ∷ (not (has_letter rights.options (letter_of a.kind a.state)), filter.ContactOptions)
+    ∷ (not (in_period c zone rights.period a.moment), filter.ContactPeriod)
+    ∷ [])
