@@ -44,24 +44,24 @@ uses_lane rights l = list_any (λ lane. lane.0 == l) rights.lanes
 -- the notice of contact k on lane l, if the contact's filters pass and it uses that lane
 abbrev pub notice_to : Config → Zone → ℕ → Object → (l event number : ℕ) → Attempt → ℕ → List Notice
 notice_to c zone o object l event number a k = elim (slice_get c.contacts k) as (λ _. List Notice) [
-    None ↦ []
+  | None ↦ []
   | Some contact ↦ elim (contact_failing c zone (rights_for object contact) a) as (λ _. List Notice) [
-        Some why ↦ []
-      | None ↦ if uses_lane (rights_for object contact) l
-          then record { event = event; moment = a.moment; object = record { 0 = o }; kind = a.kind; state = a.state; number = number; contact = record { 0 = k }; lane = record { 0 = l } } ∷ []
-          else []
-      ]
+    | Some why ↦ []
+    | None ↦ if uses_lane (rights_for object contact) l
+        then record { event = event; moment = a.moment; object = record { 0 = o }; kind = a.kind; state = a.state; number = number; contact = record { 0 = k }; lane = record { 0 = l } } ∷ []
+        else []
   ]
+]
 
 -- the suppression of contact k, if one of the contact's filters fails
 abbrev pub refusal_of : Config → Zone → ℕ → Object → (event number : ℕ) → Attempt → ℕ → List Suppression
 refusal_of c zone o object event number a k = elim (slice_get c.contacts k) as (λ _. List Suppression) [
-    None ↦ []
+  | None ↦ []
   | Some contact ↦ elim (contact_failing c zone (rights_for object contact) a) as (λ _. List Suppression) [
-        None ↦ []
-      | Some why ↦ record { event = event; moment = a.moment; object = record { 0 = o }; kind = a.kind; state = a.state; number = number; filter = why; contact = Some (record { 0 = k }) } ∷ []
-      ]
+    | None ↦ []
+    | Some why ↦ record { event = event; moment = a.moment; object = record { 0 = o }; kind = a.kind; state = a.state; number = number; filter = why; contact = Some (record { 0 = k }) } ∷ []
   ]
+]
 
 -- the notices of an outcome for lane l, one for each receiver that gets it there
 abbrev pub notices : Config → Zone → ℕ → Object → (l event : ℕ) → Outcome → List Notice

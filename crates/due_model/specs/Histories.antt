@@ -13,7 +13,8 @@ use Rattle.due_model.specs.declared.notice.Outcome.TheVariants.{Nothing, Sent, S
 use Rattle.due_model.specs.declared.zone.Zone.{Zone}
 use Rattle.due_model.specs.Periods.{next_in}
 use Rattle.due_model.specs.Readings.{moment, program_on, hard, depth, down, flapping, begins, began}
-use Rattle.due_model.specs.Rules.{Standing, Attempt, Last, View, attempted, failing, is_problem, letter_of, next_notice}
+use Rattle.due_model.specs.declared.rules.Standing.{Standing}
+use Rattle.due_model.specs.Rules.{Attempt, Last, View, attempted, failing, is_problem, letter_of, next_notice}
 use Rattle.due_model.specs.Escalations.{gap}
 use Rattle.due_model.specs.Dependencies.{dependency_fails}
 
@@ -114,9 +115,9 @@ gap_of c zone o object a number = if is_problem a.kind then gap c zone o object 
 -- what becomes of an attempt: the first failing filter suppresses it, else it goes out
 abbrev pub judged : Config → Zone → ℕ → Object → View → Attempt → Outcome
 judged c zone o object v a = elim (failing c zone v a) as (λ _. Outcome) [
-    None ↦ Sent a.kind a.state (number_after v.sent a.kind) a.moment (gap_of c zone o object a (number_after v.sent a.kind))
+  | None ↦ Sent a.kind a.state (number_after v.sent a.kind) a.moment (gap_of c zone o object a (number_after v.sent a.kind))
   | Some why ↦ Suppressed a.kind a.state (number_after v.sent a.kind) a.moment why
-  ]
+]
 
 -- what becomes of an event that attempts this kind, or nothing
 abbrev pub outcome_of : Config → Zone → ℕ → Object → Event → List Event → (earlier : List Outcome) → Option Kind → Outcome

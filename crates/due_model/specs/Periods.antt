@@ -21,10 +21,10 @@ ranges_on period weekday = elim (slice_get period.days weekday) as (λ _. List R
 abbrev pub holds : (depth : ℕ) → List Period → ℕ → Local → Bool
 holds zero periods number time = false
 holds (suc depth) periods number time = elim (slice_get periods number) as (λ _. Bool) [
-    None ↦ false
+  | None ↦ false
   | Some period ↦ list_any (in_range time.second) (ranges_on period time.weekday)
       && not (list_any (λ excluded. holds depth periods excluded.0 time) period.excludes)
-  ]
+]
 
 -- In: whether a moment is in a period. No period is always.
 abbrev pub in_period : Config → Zone → Option PeriodId → ℕ → Bool

@@ -111,8 +111,13 @@ with_bob escalations = record base { contacts = by_mail (codes "ann") ∷ by_mai
 -- an escalation of object o to one contact
 abbrev pub escalation : (o first last interval contact : ℕ) → Escalation
 escalation o first last interval contact = record {
-  object = record { 0 = o }; first = first; last = last; interval = interval;
-  period = None; options = every_letter; contacts = record { 0 = contact } ∷ [];
+  object = record { 0 = o };
+  first = first;
+  last = last;
+  interval = interval;
+  period = None;
+  options = every_letter;
+  contacts = record { 0 = contact } ∷ [];
 }
 
 -- a recovery goes to the contacts of the last notice's number
@@ -133,20 +138,20 @@ overlap = record base {
 abbrev pub OverlappingEscalations : Type 0
 OverlappingEscalations = Gives overlap 0
     (at 0 (has 0 state.Down) ∷ at 600 event.Clock ∷ at 1200 event.Clock ∷ at 1800 event.Clock ∷ at 3899 event.Clock ∷ at 3900 event.Clock
-     ∷ at 6600 event.Clock ∷ at 9300 event.Clock ∷ at 12899 event.Clock ∷ at 12900 event.Clock ∷ [])
+    ∷ at 6600 event.Clock ∷ at 9300 event.Clock ∷ at 12899 event.Clock ∷ at 12900 event.Clock ∷ [])
     ((0, 0, kind.Problem, state.Down, 1, 0) ∷ (1, 600, kind.Problem, state.Down, 2, 0) ∷ (2, 1200, kind.Problem, state.Down, 3, 1)
-     ∷ (5, 3900, kind.Problem, state.Down, 4, 1) ∷ (5, 3900, kind.Problem, state.Down, 4, 2)
-     ∷ (6, 6600, kind.Problem, state.Down, 5, 1) ∷ (6, 6600, kind.Problem, state.Down, 5, 2)
-     ∷ (7, 9300, kind.Problem, state.Down, 6, 2) ∷ (9, 12900, kind.Problem, state.Down, 7, 2) ∷ [])
+    ∷ (5, 3900, kind.Problem, state.Down, 4, 1) ∷ (5, 3900, kind.Problem, state.Down, 4, 2)
+    ∷ (6, 6600, kind.Problem, state.Down, 5, 1) ∷ (6, 6600, kind.Problem, state.Down, 5, 2)
+    ∷ (7, 9300, kind.Problem, state.Down, 6, 2) ∷ (9, 12900, kind.Problem, state.Down, 7, 2) ∷ [])
     []
 
 -- after a notice with the interval 0 none follows until the state changes
 abbrev pub IntervalZero : Type 0
 IntervalZero = Gives (record (with_bob (escalation 1 4 6 0 1 ∷ [])) { objects = web ∷ service (codes "PING") ∷ [] }) 1
     (at 1000 (has 1 state.Warning) ∷ at 1060 event.Clock ∷ at 1120 event.Clock ∷ at 1180 event.Clock ∷ at 1240 event.Clock ∷ at 9999 event.Clock
-     ∷ at 10000 (has 1 state.Critical) ∷ at 20000 event.Clock ∷ [])
+    ∷ at 10000 (has 1 state.Critical) ∷ at 20000 event.Clock ∷ [])
     ((0, 1000, kind.Problem, state.Warning, 1, 0) ∷ (1, 1060, kind.Problem, state.Warning, 2, 0) ∷ (2, 1120, kind.Problem, state.Warning, 3, 0)
-     ∷ (3, 1180, kind.Problem, state.Warning, 4, 1) ∷ (6, 10000, kind.Problem, state.Critical, 5, 1) ∷ [])
+    ∷ (3, 1180, kind.Problem, state.Warning, 4, 1) ∷ (6, 10000, kind.Problem, state.Critical, 5, 1) ∷ [])
     []
 
 abbrev pub downtime : ℕ → EventKind
@@ -184,7 +189,7 @@ abbrev pub chain : (inherits : Bool) → Config
 chain inherits = record base {
   objects = web ∷ service (codes "A") ∷ service (codes "C") ∷ service (codes "B") ∷ [];
   dependencies = record { dependent = record { 0 = 1 }; master = record { 0 = 3 }; inherits = inherits; states = only_critical; period = None }
-    ∷ record { dependent = record { 0 = 3 }; master = record { 0 = 2 }; inherits = false; states = only_critical; period = None } ∷ [];
+      ∷ record { dependent = record { 0 = 3 }; master = record { 0 = 2 }; inherits = false; states = only_critical; period = None } ∷ [];
 }
 
 abbrev pub both_critical : List Event
@@ -225,8 +230,14 @@ not_recoveries = record on_mail { options = record every_letter { recovery = fal
 
 abbrev pub refusal : Suppression
 refusal = record {
-  event = 1; moment = 1010; object = record { 0 = 0 }; kind = kind.Recovery; state = state.Up; number = 2;
-  filter = filter.ContactOptions; contact = Some (record { 0 = 0 });
+  event = 1;
+  moment = 1010;
+  object = record { 0 = 0 };
+  kind = kind.Recovery;
+  state = state.Up;
+  number = 2;
+  filter = filter.ContactOptions;
+  contact = Some (record { 0 = 0 });
 }
 
 abbrev pub ContactOptions : Type 0

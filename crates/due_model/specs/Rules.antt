@@ -16,47 +16,49 @@ use Rattle.due_model.specs.declared.notice.Filter.TheVariants as filter
 use Rattle.due_model.specs.declared.config.Config.{Config}
 use Rattle.due_model.specs.declared.config.PeriodId.{PeriodId}
 use Rattle.due_model.specs.declared.config.Rights.{Rights}
+use Rattle.due_model.specs.declared.rules.Standing.{Standing}
 use Rattle.due_model.specs.declared.zone.Zone.{Zone}
 use Rattle.due_model.specs.Periods.{in_period}
 use Rattle.due_model.specs.Readings.{is_ok_state, is_problem_state, depth_changed}
-
--- what is kept of an object apart from its notices: its hard state, how many downtimes run, whether it is flapping
-pub record Standing : Type 0 where
-  pub state : State
-  pub depth : ℕ
-  pub flapping : Bool
 
 -- a ready moment that has come
 abbrev pub has_come : Option ℕ → ℕ → Bool
 has_come None t = false
 has_come (Some ready) t = nat_le ready t
 
--- the kind that ends a downtime, and the kind that begins one
+-- the kind of notification that tells of a change
 abbrev pub downtime_kind : DowntimeChange → Kind
 downtime_kind change.Start = kind.DowntimeStart
 downtime_kind change.End = kind.DowntimeEnd
 downtime_kind change.Cancelled = kind.DowntimeCancelled
 
+-- a hard problem state is always an attempt, and an OK state after a problem state is one
+abbrev pub attempted_by_state : (old now : State) → Option Kind
+attempted_by_state old now =
+    if is_problem_state now then Some kind.Problem
+    else (if is_ok_state now && is_problem_state old then Some kind.Recovery else None)
+
+-- downtime is told of where it begins to be in downtime, or ceases to be, with so many downtimes running before
+abbrev pub attempted_by_downtime : (depth : ℕ) → DowntimeChange → Option Kind
+attempted_by_downtime depth change =
+    if nat_lt 0 depth
+    then (if nat_lt 0 (depth_changed change depth) then None else Some (downtime_kind change))
+    else (if nat_lt 0 (depth_changed change depth) then Some (downtime_kind change) else None)
+
+-- flapping is told of where it starts or stops
+abbrev pub attempted_by_flapping : (flapping starts : Bool) → Option Kind
+attempted_by_flapping flapping true = if flapping then None else Some kind.FlappingStart
+attempted_by_flapping flapping false = if flapping then Some kind.FlappingStop else None
+
 -- What an event attempts on object o, which stood so before it and whose ready moment is that, at moment t
--- (chapter "Notifications"). A hard problem state is always an attempt, and an OK state after a problem is
--- one. The clock attempts a problem again once its ready moment has come. Flapping and downtime are told of
--- where the event changes whether the object is flapping, or in downtime.
+-- (chapter "Notifications", "When Do Notifications Occur?"). The clock attempts a problem again once its ready
+-- moment has come.
 abbrev pub attempted : ℕ → EventKind → Standing → Option ℕ → ℕ → Option Kind
 attempted o event.Clock old ready t = if is_problem_state old.state && has_come ready t then Some kind.Problem else None
 attempted o (event.Program on) old ready t = None
-attempted o (event.Hard p s) old ready t =
-    if not (p.0 == o) then None
-    else (if is_problem_state s then Some kind.Problem
-    else (if is_ok_state s && is_problem_state old.state then Some kind.Recovery else None))
-attempted o (event.Downtime p change) old ready t =
-    if not (p.0 == o) then None
-    else (if nat_lt 0 old.depth
-    then (if nat_lt 0 (depth_changed change old.depth) then None else Some (downtime_kind change))
-    else (if nat_lt 0 (depth_changed change old.depth) then Some (downtime_kind change) else None))
-attempted o (event.Flapping p starts) old ready t =
-    if not (p.0 == o) then None
-    else (if starts then (if old.flapping then None else Some kind.FlappingStart)
-    else (if old.flapping then Some kind.FlappingStop else None))
+attempted o (event.Hard p now) old ready t = if p.0 == o then attempted_by_state old.state now else None
+attempted o (event.Downtime p change) old ready t = if p.0 == o then attempted_by_downtime old.depth change else None
+attempted o (event.Flapping p starts) old ready t = if p.0 == o then attempted_by_flapping old.flapping starts else None
 
 -- the letter of a state (chapter "Object Definitions", `notification_options`)
 abbrev pub state_letter : State → Letter

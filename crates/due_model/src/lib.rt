@@ -7,6 +7,7 @@ pub mod event;
 pub mod letters;
 pub mod notice;
 pub mod rows;
+pub mod rules;
 pub mod sequence;
 pub mod state;
 pub mod zone;

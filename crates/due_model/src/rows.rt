@@ -10,16 +10,14 @@ pub fn worked_examples()
     ensures renotify { Renotify }
     ensures same_state_too_soon { SameStateTooSoon }
     ensures program_switch { ProgramSwitch }
-{
-}
+{}
 
 /// The definitions give what the worked examples say of escalations (chapter "Notification Escalations").
 pub fn worked_escalations()
     ensures escalation_and_recovery { EscalationAndRecovery }
     ensures overlapping { OverlappingEscalations }
     ensures interval_zero { IntervalZero }
-{
-}
+{}
 
 /// The definitions give what the worked examples say of the other filters.
 pub fn worked_filters()
@@ -29,5 +27,4 @@ pub fn worked_filters()
     ensures dependency_chain { DependencyChain }
     ensures first_delay { FirstDelay }
     ensures contact_options { ContactOptions }
-{
-}
+{}

@@ -1,0 +1,264 @@
+//! The rules that tell, from values already read, what an event changes and what it attempts.
+
+ghost use Rattle.std.specs.Prelude.{◌≡◌, ◌+◌, ◌^◌, ◌<◌, Some};
+ghost use Rattle.due_model.specs.Readings.{is_ok_state, is_problem_state, switch_after, hard_after, depth_changed, is_problem_of};
+ghost use Rattle.due_model.specs.Rules.{attempted, attempted_by_state, attempted_by_downtime, attempted_by_flapping, downtime_kind, has_come, state_letter, letter_of, has_letter, next_notice};
+ghost use Rattle.due_model.specs.Dependencies.{has_state};
+
+use crate::config::ObjectId;
+use crate::event::{DowntimeChange, EventKind};
+use crate::letters::{Letter, Letters};
+use crate::notice::Kind;
+use crate::state::{State, StateSet};
+
+impl State {
+    /// Whether this is an OK state (chapter "State Types").
+    pub fn is_ok(self) -> bool
+        ensures { result ≡ is_ok_state self }
+    {
+        matches!(self, State::Up | State::Fine)
+    }
+
+    /// Whether this is a problem state: neither OK nor pending (chapter "State Types").
+    pub fn is_problem(self) -> bool
+        ensures { result ≡ is_problem_state self }
+    {
+        !matches!(self, State::Pending | State::Up | State::Fine)
+    }
+
+    /// The letter of a problem state; an OK or a pending state has that of a recovery.
+    pub fn letter(self) -> Letter
+        ensures { result ≡ state_letter self }
+    {
+        match self {
+            State::Pending | State::Up | State::Fine => Letter::Recovery,
+            State::Down => Letter::Down,
+            State::Unreachable => Letter::Unreachable,
+            State::Warning => Letter::Warning,
+            State::Unknown => Letter::Unknown,
+            State::Critical => Letter::Critical,
+        }
+    }
+}
+
+impl StateSet {
+    /// Whether the state is in the set.
+    pub fn contains(&self, state: State) -> bool
+        ensures { result ≡ has_state self.now state }
+    {
+        match state {
+            State::Pending => self.pending,
+            State::Up => self.up,
+            State::Down => self.down,
+            State::Unreachable => self.unreachable,
+            State::Fine => self.fine,
+            State::Warning => self.warning,
+            State::Unknown => self.unknown,
+            State::Critical => self.critical,
+        }
+    }
+}
+
+impl Letters {
+    /// Whether the letter is in the set.
+    pub fn contains(&self, letter: Letter) -> bool
+        ensures { result ≡ has_letter self.now letter }
+    {
+        match letter {
+            Letter::Down => self.down,
+            Letter::Unreachable => self.unreachable,
+            Letter::Warning => self.warning,
+            Letter::Unknown => self.unknown,
+            Letter::Critical => self.critical,
+            Letter::Recovery => self.recovery,
+            Letter::Flapping => self.flapping,
+            Letter::Downtime => self.downtime,
+        }
+    }
+}
+
+impl Kind {
+    /// The letter of a notification of this kind, about an object in this state (chapter "Object
+    /// Definitions", `notification_options`).
+    pub fn letter(self, state: State) -> Letter
+        ensures { result ≡ letter_of self state }
+    {
+        match self {
+            Kind::Problem => state.letter(),
+            Kind::Recovery => Letter::Recovery,
+            Kind::FlappingStart | Kind::FlappingStop => Letter::Flapping,
+            Kind::DowntimeStart | Kind::DowntimeEnd | Kind::DowntimeCancelled => Letter::Downtime,
+        }
+    }
+}
+
+impl EventKind {
+    /// The program switch after this event, which was `on` before it (chapter "External Commands").
+    pub fn switch_after(self, on: bool) -> bool
+        ensures { result ≡ switch_after self on }
+    {
+        match self {
+            EventKind::Program(now) => now,
+            _ => on,
+        }
+    }
+
+    /// The hard state of an object after this event, which was `state` before it (chapter "State Types").
+    pub fn hard_after(self, object: ObjectId, state: State) -> State
+        ensures { result ≡ hard_after object.0 self state }
+    {
+        match self {
+            EventKind::Hard(named, now) => { if named.0 == object.0 { now } else { state } }
+            _ => state,
+        }
+    }
+
+    /// Whether this event is a hard problem state of the object.
+    pub fn is_problem_of(self, object: ObjectId) -> bool
+        ensures { result ≡ is_problem_of object.0 self }
+    {
+        match self {
+            EventKind::Hard(named, now) => named.0 == object.0 && now.is_problem(),
+            _ => false,
+        }
+    }
+}
+
+impl DowntimeChange {
+    /// How many downtimes run after this change, of `depth` before it. They nest, and an end with none
+    /// running does nothing (chapter "Scheduled Downtime").
+    pub fn depth_after(self, depth: u64) -> u64
+        requires { depth + 1 < 2 ^ 64 }
+        ensures { result ≡ depth_changed self depth }
+    {
+        match self {
+            DowntimeChange::Start => depth + 1,
+            DowntimeChange::End | DowntimeChange::Cancelled => depth.saturating_sub(1),
+        }
+    }
+
+    /// The kind of notification that tells of this change.
+    pub fn kind(self) -> Kind
+        ensures { result ≡ downtime_kind self }
+    {
+        match self {
+            DowntimeChange::Start => Kind::DowntimeStart,
+            DowntimeChange::End => Kind::DowntimeEnd,
+            DowntimeChange::Cancelled => Kind::DowntimeCancelled,
+        }
+    }
+}
+
+/// How an object stands, apart from its notices.
+#[derive(Clone, Copy, Debug, PartialEq, Eq)]
+pub struct Standing {
+    /// The last hard state.
+    pub state: State,
+    /// How many downtimes run.
+    pub depth: u64,
+    pub flapping: bool,
+}
+
+/// What a hard state attempts on an object that was in state `old`.
+pub fn attempted_by_state(old: State, now: State) -> Option<Kind>
+    ensures { result ≡ attempted_by_state old now }
+{
+    if now.is_problem() {
+        Some(Kind::Problem)
+    } else if now.is_ok() && old.is_problem() {
+        Some(Kind::Recovery)
+    } else {
+        None
+    }
+}
+
+/// What a change of a downtime attempts on an object of which `depth` downtimes ran.
+pub fn attempted_by_downtime(depth: u64, change: DowntimeChange) -> Option<Kind>
+    requires { depth + 1 < 2 ^ 64 }
+    ensures { result ≡ attempted_by_downtime depth change }
+{
+    let was_down = 0 < depth;
+    let is_down = 0 < change.depth_after(depth);
+    if was_down {
+        if is_down { None } else { Some(change.kind()) }
+    } else if is_down {
+        Some(change.kind())
+    } else {
+        None
+    }
+}
+
+/// What a start or a stop of flapping attempts on an object that was flapping or not.
+pub fn attempted_by_flapping(flapping: bool, starts: bool) -> Option<Kind>
+    ensures { result ≡ attempted_by_flapping flapping starts }
+{
+    match (starts, flapping) {
+        (true, false) => Some(Kind::FlappingStart),
+        (false, true) => Some(Kind::FlappingStop),
+        _ => None,
+    }
+}
+
+/// What an event attempts on an object, which stood so before it and whose ready moment is that, at moment
+/// `t` (chapter "Notifications", "When Do Notifications Occur?"). None is "nothing".
+pub fn attempted(
+    object: ObjectId,
+    event: EventKind,
+    old: Standing,
+    ready: Option<u64>,
+    t: u64,
+) -> Option<Kind>
+    requires { old.depth + 1 < 2 ^ 64 }
+    ensures { result ≡ attempted object.0 event old ready t }
+{
+    match event {
+        EventKind::Clock => {
+            if old.state.is_problem() && has_come(ready, t) {
+                Some(Kind::Problem)
+            } else {
+                None
+            }
+        }
+        EventKind::Program(_) => None,
+        EventKind::Hard(named, now) => {
+            if named.0 == object.0 {
+                attempted_by_state(old.state, now)
+            } else {
+                None
+            }
+        }
+        EventKind::Downtime(named, change) => {
+            if named.0 == object.0 {
+                attempted_by_downtime(old.depth, change)
+            } else {
+                None
+            }
+        }
+        EventKind::Flapping(named, starts) => {
+            if named.0 == object.0 {
+                attempted_by_flapping(old.flapping, starts)
+            } else {
+                None
+            }
+        }
+    }
+}
+
+/// Whether a ready moment has come at moment `t`; none never comes.
+pub fn has_come(ready: Option<u64>, t: u64) -> bool
+    ensures { result ≡ has_come ready t }
+{
+    match ready {
+        Some(moment) => moment <= t,
+        None => false,
+    }
+}
+
+/// The moment of the next notice of the same state, in seconds since the epoch, after one at `moment`
+/// with this gap in seconds; none, where the gap is 0.
+pub fn next_notice(moment: u64, gap: u64) -> Option<u64>
+    requires { moment + gap < 2 ^ 64 }
+    ensures { result ≡ next_notice moment gap }
+{
+    if gap == 0 { None } else { Some(moment + gap) }
+}
