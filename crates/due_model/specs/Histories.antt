@@ -13,8 +13,9 @@ use Rattle.due_model.specs.declared.notice.Outcome.TheVariants.{Nothing, Sent, S
 use Rattle.due_model.specs.declared.zone.Zone.{Zone}
 use Rattle.due_model.specs.Periods.{next_in}
 use Rattle.due_model.specs.Readings.{moment, program_on, hard, depth, down, flapping, begins, began}
+use Rattle.due_model.specs.declared.rules.Last.{Last}
 use Rattle.due_model.specs.declared.rules.Standing.{Standing}
-use Rattle.due_model.specs.Rules.{Attempt, Last, View, attempted, failing, is_problem, letter_of, next_notice}
+use Rattle.due_model.specs.Rules.{Attempt, View, attempted, failing, is_problem, letter_of, next_notice}
 use Rattle.due_model.specs.Escalations.{gap}
 use Rattle.due_model.specs.Dependencies.{dependency_fails}
 

@@ -16,6 +16,7 @@ use Rattle.due_model.specs.declared.notice.Filter.TheVariants as filter
 use Rattle.due_model.specs.declared.config.Config.{Config}
 use Rattle.due_model.specs.declared.config.PeriodId.{PeriodId}
 use Rattle.due_model.specs.declared.config.Rights.{Rights}
+use Rattle.due_model.specs.declared.rules.Last.{Last}
 use Rattle.due_model.specs.declared.rules.Standing.{Standing}
 use Rattle.due_model.specs.declared.zone.Zone.{Zone}
 use Rattle.due_model.specs.Periods.{in_period}
@@ -92,31 +93,26 @@ has_letter set letter.Recovery = set.recovery
 has_letter set letter.Flapping = set.flapping
 has_letter set letter.Downtime = set.downtime
 
+-- a number for each state
+abbrev pub state_number : State → ℕ
+state_number state.Pending = 0
+state_number state.Up = 1
+state_number state.Down = 2
+state_number state.Unreachable = 3
+state_number state.Fine = 4
+state_number state.Warning = 5
+state_number state.Unknown = 6
+state_number state.Critical = 7
+
 -- whether two states are one
 abbrev pub same_state : State → State → Bool
 same_state s t = state_number s == state_number t
-  where
-    state_number : State → ℕ
-    state_number state.Pending = 0
-    state_number state.Up = 1
-    state_number state.Down = 2
-    state_number state.Unreachable = 3
-    state_number state.Fine = 4
-    state_number state.Warning = 5
-    state_number state.Unknown = 6
-    state_number state.Critical = 7
 
 -- a notification that is attempted
 pub record Attempt : Type 0 where
   pub kind : Kind
   pub state : State
   pub moment : ℕ
-
--- the last problem notice of the running problem; its gap is in seconds
-pub record Last : Type 0 where
-  pub state : State
-  pub moment : ℕ
-  pub gap : ℕ
 
 -- what the filters of an object read
 pub record View : Type 0 where
@@ -175,9 +171,9 @@ abbrev pub next_notice : (moment gap : ℕ) → Option ℕ
 next_notice moment gap = if gap == 0 then None else Some (moment + gap)
 
 -- the last notice reported the same state, and its gap is 0 or hasn't passed
-abbrev pub is_too_soon : Option Last → Attempt → Bool
-is_too_soon None a = false
-is_too_soon (Some last) a = same_state last.state a.state && not (has_come (next_notice last.moment last.gap) a.moment)
+abbrev pub is_too_soon : Option Last → State → (t : ℕ) → Bool
+is_too_soon None state t = false
+is_too_soon (Some last) state t = same_state last.state state && not (has_come (next_notice last.moment last.gap) t)
 
 -- the first filter of a list that fails
 abbrev pub first_failing : List (Bool × Filter) → Option Filter
@@ -197,7 +193,7 @@ failing c zone v a = first_failing (
     ∷ (not (in_period c zone v.period a.moment), filter.Period)
     ∷ (is_of_problem a.kind && v.depends, filter.Dependency)
     ∷ (is_problem a.kind && v.sent == 0 && nat_lt a.moment (v.began + 60 * v.delay), filter.FirstDelay)
-    ∷ (is_problem a.kind && is_too_soon v.last a, filter.Interval)
+    ∷ (is_problem a.kind && is_too_soon v.last a.state a.moment, filter.Interval)
     ∷ [])
 
 -- The first of a contact's filters that fails, in their order (the same chapter).

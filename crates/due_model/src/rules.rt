@@ -1,8 +1,8 @@
 //! The rules that tell, from values already read, what an event changes and what it attempts.
 
-ghost use Rattle.std.specs.Prelude.{◌≡◌, ◌+◌, ◌^◌, ◌<◌, Some};
+ghost use Rattle.std.specs.Prelude.{◌≡◌, ◌+◌, ◌^◌, ◌<◌, Some, IfSome};
 ghost use Rattle.due_model.specs.Readings.{is_ok_state, is_problem_state, switch_after, hard_after, depth_changed, is_problem_of};
-ghost use Rattle.due_model.specs.Rules.{attempted, attempted_by_state, attempted_by_downtime, attempted_by_flapping, downtime_kind, has_come, state_letter, letter_of, has_letter, next_notice};
+ghost use Rattle.due_model.specs.Rules.{attempted, attempted_by_state, attempted_by_downtime, attempted_by_flapping, downtime_kind, has_come, state_letter, letter_of, has_letter, is_too_soon, next_notice, same_state};
 ghost use Rattle.due_model.specs.Dependencies.{has_state};
 
 use crate::config::ObjectId;
@@ -242,6 +242,36 @@ pub fn attempted(
             }
         }
     }
+}
+
+/// The last problem notice of the running problem.
+#[derive(Clone, Copy, Debug, PartialEq, Eq)]
+pub struct Last {
+    /// The state that it reported.
+    pub state: State,
+    /// When it went out, in seconds since the epoch.
+    pub moment: u64,
+    /// How long the next of the same state has to wait, in seconds; 0 is for ever.
+    pub gap: u64,
+}
+
+/// Whether a problem notice of this state comes too soon at moment `t`: the last one reported the same
+/// state, and its gap is 0 or hasn't passed (chapter "Notifications").
+pub fn is_too_soon(last: Option<Last>, state: State, t: u64) -> bool
+    requires { IfSome last (λ l. l.moment + l.gap < 2 ^ 64) }
+    ensures { result ≡ is_too_soon last state t }
+{
+    match last {
+        Some(l) => same_state(l.state, state) && !has_come(next_notice(l.moment, l.gap), t),
+        None => false,
+    }
+}
+
+/// Whether two states are one.
+pub fn same_state(a: State, b: State) -> bool
+    ensures { result ≡ same_state a b }
+{
+    a as u8 == b as u8
 }
 
 /// Whether a ready moment has come at moment `t`; none never comes.
