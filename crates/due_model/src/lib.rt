@@ -6,6 +6,7 @@ pub mod config;
 pub mod event;
 pub mod letters;
 pub mod notice;
+pub mod objects;
 pub mod sequence;
 pub mod state;
 pub mod zone;
