@@ -9,3 +9,4 @@ pub mod Due
 pub mod Accepted
 pub mod Covered
 pub mod Rows
+pub mod Objects

@@ -1,6 +1,7 @@
 //! A configuration: what the object text gives, in numbers.
 
 use crate::letters::Letters;
+use crate::objects::Objects;
 use crate::sequence::{Sequence, Text};
 use crate::state::StateSet;
 
@@ -121,7 +122,7 @@ pub struct Dependency {
 /// All that the object text gives.
 #[derive(Drop)]
 pub struct Config {
-    pub objects: Sequence<Object>,
+    pub objects: Objects,
     pub contacts: Sequence<Contact>,
     pub lanes: Sequence<Lane>,
     pub periods: Sequence<Period>,

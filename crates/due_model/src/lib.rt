@@ -6,6 +6,7 @@ pub mod config;
 pub mod event;
 pub mod letters;
 pub mod notice;
+pub mod objects;
 pub mod rows;
 pub mod rules;
 pub mod sequence;
