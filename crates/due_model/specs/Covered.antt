@@ -1,7 +1,6 @@
 -- What the programs can do so far.
-use Rattle.std.specs.Prelude.{◌≡◌, ℕ, Bool, true, false, ◌&&◌, List, [], All, Option, None, IsTrue}
+use Rattle.std.specs.Prelude.{◌≡◌, true, [], All, None}
 use Rattle.due_model.specs.declared.config.Config.{Config}
-use Rattle.due_model.specs.declared.config.Contact.{Contact}
 use Rattle.due_model.specs.declared.config.Object.{Object}
 use Rattle.due_model.specs.declared.config.Rights.{Rights}
 use Rattle.due_model.specs.declared.event.EventKind.{EventKind}

@@ -1,8 +1,7 @@
 -- What becomes of an object at each event. A history is the list of its outcomes, the newest first.
-use Rattle.std.specs.Prelude.{ℕ, ◌+◌, ◌-◌, ◌*◌, Bool, true, false, ◌||◌, List, [], ◌∷◌, count_by, find, nat_lt, Option, Some, None, is_some, if◌then◌else◌}
+use Rattle.std.specs.Prelude.{ℕ, ◌+◌, ◌*◌, Bool, false, ◌||◌, List, [], ◌∷◌, count_by, Option, Some, None, is_some, if◌then◌else◌}
 use Rattle.due_model.specs.declared.config.Config.{Config}
 use Rattle.due_model.specs.declared.config.Object.{Object}
-use Rattle.due_model.specs.declared.config.ObjectId.{ObjectId}
 use Rattle.due_model.specs.declared.event.Event.{Event}
 use Rattle.due_model.specs.declared.notice.Kind.{Kind}
 use Rattle.due_model.specs.declared.notice.Kind.TheVariants as kind

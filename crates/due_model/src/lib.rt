@@ -3,6 +3,7 @@
 #![tactic(auto)]
 
 pub mod config;
+pub mod covered;
 pub mod event;
 pub mod letters;
 pub mod notice;
