@@ -1,0 +1,140 @@
+-- The book after an event is the book before it, told what became of the event.
+use Rattle.std.proofs.Common.{◌≡◌, ℕ, ◌+◌, ◌*◌, Bool, true, false, not, ◌&&◌, ◌==◌, List, [], ◌∷◌, All, Option, Some, None, if◌then◌else◌, is_some, refl, sym, ap, ◌∙◌, subst, cond, arith, add_comm}
+use Rattle.std.proofs.lemmas.List.Sums.{sum_by-cons}
+use Rattle.std.proofs.lemmas.List.Elements.{All-tail}
+use Rattle.due_model.specs.declared.config.Config.{Config}
+use Rattle.due_model.specs.declared.config.Object.{Object}
+use Rattle.due_model.specs.declared.event.Event.{Event}
+use Rattle.due_model.specs.declared.event.EventKind.{EventKind}
+use Rattle.due_model.specs.declared.notice.Kind.{Kind}
+use Rattle.due_model.specs.declared.notice.Kind.TheVariants as kind
+use Rattle.due_model.specs.declared.notice.Filter.{Filter}
+use Rattle.due_model.specs.declared.notice.Filter.TheVariants as filter
+use Rattle.due_model.specs.declared.notice.Outcome.{Outcome}
+use Rattle.due_model.specs.declared.notice.Outcome.TheVariants.{Nothing, Sent, Suppressed}
+use Rattle.due_model.specs.declared.rules.Last.{Last}
+use Rattle.due_model.specs.declared.rules.Standing.{Standing}
+use Rattle.due_model.specs.declared.state.State.{State}
+use Rattle.due_model.specs.declared.zone.Zone.{Zone}
+use Rattle.due_model.specs.Covered.{IsCovered}
+use Rattle.due_model.specs.Readings.{moment, program_on, hard, begins, began, flapping, hard_after}
+use Rattle.due_model.specs.Rules.{attempted, first_failing, next_notice, is_problem, is_recovery, is_too_soon}
+use Rattle.due_model.specs.Histories.{hist, longer, notice_of, of_problem, before, notices_sent, last_notice, ready, standing, number_after, outcome}
+use Rattle.due_model.proofs.Coverage.{IsPlainEvent, IsPlainPast, IsPlainObject, depth-covered, flapping-covered, plain_judged, plain_outcome_of, outcome-covered}
+use Rattle.decider.specs.declared.book.Book.{Book}
+use Rattle.decider.specs.declared.book.Told.{Told}
+use Rattle.decider.specs.declared.book.Now.{Now}
+use Rattle.decider.specs.Books.{empty_book, book_after, book_at, judged_by_book, told_of, told_kind, told_by_book, problem, book_by, book_of, told_outcome, told_at}
+
+-- what becomes of an attempt, by the tests that can stop it
+abbrev by_tests : Kind → State → (number t gap : ℕ) → (program no_problem interval : Bool) → Outcome
+by_tests k s number t gap program no_problem interval =
+    elim (first_failing ((program, filter.Program) ∷ (no_problem, filter.NoProblem) ∷ (interval, filter.Interval) ∷ [])) as (λ _. Outcome) [
+      | None ↦ Sent k s number t gap
+      | Some why ↦ Suppressed k s number t why
+    ]
+
+-- one more problem notice
+one_more : (s : State) (number t gap : ℕ) (outcomes : List Outcome) → notices_sent outcomes + 1 ≡ notices_sent (Sent kind.Problem s number t gap ∷ outcomes)
+one_more s number t gap outcomes =
+    add_comm (notices_sent outcomes) 1 ∙ sym (sum_by-cons (λ outcome. cond (is_some (notice_of outcome)) 1 0) (Sent kind.Problem s number t gap) outcomes)
+
+module _ (c : Config) (zone : Zone) (object : Object) (began : ℕ) (outcomes : List Outcome) where
+  -- after a notice
+  after_sent : (k : Kind) (s : State) (number t gap : ℕ) → book_after (book_by c zone object began outcomes) (Sent k s number t gap) ≡ book_by c zone object began (Sent k s number t gap ∷ outcomes)
+  after_sent kind.Problem s number t gap =
+      ap (λ (n : ℕ). let book : Book = record { sent = n; last = Some (record { state = s; moment = t; gap = gap }); ready = next_notice t gap } in book) (one_more s number t gap outcomes)
+  after_sent kind.Recovery s number t gap = refl
+  after_sent kind.FlappingStart s number t gap = refl
+  after_sent kind.FlappingStop s number t gap = refl
+  after_sent kind.DowntimeStart s number t gap = refl
+  after_sent kind.DowntimeEnd s number t gap = refl
+  after_sent kind.DowntimeCancelled s number t gap = refl
+
+  -- after one of the filters that can fail so far
+  after_program : (k : Kind) (s : State) (number t : ℕ) → book_after (book_by c zone object began outcomes) (Suppressed k s number t filter.Program) ≡ book_by c zone object began (Suppressed k s number t filter.Program ∷ outcomes)
+  after_program kind.Problem s number t = refl
+  after_program kind.Recovery s number t = refl
+  after_program kind.FlappingStart s number t = refl
+  after_program kind.FlappingStop s number t = refl
+  after_program kind.DowntimeStart s number t = refl
+  after_program kind.DowntimeEnd s number t = refl
+  after_program kind.DowntimeCancelled s number t = refl
+
+  after_no_problem : (k : Kind) (s : State) (number t : ℕ) → book_after (book_by c zone object began outcomes) (Suppressed k s number t filter.NoProblem) ≡ book_by c zone object began (Suppressed k s number t filter.NoProblem ∷ outcomes)
+  after_no_problem kind.Problem s number t = refl
+  after_no_problem kind.Recovery s number t = refl
+  after_no_problem kind.FlappingStart s number t = refl
+  after_no_problem kind.FlappingStop s number t = refl
+  after_no_problem kind.DowntimeStart s number t = refl
+  after_no_problem kind.DowntimeEnd s number t = refl
+  after_no_problem kind.DowntimeCancelled s number t = refl
+
+  after_interval : (k : Kind) (s : State) (number t : ℕ) → book_after (book_by c zone object began outcomes) (Suppressed k s number t filter.Interval) ≡ book_by c zone object began (Suppressed k s number t filter.Interval ∷ outcomes)
+  after_interval kind.Problem s number t = refl
+  after_interval kind.Recovery s number t = refl
+  after_interval kind.FlappingStart s number t = refl
+  after_interval kind.FlappingStop s number t = refl
+  after_interval kind.DowntimeStart s number t = refl
+  after_interval kind.DowntimeEnd s number t = refl
+  after_interval kind.DowntimeCancelled s number t = refl
+
+  -- what is told of an attempt that these tests judge
+  told_judged : (o : ℕ) (k : Kind) (s : State) (number t gap : ℕ) (program no_problem interval : Bool)
+      → (λ (x : Outcome). told_of o (book_by c zone object began outcomes) x) (by_tests k s number t gap program no_problem interval)
+      ≡ told_outcome o (by_tests k s number t gap program no_problem interval) (book_by c zone object began (by_tests k s number t gap program no_problem interval ∷ outcomes))
+  told_judged o k s number t gap true no_problem interval = ap (λ book. record { object = record { 0 = o }; outcome = Suppressed k s number t filter.Program; book = book } ∷ []) (after_program k s number t)
+  told_judged o k s number t gap false true interval = ap (λ book. record { object = record { 0 = o }; outcome = Suppressed k s number t filter.NoProblem; book = book } ∷ []) (after_no_problem k s number t)
+  told_judged o k s number t gap false false true = ap (λ book. record { object = record { 0 = o }; outcome = Suppressed k s number t filter.Interval; book = book } ∷ []) (after_interval k s number t)
+  told_judged o k s number t gap false false false = ap (λ book. record { object = record { 0 = o }; outcome = Sent k s number t gap; book = book } ∷ []) (after_sent k s number t gap)
+
+-- the book with which an event begins, by the definitions
+begun_law : (c : Config) (zone : Zone) (o : ℕ) (object : Object) (b : Bool) (m was : ℕ) (outcomes : List Outcome)
+    → (if b then empty_book else book_by c zone object was outcomes) ≡ book_by c zone object (if b then m else was) (if b then [] else outcomes)
+begun_law c zone o object true m was outcomes = refl
+begun_law c zone o object false m was outcomes = refl
+
+module _ (c : Config) (zone : Zone) (o : ℕ) (object : Object) (e : Event) (past : List Event) where
+  -- what an event finds
+  abbrev pub now_at : Now
+  now_at = record { kind = e.kind; moment = moment (e ∷ past); program = program_on (e ∷ past) }
+
+  -- the outcomes of the problem from before the event
+  abbrev earlier : List Outcome
+  earlier = before o e past (hist c zone o object past)
+
+  -- what becomes of an attempt of this kind so far
+  abbrev becomes : Option Kind → Outcome
+  becomes attempt = plain_outcome_of object (program_on (e ∷ past)) (notices_sent earlier) (last_notice earlier) (hard o (e ∷ past)) (moment (e ∷ past)) attempt
+
+  told_kind_law : (attempt : Option Kind)
+      → told_kind o object.interval now_at (hard o past) (book_of c zone o object past) attempt
+      ≡ told_outcome o (becomes attempt) (book_by c zone object (began o (e ∷ past)) (becomes attempt ∷ earlier))
+  told_kind_law None = refl
+  told_kind_law (Some k) =
+      ap (λ (begun : Book). told_of o begun (judged_by_book object.interval (program_on (e ∷ past)) begun k (hard o (e ∷ past)) (moment (e ∷ past))))
+      (begun_law c zone o object (begins o e past) (moment (e ∷ past)) (began o past) (problem c zone o object past))
+      ∙ told_judged c zone object (began o (e ∷ past)) earlier o k (hard o (e ∷ past)) (number_after (notices_sent earlier) k) (moment (e ∷ past))
+      (if is_problem k then 60 * object.interval else 0)
+      (not (program_on (e ∷ past))) (is_recovery k && notices_sent earlier == 0) (is_problem k && is_too_soon (last_notice earlier) (hard o (e ∷ past)) (moment (e ∷ past)))
+
+  -- the book after the event
+  book_step : book_of c zone o object (e ∷ past) ≡ book_by c zone object (began o (e ∷ past)) (outcome c zone o object e past (hist c zone o object past) ∷ earlier)
+  unfolding hist
+  book_step = refl
+
+  module _ (covered : IsCovered c) (known : IsPlainObject c o object) (plain : IsPlainPast c (e ∷ past)) where
+    standing_law : record { state = hard o past; depth = 0; flapping = false } ≡ standing o past
+    standing_law =
+        let before : IsPlainPast c past = All-tail (IsPlainEvent c) e past plain in
+        sym (ap (λ (d : ℕ). let stands : Standing = record { state = hard o past; depth = d; flapping = flapping o past } in stands) (depth-covered c o past before)
+             ∙ ap (λ (f : Bool). let stands : Standing = record { state = hard o past; depth = 0; flapping = f } in stands) (flapping-covered c o past before))
+
+    -- what an event tells by the book is what it tells by the definitions
+    pub told_law : told_by_book o object.interval now_at (hard o past) (book_of c zone o object past) ≡ told_at c zone o object e past
+    told_law =
+        ap (λ (stands : Standing). told_kind o object.interval now_at (hard o past) (book_of c zone o object past)
+            (attempted o e.kind stands (ready c zone object (began o past) (problem c zone o object past)) (moment (e ∷ past)))) standing_law
+        ∙ told_kind_law (attempted o e.kind (standing o past) (ready c zone object (began o past) (problem c zone o object past)) (moment (e ∷ past)))
+        ∙ sym (ap (λ x. told_outcome o x (book_by c zone object (began o (e ∷ past)) (x ∷ earlier))) (outcome-covered c zone o object e past (hist c zone o object past) covered known plain))
+        ∙ sym (ap (told_outcome o (outcome c zone o object e past (hist c zone o object past))) book_step)
