@@ -1,2 +1,4 @@
 pub mod ListLemmas
 pub mod BookLaws
+pub mod Numbers
+pub mod TellLaws

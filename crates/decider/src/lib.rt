@@ -4,5 +4,8 @@
 
 mod book;
 mod outbox;
+mod owned;
+mod stage;
 
 pub use outbox::Outbox;
+pub use owned::Owned;

@@ -1,0 +1,57 @@
+-- Lists over the numbers below a bound that pass a test.
+use Rattle.std.proofs.Common.{◌≡◌, ◌≢◌, ℕ, zero, suc, ◌+◌, ◌<◌, ◌≤◌, Bool, true, false, cond, List, [], ◌∷◌, ◌++◌, filter, flat_map, refl, sym, ap, subst, ◌∙◌, arith, add-zero, inl, inr, ◌⊎◌, add-one}
+use Rattle.std.specs.List.{range_with_len}
+use Rattle.std.proofs.lemmas.List.{append-nil}
+use Rattle.std.proofs.lemmas.List.Elements.{filter-append}
+use Rattle.std.proofs.lemmas.Grind.{flat_map-append}
+use Rattle.std.proofs.lemmas.Bool.{cases_eq}
+
+range_more : (a n : ℕ) → range_with_len a (suc n) ≡ range_with_len a n ++ (a + n) ∷ []
+range_more a zero = ap (λ m. m ∷ []) (sym (add-zero a))
+range_more a (suc n) =
+    let sum : (a + 1) + n ≡ a + suc n = omega arith in
+    ap (λ xs. a ∷ xs) (range_more (a + 1) n ∙ ap (λ m. range_with_len (a + 1) n ++ m ∷ []) sum)
+
+module _ {A : Type 0} (f : ℕ → List A) (p : ℕ → Bool) where
+  -- what f gives of the numbers below n that pass
+  abbrev pub flat_below : ℕ → List A
+  flat_below n = flat_map f (filter p (range_with_len 0 n))
+
+  -- one number more
+  pub flat_more : (n : ℕ) → flat_below (suc n) ≡ flat_below n ++ cond (p n) (f n) []
+  flat_more n =
+      ap (λ xs. flat_map f (filter p xs)) (range_more 0 n ∙ ap (λ m. range_with_len 0 n ++ m ∷ []) (zero_plus n))
+      ∙ ap (flat_map f) (filter-append p (range_with_len 0 n) (n ∷ []))
+      ∙ flat_map-append f (filter p (range_with_len 0 n)) (filter p (n ∷ []))
+      ∙ ap (λ ys. flat_below n ++ ys) (last n (p n) refl)
+    where
+      zero_plus : (n : ℕ) → 0 + n ≡ n
+      zero_plus n = omega arith
+      last : (n : ℕ) (b : Bool) → p n ≡ b → flat_map f (filter p (n ∷ [])) ≡ cond (p n) (f n) []
+      last n true e = rw e (append-nil (f n))
+      last n false e = rw e refl
+
+  -- none of them gives anything
+  pub flat_none : (n : ℕ) → ((k : ℕ) → k < n → f k ≡ []) → flat_below n ≡ []
+  flat_none zero none = refl
+  flat_none (suc n) none =
+      flat_more n ∙ ap (λ xs. xs ++ cond (p n) (f n) []) (flat_none n (λ k h. none k (omega arith)))
+      ∙ ap (λ xs. cond (p n) xs []) (none n (omega arith)) ∙ same (p n)
+    where
+      same : (b : Bool) → cond {A = List A} b [] [] ≡ []
+      same true = refl
+      same false = refl
+
+  -- one alone gives something
+  pub flat_one : (n o : ℕ) → o < n → ((k : ℕ) → k < n → k ≢ o → f k ≡ []) → flat_below n ≡ cond (p o) (f o) []
+  flat_one zero o h others = absurd (omega arith)
+  flat_one (suc n) o h others = elim (cases_eq o n) [
+      | inl e ↦ flat_more n ∙ ap (λ xs. xs ++ cond (p n) (f n) []) (flat_none n (λ k below. others k (omega arith) (omega arith)))
+          ∙ subst (λ (m : ℕ). cond (p m) (f m) [] ≡ cond (p o) (f o) []) e refl
+      | inr ne ↦ flat_more n ∙ ap (λ xs. xs ++ cond (p n) (f n) []) (flat_one n o (omega arith) (λ k below. others k (omega arith)))
+          ∙ ap (λ xs. cond (p o) (f o) [] ++ cond (p n) xs []) (others n (omega arith) (λ e. ne (sym e))) ∙ end (p n)
+    ]
+    where
+      end : (b : Bool) → cond (p o) (f o) [] ++ cond {A = List A} b [] [] ≡ cond (p o) (f o) []
+      end true = append-nil _
+      end false = append-nil _

@@ -1,0 +1,15 @@
+use Rattle.std.proofs.Common.{◌≡◌, ℕ, suc, ◌+◌, List, [], cond, ◌++◌, ap, ◌∙◌, sym, append_assoc, add-one}
+use Rattle.decider.specs.Gains.{is_owned, told_number}
+use Rattle.decider.proofs.Numbers.{flat_more, flat_below}
+use Rattle.decider.proofs.stage.tell_each.Goals as goal
+
+pub loop-number-preserved : goal.loop-number-preserved
+loop-number-preserved c =
+    let f = told_number c.args.objects.now c.args.now c.args.states.now c.args.books.now in
+    let p = is_owned c.args.owned in
+    let n = c.loop-number.number in
+    c.in_ok-tell_if_owned.ensures
+    ∙ ap (λ xs. xs ++ cond (p n) (f n) []) c.loop-number.invariant
+    ∙ append_assoc c.args.told.now.items (flat_below f p n) (cond (p n) (f n) [])
+    ∙ ap (λ xs. c.args.told.now.items ++ xs) (sym (flat_more f p n))
+    ∙ ap (λ m. c.args.told.now.items ++ flat_below f p m) (sym (add-one n))
