@@ -9,6 +9,7 @@ use Rattle.due_model.specs.declared.config.Rights.{Rights}
 use Rattle.due_model.specs.declared.event.Event.{Event}
 use Rattle.due_model.specs.declared.event.EventKind.{EventKind}
 use Rattle.due_model.specs.declared.event.EventKind.TheVariants.{Clock, Program, Hard, Downtime, Flapping}
+use Rattle.due_model.specs.declared.notice.Kind.{Kind}
 use Rattle.due_model.specs.declared.notice.Notice.{Notice}
 use Rattle.due_model.specs.declared.notice.Outcome.{Outcome}
 use Rattle.due_model.specs.declared.notice.Outcome.TheVariants.{Nothing, Sent, Suppressed}
@@ -18,8 +19,7 @@ use Rattle.due_model.specs.declared.state.State.{State}
 use Rattle.due_model.specs.declared.state.State.TheVariants.{Pending}
 use Rattle.due_model.specs.declared.zone.Zone.{Zone}
 use Rattle.due_model.specs.Accepted.{last_moment}
-use Rattle.due_model.specs.Escalations.{contacts_with, has_contact}
-use Rattle.due_model.specs.Rules.{Attempt}
+use Rattle.due_model.specs.Escalations.{has_contact}
 use Rattle.due_model.specs.Due.{due_at, suppressed_at, uses_lane}
 use Rattle.decider.specs.declared.book.Book.{Book}
 use Rattle.decider.specs.declared.book.Told.{Told}
@@ -82,20 +82,42 @@ pub record BookFits (count : ℕ) (book : Book) : Type 0 where
   pub sent : book.sent ≤ count
   pub last : LastFits book.last
 
--- the notice of a contact with these rights for lane l
-abbrev pub lane_notice : (o l event number : ℕ) → Attempt → (k : ℕ) → Notice
-lane_notice o l event number a k = record { event = event; moment = a.moment; object = record { 0 = o }; kind = a.kind; state = a.state; number = number; contact = record { 0 = k }; lane = record { 0 = l } }
+-- a notice, on lane l
+abbrev pub on_lane : Notice → ℕ → Notice
+on_lane notice l = record notice { lane = record { 0 = l } }
 
--- the notice of contact k for lane l, where nothing restricts the contact
-abbrev pub plain_notice_to : Config → (o l event number : ℕ) → Attempt → ℕ → List Notice
-plain_notice_to c o l event number a k = option_map_or (λ contact. if uses_lane contact.hosts l then lane_notice o l event number a k ∷ [] else []) (slice_get c.contacts k) []
+-- the notice of a contact with these rights for lane l, where nothing restricts the contact
+abbrev pub contact_notices : Notice → Rights → (l : ℕ) → List Notice
+contact_notices notice rights l = if uses_lane rights l then on_lane notice l ∷ [] else []
 
--- the notices of an outcome for lane l, where nothing restricts a contact and no escalation matches
-abbrev pub plain_notices : Config → (o : ℕ) → Object → (l event : ℕ) → Outcome → List Notice
-plain_notices c o object l event Nothing = []
-plain_notices c o object l event (Sent k state number moment gap) =
-    flat_map (plain_notice_to c o l event number (record { kind = k; state = state; moment = moment })) (contacts_with c (has_contact object.contacts))
-plain_notices c o object l event (Suppressed k state number moment why) = []
+-- the notice of contact k for lane l, likewise
+abbrev pub plain_notice_from : List Contact → Notice → (l : ℕ) → (k : ℕ) → List Notice
+plain_notice_from contacts notice l k =
+    option_map_or (λ contact. contact_notices (record notice { contact = record { 0 = k } }) contact.hosts l) (slice_get contacts k) []
+
+-- the notices of the object's own contacts below a number for lane l, in number order
+abbrev pub object_notices_below : List Contact → Object → Notice → (l count : ℕ) → List Notice
+object_notices_below contacts object notice l count =
+    flat_map (plain_notice_from contacts notice l) (filter (has_contact object.contacts) (range_with_len 0 count))
+
+-- the notices of all of them
+abbrev pub object_notices : List Contact → Object → Notice → (l : ℕ) → List Notice
+object_notices contacts object notice l = object_notices_below contacts object notice l (length contacts)
+
+-- what a notice says before its contact and lane are known
+abbrev pub notice_of : (o event : ℕ) → Kind → State → (number moment : ℕ) → Notice
+notice_of o event k state number moment =
+    record { event = event; moment = moment; object = record { 0 = o }; kind = k; state = state; number = number; contact = record { 0 = 0 }; lane = record { 0 = 0 } }
+
+-- the notices for lane l of the contacts of a notice's object
+abbrev pub notices_of_object : Config → Notice → (l : ℕ) → List Notice
+notices_of_object c notice l = option_map_or (λ object. object_notices c.contacts object notice l) (slice_get c.objects notice.object.0) []
+
+-- the notices of an outcome of object o for lane l, where nothing restricts a contact and no escalation matches
+abbrev pub plain_notices : Config → (o l event : ℕ) → Outcome → List Notice
+plain_notices c o l event Nothing = []
+plain_notices c o l event (Sent k state number moment gap) = notices_of_object c (notice_of o event k state number moment) l
+plain_notices c o l event (Suppressed k state number moment why) = []
 
 -- the suppressions of an outcome, where nothing restricts a contact
 abbrev pub plain_suppressions : (o event : ℕ) → Outcome → List Suppression
@@ -106,7 +128,7 @@ plain_suppressions o event (Suppressed k state number moment why) =
 
 -- the notices of what was told, for lane l
 abbrev pub told_notices : Config → (l event : ℕ) → Told → List Notice
-told_notices c l event t = option_map_or (λ object. plain_notices c t.object.0 object l event t.outcome) (slice_get c.objects t.object.0) []
+told_notices c l event t = plain_notices c t.object.0 l event t.outcome
 
 -- the suppressions of what was told
 abbrev pub told_suppressions : (event : ℕ) → Told → List Suppression

@@ -1,3 +1,4 @@
 pub mod Outboxes
 pub mod Books
 pub mod Gains
+pub mod Logs

@@ -3,6 +3,8 @@
 #![tactic(auto)]
 
 mod book;
+mod log;
+mod notices;
 mod outbox;
 mod owned;
 mod stage;

@@ -108,6 +108,13 @@ impl Outbox {
         Ok(Outbox { lanes: made })
     }
 
+    /// How many lanes there are.
+    pub fn len(&self) -> usize
+        ensures { result ≡ length (lists self.now) }
+    {
+        self.lanes.len()
+    }
+
     /// The notice that has waited longest for this lane. It takes no memory.
     pub fn front(&self, lane: LaneId) -> Option<Notice>
         requires { lane.0 < length (lists self.now) }
