@@ -133,3 +133,11 @@ told_notices c l event t = plain_notices c t.object.0 l event t.outcome
 -- the suppressions of what was told
 abbrev pub told_suppressions : (event : ℕ) → Told → List Suppression
 told_suppressions event t = plain_suppressions t.object.0 event t.outcome
+
+-- the hard states after an event
+abbrev pub states_after : EventKind → List State → List State
+states_after Clock states = states
+states_after (Program on) states = states
+states_after (Hard o state) states = slice_set states o.0 state
+states_after (Downtime o change) states = states
+states_after (Flapping o starts) states = states

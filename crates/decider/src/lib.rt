@@ -3,11 +3,13 @@
 #![tactic(auto)]
 
 mod book;
+mod decider;
 mod log;
 mod notices;
 mod outbox;
 mod owned;
 mod stage;
 
+pub use decider::{DecideFault, Decider, EVENTS};
 pub use outbox::Outbox;
 pub use owned::Owned;
