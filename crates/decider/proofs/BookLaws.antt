@@ -6,6 +6,7 @@ use Rattle.due_model.specs.declared.config.Config.{Config}
 use Rattle.due_model.specs.declared.config.Object.{Object}
 use Rattle.due_model.specs.declared.event.Event.{Event}
 use Rattle.due_model.specs.declared.event.EventKind.{EventKind}
+use Rattle.due_model.specs.declared.event.EventKind.TheVariants as event
 use Rattle.due_model.specs.declared.notice.Kind.{Kind}
 use Rattle.due_model.specs.declared.notice.Kind.TheVariants as kind
 use Rattle.due_model.specs.declared.notice.Filter.{Filter}
@@ -17,7 +18,7 @@ use Rattle.due_model.specs.declared.rules.Standing.{Standing}
 use Rattle.due_model.specs.declared.state.State.{State}
 use Rattle.due_model.specs.declared.zone.Zone.{Zone}
 use Rattle.due_model.specs.Covered.{IsCovered}
-use Rattle.due_model.specs.Readings.{moment, program_on, hard, begins, began, flapping, hard_after}
+use Rattle.due_model.specs.Readings.{is_ok_state, is_problem_state, is_problem_of, moment, program_on, hard, begins, began, flapping, hard_after}
 use Rattle.due_model.specs.Rules.{attempted, first_failing, next_notice, is_problem, is_recovery, is_too_soon}
 use Rattle.due_model.specs.Histories.{hist, longer, notice_of, of_problem, before, notices_sent, last_notice, ready, standing, number_after, outcome}
 use Rattle.due_model.proofs.Coverage.{IsPlainEvent, IsPlainPast, IsPlainObject, depth-covered, flapping-covered, plain_judged, plain_outcome_of, outcome-covered}
@@ -94,6 +95,21 @@ begun_law : (c : Config) (zone : Zone) (o : ℕ) (object : Object) (b : Bool) (m
 begun_law c zone o object true m was outcomes = refl
 begun_law c zone o object false m was outcomes = refl
 
+-- a hard problem state is an attempt
+problem_attempted : (b q : Bool) (rest : Option Kind) → (if b then (if q then Some kind.Problem else rest) else None) ≡ None → (b && q) ≡ false
+problem_attempted true true rest h = cc
+problem_attempted true false rest h = refl
+problem_attempted false q rest h = refl
+
+-- so where an event attempts nothing, no problem begins
+begins_none : (o : ℕ) (k : EventKind) (old : Standing) (ready : Option ℕ) (t : ℕ) → attempted o k old ready t ≡ None → (is_problem_of o k && not (is_problem_state old.state)) ≡ false
+begins_none o event.Clock old ready t h = refl
+begins_none o (event.Program on) old ready t h = refl
+begins_none o (event.Hard p s) old ready t h =
+    ap (λ b. b && not (is_problem_state old.state)) (problem_attempted (p.0 == o) (is_problem_state s) (if is_ok_state s && is_problem_state old.state then Some kind.Recovery else None) h)
+begins_none o (event.Downtime p change) old ready t h = refl
+begins_none o (event.Flapping p starts) old ready t h = refl
+
 module _ (c : Config) (zone : Zone) (o : ℕ) (object : Object) (e : Event) (past : List Event) where
   -- what an event finds
   abbrev pub now_at : Now
@@ -138,3 +154,24 @@ module _ (c : Config) (zone : Zone) (o : ℕ) (object : Object) (e : Event) (pas
         ∙ told_kind_law (attempted o e.kind (standing o past) (ready c zone object (began o past) (problem c zone o object past)) (moment (e ∷ past)))
         ∙ sym (ap (λ x. told_outcome o x (book_by c zone object (began o (e ∷ past)) (x ∷ earlier))) (outcome-covered c zone o object e past (hist c zone o object past) covered known plain))
         ∙ sym (ap (told_outcome o (outcome c zone o object e past (hist c zone o object past))) book_step)
+
+    -- an attempt that is told of is no nothing
+    by_tests_told : (k : Kind) (s : State) (number t gap : ℕ) (program no_problem interval : Bool) → by_tests k s number t gap program no_problem interval ≡ Nothing → ⊥
+    by_tests_told k s number t gap true no_problem interval h = cc
+    by_tests_told k s number t gap false true interval h = cc
+    by_tests_told k s number t gap false false true h = cc
+    by_tests_told k s number t gap false false false h = cc
+
+    becomes_none : (attempt : Option Kind) → becomes attempt ≡ Nothing → attempt ≡ None
+    becomes_none None h = refl
+    becomes_none (Some k) h = absurd (by_tests_told k (hard o (e ∷ past)) (number_after (notices_sent earlier) k) (moment (e ∷ past)) (if is_problem k then 60 * object.interval else 0)
+        (not (program_on (e ∷ past))) (is_recovery k && notices_sent earlier == 0) (is_problem k && is_too_soon (last_notice earlier) (hard o (e ∷ past)) (moment (e ∷ past))) h)
+
+    -- where nothing is told the book stays
+    pub quiet_law : outcome c zone o object e past (hist c zone o object past) ≡ Nothing → book_of c zone o object (e ∷ past) ≡ book_of c zone o object past
+    quiet_law quiet =
+        let became = sym (outcome-covered c zone o object e past (hist c zone o object past) covered known plain) ∙ quiet in
+        let none = becomes_none (attempted o e.kind (standing o past) (ready c zone object (began o past) (problem c zone o object past)) (moment (e ∷ past))) became in
+        let goes_on : begins o e past ≡ false = begins_none o e.kind (standing o past) (ready c zone object (began o past) (problem c zone o object past)) (moment (e ∷ past)) none in
+        book_step ∙ ap (λ x. book_by c zone object (began o (e ∷ past)) (x ∷ earlier)) quiet
+        ∙ ap (λ b. book_by c zone object (if b then moment (e ∷ past) else began o past) (if b then [] else problem c zone o object past)) goes_on

@@ -55,3 +55,19 @@ module _ {A : Type 0} (f : ℕ → List A) (p : ℕ → Bool) where
       end : (b : Bool) → cond (p o) (f o) [] ++ cond {A = List A} b [] [] ≡ cond (p o) (f o) []
       end true = append-nil _
       end false = append-nil _
+
+-- lists that are alike for each number that passes
+pub flat_same : {A : Type 0} (f g : ℕ → List A) (p : ℕ → Bool) (n : ℕ) → ((k : ℕ) → k < n → p k ≡ true → f k ≡ g k) → flat_below f p n ≡ flat_below g p n
+flat_same f g p zero alike = refl
+flat_same {A} f g p (suc n) alike =
+    flat_more f p n ∙ ap (λ xs. xs ++ cond (p n) (f n) []) (flat_same f g p n (λ k h. alike k (omega arith)))
+    ∙ ap (λ xs. flat_below g p n ++ xs) (last (p n) refl) ∙ sym (flat_more g p n)
+  where
+    last : (b : Bool) → p n ≡ b → cond b (f n) [] ≡ cond b (g n) []
+    last true e = alike n (omega arith) e
+    last false e = refl
+
+-- one flat list of lists after another
+pub flat_flat : {X A B : Type 0} (f : X → List A) (g : A → List B) (xs : List X) → flat_map g (flat_map f xs) ≡ flat_map (λ x. flat_map g (f x)) xs
+flat_flat f g [] = refl
+flat_flat f g (x ∷ xs) = flat_map-append g (f x) (flat_map f xs) ∙ ap (λ ys. flat_map g (f x) ++ ys) (flat_flat f g xs)
