@@ -21,7 +21,7 @@ use Rattle.due_model.specs.Covered.{IsCovered}
 use Rattle.due_model.specs.Readings.{is_ok_state, is_problem_state, is_problem_of, moment, program_on, hard, begins, began, flapping, hard_after}
 use Rattle.due_model.specs.Rules.{attempted, first_failing, next_notice, is_problem, is_recovery, is_too_soon}
 use Rattle.due_model.specs.Histories.{hist, longer, notice_of, of_problem, before, notices_sent, last_notice, ready, standing, number_after, outcome}
-use Rattle.due_model.proofs.Coverage.{IsPlainEvent, IsPlainPast, IsPlainObject, depth-covered, flapping-covered, plain_judged, plain_outcome_of, outcome-covered}
+use Rattle.due_model.proofs.Coverage.{IsPlainEvent, IsPlainPast, IsPlainObject, IsOfHost, IsOfHost-hard, depth-covered, flapping-covered, plain_judged, plain_outcome_of, outcome-covered}
 use Rattle.decider.specs.declared.book.Book.{Book}
 use Rattle.decider.specs.declared.book.Told.{Told}
 use Rattle.decider.specs.declared.book.Now.{Now}
@@ -34,6 +34,12 @@ by_tests k s number t gap program no_problem interval =
       | None ↦ Sent k s number t gap
       | Some why ↦ Suppressed k s number t why
     ]
+
+-- the state of an outcome that goes out is one of a host
+abbrev pub GoesOutOfHost : Outcome → Type 0
+GoesOutOfHost Nothing = Unit {0}
+GoesOutOfHost (Sent k s number t gap) = IsOfHost s
+GoesOutOfHost (Suppressed k s number t why) = Unit {0}
 
 -- one more problem notice
 one_more : (s : State) (number t gap : ℕ) (outcomes : List Outcome) → notices_sent outcomes + 1 ≡ notices_sent (Sent kind.Problem s number t gap ∷ outcomes)
@@ -175,3 +181,21 @@ module _ (c : Config) (zone : Zone) (o : ℕ) (object : Object) (e : Event) (pas
         let goes_on : begins o e past ≡ false = begins_none o e.kind (standing o past) (ready c zone object (began o past) (problem c zone o object past)) (moment (e ∷ past)) none in
         book_step ∙ ap (λ x. book_by c zone object (began o (e ∷ past)) (x ∷ earlier)) quiet
         ∙ ap (λ b. book_by c zone object (if b then moment (e ∷ past) else began o past) (if b then [] else problem c zone o object past)) goes_on
+
+    by_tests_of_host : (k : Kind) (s : State) (number t gap : ℕ) (program no_problem interval : Bool) → IsOfHost s → GoesOutOfHost (by_tests k s number t gap program no_problem interval)
+    by_tests_of_host k s number t gap true no_problem interval of = tt
+    by_tests_of_host k s number t gap false true interval of = tt
+    by_tests_of_host k s number t gap false false true of = tt
+    by_tests_of_host k s number t gap false false false of = of
+
+    becomes_of_host : (attempt : Option Kind) → GoesOutOfHost (becomes attempt)
+    becomes_of_host None = tt
+    becomes_of_host (Some k) = by_tests_of_host k (hard o (e ∷ past)) (number_after (notices_sent earlier) k) (moment (e ∷ past)) (if is_problem k then 60 * object.interval else 0)
+        (not (program_on (e ∷ past))) (is_recovery k && notices_sent earlier == 0) (is_problem k && is_too_soon (last_notice earlier) (hard o (e ∷ past)) (moment (e ∷ past)))
+        (IsOfHost-hard c o object (e ∷ past) known plain)
+
+    -- what goes out is of a host
+    pub goes_out : GoesOutOfHost (outcome c zone o object e past (hist c zone o object past))
+    goes_out =
+        subst GoesOutOfHost (sym (outcome-covered c zone o object e past (hist c zone o object past) covered known plain))
+        (becomes_of_host (attempted o e.kind (standing o past) (ready c zone object (began o past) (problem c zone o object past)) (moment (e ∷ past))))
