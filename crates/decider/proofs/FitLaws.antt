@@ -20,7 +20,7 @@ use Rattle.due_model.specs.declared.rules.Last.{Last}
 use Rattle.due_model.specs.declared.state.State.{State}
 use Rattle.due_model.specs.declared.state.State.TheVariants.{Pending}
 use Rattle.due_model.specs.declared.zone.Zone.{Zone}
-use Rattle.due_model.specs.Accepted.{IsAccepted, IsProper, ObjectFits, last_moment}
+use Rattle.due_model.specs.Accepted.{IsAccepted, IsProper, KindIsProper, ObjectFits, last_moment}
 use Rattle.due_model.specs.Covered.{IsCovered, IsPlainHost, IsTakenIn}
 use Rattle.due_model.specs.Readings.{moment, program_on, hard, hard_after, switch_after}
 use Rattle.due_model.specs.Rules.{is_problem}
@@ -89,3 +89,162 @@ told_kind_one n o interval now state book in_time small h (Some k) =
       of = refl;
       fits = judged_fits n interval now.moment in_time small begun fits k (hard_after o now.kind state) (number_after begun.sent k) (stopped_by now.program begun k (hard_after o now.kind state) now.moment);
     })
+
+-- the greatest stamp of proper events is in range
+moment_fits : (c : Config) (past : List Event) → All (IsProper c) past → moment past ≤ last_moment
+moment_fits c [] h = omega arith
+moment_fits c (e ∷ past) h = omega (arith, moment_fits c past (All-tail (IsProper c) e past h), (All-head (IsProper c) e past h).stamp)
+
+-- the object that a proper event names is there
+named_within : (c : Config) (k : EventKind) → IsTakenIn k → KindIsProper c k → KindIsWithin (length c.objects) k
+named_within c event.Clock taken h = tt
+named_within c (event.Program on) taken h = tt
+named_within c (event.Hard o s) taken h = slice_get_within c.objects o.0 h.0 h.1
+named_within c (event.Downtime o change) taken h = tt
+named_within c (event.Flapping o starts) taken h = tt
+
+-- the hard states after an event are the definition's
+length-states_after : (k : EventKind) (states : List State) → length (states_after k states) ≡ length states
+length-states_after event.Clock states = refl
+length-states_after (event.Program on) states = refl
+length-states_after (event.Hard o s) states = length-set states o.0 s
+length-states_after (event.Downtime o change) states = refl
+length-states_after (event.Flapping o starts) states = refl
+
+state_after : (k : EventKind) (states : List State) (o : ℕ) → KindIsWithin (length states) k → get_or (states_after k states) o Pending ≡ hard_after o k (get_or states o Pending)
+state_after event.Clock states o h = refl
+state_after (event.Program on) states o h = refl
+state_after (event.Hard p s) states o h = at_set states p.0 o s Pending h
+state_after (event.Downtime p change) states o h = refl
+state_after (event.Flapping p starts) states o h = refl
+
+-- the book that is told is the book after the event
+book_told_law : (o : ℕ) (x : Outcome) (book old : Book) → (x ≡ Nothing → book ≡ old) → book_told (told_outcome o x book) old ≡ book
+book_told_law o Nothing book old h = sym (h refl)
+book_told_law o (Sent k s number t gap) book old h = refl
+book_told_law o (Suppressed k s number t why) book old h = refl
+
+module _ (k : Kept) (e : Event) (past : List Event) (fits : Fits k past) (proper : IsProper k.config e) (taken : IsTakenIn e.kind) where
+  in_time : max k.moment e.moment ≤ last_moment
+  in_time = omega (arith, moment_fits k.config past fits.proper, fits.moment, proper.stamp)
+
+  intervals : All (λ object. object.interval ≤ 1_000_000) k.config.objects
+  intervals = All-weaker (ObjectFits k.config) (λ object. object.interval ≤ 1_000_000) (λ object h. h.interval) k.config.objects fits.accepted.objects
+
+  -- the bounds that an event's work asks for
+  pub can_tell : CanTell k e
+  can_tell = record {
+    deciders = omega (arith, fits.owner.decider);
+    taken_in = taken;
+    named = named_within k.config e.kind taken proper.kind;
+    states = fits.states;
+    books = fits.books;
+    few = fits.accepted.few_objects;
+    contacts = fits.accepted.few_contacts;
+    moment = in_time;
+    intervals = intervals;
+    fit = All-weaker (BookFits (length past)) (BookFits (2 ^ 32)) (λ book h. record { sent = omega (arith, h.sent, fits.short); last = h.last }) k.books fits.fit;
+  }
+
+  plain : IsPlainPast k.config (e ∷ past)
+  plain = All-cons (IsPlainEvent k.config) e past (record { proper = proper; taken_in = taken })
+      (λ i d h. record { proper = fits.proper i d h; taken_in = fits.taken_in i d h })
+
+  -- what is told of each object, by what is kept
+  abbrev tells : ℕ → List Told
+  tells = told_number k.config.objects (now_of k e) k.states k.books
+
+  -- all that is told
+  abbrev all_told : List Told
+  all_told = told_numbers k.config.objects k.owned (now_of k e) k.states k.books (length k.config.objects)
+
+  tells_one : (o : ℕ) → AtMostOne o (BookFits (suc (length past))) (tells o)
+  tells_one o = by_object (slice_get k.config.objects o) refl
+    where
+      by_object : (found : Option Object) → slice_get k.config.objects o ≡ found
+          → AtMostOne o (BookFits (suc (length past))) (option_map_or (λ object. told_by_book o object.interval (now_of k e) (get_or k.states o Pending) (get_or k.books o empty_book)) found [])
+      by_object None h = inl refl
+      by_object (Some object) h =
+          let within : o < length k.config.objects = slice_get_within k.config.objects o object h in
+          told_kind_one (length past) o object.interval (now_of k e) (get_or k.states o Pending) (get_or k.books o empty_book) in_time
+          (all_at (λ object. object.interval ≤ 1_000_000) k.config.objects o object intervals h)
+          (fits.fit o empty_book (omega (arith, fits.books))) _
+
+  module _ (o : ℕ) (object : Object) (found : slice_get k.config.objects o ≡ Some object) (owned : is_owned k.owned o ≡ true) where
+    within : o < length k.config.objects
+    within = slice_get_within k.config.objects o object found
+
+    known : IsPlainObject k.config o object
+    known = record { at = found; plain = all_at IsPlainHost k.config.objects o object fits.covered.objects found }
+
+    same_now : now_of k e ≡ now_at k.config k.zone o object e past
+    same_now =
+        ap (λ (t : ℕ). let now : Now = record { kind = e.kind; moment = max t e.moment; program = switch_after e.kind k.program } in now) fits.moment
+        ∙ ap (λ (on : Bool). let now : Now = record { kind = e.kind; moment = max (moment past) e.moment; program = switch_after e.kind on } in now) fits.program
+
+    -- what is told of an owned object is what the definitions tell
+    tells_law : tells o ≡ told_at k.config k.zone o object e past
+    tells_law =
+        ap (λ (x : Option Object). option_map_or (λ object. told_by_book o object.interval (now_of k e) (get_or k.states o Pending) (get_or k.books o empty_book)) x []) found
+        ∙ ap (λ (s : State). told_by_book o object.interval (now_of k e) s (get_or k.books o empty_book)) (fits.state o within)
+        ∙ ap (λ (book : Book). told_by_book o object.interval (now_of k e) (hard o past) book) (fits.book o object found owned)
+        ∙ ap (λ (now : Now). told_by_book o object.interval now (hard o past) (book_of k.config k.zone o object past)) same_now
+        ∙ told_law k.config k.zone o object e past fits.covered known plain
+
+    book_law : get_or (settled all_told k.books) o empty_book ≡ book_of k.config k.zone o object (e ∷ past)
+    book_law =
+        settled_at tells (is_owned k.owned) (BookFits (suc (length past))) tells_one (length k.config.objects) o k.books empty_book within (omega (arith, fits.books, within)) owned
+        ∙ ap (λ told. book_told told (get_or k.books o empty_book)) tells_law
+        ∙ ap (λ (book : Book). book_told (told_at k.config k.zone o object e past) book) (fits.book o object found owned)
+        ∙ book_told_law o (outcome k.config k.zone o object e past (hist k.config k.zone o object past)) (book_of k.config k.zone o object (e ∷ past)) (book_of k.config k.zone o object past)
+          (quiet_law k.config k.zone o object e past fits.covered known plain)
+
+    -- and so are its notices and suppressions
+    notices_gained : (l : ℕ) → flat_map (told_notices k.config l k.count) (tells o) ≡ gain k.config k.zone l e past o
+    notices_gained l =
+        ap (λ (n : ℕ). flat_map (told_notices k.config l n) (tells o)) fits.count
+        ∙ ap (flat_map (told_notices k.config l (length past))) tells_law
+        ∙ told_notices_law k.config k.zone o object fits.covered known l (length past) (outcome k.config k.zone o object e past (hist k.config k.zone o object past)) (book_of k.config k.zone o object (e ∷ past))
+          (goes_out k.config k.zone o object e past fits.covered known plain)
+        ∙ sym (ap (λ (x : Option Object). option_map_or (λ object. due_at k.config k.zone o object l e past) x []) found)
+
+    suppressions_gained : flat_map (told_suppressions k.count) (tells o) ≡ suppressed_gain k.config k.zone e past o
+    suppressions_gained =
+        ap (λ (n : ℕ). flat_map (told_suppressions n) (tells o)) fits.count
+        ∙ ap (flat_map (told_suppressions (length past))) tells_law
+        ∙ told_suppressions_law k.config k.zone o object fits.covered known (length past) (outcome k.config k.zone o object e past (hist k.config k.zone o object past)) (book_of k.config k.zone o object (e ∷ past))
+          (goes_out k.config k.zone o object e past fits.covered known plain)
+        ∙ sym (ap (λ (x : Option Object). option_map_or (λ object. suppressed_at k.config k.zone o object e past) x []) found)
+
+  -- all that is told gives all that is gained
+  pub notices_law : (l : ℕ) → flat_map (told_notices k.config l k.count) all_told ≡ gained k.config k.zone k.owned l e past
+  notices_law l =
+      flat_flat tells (told_notices k.config l k.count) (owned_numbers k.owned (length k.config.objects))
+      ∙ flat_same (λ o. flat_map (told_notices k.config l k.count) (tells o)) (gain k.config k.zone l e past) (is_owned k.owned) (length k.config.objects)
+        (λ o h owned. let object = found_at k.config.objects o h in notices_gained o object.0 object.1 owned l)
+
+  pub suppressions_law : flat_map (told_suppressions k.count) all_told ≡ suppressed_gained k.config k.zone k.owned e past
+  suppressions_law =
+      flat_flat tells (told_suppressions k.count) (owned_numbers k.owned (length k.config.objects))
+      ∙ flat_same (λ o. flat_map (told_suppressions k.count) (tells o)) (suppressed_gain k.config k.zone e past) (is_owned k.owned) (length k.config.objects)
+        (λ o h owned. let object = found_at k.config.objects o h in suppressions_gained o object.0 object.1 owned)
+
+  -- what is kept after the event stands for the past with the event
+  pub fits_after : (lines : List Suppression) → length past < 2 ^ 32 → Fits (kept_after k e all_told lines) (e ∷ past)
+  fits_after lines room = record {
+    accepted = fits.accepted;
+    covered = fits.covered;
+    owner = fits.owner;
+    proper = All-cons (IsProper k.config) e past proper fits.proper;
+    taken_in = All-cons (λ e. IsTakenIn e.kind) e past taken fits.taken_in;
+    short = omega arith;
+    count = omega (arith, fits.count);
+    moment = ap (λ (t : ℕ). max t e.moment) fits.moment;
+    program = ap (switch_after e.kind) fits.program;
+    states = length-states_after e.kind k.states ∙ fits.states;
+    books = length-settled all_told k.books ∙ fits.books;
+    state = λ o within. state_after e.kind k.states o (subst (λ (n : ℕ). KindIsWithin n e.kind) (sym fits.states) (named_within k.config e.kind taken proper.kind)) ∙ ap (hard_after o e.kind) (fits.state o within);
+    book = book_law;
+    fit = settled_all tells (is_owned k.owned) (BookFits (suc (length past))) tells_one (length k.config.objects) k.books
+        (All-weaker (BookFits (length past)) (BookFits (suc (length past))) (more_fits (length past)) k.books fits.fit);
+  }
