@@ -150,13 +150,13 @@ module _ (c : Config) (zone : Zone) (o : ℕ) (object : Object) (e : Event) (pas
     standing_law =
         let before : IsPlainPast c past = All-tail (IsPlainEvent c) e past plain in
         sym (ap (λ (d : ℕ). let stands : Standing = record { state = hard o past; depth = d; flapping = flapping o past } in stands) (depth-covered c o past before)
-             ∙ ap (λ (f : Bool). let stands : Standing = record { state = hard o past; depth = 0; flapping = f } in stands) (flapping-covered c o past before))
+        ∙ ap (λ (f : Bool). let stands : Standing = record { state = hard o past; depth = 0; flapping = f } in stands) (flapping-covered c o past before))
 
     -- what an event tells by the book is what it tells by the definitions
     pub told_law : told_by_book o object.interval now_at (hard o past) (book_of c zone o object past) ≡ told_at c zone o object e past
     told_law =
         ap (λ (stands : Standing). told_kind o object.interval now_at (hard o past) (book_of c zone o object past)
-            (attempted o e.kind stands (ready c zone object (began o past) (problem c zone o object past)) (moment (e ∷ past)))) standing_law
+        (attempted o e.kind stands (ready c zone object (began o past) (problem c zone o object past)) (moment (e ∷ past)))) standing_law
         ∙ told_kind_law (attempted o e.kind (standing o past) (ready c zone object (began o past) (problem c zone o object past)) (moment (e ∷ past)))
         ∙ sym (ap (λ x. told_outcome o x (book_by c zone object (began o (e ∷ past)) (x ∷ earlier))) (outcome-covered c zone o object e past (hist c zone o object past) covered known plain))
         ∙ sym (ap (told_outcome o (outcome c zone o object e past (hist c zone o object past))) book_step)

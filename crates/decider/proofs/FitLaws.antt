@@ -85,10 +85,14 @@ told_kind_one n o interval now state book in_time small h None = inl refl
 told_kind_one n o interval now state book in_time small h (Some k) =
     let begun : Book = book_at o now.kind state book in
     let fits : BookFits n begun = begun_fits n _ book h in
-    inr (_, refl, record {
-      of = refl;
-      fits = judged_fits n interval now.moment in_time small begun fits k (hard_after o now.kind state) (number_after begun.sent k) (stopped_by now.program begun k (hard_after o now.kind state) now.moment);
-    })
+    inr (
+      _,
+      refl,
+      record {
+        of = refl;
+        fits = judged_fits n interval now.moment in_time small begun fits k (hard_after o now.kind state) (number_after begun.sent k) (stopped_by now.program begun k (hard_after o now.kind state) now.moment);
+      },
+    )
 
 -- the greatest stamp of proper events is in range
 moment_fits : (c : Config) (past : List Event) → All (IsProper c) past → moment past ≤ last_moment
@@ -197,7 +201,7 @@ module _ (k : Kept) (e : Event) (past : List Event) (fits : Fits k past) (proper
         ∙ ap (λ told. book_told told (get_or k.books o empty_book)) tells_law
         ∙ ap (λ (book : Book). book_told (told_at k.config k.zone o object e past) book) (fits.book o object found owned)
         ∙ book_told_law o (outcome k.config k.zone o object e past (hist k.config k.zone o object past)) (book_of k.config k.zone o object (e ∷ past)) (book_of k.config k.zone o object past)
-          (quiet_law k.config k.zone o object e past fits.covered known plain)
+        (quiet_law k.config k.zone o object e past fits.covered known plain)
 
     -- and so are its notices and suppressions
     notices_gained : (l : ℕ) → flat_map (told_notices k.config l k.count) (tells o) ≡ gain k.config k.zone l e past o
@@ -205,7 +209,7 @@ module _ (k : Kept) (e : Event) (past : List Event) (fits : Fits k past) (proper
         ap (λ (n : ℕ). flat_map (told_notices k.config l n) (tells o)) fits.count
         ∙ ap (flat_map (told_notices k.config l (length past))) tells_law
         ∙ told_notices_law k.config k.zone o object fits.covered known l (length past) (outcome k.config k.zone o object e past (hist k.config k.zone o object past)) (book_of k.config k.zone o object (e ∷ past))
-          (goes_out k.config k.zone o object e past fits.covered known plain)
+        (goes_out k.config k.zone o object e past fits.covered known plain)
         ∙ sym (ap (λ (x : Option Object). option_map_or (λ object. due_at k.config k.zone o object l e past) x []) found)
 
     suppressions_gained : flat_map (told_suppressions k.count) (tells o) ≡ suppressed_gain k.config k.zone e past o
@@ -213,7 +217,7 @@ module _ (k : Kept) (e : Event) (past : List Event) (fits : Fits k past) (proper
         ap (λ (n : ℕ). flat_map (told_suppressions n) (tells o)) fits.count
         ∙ ap (flat_map (told_suppressions (length past))) tells_law
         ∙ told_suppressions_law k.config k.zone o object fits.covered known (length past) (outcome k.config k.zone o object e past (hist k.config k.zone o object past)) (book_of k.config k.zone o object (e ∷ past))
-          (goes_out k.config k.zone o object e past fits.covered known plain)
+        (goes_out k.config k.zone o object e past fits.covered known plain)
         ∙ sym (ap (λ (x : Option Object). option_map_or (λ object. suppressed_at k.config k.zone o object e past) x []) found)
 
   -- all that is told gives all that is gained
@@ -221,13 +225,13 @@ module _ (k : Kept) (e : Event) (past : List Event) (fits : Fits k past) (proper
   notices_law l =
       flat_flat tells (told_notices k.config l k.count) (owned_numbers k.owned (length k.config.objects))
       ∙ flat_same (λ o. flat_map (told_notices k.config l k.count) (tells o)) (gain k.config k.zone l e past) (is_owned k.owned) (length k.config.objects)
-        (λ o h owned. let object = found_at k.config.objects o h in notices_gained o object.0 object.1 owned l)
+      (λ o h owned. let object = found_at k.config.objects o h in notices_gained o object.0 object.1 owned l)
 
   pub suppressions_law : flat_map (told_suppressions k.count) all_told ≡ suppressed_gained k.config k.zone k.owned e past
   suppressions_law =
       flat_flat tells (told_suppressions k.count) (owned_numbers k.owned (length k.config.objects))
       ∙ flat_same (λ o. flat_map (told_suppressions k.count) (tells o)) (suppressed_gain k.config k.zone e past) (is_owned k.owned) (length k.config.objects)
-        (λ o h owned. let object = found_at k.config.objects o h in suppressions_gained o object.0 object.1 owned)
+      (λ o h owned. let object = found_at k.config.objects o h in suppressions_gained o object.0 object.1 owned)
 
   -- what is kept after the event stands for the past with the event
   pub fits_after : (lines : List Suppression) → length past < 2 ^ 32 → Fits (kept_after k e all_told lines) (e ∷ past)

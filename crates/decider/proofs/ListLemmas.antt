@@ -30,7 +30,7 @@ module _ {X Y : Type 0} (f : X → Y) where
 pub at_set : {Y : Type 0} (xs : List Y) (i l : ℕ) (v d : Y) → i < length xs → get_or (set xs i v) l d ≡ cond (eqb i l) v (get_or xs l d)
 at_set xs i l v d h =
     elim (cases_eq i l) [
-        inl e ↦ subst (λ (k : ℕ). get_or (set xs i v) k d ≡ cond (eqb i k) v (get_or xs k d)) e (get_or-set_same xs i v d h ∙ sym (ap (λ b. cond b v (get_or xs i d)) (eq-eqb i i refl)))
+      | inl e ↦ subst (λ (k : ℕ). get_or (set xs i v) k d ≡ cond (eqb i k) v (get_or xs k d)) e (get_or-set_same xs i v d h ∙ sym (ap (λ b. cond b v (get_or xs i d)) (eq-eqb i i refl)))
       | inr ne ↦ get_or-set_other xs i l v d (λ e. ne (sym e)) ∙ sym (ap (λ b. cond b v (get_or xs l d)) (ne_eqb i l ne))
     ]
 
@@ -39,7 +39,7 @@ pub at_longer : {A : Type 0} (xs : List (List A)) (i l : ℕ) (ys : List A) → 
     → get_or (set xs i (get_or xs i [] ++ ys)) l [] ≡ get_or xs l [] ++ cond (eqb i l) ys []
 at_longer xs i l ys h =
     elim (cases_eq i l) [
-        inl e ↦ subst (λ (k : ℕ). get_or (set xs i (get_or xs i [] ++ ys)) k [] ≡ get_or xs k [] ++ cond (eqb i k) ys []) e
-            (get_or-set_same xs i (get_or xs i [] ++ ys) [] h ∙ sym (ap (λ b. get_or xs i [] ++ cond b ys []) (eq-eqb i i refl)))
+      | inl e ↦ subst (λ (k : ℕ). get_or (set xs i (get_or xs i [] ++ ys)) k [] ≡ get_or xs k [] ++ cond (eqb i k) ys []) e
+          (get_or-set_same xs i (get_or xs i [] ++ ys) [] h ∙ sym (ap (λ b. get_or xs i [] ++ cond b ys []) (eq-eqb i i refl)))
       | inr ne ↦ get_or-set_other xs i l (get_or xs i [] ++ ys) [] (λ e. ne (sym e)) ∙ sym (ap (λ b. get_or xs l [] ++ cond b ys []) (ne_eqb i l ne) ∙ append-nil (get_or xs l []))
     ]

@@ -27,6 +27,7 @@ module _ {A : Type 0} (f : ℕ → List A) (p : ℕ → Bool) where
     where
       zero_plus : (n : ℕ) → 0 + n ≡ n
       zero_plus n = omega arith
+
       last : (n : ℕ) (b : Bool) → p n ≡ b → flat_map f (filter p (n ∷ [])) ≡ cond (p n) (f n) []
       last n true e = rw e (append-nil (f n))
       last n false e = rw e refl
@@ -46,11 +47,11 @@ module _ {A : Type 0} (f : ℕ → List A) (p : ℕ → Bool) where
   pub flat_one : (n o : ℕ) → o < n → ((k : ℕ) → k < n → k ≢ o → f k ≡ []) → flat_below n ≡ cond (p o) (f o) []
   flat_one zero o h others = absurd (omega arith)
   flat_one (suc n) o h others = elim (cases_eq o n) [
-      | inl e ↦ flat_more n ∙ ap (λ xs. xs ++ cond (p n) (f n) []) (flat_none n (λ k below. others k (omega arith) (omega arith)))
-          ∙ subst (λ (m : ℕ). cond (p m) (f m) [] ≡ cond (p o) (f o) []) e refl
-      | inr ne ↦ flat_more n ∙ ap (λ xs. xs ++ cond (p n) (f n) []) (flat_one n o (omega arith) (λ k below. others k (omega arith)))
-          ∙ ap (λ xs. cond (p o) (f o) [] ++ cond (p n) xs []) (others n (omega arith) (λ e. ne (sym e))) ∙ end (p n)
-    ]
+    | inl e ↦ flat_more n ∙ ap (λ xs. xs ++ cond (p n) (f n) []) (flat_none n (λ k below. others k (omega arith) (omega arith)))
+        ∙ subst (λ (m : ℕ). cond (p m) (f m) [] ≡ cond (p o) (f o) []) e refl
+    | inr ne ↦ flat_more n ∙ ap (λ xs. xs ++ cond (p n) (f n) []) (flat_one n o (omega arith) (λ k below. others k (omega arith)))
+        ∙ ap (λ xs. cond (p o) (f o) [] ++ cond (p n) xs []) (others n (omega arith) (λ e. ne (sym e))) ∙ end (p n)
+  ]
     where
       end : (b : Bool) → cond (p o) (f o) [] ++ cond {A = List A} b [] [] ≡ cond (p o) (f o) []
       end true = append-nil _

@@ -68,11 +68,11 @@ module _ (f : ℕ → List Told) (p : ℕ → Bool) (P : Book → Type 0) (one :
       ap (λ told. get_or (settled told books) o d) (flat_more f p n)
       ∙ ap (λ (bs : List Book). get_or bs o d) (settled-append (flat_below f p n) (cond (p n) (f n) []) books)
       ∙ elim (cases_eq o n) [
-          | inl e ↦ subst (λ (m : ℕ). get_or (settled (cond (p m) (f m) []) (settled (flat_below f p m) books)) o d ≡ book_told (f o) (get_or books o d)) e
-              (step_same o (settled (flat_below f p o) books) d (subst (λ (m : ℕ). o < m) (sym (length-settled (flat_below f p o) books)) within) owned
-               ∙ ap (book_told (f o)) (settled_later o o books d (omega arith)))
-          | inr ne ↦ step_other n o (settled (flat_below f p n) books) d ne ∙ settled_at n o books d (omega arith) within owned
-        ]
+        | inl e ↦ subst (λ (m : ℕ). get_or (settled (cond (p m) (f m) []) (settled (flat_below f p m) books)) o d ≡ book_told (f o) (get_or books o d)) e
+            (step_same o (settled (flat_below f p o) books) d (subst (λ (m : ℕ). o < m) (sym (length-settled (flat_below f p o) books)) within) owned
+            ∙ ap (book_told (f o)) (settled_later o o books d (omega arith)))
+        | inr ne ↦ step_other n o (settled (flat_below f p n) books) d ne ∙ settled_at n o books d (omega arith) within owned
+      ]
 
   -- what holds of each book and of each that is told holds of each after it
   step_all : (n : ℕ) (b : Bool) (books : List Book) → AtMostOne n P (f n) → All P books → All P (settled (cond b (f n) []) books)

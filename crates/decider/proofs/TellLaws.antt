@@ -32,12 +32,12 @@ pub told_by_program : (objects : List Object) (owned : Owned) (now : Now) (on : 
     → told_numbers objects owned now states books n ≡ []
 told_by_program objects owned now on states books n e =
     flat_none (told_number objects now states books) (is_owned owned) n (λ o h. told_quiet objects now states books o (λ interval state book.
-        ap (λ (k : EventKind). told_kind o interval now state book (attempted o k (record { state = state; depth = 0; flapping = false }) book.ready now.moment)) e))
+    ap (λ (k : EventKind). told_kind o interval now state book (attempted o k (record { state = state; depth = 0; flapping = false }) book.ready now.moment)) e))
 
 -- a hard state tells something of its object alone
 pub told_by_hard : (objects : List Object) (owned : Owned) (now : Now) (p : ObjectId) (s : State) (states : List State) (books : List Book) (n : ℕ) → now.kind ≡ event.Hard p s → p.0 < n
     → told_numbers objects owned now states books n ≡ cond (is_owned owned p.0) (told_number objects now states books p.0) []
 told_by_hard objects owned now p s states books n e within =
     flat_one (told_number objects now states books) (is_owned owned) n p.0 within (λ o below ne. told_quiet objects now states books o (λ interval state book.
-        ap (λ (k : EventKind). told_kind o interval now state book (attempted o k (record { state = state; depth = 0; flapping = false }) book.ready now.moment)) e
-        ∙ ap (λ b. told_kind o interval now state book (cond b (attempted_by_state state s) None)) (ne_eqb p.0 o (λ e. ne (sym e)))))
+    ap (λ (k : EventKind). told_kind o interval now state book (attempted o k (record { state = state; depth = 0; flapping = false }) book.ready now.moment)) e
+    ∙ ap (λ b. told_kind o interval now state book (cond b (attempted_by_state state s) None)) (ne_eqb p.0 o (λ e. ne (sym e)))))

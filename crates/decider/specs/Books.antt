@@ -74,9 +74,9 @@ stopped_by program book k state t = first_failing (
 -- what becomes of an attempt of a plain host with this interval
 abbrev pub judged_by_book : (interval : ℕ) (program : Bool) → Book → Kind → State → (t : ℕ) → Outcome
 judged_by_book interval program book k state t = elim (stopped_by program book k state t) as (λ _. Outcome) [
-    None ↦ Sent k state (number_after book.sent k) t (if is_problem k then 60 * interval else 0)
+  | None ↦ Sent k state (number_after book.sent k) t (if is_problem k then 60 * interval else 0)
   | Some why ↦ Suppressed k state (number_after book.sent k) t why
-  ]
+]
 
 -- what is told of an outcome, with the book after it
 abbrev pub told_of : ℕ → Book → Outcome → List Told

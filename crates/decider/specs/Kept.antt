@@ -36,8 +36,15 @@ pub record Kept : Type 0 where
 
 abbrev pub kept : Decider → Kept
 kept d = record {
-  config = d.config.now; zone = d.zone.now; owned = d.owned; count = d.count; moment = d.moment; program = d.program;
-  states = d.states.items; books = d.books.items; log = noted d.log;
+  config = d.config.now;
+  zone = d.zone.now;
+  owned = d.owned;
+  count = d.count;
+  moment = d.moment;
+  program = d.program;
+  states = d.states.items;
+  books = d.books.items;
+  log = noted d.log;
 }
 
 -- one of at most eight deciders
@@ -83,6 +90,17 @@ pub record CanTell (k : Kept) (e : Event) : Type 0 where
 -- what is kept after an event of which this was told and noted
 abbrev pub kept_after : Kept → Event → List Told → List Suppression → Kept
 kept_after k e told lines = record {
-  config = k.config; zone = k.zone; owned = k.owned; count = k.count + 1; moment = max k.moment e.moment; program = switch_after e.kind k.program;
-  states = states_after e.kind k.states; books = settled told k.books; log = k.log ++ lines;
+  config = k.config;
+  zone = k.zone;
+  owned = k.owned;
+  count = k.count + 1;
+  moment = max k.moment e.moment;
+  program = switch_after e.kind k.program;
+  states = states_after e.kind k.states;
+  books = settled told k.books;
+  log = k.log ++ lines;
 }
+
+-- the configuration, the zone and the owned objects
+abbrev pub settings : Kept → Config × Zone × Owned
+settings k = (k.config, k.zone, k.owned)

@@ -1,9 +1,10 @@
 //! The decider.
 
-ghost use Rattle.std.specs.Prelude.{◌≡◌, ◌↔◌, ℕ, ◌+◌, ◌^◌, ◌<◌, ◌≤◌, [], ◌∷◌, ◌++◌, List, length, flat_map, slice_set, OnOk, OnErr, IfOk, IsErrOf};
+ghost use Rattle.std.specs.Prelude.{◌≡◌, ◌↔◌, ℕ, ◌+◌, ◌^◌, ◌<◌, ◌≤◌, [], ◌∷◌, ◌++◌, List, length, flat_map, replicate, OnOk, OnErr, IfOk, IsErrOf};
 ghost use Rattle.due_model.specs.declared.event.Event.{Event};
 ghost use Rattle.due_model.specs.Accepted.{IsAccepted, IsProper};
 ghost use Rattle.due_model.specs.Covered.{IsCovered, IsTakenIn};
+ghost use Rattle.decider.specs.Books.{empty_book};
 ghost use Rattle.decider.specs.Gains.{states_after};
 ghost use Rattle.decider.specs.Outboxes.{lists, staged_at, waiting_at};
 
@@ -18,7 +19,7 @@ use due_model::event::{Event, EventKind};
 use due_model::notice::Suppression;
 use due_model::state::State;
 use due_model::zone::Zone;
-use std::alloc::{AllocError, AllocFailed, Global};
+use std::alloc::{AllocError, Global};
 use thiserror::Error;
 
 /// How many events a decider takes in: their numbers fit 32 bits.
@@ -70,7 +71,7 @@ fn note_state(states: &mut Vec<State>, kind: EventKind)
 }
 
 impl<'a> Decider<'a> {
-    ghost use Rattle.decider.specs.Kept.{kept, Fits, CanTell, now_of, kept_after};
+    ghost use Rattle.decider.specs.Kept.{kept, Fits, CanTell, IsOwner, now_of, kept_after, settings};
     ghost use Rattle.decider.specs.Gains.{gained, suppressed_gained, told_numbers, told_notices, told_suppressions};
     ghost use Rattle.decider.specs.Logs.{staged};
 
@@ -108,13 +109,7 @@ impl<'a> Decider<'a> {
             &self.books,
             &mut self.told,
         )?;
-        stage_all(
-            self.config,
-            self.count,
-            &self.told,
-            outbox,
-            &mut self.log,
-        )
+        stage_all(self.config, self.count, &self.told, outbox, &mut self.log)
     }
 
     /// Lets what is staged count, and takes the event in.
@@ -132,4 +127,101 @@ impl<'a> Decider<'a> {
         self.moment = self.moment.max(event.moment);
         self.count += 1;
     }
+
+    /// A decider of these objects, which has decided no event. A refused growth is the only error.
+    pub fn new(
+        alloc: Global,
+        config: &'a Config,
+        zone: &'a Zone,
+        owned: Owned,
+    ) -> Result<Decider<'a>, AllocError>
+        requires accepted { IsAccepted config.now }
+        requires covered { IsCovered config.now }
+        requires owner { IsOwner owned }
+        ensures fits { IfOk result (λ decider. Fits (kept decider) []) }
+        ensures settings { IfOk result (λ decider. settings (kept decider) ≡ (config.now, zone.now, owned)) }
+        ensures log { IfOk result (λ decider. (kept decider).log ≡ []) }
+    {
+        let count = config.objects.len();
+        Ok(Decider {
+            config,
+            zone,
+            owned,
+            count: 0,
+            moment: 0,
+            program: true,
+            states: all_pending(alloc, count)?,
+            books: all_empty(alloc, count)?,
+            log: Log::new(alloc),
+            told: Vec::new(alloc),
+        })
+    }
+
+    /// Decides one event for the owned objects. `Ok` adds to each lane of the outbox the notices that become
+    /// due, in object order, and to the log the suppressions. `NoMemory` and `Ended` change nothing.
+    pub fn decide(&mut self, event: Event, outbox: &mut Outbox) -> Result<(), DecideFault>
+        requires proper { IsProper (kept self.old).config event }
+        requires taken_in { IsTakenIn event.kind }
+        requires fits { (past : List Event) × Fits (kept self.old) past }
+        requires lanes { length (lists outbox.old) ≡ length (kept self.old).config.lanes }
+        // It stands for the list with the event.
+        ensures fits { OnOk result ((past : List Event) → Fits (kept self.old) past → Fits (kept self.new) (event ∷ past)) }
+        // Each lane gains what becomes due.
+        ensures notices { OnOk result ((past : List Event) → Fits (kept self.old) past → (l : ℕ) → l < length (lists outbox.old)
+            → waiting_at outbox.new l ≡ waiting_at outbox.old l ++ gained (kept self.old).config (kept self.old).zone (kept self.old).owned l event past) }
+        // The log gains what is suppressed.
+        ensures suppressions { OnOk result ((past : List Event) → Fits (kept self.old) past
+            → (kept self.new).log ≡ (kept self.old).log ++ suppressed_gained (kept self.old).config (kept self.old).zone (kept self.old).owned event past) }
+        ensures settings { settings (kept self.new) ≡ settings (kept self.old) }
+        ensures lanes { length (lists outbox.new) ≡ length (lists outbox.old) }
+        ensures err { OnErr result ((kept self.new ≡ kept self.old) × (lists outbox.new ≡ lists outbox.old)) }
+        // It ends at event number 2^32, and only there.
+        ensures ended { (past : List Event) → Fits (kept self.old) past → IsErrOf result DecideFault.Ended ↔ (length past ≡ 2 ^ 32) }
+    {
+        if self.count >= EVENTS {
+            return Err(DecideFault::Ended);
+        }
+        self.stage(event, outbox)?;
+        self.commit(event, outbox);
+        Ok(())
+    }
+
+    /// The suppressions so far, by event, then object, then contact.
+    pub fn log(&self) -> &[Suppression]
+        ensures { result.now ≡ (kept self.now).log }
+    {
+        self.log.lines()
+    }
+}
+
+impl From<AllocError> for DecideFault {
+    ghost use Rattle.decider.specs.declared.decider.DecideFault.TheVariants.{NoMemory};
+
+    ghost from_gives = { λ _ fault. fault ≡ NoMemory };
+
+    fn from(_error: AllocError) -> DecideFault {
+        DecideFault::NoMemory
+    }
+}
+
+/// So many pending states.
+fn all_pending(alloc: Global, count: usize) -> Result<Vec<State>, AllocError>
+    ensures { IfOk result (λ states. states.items ≡ replicate count State.Pending) }
+{
+    let mut states = Vec::with_capacity(alloc, count)?;
+    for _object in 0..count {
+        states.push(State::Pending)?;
+    }
+    Ok(states)
+}
+
+/// So many empty books.
+fn all_empty(alloc: Global, count: usize) -> Result<Vec<Book>, AllocError>
+    ensures { IfOk result (λ books. books.items ≡ replicate count empty_book) }
+{
+    let mut books = Vec::with_capacity(alloc, count)?;
+    for _object in 0..count {
+        books.push(Book::EMPTY)?;
+    }
+    Ok(books)
 }

@@ -50,11 +50,7 @@ fn stage_on_lane(
 }
 
 /// Stages a notice for each lane that the contact uses, each once.
-fn stage_to_contact(
-    notice: Notice,
-    rights: &Rights,
-    outbox: &mut Outbox,
-) -> Result<(), AllocError>
+fn stage_to_contact(notice: Notice, rights: &Rights, outbox: &mut Outbox) -> Result<(), AllocError>
     requires few { length (lists outbox.old) ≤ 16 }
     ensures waiting { lists outbox.new ≡ lists outbox.old }
     ensures ok { OnOk result ((l : ℕ) → l < length (lists outbox.old) → staged_at outbox.new l ≡ staged_at outbox.old l ++ contact_notices notice rights.now l) }
@@ -163,11 +159,7 @@ fn stage_told(
 }
 
 /// Stages a notice for the contacts of its object.
-fn stage_of_object(
-    config: &Config,
-    notice: Notice,
-    outbox: &mut Outbox,
-) -> Result<(), AllocError>
+fn stage_of_object(config: &Config, notice: Notice, outbox: &mut Outbox) -> Result<(), AllocError>
     requires few { length (lists outbox.old) ≤ 16 }
     requires few_contacts { length config.now.contacts ≤ 4096 }
     ensures waiting { lists outbox.new ≡ lists outbox.old }

@@ -10,5 +10,5 @@ pub returns-in-None-clause-ok : goal.returns-in-None-clause-ok
 returns-in-None-clause-ok c =
     let past : length c.args.config.now.objects ≤ c.args.notice.object.0 = rw c.as_slice.ensures at c.in-None.ensures.lookup.3 in
     λ l within. sym (
-        ap (λ found. staged_at c.args.outbox.now l ++ option_map_or (λ object. object_notices c.args.config.now.contacts object c.args.notice l) found []) (slice_get_past c.args.config.now.objects c.args.notice.object.0 past)
-        ∙ append-nil (staged_at c.args.outbox.now l))
+    ap (λ found. staged_at c.args.outbox.now l ++ option_map_or (λ object. object_notices c.args.config.now.contacts object c.args.notice l) found []) (slice_get_past c.args.config.now.objects c.args.notice.object.0 past)
+    ∙ append-nil (staged_at c.args.outbox.now l))

@@ -17,8 +17,8 @@ loop-lane-preserved c =
       lanes = length-map _ waiting ∙ length-set xs i y ∙ sym (length-map xs waiting) ∙ was.lanes;
       done = below_more _ _ (λ k h. kept_at waiting xs i k y [] (omega arith) ∙ was.done k h)
           (written_at waiting xs i y [] within ∙ c.commit.ensures.waiting
-           ∙ ap (λ w. w ++ staged x) (sym (read_at waiting xs i x [] within c.index_mut-outbox.ensures.value) ∙ was.waiting i (omega arith))
-           ∙ ap (λ s. waiting_at c.args.self.now i ++ s) (sym (read_at staged xs i x [] within c.index_mut-outbox.ensures.value) ∙ was.staged i (omega arith)));
+          ∙ ap (λ w. w ++ staged x) (sym (read_at waiting xs i x [] within c.index_mut-outbox.ensures.value) ∙ was.waiting i (omega arith))
+          ∙ ap (λ s. waiting_at c.args.self.now i ++ s) (sym (read_at staged xs i x [] within c.index_mut-outbox.ensures.value) ∙ was.staged i (omega arith)));
       waiting = λ k h. kept_at waiting xs i k y [] (omega arith) ∙ was.waiting k (omega arith);
       staged = λ k h. kept_at staged xs i k y [] (omega arith) ∙ was.staged k (omega arith);
     }
