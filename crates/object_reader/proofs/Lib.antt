@@ -1,0 +1,4 @@
+pub mod Lines
+pub mod Utf8
+pub mod Statements
+pub mod Blocks

@@ -1,0 +1,13 @@
+//! Reads object text, the text of the `define` blocks, into blocks of directives (chapter "Object
+//! Configuration Overview"). What the directives mean is not this crate's matter.
+#![tactic(auto)]
+
+pub mod block;
+pub mod fault;
+pub mod reading;
+
+mod line;
+mod statement;
+
+#[cfg(test)]
+mod tests;
