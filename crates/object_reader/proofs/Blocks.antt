@@ -1,5 +1,5 @@
 -- Blocks and their directives, one statement at a time.
-use Rattle.std.proofs.Common.{◌≡◌, ℕ, ◌+◌, ◌<◌, ◌≤◌, Bool, true, false, List, [], ◌∷◌, ◌++◌, Result, Ok, Err, length, nat_lt, refl, sym, ap, subst, ◌∙◌, append_assoc, arith, tests}
+use Rattle.std.proofs.Common.{◌≡◌, ℕ, ◌<◌, ◌≤◌, true, false, List, [], ◌∷◌, ◌++◌, Result, Ok, Err, length, nat_lt, refl, sym, ap, subst, ◌∙◌, append_assoc, arith, tests}
 use Rattle.std.proofs.lemmas.List.{append-nil}
 use Rattle.object_reader.specs.declared.block.BlockKind.{BlockKind}
 use Rattle.object_reader.specs.declared.block.Directive.{Directive}
@@ -54,7 +54,6 @@ with_directives-push front more (Err fault) = refl
 -- the loop over a block: whole is what the block gives, of which front has been read, and ss is left
 module _ (define : ℕ) (front : List Directive) (ss : List Statement) (whole : Result (List Directive × List Block) ReadFault)
     (so_far : whole ≡ with_directives front (block_of define ss)) where
-
   fails_with : (fault : ReadFault) → Gives {A = List Directive × List Block} (Err fault) (block_of define ss) → Gives {A = List Directive × List Block} (Err fault) whole
   fails_with fault h = fails_along fault whole _ so_far (fails_first fault (block_of define ss) (λ inside. Ok (front ++ inside.0, inside.1)) h)
 
@@ -66,7 +65,6 @@ module _ (define : ℕ) (front : List Directive) (ss : List Statement) (whole : 
   end_in_block e = so_far ∙ ap (λ left. with_directives front (block_of define left)) e
 
   module _ (n : ℕ) (text : List ℕ) (rest : List Statement) (next : ss ≡ (record { line = n; text = Ok text }) ∷ rest) where
-
     now : whole ≡ with_directives front (block_of define ((record { line = n; text = Ok text }) ∷ rest))
     now = so_far ∙ ap (λ left. with_directives front (block_of define left)) next
 
@@ -128,7 +126,6 @@ with_blocks-push front more (Err fault) = refl
 
 -- the loop over the blocks: whole is what the text gives, of which front has been read, and ss is left
 module _ (front : List Block) (ss : List Statement) (whole : Result (List Block) ReadFault) (so_far : whole ≡ with_blocks front (blocks_of ss)) where
-
   fails_after : (fault : ReadFault) → Gives {A = List Block} (Err fault) (blocks_of ss) → Gives {A = List Block} (Err fault) whole
   fails_after fault h = fails_along fault whole _ so_far (fails_first fault (blocks_of ss) (λ others. Ok (front ++ others)) h)
 
@@ -140,12 +137,10 @@ module _ (front : List Block) (ss : List Statement) (whole : Result (List Block)
   end_outside e = so_far ∙ ap (λ left. with_blocks front (blocks_of left)) e ∙ ap Ok (append-nil front)
 
   module _ (n : ℕ) (text : List ℕ) (rest : List Statement) (next : ss ≡ (record { line = n; text = Ok text }) ∷ rest) where
-
     pub not_opened_outside : (fault : LineFault) → opened text ≡ Err fault → whole ≡ Err (AtLine n fault)
     not_opened_outside fault e = so_far ∙ ap (with_blocks front) (ap blocks_of next ∙ blocks_of-not_opened n text rest fault e)
 
     module _ (kind : BlockKind) (opens : opened text ≡ Ok kind) where
-
       pub block_fails_outside : (fault : ReadFault) → Gives {A = List Directive × List Block} (Err fault) (block_of n rest) → Gives {A = List Block} (Err fault) whole
       block_fails_outside fault h = fails_after fault (fails_along fault _ _ (ap blocks_of next) (blocks_of-block_fails fault n text rest kind opens h))
 

@@ -1,8 +1,8 @@
 -- The statements of lines, one line at a time.
-use Rattle.std.proofs.Common.{◌≡◌, ℕ, ◌+◌, ◌<◌, List, [], ◌∷◌, Result, Ok, Err, length, refl, sym, ap, ◌∙◌, arith}
+use Rattle.std.proofs.Common.{◌≡◌, ℕ, ◌+◌, ◌<◌, List, [], ◌∷◌, Ok, Err, length, arith}
 use Rattle.object_reader.specs.declared.fault.LineFault.{LineFault}
 use Rattle.object_reader.specs.Lines.{Line}
-use Rattle.object_reader.specs.Statements.{Statement, said, matters, statements_from}
+use Rattle.object_reader.specs.Statements.{said, statements_from}
 
 -- a line that says nothing is skipped
 pub statements_from-nothing : (n : ℕ) (l : Line) (ls : List Line) → said l ≡ Ok [] → statements_from n (l ∷ ls) ≡ statements_from (n + 1) ls

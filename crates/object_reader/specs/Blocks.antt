@@ -1,5 +1,5 @@
 -- The blocks of object text (chapter "Object Configuration Overview").
-use Rattle.std.specs.Prelude.{◌≡◌, ℕ, nat_lt, ◌==◌, List, [], ◌∷◌, ◌++◌, length, codes, Result, Ok, Err, if◌then◌else◌}
+use Rattle.std.specs.Prelude.{◌≡◌, ℕ, nat_lt, ◌==◌, List, [], ◌∷◌, ◌++◌, length, Result, Ok, Err, if◌then◌else◌}
 use Rattle.object_reader.specs.declared.block.Directive.{Directive}
 use Rattle.object_reader.specs.declared.block.Block.{Block}
 use Rattle.object_reader.specs.declared.fault.LineFault.{LineFault}
@@ -52,8 +52,8 @@ unfoldable mutual
   block_of define (s ∷ ss) = do
     text ← at_line s.line s.text
     if is_close text then before_blocks [] (blocks_of ss)
-      else if is_define text then Err (AtLine define Unclosed)
-      else (at_line s.line (directive_of text) >>= λ directive. with_directives (directive ∷ []) (block_of define ss))
+        else if is_define text then Err (AtLine define Unclosed)
+        else (at_line s.line (directive_of text) >>= λ directive. with_directives (directive ∷ []) (block_of define ss))
 
 -- The text of an object file: at most 16,777,216 bytes, newlines counted, that are blocks.
 unfoldable pub read_text : List ℕ → Result (List Block) ReadFault

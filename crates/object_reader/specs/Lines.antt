@@ -1,5 +1,5 @@
 -- The lines of a text (chapter "Object Configuration Overview").
-use Rattle.std.specs.Prelude.{ℕ, ◌+◌, ◌-◌, Bool, true, false, ◌&&◌, ◌==◌, List, [], ◌∷◌, length, take, slice_index, if◌then◌else◌}
+use Rattle.std.specs.Prelude.{ℕ, ◌-◌, Bool, true, false, ◌&&◌, ◌==◌, List, [], ◌∷◌, length, take, slice_index, if◌then◌else◌}
 
 -- A line: its bytes without the newline, and whether a newline ends it.
 pub record Line : Type 0 where

@@ -5,7 +5,7 @@ use Rattle.std.specs.Str.{bytes_eq, is_utf8}
 use Rattle.object_reader.specs.declared.block.BlockKind.{BlockKind}
 use Rattle.object_reader.specs.declared.block.BlockKind.TheVariants.{Command, Contact, Host}
 use Rattle.object_reader.specs.declared.fault.LineFault.{LineFault}
-use Rattle.object_reader.specs.declared.fault.LineFault.TheVariants.{NotUtf8, NotADefine, UnknownType, NoValue, Unclosed, LineTooLong, NotYet}
+use Rattle.object_reader.specs.declared.fault.LineFault.TheVariants.{NotUtf8, NotADefine, UnknownType, LineTooLong, NotYet}
 use Rattle.object_reader.specs.Lines.{Line, lines_of, content}
 
 -- Blanks are spaces and tabs.

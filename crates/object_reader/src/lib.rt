@@ -4,10 +4,8 @@
 
 pub mod block;
 pub mod fault;
-pub mod reading;
-
 mod line;
+pub mod reading;
 mod statement;
-
 #[cfg(test)]
 mod tests;

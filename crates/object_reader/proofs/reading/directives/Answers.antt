@@ -1,6 +1,5 @@
-use Rattle.std.proofs.Common.{◌≡◌, ◌∷◌, [], ◌++◌, length, ap, sym, ◌∙◌, arith}
+use Rattle.std.proofs.Common.{length, ap, sym, arith}
 use Rattle.std.proofs.lemmas.Result.{err_from_is_err_and}
-use Rattle.object_reader.specs.Blocks.{block_of}
 use Rattle.object_reader.proofs.Blocks.{fault_in_block, end_in_block, close_in_block, define_in_block, no_value_in_block, directive_in_block}
 use Rattle.object_reader.proofs.reading.directives.Goals as goal
 use Rattle.object_reader.proofs.reading.directives.Goals.{in-Some+else-is_close+then-is_define, in_default}
@@ -29,4 +28,11 @@ loop-directives-preserved c =
     (rw c.in_ok-push.ensures.items e, omega (arith, ap length next, c.loop-directives.invariant.1))
 
 pub returns-clause-fault : goal.returns-clause-fault
-returns-clause-fault c = ?
+returns-clause-fault c =
+    let so_far = c.loop-directives.invariant.0 in
+    elim c.match-branch-2.branch [
+      | in-Some+else-is_close+then-is_define w ↦
+          define_in_block c.args.define c.loop-directives.directives.items c.loop-directives.statements _ so_far w.in-Some.statement.line w.in-Some.statement.text.now c.next.new.self (rw w.in-Some.is at c.in_ok-statement.ensures) (sym w.if-is_close.ensures) (sym w.if-is_define.ensures)
+      | in_default w ↦
+          end_in_block c.args.define c.loop-directives.directives.items c.loop-directives.statements _ so_far (rw w.in_default.is at c.in_ok-statement.ensures)
+    ]

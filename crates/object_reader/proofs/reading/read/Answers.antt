@@ -1,6 +1,5 @@
-use Rattle.std.proofs.Common.{◌≡◌, ◌∷◌, [], ◌++◌, length, ap, sym, ◌∙◌, arith}
+use Rattle.std.proofs.Common.{length, ap, sym, ◌∙◌, arith}
 use Rattle.std.proofs.lemmas.Result.{err_from_is_err_and}
-use Rattle.object_reader.specs.Blocks.{blocks_of}
 use Rattle.object_reader.proofs.Blocks.{fault_outside, end_outside, not_opened_outside, block_fails_outside, block_outside, read_text-blocks, read_text-large}
 use Rattle.object_reader.proofs.reading.read.Goals as goal
 

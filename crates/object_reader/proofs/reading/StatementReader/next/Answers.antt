@@ -1,8 +1,8 @@
-use Rattle.std.proofs.Common.{◌≡◌, ◌∷◌, [], Ok, Err, length, ◌+◌, refl, sym, ap, ◌∙◌, arith}
+use Rattle.std.proofs.Common.{◌≡◌, Ok, length, refl, sym, ap, ◌∙◌, arith}
 use Rattle.std.proofs.lemmas.List.{nil_from_length}
 use Rattle.std.proofs.lemmas.Grind.{common_steps}
 use Rattle.object_reader.specs.Lines.{lines_of}
-use Rattle.object_reader.specs.Statements.{Statement, said, statements_from}
+use Rattle.object_reader.specs.Statements.{statements_from}
 use Rattle.object_reader.proofs.Statements.{statements_from-nothing, statements_from-text, statements_from-fault}
 use Rattle.object_reader.proofs.reading.StatementReader.next.Goals as goal
 
