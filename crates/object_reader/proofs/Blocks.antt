@@ -92,7 +92,7 @@ blocks_of-fault NoMemory ss h = tt
 blocks_of-fault TooLarge ss h = absurd h
 
 -- the block that begins with its first line
-block_and : BlockKind → ℕ → List Directive × List Block → Result (List Block) ReadFault
+unfoldable pub block_and : BlockKind → ℕ → List Directive × List Block → Result (List Block) ReadFault
 block_and kind n inside = Ok ((record { kind = kind; line = n; directives = inside.0 }) ∷ inside.1)
 
 pub blocks_of-not_opened : (n : ℕ) (text : List ℕ) (rest : List Statement) (fault : LineFault) → opened text ≡ Err fault
@@ -100,7 +100,7 @@ pub blocks_of-not_opened : (n : ℕ) (text : List ℕ) (rest : List Statement) (
 unfolding blocks_of
 blocks_of-not_opened n text rest fault e = rw e refl
 
-blocks_of-opened : (n : ℕ) (text : List ℕ) (rest : List Statement) (kind : BlockKind) → opened text ≡ Ok kind
+pub blocks_of-opened : (n : ℕ) (text : List ℕ) (rest : List Statement) (kind : BlockKind) → opened text ≡ Ok kind
     → blocks_of ((record { line = n; text = Ok text }) ∷ rest) ≡ (block_of n rest >>= block_and kind n)
 unfolding blocks_of block_and
 blocks_of-opened n text rest kind e = rw e refl

@@ -2,3 +2,4 @@ pub mod Lines
 pub mod Utf8
 pub mod Statements
 pub mod Blocks
+pub mod Grammar

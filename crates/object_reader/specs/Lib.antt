@@ -2,3 +2,4 @@ pub mod Fault
 pub mod Lines
 pub mod Statements
 pub mod Blocks
+pub mod Grammar

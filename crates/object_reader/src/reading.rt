@@ -1,7 +1,11 @@
 //! Object text, read in one pass over its bytes.
 
-ghost use Rattle.std.specs.Prelude.{◌≡◌, ◌+◌, ◌<◌, ◌^◌, ◌∷◌, [], Ok, Err, length, ◌≤◌, IfOk, IfErr, OnOk, MatchResult, MatchOption};
+ghost use Rattle.std.specs.Prelude.{◌≡◌, ◌⊎◌, List, ◌+◌, ◌<◌, ◌^◌, ◌∷◌, [], Ok, Err, length, ◌≤◌, IfOk, IfErr, OnOk, MatchResult, MatchOption};
 ghost use Rattle.object_reader.specs.Statements.{Statement};
+ghost use Rattle.object_reader.specs.declared.block.Block.{Block};
+ghost use Rattle.object_reader.specs.declared.fault.ReadFault.{ReadFault};
+ghost use Rattle.object_reader.specs.declared.fault.ReadFault.TheVariants.{NoMemory};
+ghost use Rattle.object_reader.specs.Grammar.{IsObjectText, IsRefused};
 ghost use Rattle.object_reader.specs.Blocks.{Gives, FailsFirst, before_blocks, at_line, directive_of, block_of, blocks_of, read_text};
 
 use crate::block::{Block, Directive};
@@ -115,8 +119,8 @@ fn directives(
     })
 }
 
-/// The blocks of an object text.
-pub fn read(alloc: Global, bytes: &[u8]) -> Result<Sequence<Block>, ReadFault>
+/// The blocks of an object text, or its first fault.
+fn read_text(alloc: Global, bytes: &[u8]) -> Result<Sequence<Block>, ReadFault>
     ensures { Gives result (read_text bytes.now) }
 {
     if bytes.len() > TEXT_LIMIT {
@@ -126,7 +130,7 @@ pub fn read(alloc: Global, bytes: &[u8]) -> Result<Sequence<Block>, ReadFault>
         line: 1,
         rest: bytes,
     };
-    let mut blocks = Vec::new(alloc);
+    let mut found = Vec::new(alloc);
     while let Some(statement) = statements.next()? {
         let line = statement.line;
         let kind = match opened(statement.text) {
@@ -134,11 +138,35 @@ pub fn read(alloc: Global, bytes: &[u8]) -> Result<Sequence<Block>, ReadFault>
             Err(fault) => return Err(ReadFault::AtLine { line, fault }),
         };
         let directives = directives(alloc, line, &mut statements)?;
-        blocks.push(Block {
+        found.push(Block {
             kind,
             line,
             directives,
         })?;
     }
-    Ok(Sequence::new(blocks))
+    Ok(Sequence::new(found))
+}
+
+/// The blocks of an object text, in its order (chapter "Object Configuration Overview").
+///
+/// The text has at most 16,777,216 bytes, newlines counted, and its lines have at most 4,096 bytes each
+/// without their newline. Lines aren't joined: one with a backslash is refused, and so is the `define` of
+/// a type other than `command`, `contact` and `host`.
+///
+/// It reads each byte a fixed number of times, and takes memory in proportion to the text. A refusal
+/// gives nothing beside the fault, which is the first in the text, and `NoMemory` says nothing of the
+/// text.
+pub fn read(alloc: Global, bytes: &[u8]) -> Result<Sequence<Block>, ReadFault>
+    // What is read is the text's blocks.
+    ensures blocks { IfOk result (λ blocks. IsObjectText bytes.now blocks) }
+    // A text of blocks is read, unless memory runs out.
+    ensures only { (blocks : List Block) → IsObjectText bytes.now blocks → Gives result (Ok blocks) }
+    // What is refused has this fault as its first.
+    ensures fault { IfErr result (λ fault. (fault ≡ NoMemory) ⊎ IsRefused bytes.now fault) }
+    // A text with a first fault is refused with it, unless memory runs out.
+    ensures refused { (fault : ReadFault) → IsRefused bytes.now fault → Gives result (Err fault) }
+    // By the definition that reads from the front to the end.
+    ensures exact { Gives result (read_text bytes.now) }
+{
+    read_text(alloc, bytes)
 }
