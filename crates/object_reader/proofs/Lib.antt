@@ -1,0 +1,5 @@
+pub mod Lines
+pub mod Utf8
+pub mod Statements
+pub mod Blocks
+pub mod Grammar

@@ -1,0 +1,86 @@
+-- Object text, as it is written: blocks, one after the other (chapter "Object Configuration Overview").
+use Rattle.std.specs.Prelude.{◌≡◌, ℕ, ◌<◌, ◌≤◌, ◌⊎◌, false, true, List, [], ◌∷◌, ◌++◌, length, Option, None, Some, Ok, Err}
+use Rattle.object_reader.specs.declared.block.Directive.{Directive}
+use Rattle.object_reader.specs.declared.block.Block.{Block}
+use Rattle.object_reader.specs.declared.fault.LineFault.{LineFault}
+use Rattle.object_reader.specs.declared.fault.LineFault.TheVariants.{Unclosed}
+use Rattle.object_reader.specs.declared.fault.ReadFault.{ReadFault}
+use Rattle.object_reader.specs.declared.fault.ReadFault.TheVariants.{AtLine, NoMemory, TooLarge}
+use Rattle.object_reader.specs.Statements.{Statement, statements_of, opened, is_close, is_define}
+use Rattle.object_reader.specs.Blocks.{directive_of}
+
+-- The statement opens the block: it stands at the block's line, and names its kind.
+pub record Opens (s : Statement) (b : Block) : Type 0 where
+  pub text : List ℕ
+  pub says : s ≡ record { line = b.line; text = Ok text }
+  pub opens : opened text ≡ Ok b.kind
+
+-- The statement is the directive: it neither closes a block nor begins the next.
+pub record IsDirective (s : Statement) (d : Directive) : Type 0 where
+  pub text : List ℕ
+  pub says : s.text ≡ Ok text
+  pub no_close : is_close text ≡ false
+  pub no_define : is_define text ≡ false
+  pub value : directive_of text ≡ Ok d
+
+-- The statement closes a block.
+pub record Closes (s : Statement) : Type 0 where
+  pub text : List ℕ
+  pub says : s.text ≡ Ok text
+  pub closes : is_close text ≡ true
+
+-- The statements are the directives, in order.
+abbrev pub AreDirectives : List Statement → List Directive → Type 0
+AreDirectives [] [] = Unit {0}
+AreDirectives [] (d ∷ ds) = ⊥
+AreDirectives (s ∷ ss) [] = ⊥
+AreDirectives (s ∷ ss) (d ∷ ds) = IsDirective s d × AreDirectives ss ds
+
+-- The statements of a block: one that opens it, its directives, and one that closes it.
+pub record IsBlock (ss : List Statement) (b : Block) : Type 0 where
+  pub head : Statement
+  pub body : List Statement
+  pub close : Statement
+  pub parts : ss ≡ head ∷ (body ++ close ∷ [])
+  pub opens : Opens head b
+  pub directives : AreDirectives body b.directives
+  pub closes : Closes close
+
+-- The statements are those of the blocks, one block after the other, and no others.
+abbrev pub AreBlocks : List Statement → List Block → Type 0
+AreBlocks ss [] = ss ≡ []
+AreBlocks ss (b ∷ bs) = (first : List Statement) × (others : List Statement) × (ss ≡ first ++ others) × IsBlock first b × AreBlocks others bs
+
+-- The text is that of the blocks: at most 16,777,216 bytes, newlines counted.
+pub record IsObjectText (text : List ℕ) (blocks : List Block) : Type 0 where
+  pub fits : length text ≤ 16777216
+  pub parts : AreBlocks (statements_of text) blocks
+
+-- The statements up to a fault: whole blocks, and of a block that is still open, if there is one, the first
+-- statement and some directives.
+abbrev pub IsBeginning : List Statement → Option Block → Type 0
+IsBeginning ss None = (whole : List Block) × AreBlocks ss whole
+IsBeginning ss (Some b) = (before : List Statement) × (whole : List Block) × (head : Statement) × (body : List Statement)
+    × (ss ≡ before ++ head ∷ body) × AreBlocks before whole × Opens head b × AreDirectives body b.directives
+
+-- The statement is at fault: its line is, or it doesn't open a block outside one, or in a block it begins the next
+-- one, or it has no value.
+abbrev pub IsFaulty : Option Block → Statement → ReadFault → Type 0
+IsFaulty None s fault = (f : LineFault) × (fault ≡ AtLine s.line f)
+    × ((s.text ≡ Err f) ⊎ ((text : List ℕ) × (s.text ≡ Ok text) × (opened text ≡ Err f)))
+IsFaulty (Some b) s fault = ((f : LineFault) × (fault ≡ AtLine s.line f) × (s.text ≡ Err f))
+    ⊎ (((text : List ℕ) × (s.text ≡ Ok text) × (is_close text ≡ false) × (is_define text ≡ true) × (fault ≡ AtLine b.line Unclosed))
+    ⊎ ((text : List ℕ) × (f : LineFault) × (fault ≡ AtLine s.line f) × (s.text ≡ Ok text) × (is_close text ≡ false) × (is_define text ≡ false) × (directive_of text ≡ Err f)))
+
+-- The first fault of the statements: everything before it is in order, and either the next statement is at fault,
+-- or a block is open at the end.
+abbrev pub IsFirstFault : List Statement → ReadFault → Type 0
+IsFirstFault ss fault = ((before : List Statement) × (s : Statement) × (after : List Statement) × (within : Option Block)
+    × (ss ≡ before ++ s ∷ after) × IsBeginning before within × IsFaulty within s fault)
+    ⊎ ((b : Block) × IsBeginning ss (Some b) × (fault ≡ AtLine b.line Unclosed))
+
+-- The text is refused with this fault: it is too large, or it isn't and this is its first fault.
+abbrev pub IsRefused : List ℕ → ReadFault → Type 0
+IsRefused text TooLarge = 16777216 < length text
+IsRefused text (AtLine n fault) = (length text ≤ 16777216) × IsFirstFault (statements_of text) (AtLine n fault)
+IsRefused text NoMemory = ⊥

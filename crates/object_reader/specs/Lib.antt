@@ -1,0 +1,5 @@
+pub mod Fault
+pub mod Lines
+pub mod Statements
+pub mod Blocks
+pub mod Grammar

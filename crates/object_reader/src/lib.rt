@@ -1,0 +1,11 @@
+//! Reads object text, the text of the `define` blocks, into blocks of directives (chapter "Object
+//! Configuration Overview"). What the directives mean is not this crate's matter.
+#![tactic(auto)]
+
+pub mod block;
+pub mod fault;
+mod line;
+pub mod reading;
+mod statement;
+#[cfg(test)]
+mod tests;
