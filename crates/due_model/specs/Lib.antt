@@ -9,3 +9,5 @@ pub mod Due
 pub mod Accepted
 pub mod Covered
 pub mod Rows
+pub mod Slow
+pub mod SlowViews

@@ -10,5 +10,6 @@ pub mod notice;
 pub mod rows;
 pub mod rules;
 pub mod sequence;
+pub mod slow;
 pub mod state;
 pub mod zone;

@@ -1,0 +1,6 @@
+//! The plain slow program: it looks back over all events for each answer, as the definitions do.
+
+pub mod filters;
+pub mod histories;
+pub mod periods;
+pub mod readings;
