@@ -23,7 +23,7 @@ use Rattle.due_model.specs.declared.state.State.{State}
 use Rattle.due_model.specs.declared.state.State.TheVariants as state
 use Rattle.due_model.specs.declared.zone.Zone.{Zone}
 use Rattle.due_model.specs.Accepted.{KindIsProper, is_state_of}
-pub use Rattle.due_model.specs.Covered.{IsPlainEvent}
+pub use Rattle.due_model.specs.Covered.{IsPlainEvent, IsPlainObject}
 use Rattle.due_model.specs.Covered.{HasHostLetters, IsPlainHost, AreFullRights, IsCovered, IsTakenIn}
 use Rattle.due_model.specs.Periods.{in_period, next_in, first_passing}
 use Rattle.due_model.specs.Readings.{moment, program_on, hard, hard_after, depth, depth_after, down, flapping, flapping_after, begins, began}
@@ -36,11 +36,6 @@ use Rattle.due_model.specs.Due.{receivers}
 -- each event of a past is
 abbrev pub IsPlainPast : Config → List Event → Type 0
 IsPlainPast c past = All (IsPlainEvent c) past
-
--- object o of the configuration is a plain host
-pub record IsPlainObject (c : Config) (o : ℕ) (object : Object) : Type 0 where
-  pub at : slice_get c.objects o ≡ Some object
-  pub plain : IsPlainHost object
 
 -- no downtime runs
 
@@ -308,3 +303,6 @@ outcome-covered c zone o object e past history covered known h =
     outcome_of-covered c zone o object e past (before o e past history)
     (attempted o e.kind (standing o past) (ready c zone object (began o past) (of_problem o past history)) (moment (e ∷ past)))
     covered known h
+
+-- what no escalation makes of the gap and the receivers
+pub ruleset no_escalation = (gap-covered, reach-covered, receivers-covered)

@@ -1,5 +1,5 @@
 -- What the programs can do so far.
-use Rattle.std.specs.Prelude.{◌≡◌, true, [], All, None}
+use Rattle.std.specs.Prelude.{◌≡◌, ℕ, true, [], All, None, Some, slice_get}
 use Rattle.due_model.specs.declared.config.Config.{Config}
 use Rattle.due_model.specs.declared.config.Object.{Object}
 use Rattle.due_model.specs.declared.config.Rights.{Rights}
@@ -50,3 +50,8 @@ IsTakenIn (Flapping o starts) = ⊥
 pub record IsPlainEvent (c : Config) (e : Event) : Type 0 where
   pub proper : IsProper c e
   pub taken_in : IsTakenIn e.kind
+
+-- object o of the configuration is a plain host
+pub record IsPlainObject (c : Config) (o : ℕ) (object : Object) : Type 0 where
+  pub at : slice_get c.objects o ≡ Some object
+  pub plain : IsPlainHost object

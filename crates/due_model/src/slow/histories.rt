@@ -3,7 +3,7 @@
 ghost use Rattle.std.specs.Prelude.{◌≡◌, ◌<◌, ◌≤◌, ◌^◌, length, reverse, None, All, IfSome, option_map, count_by, is_some, List, ◌∷◌};
 ghost use Rattle.due_model.specs.Accepted.{last_moment, most};
 ghost use Rattle.due_model.specs.declared.notice.Outcome.{Outcome};
-ghost use Rattle.due_model.specs.Histories.{of_problem, notice_of, notices_sent, last_notice, after_last, retry_after, ready};
+ghost use Rattle.due_model.specs.Histories.{before, of_problem, notice_of, notices_sent, last_notice, after_last, retry_after, ready};
 ghost use Rattle.due_model.specs.Periods.{next_in};
 ghost use Rattle.due_model.specs.Slow.{last_of, longest_gap, IsInRange, IsLastInRange};
 
@@ -12,7 +12,7 @@ use crate::event::Event;
 use crate::notice::{Filter, Kind, Outcome};
 use crate::rules::next_notice;
 use crate::slow::periods::next_in;
-use crate::slow::readings::begins;
+use crate::slow::readings::{begins, hard};
 use crate::state::State;
 use crate::zone::Zone;
 
@@ -184,4 +184,24 @@ pub fn ready(
         last = notice_of(*outcome).or(last);
     }
     ready
+}
+
+/// The outcomes of the problem that runs at an event, or ends there, from before that event, where `problem`
+/// has those of the last problem before it.
+pub fn before<'a>(
+    object: ObjectId,
+    event: &Event,
+    past: &[Event],
+    problem: &'a [Outcome],
+) -> &'a [Outcome]
+    ensures value { (history : List Outcome) → reverse problem.now ≡ of_problem object.0 (reverse past.now) history
+        → reverse result.now ≡ before object.0 event.now (reverse past.now) history }
+    ensures in_range { All IsInRange problem.now → All IsInRange result.now }
+    ensures few { length result.now ≤ length problem.now }
+{
+    if begins(object, event.kind, hard(object, past)) {
+        &[]
+    } else {
+        problem
+    }
 }

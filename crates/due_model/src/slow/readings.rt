@@ -1,6 +1,6 @@
 //! What the events so far say, read by going over all of them.
 
-ghost use Rattle.std.specs.Prelude.{◌≡◌, ◌&&◌, not, reverse};
+ghost use Rattle.std.specs.Prelude.{◌≡◌, ◌&&◌, not, reverse, ◌∷◌};
 ghost use Rattle.due_model.specs.Readings.{moment, program_on, hard, began, is_problem_of, is_problem_state};
 
 use crate::config::ObjectId;
@@ -63,4 +63,22 @@ pub fn began(object: ObjectId, events: &[Event]) -> u64
         state = event.kind.hard_after(object, state);
     }
     began
+}
+
+/// The moment of an event, in seconds since the epoch: the greatest stamp up to it.
+pub fn moment_at(event: &Event, past: &[Event]) -> u64
+    ensures { result ≡ moment (event.now ∷ reverse past.now) }
+{
+    moment(past).max(event.moment)
+}
+
+/// The moment at which the object's last problem began, this event counted; 0, if there was none.
+pub fn began_at(object: ObjectId, event: &Event, past: &[Event]) -> u64
+    ensures { result ≡ began object.0 (event.now ∷ reverse past.now) }
+{
+    if begins(object, event.kind, hard(object, past)) {
+        moment_at(event, past)
+    } else {
+        began(object, past)
+    }
 }
