@@ -24,7 +24,7 @@ use Rattle.due_model.specs.declared.state.State.TheVariants as state
 use Rattle.due_model.specs.declared.zone.Zone.{Zone}
 use Rattle.due_model.specs.Accepted.{KindIsProper, is_state_of}
 pub use Rattle.due_model.specs.Covered.{IsPlainEvent, IsPlainObject}
-use Rattle.due_model.specs.Covered.{HasHostLetters, IsPlainHost, AreFullRights, IsCovered, IsTakenIn}
+use Rattle.due_model.specs.Covered.{HasHostLetters, AreFullRights, IsCovered, IsTakenIn}
 use Rattle.due_model.specs.Periods.{in_period, next_in, first_passing}
 use Rattle.due_model.specs.Readings.{moment, program_on, hard, hard_after, depth, depth_after, down, flapping, flapping_after, begins, began}
 use Rattle.due_model.specs.Rules.{Attempt, Last, View, attempted, failing, contact_failing, first_failing, has_letter, letter_of, state_letter, is_problem, is_recovery, is_of_downtime, is_of_problem, is_too_soon}

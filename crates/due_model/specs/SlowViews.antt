@@ -1,5 +1,6 @@
 -- What the filters of the plain slow program read, as values of the definitions.
-use Rattle.std.specs.Prelude.{option_map}
+use Rattle.std.specs.Prelude.{ℕ, option_map}
+use Rattle.due_model.specs.declared.config.ContactId.{ContactId}
 use Rattle.due_model.specs.declared.slow.filters.Attempted.{Attempted}
 use Rattle.due_model.specs.declared.slow.filters.ObjectView.{ObjectView}
 use Rattle.due_model.specs.Rules.{Attempt, View}
@@ -24,3 +25,6 @@ view_of v = record {
   delay = v.delay;
   last = option_map last_of v.last;
 }
+
+abbrev pub number_of_contact : ContactId → ℕ
+number_of_contact k = k.0

@@ -24,7 +24,11 @@ pub fn standing(config: &Config, object: ObjectId, past: &[Event]) -> Standing
     ensures value { result ≡ standing object.0 (reverse past.now) }
     ensures no_downtime { result.depth ≡ 0 }
 {
-    Standing { state: hard(object, past), depth: 0, flapping: false }
+    Standing {
+        state: hard(object, past),
+        depth: 0,
+        flapping: false,
+    }
 }
 
 /// The number of a notification in its problem, after so many problem notices; 0 for the kinds that have
@@ -55,7 +59,15 @@ pub fn gap_of(
 {
     if is_problem(attempt.kind) {
         let letter = attempt.kind.letter(attempt.state);
-        gap(config, zone, object, settings, number, letter, attempt.moment)
+        gap(
+            config,
+            zone,
+            object,
+            settings,
+            number,
+            letter,
+            attempt.moment,
+        )
     } else {
         0
     }
@@ -81,14 +93,30 @@ pub fn judged(
     ensures value { result ≡ judged config.now zone.now object.0 settings.now (view_of view) (attempt_of attempt) }
     ensures in_range { IsInRange result }
 {
-    let Attempted { kind, state, moment } = attempt;
+    let Attempted {
+        kind,
+        state,
+        moment,
+    } = attempt;
     let number = number_after(view.sent, kind);
     match failing(config, zone, view, attempt) {
         None => {
             let gap = gap_of(config, zone, object, settings, attempt, number);
-            Outcome::Sent { kind, state, number, moment, gap }
+            Outcome::Sent {
+                kind,
+                state,
+                number,
+                moment,
+                gap,
+            }
         }
-        Some(filter) => Outcome::Suppressed { kind, state, number, moment, filter },
+        Some(filter) => Outcome::Suppressed {
+            kind,
+            state,
+            number,
+            moment,
+            filter,
+        },
     }
 }
 
@@ -161,7 +189,11 @@ pub fn outcome(
             let earlier = before(object, event, past, problem);
             let view = view(config, zone, object, settings, event, past, earlier);
             let state = event.kind.hard_after(object, old.state);
-            let attempt = Attempted { kind, state, moment };
+            let attempt = Attempted {
+                kind,
+                state,
+                moment,
+            };
             judged(config, zone, object, settings, view, attempt)
         }
     }

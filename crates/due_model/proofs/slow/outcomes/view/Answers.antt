@@ -1,4 +1,4 @@
-use Rattle.std.proofs.Common.{◌≡◌, ◌≤◌, ◌∷◌, reverse, ap, ◌∙◌, arith}
+use Rattle.std.proofs.Common.{◌≡◌, ◌∷◌, reverse, ap, ◌∙◌, arith}
 use Rattle.due_model.specs.Readings.{program_on, switch_after}
 use Rattle.due_model.proofs.SlowLemmas.{view_plain, now_began_in_range}
 use Rattle.due_model.proofs.slow.outcomes.view.Goals as goal
