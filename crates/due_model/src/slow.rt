@@ -7,6 +7,8 @@ pub mod notices;
 pub mod outcomes;
 pub mod periods;
 pub mod readings;
+#[cfg(test)]
+mod tests;
 
 ghost use Rattle.std.specs.Prelude.{◌≡◌, ◌<◌, length, All, IfOk, reverse};
 ghost use Rattle.due_model.specs.Accepted.{IsAccepted, IsProper, ObjectFits};
