@@ -22,8 +22,9 @@ use Rattle.due_model.specs.declared.notice.Outcome.TheVariants.{Nothing, Sent, S
 use Rattle.due_model.specs.declared.state.State.{State}
 use Rattle.due_model.specs.declared.state.State.TheVariants as state
 use Rattle.due_model.specs.declared.zone.Zone.{Zone}
-use Rattle.due_model.specs.Accepted.{IsProper, KindIsProper, is_state_of}
-use Rattle.due_model.specs.Covered.{HasHostLetters, IsPlainHost, AreFullRights, IsCovered, IsTakenIn}
+use Rattle.due_model.specs.Accepted.{KindIsProper, is_state_of}
+pub use Rattle.due_model.specs.Covered.{IsPlainEvent, IsPlainObject}
+use Rattle.due_model.specs.Covered.{HasHostLetters, AreFullRights, IsCovered, IsTakenIn}
 use Rattle.due_model.specs.Periods.{in_period, next_in, first_passing}
 use Rattle.due_model.specs.Readings.{moment, program_on, hard, hard_after, depth, depth_after, down, flapping, flapping_after, begins, began}
 use Rattle.due_model.specs.declared.rules.Last.{Last}
@@ -33,19 +34,9 @@ use Rattle.due_model.specs.Dependencies.{dependency_fails, entry_fails, has_stat
 use Rattle.due_model.specs.Histories.{of_problem, before, notices_sent, last_notice, ready, standing, down_with_host, view, number_after, gap_of, judged, outcome_of, outcome}
 use Rattle.due_model.specs.Due.{receivers}
 
--- an event that is proper and of a kind that is taken in
-pub record IsPlainEvent (c : Config) (e : Event) : Type 0 where
-  pub proper : IsProper c e
-  pub taken_in : IsTakenIn e.kind
-
 -- each event of a past is
 abbrev pub IsPlainPast : Config → List Event → Type 0
 IsPlainPast c past = All (IsPlainEvent c) past
-
--- object o of the configuration is a plain host
-pub record IsPlainObject (c : Config) (o : ℕ) (object : Object) : Type 0 where
-  pub at : slice_get c.objects o ≡ Some object
-  pub plain : IsPlainHost object
 
 -- no downtime runs
 
@@ -182,12 +173,12 @@ receivers-covered c zone o object a number h = receivers_of-covered c zone o obj
 
 -- with no period each moment is in it, and is the next
 
-pub in_period-none : (c : Config) (zone : Zone) (period : Option _) (t : ℕ) → period ≡ None → in_period c zone period t ≡ true
-in_period-none c zone period t h = ap (λ p. in_period c zone p t) h
+pub in_period_none : (c : Config) (zone : Zone) (period : Option _) (t : ℕ) → period ≡ None → in_period c zone period t ≡ true
+in_period_none c zone period t h = ap (λ p. in_period c zone p t) h
 
-pub next_in-none : (c : Config) (zone : Zone) (t : ℕ) → next_in c zone None t ≡ Some t
+pub next_in_none : (c : Config) (zone : Zone) (t : ℕ) → next_in c zone None t ≡ Some t
 unfolding next_in first_passing
-next_in-none c zone t = refl
+next_in_none c zone t = refl
 
 -- a problem began no later than now
 
@@ -242,7 +233,7 @@ failing-covered c zone v a h =
     (is_recovery a.kind && v.sent == 0) (not (in_period c zone v.period a.moment)) (is_of_problem a.kind && v.depends)
     (is_problem a.kind && v.sent == 0 && nat_lt a.moment (v.began + 60 * v.delay)) (is_problem a.kind && is_too_soon v.last a.state a.moment)
     (not_from_true v.enabled h.enabled) (and_right (not (is_of_downtime a.kind)) v.down h.down) (and_right (is_of_problem a.kind) v.flapping h.flapping)
-    (not_from_true (has_letter v.options (letter_of a.kind a.state)) h.letter) (not_from_true (in_period c zone v.period a.moment) (in_period-none c zone v.period a.moment h.period))
+    (not_from_true (has_letter v.options (letter_of a.kind a.state)) h.letter) (not_from_true (in_period c zone v.period a.moment) (in_period_none c zone v.period a.moment h.period))
     (and_right (is_of_problem a.kind) v.depends h.depends) (delay-covered v a h)
 
 -- no contact is refused anything
@@ -250,7 +241,7 @@ pub contact_failing-covered : (c : Config) (zone : Zone) (rights : Rights) (a : 
 contact_failing-covered c zone rights a h of =
     passed_all (not rights.enabled) (not (has_letter rights.options (letter_of a.kind a.state))) (not (in_period c zone rights.period a.moment))
     (not_from_true rights.enabled h.enabled) (not_from_true (has_letter rights.options (letter_of a.kind a.state)) (has_letter-covered rights.options a.kind a.state h.options of))
-    (not_from_true (in_period c zone rights.period a.moment) (in_period-none c zone rights.period a.moment h.period))
+    (not_from_true (in_period c zone rights.period a.moment) (in_period_none c zone rights.period a.moment h.period))
 
 -- what becomes of an attempt so far
 abbrev pub plain_judged : Object → (program : Bool) (sent : ℕ) → Option Last → Attempt → Outcome
@@ -313,3 +304,6 @@ outcome-covered c zone o object e past history covered known h =
     outcome_of-covered c zone o object e past (before o e past history)
     (attempted o e.kind (standing o past) (ready c zone object (began o past) (of_problem o past history)) (moment (e ∷ past)))
     covered known h
+
+-- what no escalation makes of the gap and the receivers
+pub ruleset no_escalation = (gap-covered, reach-covered, receivers-covered)

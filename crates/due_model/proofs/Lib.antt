@@ -1,2 +1,4 @@
 pub mod Coverage
 pub mod ObjectIndex
+pub mod Pasts
+pub mod SlowLemmas

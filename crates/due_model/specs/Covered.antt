@@ -1,11 +1,13 @@
 -- What the programs can do so far.
-use Rattle.std.specs.Prelude.{◌≡◌, true, [], All, None}
+use Rattle.std.specs.Prelude.{◌≡◌, ℕ, true, [], All, None, Some, slice_get}
 use Rattle.due_model.specs.declared.config.Config.{Config}
 use Rattle.due_model.specs.declared.config.Object.{Object}
 use Rattle.due_model.specs.declared.config.Rights.{Rights}
+use Rattle.due_model.specs.declared.event.Event.{Event}
 use Rattle.due_model.specs.declared.event.EventKind.{EventKind}
 use Rattle.due_model.specs.declared.event.EventKind.TheVariants.{Clock, Program, Hard, Downtime, Flapping}
 use Rattle.due_model.specs.declared.letters.Letters.{Letters}
+use Rattle.due_model.specs.Accepted.{IsProper}
 
 -- every letter of a host
 pub record HasHostLetters (set : Letters) : Type 0 where
@@ -43,3 +45,13 @@ IsTakenIn (Program on) = Unit {0}
 IsTakenIn (Hard o state) = Unit {0}
 IsTakenIn (Downtime o change) = ⊥
 IsTakenIn (Flapping o starts) = ⊥
+
+-- an event that is proper and of a kind that is taken in
+pub record IsPlainEvent (c : Config) (e : Event) : Type 0 where
+  pub proper : IsProper c e
+  pub taken_in : IsTakenIn e.kind
+
+-- object o of the configuration is a plain host
+pub record IsPlainObject (c : Config) (o : ℕ) (object : Object) : Type 0 where
+  pub at : slice_get c.objects o ≡ Some object
+  pub plain : IsPlainHost object

@@ -10,3 +10,5 @@ pub mod Accepted
 pub mod Covered
 pub mod Rows
 pub mod Objects
+pub mod Slow
+pub mod SlowViews

@@ -11,5 +11,6 @@ pub mod objects;
 pub mod rows;
 pub mod rules;
 pub mod sequence;
+pub mod slow;
 pub mod state;
 pub mod zone;

@@ -1,0 +1,200 @@
+//! What becomes of an object at an event: what is attempted, and the first filter that stops it.
+
+ghost use Rattle.std.specs.Prelude.{◌≡◌, ◌≤◌, ◌<◌, ◌+◌, ◌^◌, [], ◌∷◌, All, IfSome, length, reverse, None};
+ghost use Rattle.due_model.specs.Accepted.{last_moment, most, ObjectFits};
+ghost use Rattle.due_model.specs.Covered.{IsCovered, IsPlainEvent, IsPlainObject};
+ghost use Rattle.due_model.specs.Histories.{standing, view, number_after, gap_of, judged, outcome};
+ghost use Rattle.due_model.specs.Readings.{moment};
+ghost use Rattle.due_model.specs.Slow.{IsInRange, IsLastInRange, longest_gap};
+ghost use Rattle.due_model.specs.SlowViews.{attempt_of, view_of};
+
+use crate::config::{Config, Object, ObjectId};
+use crate::event::Event;
+use crate::notice::{Kind, Outcome};
+use crate::rules::{Standing, attempted};
+use crate::slow::escalations::gap;
+use crate::slow::filters::{Attempted, ObjectView, failing, is_problem};
+use crate::slow::histories::{before, last_notice, notices_sent, of_problem, ready};
+use crate::slow::readings::{began, began_at, hard, moment_at, program_on};
+use crate::zone::Zone;
+
+/// How the object stands after the events. So far no downtime runs and nothing is flapping.
+pub fn standing(config: &Config, object: ObjectId, past: &[Event]) -> Standing
+    requires { All (IsPlainEvent config.now) past.now }
+    ensures value { result ≡ standing object.0 (reverse past.now) }
+    ensures no_downtime { result.depth ≡ 0 }
+{
+    Standing {
+        state: hard(object, past),
+        depth: 0,
+        flapping: false,
+    }
+}
+
+/// The number of a notification in its problem, after so many problem notices; 0 for the kinds that have
+/// none.
+pub fn number_after(sent: u64, kind: Kind) -> u64
+    requires { sent + 1 < 2 ^ 64 }
+    ensures { result ≡ number_after sent kind }
+{
+    match kind {
+        Kind::Problem | Kind::Recovery => sent + 1,
+        _ => 0,
+    }
+}
+
+/// The gap of a notice in seconds: only a problem's has one.
+pub fn gap_of(
+    config: &Config,
+    zone: &Zone,
+    object: ObjectId,
+    settings: &Object,
+    attempt: Attempted,
+    number: u64,
+) -> u64
+    requires escalations { config.now.escalations ≡ [] }
+    requires interval { settings.now.interval ≤ most }
+    ensures value { result ≡ gap_of config.now zone.now object.0 settings.now (attempt_of attempt) number }
+    ensures in_range { result ≤ longest_gap }
+{
+    if is_problem(attempt.kind) {
+        let letter = attempt.kind.letter(attempt.state);
+        gap(
+            config,
+            zone,
+            object,
+            settings,
+            number,
+            letter,
+            attempt.moment,
+        )
+    } else {
+        0
+    }
+}
+
+/// What becomes of an attempt: the first failing filter suppresses it, else it goes out.
+pub fn judged(
+    config: &Config,
+    zone: &Zone,
+    object: ObjectId,
+    settings: &Object,
+    view: ObjectView,
+    attempt: Attempted,
+) -> Outcome
+    requires escalations { config.now.escalations ≡ [] }
+    requires interval { settings.now.interval ≤ most }
+    requires period { view.period ≡ None }
+    requires began { view.began ≤ last_moment }
+    requires delay { view.delay ≤ most }
+    requires last { IfSome view.last IsLastInRange }
+    requires sent { view.sent + 1 < 2 ^ 64 }
+    requires moment { attempt.moment ≤ last_moment }
+    ensures value { result ≡ judged config.now zone.now object.0 settings.now (view_of view) (attempt_of attempt) }
+    ensures in_range { IsInRange result }
+{
+    let Attempted {
+        kind,
+        state,
+        moment,
+    } = attempt;
+    let number = number_after(view.sent, kind);
+    match failing(config, zone, view, attempt) {
+        None => {
+            let gap = gap_of(config, zone, object, settings, attempt, number);
+            Outcome::Sent {
+                kind,
+                state,
+                number,
+                moment,
+                gap,
+            }
+        }
+        Some(filter) => Outcome::Suppressed {
+            kind,
+            state,
+            number,
+            moment,
+            filter,
+        },
+    }
+}
+
+/// What the filters read at an event, the event itself counted; `earlier` has the outcomes of the problem
+/// before it. So far no downtime runs, nothing is flapping, and no dependency fails.
+pub fn view(
+    config: &Config,
+    zone: &Zone,
+    object: ObjectId,
+    settings: &Object,
+    event: &Event,
+    past: &[Event],
+    earlier: &[Outcome],
+) -> ObjectView
+    requires covered { IsCovered config.now }
+    requires known { IsPlainObject config.now object.0 settings.now }
+    requires now { IsPlainEvent config.now event.now }
+    requires past { All (IsPlainEvent config.now) past.now }
+    requires in_range { All IsInRange earlier.now }
+    ensures value { view_of result ≡ view config.now zone.now object.0 settings.now event.now (reverse past.now) (reverse earlier.now) }
+    ensures period { result.period ≡ None }
+    ensures began { result.began ≤ last_moment }
+    ensures delay { result.delay ≡ settings.now.delay }
+    ensures last { IfSome result.last IsLastInRange }
+    ensures sent { result.sent ≤ length earlier.now }
+{
+    ObjectView {
+        program: event.kind.switch_after(program_on(past)),
+        enabled: settings.enabled,
+        down: false,
+        flapping: false,
+        options: settings.options,
+        sent: notices_sent(earlier),
+        period: settings.period,
+        depends: false,
+        began: began_at(object, event, past),
+        delay: settings.delay,
+        last: last_notice(earlier),
+    }
+}
+
+/// What becomes of the object at an event, after the events before it and their outcomes. `history` has one
+/// outcome for each of those events.
+pub fn outcome(
+    config: &Config,
+    zone: &Zone,
+    object: ObjectId,
+    settings: &Object,
+    event: &Event,
+    past: &[Event],
+    history: &[Outcome],
+) -> Outcome
+    requires covered { IsCovered config.now }
+    requires known { IsPlainObject config.now object.0 settings.now }
+    requires fits { ObjectFits config.now settings.now }
+    requires now { IsPlainEvent config.now event.now }
+    requires past { All (IsPlainEvent config.now) past.now }
+    requires length { length past.now ≡ length history.now }
+    requires in_range { All IsInRange history.now }
+    ensures value { result ≡ outcome config.now zone.now object.0 settings.now event.now (reverse past.now) (reverse history.now) }
+    ensures in_range { IsInRange result }
+{
+    let old = standing(config, object, past);
+    let problem = of_problem(object, past, history);
+    let ready = ready(config, zone, settings, began(object, past), problem);
+    let moment = moment_at(event, past);
+    match attempted(object, event.kind, old, ready, moment) {
+        None => Outcome::Nothing,
+        Some(kind) => {
+            let earlier = before(object, event, past, problem);
+            let view = view(config, zone, object, settings, event, past, earlier);
+            let state = event.kind.hard_after(object, old.state);
+            let attempt = Attempted {
+                kind,
+                state,
+                moment,
+            };
+            judged(config, zone, object, settings, view, attempt)
+        }
+    }
+}
