@@ -1,0 +1,9 @@
+//! The feed of events: lines in the shape of external commands, read from any reader (chapter "External
+//! Commands").
+#![tactic(auto)]
+
+pub mod fault;
+pub mod line;
+
+pub use fault::{FeedFault, LineFault};
+pub use line::read_line;
