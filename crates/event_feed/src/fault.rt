@@ -65,3 +65,20 @@ pub struct LineFault {
     pub line: u64,
     pub fault: FeedFault,
 }
+
+/// Why a feed is over.
+#[derive(Clone, Copy, Debug, PartialEq, Eq)]
+pub enum Stop {
+    /// The input ended behind a whole line.
+    InputEnded,
+    /// The input ended within a line.
+    CutLine,
+    /// The reader failed.
+    ReaderFailed,
+    /// A line took 65,536 calls of the reader and wasn't at its end.
+    TooManyCalls,
+    /// A line has over 1,048,576 bytes.
+    TooManyBytes,
+    /// 2^33 lines were taken.
+    TooManyLines,
+}

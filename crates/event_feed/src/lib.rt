@@ -4,6 +4,7 @@
 
 pub mod fault;
 pub mod line;
+mod source;
 
 pub use fault::{FeedFault, LineFault};
 pub use line::read_line;
