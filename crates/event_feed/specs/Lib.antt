@@ -1,0 +1,5 @@
+pub mod Fault
+pub mod Line
+pub mod Lines
+pub mod Source
+pub mod Feed

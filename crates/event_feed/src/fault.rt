@@ -1,0 +1,84 @@
+//! Why a line of the feed gives no event.
+
+ghost use Rattle.std.specs.Prelude.{◌≡◌, Some};
+ghost use Rattle.event_feed.specs.Fault.{fault_name};
+
+use std::fmt;
+
+/// Why a line of the feed gives no event, in the order in which the faults of one line are looked for.
+/// The name of each is what a report prints.
+#[derive(Clone, Copy, Debug, PartialEq, Eq)]
+pub enum FeedFault {
+    /// The line doesn't begin with a stamp in range.
+    BadStamp,
+    /// The name is none of the feed's.
+    UnknownKind,
+    /// No object has the name.
+    UnknownObject,
+    /// The number of arguments is wrong, or the last one isn't what this name takes.
+    BadState,
+    /// The line has over 4,096 bytes.
+    LineTooLong,
+    /// The line isn't UTF-8.
+    NotUtf8,
+    /// The input ended within the line. The feed is over.
+    Cut,
+    /// The reading stopped: the reader failed, or the line or the feed is past a limit. The feed is over.
+    Read,
+    /// A growth was refused. The feed is over.
+    NoMemory,
+    /// There are as many events as can be numbered. Whoever numbers them notes it, and no feeder does.
+    Ended,
+}
+
+impl FeedFault {
+    /// The name, as reports print it.
+    pub fn name(self) -> &'static str
+        ensures { result.now ≡ fault_name self }
+    {
+        match self {
+            FeedFault::BadStamp => "BadStamp",
+            FeedFault::UnknownKind => "UnknownKind",
+            FeedFault::UnknownObject => "UnknownObject",
+            FeedFault::BadState => "BadState",
+            FeedFault::LineTooLong => "LineTooLong",
+            FeedFault::NotUtf8 => "NotUtf8",
+            FeedFault::Cut => "Cut",
+            FeedFault::Read => "Read",
+            FeedFault::NoMemory => "NoMemory",
+            FeedFault::Ended => "Ended",
+        }
+    }
+}
+
+impl fmt::Display for FeedFault {
+    ghost output = { λ fault. Some (fault_name fault) };
+
+    fn fmt<W: fmt::Write>(&self, f: &mut fmt::Formatter<W>) -> fmt::Result {
+        f.write_str(self.name())
+    }
+}
+
+/// A line of the feed that gives no event. Lines are numbered from 1, empty ones too.
+#[derive(Clone, Copy, Debug, PartialEq, Eq)]
+pub struct LineFault {
+    pub line: u64,
+    pub fault: FeedFault,
+}
+
+/// Why a feed is over.
+#[derive(Clone, Copy, Debug, PartialEq, Eq)]
+pub enum Stop {
+    /// The input ended behind a whole line.
+    InputEnded,
+    /// The input ended within a line.
+    CutLine,
+    /// The reader failed.
+    ReaderFailed,
+    /// A line took 65,536 calls of the reader and wasn't at its end.
+    TooManyCalls,
+    /// A line has over 1,048,576 bytes.
+    TooManyBytes,
+    /// 2^33 lines were taken.
+    TooManyLines,
+}

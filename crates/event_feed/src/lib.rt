@@ -1,0 +1,10 @@
+//! The feed of events: lines in the shape of external commands, read from any reader (chapter "External
+//! Commands").
+#![tactic(auto)]
+
+pub mod fault;
+pub mod line;
+mod source;
+
+pub use fault::{FeedFault, LineFault};
+pub use line::read_line;
