@@ -2,13 +2,8 @@
 use Rattle.std.specs.Prelude.{ℕ, ◌*◌, ◌≤◌}
 use Rattle.due_model.specs.declared.notice.Outcome.{Outcome}
 use Rattle.due_model.specs.declared.notice.Outcome.TheVariants.{Nothing, Sent, Suppressed}
-use Rattle.due_model.specs.declared.slow.histories.LastNotice.{LastNotice}
+use Rattle.due_model.specs.declared.rules.Last.{Last}
 use Rattle.due_model.specs.Accepted.{last_moment, most}
-use Rattle.due_model.specs.Rules.{Last}
-
--- the last notice that a value stands for
-abbrev pub last_of : LastNotice → Last
-last_of n = record { state = n.state; moment = n.moment; gap = n.gap }
 
 -- the greatest gap, in seconds
 abbrev pub longest_gap : ℕ
@@ -21,6 +16,6 @@ IsInRange (Sent k state number moment gap) = (moment ≤ last_moment) × (gap �
 IsInRange (Suppressed k state number moment why) = moment ≤ last_moment
 
 -- the moment and the gap of a last notice are within their limits
-pub record IsLastInRange (n : LastNotice) : Type 0 where
+pub record IsLastInRange (n : Last) : Type 0 where
   pub moment : n.moment ≤ last_moment
   pub gap : n.gap ≤ longest_gap

@@ -4,7 +4,6 @@ use Rattle.due_model.specs.declared.config.ContactId.{ContactId}
 use Rattle.due_model.specs.declared.slow.filters.Attempted.{Attempted}
 use Rattle.due_model.specs.declared.slow.filters.ObjectView.{ObjectView}
 use Rattle.due_model.specs.Rules.{Attempt, View}
-use Rattle.due_model.specs.Slow.{last_of}
 
 -- the attempt that a value stands for
 abbrev pub attempt_of : Attempted → Attempt
@@ -23,7 +22,7 @@ view_of v = record {
   depends = v.depends;
   began = v.began;
   delay = v.delay;
-  last = option_map last_of v.last;
+  last = v.last;
 }
 
 abbrev pub number_of_contact : ContactId → ℕ

@@ -3,15 +3,14 @@
 
 ghost use Rattle.std.specs.Prelude.{◌≡◌, ◌<◌, ◌≤◌, ◌^◌, length, reverse, None, All, IfSome, option_map};
 ghost use Rattle.due_model.specs.Accepted.{last_moment, most};
-ghost use Rattle.due_model.specs.Rules.{is_problem, is_recovery, is_of_downtime, is_of_problem, same_state, is_too_soon, failing, contact_failing};
-ghost use Rattle.due_model.specs.Slow.{last_of, IsLastInRange};
+ghost use Rattle.due_model.specs.Rules.{is_problem, is_recovery, is_of_downtime, is_of_problem, failing, contact_failing};
+ghost use Rattle.due_model.specs.Slow.{IsLastInRange};
 ghost use Rattle.due_model.specs.SlowViews.{attempt_of, view_of};
 
 use crate::config::{Config, PeriodId, Rights};
 use crate::letters::Letters;
 use crate::notice::{Filter, Kind};
-use crate::rules::{has_come, next_notice};
-use crate::slow::histories::LastNotice;
+use crate::rules::{Last, is_too_soon};
 use crate::slow::periods::in_period;
 use crate::state::State;
 use crate::zone::Zone;
@@ -49,7 +48,7 @@ pub struct ObjectView {
     /// `first_notification_delay`, in units of 60 seconds.
     pub delay: u32,
     /// The last problem notice of this problem.
-    pub last: Option<LastNotice>,
+    pub last: Option<Last>,
 }
 
 /// Whether this is a problem notification.
@@ -83,27 +82,6 @@ pub fn is_of_problem(kind: Kind) -> bool
     is_problem(kind) || is_recovery(kind)
 }
 
-/// Whether two states are one.
-pub fn same_state(left: State, right: State) -> bool
-    ensures { result ≡ same_state left right }
-{
-    left as u8 == right as u8
-}
-
-/// Whether the last notice reported the same state, and its gap is 0 or hasn't passed.
-pub fn is_too_soon(last: Option<LastNotice>, attempt: Attempted) -> bool
-    requires { IfSome last IsLastInRange }
-    ensures { result ≡ is_too_soon (option_map last_of last) (attempt_of attempt) }
-{
-    match last {
-        None => false,
-        Some(last) => {
-            let next = next_notice(last.moment, last.gap);
-            same_state(last.state, attempt.state) && !has_come(next, attempt.moment)
-        }
-    }
-}
-
 /// The first of an object's filters that fails, in their order.
 pub fn failing(config: &Config, zone: &Zone, view: ObjectView, attempt: Attempted) -> Option<Filter>
     requires period { view.period ≡ None }
@@ -132,7 +110,7 @@ pub fn failing(config: &Config, zone: &Zone, view: ObjectView, attempt: Attempte
         Some(Filter::Dependency)
     } else if is_problem(kind) && view.sent == 0 && attempt.moment < first_moment {
         Some(Filter::FirstDelay)
-    } else if is_problem(kind) && is_too_soon(view.last, attempt) {
+    } else if is_problem(kind) && is_too_soon(view.last, attempt.state, attempt.moment) {
         Some(Filter::Interval)
     } else {
         None

@@ -5,27 +5,16 @@ ghost use Rattle.due_model.specs.Accepted.{last_moment, most};
 ghost use Rattle.due_model.specs.declared.notice.Outcome.{Outcome};
 ghost use Rattle.due_model.specs.Histories.{before, of_problem, notice_of, notices_sent, last_notice, after_last, retry_after, ready};
 ghost use Rattle.due_model.specs.Periods.{next_in};
-ghost use Rattle.due_model.specs.Slow.{last_of, longest_gap, IsInRange, IsLastInRange};
+ghost use Rattle.due_model.specs.Slow.{longest_gap, IsInRange, IsLastInRange};
 
 use crate::config::{Config, Object, ObjectId, PeriodId};
 use crate::event::Event;
 use crate::notice::{Filter, Kind, Outcome};
-use crate::rules::next_notice;
+use crate::rules::{Last, next_notice};
 use crate::slow::periods::next_in;
 use crate::slow::readings::{begins, hard};
 use crate::state::State;
 use crate::zone::Zone;
-
-/// The last problem notice of the running problem.
-#[derive(Clone, Copy, Debug)]
-pub struct LastNotice {
-    /// The state that it reported.
-    pub state: State,
-    /// In seconds since the epoch.
-    pub moment: u64,
-    /// How long after it the next of the same state is due, in seconds; 0 is never.
-    pub gap: u64,
-}
 
 /// The outcomes of the object's last problem: those from the event on with which it began.
 pub fn of_problem<'a>(object: ObjectId, events: &[Event], history: &'a [Outcome]) -> &'a [Outcome]
@@ -46,8 +35,8 @@ pub fn of_problem<'a>(object: ObjectId, events: &[Event], history: &'a [Outcome]
 }
 
 /// The problem notice that this outcome is, if it is one.
-pub fn notice_of(outcome: Outcome) -> Option<LastNotice>
-    ensures value { option_map last_of result ≡ notice_of outcome }
+pub fn notice_of(outcome: Outcome) -> Option<Last>
+    ensures value { result ≡ notice_of outcome }
     ensures in_range { IsInRange outcome → IfSome result IsLastInRange }
 {
     match outcome {
@@ -57,7 +46,7 @@ pub fn notice_of(outcome: Outcome) -> Option<LastNotice>
             moment,
             gap,
             ..
-        } => { Some(LastNotice { state, moment, gap }) }
+        } => { Some(Last { state, moment, gap }) }
         _ => None,
     }
 }
@@ -77,8 +66,8 @@ pub fn notices_sent(history: &[Outcome]) -> u64
 }
 
 /// The last problem notice that went out.
-pub fn last_notice(history: &[Outcome]) -> Option<LastNotice>
-    ensures value { option_map last_of result ≡ last_notice (reverse history.now) }
+pub fn last_notice(history: &[Outcome]) -> Option<Last>
+    ensures value { result ≡ last_notice (reverse history.now) }
     ensures in_range { All IsInRange history.now → IfSome result IsLastInRange }
 {
     let mut last = None;
@@ -89,9 +78,9 @@ pub fn last_notice(history: &[Outcome]) -> Option<LastNotice>
 }
 
 /// When the last notice may be followed by one of the same state, in seconds since the epoch.
-pub fn after_last(last: Option<LastNotice>) -> Option<u64>
+pub fn after_last(last: Option<Last>) -> Option<u64>
     requires { IfSome last IsLastInRange }
-    ensures { result ≡ after_last (option_map last_of last) }
+    ensures { result ≡ after_last last }
 {
     match last {
         None => None,
@@ -106,7 +95,7 @@ pub fn retry_after(
     zone: &Zone,
     settings: &Object,
     began: u64,
-    last: Option<LastNotice>,
+    last: Option<Last>,
     moment: u64,
     filter: Filter,
 ) -> Option<u64>
@@ -115,7 +104,7 @@ pub fn retry_after(
     requires began { began ≤ last_moment }
     requires moment { moment ≤ last_moment }
     requires last { IfSome last IsLastInRange }
-    ensures { result ≡ retry_after config.now zone.now settings.now began (option_map last_of last) moment filter }
+    ensures { result ≡ retry_after config.now zone.now settings.now began last moment filter }
 {
     match filter {
         Filter::Period => next_in(config, zone, settings.period, moment),
@@ -133,7 +122,7 @@ fn ready_after(
     settings: &Object,
     began: u64,
     now: Outcome,
-    last: Option<LastNotice>,
+    last: Option<Last>,
     earlier: Option<u64>,
 ) -> Option<u64>
     requires period { settings.now.period ≡ None }
@@ -142,7 +131,7 @@ fn ready_after(
     requires now { IsInRange now }
     requires last { IfSome last IsLastInRange }
     ensures { (history : List Outcome) → earlier ≡ ready config.now zone.now settings.now began history
-        → option_map last_of last ≡ last_notice history
+        → last ≡ last_notice history
         → result ≡ ready config.now zone.now settings.now began (now ∷ history) }
 {
     match now {

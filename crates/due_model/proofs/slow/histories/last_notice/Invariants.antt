@@ -1,10 +1,10 @@
 use Rattle.std.proofs.Common.{◌≡◌, reverse, take, All, IfSome, option_map}
 use Rattle.due_model.specs.Histories.{last_notice}
-use Rattle.due_model.specs.Slow.{last_of, IsInRange, IsLastInRange}
+use Rattle.due_model.specs.Slow.{IsInRange, IsLastInRange}
 use Rattle.due_model.proofs.slow.histories.last_notice.Given as goal
 
 abbrev pub invariant-loop-outcome : goal.invariant-loop-outcome
 invariant-loop-outcome l = record {
-  value : option_map last_of l.last ≡ last_notice (reverse (take l.outcome-index l.history));
+  value : l.last ≡ last_notice (reverse (take l.outcome-index l.history));
   in_range : All IsInRange l.history → IfSome l.last IsLastInRange;
 }

@@ -1,11 +1,11 @@
 use Rattle.std.proofs.Common.{◌≡◌, reverse, take, IfSome, option_map}
 use Rattle.due_model.specs.Histories.{last_notice, ready}
-use Rattle.due_model.specs.Slow.{last_of, IsLastInRange}
+use Rattle.due_model.specs.Slow.{IsLastInRange}
 use Rattle.due_model.proofs.slow.histories.ready.Given as goal
 
 abbrev pub invariant-loop-outcome : goal.invariant-loop-outcome
 invariant-loop-outcome l = record {
   value : l.ready ≡ ready l.config l.zone l.settings l.began (reverse (take l.outcome-index l.history));
-  last : option_map last_of l.last ≡ last_notice (reverse (take l.outcome-index l.history));
+  last : l.last ≡ last_notice (reverse (take l.outcome-index l.history));
   in_range : IfSome l.last IsLastInRange;
 }
