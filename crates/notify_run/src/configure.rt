@@ -1,0 +1,1 @@
+//! The configuration that the blocks of object text give.

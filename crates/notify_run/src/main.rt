@@ -1,0 +1,6 @@
+//! The program `notify-run`.
+#![tactic(auto)]
+
+mod configure;
+
+fn main() {}
