@@ -186,6 +186,14 @@ impl<'a> Decider<'a> {
         Ok(())
     }
 
+    /// Forgets the suppressions so far, and keeps their room. A caller that has passed them on calls it, so that
+    /// the log doesn't grow with the feed.
+    pub fn clear_log(&mut self)
+        ensures { kept self.new ≡ record (kept self.old) { log = [] } }
+    {
+        self.log.clear();
+    }
+
     /// The suppressions so far, by event, then object, then contact.
     pub fn log(&self) -> &[Suppression]
         ensures { result.now ≡ (kept self.now).log }

@@ -56,6 +56,15 @@ impl Log {
         self.lines.truncate(self.ready);
     }
 
+    /// Forgets all of it, and keeps the room.
+    pub(crate) fn clear(&mut self)
+        ensures noted { noted self.new ≡ [] }
+        ensures staged { staged self.new ≡ [] }
+    {
+        self.ready = 0;
+        self.lines.clear();
+    }
+
     /// What is staged counts from now on.
     pub(crate) fn commit(&mut self)
         ensures noted { noted self.new ≡ noted self.old ++ staged self.old }

@@ -2,5 +2,9 @@
 #![tactic(auto)]
 
 mod configure;
+mod input;
+mod output;
+mod replay;
+mod report;
 
 fn main() {}

@@ -1,0 +1,187 @@
+//! The command `replay`: what would have been sent, from object text and a feed.
+
+ghost use Rattle.std.specs.Prelude.{◌≡◌, ◌≤◌, length, OnOk, IfSome, List};
+ghost use Rattle.due_model.specs.declared.event.Event.{Event};
+ghost use Rattle.due_model.specs.Accepted.{IsAccepted, IsProper};
+ghost use Rattle.due_model.specs.Covered.{IsCovered, IsTakenIn};
+ghost use Rattle.decider.specs.Kept.{Fits, kept};
+ghost use Rattle.decider.specs.Outboxes.{lists};
+
+use crate::input::{InputFault, take_objects};
+use crate::output::{Buffer, OutputFailed};
+use crate::report::{push_notice, push_refused, push_suppression};
+use decider::{DecideFault, Decider, Outbox, Owned};
+use due_model::config::{Config, LaneId};
+use due_model::event::Event;
+use due_model::notice::{Notice, Suppression};
+use due_model::zone::Zone;
+use event_feed::{FeedFault, Feeder, LineFault};
+use object_reader::ReadFault;
+use std::alloc::{AllocError, Global};
+use std::io::{Read, Write};
+
+/// How the reading of a feed ended.
+#[derive(Clone, Copy, Debug, PartialEq, Eq)]
+pub enum Ending {
+    /// At the end of the input.
+    Whole,
+    /// Before it: a line that was cut, a reader that failed, or too many events.
+    Short,
+}
+
+/// Why a replay was given up.
+#[derive(Clone, Copy, Debug, PartialEq, Eq)]
+pub enum ReplayFault {
+    /// The object text is refused. Nothing was written.
+    Objects(ReadFault),
+    /// The object text couldn't be read. Nothing was written.
+    Unreadable,
+    /// The output failed, or took nothing. A part of the report was written.
+    Output,
+    /// Memory ran out. A part of the report was written.
+    NoMemory,
+}
+
+impl From<AllocError> for ReplayFault {
+    fn from(_error: AllocError) -> ReplayFault {
+        ReplayFault::NoMemory
+    }
+}
+
+impl From<OutputFailed> for ReplayFault {
+    fn from(_error: OutputFailed) -> ReplayFault {
+        ReplayFault::Output
+    }
+}
+
+/// Where the lines of a report are made.
+#[derive(Drop)]
+struct Lines {
+    buffer: Buffer,
+    /// The line that is being made.
+    line: Vec<u8>,
+}
+
+impl Lines {
+    fn new(alloc: Global) -> Result<Lines, AllocError> {
+        Ok(Lines {
+            buffer: Buffer::new(alloc)?,
+            line: Vec::new(alloc),
+        })
+    }
+
+    /// Writes the line of a notice.
+    fn notice<W: Write>(
+        &mut self,
+        writer: &mut W,
+        config: &Config,
+        notice: &Notice,
+    ) -> Result<(), ReplayFault> {
+        self.line.clear();
+        push_notice(&mut self.line, config, notice)?;
+        self.buffer.push(writer, &self.line)?;
+        Ok(())
+    }
+
+    /// Writes the line of a suppression.
+    fn suppression<W: Write>(
+        &mut self,
+        writer: &mut W,
+        config: &Config,
+        suppression: &Suppression,
+    ) -> Result<(), ReplayFault> {
+        self.line.clear();
+        push_suppression(&mut self.line, config, suppression)?;
+        self.buffer.push(writer, &self.line)?;
+        Ok(())
+    }
+
+    /// Writes the line of a refused line of the feed.
+    fn refused<W: Write>(
+        &mut self,
+        writer: &mut W,
+        line: u64,
+        fault: FeedFault,
+    ) -> Result<(), ReplayFault> {
+        self.line.clear();
+        push_refused(&mut self.line, line, fault)?;
+        self.buffer.push(writer, &self.line)?;
+        Ok(())
+    }
+}
+
+/// Whether the first notice stands before the second in a report: by object, then contact.
+fn comes_before(first: &Notice, second: &Notice) -> bool {
+    (first.object.0, first.contact.0) < (second.object.0, second.contact.0)
+}
+
+/// The notice that stands first in the report among those that wait: by object, then contact, then lane.
+fn first_waiting(outbox: &Outbox) -> Option<Notice>
+    requires { length (lists outbox.now) ≤ 16 }
+{
+    let mut first: Option<Notice> = None;
+    for lane in 0..outbox.len() {
+        if let Some(notice) = outbox.front(LaneId(lane as u8)) {
+            let earlier = match &first {
+                Some(other) => comes_before(&notice, other),
+                None => true,
+            };
+            if earlier {
+                first = Some(notice);
+            }
+        }
+    }
+    first
+}
+
+/// Whether a suppression stands before a notice in a report. Where both speak of one object, the
+/// suppression is of a contact.
+fn is_suppressed_before(suppression: &Suppression, notice: &Notice) -> bool {
+    let contact = match suppression.contact {
+        Some(contact) => contact.0,
+        None => 0,
+    };
+    (suppression.object.0, contact) < (notice.object.0, notice.contact.0)
+}
+
+/// Writes what an event added to the outbox and to the log, by object, then contact, then lane, and takes it
+/// out of the outbox.
+fn write_event<W: Write>(
+    lines: &mut Lines,
+    writer: &mut W,
+    config: &Config,
+    outbox: &mut Outbox,
+    log: &[Suppression],
+) -> Result<(), ReplayFault>
+    requires { length (lists outbox.old) ≤ 16 }
+    ensures { length (lists outbox.new) ≡ length (lists outbox.old) }
+{
+    let mut told = 0usize;
+    for _line in 0..u64::MAX {
+        match (first_waiting(outbox), log.get(told)) {
+            (None, None) => return Ok(()),
+            (Some(notice), Some(suppression)) if is_suppressed_before(suppression, &notice) => {
+                lines.suppression(writer, config, suppression)?;
+                told += 1;
+            }
+            (Some(notice), _) => {
+                lines.notice(writer, config, &notice)?;
+                take(outbox, notice.lane);
+            }
+            (None, Some(suppression)) => {
+                lines.suppression(writer, config, suppression)?;
+                told += 1;
+            }
+        }
+    }
+    Ok(())
+}
+
+/// Takes the first notice of a lane out of the outbox.
+fn take(outbox: &mut Outbox, lane: LaneId)
+    ensures { length (lists outbox.new) ≡ length (lists outbox.old) }
+{
+    if (lane.0 as usize) < outbox.len() {
+        outbox.take_front(lane);
+    }
+}
