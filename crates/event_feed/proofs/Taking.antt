@@ -10,7 +10,8 @@ use Rattle.event_feed.specs.Line.{line_limit}
 use Rattle.event_feed.specs.Lines.{is_newline, IsUnbroken, Known}
 use Rattle.event_feed.specs.Source.{Source, to_come, byte_limit, call_limit, BeginsWithLine, BeginsUnbroken, TakesFrom, Takes, ending, Fills, MakesRoom}
 use Rattle.event_feed.specs.declared.source.Taken.{Taken}
-use Rattle.event_feed.specs.declared.source.Taken.TheVariants.{Line, Long, Cut, End, Failed, TooManyCalls, TooManyBytes}
+use Rattle.event_feed.specs.declared.source.Taken.TheVariants.{Over}
+use Rattle.event_feed.specs.declared.fault.Stop.TheVariants.{InputEnded, CutLine, ReaderFailed}
 use Rattle.event_feed.specs.declared.source.Filled.TheVariants.{More, Empty, Broken}
 
 -- ---- known bytes, and those that are taken off their front
@@ -196,21 +197,21 @@ Known-end (Some xs) (Some ys) (Some zs) held front P taken kept end each =
     rw last (each xs all)
 
 pub Takes-cut : (old now new : Source) (skipped : ℕ) → OnTheWay old skipped now → IsUnbroken now.held → Fills now Empty new
-    → 0 < skipped + length now.held → skipped + length now.held ≤ byte_limit → Takes old Cut new
+    → 0 < skipped + length now.held → skipped + length now.held ≤ byte_limit → Takes old (Over CutLine) new
 Takes-cut old now new skipped way held filled some few =
-    rw filled.0 (Known-end (to_come old) now.unread new.unread now.held way.front (λ bytes rest. TakesFrom bytes Cut new.line rest) way.follows filled.1 filled.2 (λ bytes all.
+    rw filled.0 (Known-end (to_come old) now.unread new.unread now.held way.front (λ bytes rest. TakesFrom bytes (Over CutLine) new.line rest) way.follows filled.1 filled.2 (λ bytes all.
       rw all (All-append (λ byte. is_newline byte ≡ false) way.front now.held way.unbroken held,
         rw length-append (omega (arith, way.long)), rw length-append (omega (arith, way.long)))))
 
-pub Takes-end : (old now new : Source) (skipped : ℕ) → OnTheWay old skipped now → Fills now Empty new → skipped + length now.held ≡ 0 → Takes old End new
+pub Takes-end : (old now new : Source) (skipped : ℕ) → OnTheWay old skipped now → Fills now Empty new → skipped + length now.held ≡ 0 → Takes old (Over InputEnded) new
 Takes-end old now new skipped way filled none =
     let no_front : way.front ≡ [] = nil_from_length way.front (omega (arith, way.long)) in
     let no_held : now.held ≡ [] = nil_from_length now.held (omega arith) in
-    rw filled.0 (Known-end (to_come old) now.unread new.unread now.held way.front (λ bytes rest. TakesFrom bytes End new.line rest) way.follows filled.1 filled.2 (λ bytes all.
+    rw filled.0 (Known-end (to_come old) now.unread new.unread now.held way.front (λ bytes rest. TakesFrom bytes (Over InputEnded) new.line rest) way.follows filled.1 filled.2 (λ bytes all.
       (all ∙ rw (no_front, no_held) refl, no_held)))
 
-pub Takes-failed : (old now new : Source) (skipped : ℕ) → OnTheWay old skipped now → Fills now Broken new → Takes old Failed new
+pub Takes-failed : (old now new : Source) (skipped : ℕ) → OnTheWay old skipped now → Fills now Broken new → Takes old (Over ReaderFailed) new
 Takes-failed old now new skipped way filled =
-    Known-from (to_come old) (to_come new) (way.front ++ []) (λ bytes rest. TakesFrom bytes Failed new.line rest)
+    Known-from (to_come old) (to_come new) (way.front ++ []) (λ bytes rest. TakesFrom bytes (Over ReaderFailed) new.line rest)
       (Consumes-chain (to_come old) (to_come now) (to_come new) way.front [] way.follows (rw filled.0 (Consumes-kept now.unread new.unread now.held filled.1)))
       (λ _ _ _ _ _. tt)

@@ -1,5 +1,6 @@
 -- A feed: its lines in order, numbered from 1, and what each answers.
-use Rattle.std.specs.Prelude.{◌≡◌, ℕ, ◌+◌, ◌<◌, ◌≤◌, ◌^◌, max, Bool, true, false, ◌||◌, ◌==◌, if◌then◌else◌, nat_lt, nat_le, List, [], ◌∷◌, length, take_while, ⊤, Option, Some, None, Result, Ok, Err}
+use Rattle.std.specs.Prelude.{◌≡◌, ℕ, ◌+◌, ◌<◌, ◌≤◌, ◌^◌, max, Bool, true, false, ◌||◌, ◌==◌, if◌then◌else◌, nat_lt, nat_le, List, [], ◌∷◌, length, take_while, IsTrue, is_some, ⊤, Option, Some, None, Result, Ok, Err}
+use Rattle.std.specs.List.{list_any}
 use Rattle.due_model.specs.declared.config.Object.{Object}
 use Rattle.due_model.specs.declared.event.Event.{Event}
 use Rattle.event_feed.specs.declared.fault.FeedFault.{FeedFault}
@@ -9,7 +10,9 @@ use Rattle.event_feed.specs.declared.fault.Stop.{Stop}
 use Rattle.event_feed.specs.declared.fault.Stop.TheVariants.{InputEnded, CutLine, ReaderFailed, TooManyCalls, TooManyBytes, TooManyLines}
 use Rattle.event_feed.specs.Line.{line_reading}
 use Rattle.event_feed.specs.Lines.{pieces, Known}
-use Rattle.event_feed.specs.Source.{byte_limit, call_limit, BeginsUnbroken}
+use Rattle.event_feed.specs.Source.{Source, byte_limit, call_limit, to_come}
+use Rattle.event_feed.specs.declared.source.Taken.{Taken}
+use Rattle.event_feed.specs.declared.source.Taken.TheVariants.{Line, Long, Over}
 
 -- what one line answers: its number, and an event or a fault
 pub record Answer : Type 0 where
@@ -39,6 +42,19 @@ text_reading objects last text = raised last (line_reading objects text)
 abbrev pub is_stopped : ℕ → List ℕ → Bool
 is_stopped taken text = nat_le feed_limit taken || nat_lt byte_limit (length text)
 
+-- the faults of a line that is read over: the feed goes on behind it
+abbrev pub is_line_fault : FeedFault → Bool
+is_line_fault BadStamp = true
+is_line_fault UnknownKind = true
+is_line_fault UnknownObject = true
+is_line_fault BadState = true
+is_line_fault LineTooLong = true
+is_line_fault NotUtf8 = true
+is_line_fault Cut = false
+is_line_fault Read = false
+is_line_fault NoMemory = false
+is_line_fault Ended = false
+
 -- What a feed answers, given the lines taken so far, the last moment and the pieces of the bytes to come:
 -- each line that isn't empty answers its event or its fault, in order; the last piece has no newline behind
 -- it, and if it isn't empty the feed was cut.
@@ -64,11 +80,7 @@ pub record Feed : Type 0 where
 
 -- what the feed answers from here on, given the bytes to come
 abbrev pub answers_from : List Object → Feed → List ℕ → List Answer
-answers_from objects feed bytes = when_open feed.stop
-  where
-    when_open : Option Stop → List Answer
-    when_open None = answers objects feed.line feed.last (pieces bytes)
-    when_open (Some stop) = []
+answers_from objects feed bytes = if is_some feed.stop then [] else answers objects feed.line feed.last (pieces bytes)
 
 -- where the bytes are known, the answer is the next, and the feed goes on behind it
 abbrev pub AnswersNext : List Object → Feed → Answer → Feed → Type 0
@@ -79,7 +91,77 @@ AnswersNext objects old answer new =
 abbrev pub AnswersNone : List Object → Feed → Feed → Type 0
 AnswersNone objects old new = Known old.bytes new.bytes (λ bytes rest. answers_from objects old bytes ≡ [])
 
+-- no answer is of a line before this one
+abbrev pub AreFromLine : ℕ → List Answer → Type 0
+AreFromLine line given = take_while (λ answer. nat_lt answer.line line) given ≡ []
+
 -- where the bytes are known, no answer to come is of a line before this one
-abbrev pub AnswersFrom : List Object → Feed → ℕ → Feed → Type 0
-AnswersFrom objects old line new =
-    Known old.bytes new.bytes (λ bytes rest. take_while (λ answer. nat_lt answer.line line) (answers_from objects old bytes) ≡ [])
+abbrev pub AnswersLater : List Object → Feed → ℕ → Feed → Type 0
+AnswersLater objects old line new = Known old.bytes new.bytes (λ bytes rest. AreFromLine line (answers_from objects old bytes))
+
+-- a piece of so many bytes is among these
+abbrev pub HasLine : ℕ → List (List ℕ) → Type 0
+HasLine count texts = IsTrue (list_any (λ text. nat_le count (length text)) texts)
+
+-- the fault that a stop is reported as
+abbrev pub stop_fault : Stop → Option FeedFault
+stop_fault InputEnded = None
+stop_fault CutLine = Some Cut
+stop_fault ReaderFailed = Some Read
+stop_fault TooManyCalls = Some Read
+stop_fault TooManyBytes = Some Read
+stop_fault TooManyLines = Some Read
+
+-- What a fault says of a feed whose bytes are known. A line that is read over, a cut and a limit on bytes or
+-- lines are the next answer of the feed. Where the reader failed or took too many calls, which the bytes
+-- don't tell, the feed ends before the answers of that line; too many calls come only in a line of as many
+-- bytes.
+abbrev pub FaultAnswers : List Object → Feed → LineFault → Option Stop → Feed → Type 0
+FaultAnswers objects old fault None new = AnswersNext objects old (record { line = fault.line; given = Err fault.fault }) new
+FaultAnswers objects old fault (Some InputEnded) new = ⊥
+FaultAnswers objects old fault (Some CutLine) new = AnswersNext objects old (record { line = fault.line; given = Err fault.fault }) new
+FaultAnswers objects old fault (Some ReaderFailed) new = AnswersLater objects old fault.line new
+FaultAnswers objects old fault (Some TooManyCalls) new =
+    AnswersLater objects old fault.line new × Known old.bytes new.bytes (λ bytes rest. HasLine call_limit (pieces bytes))
+FaultAnswers objects old fault (Some TooManyBytes) new = AnswersNext objects old (record { line = fault.line; given = Err fault.fault }) new
+FaultAnswers objects old fault (Some TooManyLines) new = AnswersNext objects old (record { line = fault.line; given = Err fault.fault }) new
+
+-- which faults come with which stop: Cut and Read with theirs, the faults of a line with none, and want of
+-- memory and the end of the numbers never
+abbrev pub FaultFits : FeedFault → Option Stop → Type 0
+FaultFits fault None = IsTrue (is_line_fault fault)
+FaultFits fault (Some stop) = stop_fault stop ≡ Some fault
+
+-- ---- one line of the feed: what it makes of the answers, given what was taken, the line's number and the rest
+
+abbrev pub LineAnswers : List Object → ℕ → Taken → List ℕ → ℕ → List ℕ → List Answer → Type 0
+LineAnswers objects last Line text line rest all =
+    all ≡ record { line = line; given = text_reading objects last text }
+      ∷ answers objects line (moment_after last (text_reading objects last text)) (pieces rest)
+LineAnswers objects last Long text line rest all =
+    all ≡ record { line = line; given = Err LineTooLong } ∷ answers objects line last (pieces rest)
+LineAnswers objects last (Over InputEnded) text line rest all = all ≡ []
+LineAnswers objects last (Over CutLine) text line rest all = all ≡ record { line = line; given = Err Cut } ∷ []
+LineAnswers objects last (Over ReaderFailed) text line rest all = AreFromLine line all
+LineAnswers objects last (Over TooManyCalls) text line rest all = AreFromLine line all
+LineAnswers objects last (Over TooManyBytes) text line rest all = all ≡ record { line = line; given = Err Read } ∷ []
+LineAnswers objects last (Over TooManyLines) text line rest all = all ≡ record { line = line; given = Err Read } ∷ []
+
+-- too many calls come only in a line of as many bytes
+abbrev pub CallsFit : Taken → List ℕ → Type 0
+CallsFit (Over TooManyCalls) bytes = HasLine call_limit (pieces bytes)
+CallsFit taken bytes = ⊤
+
+-- going to the next line that isn't empty
+abbrev pub GoesToLine : Source → ℕ → Taken → Source → ℕ → Type 0
+GoesToLine old from taken new line =
+    Known (to_come old) (to_come new) (λ bytes rest.
+      ((objects : List Object) (last : ℕ) → LineAnswers objects last taken new.line line rest (answers objects from last (pieces bytes)))
+      × CallsFit taken bytes)
+
+-- how the line's number grows
+abbrev pub CountsLine : ℕ → Taken → ℕ → Type 0
+CountsLine from (Over InputEnded) line = (from ≤ line) × (line ≤ feed_limit)
+CountsLine from (Over stop) line = (from < line) × (line ≤ feed_limit + 1)
+CountsLine from Line line = (from < line) × (line ≤ feed_limit)
+CountsLine from Long line = (from < line) × (line ≤ feed_limit)
