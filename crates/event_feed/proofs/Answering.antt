@@ -1,10 +1,14 @@
 -- What the taking of lines makes of the answers to come.
-use Rattle.std.proofs.Common.{◌≡◌, ℕ, zero, suc, ◌+◌, ◌-◌, ◌<◌, ◌≤◌, max, Bool, true, false, cond, ◌||◌, ltb, leb, eqb, List, [], ◌∷◌, ◌++◌, length, get_or, Option, Some, None, Result, Ok, Err, refl, sym, ap, subst, ◌∙◌, ⊎_elim, arith, rules}
-use Rattle.std.specs.List.{list_any}
-use Rattle.std.proofs.lemmas.Bool.{cases_lt, lt-ltb, le-ltb, lt-leb, le-leb, or_right, or_left, ne_eqb, eq-eqb, cond_both}
-use Rattle.std.proofs.lemmas.List.{nil_from_length, length-append}
+use Rattle.std.proofs.Common.{◌≡◌, ℕ, suc, ◌+◌, ◌<◌, ◌≤◌, max, true, false, cond, ltb, leb, eqb, List, [], ◌∷◌, ◌++◌, length, Option, Some, None, Result, Ok, Err, refl, sym, ap, subst, ◌∙◌, arith}
+use Rattle.std.specs.Prelude.{is_some}
+use Rattle.std.proofs.lemmas.Bool.{lt-ltb, le-ltb, lt-leb, le-leb, or_right, or_left, ne_eqb, eq-eqb, cond_both, true≢false}
+use Rattle.std.proofs.lemmas.List.{length-append}
 use Rattle.std.proofs.lemmas.List.Splits.{slice_split_at, slice_split_none}
+use Rattle.due_model.specs.Accepted.{IsProper, last_moment}
+use Rattle.due_model.specs.declared.config.Config.{Config}
 use Rattle.due_model.specs.declared.config.Object.{Object}
+use Rattle.due_model.specs.declared.event.Event.{Event}
+use Rattle.event_feed.specs.declared.fault.FeedFault.{FeedFault}
 use Rattle.event_feed.specs.declared.fault.FeedFault.TheVariants.{LineTooLong, Cut, Read}
 use Rattle.event_feed.specs.declared.fault.Stop.{Stop}
 use Rattle.event_feed.specs.declared.fault.Stop.TheVariants.{InputEnded, CutLine, ReaderFailed, TooManyCalls, TooManyBytes, TooManyLines}
@@ -12,9 +16,10 @@ use Rattle.event_feed.specs.declared.source.Taken.{Taken}
 use Rattle.event_feed.specs.declared.source.Taken.TheVariants.{Line, Long, Over}
 use Rattle.event_feed.specs.Line.{line_limit, line_reading}
 use Rattle.event_feed.specs.Lines.{is_newline, IsUnbroken, pieces, Known}
-use Rattle.event_feed.specs.Source.{Source, to_come, byte_limit, call_limit, BeginsWithLine, BeginsUnbroken, TakesFrom, Takes}
-use Rattle.event_feed.specs.Feed.{Answer, answers, feed_limit, is_stopped, text_reading, moment_after, AreFromLine, HasLine, LineAnswers, CallsFit, GoesToLine, CountsLine}
+use Rattle.event_feed.specs.Source.{Source, to_come, byte_limit, call_limit, BeginsWithLine, TakesFrom, Takes}
+use Rattle.event_feed.specs.Feed.{Answer, answers, feed_limit, is_stopped, text_reading, moment_after, AreFromLine, HasLine, LineAnswers, CallsFit, GoesToLine, CountsLine, GivesEvent, GivesFault, raised}
 use Rattle.event_feed.proofs.Parts.{HasFirst, slice_split-first}
+use Rattle.event_feed.proofs.ProperLines.{line_reading-fault}
 
 -- ---- pieces
 
@@ -50,8 +55,8 @@ answers-empty objects taken last text others first on none = let nothing : eqb (
 
 answers-text : (objects : List Object) (taken last : ℕ) (text : List ℕ) (others : List (List ℕ)) → HasFirst others → is_stopped taken text ≡ false → 0 < length text
     → answers objects taken last (text ∷ others)
-      ≡ record { line = taken + 1; given = text_reading objects last text }
-        ∷ answers objects (taken + 1) (moment_after last (text_reading objects last text)) others
+    ≡ record { line = taken + 1; given = text_reading objects last text }
+    ∷ answers objects (taken + 1) (moment_after last (text_reading objects last text)) others
 answers-text objects taken last text others first on some =
     let something : eqb (length text) 0 ≡ false = ne_eqb (length text) 0 (λ none. absurd (omega (arith, none))) in rw first.are (rw (on, something) refl)
 
@@ -63,19 +68,19 @@ pub answers-from : (objects : List Object) (taken last : ℕ) (texts : List (Lis
 answers-from objects taken last [] line early = refl
 answers-from objects taken last (text ∷ []) line early =
     cond_both (is_stopped taken text) (record { line = taken + 1; given = Err Read } ∷ []) (cond (eqb (length text) 0) [] (record { line = taken + 1; given = Err Cut } ∷ [])) (AreFromLine line)
-      (λ _. from_head line (record { line = taken + 1; given = Err Read }) [] early)
-      (λ _. cond_both (eqb (length text) 0) [] (record { line = taken + 1; given = Err Cut } ∷ []) (AreFromLine line) (λ _. refl)
-        (λ _. from_head line (record { line = taken + 1; given = Err Cut }) [] early))
+    (λ _. from_head line (record { line = taken + 1; given = Err Read }) [] early)
+    (λ _. cond_both (eqb (length text) 0) [] (record { line = taken + 1; given = Err Cut } ∷ []) (AreFromLine line) (λ _. refl)
+    (λ _. from_head line (record { line = taken + 1; given = Err Cut }) [] early))
 answers-from objects taken last (text ∷ next ∷ more) line early =
     let skipped : List Answer = answers objects (taken + 1) last (next ∷ more) in
     let said : List Answer = record { line = taken + 1; given = text_reading objects last text }
-      ∷ answers objects (taken + 1) (moment_after last (text_reading objects last text)) (next ∷ more) in
+    ∷ answers objects (taken + 1) (moment_after last (text_reading objects last text)) (next ∷ more) in
     cond_both (is_stopped taken text) (record { line = taken + 1; given = Err Read } ∷ []) (cond (eqb (length text) 0) skipped said) (AreFromLine line)
-      (λ _. from_head line (record { line = taken + 1; given = Err Read }) [] early)
-      (λ _. cond_both (eqb (length text) 0) skipped said (AreFromLine line)
-        (λ _. answers-from objects (taken + 1) last (next ∷ more) line (omega arith))
-        (λ _. from_head line (record { line = taken + 1; given = text_reading objects last text })
-          (answers objects (taken + 1) (moment_after last (text_reading objects last text)) (next ∷ more)) early))
+    (λ _. from_head line (record { line = taken + 1; given = Err Read }) [] early)
+    (λ _. cond_both (eqb (length text) 0) skipped said (AreFromLine line)
+    (λ _. answers-from objects (taken + 1) last (next ∷ more) line (omega arith))
+    (λ _. from_head line (record { line = taken + 1; given = text_reading objects last text })
+    (answers objects (taken + 1) (moment_after last (text_reading objects last text)) (next ∷ more)) early))
 
 -- ---- one line taken
 
@@ -144,8 +149,8 @@ answers-skipped objects last from bytes text rest few takes none =
 -- empty lines were taken
 pub record Skips (old : Source) (from : ℕ) (now : Source) (taken : ℕ) : Type 0 where
   pub answering : Known (to_come old) (to_come now) (λ bytes rest.
-    ((objects : List Object) (last : ℕ) → answers objects from last (pieces bytes) ≡ answers objects taken last (pieces rest))
-    × (HasLine call_limit (pieces rest) → HasLine call_limit (pieces bytes)))
+      ((objects : List Object) (last : ℕ) → answers objects from last (pieces bytes) ≡ answers objects taken last (pieces rest))
+      × (HasLine call_limit (pieces rest) → HasLine call_limit (pieces bytes)))
 
 Known-same : (a : Option (List ℕ)) (P : List ℕ → List ℕ → Type 0) → ((x : List ℕ) → P x x) → Known a a P
 Known-same None P each = tt
@@ -165,18 +170,20 @@ pub Skips-more : (old now new : Source) (from taken : ℕ) → Skips old from no
     → Skips old from new (taken + 1)
 Skips-more old now new from taken skips few takes none =
     record {
-      answering = Known-then (to_come old) (to_come now) (to_come new) _ _ _ skips.answering takes (λ bytes between rest first line.
-        (λ objects last. first.0 objects last ∙ answers-skipped objects last taken between new.line rest few line none,
-          λ has. first.1 (rw (pieces-line between new.line rest line.0) (or_right _ _ has))));
+      answering = Known-then (to_come old) (to_come now) (to_come new) _ _ _ skips.answering takes (λ bytes between rest first line. (
+        λ objects last. first.0 objects last ∙ answers-skipped objects last taken between new.line rest few line none,
+        λ has. first.1 (rw (pieces-line between new.line rest line.0) (or_right _ _ has)),
+      ));
     }
 
 pub GoesToLine-from : (old now new : Source) (from taken : ℕ) (how : Taken) → Skips old from now taken → taken < feed_limit → Takes now how new
     → (how ≡ Line → 0 < length new.line) → GoesToLine old from how new (taken + 1)
 GoesToLine-from old now new from taken how skips few takes full =
-    Known-then (to_come old) (to_come now) (to_come new) _ _ _ skips.answering takes (λ bytes between rest first line.
-      (λ objects last. subst (λ (all : List Answer). LineAnswers objects last how new.line (taken + 1) rest all) (sym (first.0 objects last))
+    Known-then (to_come old) (to_come now) (to_come new) _ _ _ skips.answering takes (λ bytes between rest first line. (
+      λ objects last. subst (λ (all : List Answer). LineAnswers objects last how new.line (taken + 1) rest all) (sym (first.0 objects last))
           (LineAnswers-taken objects last taken between how new.line rest few line full),
-        CallsFit-kept how bytes between first.1 (CallsFit-taken between how new.line rest line)))
+      CallsFit-kept how bytes between first.1 (CallsFit-taken between how new.line rest line),
+    ))
 
 pub GoesToLine-end : (old now new : Source) (from taken : ℕ) → Skips old from now taken → taken < feed_limit → Takes now (Over InputEnded) new
     → GoesToLine old from (Over InputEnded) new taken
@@ -184,13 +191,14 @@ GoesToLine-end old now new from taken skips few takes = GoesToLine-from old now 
 
 pub GoesToLine-many : (old now : Source) (from : ℕ) (taken : ℕ) → Skips old from now taken → taken ≡ feed_limit → GoesToLine old from (Over TooManyLines) now (taken + 1)
 GoesToLine-many old now from taken skips all =
-    Known-then (to_come old) (to_come now) (to_come now) _ (λ _ _. Unit {0}) _ skips.answering (Known-same (to_come now) (λ _ _. Unit {0}) (λ _. tt)) (λ bytes between rest first _.
-      (λ objects last.
-        let split = slice_split-first is_newline between in
-        first.0 objects last
-        ∙ ap (λ (texts : List (List ℕ)). answers objects taken last texts) split.are
-        ∙ answers-stopped objects taken last split.first split.others (or_left _ _ (le-leb feed_limit taken (omega (arith, all)))),
-        tt))
+    Known-then (to_come old) (to_come now) (to_come now) _ (λ _ _. Unit {0}) _ skips.answering (Known-same (to_come now) (λ _ _. Unit {0}) (λ _. tt)) (λ bytes between rest first _. (
+      λ objects last.
+          let split = slice_split-first is_newline between in
+          first.0 objects last
+          ∙ ap (λ (texts : List (List ℕ)). answers objects taken last texts) split.are
+          ∙ answers-stopped objects taken last split.first split.others (or_left _ _ (le-leb feed_limit taken (omega (arith, all)))),
+      tt,
+    ))
 
 pub CountsLine-over : (from line : ℕ) (stop : Stop) → from < line → line ≤ feed_limit → CountsLine from (Over stop) line
 CountsLine-over from line InputEnded more few = (omega arith, few)
@@ -206,3 +214,44 @@ GoesToLine-long old now new from taken skips few takes = GoesToLine-from old now
 pub GoesToLine-over : (old now new : Source) (from taken : ℕ) (stop : Stop) → Skips old from now taken → taken < feed_limit → Takes now (Over stop) new
     → GoesToLine old from (Over stop) new (taken + 1)
 GoesToLine-over old now new from taken stop skips few takes = GoesToLine-from old now new from taken (Over stop) skips few takes (λ is. absurd (cc))
+
+-- ---- what a call of `next` gives
+
+Known-map : (a b : Option (List ℕ)) (P Q : List ℕ → List ℕ → Type 0) → Known a b P → ((x y : List ℕ) → P x y → Q x y) → Known a b Q
+Known-map None b P Q known each = tt
+Known-map (Some x) None P Q known each = known
+Known-map (Some x) (Some y) P Q known each = each x y known
+
+pub GivesEvent-line : (c : Config) (before after : Source) (line last line' : ℕ) (stop : Option Stop) (event given : Event) → is_some stop ≡ false
+    → GoesToLine before line Line after line' → CountsLine line Line line' → Ok event ≡ line_reading c.objects after.line → IsProper c event
+    → Ok given ≡ raised last (Ok event) → last ≤ last_moment
+    → GivesEvent c (record { bytes = to_come before; line = line; last = last; stop = stop }) given
+    (record { bytes = to_come after; line = line'; last = given.moment; stop = stop })
+GivesEvent-line c before after line last line' (Some stop) event given goes_on goes counts reading proper raise early = absurd (true≢false goes_on)
+GivesEvent-line c before after line last line' None event given goes_on goes counts reading proper raise early =
+    let text : text_reading c.objects last after.line ≡ Ok given = ap (λ (r : Result Event FeedFault). raised last r) (sym reading) ∙ sym raise in
+    let same : given ≡ record event { moment = max last event.moment } = cc in
+    record {
+      answers = Known-map (to_come before) (to_come after) _ _ goes (λ bytes rest answers.
+          answers.0 c.objects last ∙ rw text refl);
+      proper = subst (IsProper c) (sym same) (record { stamp = omega (arith, proper.stamp); kind = proper.kind });
+      later = rw same (omega arith);
+      last = refl;
+      line = counts.0;
+      goes_on = refl;
+    }
+
+pub GivesFault-line : (objects : List Object) (before after : Source) (line last line' : ℕ) (stop : Option Stop) (fault : FeedFault) → is_some stop ≡ false
+    → GoesToLine before line Line after line' → CountsLine line Line line' → Err fault ≡ line_reading objects after.line
+    → GivesFault objects (record { bytes = to_come before; line = line; last = last; stop = stop }) (record { line = line'; fault = fault })
+    (record { bytes = to_come after; line = line'; last = last; stop = stop })
+GivesFault-line objects before after line last line' (Some stop) fault goes_on goes counts reading = absurd (true≢false goes_on)
+GivesFault-line objects before after line last line' None fault goes_on goes counts reading =
+    let text : text_reading objects last after.line ≡ Err fault = ap (λ (r : Result Event FeedFault). raised last r) (sym reading) in
+    record {
+      answers = Known-map (to_come before) (to_come after) _ _ goes (λ bytes rest answers. answers.0 objects last ∙ rw text refl);
+      fits = line_reading-fault objects after.line fault (sym reading);
+      number = refl;
+      last = refl;
+      line = counts.0;
+    }

@@ -1,13 +1,16 @@
 -- A feed: its lines in order, numbered from 1, and what each answers.
-use Rattle.std.specs.Prelude.{◌≡◌, ℕ, ◌+◌, ◌<◌, ◌≤◌, ◌^◌, max, Bool, true, false, ◌||◌, ◌==◌, if◌then◌else◌, nat_lt, nat_le, List, [], ◌∷◌, length, take_while, IsTrue, is_some, ⊤, Option, Some, None, Result, Ok, Err}
+use Rattle.std.specs.Prelude.{◌≡◌, ℕ, ◌+◌, ◌<◌, ◌≤◌, ◌^◌, max, Bool, ◌||◌, ◌==◌, if◌then◌else◌, nat_lt, nat_le, List, [], ◌∷◌, length, take_while, IsTrue, IsSome, is_some, ⊤, Option, Some, None, Result, Ok, Err}
 use Rattle.std.specs.List.{list_any}
+use Rattle.due_model.specs.Accepted.{IsProper}
+use Rattle.due_model.specs.declared.config.Config.{Config}
 use Rattle.due_model.specs.declared.config.Object.{Object}
 use Rattle.due_model.specs.declared.event.Event.{Event}
 use Rattle.event_feed.specs.declared.fault.FeedFault.{FeedFault}
-use Rattle.event_feed.specs.declared.fault.FeedFault.TheVariants.{BadStamp, UnknownKind, UnknownObject, BadState, LineTooLong, NotUtf8, Cut, Read, NoMemory, Ended}
+use Rattle.event_feed.specs.declared.fault.FeedFault.TheVariants.{LineTooLong, Cut, Read}
 use Rattle.event_feed.specs.declared.fault.LineFault.{LineFault}
 use Rattle.event_feed.specs.declared.fault.Stop.{Stop}
 use Rattle.event_feed.specs.declared.fault.Stop.TheVariants.{InputEnded, CutLine, ReaderFailed, TooManyCalls, TooManyBytes, TooManyLines}
+use Rattle.event_feed.specs.Fault.{is_line_fault, stop_fault}
 use Rattle.event_feed.specs.Line.{line_reading}
 use Rattle.event_feed.specs.Lines.{pieces, Known}
 use Rattle.event_feed.specs.Source.{Source, byte_limit, call_limit, to_come}
@@ -42,19 +45,6 @@ text_reading objects last text = raised last (line_reading objects text)
 abbrev pub is_stopped : ℕ → List ℕ → Bool
 is_stopped taken text = nat_le feed_limit taken || nat_lt byte_limit (length text)
 
--- the faults of a line that is read over: the feed goes on behind it
-abbrev pub is_line_fault : FeedFault → Bool
-is_line_fault BadStamp = true
-is_line_fault UnknownKind = true
-is_line_fault UnknownObject = true
-is_line_fault BadState = true
-is_line_fault LineTooLong = true
-is_line_fault NotUtf8 = true
-is_line_fault Cut = false
-is_line_fault Read = false
-is_line_fault NoMemory = false
-is_line_fault Ended = false
-
 -- What a feed answers, given the lines taken so far, the last moment and the pieces of the bytes to come:
 -- each line that isn't empty answers its event or its fault, in order; the last piece has no newline behind
 -- it, and if it isn't empty the feed was cut.
@@ -68,7 +58,7 @@ answers objects taken last (text ∷ next ∷ more) =
     if is_stopped taken text then record { line = taken + 1; given = Err Read } ∷ []
     else if length text == 0 then answers objects (taken + 1) last (next ∷ more)
     else record { line = taken + 1; given = text_reading objects last text }
-      ∷ answers objects (taken + 1) (moment_after last (text_reading objects last text)) (next ∷ more)
+    ∷ answers objects (taken + 1) (moment_after last (text_reading objects last text)) (next ∷ more)
 
 -- A feed that is being read: the bytes to come, where they are known; the number of the last line taken; the
 -- last moment; why it is over, if it is.
@@ -103,15 +93,6 @@ AnswersLater objects old line new = Known old.bytes new.bytes (λ bytes rest. Ar
 abbrev pub HasLine : ℕ → List (List ℕ) → Type 0
 HasLine count texts = IsTrue (list_any (λ text. nat_le count (length text)) texts)
 
--- the fault that a stop is reported as
-abbrev pub stop_fault : Stop → Option FeedFault
-stop_fault InputEnded = None
-stop_fault CutLine = Some Cut
-stop_fault ReaderFailed = Some Read
-stop_fault TooManyCalls = Some Read
-stop_fault TooManyBytes = Some Read
-stop_fault TooManyLines = Some Read
-
 -- What a fault says of a feed whose bytes are known. A line that is read over, a cut and a limit on bytes or
 -- lines are the next answer of the feed. Where the reader failed or took too many calls, which the bytes
 -- don't tell, the feed ends before the answers of that line; too many calls come only in a line of as many
@@ -132,12 +113,36 @@ abbrev pub FaultFits : FeedFault → Option Stop → Type 0
 FaultFits fault None = IsTrue (is_line_fault fault)
 FaultFits fault (Some stop) = stop_fault stop ≡ Some fault
 
+-- the feed gives an event: proper, its moment no earlier than the last
+pub record GivesEvent (c : Config) (old : Feed) (event : Event) (new : Feed) : Type 0 where
+  pub answers : AnswersNext c.objects old (record { line = new.line; given = Ok event }) new
+  pub proper : IsProper c event
+  pub later : old.last ≤ event.moment
+  pub last : new.last ≡ event.moment
+  pub line : old.line < new.line
+  pub goes_on : new.stop ≡ None
+
+-- the feed is over
+pub record GivesNone (objects : List Object) (old new : Feed) : Type 0 where
+  pub answers : AnswersNone objects old new
+  pub last : new.last ≡ old.last
+  pub line : old.line ≤ new.line
+  pub over : IsSome new.stop
+
+-- a line, the last one taken, gives no event
+pub record GivesFault (objects : List Object) (old : Feed) (fault : LineFault) (new : Feed) : Type 0 where
+  pub answers : FaultAnswers objects old fault new.stop new
+  pub fits : FaultFits fault.fault new.stop
+  pub number : fault.line ≡ new.line
+  pub last : new.last ≡ old.last
+  pub line : old.line < new.line
+
 -- ---- one line of the feed: what it makes of the answers, given what was taken, the line's number and the rest
 
 abbrev pub LineAnswers : List Object → ℕ → Taken → List ℕ → ℕ → List ℕ → List Answer → Type 0
 LineAnswers objects last Line text line rest all =
     all ≡ record { line = line; given = text_reading objects last text }
-      ∷ answers objects line (moment_after last (text_reading objects last text)) (pieces rest)
+    ∷ answers objects line (moment_after last (text_reading objects last text)) (pieces rest)
 LineAnswers objects last Long text line rest all =
     all ≡ record { line = line; given = Err LineTooLong } ∷ answers objects line last (pieces rest)
 LineAnswers objects last (Over InputEnded) text line rest all = all ≡ []
@@ -156,8 +161,8 @@ CallsFit taken bytes = ⊤
 abbrev pub GoesToLine : Source → ℕ → Taken → Source → ℕ → Type 0
 GoesToLine old from taken new line =
     Known (to_come old) (to_come new) (λ bytes rest.
-      ((objects : List Object) (last : ℕ) → LineAnswers objects last taken new.line line rest (answers objects from last (pieces bytes)))
-      × CallsFit taken bytes)
+    ((objects : List Object) (last : ℕ) → LineAnswers objects last taken new.line line rest (answers objects from last (pieces bytes)))
+    × CallsFit taken bytes)
 
 -- how the line's number grows
 abbrev pub CountsLine : ℕ → Taken → ℕ → Type 0

@@ -1,8 +1,7 @@
 //! Why a line of the feed gives no event.
 
 ghost use Rattle.std.specs.Prelude.{◌≡◌, Some};
-ghost use Rattle.event_feed.specs.Fault.{fault_name};
-ghost use Rattle.event_feed.specs.Feed.{stop_fault};
+ghost use Rattle.event_feed.specs.Fault.{fault_name, stop_fault};
 
 use std::fmt;
 
@@ -92,10 +91,8 @@ impl Stop {
         match self {
             Stop::InputEnded => None,
             Stop::CutLine => Some(FeedFault::Cut),
-            Stop::ReaderFailed
-            | Stop::TooManyCalls
-            | Stop::TooManyBytes
-            | Stop::TooManyLines => Some(FeedFault::Read),
+            Stop::ReaderFailed | Stop::TooManyCalls | Stop::TooManyBytes | Stop::TooManyLines =>
+                Some(FeedFault::Read),
         }
     }
 }

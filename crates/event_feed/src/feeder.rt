@@ -1,8 +1,7 @@
 //! The events of a feed, in order, from any reader.
 
-ghost use Rattle.std.specs.Prelude.{◌≡◌, ◌+◌, ◌<◌, ◌≤◌, max, None, Some, Ok, Err, IfOk, IfErr, IfSome, IfNone, OnSome, IsSome};
-ghost use Rattle.due_model.specs.Accepted.{IsProper};
-ghost use Rattle.event_feed.specs.Feed.{AnswersNext, AnswersNone, CountsLine, FaultAnswers, FaultFits, GoesToLine, feed_limit, raised};
+ghost use Rattle.std.specs.Prelude.{◌≡◌, ◌≤◌, None, Ok, IfOk, IfErr, IfSome, IfNone, OnSome};
+ghost use Rattle.event_feed.specs.Feed.{CountsLine, GivesEvent, GivesFault, GivesNone, GoesToLine, feed_limit, raised};
 
 use crate::fault::{FeedFault, LineFault, Stop};
 use crate::line::read_line;
@@ -28,6 +27,7 @@ pub struct Feeder<R: Read> {
 
 impl<R: Read> Model for Feeder<R> {
     ghost use Rattle.std.specs.Prelude.{◌≤◌, ◌+◌, if◌then◌else◌, is_some};
+    ghost use Rattle.due_model.specs.Accepted.{last_moment};
     ghost use Rattle.event_feed.specs.Feed.{Feed, feed_limit};
     ghost use Rattle.event_feed.specs.Source.{to_come};
 
@@ -35,7 +35,7 @@ impl<R: Read> Model for Feeder<R> {
 
     ghost view = { λ s. record { bytes = to_come s.source; line = s.line; last = s.last; stop = s.stop } };
 
-    ghost invariant = { λ s. s.line ≤ feed_limit + (if is_some s.stop then 1 else 0) };
+    ghost invariant = { λ s. (s.line ≤ feed_limit + (if is_some s.stop then 1 else 0)) × (s.last ≤ last_moment) };
 }
 
 impl<R: Read + Drop> Feeder<R> {
@@ -66,8 +66,15 @@ impl<R: Read + Drop> Feeder<R> {
         self.stop
     }
 
+    /// The next event, or the next line that gives none. Empty lines are passed over, and a stamp below the
+    /// last moment is raised to it. A line with another fault than Cut and Read is read over, and the feed
+    /// goes on behind it; after Cut and Read, and at the end of the input, it is over, and the answer is
+    /// `Ok(None)` from then on. It takes no memory.
     pub fn next(&mut self, config: &Config) -> Result<Option<Event>, LineFault>
         ensures over { OnSome self.old.stop ((result ≡ Ok None) × (self.new ≡ self.old)) }
+        ensures event { IfOk result (λ found. IfSome found (λ event. GivesEvent config.now self.old event self.new)) }
+        ensures none { IfOk result (λ found. IfNone found (GivesNone config.now.objects self.old self.new)) }
+        ensures fault { IfErr result (λ fault. GivesFault config.now.objects self.old fault self.new) }
     {
         if self.stop.is_some() {
             return Ok(None);

@@ -63,9 +63,10 @@ impl<R: Read> Model for Source<R> {
     ghost Value = { Seen };
 
     ghost view = { λ s. record {
-        line = slice_range s.buffer.items s.line_start s.line_end;
-        held = slice_range s.buffer.items s.start s.end;
-        unread = R.remaining s.reader } };
+      line = slice_range s.buffer.items s.line_start s.line_end;
+      held = slice_range s.buffer.items s.start s.end;
+      unread = R.remaining s.reader;
+    } };
 
     ghost invariant = { λ s. (s.start ≤ s.end) × (s.end ≤ vec_len s.buffer) × (s.line_start ≤ s.line_end)
         × (s.line_end ≤ vec_len s.buffer) × (vec_len s.buffer ≡ 65536) };
@@ -118,7 +119,9 @@ impl<R: Read + Drop> Source<R> {
             }
             skipped = self.make_room(skipped);
             match self.fill() {
-                Filled::Empty if skipped + self.held_len() == 0 => return Taken::Over(Stop::InputEnded),
+                Filled::Empty if skipped + self.held_len() == 0 => return Taken::Over(
+                    Stop::InputEnded,
+                ),
                 Filled::Empty => return Taken::Over(Stop::CutLine),
                 Filled::Broken => return Taken::Over(Stop::ReaderFailed),
                 Filled::More => {}
@@ -217,12 +220,7 @@ fn move_to_front(buffer: &mut [u8], start: usize, end: usize)
 }
 
 /// Moves a part of the buffer to its front, and reads once into the room behind it.
-fn refill<R: Read>(
-    reader: &mut R,
-    buffer: &mut [u8],
-    start: usize,
-    end: usize,
-) -> io::Result<usize>
+fn refill<R: Read>(reader: &mut R, buffer: &mut [u8], start: usize, end: usize) -> io::Result<usize>
     requires ordered { start ≤ end }
     requires within { end ≤ length buffer.old }
     ensures kept { take (end - start) buffer.new ≡ slice_range buffer.old start end }

@@ -9,18 +9,18 @@ pub returns-then-not-is_empty-clause-goes : goal.returns-then-not-is_empty-claus
 returns-then-not-is_empty-clause-goes g c =
     let some : 0 < length c.take_line.new.self.line = rw (← c.line.ensures) (grind (arith, nat_tests, c.if-not-is_empty.ensures)) in
     GoesToLine-from c.args.source.now c.loop-taken.source c.take_line.new.self c.args.line.now c.loop-taken.taken Line c.loop-taken.invariant.skips
-      c.loop-taken-test.true c.in-Line.ensures (λ _. some)
+    c.loop-taken-test.true c.in-Line.ensures (λ _. some)
 
 pub returns-in-Long-clause-goes : goal.returns-in-Long-clause-goes
 returns-in-Long-clause-goes g c =
     GoesToLine-long c.args.source.now c.loop-taken.source c.take_line.new.self c.args.line.now c.loop-taken.taken c.loop-taken.invariant.skips
-      c.loop-taken-test.true c.in-Long.ensures
+    c.loop-taken-test.true c.in-Long.ensures
 
 pub returns-in-Over : goal.returns-in-Over
 returns-in-Over g c =
     record {
       goes = GoesToLine-over c.args.source.now c.loop-taken.source c.take_line.new.self c.args.line.now c.loop-taken.taken c.in-Over.stop
-        c.loop-taken.invariant.skips c.loop-taken-test.true c.in-Over.ensures;
+          c.loop-taken.invariant.skips c.loop-taken-test.true c.in-Over.ensures;
       counts = CountsLine-over c.args.line.now _ c.in-Over.stop (omega arith) (omega arith);
     }
 

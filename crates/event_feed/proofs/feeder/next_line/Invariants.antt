@@ -1,6 +1,5 @@
 use Rattle.std.proofs.Common.{◌≡◌, ◌≤◌}
 use Rattle.event_feed.proofs.Answering.{Skips}
-use Rattle.event_feed.specs.Feed.{feed_limit}
 use Rattle.event_feed.proofs.feeder.next_line.Given as goal
 
 -- So far there were empty lines, which answer nothing.
