@@ -1,6 +1,6 @@
 -- The parts of a list between the elements that pass a test, and the number that digits write.
-use Rattle.std.proofs.Common.{◌≡◌, ℕ, suc, ◌+◌, ◌-◌, ◌*◌, ◌<◌, ◌≤◌, min, Bool, true, false, not, cond, eqb, List, [], ◌∷◌, ◌++◌, length, map, take, drop, get_or, Err, Option, Some, None, refl, sym, ap, ◌∙◌, arith, rules}
-use Rattle.std.specs.List.{slice_split, onto_first, position_or_len, before_first, after_first}
+use Rattle.std.proofs.Common.{◌≡◌, ℕ, ◌+◌, ◌-◌, ◌*◌, ◌<◌, ◌≤◌, Bool, true, false, not, cond, eqb, List, [], ◌∷◌, length, map, take, drop, get_or, Err, Option, Some, None, refl, sym, ap, ◌∙◌, arith}
+use Rattle.std.specs.List.{slice_split, onto_first, position_or_len}
 use Rattle.std.proofs.lemmas.Bool.{false_from_ne_true}
 use Rattle.std.proofs.lemmas.List.{take_more, map-append, length-drop}
 use Rattle.std.proofs.lemmas.List.Splits.{slice_split_first}
@@ -26,17 +26,17 @@ onto_first-first x (part ∷ parts) = record { first = x ∷ part; others = part
 pub slice_split-first : {X : Type 0} (p : X → Bool) (xs : List X) → HasFirst (slice_split p xs)
 slice_split-first p [] = record { first = []; others = []; are = refl }
 slice_split-first p (x ∷ xs) = elim (p x) as (λ b. HasFirst (cond b ([] ∷ slice_split p xs) (onto_first x (slice_split p xs)))) [
-    true ↦ record { first = []; others = slice_split p xs; are = refl }
+  | true ↦ record { first = []; others = slice_split p xs; are = refl }
   | false ↦ onto_first-first x (slice_split p xs)
-  ]
+]
 
 -- where nothing passes, the list is the one part
 pub slice_split-whole : {X : Type 0} (p : X → Bool) (xs : List X) → position_or_len p xs ≡ length xs → slice_split p xs ≡ xs ∷ []
 slice_split-whole p [] none = refl
 slice_split-whole p (x ∷ xs) none =
     elim (p x) as (λ b. cond (not b) (1 + position_or_len p xs) 0 ≡ length (x ∷ xs) → cond b ([] ∷ slice_split p xs) (onto_first x (slice_split p xs)) ≡ (x ∷ xs) ∷ []) [
-      true ↦ λ here. absurd (omega (arith, here))
-    | false ↦ λ further. ap (λ parts. onto_first x parts) (slice_split-whole p xs (omega (arith, further)))
+      | true ↦ λ here. absurd (omega (arith, here))
+      | false ↦ λ further. ap (λ parts. onto_first x parts) (slice_split-whole p xs (omega (arith, further)))
     ] none
 
 pub bare_reading-fields : (kind : EventKind) (rest : List ℕ) → bare_reading kind (fields rest) ≡ Err BadState
@@ -47,16 +47,18 @@ host_state_reading-many objects host state more = let split = slice_split-first 
 
 -- what a search for a byte finds
 pub position-found : (byte : ℕ) (bytes : List ℕ) (place : ℕ) → IsFirstByte (is_byte byte) bytes (Some place) → (place ≡ position_or_len (λ b. eqb b byte) bytes) × (place ≤ length bytes)
-position-found byte bytes place found =
-    (sym (position_or_len_is (λ b. eqb b byte) bytes place 0 (omega arith)
+position-found byte bytes place found = (
+  sym (position_or_len_is (λ b. eqb b byte) bytes place 0 (omega arith)
       (λ k before. false_from_ne_true _ (found.0.before k (omega arith) before))
-      (λ _. found.1)), omega arith)
+      (λ _. found.1)),
+  omega arith,
+)
 
 pub position-none : (byte : ℕ) (bytes : List ℕ) → IsFirstByte (is_byte byte) bytes None → length bytes ≡ position_or_len (λ b. eqb b byte) bytes
 position-none byte bytes none =
     sym (position_or_len_is (λ b. eqb b byte) bytes (length bytes) 0 (omega arith)
-      (λ k before. false_from_ne_true _ (none k (omega arith) before))
-      (λ past. absurd (omega arith)))
+    (λ k before. false_from_ne_true _ (none k (omega arith) before))
+    (λ past. absurd (omega arith)))
 
 -- one more digit
 pub stamp_number-more : (digits : List ℕ) (at : ℕ) → at < length digits

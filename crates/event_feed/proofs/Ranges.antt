@@ -1,9 +1,9 @@
 -- Parts of a buffer, and the first newline in one.
-use Rattle.std.proofs.Common.{◌≡◌, ℕ, ◌+◌, ◌-◌, ◌<◌, ◌≤◌, min, Bool, true, false, not, eqb, List, [], ◌∷◌, ◌++◌, length, take, drop, get_or, refl, sym, ap, ◌∙◌, arith, rules, All}
+use Rattle.std.proofs.Common.{◌≡◌, ℕ, ◌+◌, ◌-◌, ◌<◌, ◌≤◌, not, List, ◌++◌, length, take, drop, get_or, refl, sym, ◌∙◌, arith}
 use Rattle.std.specs.Prelude.{slice_range}
 use Rattle.std.specs.List.{position_or_len}
 use Rattle.std.proofs.lemmas.Bool.{not-false, eqb-true}
-use Rattle.std.proofs.lemmas.Grind.{common_steps, same_number_lists}
+use Rattle.std.proofs.lemmas.Grind.{same_number_lists}
 use Rattle.std.proofs.lemmas.List.{drop-take, drop-drop, length-take, length-drop, get_or-take, get_or-drop}
 use Rattle.std.proofs.lemmas.List.Sums.{fails_before_first, prefix_len_stops}
 use Rattle.std.proofs.lemmas.List.{append-nil}
@@ -35,8 +35,8 @@ pub moved : (old new : List ℕ) (start end : ℕ) → start ≤ end → end ≤
 moved old new start end ordered within same each =
     let long : length (take (end - start) new) ≡ end - start = rw length-take (omega arith) in
     same_number_lists _ _ (long ∙ sym (length-range old start end ordered within))
-      (λ k before. let below : k < end - start = omega arith in
-        rw (get_or-take (end - start) new k 0 below, get_or-take (end - start) (drop start old) k 0 below, get_or-drop) (each k below))
+    (λ k before. let below : k < end - start = omega arith in
+    rw (get_or-take (end - start) new k 0 below, get_or-take (end - start) (drop start old) k 0 below, get_or-drop) (each k below))
 
 -- what a vector holds after all of it was written through a slice
 pub written : (items new : List ℕ) (len : ℕ) → length new ≡ length items → len ≡ length items → take len (new ++ drop (length new) items) ≡ new

@@ -1,6 +1,5 @@
 -- What the taking of a line leaves of the bytes to come, step by step.
-use Rattle.std.proofs.Common.{◌≡◌, ℕ, ◌+◌, ◌-◌, ◌<◌, ◌≤◌, Bool, true, false, cond, List, [], ◌∷◌, ◌++◌, length, take, drop, get_or, All, Option, Some, None, refl, sym, ap, subst, ◌∙◌, arith, rules, suc, add-one, append_assoc, drop-cons, ltb, ⊎_elim}
-use Rattle.std.specs.Option.{option_map}
+use Rattle.std.proofs.Common.{◌≡◌, ℕ, ◌+◌, ◌<◌, ◌≤◌, true, false, List, [], ◌∷◌, ◌++◌, length, take, drop, get_or, Option, Some, None, refl, sym, ap, subst, ◌∙◌, arith, add-one, append_assoc, drop-cons, ltb, ⊎_elim}
 use Rattle.std.specs.Io.KnownBytes.{Consumes, IsAtEnd, Keeps, prepend_known}
 use Rattle.std.proofs.lemmas.Bool.{cases_lt, lt-ltb, le-ltb}
 use Rattle.std.proofs.lemmas.List.{append-nil, length-append, length-take, take-append-drop, nil_from_length}
@@ -8,9 +7,10 @@ use Rattle.std.proofs.lemmas.Option.{none-some, same_Some}
 use Rattle.std.proofs.lemmas.List.Elements.{All-append, All-nil}
 use Rattle.event_feed.specs.Line.{line_limit}
 use Rattle.event_feed.specs.Lines.{is_newline, IsUnbroken, Known}
-use Rattle.event_feed.specs.Source.{Source, to_come, byte_limit, call_limit, BeginsWithLine, BeginsUnbroken, TakesFrom, Takes, ending, Fills, MakesRoom}
+use Rattle.event_feed.specs.Source.{Source, to_come, byte_limit, BeginsWithLine, BeginsUnbroken, TakesFrom, Takes, ending, Fills, MakesRoom}
 use Rattle.event_feed.specs.declared.source.Taken.{Taken}
-use Rattle.event_feed.specs.declared.source.Taken.TheVariants.{Line, Long, Cut, End, Failed, TooManyCalls, TooManyBytes}
+use Rattle.event_feed.specs.declared.source.Taken.TheVariants.{Over}
+use Rattle.event_feed.specs.declared.fault.Stop.TheVariants.{InputEnded, CutLine, ReaderFailed}
 use Rattle.event_feed.specs.declared.source.Filled.TheVariants.{More, Empty, Broken}
 
 -- ---- known bytes, and those that are taken off their front
@@ -70,7 +70,7 @@ OnTheWay-skip old now new skipped way held none same =
       long = length-append way.front now.held ∙ ap (λ n. n + length now.held) way.long;
       unbroken = All-append (λ byte. is_newline byte ≡ false) way.front now.held way.unbroken held;
       follows = rw (none, same) (Consumes-chain (to_come old) (to_come now) (prepend_known [] now.unread) way.front now.held way.follows
-        (Consumes-held now.unread now.held now.held [] (sym (append-nil now.held))));
+          (Consumes-held now.unread now.held now.held [] (sym (append-nil now.held))));
     }
 
 pub record HasRoom (old new : Source) (skipped skipped' before : ℕ) : Type 0 where
@@ -84,34 +84,34 @@ pub OnTheWay-room : (old now new : Source) (skipped skipped' : ℕ) → OnTheWay
     → HasRoom old new skipped skipped' (skipped + length now.held)
 OnTheWay-room old now new skipped skipped' way held room =
     ⊎_elim
-      (λ (over : line_limit < length now.held).
-        let yes : ltb line_limit (length now.held) ≡ true = lt-ltb line_limit (length now.held) over in
-        let none : new.held ≡ [] = rw yes at room.held in
-        let count : skipped' ≡ skipped + length now.held = rw yes at room.counted in
-        let on : HasRoom old new skipped skipped' (skipped + length now.held) = record {
-          way = rw count (OnTheWay-skip old now new skipped way held none room.unread);
-          held = rw none (All-nil (λ byte. is_newline byte ≡ false));
-          short = rw none (omega arith);
-          same = rw (none, count) (omega arith);
-          many = λ _ _. rw count (omega arith);
-        } in on)
-      (λ (few : length now.held ≤ line_limit).
-        let no : ltb line_limit (length now.held) ≡ false = le-ltb line_limit (length now.held) few in
-        let same : new.held ≡ now.held = rw no at room.held in
-        let count : skipped' ≡ skipped = rw no at room.counted in
-        let on : HasRoom old new skipped skipped' (skipped + length now.held) = record {
-          way = rw count (record {
-            front = way.front;
-            long = way.long;
-            unbroken = way.unbroken;
-            follows = rw (same, room.unread) way.follows;
-          });
-          held = rw same held;
-          short = rw same few;
-          same = rw (same, count) refl;
-          many = rw count (λ many. many);
-        } in on)
-      (cases_lt line_limit (length now.held))
+    (λ (over : line_limit < length now.held).
+    let yes : ltb line_limit (length now.held) ≡ true = lt-ltb line_limit (length now.held) over in
+    let none : new.held ≡ [] = rw yes at room.held in
+    let count : skipped' ≡ skipped + length now.held = rw yes at room.counted in
+    let on : HasRoom old new skipped skipped' (skipped + length now.held) = record {
+      way = rw count (OnTheWay-skip old now new skipped way held none room.unread);
+      held = rw none (All-nil (λ byte. is_newline byte ≡ false));
+      short = rw none (omega arith);
+      same = rw (none, count) (omega arith);
+      many = λ _ _. rw count (omega arith);
+    } in on)
+    (λ (few : length now.held ≤ line_limit).
+    let no : ltb line_limit (length now.held) ≡ false = le-ltb line_limit (length now.held) few in
+    let same : new.held ≡ now.held = rw no at room.held in
+    let count : skipped' ≡ skipped = rw no at room.counted in
+    let on : HasRoom old new skipped skipped' (skipped + length now.held) = record {
+      way = rw count (record {
+        front = way.front;
+        long = way.long;
+        unbroken = way.unbroken;
+        follows = rw (same, room.unread) way.follows;
+      });
+      held = rw same held;
+      short = rw same few;
+      same = rw (same, count) refl;
+      many = rw count (λ many. many);
+    } in on)
+    (cases_lt line_limit (length now.held))
 
 pub OnTheWay-more : (old now new : Source) (skipped : ℕ) → OnTheWay old skipped now → Fills now More new → OnTheWay old skipped new
 OnTheWay-more old now new skipped way filled =
@@ -120,7 +120,7 @@ OnTheWay-more old now new skipped way filled =
       long = way.long;
       unbroken = way.unbroken;
       follows = subst (λ (front : List ℕ). Consumes (to_come old) (to_come new) front) (append-nil way.front)
-        (Consumes-chain (to_come old) (to_come now) (to_come new) way.front [] way.follows
+          (Consumes-chain (to_come old) (to_come now) (to_come new) way.front [] way.follows
           (rw filled.2 (Consumes-read now.unread new.unread now.held filled.0 filled.3)));
     }
 
@@ -134,16 +134,16 @@ ended : (bytes text line rest : List ℕ) (count : ℕ) → BeginsWithLine bytes
     → TakesFrom bytes (ending count) line rest
 ended bytes text line rest count begins long same =
     ⊎_elim
-      (λ (many : byte_limit < count). let yes : ltb byte_limit count ≡ true = lt-ltb byte_limit count many in
-        rw yes (text, 10 ∷ rest, begins.unbroken, begins.whole, omega arith))
-      (λ (few : count ≤ byte_limit). let no : ltb byte_limit count ≡ false = le-ltb byte_limit count few in
-        rw no (⊎_elim
-          (λ (over : line_limit < count). let yes : ltb line_limit count ≡ true = lt-ltb line_limit count over in
-            rw yes (text, begins, omega arith, omega arith))
-          (λ (within : count ≤ line_limit). let no' : ltb line_limit count ≡ false = le-ltb line_limit count within in
-            rw (no', same within) (begins, omega arith))
-          (cases_lt line_limit count)))
-      (cases_lt byte_limit count)
+    (λ (many : byte_limit < count). let yes : ltb byte_limit count ≡ true = lt-ltb byte_limit count many in
+    rw yes (text, 10 ∷ rest, begins.unbroken, begins.whole, omega arith))
+    (λ (few : count ≤ byte_limit). let no : ltb byte_limit count ≡ false = le-ltb byte_limit count few in
+    rw no (⊎_elim
+    (λ (over : line_limit < count). let yes : ltb line_limit count ≡ true = lt-ltb line_limit count over in
+    rw yes (text, begins, omega arith, omega arith))
+    (λ (within : count ≤ line_limit). let no' : ltb line_limit count ≡ false = le-ltb line_limit count within in
+    rw (no', same within) (begins, omega arith))
+    (cases_lt line_limit count)))
+    (cases_lt byte_limit count)
 
 -- the newline is among what is held
 pub Takes-line : (old now new : Source) (skipped place : ℕ) → OnTheWay old skipped now → (0 < skipped → line_limit < skipped) → IsUnbroken (take place now.held)
@@ -154,35 +154,38 @@ Takes-line old now new skipped place way many unbroken within newline line held 
     let text = way.front ++ take place now.held in
     let long : length text ≡ skipped + place = rw (length-append, length-take) (omega (arith, way.long)) in
     let split : now.held ≡ (take place now.held ++ 10 ∷ []) ++ drop (place + 1) now.held =
-      sym (take-append-drop place now.held)
-      ∙ ap (λ (rest : List ℕ). take place now.held ++ rest) (drop-cons now.held place 0 within ∙ rw (newline, add-one) refl)
-      ∙ sym (append_assoc (take place now.held) (10 ∷ []) (drop (place + 1) now.held)) in
+    sym (take-append-drop place now.held)
+    ∙ ap (λ (rest : List ℕ). take place now.held ++ rest) (drop-cons now.held place 0 within ∙ rw (newline, add-one) refl)
+    ∙ sym (append_assoc (take place now.held) (10 ∷ []) (drop (place + 1) now.held)) in
     let taken_off : Consumes (to_come old) (to_come new) (way.front ++ (take place now.held ++ 10 ∷ [])) =
-      Consumes-chain (to_come old) (to_come now) (to_come new) way.front (take place now.held ++ 10 ∷ []) way.follows
-        (rw (held, unread) (Consumes-held now.unread now.held (take place now.held ++ 10 ∷ []) (drop (place + 1) now.held) split)) in
+    Consumes-chain (to_come old) (to_come now) (to_come new) way.front (take place now.held ++ 10 ∷ []) way.follows
+    (rw (held, unread) (Consumes-held now.unread now.held (take place now.held ++ 10 ∷ []) (drop (place + 1) now.held) split)) in
     Known-from (to_come old) (to_come new) _ (λ bytes rest. TakesFrom bytes taken new.line rest) taken_off (λ bytes rest _ _ whole.
-      rw is (ended bytes text new.line rest (skipped + place)
-        (record {
-          unbroken = All-append (λ byte. is_newline byte ≡ false) way.front (take place now.held) way.unbroken unbroken;
-          whole = whole ∙ simp append_assoc;
-        })
-        long
-        (λ few. let none : length way.front ≡ 0 = ⊎_elim (λ (some : 0 < skipped). absurd (omega (arith, many some, few))) (λ (no : skipped ≤ 0). omega (arith, way.long)) (cases_lt 0 skipped) in
-          rw (line, nil_from_length way.front none) refl)))
+    rw is (ended bytes text new.line rest (skipped + place)
+    (record {
+      unbroken = All-append (λ byte. is_newline byte ≡ false) way.front (take place now.held) way.unbroken unbroken;
+      whole = whole ∙ simp append_assoc;
+    })
+    long
+    (λ few. let none : length way.front ≡ 0 = ⊎_elim (λ (some : 0 < skipped). absurd (omega (arith, many some, few))) (λ (no : skipped ≤ 0). omega (arith, way.long)) (cases_lt 0 skipped) in
+    rw (line, nil_from_length way.front none) refl)))
 
 -- nothing but bytes of the line so far
 pub Takes-too_many : (old now : Source) (skipped count : ℕ) → OnTheWay old skipped now → IsUnbroken now.held → count ≤ skipped + length now.held
     → Known (to_come old) (to_come now) (λ bytes rest. BeginsUnbroken bytes count)
 Takes-too_many old now skipped count way held many =
     Known-from (to_come old) (to_come now) way.front (λ bytes rest. BeginsUnbroken bytes count) way.follows (λ bytes rest _ known whole.
-      elim now.unread as (λ u. prepend_known now.held u ≡ Some rest → BeginsUnbroken bytes count) [
-        None ↦ λ same. absurd (none-some rest same)
+    elim now.unread as (λ u. prepend_known now.held u ≡ Some rest → BeginsUnbroken bytes count) [
+      | None ↦ λ same. absurd (none-some rest same)
       | Some unread ↦ λ same.
-          let held_first : now.held ++ unread ≡ rest = same_Some (now.held ++ unread) rest same in
-          (way.front ++ now.held, unread, All-append (λ byte. is_newline byte ≡ false) way.front now.held way.unbroken held,
+          let held_first : now.held ++ unread ≡ rest = same_Some (now.held ++ unread) rest same in (
+            way.front ++ now.held,
+            unread,
+            All-append (λ byte. is_newline byte ≡ false) way.front now.held way.unbroken held,
             whole ∙ ap (λ (more : List ℕ). way.front ++ more) (sym held_first) ∙ sym (append_assoc way.front now.held unread),
-            rw length-append (omega (arith, way.long)))
-      ] known)
+            rw length-append (omega (arith, way.long)),
+          )
+    ] known)
 
 -- the end of the input: what is held is the last of it
 Known-end : (a before after : Option (List ℕ)) (held front : List ℕ) (P : List ℕ → List ℕ → Type 0) → Consumes a (prepend_known held before) front
@@ -196,21 +199,24 @@ Known-end (Some xs) (Some ys) (Some zs) held front P taken kept end each =
     rw last (each xs all)
 
 pub Takes-cut : (old now new : Source) (skipped : ℕ) → OnTheWay old skipped now → IsUnbroken now.held → Fills now Empty new
-    → 0 < skipped + length now.held → skipped + length now.held ≤ byte_limit → Takes old Cut new
+    → 0 < skipped + length now.held → skipped + length now.held ≤ byte_limit → Takes old (Over CutLine) new
 Takes-cut old now new skipped way held filled some few =
-    rw filled.0 (Known-end (to_come old) now.unread new.unread now.held way.front (λ bytes rest. TakesFrom bytes Cut new.line rest) way.follows filled.1 filled.2 (λ bytes all.
-      rw all (All-append (λ byte. is_newline byte ≡ false) way.front now.held way.unbroken held,
-        rw length-append (omega (arith, way.long)), rw length-append (omega (arith, way.long)))))
+    rw filled.0 (Known-end (to_come old) now.unread new.unread now.held way.front (λ bytes rest. TakesFrom bytes (Over CutLine) new.line rest) way.follows filled.1 filled.2 (λ bytes all.
+    rw all (
+      All-append (λ byte. is_newline byte ≡ false) way.front now.held way.unbroken held,
+      rw length-append (omega (arith, way.long)),
+      rw length-append (omega (arith, way.long)),
+    )))
 
-pub Takes-end : (old now new : Source) (skipped : ℕ) → OnTheWay old skipped now → Fills now Empty new → skipped + length now.held ≡ 0 → Takes old End new
+pub Takes-end : (old now new : Source) (skipped : ℕ) → OnTheWay old skipped now → Fills now Empty new → skipped + length now.held ≡ 0 → Takes old (Over InputEnded) new
 Takes-end old now new skipped way filled none =
     let no_front : way.front ≡ [] = nil_from_length way.front (omega (arith, way.long)) in
     let no_held : now.held ≡ [] = nil_from_length now.held (omega arith) in
-    rw filled.0 (Known-end (to_come old) now.unread new.unread now.held way.front (λ bytes rest. TakesFrom bytes End new.line rest) way.follows filled.1 filled.2 (λ bytes all.
-      (all ∙ rw (no_front, no_held) refl, no_held)))
+    rw filled.0 (Known-end (to_come old) now.unread new.unread now.held way.front (λ bytes rest. TakesFrom bytes (Over InputEnded) new.line rest) way.follows filled.1 filled.2 (λ bytes all.
+    (all ∙ rw (no_front, no_held) refl, no_held)))
 
-pub Takes-failed : (old now new : Source) (skipped : ℕ) → OnTheWay old skipped now → Fills now Broken new → Takes old Failed new
+pub Takes-failed : (old now new : Source) (skipped : ℕ) → OnTheWay old skipped now → Fills now Broken new → Takes old (Over ReaderFailed) new
 Takes-failed old now new skipped way filled =
-    Known-from (to_come old) (to_come new) (way.front ++ []) (λ bytes rest. TakesFrom bytes Failed new.line rest)
-      (Consumes-chain (to_come old) (to_come now) (to_come new) way.front [] way.follows (rw filled.0 (Consumes-kept now.unread new.unread now.held filled.1)))
-      (λ _ _ _ _ _. tt)
+    Known-from (to_come old) (to_come new) (way.front ++ []) (λ bytes rest. TakesFrom bytes (Over ReaderFailed) new.line rest)
+    (Consumes-chain (to_come old) (to_come now) (to_come new) way.front [] way.follows (rw filled.0 (Consumes-kept now.unread new.unread now.held filled.1)))
+    (λ _ _ _ _ _. tt)

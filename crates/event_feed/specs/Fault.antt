@@ -1,8 +1,11 @@
--- The names of the faults of a feed, as reports print them.
-use Rattle.std.specs.Prelude.{ℕ, List, codes}
+-- The faults of a feed.
+use Rattle.std.specs.Prelude.{ℕ, Bool, true, false, List, codes, Option, None, Some}
 use Rattle.event_feed.specs.declared.fault.FeedFault.{FeedFault}
+use Rattle.event_feed.specs.declared.fault.Stop.{Stop}
+use Rattle.event_feed.specs.declared.fault.Stop.TheVariants.{InputEnded, CutLine, ReaderFailed, TooManyCalls, TooManyBytes, TooManyLines}
 use Rattle.event_feed.specs.declared.fault.FeedFault.TheVariants.{BadStamp, UnknownKind, UnknownObject, BadState, LineTooLong, NotUtf8, Cut, Read, NoMemory, Ended}
 
+-- the name, as reports print it
 abbrev pub fault_name : FeedFault → List ℕ
 fault_name BadStamp = codes "BadStamp"
 fault_name UnknownKind = codes "UnknownKind"
@@ -14,3 +17,25 @@ fault_name Cut = codes "Cut"
 fault_name Read = codes "Read"
 fault_name NoMemory = codes "NoMemory"
 fault_name Ended = codes "Ended"
+
+-- the faults of a line that is read over: the feed goes on behind it
+abbrev pub is_line_fault : FeedFault → Bool
+is_line_fault BadStamp = true
+is_line_fault UnknownKind = true
+is_line_fault UnknownObject = true
+is_line_fault BadState = true
+is_line_fault LineTooLong = true
+is_line_fault NotUtf8 = true
+is_line_fault Cut = false
+is_line_fault Read = false
+is_line_fault NoMemory = false
+is_line_fault Ended = false
+
+-- the fault that a stop is reported as
+abbrev pub stop_fault : Stop → Option FeedFault
+stop_fault InputEnded = None
+stop_fault CutLine = Some Cut
+stop_fault ReaderFailed = Some Read
+stop_fault TooManyCalls = Some Read
+stop_fault TooManyBytes = Some Read
+stop_fault TooManyLines = Some Read

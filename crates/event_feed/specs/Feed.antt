@@ -1,15 +1,21 @@
 -- A feed: its lines in order, numbered from 1, and what each answers.
-use Rattle.std.specs.Prelude.{◌≡◌, ℕ, ◌+◌, ◌<◌, ◌≤◌, ◌^◌, max, Bool, true, false, ◌||◌, ◌==◌, if◌then◌else◌, nat_lt, nat_le, List, [], ◌∷◌, length, take_while, ⊤, Option, Some, None, Result, Ok, Err}
+use Rattle.std.specs.Prelude.{◌≡◌, ℕ, ◌+◌, ◌<◌, ◌≤◌, ◌^◌, max, Bool, ◌||◌, ◌==◌, if◌then◌else◌, nat_lt, nat_le, List, [], ◌∷◌, length, take_while, IsTrue, IsSome, is_some, ⊤, Option, Some, None, Result, Ok, Err}
+use Rattle.std.specs.List.{list_any}
+use Rattle.due_model.specs.Accepted.{IsProper}
+use Rattle.due_model.specs.declared.config.Config.{Config}
 use Rattle.due_model.specs.declared.config.Object.{Object}
 use Rattle.due_model.specs.declared.event.Event.{Event}
 use Rattle.event_feed.specs.declared.fault.FeedFault.{FeedFault}
-use Rattle.event_feed.specs.declared.fault.FeedFault.TheVariants.{BadStamp, UnknownKind, UnknownObject, BadState, LineTooLong, NotUtf8, Cut, Read, NoMemory, Ended}
+use Rattle.event_feed.specs.declared.fault.FeedFault.TheVariants.{LineTooLong, Cut, Read}
 use Rattle.event_feed.specs.declared.fault.LineFault.{LineFault}
 use Rattle.event_feed.specs.declared.fault.Stop.{Stop}
 use Rattle.event_feed.specs.declared.fault.Stop.TheVariants.{InputEnded, CutLine, ReaderFailed, TooManyCalls, TooManyBytes, TooManyLines}
+use Rattle.event_feed.specs.Fault.{is_line_fault, stop_fault}
 use Rattle.event_feed.specs.Line.{line_reading}
 use Rattle.event_feed.specs.Lines.{pieces, Known}
-use Rattle.event_feed.specs.Source.{byte_limit, call_limit, BeginsUnbroken}
+use Rattle.event_feed.specs.Source.{Source, byte_limit, call_limit, to_come}
+use Rattle.event_feed.specs.declared.source.Taken.{Taken}
+use Rattle.event_feed.specs.declared.source.Taken.TheVariants.{Line, Long, Over}
 
 -- what one line answers: its number, and an event or a fault
 pub record Answer : Type 0 where
@@ -52,7 +58,7 @@ answers objects taken last (text ∷ next ∷ more) =
     if is_stopped taken text then record { line = taken + 1; given = Err Read } ∷ []
     else if length text == 0 then answers objects (taken + 1) last (next ∷ more)
     else record { line = taken + 1; given = text_reading objects last text }
-      ∷ answers objects (taken + 1) (moment_after last (text_reading objects last text)) (next ∷ more)
+    ∷ answers objects (taken + 1) (moment_after last (text_reading objects last text)) (next ∷ more)
 
 -- A feed that is being read: the bytes to come, where they are known; the number of the last line taken; the
 -- last moment; why it is over, if it is.
@@ -64,11 +70,7 @@ pub record Feed : Type 0 where
 
 -- what the feed answers from here on, given the bytes to come
 abbrev pub answers_from : List Object → Feed → List ℕ → List Answer
-answers_from objects feed bytes = when_open feed.stop
-  where
-    when_open : Option Stop → List Answer
-    when_open None = answers objects feed.line feed.last (pieces bytes)
-    when_open (Some stop) = []
+answers_from objects feed bytes = if is_some feed.stop then [] else answers objects feed.line feed.last (pieces bytes)
 
 -- where the bytes are known, the answer is the next, and the feed goes on behind it
 abbrev pub AnswersNext : List Object → Feed → Answer → Feed → Type 0
@@ -79,7 +81,92 @@ AnswersNext objects old answer new =
 abbrev pub AnswersNone : List Object → Feed → Feed → Type 0
 AnswersNone objects old new = Known old.bytes new.bytes (λ bytes rest. answers_from objects old bytes ≡ [])
 
+-- no answer is of a line before this one
+abbrev pub AreFromLine : ℕ → List Answer → Type 0
+AreFromLine line given = take_while (λ answer. nat_lt answer.line line) given ≡ []
+
 -- where the bytes are known, no answer to come is of a line before this one
-abbrev pub AnswersFrom : List Object → Feed → ℕ → Feed → Type 0
-AnswersFrom objects old line new =
-    Known old.bytes new.bytes (λ bytes rest. take_while (λ answer. nat_lt answer.line line) (answers_from objects old bytes) ≡ [])
+abbrev pub AnswersLater : List Object → Feed → ℕ → Feed → Type 0
+AnswersLater objects old line new = Known old.bytes new.bytes (λ bytes rest. AreFromLine line (answers_from objects old bytes))
+
+-- a piece of so many bytes is among these
+abbrev pub HasLine : ℕ → List (List ℕ) → Type 0
+HasLine count texts = IsTrue (list_any (λ text. nat_le count (length text)) texts)
+
+-- What a fault says of a feed whose bytes are known. A line that is read over, a cut and a limit on bytes or
+-- lines are the next answer of the feed. Where the reader failed or took too many calls, which the bytes
+-- don't tell, the feed ends before the answers of that line; too many calls come only in a line of as many
+-- bytes.
+abbrev pub FaultAnswers : List Object → Feed → LineFault → Option Stop → Feed → Type 0
+FaultAnswers objects old fault None new = AnswersNext objects old (record { line = fault.line; given = Err fault.fault }) new
+FaultAnswers objects old fault (Some InputEnded) new = ⊥
+FaultAnswers objects old fault (Some CutLine) new = AnswersNext objects old (record { line = fault.line; given = Err fault.fault }) new
+FaultAnswers objects old fault (Some ReaderFailed) new = AnswersLater objects old fault.line new
+FaultAnswers objects old fault (Some TooManyCalls) new =
+    AnswersLater objects old fault.line new × Known old.bytes new.bytes (λ bytes rest. HasLine call_limit (pieces bytes))
+FaultAnswers objects old fault (Some TooManyBytes) new = AnswersNext objects old (record { line = fault.line; given = Err fault.fault }) new
+FaultAnswers objects old fault (Some TooManyLines) new = AnswersNext objects old (record { line = fault.line; given = Err fault.fault }) new
+
+-- which faults come with which stop: Cut and Read with theirs, the faults of a line with none, and want of
+-- memory and the end of the numbers never
+abbrev pub FaultFits : FeedFault → Option Stop → Type 0
+FaultFits fault None = IsTrue (is_line_fault fault)
+FaultFits fault (Some stop) = stop_fault stop ≡ Some fault
+
+-- the feed gives an event: proper, its moment no earlier than the last
+pub record GivesEvent (c : Config) (old : Feed) (event : Event) (new : Feed) : Type 0 where
+  pub answers : AnswersNext c.objects old (record { line = new.line; given = Ok event }) new
+  pub proper : IsProper c event
+  pub later : old.last ≤ event.moment
+  pub last : new.last ≡ event.moment
+  pub line : old.line < new.line
+  pub goes_on : new.stop ≡ None
+
+-- the feed is over
+pub record GivesNone (objects : List Object) (old new : Feed) : Type 0 where
+  pub answers : AnswersNone objects old new
+  pub last : new.last ≡ old.last
+  pub line : old.line ≤ new.line
+  pub over : IsSome new.stop
+
+-- a line, the last one taken, gives no event
+pub record GivesFault (objects : List Object) (old : Feed) (fault : LineFault) (new : Feed) : Type 0 where
+  pub answers : FaultAnswers objects old fault new.stop new
+  pub fits : FaultFits fault.fault new.stop
+  pub number : fault.line ≡ new.line
+  pub last : new.last ≡ old.last
+  pub line : old.line < new.line
+
+-- ---- one line of the feed: what it makes of the answers, given what was taken, the line's number and the rest
+
+abbrev pub LineAnswers : List Object → ℕ → Taken → List ℕ → ℕ → List ℕ → List Answer → Type 0
+LineAnswers objects last Line text line rest all =
+    all ≡ record { line = line; given = text_reading objects last text }
+    ∷ answers objects line (moment_after last (text_reading objects last text)) (pieces rest)
+LineAnswers objects last Long text line rest all =
+    all ≡ record { line = line; given = Err LineTooLong } ∷ answers objects line last (pieces rest)
+LineAnswers objects last (Over InputEnded) text line rest all = all ≡ []
+LineAnswers objects last (Over CutLine) text line rest all = all ≡ record { line = line; given = Err Cut } ∷ []
+LineAnswers objects last (Over ReaderFailed) text line rest all = AreFromLine line all
+LineAnswers objects last (Over TooManyCalls) text line rest all = AreFromLine line all
+LineAnswers objects last (Over TooManyBytes) text line rest all = all ≡ record { line = line; given = Err Read } ∷ []
+LineAnswers objects last (Over TooManyLines) text line rest all = all ≡ record { line = line; given = Err Read } ∷ []
+
+-- too many calls come only in a line of as many bytes
+abbrev pub CallsFit : Taken → List ℕ → Type 0
+CallsFit (Over TooManyCalls) bytes = HasLine call_limit (pieces bytes)
+CallsFit taken bytes = ⊤
+
+-- going to the next line that isn't empty
+abbrev pub GoesToLine : Source → ℕ → Taken → Source → ℕ → Type 0
+GoesToLine old from taken new line =
+    Known (to_come old) (to_come new) (λ bytes rest.
+    ((objects : List Object) (last : ℕ) → LineAnswers objects last taken new.line line rest (answers objects from last (pieces bytes)))
+    × CallsFit taken bytes)
+
+-- how the line's number grows
+abbrev pub CountsLine : ℕ → Taken → ℕ → Type 0
+CountsLine from (Over InputEnded) line = (from ≤ line) × (line ≤ feed_limit)
+CountsLine from (Over stop) line = (from < line) × (line ≤ feed_limit + 1)
+CountsLine from Line line = (from < line) × (line ≤ feed_limit)
+CountsLine from Long line = (from < line) × (line ≤ feed_limit)

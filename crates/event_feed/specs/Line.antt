@@ -1,5 +1,5 @@
 -- A line of the feed, in the shape of chapter "External Commands": `[stamp] NAME;argument;argument`.
-use Rattle.std.specs.Prelude.{ℕ, ◌+◌, ◌-◌, Bool, true, false, not, ◌&&◌, if◌then◌else◌, nat_lt, nat_le, List, [], ◌∷◌, length, map, take, take_while, drop, codes, Option, None, Some, Result, Ok, Err, ◌==◌}
+use Rattle.std.specs.Prelude.{ℕ, ◌-◌, Bool, true, false, not, ◌&&◌, if◌then◌else◌, nat_lt, nat_le, List, [], ◌∷◌, length, map, take, take_while, drop, codes, Option, None, Some, Result, Ok, Err, ◌==◌}
 use Rattle.std.specs.Char.{is_ascii_digit}
 use Rattle.std.specs.Int.Digits.{number_from_digits}
 use Rattle.std.specs.List.{slice_split}
@@ -47,7 +47,7 @@ stamp_number digits = number_from_digits 10 (map (λ digit. digit - 48) digits)
 abbrev pub stamp_of : List ℕ → Option ℕ
 stamp_of line =
     if is_stamp_shaped line && nat_le (stamp_number (stamp_digits line)) last_moment
-      then Some (stamp_number (stamp_digits line)) else None
+    then Some (stamp_number (stamp_digits line)) else None
 
 -- ---- the command: a name, and its arguments, each behind a `;`
 

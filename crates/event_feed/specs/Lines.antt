@@ -1,5 +1,5 @@
 -- Bytes as lines: each line ends at a newline.
-use Rattle.std.specs.Prelude.{◌≡◌, ℕ, ◌*◌, Bool, false, List, All, ◌==◌, ⊤, Option, None, Some}
+use Rattle.std.specs.Prelude.{◌≡◌, ℕ, Bool, false, List, All, ◌==◌, ⊤, Option, None, Some}
 use Rattle.std.specs.List.{slice_split}
 
 abbrev pub is_newline : ℕ → Bool

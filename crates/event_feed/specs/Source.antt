@@ -6,7 +6,8 @@ use Rattle.event_feed.specs.Lines.{IsUnbroken, Known}
 use Rattle.event_feed.specs.declared.source.Filled.{Filled}
 use Rattle.event_feed.specs.declared.source.Filled.TheVariants.{More, Empty, Broken}
 use Rattle.event_feed.specs.declared.source.Taken.{Taken}
-use Rattle.event_feed.specs.declared.source.Taken.TheVariants.{Line, Long, Cut, End, Failed, TooManyCalls, TooManyBytes}
+use Rattle.event_feed.specs.declared.source.Taken.TheVariants.{Line, Long, Over}
+use Rattle.event_feed.specs.declared.fault.Stop.TheVariants.{InputEnded, CutLine, ReaderFailed, TooManyCalls, TooManyBytes, TooManyLines}
 
 -- the line that was taken last, what was read and not yet taken, and what the reader still has
 pub record Source : Type 0 where
@@ -37,11 +38,12 @@ BeginsUnbroken bytes count = (text : List ℕ) × (more : List ℕ) × IsUnbroke
 abbrev pub TakesFrom : List ℕ → Taken → List ℕ → List ℕ → Type 0
 TakesFrom bytes Line line rest = BeginsWithLine bytes line rest × (length line ≤ line_limit)
 TakesFrom bytes Long line rest = (text : List ℕ) × BeginsWithLine bytes text rest × (line_limit < length text) × (length text ≤ byte_limit)
-TakesFrom bytes Cut line rest = IsUnbroken bytes × (0 < length bytes) × (length bytes ≤ byte_limit)
-TakesFrom bytes End line rest = (bytes ≡ []) × (rest ≡ [])
-TakesFrom bytes Failed line rest = ⊤
-TakesFrom bytes TooManyCalls line rest = BeginsUnbroken bytes call_limit
-TakesFrom bytes TooManyBytes line rest = BeginsUnbroken bytes (byte_limit + 1)
+TakesFrom bytes (Over CutLine) line rest = IsUnbroken bytes × (0 < length bytes) × (length bytes ≤ byte_limit)
+TakesFrom bytes (Over InputEnded) line rest = (bytes ≡ []) × (rest ≡ [])
+TakesFrom bytes (Over ReaderFailed) line rest = ⊤
+TakesFrom bytes (Over TooManyCalls) line rest = BeginsUnbroken bytes call_limit
+TakesFrom bytes (Over TooManyBytes) line rest = BeginsUnbroken bytes (byte_limit + 1)
+TakesFrom bytes (Over TooManyLines) line rest = ⊥
 
 -- what taking a line says of the bytes before and after, where they are known
 abbrev pub Takes : Source → Taken → Source → Type 0
@@ -49,7 +51,7 @@ Takes old taken new = Known (to_come old) (to_come new) (λ bytes rest. TakesFro
 
 -- how a line of so many bytes with its newline is taken
 abbrev pub ending : ℕ → Taken
-ending count = if nat_lt byte_limit count then TooManyBytes else if nat_lt line_limit count then Long else Line
+ending count = if nat_lt byte_limit count then Over TooManyBytes else if nat_lt line_limit count then Long else Line
 
 -- what a read adds: some bytes that the reader had, or none at its end, or none where it failed
 abbrev pub Fills : Source → Filled → Source → Type 0

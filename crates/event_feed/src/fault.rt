@@ -1,7 +1,7 @@
 //! Why a line of the feed gives no event.
 
 ghost use Rattle.std.specs.Prelude.{◌≡◌, Some};
-ghost use Rattle.event_feed.specs.Fault.{fault_name};
+ghost use Rattle.event_feed.specs.Fault.{fault_name, stop_fault};
 
 use std::fmt;
 
@@ -81,4 +81,18 @@ pub enum Stop {
     TooManyBytes,
     /// 2^33 lines were taken.
     TooManyLines,
+}
+
+impl Stop {
+    /// The fault that a report notes: none where the input ended behind a whole line.
+    pub fn fault(self) -> Option<FeedFault>
+        ensures { result ≡ stop_fault self }
+    {
+        match self {
+            Stop::InputEnded => None,
+            Stop::CutLine => Some(FeedFault::Cut),
+            Stop::ReaderFailed | Stop::TooManyCalls | Stop::TooManyBytes | Stop::TooManyLines =>
+                Some(FeedFault::Read),
+        }
+    }
 }

@@ -3,8 +3,10 @@
 #![tactic(auto)]
 
 pub mod fault;
+pub mod feeder;
 pub mod line;
 mod source;
 
-pub use fault::{FeedFault, LineFault};
+pub use fault::{FeedFault, LineFault, Stop};
+pub use feeder::Feeder;
 pub use line::read_line;

@@ -1,10 +1,10 @@
 //! One line of the feed.
 
-ghost use Rattle.std.specs.Prelude.{◌≡◌, ◌≤◌, ◌∷◌, ◌==◌, Some, None, IfSome, nat_le, length, take_while, if◌then◌else◌};
+ghost use Rattle.std.specs.Prelude.{◌≡◌, ◌≤◌, ◌∷◌, ◌==◌, Some, None, IfOk, IfSome, nat_le, length, take_while, if◌then◌else◌};
 ghost use Rattle.std.specs.Option.{option_copied, option_map};
 ghost use Rattle.std.specs.List.{position_or_len};
 ghost use Rattle.std.specs.Str.{is_utf8};
-ghost use Rattle.due_model.specs.Accepted.{last_moment};
+ghost use Rattle.due_model.specs.Accepted.{IsProper, last_moment};
 ghost use Rattle.std.specs.Char.{is_ascii_digit};
 ghost use Rattle.event_feed.specs.Line.{bare_reading, command_named, command_of, command_reading, fields, fields_after, host_state_named, host_state_reading, line_reading, stamp_number, stamp_of, state_reading};
 
@@ -34,7 +34,8 @@ pub enum Command {
 /// NotUtf8, BadStamp, UnknownKind, BadState for a wrong number of arguments, UnknownObject, BadState
 /// (chapter "External Commands"). It takes no memory, and no more work than the line is long.
 pub fn read_line(config: &Config, line: &[u8]) -> Result<Event, FeedFault>
-    ensures { result ≡ line_reading config.now.objects line.now }
+    ensures reading { result ≡ line_reading config.now.objects line.now }
+    ensures proper { IfOk result (IsProper config.now) }
 {
     if line.len() > LINE_LIMIT {
         return Err(FeedFault::LineTooLong);
@@ -88,7 +89,10 @@ fn read_stamp<'a>(line: &'a [u8]) -> Option<Stamp<'a>>
 fn count_digits(bytes: &[u8]) -> usize
     ensures { result ≡ length (take_while is_ascii_digit bytes.now) }
 {
-    bytes.iter().take_while(|byte| byte.is_ascii_digit()).count()
+    bytes
+        .iter()
+        .take_while(|byte| byte.is_ascii_digit())
+        .count()
 }
 
 /// The number that the digits write, where it is in the range of stamps.
@@ -100,7 +104,11 @@ fn read_number(digits: &[u8]) -> Option<u64>
         let value = u64::from(digit.saturating_sub(b'0'));
         number = (number * 10 + value).min(LAST_MOMENT + 1);
     }
-    if number > LAST_MOMENT { None } else { Some(number) }
+    if number > LAST_MOMENT {
+        None
+    } else {
+        Some(number)
+    }
 }
 
 /// What a command says.

@@ -6,6 +6,7 @@ ghost use Rattle.event_feed.specs.Line.{line_limit};
 ghost use Rattle.event_feed.specs.Lines.{IsUnbroken};
 ghost use Rattle.event_feed.specs.Source.{Fills, MakesRoom, Takes, byte_limit, ending};
 
+use crate::fault::Stop;
 use crate::line::{LINE_LIMIT, find_byte};
 use std::alloc::{AllocError, Global};
 use std::io::{self, Read};
@@ -27,16 +28,8 @@ pub(crate) enum Taken {
     Line,
     /// The line has over 4,096 bytes. It was read over.
     Long,
-    /// The input ended within the line.
-    Cut,
-    /// The input ended, and no line was begun.
-    End,
-    /// The reader failed.
-    Failed,
-    /// The line took 65,536 calls of the reader and isn't at its end.
-    TooManyCalls,
-    /// The line has over 1,048,576 bytes.
-    TooManyBytes,
+    /// There is no line, nor will there be one.
+    Over(Stop),
 }
 
 /// What a read gave.
@@ -70,9 +63,10 @@ impl<R: Read> Model for Source<R> {
     ghost Value = { Seen };
 
     ghost view = { λ s. record {
-        line = slice_range s.buffer.items s.line_start s.line_end;
-        held = slice_range s.buffer.items s.start s.end;
-        unread = R.remaining s.reader } };
+      line = slice_range s.buffer.items s.line_start s.line_end;
+      held = slice_range s.buffer.items s.start s.end;
+      unread = R.remaining s.reader;
+    } };
 
     ghost invariant = { λ s. (s.start ≤ s.end) × (s.end ≤ vec_len s.buffer) × (s.line_start ≤ s.line_end)
         × (s.line_end ≤ vec_len s.buffer) × (vec_len s.buffer ≡ 65536) };
@@ -121,13 +115,15 @@ impl<R: Read + Drop> Source<R> {
         let mut skipped = 0;
         for call in 0..CALL_LIMIT {
             if skipped + self.held_len() > BYTE_LIMIT {
-                return Taken::TooManyBytes;
+                return Taken::Over(Stop::TooManyBytes);
             }
             skipped = self.make_room(skipped);
             match self.fill() {
-                Filled::Empty if skipped + self.held_len() == 0 => return Taken::End,
-                Filled::Empty => return Taken::Cut,
-                Filled::Broken => return Taken::Failed,
+                Filled::Empty if skipped + self.held_len() == 0 => return Taken::Over(
+                    Stop::InputEnded,
+                ),
+                Filled::Empty => return Taken::Over(Stop::CutLine),
+                Filled::Broken => return Taken::Over(Stop::ReaderFailed),
                 Filled::More => {}
             }
             let place = self.find_newline();
@@ -135,7 +131,7 @@ impl<R: Read + Drop> Source<R> {
                 return self.end_line(skipped, place);
             }
         }
-        Taken::TooManyCalls
+        Taken::Over(Stop::TooManyCalls)
     }
 
     /// Ends the line at a newline of what is held, after so many bytes that were skipped.
@@ -151,7 +147,7 @@ impl<R: Read + Drop> Source<R> {
         self.line_end = self.start + place;
         self.start = self.line_end + 1;
         if skipped + place > BYTE_LIMIT {
-            Taken::TooManyBytes
+            Taken::Over(Stop::TooManyBytes)
         } else if skipped + place > LINE_LIMIT {
             Taken::Long
         } else {
@@ -224,12 +220,7 @@ fn move_to_front(buffer: &mut [u8], start: usize, end: usize)
 }
 
 /// Moves a part of the buffer to its front, and reads once into the room behind it.
-fn refill<R: Read>(
-    reader: &mut R,
-    buffer: &mut [u8],
-    start: usize,
-    end: usize,
-) -> io::Result<usize>
+fn refill<R: Read>(reader: &mut R, buffer: &mut [u8], start: usize, end: usize) -> io::Result<usize>
     requires ordered { start ≤ end }
     requires within { end ≤ length buffer.old }
     ensures kept { take (end - start) buffer.new ≡ slice_range buffer.old start end }

@@ -1,4 +1,4 @@
-use Rattle.std.proofs.Common.{◌≡◌, ◌∙◌, ◌+◌, ◌-◌, ◌++◌, ◌<◌, ◌≤◌, List, ℕ, length, take, drop, arith, ap, refl}
+use Rattle.std.proofs.Common.{◌∙◌, ◌+◌, ◌-◌, ◌++◌, ◌≤◌, List, ℕ, length, take, drop, arith, ap}
 use Rattle.std.specs.Prelude.{slice_range}
 use Rattle.event_feed.specs.Source.{Source}
 use Rattle.std.proofs.lemmas.List.{length-take, length-drop}
@@ -12,10 +12,12 @@ returns-in-Ok g c =
     let held = inside.end - inside.start in
     let new = c.refill.new.buffer in
     let count = c.in-Ok.count in
-    let bound : held + count ≤ length new = c.in-Ok.ensures.bound in
-    (take count (drop held new), rw (length-take, length-drop) (omega (arith, c.in-Ok.count-test)),
+    let bound : held + count ≤ length new = c.in-Ok.ensures.bound in (
+      take count (drop held new),
+      rw (length-take, length-drop) (omega (arith, c.in-Ok.count-test)),
       ap (λ (b : List ℕ). slice_range b 0 (held + count)) (written inside.buffer.items new inside.buffer.len (omega arith) inside.buffer.ok.0)
-      ∙ range-filled new held count
-      ∙ ap (λ (front : List ℕ). front ++ take count (drop held new))
+          ∙ range-filled new held count
+          ∙ ap (λ (front : List ℕ). front ++ take count (drop held new))
           (c.in-Ok.ensures.kept ∙ ap (λ (b : List ℕ). slice_range b inside.start inside.end) c.as_mut_slice.ensures.value ∙ ap (λ (source : Source). source.held) c.self.view_is),
-      rw (← c.self.view_is) c.in-Ok.ensures.bytes.0)
+      rw (← c.self.view_is) c.in-Ok.ensures.bytes.0,
+    )
