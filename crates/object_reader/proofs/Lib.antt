@@ -2,4 +2,5 @@ pub mod Lines
 pub mod Utf8
 pub mod Statements
 pub mod Blocks
+pub mod Spelling
 pub mod Grammar
