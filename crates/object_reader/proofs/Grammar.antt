@@ -6,7 +6,7 @@ use Rattle.object_reader.specs.declared.block.BlockKind.{BlockKind}
 use Rattle.object_reader.specs.declared.block.Directive.{Directive}
 use Rattle.object_reader.specs.declared.block.Block.{Block}
 use Rattle.object_reader.specs.declared.fault.LineFault.{LineFault}
-use Rattle.object_reader.specs.declared.fault.LineFault.TheVariants.{NotADefine, NoValue, Unclosed}
+use Rattle.object_reader.specs.declared.fault.LineFault.TheVariants.{NoValue, Unclosed}
 use Rattle.object_reader.specs.declared.fault.ReadFault.{ReadFault}
 use Rattle.object_reader.specs.declared.fault.ReadFault.TheVariants.{AtLine, NoMemory, TooLarge}
 use Rattle.object_reader.specs.Statements.{Statement, statements_from, statements_of, opened, is_close, is_define}

@@ -3,4 +3,5 @@ pub mod Utf8
 pub mod Statements
 pub mod Blocks
 pub mod Spelling
+pub mod Comments
 pub mod Grammar

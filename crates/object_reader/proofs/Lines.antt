@@ -63,9 +63,9 @@ lines_read text (l ∷ ls) (whole, inl (rest, ended, parts, others)) =
     ∙ ap (λ more. l ∷ more) (lines_read rest ls others)
 lines_read text (l ∷ ls) (whole, inr (open_end, some, parts, none)) =
     ap lines_of parts ∙ last l.bytes some whole ∙ ap (λ (e : Bool). let line : Line = record { bytes = l.bytes; ended = e } in line ∷ []) (sym open_end) ∙ ap (λ more. l ∷ more) (sym none) where
-  last : (bytes : List ℕ) → 0 < length bytes → list_all (λ b. not (b == 10)) bytes ≡ true → lines_of bytes ≡ (record { bytes = bytes; ended = false }) ∷ []
-  last [] some h = absurd (omega arith)
-  last (b ∷ bs) some h = lines_of-last b bs h
+      last : (bytes : List ℕ) → 0 < length bytes → list_all (λ b. not (b == 10)) bytes ≡ true → lines_of bytes ≡ (record { bytes = bytes; ended = false }) ∷ []
+      last [] some h = absurd (omega arith)
+      last (b ∷ bs) some h = lines_of-last b bs h
 
 -- and each text is its lines
 before_line : (b : ℕ) (text : List ℕ) (ls : List Line) → (b == 10) ≡ false → AreLines text ls → AreLines (b ∷ text) (onto_first_line b ls)

@@ -1,5 +1,5 @@
 -- How statements are spelled, and how they are taken apart.
-use Rattle.std.proofs.Common.{◌≡◌, ℕ, zero, suc, ◌+◌, ◌<◌, ◌≤◌, Bool, true, false, cond, not, ◌&&◌, ◌||◌, eqb, ◌==◌, if◌then◌else◌, ◌⊎◌, inl, inr, tests, length-append, List, [], ◌∷◌, ◌++◌, length, take, drop, codes, Result, Ok, Err, refl, sym, ap, subst, ◌∙◌, arith, one-add}
+use Rattle.std.proofs.Common.{◌≡◌, ℕ, suc, ◌<◌, Bool, true, false, not, ◌&&◌, ◌||◌, ◌==◌, if◌then◌else◌, ◌⊎◌, inl, inr, tests, length-append, List, [], ◌∷◌, ◌++◌, length, take, drop, codes, Result, Ok, Err, refl, sym, ap, subst, ◌∙◌, arith, one-add}
 use Rattle.std.proofs.lemmas.Bool.{and_parts, and_from}
 use Rattle.std.proofs.lemmas.List.{take-append-drop}
 use Rattle.std.proofs.lemmas.List.Folds.{length-prefix_len}
@@ -18,7 +18,7 @@ use Rattle.object_reader.specs.Spelling.{AreBlanks, IsDefine, IsNameAndValue}
 
 -- a list up to the first element that passes, and from it on
 
-stops : (p : ℕ → Bool) (xs : List ℕ) (y : ℕ) (ys : List ℕ) → list_all (λ b. not (p b)) xs ≡ true → p y ≡ true → position_or_len p (xs ++ y ∷ ys) ≡ length xs
+pub stops : (p : ℕ → Bool) (xs : List ℕ) (y : ℕ) (ys : List ℕ) → list_all (λ b. not (p b)) xs ≡ true → p y ≡ true → position_or_len p (xs ++ y ∷ ys) ≡ length xs
 stops p [] y ys h e = rw e refl
 stops p (x ∷ xs) y ys h e =
     let parts = and_parts (not (p x)) (list_all (λ b. not (p b)) xs) h in
@@ -27,7 +27,7 @@ stops p (x ∷ xs) y ys h e =
     rw (none, one-add) (ap suc more)
 
 -- what stands before it doesn't pass
-before_fails : (p : ℕ → Bool) (xs : List ℕ) → list_all (λ b. not (p b)) (before_first p xs) ≡ true
+pub before_fails : (p : ℕ → Bool) (xs : List ℕ) → list_all (λ b. not (p b)) (before_first p xs) ≡ true
 before_fails p [] = refl
 before_fails p (x ∷ xs) = at_head (before_fails p xs) (p x) refl where
   at_head : list_all (λ b. not (p b)) (before_first p xs) ≡ true → (t : Bool) → p x ≡ t → list_all (λ b. not (p b)) (before_first p (x ∷ xs)) ≡ true
@@ -35,13 +35,13 @@ before_fails p (x ∷ xs) = at_head (before_fails p xs) (p x) refl where
   at_head h false e = rw (e, one-add) (rw e h)
 
 -- the rest begins with an element that passes
-record BeginsWith (p : ℕ → Bool) (xs : List ℕ) : Type 0 where
-  first : ℕ
-  others : List ℕ
-  is : xs ≡ first ∷ others
-  passes : p first ≡ true
+pub record BeginsWith (p : ℕ → Bool) (xs : List ℕ) : Type 0 where
+  pub first : ℕ
+  pub others : List ℕ
+  pub is : xs ≡ first ∷ others
+  pub passes : p first ≡ true
 
-rest_begins : (p : ℕ → Bool) (xs : List ℕ) → 0 < length (drop (position_or_len p xs) xs) → BeginsWith p (drop (position_or_len p xs) xs)
+pub rest_begins : (p : ℕ → Bool) (xs : List ℕ) → 0 < length (drop (position_or_len p xs) xs) → BeginsWith p (drop (position_or_len p xs) xs)
 rest_begins p [] h = absurd (omega arith)
 rest_begins p (x ∷ xs) h = at_head (rest_begins p xs) (p x) refl where
   at_head : (0 < length (drop (position_or_len p xs) xs) → BeginsWith p (drop (position_or_len p xs) xs)) → (t : Bool) → p x ≡ t
@@ -54,16 +54,16 @@ front_and_rest : (p : ℕ → Bool) (xs : List ℕ) → xs ≡ before_first p xs
 front_and_rest p xs = rw (length-prefix_len (λ b. not (p b)) xs) (sym (take-append-drop (position_or_len p xs) xs))
 
 -- bytes of which none is a mark are blanks
-blanks_from : (xs : List ℕ) → list_all (λ b. not (not (is_blank b))) xs ≡ true → AreBlanks xs
+pub blanks_from : (xs : List ℕ) → list_all (λ b. not (not (is_blank b))) xs ≡ true → AreBlanks xs
 blanks_from [] h = refl
 blanks_from (x ∷ xs) h =
     let parts = and_parts (not (not (is_blank x))) (list_all (λ b. not (not (is_blank b))) xs) h in
     and_from (is_blank x) (list_all is_blank xs) (double (is_blank x) parts.0) (blanks_from xs parts.1) where
-  double : (t : Bool) → not (not t) ≡ true → t ≡ true
-  double true e = refl
-  double false e = e
+      double : (t : Bool) → not (not t) ≡ true → t ≡ true
+      double true e = refl
+      double false e = e
 
-blanks_to : (xs : List ℕ) → AreBlanks xs → list_all (λ b. not (not (is_blank b))) xs ≡ true
+pub blanks_to : (xs : List ℕ) → AreBlanks xs → list_all (λ b. not (not (is_blank b))) xs ≡ true
 blanks_to [] h = refl
 blanks_to (x ∷ xs) h =
     let parts = and_parts (is_blank x) (list_all is_blank xs) h in
@@ -71,7 +71,7 @@ blanks_to (x ∷ xs) h =
     rw (blank, blanks_to xs parts.1) refl
 
 -- blanks before a mark are trimmed
-trimmed : (blanks : List ℕ) (y : ℕ) (ys : List ℕ) → AreBlanks blanks → is_blank y ≡ false → trim_start (blanks ++ y ∷ ys) ≡ y ∷ ys
+pub trimmed : (blanks : List ℕ) (y : ℕ) (ys : List ℕ) → AreBlanks blanks → is_blank y ≡ false → trim_start (blanks ++ y ∷ ys) ≡ y ∷ ys
 trimmed blanks y ys h e =
     let mark : not (is_blank y) ≡ true = rw e refl in
     rw (stops (λ b. not (is_blank b)) blanks y ys (blanks_to blanks h) mark) (drop-append_seam blanks (y ∷ ys))
@@ -97,7 +97,7 @@ after_first_word word blanks z zs h blank some mark =
 blank_taken : (y : ℕ) (ys : List ℕ) → is_blank y ≡ true → 0 < length (before_first (λ b. not (is_blank b)) (y ∷ ys))
 blank_taken y ys e = rw (e, one-add) (omega arith)
 
-not_mark : (t : Bool) → not t ≡ true → t ≡ false
+pub not_mark : (t : Bool) → not t ≡ true → t ≡ false
 not_mark true e = sym e
 not_mark false e = refl
 
@@ -150,7 +150,7 @@ directive_spelled s d h =
     let w : first_word s ≡ d.name = ap first_word spelled ∙ taken.0 in
     let v : after_word s ≡ h.first ∷ h.others = ap after_word spelled ∙ taken.1 in
     ap (λ n. directive_made n (after_word s)) w ∙ ap (directive_made d.name) v ∙ some_value d.name h.first h.others
-      ∙ ap (λ (value : List ℕ). Ok (let made : Directive = record { name = d.name; value = value } in made)) (sym h.value)
+    ∙ ap (λ (value : List ℕ). Ok (let made : Directive = record { name = d.name; value = value } in made)) (sym h.value)
 
 directive_cases : (s : List ℕ) (t : Bool) → (length (after_word s) == 0) ≡ t → ((d : Directive) × (directive_of s ≡ Ok d) × IsNameAndValue s d) ⊎ (directive_of s ≡ Err NoValue)
 unfolding directive_of
@@ -158,8 +158,21 @@ directive_cases s true e = inr (rw e refl)
 directive_cases s false e =
     let some : 0 < length (after_word s) = grind (arith, tests) in
     let h = apart s some in
-    inl (record { name = first_word s; value = after_word s }, rw e refl, record {
-      between = h.between; first = h.first; others = h.others; parts = h.parts; word = h.word; blank = h.blank; some_blank = h.some_blank; value = h.rest; begins = h.begins })
+    inl (
+      record { name = first_word s; value = after_word s },
+      rw e refl,
+      record {
+        between = h.between;
+        first = h.first;
+        others = h.others;
+        parts = h.parts;
+        word = h.word;
+        blank = h.blank;
+        some_blank = h.some_blank;
+        value = h.rest;
+        begins = h.begins;
+      },
+    )
 
 -- what is taken for a directive is spelled so
 pub directive_taken : (s : List ℕ) (d : Directive) → directive_of s ≡ Ok d → IsNameAndValue s d
@@ -254,9 +267,14 @@ kind_of-never : (name : List ℕ) → kind_of name ≡ Err NotADefine → ⊥
 unfolding kind_of
 kind_of-never name e = no_such_kind _ _ _ _ e
 
+define_parts : (s word between rest name tail after : List ℕ) → s ≡ word ++ (between ++ rest) → word ≡ codes "define" → rest ≡ name ++ tail → tail ≡ after ++ codes "{"
+    → s ≡ codes "define" ++ (between ++ (name ++ (after ++ codes "{")))
+define_parts s word between rest name tail after whole word_is rest_is tail_is =
+    whole ∙ ap (λ w. w ++ (between ++ rest)) word_is ∙ ap (λ r. codes "define" ++ (between ++ r)) (rest_is ∙ ap (λ t. name ++ t) tail_is)
+
 opened_cases : (s : List ℕ) (t : Bool)
     → (bytes_eq (first_word s) (codes "define") && not (length (before_first ends_type (after_word s)) == 0)
-      && bytes_eq (trim_start (drop (length (before_first ends_type (after_word s))) (after_word s))) (codes "{")) ≡ t
+    && bytes_eq (trim_start (drop (length (before_first ends_type (after_word s))) (after_word s))) (codes "{")) ≡ t
     → ((name : List ℕ) × IsDefine s name × (opened s ≡ kind_of name)) ⊎ (opened s ≡ Err NotADefine)
 unfolding opened
 opened_cases s false e = inr (rw e refl)
@@ -275,16 +293,20 @@ opened_cases s true e =
     let rest_some : 0 < length rest = omega (arith, ap length split, length-append name tail) in
     let h = apart s rest_some in
     let after : tail ≡ before_first mark tail ++ codes "{" = sym (take-append-drop (position_or_len mark tail) tail) ∙ ap (λ b. before_first mark tail ++ b) brace in
-    inl (name, record {
-      before = h.between;
-      after = before_first mark tail;
-      parts = h.parts ∙ ap (λ w. w ++ (h.between ++ rest)) word ∙ ap (λ r. codes "define" ++ (h.between ++ r)) (split ∙ ap (λ t. name ++ t) after);
-      before_blank = h.blank;
-      some_blank = h.some_blank;
-      type_bytes = before_fails ends_type rest;
-      some_type = some;
-      after_blank = blanks_from (before_first mark tail) (before_fails mark tail);
-    }, rw e refl)
+    inl (
+      name,
+      record {
+        before = h.between;
+        after = before_first mark tail;
+        parts = define_parts s (first_word s) h.between rest name tail (before_first mark tail) h.parts word split after;
+        before_blank = h.blank;
+        some_blank = h.some_blank;
+        type_bytes = before_fails ends_type rest;
+        some_type = some;
+        after_blank = blanks_from (before_first mark tail) (before_fails mark tail);
+      },
+      rw e refl,
+    )
 
 abbrev Opening : List ℕ → Type 0
 Opening s = ((name : List ℕ) × IsDefine s name × (opened s ≡ kind_of name)) ⊎ (opened s ≡ Err NotADefine)

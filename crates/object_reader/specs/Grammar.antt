@@ -80,7 +80,7 @@ IsFaulty None s fault = (f : LineFault) × (fault ≡ AtLine s.line f) × ((s.te
 IsFaulty (Some b) s fault = ((f : LineFault) × (fault ≡ AtLine s.line f) × (s.text ≡ Err f))
     ⊎ (((text : List ℕ) × (s.text ≡ Ok text) × (is_close text ≡ false) × (is_define text ≡ true) × (fault ≡ AtLine b.line Unclosed))
     ⊎ ((text : List ℕ) × (s.text ≡ Ok text) × (is_close text ≡ false) × (is_define text ≡ false)
-      × ((d : Directive) → IsNameAndValue text d → ⊥) × (fault ≡ AtLine s.line NoValue)))
+    × ((d : Directive) → IsNameAndValue text d → ⊥) × (fault ≡ AtLine s.line NoValue)))
 
 -- The first fault of the statements: everything before it is in order, and either the next statement is at fault,
 -- or a block is open at the end.
