@@ -6,17 +6,32 @@ use Rattle.object_reader.specs.declared.block.BlockKind.{BlockKind}
 use Rattle.object_reader.specs.declared.block.Directive.{Directive}
 use Rattle.object_reader.specs.declared.block.Block.{Block}
 use Rattle.object_reader.specs.declared.fault.LineFault.{LineFault}
-use Rattle.object_reader.specs.declared.fault.LineFault.TheVariants.{Unclosed}
+use Rattle.object_reader.specs.declared.fault.LineFault.TheVariants.{NoValue, Unclosed}
 use Rattle.object_reader.specs.declared.fault.ReadFault.{ReadFault}
 use Rattle.object_reader.specs.declared.fault.ReadFault.TheVariants.{AtLine, NoMemory, TooLarge}
-use Rattle.object_reader.specs.Statements.{Statement, statements_of, opened, is_close, is_define}
+use Rattle.object_reader.specs.Statements.{Statement, statements_from, statements_of, opened, is_close, is_define}
 use Rattle.object_reader.specs.Blocks.{◌>>=◌, at_line, directive_of, with_blocks, with_directives, before_blocks, blocks_of, block_of, read_text, Gives}
-use Rattle.object_reader.specs.Grammar.{Opens, IsDirective, Closes, AreDirectives, IsBlock, AreBlocks, IsObjectText, IsBeginning, IsFaulty, IsFirstFault, IsRefused}
+use Rattle.object_reader.specs.Grammar.{Opens, IsDirective, Closes, AreDirectives, IsBlock, AreBlocks, IsObjectText, IsBeginning, IsFaulty, OpensNone, IsFirstFault, IsRefused}
+use Rattle.object_reader.specs.Lines.{lines_of}
+use Rattle.object_reader.proofs.Lines.{lines_read, lines_are}
+use Rattle.object_reader.proofs.Spelling.{opened_spelled, opened_taken, opened_refused, no_define, directive_spelled, directive_taken, directive_refused, no_directive}
 use Rattle.object_reader.proofs.Blocks.{block_of-close, block_of-directive, block_of-define, with_directives-close, with_directives-push, blocks_of-block, blocks_of-not_opened, blocks_of-opened, block_and, with_blocks-push, read_text-blocks, read_text-large}
 
 -- a statement that says a text
 said_so : (s : Statement) (text : List ℕ) → s.text ≡ Ok text → s ≡ record { line = s.line; text = Ok text }
 said_so s text e = ap (λ t. let made : Statement = record { line = s.line; text = t } in made) e
+
+-- what a statement opens, from how it is spelled, and back
+opens_is : (s : Statement) (b : Block) (h : Opens s b) → opened h.text ≡ Ok b.kind
+opens_is s b h = opened_spelled h.text h.name h.define ∙ h.kind
+
+opens_from : (s : Statement) (b : Block) (text : List ℕ) (ds : List Directive) → s ≡ record { line = b.line; text = Ok text } → opened text ≡ Ok b.kind → Opens s (record b { directives = ds })
+opens_from s b text ds says opens =
+    let h = opened_taken text b.kind opens in record { text = text; says = says; name = h.0; define = h.1; kind = h.2 }
+
+opens_none : (text : List ℕ) (f : LineFault) → OpensNone text f → opened text ≡ Err f
+opens_none text f (inl h) = opened_spelled text h.0 h.1 ∙ h.2
+opens_none text f (inr h) = no_define text h.0 ∙ ap Err (sym h.1)
 
 -- What is written is read.
 
@@ -35,7 +50,7 @@ directives_read define (s ∷ body) rest [] h = absurd h
 directives_read define (s ∷ body) rest (d ∷ ds) h =
     ap (λ first. block_of define (first ∷ (body ++ rest))) (said_so s h.0.text h.0.says)
     ∙ block_of-directive define s.line h.0.text (body ++ rest) h.0.no_close h.0.no_define
-    ∙ ap (λ r. at_line s.line r >>= λ x. with_directives (x ∷ []) (block_of define (body ++ rest))) h.0.value
+    ∙ ap (λ r. at_line s.line r >>= λ x. with_directives (x ∷ []) (block_of define (body ++ rest))) (directive_spelled h.0.text d h.0.value)
     ∙ ap (with_directives (d ∷ [])) (directives_read define body rest ds h.1)
     ∙ with_directives-push (d ∷ []) ds (block_of define rest)
 
@@ -52,7 +67,7 @@ block_read first rest b h =
     ∙ with_directives-close b.directives (blocks_of rest) in
     ap blocks_of parts
     ∙ ap (λ head. blocks_of (head ∷ (h.body ++ h.close ∷ rest))) h.opens.says
-    ∙ blocks_of-block b.line h.opens.text (h.body ++ h.close ∷ rest) rest b.kind b.directives h.opens.opens inside
+    ∙ blocks_of-block b.line h.opens.text (h.body ++ h.close ∷ rest) rest b.kind b.directives (opens_is h.head b h.opens) inside
 
 blocks_read : (ss rest : List Statement) (bs : List Block) → AreBlocks ss bs → blocks_of (ss ++ rest) ≡ with_blocks bs (blocks_of rest)
 blocks_read ss rest [] h = ap (λ x. blocks_of (x ++ rest)) h ∙ sym (with_blocks-none (blocks_of rest))
@@ -66,8 +81,9 @@ blocks_read ss rest (b ∷ bs) h =
 pub object_text_read : (text : List ℕ) (bs : List Block) → IsObjectText text bs → read_text text ≡ Ok bs
 unfolding blocks_of
 object_text_read text bs h =
-    let ss = statements_of text in
-    read_text-blocks text h.fits ∙ ap blocks_of (sym (append-nil ss)) ∙ blocks_read ss [] bs h.parts ∙ ap Ok (append-nil bs)
+    let ss = statements_from 1 h.lines in
+    let same : statements_of text ≡ ss = ap (statements_from 1) (lines_read text h.lines h.split) in
+    read_text-blocks text h.fits ∙ ap blocks_of (same ∙ sym (append-nil ss)) ∙ blocks_read ss [] bs h.parts ∙ ap Ok (append-nil bs)
 
 -- What is read is written so, and a fault is the first.
 
@@ -145,7 +161,7 @@ block_right b s ss text says opens (Ok inside) h = (
   s ∷ (h.body ++ h.close ∷ []),
   h.others,
   parts_from_head s ss h.body h.others h.close h.parts,
-  block_of_parts (record b { directives = inside.0 }) s h.body h.close (record { text = text; says = says; opens = opens }) h.directives h.closes,
+  block_of_parts (record b { directives = inside.0 }) s h.body h.close (opens_from s b text inside.0 says opens) h.directives h.closes,
   h.blocks,
 )
 block_right b s ss text says opens (Err fault) (inl h) =
@@ -155,15 +171,15 @@ block_right b s ss text says opens (Err fault) (inl h) =
       h.3,
       Some (record b { directives = h.1 }),
       ap (λ x. s ∷ x) h.4,
-      ([], [], s, h.0, refl, refl, record { text = text; says = says; opens = opens }, h.5),
+      ([], [], s, h.0, refl, refl, opens_from s b text h.1 says opens, h.5),
       h.6,
     )
 block_right b s ss text says opens (Err fault) (inr (inl h)) =
-    inr (record b { directives = h.0 }, ([], [], s, ss, refl, refl, record { text = text; says = says; opens = opens }, h.1), h.2)
+    inr (record b { directives = h.0 }, ([], [], s, ss, refl, refl, opens_from s b text h.0 says opens, h.1), h.2)
 block_right b s ss text says opens (Err fault) (inr (inr h)) =
     subst (λ x. IsFirstFault x fault) (sym (parts_from_head s ss h.0 h.3 h.2 h.4))
     (fault_after (s ∷ (h.0 ++ h.2 ∷ [])) h.3 (record b { directives = h.1 }) fault
-    (block_of_parts (record b { directives = h.1 }) s h.0 h.2 (record { text = text; says = says; opens = opens }) h.5 h.6) h.7)
+    (block_of_parts (record b { directives = h.1 }) s h.0 h.2 (opens_from s b text h.1 says opens) h.5 h.6) h.7)
 
 -- a statement outside a block
 module _ (s : Statement) (ss : List Statement) (inside : (b : Block) → IsRightIn b ss (block_of b.line ss)) where
@@ -172,7 +188,7 @@ module _ (s : Statement) (ss : List Statement) (inside : (b : Block) → IsRight
       let b : Block = record { kind = kind; line = s.line; directives = [] } in
       subst (λ r. IsRight (s ∷ ss) r) (sym (blocks_of-opened s.line text ss kind e)) (block_right b s ss text (said_so s text says) e (block_of s.line ss) (inside b))
   outside_opened text says (Err f) e =
-      subst (λ r. IsRight (s ∷ ss) r) (sym (blocks_of-not_opened s.line text ss f e)) (inl ([], s, ss, None, refl, ([], refl), (f, refl, inr (text, says, e))))
+      subst (λ r. IsRight (s ∷ ss) r) (sym (blocks_of-not_opened s.line text ss f e)) (inl ([], s, ss, None, refl, ([], refl), (f, refl, inr (text, says, opened_refused text f e))))
 
   outside_said : (r : Result (List ℕ) LineFault) → s.text ≡ r → IsRight (s ∷ ss) (blocks_of ((record { line = s.line; text = r }) ∷ ss))
   unfolding blocks_of
@@ -184,8 +200,9 @@ module _ (b : Block) (s : Statement) (ss : List Statement) (outside : IsRight ss
   inside_directive : (text : List ℕ) → s.text ≡ Ok text → is_close text ≡ false → is_define text ≡ false → (r : Result Directive LineFault) → directive_of text ≡ r
       → IsRightIn b (s ∷ ss) (at_line s.line r >>= λ directive. with_directives (directive ∷ []) (block_of b.line ss))
   inside_directive text says c d (Ok directive) e =
-      directive_before b s directive ss (block_of b.line ss) (record { text = text; says = says; no_close = c; no_define = d; value = e }) inside
-  inside_directive text says c d (Err f) e = inl ([], [], s, ss, refl, tt, inr (inr (text, f, refl, says, c, d, e)))
+      directive_before b s directive ss (block_of b.line ss) (record { text = text; says = says; no_close = c; no_define = d; value = directive_taken text directive e }) inside
+  inside_directive text says c d (Err f) e =
+      let h = directive_refused text f e in inl ([], [], s, ss, refl, tt, inr (inr (text, says, c, d, h.1, ap (λ g. AtLine s.line g) h.0)))
 
   inside_define : (text : List ℕ) → s.text ≡ Ok text → is_close text ≡ false → (d : Bool) → is_define text ≡ d → IsRightIn b (s ∷ ss) (block_of b.line ((record { line = s.line; text = Ok text }) ∷ ss))
   inside_define text says c true e =
@@ -218,16 +235,16 @@ faulty_outside : (s : Statement) (after : List Statement) (fault : ReadFault) �
 unfolding blocks_of
 faulty_outside s after fault (f, e, inl says) = ap (λ x. blocks_of (x ∷ after)) (fault_line s f says) ∙ ap Err (sym e)
 faulty_outside s after fault (f, e, inr (text, says, opens)) =
-    ap (λ x. blocks_of (x ∷ after)) (said_so s text says) ∙ blocks_of-not_opened s.line text after f opens ∙ ap Err (sym e)
+    ap (λ x. blocks_of (x ∷ after)) (said_so s text says) ∙ blocks_of-not_opened s.line text after f (opens_none text f opens) ∙ ap Err (sym e)
 
 faulty_inside : (b : Block) (s : Statement) (after : List Statement) (fault : ReadFault) → IsFaulty (Some b) s fault → block_of b.line (s ∷ after) ≡ Err fault
 unfolding block_of
 faulty_inside b s after fault (inl (f, e, says)) = ap (λ x. block_of b.line (x ∷ after)) (fault_line s f says) ∙ ap Err (sym e)
 faulty_inside b s after fault (inr (inl (text, says, c, d, e))) =
     ap (λ x. block_of b.line (x ∷ after)) (said_so s text says) ∙ block_of-define b.line s.line text after c d ∙ ap Err (sym e)
-faulty_inside b s after fault (inr (inr (text, f, e, says, c, d, value))) =
+faulty_inside b s after fault (inr (inr (text, says, c, d, none, e))) =
     ap (λ x. block_of b.line (x ∷ after)) (said_so s text says) ∙ block_of-directive b.line s.line text after c d
-    ∙ ap (λ r. at_line s.line r >>= λ x. with_directives (x ∷ []) (block_of b.line after)) value ∙ ap Err (sym e)
+    ∙ ap (λ r. at_line s.line r >>= λ x. with_directives (x ∷ []) (block_of b.line after)) (no_directive text none) ∙ ap Err (sym e)
 
 -- a fault in a block that has begun
 begun_fails : (ss rest : List Statement) (b : Block) (fault : ReadFault) → IsBeginning ss (Some b) → block_of b.line rest ≡ Err fault → blocks_of (ss ++ rest) ≡ Err fault
@@ -236,7 +253,7 @@ begun_fails ss rest b fault h fails =
     ap (λ x. blocks_of (x ++ rest)) h.4
     ∙ ap blocks_of (append_assoc h.0 (h.2 ∷ h.3) rest)
     ∙ blocks_read h.0 (h.2 ∷ (h.3 ++ rest)) h.1 h.5
-    ∙ ap (with_blocks h.1) (ap (λ x. blocks_of (x ∷ (h.3 ++ rest))) h.6.says ∙ blocks_of-opened b.line h.6.text (h.3 ++ rest) b.kind h.6.opens ∙ ap (λ r. r >>= block_and b.kind b.line) inside)
+    ∙ ap (with_blocks h.1) (ap (λ x. blocks_of (x ∷ (h.3 ++ rest))) h.6.says ∙ blocks_of-opened b.line h.6.text (h.3 ++ rest) b.kind (opens_is h.2 b h.6) ∙ ap (λ r. r >>= block_and b.kind b.line) inside)
 
 fault_read : (before : List Statement) (s : Statement) (after : List Statement) (within : Option Block) (fault : ReadFault)
     → IsBeginning before within → IsFaulty within s fault → blocks_of (before ++ s ∷ after) ≡ Err fault
@@ -251,7 +268,8 @@ first_fault_read ss fault (inr h) = ap blocks_of (sym (append-nil ss)) ∙ begun
 -- a refusal is answered
 pub refusal_read : (text : List ℕ) (fault : ReadFault) → IsRefused text fault → read_text text ≡ Err fault
 refusal_read text TooLarge h = read_text-large text h
-refusal_read text (AtLine n fault) h = read_text-blocks text h.0 ∙ first_fault_read (statements_of text) (AtLine n fault) h.1
+refusal_read text (AtLine n fault) h =
+    read_text-blocks text h.1 ∙ ap (λ ls. blocks_of (statements_from 1 ls)) (lines_read text h.0 h.2) ∙ first_fault_read (statements_from 1 h.0) (AtLine n fault) h.3
 refusal_read text NoMemory h = absurd h
 
 -- each first fault has a line
@@ -264,7 +282,7 @@ faulty_has_line : (within : Option Block) (s : Statement) (fault : ReadFault) �
 faulty_has_line None s fault h = record { line = s.line; kind = h.0; is = h.1 }
 faulty_has_line (Some b) s fault (inl h) = record { line = s.line; kind = h.0; is = h.1 }
 faulty_has_line (Some b) s fault (inr (inl h)) = record { line = b.line; kind = Unclosed; is = h.4 }
-faulty_has_line (Some b) s fault (inr (inr h)) = record { line = s.line; kind = h.1; is = h.2 }
+faulty_has_line (Some b) s fault (inr (inr h)) = record { line = s.line; kind = NoValue; is = h.5 }
 
 fault_has_line : (ss : List Statement) (fault : ReadFault) → IsFirstFault ss fault → HasLine fault
 fault_has_line ss fault (inl h) = faulty_has_line h.3 h.1 fault h.6
@@ -275,12 +293,12 @@ read_written : (text : List ℕ) (r : Result (List Block) ReadFault) → (167772
     → MatchResult r (IsObjectText text) (IsRefused text)
 read_written text (Ok bs) (inl large) e = let n = read_text-large text large in cc
 read_written text (Ok bs) (inr fits) e =
-    record { fits = fits; parts = subst (IsRight (statements_of text)) (sym (read_text-blocks text fits) ∙ e) ((right (statements_of text)).0) }
+    record { lines = lines_of text; fits = fits; split = lines_are text; parts = subst (IsRight (statements_of text)) (sym (read_text-blocks text fits) ∙ e) ((right (statements_of text)).0) }
 read_written text (Err TooLarge) (inl large) e = large
 read_written text (Err TooLarge) (inr fits) e =
     let l = fault_has_line (statements_of text) TooLarge (subst (IsRight (statements_of text)) (sym (read_text-blocks text fits) ∙ e) ((right (statements_of text)).0)) in let e = l.is in cc
 read_written text (Err (AtLine n fault)) (inl large) e = let m = read_text-large text large in cc
-read_written text (Err (AtLine n fault)) (inr fits) e = (fits, subst (IsRight (statements_of text)) (sym (read_text-blocks text fits) ∙ e) ((right (statements_of text)).0))
+read_written text (Err (AtLine n fault)) (inr fits) e = (lines_of text, fits, lines_are text, subst (IsRight (statements_of text)) (sym (read_text-blocks text fits) ∙ e) ((right (statements_of text)).0))
 read_written text (Err NoMemory) (inl large) e = let m = read_text-large text large in cc
 read_written text (Err NoMemory) (inr fits) e =
     let l = fault_has_line (statements_of text) NoMemory (subst (IsRight (statements_of text)) (sym (read_text-blocks text fits) ∙ e) ((right (statements_of text)).0)) in let e = l.is in cc

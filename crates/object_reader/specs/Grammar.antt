@@ -3,17 +3,20 @@ use Rattle.std.specs.Prelude.{◌≡◌, ℕ, ◌<◌, ◌≤◌, ◌⊎◌, fal
 use Rattle.object_reader.specs.declared.block.Directive.{Directive}
 use Rattle.object_reader.specs.declared.block.Block.{Block}
 use Rattle.object_reader.specs.declared.fault.LineFault.{LineFault}
-use Rattle.object_reader.specs.declared.fault.LineFault.TheVariants.{Unclosed}
+use Rattle.object_reader.specs.declared.fault.LineFault.TheVariants.{NotADefine, NoValue, Unclosed}
 use Rattle.object_reader.specs.declared.fault.ReadFault.{ReadFault}
 use Rattle.object_reader.specs.declared.fault.ReadFault.TheVariants.{AtLine, NoMemory, TooLarge}
-use Rattle.object_reader.specs.Statements.{Statement, statements_of, opened, is_close, is_define}
-use Rattle.object_reader.specs.Blocks.{directive_of}
+use Rattle.object_reader.specs.Lines.{Line, AreLines}
+use Rattle.object_reader.specs.Statements.{Statement, statements_from, kind_of, is_close, is_define}
+use Rattle.object_reader.specs.Spelling.{IsDefine, IsNameAndValue}
 
--- The statement opens the block: it stands at the block's line, and names its kind.
+-- The statement opens the block: it stands at the block's line, and is a define with the type of its kind.
 pub record Opens (s : Statement) (b : Block) : Type 0 where
   pub text : List ℕ
   pub says : s ≡ record { line = b.line; text = Ok text }
-  pub opens : opened text ≡ Ok b.kind
+  pub name : List ℕ
+  pub define : IsDefine text name
+  pub kind : kind_of name ≡ Ok b.kind
 
 -- The statement is the directive: it neither closes a block nor begins the next.
 pub record IsDirective (s : Statement) (d : Directive) : Type 0 where
@@ -21,7 +24,7 @@ pub record IsDirective (s : Statement) (d : Directive) : Type 0 where
   pub says : s.text ≡ Ok text
   pub no_close : is_close text ≡ false
   pub no_define : is_define text ≡ false
-  pub value : directive_of text ≡ Ok d
+  pub value : IsNameAndValue text d
 
 -- The statement closes a block.
 pub record Closes (s : Statement) : Type 0 where
@@ -51,10 +54,13 @@ abbrev pub AreBlocks : List Statement → List Block → Type 0
 AreBlocks ss [] = ss ≡ []
 AreBlocks ss (b ∷ bs) = (first : List Statement) × (others : List Statement) × (ss ≡ first ++ others) × IsBlock first b × AreBlocks others bs
 
--- The text is that of the blocks: at most 16,777,216 bytes, newlines counted.
+-- The text is that of the blocks: at most 16,777,216 bytes, newlines counted, and the statements of its lines, of which
+-- the first has the number 1, are the blocks.
 pub record IsObjectText (text : List ℕ) (blocks : List Block) : Type 0 where
+  pub lines : List Line
   pub fits : length text ≤ 16777216
-  pub parts : AreBlocks (statements_of text) blocks
+  pub split : AreLines text lines
+  pub parts : AreBlocks (statements_from 1 lines) blocks
 
 -- The statements up to a fault: whole blocks, and of a block that is still open, if there is one, the first
 -- statement and some directives.
@@ -63,14 +69,18 @@ IsBeginning ss None = (whole : List Block) × AreBlocks ss whole
 IsBeginning ss (Some b) = (before : List Statement) × (whole : List Block) × (head : Statement) × (body : List Statement)
     × (ss ≡ before ++ head ∷ body) × AreBlocks before whole × Opens head b × AreDirectives body b.directives
 
--- The statement is at fault: its line is, or it doesn't open a block outside one, or in a block it begins the next
--- one, or it has no value.
+-- The statement opens no block that is read: its type isn't one that is read, or it is no define.
+abbrev pub OpensNone : List ℕ → LineFault → Type 0
+OpensNone text f = ((name : List ℕ) × IsDefine text name × (kind_of name ≡ Err f)) ⊎ (((name : List ℕ) → IsDefine text name → ⊥) × (f ≡ NotADefine))
+
+-- The statement is at fault: its line is, or outside a block it opens none, or in a block it begins the next one or
+-- is no name with a value.
 abbrev pub IsFaulty : Option Block → Statement → ReadFault → Type 0
-IsFaulty None s fault = (f : LineFault) × (fault ≡ AtLine s.line f)
-    × ((s.text ≡ Err f) ⊎ ((text : List ℕ) × (s.text ≡ Ok text) × (opened text ≡ Err f)))
+IsFaulty None s fault = (f : LineFault) × (fault ≡ AtLine s.line f) × ((s.text ≡ Err f) ⊎ ((text : List ℕ) × (s.text ≡ Ok text) × OpensNone text f))
 IsFaulty (Some b) s fault = ((f : LineFault) × (fault ≡ AtLine s.line f) × (s.text ≡ Err f))
     ⊎ (((text : List ℕ) × (s.text ≡ Ok text) × (is_close text ≡ false) × (is_define text ≡ true) × (fault ≡ AtLine b.line Unclosed))
-    ⊎ ((text : List ℕ) × (f : LineFault) × (fault ≡ AtLine s.line f) × (s.text ≡ Ok text) × (is_close text ≡ false) × (is_define text ≡ false) × (directive_of text ≡ Err f)))
+    ⊎ ((text : List ℕ) × (s.text ≡ Ok text) × (is_close text ≡ false) × (is_define text ≡ false)
+    × ((d : Directive) → IsNameAndValue text d → ⊥) × (fault ≡ AtLine s.line NoValue)))
 
 -- The first fault of the statements: everything before it is in order, and either the next statement is at fault,
 -- or a block is open at the end.
@@ -82,5 +92,5 @@ IsFirstFault ss fault = ((before : List Statement) × (s : Statement) × (after 
 -- The text is refused with this fault: it is too large, or it isn't and this is its first fault.
 abbrev pub IsRefused : List ℕ → ReadFault → Type 0
 IsRefused text TooLarge = 16777216 < length text
-IsRefused text (AtLine n fault) = (length text ≤ 16777216) × IsFirstFault (statements_of text) (AtLine n fault)
+IsRefused text (AtLine n fault) = (lines : List Line) × (length text ≤ 16777216) × AreLines text lines × IsFirstFault (statements_from 1 lines) (AtLine n fault)
 IsRefused text NoMemory = ⊥

@@ -2,4 +2,5 @@ pub mod Fault
 pub mod Lines
 pub mod Statements
 pub mod Blocks
+pub mod Spelling
 pub mod Grammar

@@ -1,8 +1,9 @@
 //! What the lines of object text say (chapter "Object Configuration Overview").
 
-ghost use Rattle.std.specs.Prelude.{◌≡◌, ◌==◌, not, [], length, Ok, Err, MatchResult, ◌≤◌};
+ghost use Rattle.std.specs.Prelude.{◌≡◌, ℕ, List, ◌==◌, not, [], length, Ok, Err, MatchResult, ◌≤◌};
 ghost use Rattle.std.specs.List.{list_any, position};
 ghost use Rattle.std.specs.Str.{bytes_eq, is_utf8};
+ghost use Rattle.object_reader.specs.Spelling.{Says};
 ghost use Rattle.object_reader.specs.Statements.{is_blank, trim_start, trim_end, starts_comment, statement, said, first_word, after_word, is_define, is_close, kind_of, later_types, ends_type, opened};
 
 use crate::block::BlockKind;
@@ -86,7 +87,9 @@ fn starts_comment(bytes: &[u8]) -> bool
 /// What a line says, without its comment and the blanks at both ends.
 #[tactic(auto, unfolding(crate::specs::Statements::statement))]
 fn statement(content: &[u8]) -> &[u8]
-    ensures { result.now ≡ statement content.now }
+    ensures found { result.now ≡ statement content.now }
+    ensures written { Says content.now result.now }
+    ensures only { (s : List ℕ) → Says content.now s → result.now ≡ s }
 {
     if starts_comment(trim_start(content)) {
         return &content[..0];

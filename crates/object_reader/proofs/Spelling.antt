@@ -1,0 +1,336 @@
+-- How statements are spelled, and how they are taken apart.
+use Rattle.std.proofs.Common.{◌≡◌, ℕ, suc, ◌<◌, Bool, true, false, not, ◌&&◌, ◌||◌, ◌==◌, if◌then◌else◌, ◌⊎◌, inl, inr, tests, length-append, List, [], ◌∷◌, ◌++◌, length, take, drop, codes, Result, Ok, Err, refl, sym, ap, subst, ◌∙◌, arith, one-add}
+use Rattle.std.proofs.lemmas.Bool.{and_parts, and_from}
+use Rattle.std.proofs.lemmas.List.{take-append-drop}
+use Rattle.std.proofs.lemmas.List.Folds.{length-prefix_len}
+use Rattle.std.proofs.lemmas.Slice.Eq.{bytes_eq-Decides}
+use Rattle.std.proofs.Math.Seq.{drop-append_seam, take-append_seam}
+use Rattle.std.specs.List.{position_or_len, before_first, list_all}
+use Rattle.std.specs.Str.{bytes_eq}
+use Rattle.object_reader.specs.declared.block.BlockKind.{BlockKind}
+use Rattle.object_reader.specs.declared.block.BlockKind.TheVariants.{Command, Contact, Host}
+use Rattle.object_reader.specs.declared.block.Directive.{Directive}
+use Rattle.object_reader.specs.declared.fault.LineFault.{LineFault}
+use Rattle.object_reader.specs.declared.fault.LineFault.TheVariants.{NotADefine, NoValue, NotYet, UnknownType}
+use Rattle.object_reader.specs.Statements.{is_blank, trim_start, first_word, after_word, ends_type, kind_of, opened}
+use Rattle.object_reader.specs.Blocks.{directive_of}
+use Rattle.object_reader.specs.Spelling.{AreBlanks, IsDefine, IsNameAndValue}
+
+-- a list up to the first element that passes, and from it on
+
+pub stops : (p : ℕ → Bool) (xs : List ℕ) (y : ℕ) (ys : List ℕ) → list_all (λ b. not (p b)) xs ≡ true → p y ≡ true → position_or_len p (xs ++ y ∷ ys) ≡ length xs
+stops p [] y ys h e = rw e refl
+stops p (x ∷ xs) y ys h e =
+    let parts = and_parts (not (p x)) (list_all (λ b. not (p b)) xs) h in
+    let none : not (p x) ≡ true = parts.0 in
+    let more : position_or_len p (xs ++ y ∷ ys) ≡ length xs = stops p xs y ys parts.1 e in
+    rw (none, one-add) (ap suc more)
+
+-- what stands before it doesn't pass
+pub before_fails : (p : ℕ → Bool) (xs : List ℕ) → list_all (λ b. not (p b)) (before_first p xs) ≡ true
+before_fails p [] = refl
+before_fails p (x ∷ xs) = at_head (before_fails p xs) (p x) refl where
+  at_head : list_all (λ b. not (p b)) (before_first p xs) ≡ true → (t : Bool) → p x ≡ t → list_all (λ b. not (p b)) (before_first p (x ∷ xs)) ≡ true
+  at_head h true e = rw e refl
+  at_head h false e = rw (e, one-add) (rw e h)
+
+-- the rest begins with an element that passes
+pub record BeginsWith (p : ℕ → Bool) (xs : List ℕ) : Type 0 where
+  pub first : ℕ
+  pub others : List ℕ
+  pub is : xs ≡ first ∷ others
+  pub passes : p first ≡ true
+
+pub rest_begins : (p : ℕ → Bool) (xs : List ℕ) → 0 < length (drop (position_or_len p xs) xs) → BeginsWith p (drop (position_or_len p xs) xs)
+rest_begins p [] h = absurd (omega arith)
+rest_begins p (x ∷ xs) h = at_head (rest_begins p xs) (p x) refl where
+  at_head : (0 < length (drop (position_or_len p xs) xs) → BeginsWith p (drop (position_or_len p xs) xs)) → (t : Bool) → p x ≡ t
+      → BeginsWith p (drop (position_or_len p (x ∷ xs)) (x ∷ xs))
+  at_head later true e = rw e (record { first = x; others = xs; is = refl; passes = e })
+  at_head later false e = rw (e, one-add) (later (rw (e, one-add) at h))
+
+-- the part before the first element that passes, and the rest
+front_and_rest : (p : ℕ → Bool) (xs : List ℕ) → xs ≡ before_first p xs ++ drop (length (before_first p xs)) xs
+front_and_rest p xs = rw (length-prefix_len (λ b. not (p b)) xs) (sym (take-append-drop (position_or_len p xs) xs))
+
+-- bytes of which none is a mark are blanks
+pub blanks_from : (xs : List ℕ) → list_all (λ b. not (not (is_blank b))) xs ≡ true → AreBlanks xs
+blanks_from [] h = refl
+blanks_from (x ∷ xs) h =
+    let parts = and_parts (not (not (is_blank x))) (list_all (λ b. not (not (is_blank b))) xs) h in
+    and_from (is_blank x) (list_all is_blank xs) (double (is_blank x) parts.0) (blanks_from xs parts.1) where
+      double : (t : Bool) → not (not t) ≡ true → t ≡ true
+      double true e = refl
+      double false e = e
+
+pub blanks_to : (xs : List ℕ) → AreBlanks xs → list_all (λ b. not (not (is_blank b))) xs ≡ true
+blanks_to [] h = refl
+blanks_to (x ∷ xs) h =
+    let parts = and_parts (is_blank x) (list_all is_blank xs) h in
+    let blank : is_blank x ≡ true = parts.0 in
+    rw (blank, blanks_to xs parts.1) refl
+
+-- blanks before a mark are trimmed
+pub trimmed : (blanks : List ℕ) (y : ℕ) (ys : List ℕ) → AreBlanks blanks → is_blank y ≡ false → trim_start (blanks ++ y ∷ ys) ≡ y ∷ ys
+trimmed blanks y ys h e =
+    let mark : not (is_blank y) ≡ true = rw e refl in
+    rw (stops (λ b. not (is_blank b)) blanks y ys (blanks_to blanks h) mark) (drop-append_seam blanks (y ∷ ys))
+
+-- a word, and blanks after it
+word_first : (word : List ℕ) (y : ℕ) (ys : List ℕ) → list_all (λ b. not (is_blank b)) word ≡ true → is_blank y ≡ true → first_word (word ++ y ∷ ys) ≡ word
+word_first word y ys h e = rw (stops is_blank word y ys h e) (take-append_seam word (y ∷ ys))
+
+-- blanks that aren't empty begin with one
+blanks_begin : (blanks : List ℕ) → AreBlanks blanks → 0 < length blanks → BeginsWith is_blank blanks
+blanks_begin [] h some = absurd (omega arith)
+blanks_begin (y ∷ ys) h some = record { first = y; others = ys; is = refl; passes = (and_parts (is_blank y) (list_all is_blank ys) h).0 }
+
+-- what stands after a word, blanks and what begins with a mark
+after_first_word : (word blanks : List ℕ) (z : ℕ) (zs : List ℕ) → list_all (λ b. not (is_blank b)) word ≡ true → AreBlanks blanks → 0 < length blanks → is_blank z ≡ false
+    → (first_word (word ++ (blanks ++ z ∷ zs)) ≡ word) × (after_word (word ++ (blanks ++ z ∷ zs)) ≡ z ∷ zs)
+after_first_word word blanks z zs h blank some mark =
+    let b = blanks_begin blanks blank some in
+    let w : first_word (word ++ (blanks ++ z ∷ zs)) ≡ word = ap (λ bs. first_word (word ++ (bs ++ z ∷ zs))) b.is ∙ word_first word b.first (b.others ++ z ∷ zs) h b.passes in
+    (w, ap (λ f. trim_start (drop (length f) (word ++ (blanks ++ z ∷ zs)))) w ∙ ap trim_start (drop-append_seam word (blanks ++ z ∷ zs)) ∙ trimmed blanks z zs blank mark)
+
+-- a blank is taken with those before the first mark
+blank_taken : (y : ℕ) (ys : List ℕ) → is_blank y ≡ true → 0 < length (before_first (λ b. not (is_blank b)) (y ∷ ys))
+blank_taken y ys e = rw (e, one-add) (omega arith)
+
+pub not_mark : (t : Bool) → not t ≡ true → t ≡ false
+not_mark true e = sym e
+not_mark false e = refl
+
+-- a statement with something after its first word: the word, blanks, and what begins with a mark
+record IsApart (s : List ℕ) : Type 0 where
+  between : List ℕ
+  first : ℕ
+  others : List ℕ
+  parts : s ≡ first_word s ++ (between ++ after_word s)
+  word : list_all (λ b. not (is_blank b)) (first_word s) ≡ true
+  blank : AreBlanks between
+  some_blank : 0 < length between
+  rest : after_word s ≡ first ∷ others
+  begins : is_blank first ≡ false
+
+apart : (s : List ℕ) → 0 < length (after_word s) → IsApart s
+apart s some =
+    let mark : ℕ → Bool = λ b. not (is_blank b) in
+    let tail : List ℕ = drop (length (first_word s)) s in
+    let same : tail ≡ drop (position_or_len is_blank s) s = ap (λ n. drop n s) (length-prefix_len (λ b. not (is_blank b)) s) in
+    let begins = rest_begins mark tail some in
+    let tail_some : 0 < length tail = omega (arith, ap length (take-append-drop (position_or_len mark tail) tail), length-append (take (position_or_len mark tail) tail) (drop (position_or_len mark tail) tail)) in
+    let blank = rest_begins is_blank s (subst (λ t. 0 < length t) same tail_some) in
+    record {
+      between = before_first mark tail;
+      first = begins.first;
+      others = begins.others;
+      parts = front_and_rest is_blank s ∙ ap (λ t. first_word s ++ t) (sym (take-append-drop (position_or_len mark tail) tail));
+      word = before_fails is_blank s;
+      blank = blanks_from (before_first mark tail) (before_fails mark tail);
+      some_blank = subst (λ t. 0 < length (before_first mark t)) (sym (same ∙ blank.is)) (blank_taken blank.first blank.others blank.passes);
+      rest = begins.is;
+      begins = not_mark (is_blank begins.first) begins.passes;
+    }
+
+-- a directive is spelled so
+
+directive_made : List ℕ → List ℕ → Result Directive LineFault
+directive_made name value = if length value == 0 then Err NoValue else Ok (record { name = name; value = value })
+
+some_value : (name : List ℕ) (first : ℕ) (others : List ℕ) → directive_made name (first ∷ others) ≡ Ok (record { name = name; value = first ∷ others })
+unfolding directive_made
+some_value name first others = let e : (length (first ∷ others) == 0) ≡ false = grind (arith, tests) in rw e refl
+
+pub directive_spelled : (s : List ℕ) (d : Directive) → IsNameAndValue s d → directive_of s ≡ Ok d
+unfolding directive_of directive_made
+directive_spelled s d h =
+    let spelled : s ≡ d.name ++ (h.between ++ h.first ∷ h.others) = h.parts ∙ ap (λ v. d.name ++ (h.between ++ v)) h.value in
+    let taken = after_first_word d.name h.between h.first h.others h.word h.blank h.some_blank h.begins in
+    let w : first_word s ≡ d.name = ap first_word spelled ∙ taken.0 in
+    let v : after_word s ≡ h.first ∷ h.others = ap after_word spelled ∙ taken.1 in
+    ap (λ n. directive_made n (after_word s)) w ∙ ap (directive_made d.name) v ∙ some_value d.name h.first h.others
+    ∙ ap (λ (value : List ℕ). Ok (let made : Directive = record { name = d.name; value = value } in made)) (sym h.value)
+
+directive_cases : (s : List ℕ) (t : Bool) → (length (after_word s) == 0) ≡ t → ((d : Directive) × (directive_of s ≡ Ok d) × IsNameAndValue s d) ⊎ (directive_of s ≡ Err NoValue)
+unfolding directive_of
+directive_cases s true e = inr (rw e refl)
+directive_cases s false e =
+    let some : 0 < length (after_word s) = grind (arith, tests) in
+    let h = apart s some in
+    inl (
+      record { name = first_word s; value = after_word s },
+      rw e refl,
+      record {
+        between = h.between;
+        first = h.first;
+        others = h.others;
+        parts = h.parts;
+        word = h.word;
+        blank = h.blank;
+        some_blank = h.some_blank;
+        value = h.rest;
+        begins = h.begins;
+      },
+    )
+
+-- what is taken for a directive is spelled so
+pub directive_taken : (s : List ℕ) (d : Directive) → directive_of s ≡ Ok d → IsNameAndValue s d
+directive_taken s d e = from (directive_cases s (length (after_word s) == 0) refl) where
+  from : ((x : Directive) × (directive_of s ≡ Ok x) × IsNameAndValue s x) ⊎ (directive_of s ≡ Err NoValue) → IsNameAndValue s d
+  from (inl h) = let made = h.1 in let same : h.0 ≡ d = cc in subst (λ x. IsNameAndValue s x) same h.2
+  from (inr h) = let no : ⊥ = cc in absurd no
+
+-- and what isn't has no value
+pub directive_refused : (s : List ℕ) (f : LineFault) → directive_of s ≡ Err f → (f ≡ NoValue) × ((d : Directive) → IsNameAndValue s d → ⊥)
+directive_refused s f e = (from (directive_cases s (length (after_word s) == 0) refl), λ d h. let is = directive_spelled s d h in cc) where
+  from : ((x : Directive) × (directive_of s ≡ Ok x) × IsNameAndValue s x) ⊎ (directive_of s ≡ Err NoValue) → f ≡ NoValue
+  from (inl h) = let made = h.1 in cc
+  from (inr h) = cc
+
+-- what is spelled as no directive has no value
+pub no_directive : (s : List ℕ) → ((d : Directive) → IsNameAndValue s d → ⊥) → directive_of s ≡ Err NoValue
+no_directive s none = from (directive_cases s (length (after_word s) == 0) refl) where
+  from : ((x : Directive) × (directive_of s ≡ Ok x) × IsNameAndValue s x) ⊎ (directive_of s ≡ Err NoValue) → directive_of s ≡ Err NoValue
+  from (inl h) = absurd (none h.0 h.2)
+  from (inr h) = h
+
+-- the opening of a block is spelled so
+
+opened_made : List ℕ → List ℕ → List ℕ → Result BlockKind LineFault
+opened_made word name tail =
+    if bytes_eq word (codes "define") && not (length name == 0) && bytes_eq (trim_start tail) (codes "{") then kind_of name else Err NotADefine
+
+-- what follows a type begins with a byte that ends it
+record Ends (tail : List ℕ) : Type 0 where
+  first : ℕ
+  others : List ℕ
+  is : tail ≡ first ∷ others
+  passes : ends_type first ≡ true
+
+type_ends : (after : List ℕ) → AreBlanks after → Ends (after ++ codes "{")
+type_ends [] h = record { first = 123; others = []; is = refl; passes = refl }
+type_ends (y ∷ ys) h = record { first = y; others = ys ++ codes "{"; is = refl; passes = (let blank : is_blank y ≡ true = (and_parts (is_blank y) (list_all is_blank ys) h).0 in rw blank refl) }
+
+-- a byte of a type is no blank
+no_or : (a b : Bool) → not (a || b) ≡ true → a ≡ false
+no_or true b h = sym h
+no_or false b h = refl
+
+type_word : (name : List ℕ) → 0 < length name → list_all (λ b. not (ends_type b)) name ≡ true → BeginsWith (λ b. not (is_blank b)) name
+type_word [] some h = absurd (omega arith)
+type_word (z ∷ zs) some h =
+    let mark : is_blank z ≡ false = no_or (is_blank z) (z == 123) (and_parts (not (ends_type z)) (list_all (λ b. not (ends_type b)) zs) h).0 in
+    record { first = z; others = zs; is = refl; passes = rw mark refl }
+
+opened_is_made : (s : List ℕ) → opened s ≡ opened_made (first_word s) (before_first ends_type (after_word s)) (drop (length (before_first ends_type (after_word s))) (after_word s))
+unfolding opened opened_made
+opened_is_made s = refl
+
+-- `define`, a type and {
+made_so : (name after : List ℕ) → 0 < length name → AreBlanks after → opened_made (codes "define") name (after ++ codes "{") ≡ kind_of name
+unfolding opened_made
+made_so name after some blank =
+    let e : (length name == 0) ≡ false = grind (arith, tests) in
+    let brace : trim_start (after ++ codes "{") ≡ codes "{" = trimmed after 123 [] blank refl in
+    rw (e, brace) refl
+
+pub opened_spelled : (s name : List ℕ) → IsDefine s name → opened s ≡ kind_of name
+opened_spelled s name h =
+    let end : List ℕ = h.after ++ codes "{" in
+    let begins = type_word name h.some_type h.type_bytes in
+    let z = begins.first in
+    let zs = begins.others in
+    let ends = type_ends h.after h.after_blank in
+    let spelled : s ≡ codes "define" ++ (h.before ++ z ∷ (zs ++ end)) = h.parts ∙ ap (λ n. codes "define" ++ (h.before ++ (n ++ end))) begins.is in
+    let taken = after_first_word (codes "define") h.before z (zs ++ end) refl h.before_blank h.some_blank (not_mark (is_blank z) begins.passes) in
+    let w : first_word s ≡ codes "define" = ap first_word spelled ∙ taken.0 in
+    let rest : after_word s ≡ name ++ end = ap after_word spelled ∙ taken.1 ∙ ap (λ n. n ++ end) (sym begins.is) in
+    let place : position_or_len ends_type (name ++ end) ≡ length name = ap (λ e. position_or_len ends_type (name ++ e)) ends.is ∙ stops ends_type name ends.first ends.others h.type_bytes ends.passes in
+    let whole : before_first ends_type (name ++ end) ≡ name = rw place (take-append_seam name end) in
+    opened_is_made s
+    ∙ ap (λ f. opened_made f (before_first ends_type (after_word s)) (drop (length (before_first ends_type (after_word s))) (after_word s))) w
+    ∙ ap (λ r. opened_made (codes "define") (before_first ends_type r) (drop (length (before_first ends_type r)) r)) rest
+    ∙ ap (λ n. opened_made (codes "define") n (drop (length n) (name ++ end))) whole
+    ∙ ap (opened_made (codes "define") name) (drop-append_seam name end)
+    ∙ made_so name h.after h.some_type h.after_blank
+
+-- no type means that a line opens nothing
+no_such_kind : (a b c d : Bool) → (if a then Ok Command else if b then Ok Contact else if c then Ok Host else if d then Err NotYet else Err UnknownType) ≡ Err NotADefine → ⊥
+no_such_kind true b c d e = cc
+no_such_kind false true c d e = cc
+no_such_kind false false true d e = cc
+no_such_kind false false false true e = cc
+no_such_kind false false false false e = cc
+
+kind_of-never : (name : List ℕ) → kind_of name ≡ Err NotADefine → ⊥
+unfolding kind_of
+kind_of-never name e = no_such_kind _ _ _ _ e
+
+define_parts : (s word between rest name tail after : List ℕ) → s ≡ word ++ (between ++ rest) → word ≡ codes "define" → rest ≡ name ++ tail → tail ≡ after ++ codes "{"
+    → s ≡ codes "define" ++ (between ++ (name ++ (after ++ codes "{")))
+define_parts s word between rest name tail after whole word_is rest_is tail_is =
+    whole ∙ ap (λ w. w ++ (between ++ rest)) word_is ∙ ap (λ r. codes "define" ++ (between ++ r)) (rest_is ∙ ap (λ t. name ++ t) tail_is)
+
+opened_cases : (s : List ℕ) (t : Bool)
+    → (bytes_eq (first_word s) (codes "define") && not (length (before_first ends_type (after_word s)) == 0)
+    && bytes_eq (trim_start (drop (length (before_first ends_type (after_word s))) (after_word s))) (codes "{")) ≡ t
+    → ((name : List ℕ) × IsDefine s name × (opened s ≡ kind_of name)) ⊎ (opened s ≡ Err NotADefine)
+unfolding opened
+opened_cases s false e = inr (rw e refl)
+opened_cases s true e =
+    let mark : ℕ → Bool = λ b. not (is_blank b) in
+    let rest : List ℕ = after_word s in
+    let name : List ℕ = before_first ends_type rest in
+    let tail : List ℕ = drop (length name) rest in
+    let parts = and_parts _ _ e in
+    let front = and_parts _ _ parts.0 in
+    let word : first_word s ≡ codes "define" = (bytes_eq-Decides (first_word s) (codes "define")).0 front.0 in
+    let brace : trim_start tail ≡ codes "{" = (bytes_eq-Decides (trim_start tail) (codes "{")).0 parts.1 in
+    let named : (length name == 0) ≡ false = not_mark _ front.1 in
+    let some : 0 < length name = grind (arith, tests) in
+    let split : rest ≡ name ++ tail = front_and_rest ends_type rest in
+    let rest_some : 0 < length rest = omega (arith, ap length split, length-append name tail) in
+    let h = apart s rest_some in
+    let after : tail ≡ before_first mark tail ++ codes "{" = sym (take-append-drop (position_or_len mark tail) tail) ∙ ap (λ b. before_first mark tail ++ b) brace in
+    inl (
+      name,
+      record {
+        before = h.between;
+        after = before_first mark tail;
+        parts = define_parts s (first_word s) h.between rest name tail (before_first mark tail) h.parts word split after;
+        before_blank = h.blank;
+        some_blank = h.some_blank;
+        type_bytes = before_fails ends_type rest;
+        some_type = some;
+        after_blank = blanks_from (before_first mark tail) (before_fails mark tail);
+      },
+      rw e refl,
+    )
+
+abbrev Opening : List ℕ → Type 0
+Opening s = ((name : List ℕ) × IsDefine s name × (opened s ≡ kind_of name)) ⊎ (opened s ≡ Err NotADefine)
+
+opening : (s : List ℕ) → Opening s
+opening s = opened_cases s _ refl
+
+-- what is taken for the opening of a block is spelled so
+pub opened_taken : (s : List ℕ) (kind : BlockKind) → opened s ≡ Ok kind → (name : List ℕ) × IsDefine s name × (kind_of name ≡ Ok kind)
+opened_taken s kind e = from (opening s) where
+  from : Opening s → (name : List ℕ) × IsDefine s name × (kind_of name ≡ Ok kind)
+  from (inl h) = (h.0, h.1, sym h.2 ∙ e)
+  from (inr h) = let no : ⊥ = cc in absurd no
+
+-- and what isn't is no define, or of a type that isn't read
+pub opened_refused : (s : List ℕ) (f : LineFault) → opened s ≡ Err f
+    → ((name : List ℕ) × IsDefine s name × (kind_of name ≡ Err f)) ⊎ (((name : List ℕ) → IsDefine s name → ⊥) × (f ≡ NotADefine))
+opened_refused s f e = from (opening s) where
+  from : Opening s → ((name : List ℕ) × IsDefine s name × (kind_of name ≡ Err f)) ⊎ (((name : List ℕ) → IsDefine s name → ⊥) × (f ≡ NotADefine))
+  from (inl h) = inl (h.0, h.1, sym h.2 ∙ e)
+  from (inr h) = inr (λ name is. kind_of-never name (sym (opened_spelled s name is) ∙ h), cc)
+
+pub no_define : (s : List ℕ) → ((name : List ℕ) → IsDefine s name → ⊥) → opened s ≡ Err NotADefine
+no_define s none = from (opening s) where
+  from : Opening s → opened s ≡ Err NotADefine
+  from (inl h) = absurd (none h.0 h.1)
+  from (inr h) = h
