@@ -252,3 +252,22 @@ module _ (k : Kept) (e : Event) (past : List Event) (fits : Fits k past) (proper
     fit = settled_all tells (is_owned k.owned) (BookFits (suc (length past))) tells_one (length k.config.objects) k.books
         (All-weaker (BookFits (length past)) (BookFits (suc (length past))) (more_fits (length past)) k.books fits.fit);
   }
+
+-- what a decider stands for doesn't hang on its log
+pub fits_with_log : (k : Kept) (lines : List Suppression) (past : List Event) → Fits k past → Fits (record k { log = lines }) past
+fits_with_log k lines past fits = record {
+  accepted = fits.accepted;
+  covered = fits.covered;
+  owner = fits.owner;
+  proper = fits.proper;
+  taken_in = fits.taken_in;
+  short = fits.short;
+  count = fits.count;
+  moment = fits.moment;
+  program = fits.program;
+  states = fits.states;
+  books = fits.books;
+  state = fits.state;
+  book = fits.book;
+  fit = fits.fit;
+}

@@ -189,7 +189,8 @@ impl<'a> Decider<'a> {
     /// Forgets the suppressions so far, and keeps their room. A caller that has passed them on calls it, so that
     /// the log doesn't grow with the feed.
     pub fn clear_log(&mut self)
-        ensures { kept self.new ≡ record (kept self.old) { log = [] } }
+        ensures log { kept self.new ≡ record (kept self.old) { log = [] } }
+        ensures fits { (past : List Event) → Fits (kept self.old) past → Fits (kept self.new) past }
     {
         self.log.clear();
     }

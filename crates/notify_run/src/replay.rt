@@ -1,11 +1,10 @@
 //! The command `replay`: what would have been sent, from object text and a feed.
 
-ghost use Rattle.std.specs.Prelude.{◌≡◌, ◌≤◌, length, OnOk, IfSome, List};
-ghost use Rattle.due_model.specs.declared.event.Event.{Event};
+ghost use Rattle.std.specs.Prelude.{◌≡◌, ◌≤◌, length, OnOk};
 ghost use Rattle.due_model.specs.Accepted.{IsAccepted, IsProper};
 ghost use Rattle.due_model.specs.Covered.{IsCovered, IsTakenIn};
-ghost use Rattle.decider.specs.Kept.{Fits, kept};
 ghost use Rattle.decider.specs.Outboxes.{lists};
+ghost use Rattle.notify_run.specs.Replays.{GoesOn};
 
 use crate::input::{InputFault, take_objects};
 use crate::output::{Buffer, OutputFailed};
@@ -16,7 +15,7 @@ use due_model::event::Event;
 use due_model::notice::{Notice, Suppression};
 use due_model::zone::Zone;
 use event_feed::{FeedFault, Feeder, LineFault};
-use object_reader::ReadFault;
+use object_reader::fault::ReadFault;
 use std::alloc::{AllocError, Global};
 use std::io::{Read, Write};
 
@@ -184,4 +183,100 @@ fn take(outbox: &mut Outbox, lane: LaneId)
     if (lane.0 as usize) < outbox.len() {
         outbox.take_front(lane);
     }
+}
+
+/// Decides one event and writes its lines. An event that would have the number 2^32 is refused, and the
+/// answer is `Short`.
+fn decide_event<W: Write>(
+    lines: &mut Lines,
+    writer: &mut W,
+    config: &Config,
+    decider: &mut Decider,
+    outbox: &mut Outbox,
+    event: Event,
+    line: u64,
+) -> Result<Option<Ending>, ReplayFault>
+    requires proper { IsProper config.now event }
+    requires taken_in { IsTakenIn event.kind }
+    requires goes_on { GoesOn config.now decider.old outbox.old }
+    ensures { OnOk result (GoesOn config.now decider.new outbox.new) }
+{
+    match decider.decide(event, outbox) {
+        Ok(()) => {
+            write_event(lines, writer, config, outbox, decider.log())?;
+            decider.clear_log();
+            Ok(None)
+        }
+        Err(DecideFault::Ended) => {
+            lines.refused(writer, line, FeedFault::Ended)?;
+            Ok(Some(Ending::Short))
+        }
+        Err(DecideFault::NoMemory) => Err(ReplayFault::NoMemory),
+    }
+}
+
+/// Takes the next line of the feed that says something, and writes what it gives. The answer tells how the
+/// feed ended, once it has.
+fn take_line<R: Read + Drop, W: Write>(
+    lines: &mut Lines,
+    writer: &mut W,
+    config: &Config,
+    decider: &mut Decider,
+    outbox: &mut Outbox,
+    feeder: &mut Feeder<R>,
+) -> Result<Option<Ending>, ReplayFault>
+    requires { GoesOn config.now decider.old outbox.old }
+    ensures { OnOk result (GoesOn config.now decider.new outbox.new) }
+{
+    match feeder.next(config) {
+        Ok(None) => Ok(Some(Ending::Whole)),
+        Ok(Some(event)) => {
+            if !event.kind.is_taken_in() {
+                return Ok(None);
+            }
+            decide_event(lines, writer, config, decider, outbox, event, feeder.line())
+        }
+        Err(LineFault { line, fault }) => {
+            lines.refused(writer, line, fault)?;
+            Ok(feeder.stop().map(|_| Ending::Short))
+        }
+    }
+}
+
+/// Writes the report of a feed: for each of its lines, in order, the line of its refusal, or those of its
+/// event.
+fn report_feed<R: Read + Drop, W: Write>(
+    alloc: Global,
+    config: &Config,
+    feed: R,
+    writer: &mut W,
+) -> Result<Ending, ReplayFault>
+    requires accepted { IsAccepted config.now }
+    requires covered { IsCovered config.now }
+{
+    let zone = Zone::Utc;
+    let owned = Owned {
+        decider: 0,
+        deciders: 1,
+    };
+    let mut lines = Lines::new(alloc)?;
+    let mut feeder = Feeder::new(alloc, feed)?;
+    let mut outbox = Outbox::new(alloc, config.lanes.len())?;
+    let mut decider = Decider::new(alloc, config, &zone, owned)?;
+    for _line in 0..u64::MAX {
+        let ended = take_line(
+            &mut lines,
+            writer,
+            config,
+            &mut decider,
+            &mut outbox,
+            &mut feeder,
+        )?;
+        if let Some(ending) = ended {
+            lines.buffer.flush(writer)?;
+            return Ok(ending);
+        }
+    }
+    lines.buffer.flush(writer)?;
+    Ok(Ending::Short)
 }

@@ -1,0 +1,8 @@
+use Rattle.std.proofs.Common.{[], List, sym, subst}
+use Rattle.decider.specs.Kept.{Kept, Fits, kept}
+use Rattle.decider.specs.Logs.{noted}
+use Rattle.decider.proofs.FitLaws.{fits_with_log}
+use Rattle.decider.proofs.decider.Decider.clear_log.Goals as goal
+
+pub returns-clause-fits : goal.returns-clause-fits
+returns-clause-fits c = λ past fits. fits_with_log (kept c.args.self.now) (noted c.clear.new.self) past fits
