@@ -5,3 +5,4 @@ pub mod Blocks
 pub mod Spelling
 pub mod Comments
 pub mod Grammar
+pub mod Texts

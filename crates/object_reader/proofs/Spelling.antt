@@ -81,7 +81,7 @@ word_first : (word : List ℕ) (y : ℕ) (ys : List ℕ) → list_all (λ b. not
 word_first word y ys h e = rw (stops is_blank word y ys h e) (take-append_seam word (y ∷ ys))
 
 -- blanks that aren't empty begin with one
-blanks_begin : (blanks : List ℕ) → AreBlanks blanks → 0 < length blanks → BeginsWith is_blank blanks
+pub blanks_begin : (blanks : List ℕ) → AreBlanks blanks → 0 < length blanks → BeginsWith is_blank blanks
 blanks_begin [] h some = absurd (omega arith)
 blanks_begin (y ∷ ys) h some = record { first = y; others = ys; is = refl; passes = (and_parts (is_blank y) (list_all is_blank ys) h).0 }
 

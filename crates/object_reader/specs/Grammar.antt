@@ -1,5 +1,7 @@
 -- Object text, as it is written: blocks, one after the other (chapter "Object Configuration Overview").
 use Rattle.std.specs.Prelude.{◌≡◌, ℕ, ◌<◌, ◌≤◌, ◌⊎◌, false, true, List, [], ◌∷◌, ◌++◌, length, Option, None, Some, Ok, Err}
+use Rattle.std.specs.List.{All}
+use Rattle.std.specs.Str.{IsUtf8}
 use Rattle.object_reader.specs.declared.block.Directive.{Directive}
 use Rattle.object_reader.specs.declared.block.Block.{Block}
 use Rattle.object_reader.specs.declared.fault.LineFault.{LineFault}
@@ -53,6 +55,16 @@ pub record IsBlock (ss : List Statement) (b : Block) : Type 0 where
 abbrev pub AreBlocks : List Statement → List Block → Type 0
 AreBlocks ss [] = ss ≡ []
 AreBlocks ss (b ∷ bs) = (first : List Statement) × (others : List Statement) × (ss ≡ first ++ others) × IsBlock first b × AreBlocks others bs
+
+-- A directive's name and value are UTF-8, and its name isn't empty.
+pub record IsPlain (d : Directive) : Type 0 where
+  pub name : IsUtf8 d.name
+  pub value : IsUtf8 d.value
+  pub some_name : 0 < length d.name
+
+-- Each directive of the blocks is so.
+abbrev pub ArePlain : List Block → Type 0
+ArePlain bs = All (λ b. All IsPlain b.directives) bs
 
 -- The text is that of the blocks: at most 16,777,216 bytes, newlines counted, and the statements of its lines, of which
 -- the first has the number 1, are the blocks.

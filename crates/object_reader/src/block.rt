@@ -13,8 +13,9 @@ pub enum BlockKind {
     Host,
 }
 
-/// A line of a block: a name, and the value that stands after it. Both are UTF-8 and not empty, the
-/// name has no blank, and the value neither begins nor ends with one.
+/// A line of a block: a name, and the value that stands after it (chapter "Object Configuration
+/// Overview"). Both are UTF-8 and not empty. The name has no space and no tab, and the value doesn't
+/// begin with one.
 #[derive(Drop)]
 pub struct Directive {
     /// The name as it is written, upper and lower case kept apart.

@@ -5,7 +5,7 @@ ghost use Rattle.object_reader.specs.Statements.{Statement};
 ghost use Rattle.object_reader.specs.declared.block.Block.{Block};
 ghost use Rattle.object_reader.specs.declared.fault.ReadFault.{ReadFault};
 ghost use Rattle.object_reader.specs.declared.fault.ReadFault.TheVariants.{NoMemory};
-ghost use Rattle.object_reader.specs.Grammar.{IsObjectText, IsRefused};
+ghost use Rattle.object_reader.specs.Grammar.{ArePlain, IsObjectText, IsRefused};
 ghost use Rattle.object_reader.specs.Blocks.{Gives, FailsFirst, before_blocks, at_line, directive_of, block_of, blocks_of, read_text};
 
 use crate::block::{Block, Directive};
@@ -159,6 +159,8 @@ fn read_text(alloc: Global, bytes: &[u8]) -> Result<Sequence<Block>, ReadFault>
 pub fn read(alloc: Global, bytes: &[u8]) -> Result<Sequence<Block>, ReadFault>
     // What is read is the text's blocks.
     ensures blocks { IfOk result (λ blocks. IsObjectText bytes.now blocks) }
+    // Names and values are UTF-8, and names aren't empty.
+    ensures texts { IfOk result (λ blocks. ArePlain blocks) }
     // A text of blocks is read, unless memory runs out.
     ensures only { (blocks : List Block) → IsObjectText bytes.now blocks → Gives result (Ok blocks) }
     // What is refused has this fault as its first.
