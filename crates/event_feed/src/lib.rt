@@ -10,3 +10,6 @@ mod source;
 pub use fault::{FeedFault, LineFault, Stop};
 pub use feeder::Feeder;
 pub use line::read_line;
+
+#[cfg(test)]
+mod tests;
