@@ -1,3 +1,4 @@
 pub mod Coverage
+pub mod Growth
 pub mod Pasts
 pub mod SlowLemmas

@@ -8,6 +8,7 @@ pub mod Histories
 pub mod Due
 pub mod Accepted
 pub mod Covered
+pub mod Laws
 pub mod Rows
 pub mod Slow
 pub mod SlowViews

@@ -1,0 +1,16 @@
+//! Laws of what is due, over every configuration, zone and list of events. Each is the contract of a function
+//! with nothing to do.
+
+ghost use Rattle.due_model.specs.Laws.{DueOnlyGrows, SuppressionsOnlyGrow, NoticesStandInOrder, NoticesStandOnce};
+
+/// What was due, or suppressed, after some events is the front of that after more events.
+pub fn only_grows()
+    ensures due { DueOnlyGrows }
+    ensures suppressions { SuppressionsOnlyGrow }
+{}
+
+/// The notices of an object on a lane stand in the order of events and contacts, and none twice.
+pub fn stand_once()
+    ensures order { NoticesStandInOrder }
+    ensures once { NoticesStandOnce }
+{}
