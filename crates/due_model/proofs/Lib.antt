@@ -1,4 +1,5 @@
 pub mod Coverage
 pub mod Growth
+pub mod Notices
 pub mod Pasts
 pub mod SlowLemmas
