@@ -1,5 +1,7 @@
 pub mod Coverage
+pub mod EachNotice
 pub mod Growth
 pub mod Notices
 pub mod Pasts
 pub mod SlowLemmas
+pub mod Verdicts

@@ -1,7 +1,7 @@
 //! Laws of what is due, over every configuration, zone and list of events. Each is the contract of a function
 //! with nothing to do.
 
-ghost use Rattle.due_model.specs.Laws.{DueOnlyGrows, SuppressionsOnlyGrow, NoticesStandInOrder, NoticesStandOnce};
+ghost use Rattle.due_model.specs.Laws.{DueOnlyGrows, SuppressionsOnlyGrow, NoticesStandInOrder, NoticesStandOnce, NoticesTellOfEvents, ProblemsAreHeldBack, RecoveriesFollowNotices, NumbersGoUpByOne, NoticesKeepTheirGaps};
 
 /// What was due, or suppressed, after some events is the front of that after more events.
 pub fn only_grows()
@@ -13,4 +13,17 @@ pub fn only_grows()
 pub fn stand_once()
     ensures order { NoticesStandInOrder }
     ensures once { NoticesStandOnce }
+{}
+
+/// A notice tells of one of the events, and a problem or a recovery only while nothing holds it back.
+pub fn tell_of_events()
+    ensures events { NoticesTellOfEvents }
+    ensures held_back { ProblemsAreHeldBack }
+    ensures recoveries { RecoveriesFollowNotices }
+{}
+
+/// The notices of one problem are numbered from 1 on, and keep their gaps.
+pub fn follow_in_problem()
+    ensures numbers { NumbersGoUpByOne }
+    ensures gaps { NoticesKeepTheirGaps }
 {}
