@@ -1,3 +1,4 @@
+pub mod Answered
 pub mod Coverage
 pub mod EachNotice
 pub mod Growth

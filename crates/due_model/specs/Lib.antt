@@ -9,6 +9,7 @@ pub mod Due
 pub mod Accepted
 pub mod Covered
 pub mod Laws
+pub mod LawsOfAttempts
 pub mod Rows
 pub mod Slow
 pub mod SlowViews

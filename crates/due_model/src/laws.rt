@@ -2,6 +2,7 @@
 //! with nothing to do.
 
 ghost use Rattle.due_model.specs.Laws.{DueOnlyGrows, SuppressionsOnlyGrow, NoticesStandInOrder, NoticesStandOnce, NoticesTellOfEvents, ProblemsAreHeldBack, RecoveriesFollowNotices, NumbersGoUpByOne, NoticesKeepTheirGaps};
+ghost use Rattle.due_model.specs.LawsOfAttempts.{EachAttemptIsAnswered};
 
 /// What was due, or suppressed, after some events is the front of that after more events.
 pub fn only_grows()
@@ -26,4 +27,10 @@ pub fn tell_of_events()
 pub fn follow_in_problem()
     ensures numbers { NumbersGoUpByOne }
     ensures gaps { NoticesKeepTheirGaps }
+{}
+
+/// Each attempt is stopped by a filter of the object, or each contact that it goes to is told on each of
+/// its lanes or refused.
+pub fn answer_each_attempt()
+    ensures { EachAttemptIsAnswered }
 {}
