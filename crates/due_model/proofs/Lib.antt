@@ -5,5 +5,6 @@ pub mod Growth
 pub mod Notices
 pub mod Pasts
 pub mod Problems
+pub mod ReadingLaws
 pub mod SlowLemmas
 pub mod Verdicts

@@ -10,6 +10,7 @@ pub mod Accepted
 pub mod Covered
 pub mod Laws
 pub mod LawsOfAttempts
+pub mod LawsOfReadings
 pub mod Rows
 pub mod Slow
 pub mod SlowViews

@@ -3,6 +3,7 @@
 
 ghost use Rattle.due_model.specs.Laws.{DueOnlyGrows, SuppressionsOnlyGrow, NoticesStandInOrder, NoticesStandOnce, NoticesTellOfEvents, ProblemsAreHeldBack, RecoveriesFollowNotices, NumbersGoUpByOne, NoticesKeepTheirGaps};
 ghost use Rattle.due_model.specs.LawsOfAttempts.{EachAttemptIsAnswered};
+ghost use Rattle.due_model.specs.LawsOfReadings.{MomentIsGreatestStamp, IsReadyByLast, DownWhereStartsOutnumber};
 
 /// What was due, or suppressed, after some events is the front of that after more events.
 pub fn only_grows()
@@ -33,4 +34,13 @@ pub fn follow_in_problem()
 /// its lanes or refused.
 pub fn answer_each_attempt()
     ensures { EachAttemptIsAnswered }
+{}
+
+/// The readings say of the whole list of events what the manual says: the moment is the greatest stamp, the
+/// ready moment is told by the last problem attempt, and the object is in downtime where from some start on
+/// starts outnumber ends.
+pub fn read_the_feed()
+    ensures moment { MomentIsGreatestStamp }
+    ensures ready { IsReadyByLast }
+    ensures downtime { DownWhereStartsOutnumber }
 {}
