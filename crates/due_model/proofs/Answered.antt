@@ -1,7 +1,6 @@
 -- Each attempt is answered: by the notices and the suppressions of its outcome.
-use Rattle.std.proofs.Common.{◌≡◌, ℕ, suc, zero, ◌+◌, ◌*◌, ◌<◌, ◌≤◌, Bool, true, false, not, ◌&&◌, nat_lt, ◌==◌, List, [], ◌∷◌, ◌++◌, length, get_or, filter, flat_map, slice_get, All, Contains, Option, None, Some, MatchOption, if◌then◌else◌, refl, sym, ap, ap₂, ◌∙◌, subst, arith, ◌⊎◌, inl, inr, ⊎_elim, eq-eqb, ne_eqb, append-nil}
+use Rattle.std.proofs.Common.{◌≡◌, ℕ, suc, zero, ◌+◌, ◌*◌, ◌<◌, Bool, true, false, not, ◌&&◌, nat_lt, ◌==◌, List, [], ◌∷◌, ◌++◌, length, get_or, filter, flat_map, slice_get, All, Contains, Option, None, Some, MatchOption, if◌then◌else◌, refl, sym, ap, ap₂, ◌∙◌, subst, arith, ◌⊎◌, inl, inr, eq-eqb, ne_eqb, append-nil}
 use Rattle.std.specs.List.{AllPairs, AllByRecursion}
-use Rattle.std.proofs.lemmas.Bool.{cond_both, cases_eq}
 use Rattle.std.proofs.lemmas.List.Elements.{filter-append, All-head, All-tail}
 use Rattle.due_model.specs.declared.config.Config.{Config}
 use Rattle.due_model.specs.declared.config.Contact.{Contact}
@@ -10,19 +9,16 @@ use Rattle.due_model.specs.declared.event.Event.{Event}
 use Rattle.due_model.specs.declared.config.Rights.{Rights}
 use Rattle.due_model.specs.declared.notice.Filter.{Filter}
 use Rattle.due_model.specs.declared.notice.Filter.TheVariants as why
-use Rattle.due_model.specs.declared.notice.Kind.{Kind}
 use Rattle.due_model.specs.declared.notice.Notice.{Notice}
-use Rattle.due_model.specs.declared.notice.Outcome.{Outcome}
-use Rattle.due_model.specs.declared.notice.Outcome.TheVariants.{Nothing, Sent, Suppressed}
 use Rattle.due_model.specs.declared.notice.Suppression.{Suppression}
 use Rattle.due_model.specs.declared.zone.Zone.{Zone}
 use Rattle.due_model.specs.Due.{receivers, rights_for, uses_lane, notice_to, refusal_of, notices, suppressions, due_at, suppressed_at}
-use Rattle.due_model.specs.Histories.{before, hist, number_after, view, gap_of}
+use Rattle.due_model.specs.Histories.{before, hist, number_after, view}
 use Rattle.due_model.specs.LawsOfAttempts.{is_of_contact, IsSilent, IsStopped, names, IsTold, IsRefused, ReachesEach, attempt_of_event, receivers_at}
 use Rattle.due_model.specs.Rules.{Attempt, View, contact_failing, failing, first_failing, has_letter, letter_of, is_problem, is_recovery, is_of_problem, is_of_downtime, is_too_soon}
 use Rattle.due_model.specs.Periods.{in_period}
 use Rattle.due_model.proofs.Notices.{AllPairs-head, AllPairs-tail, receivers_increase, the_notice, notice_to_cases}
-use Rattle.due_model.proofs.Verdicts.{attempt_at, outcome_of_cases, sent_at, stopped_at}
+use Rattle.due_model.proofs.Verdicts.{attempt_at, outcome_of_cases}
 
 -- the filters of a list that are all of one sort name one of that sort
 named_by : (b t : Bool) (g : Filter) (tests : List (Bool × Filter)) → is_of_contact g ≡ b → ((f : Filter) → first_failing tests ≡ Some f → is_of_contact f ≡ b)
@@ -164,8 +160,8 @@ answered_by object contact o event number a k ns ss (Some f) sort to of =
 
 sent_reaches : (c : Config) (zone : Zone) (o : ℕ) (object : Object) (event number : ℕ) (a : Attempt)
     → ReachesEach c object (receivers c zone o object a number)
-      (λ l. flat_map (notice_to c zone o object l event number a) (receivers c zone o object a number))
-      (flat_map (refusal_of c zone o object event number a) (receivers c zone o object a number))
+    (λ l. flat_map (notice_to c zone o object l event number a) (receivers c zone o object a number))
+    (flat_map (refusal_of c zone o object event number a) (receivers c zone o object a number))
 sent_reaches c zone o object event number a = λ k contact among known.
     let ks = receivers c zone o object a number in
     let pairs = receivers_increase c zone o object a number in
@@ -174,27 +170,27 @@ sent_reaches c zone o object event number a = λ k contact among known.
     (λ l. flat_map (notice_to c zone o object l event number a) ks) (flat_map (refusal_of c zone o object event number a) ks) fails
     (λ f is. contact_filter c zone (rights_for object contact) a f is)
     (λ l. one_passes (λ n. n.contact.0 == k) (notice_to c zone o object l event number a) k ks
-      (λ j apart. to_other c zone o object l event number a k j apart) (to_self c zone o object l event number a k) pairs among
-      ∙ notice_to_known c zone o object l event number a k contact known)
+    (λ j apart. to_other c zone o object l event number a k j apart) (to_self c zone o object l event number a k) pairs among
+    ∙ notice_to_known c zone o object l event number a k contact known)
     (one_passes (names k) (refusal_of c zone o object event number a) k ks
-      (λ j apart. of_other c zone o object event number a k j apart) (of_self c zone o object event number a k) pairs among
-      ∙ refusal_known c zone o object event number a k contact known)
+    (λ j apart. of_other c zone o object event number a k j apart) (of_self c zone o object event number a k) pairs among
+    ∙ refusal_known c zone o object event number a k contact known)
 
 -- each attempt is answered
 pub each_answered : (c : Config) (zone : Zone) (o : ℕ) (object : Object) (e : Event) (past : List Event)
     → MatchOption (attempt_of_event c zone o object e past)
-      (IsSilent (λ l. due_at c zone o object l e past) (suppressed_at c zone o object e past))
-      (λ k. IsStopped (λ l. due_at c zone o object l e past) (suppressed_at c zone o object e past)
-        ⊎ ReachesEach c object (receivers_at c zone o object e past k) (λ l. due_at c zone o object l e past) (suppressed_at c zone o object e past))
+    (IsSilent (λ l. due_at c zone o object l e past) (suppressed_at c zone o object e past))
+    (λ k. IsStopped (λ l. due_at c zone o object l e past) (suppressed_at c zone o object e past)
+    ⊎ ReachesEach c object (receivers_at c zone o object e past k) (λ l. due_at c zone o object l e past) (suppressed_at c zone o object e past))
 each_answered c zone o object e past =
     let event = length past in
     let earlier = before o e past (hist c zone o object past) in
     let v = view c zone o object e past earlier in
     outcome_of_cases c zone o object e past earlier (attempt_of_event c zone o object e past)
     (λ attempt x. MatchOption attempt
-      (IsSilent (λ l. notices c zone o object l event x) (suppressions c zone o object event x))
-      (λ k. IsStopped (λ l. notices c zone o object l event x) (suppressions c zone o object event x)
-        ⊎ ReachesEach c object (receivers_at c zone o object e past k) (λ l. notices c zone o object l event x) (suppressions c zone o object event x)))
+    (IsSilent (λ l. notices c zone o object l event x) (suppressions c zone o object event x))
+    (λ k. IsStopped (λ l. notices c zone o object l event x) (suppressions c zone o object event x)
+    ⊎ ReachesEach c object (receivers_at c zone o object e past k) (λ l. notices c zone o object l event x) (suppressions c zone o object event x)))
     (record { no_notice = λ l. refl; no_suppression = refl })
     (λ k none. inr (sent_reaches c zone o object event (number_after v.sent k) (attempt_at o e past k)))
     (λ k f is. inl (record {

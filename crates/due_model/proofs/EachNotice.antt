@@ -1,7 +1,7 @@
 -- What holds of each notice, from what holds of the notices that an event adds.
-use Rattle.std.proofs.Common.{◌≡◌, ℕ, suc, zero, ◌+◌, ◌-◌, ◌<◌, ◌≤◌, Bool, true, false, not, ◌&&◌, ◌||◌, List, [], ◌∷◌, ◌++◌, length, get_or, drop, flat_map, All, Option, None, Some, slice_get, refl, sym, ap, ◌∙◌, subst, arith}
+use Rattle.std.proofs.Common.{◌≡◌, ℕ, suc, ◌+◌, ◌-◌, ◌<◌, Bool, true, false, not, ◌||◌, List, [], ◌∷◌, length, get_or, drop, All, Option, None, Some, refl, sym, ap, ◌∙◌, subst, arith}
 use Rattle.std.proofs.lemmas.Bool.{or_parts}
-use Rattle.std.proofs.lemmas.List.Elements.{All-nil, All-append, All-weaker}
+use Rattle.std.proofs.lemmas.List.Elements.{All-nil, All-append}
 use Rattle.due_model.specs.declared.config.Config.{Config}
 use Rattle.due_model.specs.declared.config.Object.{Object}
 use Rattle.due_model.specs.declared.config.ObjectId.{ObjectId}
@@ -10,15 +10,14 @@ use Rattle.due_model.specs.declared.notice.Kind.{Kind}
 use Rattle.due_model.specs.declared.notice.Notice.{Notice}
 use Rattle.due_model.specs.declared.notice.Outcome.{Outcome}
 use Rattle.due_model.specs.declared.notice.Outcome.TheVariants.{Nothing, Sent, Suppressed}
-use Rattle.due_model.specs.declared.state.State.{State}
 use Rattle.due_model.specs.declared.zone.Zone.{Zone}
 use Rattle.due_model.specs.Due.{receivers, notices, due_for, due_at}
 use Rattle.due_model.specs.Histories.{before, outcome, hist, view, down_with_host}
 use Rattle.due_model.specs.Laws.{up_to, TellsOfEvent, NothingHoldsBack}
-use Rattle.due_model.specs.Readings.{moment, hard, program_on, flapping, down}
+use Rattle.due_model.specs.Readings.{moment, hard, flapping, down}
 use Rattle.due_model.specs.Rules.{Attempt, is_of_problem, is_of_downtime}
 use Rattle.due_model.proofs.Notices.{the_notice, notices_to_each, due_at_event, due_for_below}
-use Rattle.due_model.proofs.Verdicts.{Passes, passes_from_none, and_second, problem_is_not_downtime, attempt_at, outcome_cases, sent_at}
+use Rattle.due_model.proofs.Verdicts.{Passes, passes_from_none, and_second, problem_is_not_downtime, attempt_at, outcome_cases}
 
 up_to-cons : (e : Event) (past : List Event) (i : ℕ) → i < length past → up_to (e ∷ past) i ≡ up_to past i
 up_to-cons e past i h =
@@ -42,9 +41,9 @@ due_for_each c zone o object l Q each (e ∷ past) =
     All-append (λ n. Q (up_to (e ∷ past) n.event) n) so_far now
     (λ k d h. subst (λ xs. Q xs (get_or so_far k d)) (sym (up_to-cons e past (get_or so_far k d).event (below k d h))) (before_it k d h))
     (λ k d h.
-      let here : (get_or now k d).event ≡ length past = at k d h in
-      let whole : (get_or now k d).event + 1 ≡ length (e ∷ past) = omega arith in
-      subst (λ xs. Q xs (get_or now k d)) (sym (up_to-all (e ∷ past) (get_or now k d).event whole)) (each e past k d h))
+    let here : (get_or now k d).event ≡ length past = at k d h in
+    let whole : (get_or now k d).event + 1 ≡ length (e ∷ past) = omega arith in
+    subst (λ xs. Q xs (get_or now k d)) (sym (up_to-all (e ∷ past) (get_or now k d).event whole)) (each e past k d h))
 
 pub due_each : (c : Config) (o : ℕ) (found : Option Object) (Q : Notice → Type 0) (list : Object → List Notice)
     → ((object : Object) → found ≡ Some object → All Q (list object)) → All Q (elim found as (λ _. List Notice) [ None ↦ [] | Some object ↦ list object ])
@@ -68,14 +67,14 @@ notices_each c zone o object l event Q (Suppressed k s number m f) h = All-nil Q
 -- what holds of the notice of each attempt that passes the filters holds of each notice that an event adds
 pub due_at_each : (c : Config) (zone : Zone) (o : ℕ) (object : Object) (l : ℕ) (e : Event) (past : List Event) (Q : Notice → Type 0)
     → ((k : Kind) (number contact : ℕ) → Passes (view c zone o object e past (before o e past (hist c zone o object past))) (attempt_at o e past k)
-      → Q (the_notice o l (length past) number (attempt_at o e past k) contact))
+    → Q (the_notice o l (length past) number (attempt_at o e past k) contact))
     → All Q (due_at c zone o object l e past)
 due_at_each c zone o object l e past Q h =
     let history = hist c zone o object past in
     notices_each c zone o object l (length past) Q (outcome c zone o object e past history)
     (outcome_cases c zone o object e past history (SentGives o l (length past) Q) tt
-      (λ k none contact. h k _ contact (passes_from_none c zone (view c zone o object e past (before o e past history)) (attempt_at o e past k) none))
-      (λ k f. tt))
+    (λ k none contact. h k _ contact (passes_from_none c zone (view c zone o object e past (before o e past history)) (attempt_at o e past k) none))
+    (λ k f. tt))
 
 -- each notice tells of one of the events
 
@@ -116,5 +115,5 @@ pub due_for_held_back : (c : Config) (zone : Zone) (o : ℕ) (object : Object) (
 due_for_held_back c zone o object l past =
     due_for_each c zone o object l (λ so_far n. is_of_problem n.kind ≡ true → NothingHoldsBack o object so_far)
     (λ e earlier. due_at_each c zone o object l e earlier (λ n. is_of_problem n.kind ≡ true → NothingHoldsBack o object (e ∷ earlier))
-      (λ k number contact passes of. nothing_holds_back c zone o object e earlier (before o e earlier (hist c zone o object earlier)) k passes of))
+    (λ k number contact passes of. nothing_holds_back c zone o object e earlier (before o e earlier (hist c zone o object earlier)) k passes of))
     past

@@ -1,6 +1,5 @@
 -- What more events add to what is due.
-use Rattle.std.proofs.Common.{◌≡◌, ℕ, List, [], ◌∷◌, ◌++◌, reverse, Option, None, Some, refl, sym, ap, ◌∙◌, append_assoc, append-nil, slice_get}
-use Rattle.std.proofs.lemmas.List.{reverse-append}
+use Rattle.std.proofs.Common.{ℕ, List, [], ◌∷◌, ◌++◌, Option, None, Some, refl, sym, ap, ◌∙◌, append_assoc, append-nil, slice_get}
 use Rattle.due_model.specs.declared.config.Config.{Config}
 use Rattle.due_model.specs.declared.config.Object.{Object}
 use Rattle.due_model.specs.declared.event.Event.{Event}
@@ -26,13 +25,13 @@ suppressed_for-append c zone o object (e ∷ later) past =
 
 due_grows : (c : Config) (zone : Zone) (o l : ℕ) (found : Option Object) (later past : List Event)
     → BeginsWith (elim found as (λ _. List Notice) [ None ↦ [] | Some object ↦ due_for c zone o object l (later ++ past) ])
-      (elim found as (λ _. List Notice) [ None ↦ [] | Some object ↦ due_for c zone o object l past ])
+    (elim found as (λ _. List Notice) [ None ↦ [] | Some object ↦ due_for c zone o object l past ])
 due_grows c zone o l None later past = ([], refl)
 due_grows c zone o l (Some object) later past = due_for-append c zone o object l later past
 
 sup_grows : (c : Config) (zone : Zone) (o : ℕ) (found : Option Object) (later past : List Event)
     → BeginsWith (elim found as (λ _. List Suppression) [ None ↦ [] | Some object ↦ suppressed_for c zone o object (later ++ past) ])
-      (elim found as (λ _. List Suppression) [ None ↦ [] | Some object ↦ suppressed_for c zone o object past ])
+    (elim found as (λ _. List Suppression) [ None ↦ [] | Some object ↦ suppressed_for c zone o object past ])
 sup_grows c zone o None later past = ([], refl)
 sup_grows c zone o (Some object) later past = suppressed_for-append c zone o object later past
 

@@ -1,4 +1,5 @@
 pub mod Answered
+pub mod Begins
 pub mod Coverage
 pub mod EachNotice
 pub mod Growth

@@ -1,5 +1,5 @@
 -- The notices of one outcome, and those of all: which they can be, and in which order they stand.
-use Rattle.std.proofs.Common.{◌≡◌, ℕ, suc, zero, ◌+◌, ◌-◌, ◌<◌, ◌≤◌, Bool, List, [], ◌∷◌, ◌++◌, length, get_or, filter, flat_map, All, Option, None, Some, slice_get, if◌then◌else◌, refl, sym, ap, ◌∙◌, subst, arith, inl, inr}
+use Rattle.std.proofs.Common.{◌≡◌, ℕ, suc, ◌-◌, ◌<◌, Bool, List, [], ◌∷◌, ◌++◌, length, flat_map, All, Option, None, Some, slice_get, if◌then◌else◌, refl, ap, arith, inl, inr}
 use Rattle.std.specs.List.{AllPairs, range_with_len}
 use Rattle.std.proofs.lemmas.Bool.{cond_both}
 use Rattle.std.proofs.lemmas.List.Elements.{All-nil, All-cons, All-head, All-tail, All-append, All-weaker}
@@ -103,8 +103,8 @@ pub notices_to_each : (c : Config) (zone : Zone) (o : ℕ) (object : Object) (l 
 notices_to_each c zone o object l event number a Q ks h =
     All-flat_map Q (notice_to c zone o object l event number a) ks
     (All-weaker (λ k. Q (the_notice o l event number a k)) (λ k. All Q (notice_to c zone o object l event number a k))
-      (λ k one. notice_to_cases c zone o object l event number a k (All Q) (All-nil Q) (All-cons Q (the_notice o l event number a k) [] one (All-nil Q)))
-      ks h)
+    (λ k one. notice_to_cases c zone o object l event number a k (All Q) (All-nil Q) (All-cons Q (the_notice o l event number a k) [] one (All-nil Q)))
+    ks h)
 
 notices_to_in_order : (c : Config) (zone : Zone) (o : ℕ) (object : Object) (l event number : ℕ) (a : Attempt) (ks : List ℕ)
     → AllPairs (λ x y. x < y) ks → AllPairs ComesBefore (flat_map (notice_to c zone o object l event number a) ks)
@@ -114,8 +114,8 @@ notices_to_in_order c zone o object l event number a (k ∷ ks) h =
     let this = the_notice o l event number a k in
     let later = notices_to_in_order c zone o object l event number a ks (AllPairs-tail (λ x y. x < y) k ks h) in
     let after : All (ComesBefore this) rest =
-      notices_to_each c zone o object l event number a (ComesBefore this) ks
-      (All-weaker (λ y. k < y) (λ y. ComesBefore this (the_notice o l event number a y)) (λ y less. inr (refl, less)) ks (AllPairs-head (λ x y. x < y) k ks h))
+    notices_to_each c zone o object l event number a (ComesBefore this) ks
+    (All-weaker (λ y. k < y) (λ y. ComesBefore this (the_notice o l event number a y)) (λ y less. inr (refl, less)) ks (AllPairs-head (λ x y. x < y) k ks h))
     in
     notice_to_cases c zone o object l event number a k (λ xs. AllPairs ComesBefore (xs ++ rest)) later (AllPairs-cons ComesBefore this rest after later)
 
@@ -154,8 +154,8 @@ due_for_in_order c zone o object l (e ∷ past) =
     let now = due_at c zone o object l e past in
     AllPairs-append ComesBefore so_far now (due_for_in_order c zone o object l past) (notices_in_order c zone o object l (length past) (outcome c zone o object e past (hist c zone o object past)))
     (All-weaker (λ (n : Notice). n.event < length past) (λ n. All (ComesBefore n) now)
-      (λ n below. All-weaker (λ (m : Notice). m.event ≡ length past) (ComesBefore n) (λ m at. inl (omega (arith, below, at))) now (due_at_event c zone o object l e past))
-      so_far (due_for_below c zone o object l past))
+    (λ n below. All-weaker (λ (m : Notice). m.event ≡ length past) (ComesBefore n) (λ m at. inl (omega (arith, below, at))) now (due_at_event c zone o object l e past))
+    so_far (due_for_below c zone o object l past))
 
 pub due_in_order : (c : Config) (zone : Zone) (o l : ℕ) (found : Option Object) (past : List Event) → AllPairs ComesBefore (elim found as (λ _. List Notice) [ None ↦ [] | Some object ↦ due_for c zone o object l past ])
 due_in_order c zone o l None past = AllPairs-nil ComesBefore

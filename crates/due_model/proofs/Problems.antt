@@ -1,7 +1,7 @@
 -- How the outcomes of one problem follow one another.
-use Rattle.std.proofs.Common.{◌≡◌, ℕ, suc, zero, ◌+◌, ◌-◌, ◌<◌, ◌≤◌, Bool, true, false, cond, not, ◌&&◌, ◌==◌, nat_le, List, [], ◌∷◌, ◌++◌, length, reverse, slice_get, filter_map, All, Option, None, Some, is_some, if◌then◌else◌, refl, sym, ap, ap₂, ◌∙◌, subst, arith, ◌⊎◌, inl, inr, ⊎_elim, map-id, append-nil, zero-add, leb-true}
+use Rattle.std.proofs.Common.{◌≡◌, ℕ, suc, zero, ◌+◌, ◌<◌, ◌≤◌, Bool, true, false, cond, not, ◌==◌, List, [], ◌∷◌, ◌++◌, reverse, slice_get, filter_map, All, Option, None, Some, is_some, if◌then◌else◌, refl, sym, ap, ap₂, ◌∙◌, subst, arith, ◌⊎◌, inl, inr, map-id, append-nil, zero-add, leb-true}
 use Rattle.std.specs.List.{range_with_len, cons_option}
-use Rattle.std.proofs.lemmas.Bool.{eqb-false, not-false, cond_both, false≢true, cases_Bool}
+use Rattle.std.proofs.lemmas.Bool.{eqb-false, not-false, cond_both, false≢true}
 use Rattle.std.proofs.lemmas.List.{reverse-append}
 use Rattle.std.proofs.lemmas.List.Elements.{filter_map-append}
 use Rattle.std.proofs.lemmas.List.FromFn.{map-range_with_len_more}
@@ -20,8 +20,8 @@ use Rattle.due_model.specs.Histories.{before, of_problem, hist, outcome, view, n
 use Rattle.due_model.specs.Due.{due_for}
 use Rattle.due_model.specs.Laws.{last_problem, notice_number, up_to}
 use Rattle.due_model.proofs.EachNotice.{due_for_each, due_at_each}
-use Rattle.due_model.specs.Readings.{begins, hard}
-use Rattle.due_model.specs.Rules.{Attempt, Last, View, has_come, is_problem, is_recovery, is_too_soon, next_notice, same_state}
+use Rattle.due_model.specs.Readings.{begins}
+use Rattle.due_model.specs.Rules.{Attempt, Last, has_come, is_problem, is_recovery, is_too_soon, next_notice, same_state}
 use Rattle.due_model.proofs.Verdicts.{Passes, passes_from_none, and_second, attempt_at, outcome_cases}
 
 -- the outcomes of the last problem after one more event
@@ -106,9 +106,10 @@ pub problem_follows : (c : Config) (zone : Zone) (o : ℕ) (object : Object) (pa
 problem_follows c zone o object [] = tt
 problem_follows c zone o object (e ∷ past) =
     let history = hist c zone o object past in
-    subst EachFollows (sym (last_problem-cons c zone o object e past))
-    (outcome_follows c zone o object e past history,
-      cond_both (begins o e past) [] (of_problem o past history) EachFollows (λ _. tt) (λ _. problem_follows c zone o object past))
+    subst EachFollows (sym (last_problem-cons c zone o object e past)) (
+      outcome_follows c zone o object e past history,
+      cond_both (begins o e past) [] (of_problem o past history) EachFollows (λ _. tt) (λ _. problem_follows c zone o object past),
+    )
 
 -- an outcome is no problem notice, or one that is numbered and keeps the gap of the one before it
 record IsNext (x : Outcome) (rest : List Outcome) (now : Last) (number : ℕ) : Type 0 where
@@ -127,12 +128,16 @@ Told x rest = IsNone x ⊎ ((now : Last) × (number : ℕ) × IsNext x rest now 
 told_by : (b : Bool) (k : Kind) (s : State) (number m gap : ℕ) (rest : List Outcome) → is_problem k ≡ b → SentFollows k s number m rest → Told (Sent k s number m gap) rest
 told_by true k s number m gap rest is h =
     let now : Last = record { state = s; moment = m; gap = gap } in
-    inr (now, number, record {
-      notice = ap (λ t. if t then Some now else None) is;
-      numbered = ap (λ t. if t then Some number else None) is;
-      next = h.numbered is;
-      spaced = h.spaced is;
-    })
+    inr (
+      now,
+      number,
+      record {
+        notice = ap (λ t. if t then Some now else None) is;
+        numbered = ap (λ t. if t then Some number else None) is;
+        next = h.numbered is;
+        spaced = h.spaced is;
+      },
+    )
 told_by false k s number m gap rest is h =
     let now : Last = record { state = s; moment = m; gap = gap } in
     inl (record { notice = ap (λ t. if t then Some now else None) is; numbered = ap (λ t. if t then Some number else None) is })
@@ -242,5 +247,5 @@ pub due_for_recoveries : (c : Config) (zone : Zone) (o : ℕ) (object : Object) 
 due_for_recoveries c zone o object l past =
     due_for_each c zone o object l (λ so_far n. is_recovery n.kind ≡ true → 0 < notices_sent (last_problem c zone o object so_far))
     (λ e earlier. due_at_each c zone o object l e earlier (λ n. is_recovery n.kind ≡ true → 0 < notices_sent (last_problem c zone o object (e ∷ earlier)))
-      (λ k number contact passes h. recovery_after c zone o object e earlier k passes h))
+    (λ k number contact passes h. recovery_after c zone o object e earlier k passes h))
     past

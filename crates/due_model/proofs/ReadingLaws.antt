@@ -1,6 +1,6 @@
 -- The moment, the ready moment and downtime, over the whole list of events in the order of the feed.
-use Rattle.std.proofs.Common.{◌≡◌, ◌↔◌, ℕ, suc, zero, ◌+◌, ◌-◌, ◌<◌, ◌≤◌, max, Bool, true, false, cond, ◌==◌, nat_lt, List, [], ◌∷◌, ◌++◌, length, reverse, get_or, All, Any, count_by, Option, None, Some, IsTrue, if◌then◌else◌, refl, sym, ap, ap₂, ◌∙◌, subst, arith, ◌⊎◌, inl, inr, ⊎_elim, append_assoc, ltb-true, lt-ltb}
-use Rattle.std.proofs.lemmas.Bool.{cond-true, cond-false, cases_lt, cases_Bool, false≢true}
+use Rattle.std.proofs.Common.{◌≡◌, ◌↔◌, ℕ, suc, ◌+◌, ◌-◌, ◌<◌, ◌≤◌, Bool, true, false, cond, ◌==◌, List, [], ◌∷◌, ◌++◌, length, reverse, All, Any, count_by, None, IsTrue, if◌then◌else◌, refl, sym, ap, ◌∙◌, subst, arith, ⊎_elim, append_assoc, ltb-true, lt-ltb}
+use Rattle.std.proofs.lemmas.Bool.{cond-true, cond-false, cases_lt}
 use Rattle.std.proofs.lemmas.List.{reverse-append, reverse-reverse, length-reverse, get_or-reverse}
 use Rattle.std.proofs.lemmas.List.Elements.{All-nil, All-cons, All-head, All-tail, All-weaker, All-same}
 use Rattle.std.proofs.lemmas.List.Sums.{sum_by-cons, sum_by-append}
@@ -134,7 +134,7 @@ ends-cons : (o : ℕ) (e : Event) (events : List Event) → ends_in o (e ∷ eve
 ends-cons o e events = sum_by-cons (λ (x : Event). cond (ends_downtime o x.kind) 1 0) e events
 
 -- counts don't look at the order
-count-reverse : {X : Type 0} (p : X → Bool) (xs : List X) → count_by p (reverse xs) ≡ count_by p xs
+pub count-reverse : {X : Type 0} (p : X → Bool) (xs : List X) → count_by p (reverse xs) ≡ count_by p xs
 count-reverse p [] = refl
 count-reverse {X} p (x ∷ xs) =
     let f : X → ℕ = λ y. one_if (p y) in
@@ -190,22 +190,31 @@ down_since_more : (o : ℕ) (e : Event) (past : List Event) → (0 < depth o pas
 down_since_more o e past so_far h =
     let w = counted o e.kind (depth o past) in
     ⊎_elim (λ was_down.
-      let since = so_far was_down in
-      let n : 1 + starts_in o (e ∷ since.0) ≡ depth o (e ∷ past) + ends_in o (e ∷ since.0) =
-        omega (arith, w.2.start_is, w.2.end_is, w.2.after_is, w.2.one, since.3.depth_is, starts-cons o e since.0, ends-cons o e since.0, was_down)
-      in
-      (e ∷ since.0, since.1, since.2, record {
+    let since = so_far was_down in
+    let n : 1 + starts_in o (e ∷ since.0) ≡ depth o (e ∷ past) + ends_in o (e ∷ since.0) =
+    omega (arith, w.2.start_is, w.2.end_is, w.2.after_is, w.2.one, since.3.depth_is, starts-cons o e since.0, ends-cons o e since.0, was_down)
+    in (
+      e ∷ since.0,
+      since.1,
+      since.2,
+      record {
         split = ap (λ xs. e ∷ xs) since.3.split;
         start = since.3.start;
         along = (omega (arith, n, h), since.3.along);
         depth_is = n;
-      }))
-    (λ was_up. ([], e, past, record {
-      split = refl;
-      start = counts_one (starts_downtime o e.kind) w.0 w.2.start_is (omega (arith, w.2.after_is, h, was_up));
-      along = tt;
-      depth_is = omega (arith, w.2.after_is, w.2.one, h, was_up);
-    }))
+      },
+    ))
+    (λ was_up. (
+      [],
+      e,
+      past,
+      record {
+        split = refl;
+        start = counts_one (starts_downtime o e.kind) w.0 w.2.start_is (omega (arith, w.2.after_is, h, was_up));
+        along = tt;
+        depth_is = omega (arith, w.2.after_is, w.2.one, h, was_up);
+      },
+    ))
     (cases_lt 0 (depth o past))
 
 down_since : (o : ℕ) (past : List Event) → 0 < depth o past → HasStart o past
@@ -234,8 +243,16 @@ along_outnumbers : (o : ℕ) (s : Event) (later : List Event) → Outnumbers o s
 along_outnumbers o s later h = along_from o (reverse later) (λ newer older is.
     let split : later ≡ reverse older ++ reverse newer = sym (reverse-reverse later) ∙ ap reverse is ∙ reverse-append newer older in
     let s_counts = start_counts o s h.start in
-    omega (arith, h.at_each (reverse older) (reverse newer) split, count-reverse (λ (e : Event). starts_downtime o e.kind) older, count-reverse (λ (e : Event). ends_downtime o e.kind) older,
-      starts-cons o s (reverse older), ends-cons o s (reverse older), s_counts.0, s_counts.1))
+    omega (
+      arith,
+      h.at_each (reverse older) (reverse newer) split,
+      count-reverse (λ (e : Event). starts_downtime o e.kind) older,
+      count-reverse (λ (e : Event). ends_downtime o e.kind) older,
+      starts-cons o s (reverse older),
+      ends-cons o s (reverse older),
+      s_counts.0,
+      s_counts.1,
+    ))
 
 abbrev IsOutnumbered : ℕ → List Event → Type 0
 IsOutnumbered o feed = (earlier : List Event) × (s : Event) × (later : List Event) × (feed ≡ earlier ++ s ∷ later) × Outnumbers o s later
@@ -251,7 +268,7 @@ down_from o feed h =
     let along = along_outnumbers o h.1 h.2 h.4 in
     let split : reverse feed ≡ reverse h.2 ++ h.1 ∷ reverse h.0 = ap reverse h.3 ∙ reverse_split h.0 h.1 h.2 in
     let deep : 0 < depth o (reverse feed) =
-      omega (arith, depth_at_least o h.1 (reverse h.2) (reverse h.0) h.4.start along, along_here o (reverse h.2) along, ap (depth o) split)
+    omega (arith, depth_at_least o h.1 (reverse h.2) (reverse h.0) h.4.start along, along_here o (reverse h.2) along, ap (depth o) split)
     in
     lt-ltb 0 (depth o (reverse feed)) deep
 

@@ -14,7 +14,7 @@ use Rattle.due_model.specs.Due.{due_at, suppressed_at, receivers, rights_for, us
 use Rattle.due_model.specs.Histories.{before, hist, notices_sent, number_after, ready, standing}
 use Rattle.due_model.specs.Laws.{last_problem}
 use Rattle.due_model.specs.Readings.{moment, hard, began}
-use Rattle.due_model.specs.Rules.{Attempt, attempted}
+use Rattle.due_model.specs.Rules.{attempted}
 
 -- whether a filter is one of a contact, or of the object
 abbrev pub is_of_contact : Filter → Bool
@@ -81,6 +81,6 @@ receivers_at c zone o object e past k =
 abbrev pub EachAttemptIsAnswered : Type 0
 EachAttemptIsAnswered = (c : Config) (zone : Zone) (o : ℕ) (object : Object) (e : Event) (past : List Event)
     → MatchOption (attempt_of_event c zone o object e past)
-      (IsSilent (λ l. due_at c zone o object l e past) (suppressed_at c zone o object e past))
-      (λ k. IsStopped (λ l. due_at c zone o object l e past) (suppressed_at c zone o object e past)
-        ⊎ ReachesEach c object (receivers_at c zone o object e past k) (λ l. due_at c zone o object l e past) (suppressed_at c zone o object e past))
+    (IsSilent (λ l. due_at c zone o object l e past) (suppressed_at c zone o object e past))
+    (λ k. IsStopped (λ l. due_at c zone o object l e past) (suppressed_at c zone o object e past)
+    ⊎ ReachesEach c object (receivers_at c zone o object e past k) (λ l. due_at c zone o object l e past) (suppressed_at c zone o object e past))

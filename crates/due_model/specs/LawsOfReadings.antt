@@ -1,11 +1,10 @@
 -- What the readings of the past say of the whole list of events, in the order of the feed.
-use Rattle.std.specs.Prelude.{◌≡◌, ◌↔◌, ℕ, ◌+◌, ◌-◌, ◌<◌, ◌≤◌, Bool, true, false, ◌&&◌, List, [], ◌∷◌, ◌++◌, length, reverse, take, All, Any, count_by, ◌==◌, Option, None, IsTrue}
+use Rattle.std.specs.Prelude.{◌≡◌, ◌↔◌, ℕ, ◌-◌, ◌<◌, ◌≤◌, Bool, true, false, ◌&&◌, List, [], ◌∷◌, ◌++◌, length, reverse, take, All, Any, count_by, ◌==◌, Option, None, IsTrue}
 use Rattle.due_model.specs.declared.config.Config.{Config}
 use Rattle.due_model.specs.declared.config.Object.{Object}
 use Rattle.due_model.specs.declared.event.Event.{Event}
 use Rattle.due_model.specs.declared.event.EventKind.{EventKind}
 use Rattle.due_model.specs.declared.event.EventKind.TheVariants.{Clock, Program, Hard, Downtime, Flapping}
-use Rattle.due_model.specs.declared.event.DowntimeChange.{DowntimeChange}
 use Rattle.due_model.specs.declared.event.DowntimeChange.TheVariants.{Start, End, Cancelled}
 use Rattle.due_model.specs.declared.notice.Outcome.{Outcome}
 use Rattle.due_model.specs.declared.notice.Outcome.TheVariants.{Nothing, Sent, Suppressed}
@@ -39,9 +38,9 @@ ready_after c zone object began front (Suppressed k s number m why) = retry_afte
 -- The last outcome of an attempt as a problem tells when the next is; with none there is no next.
 pub record IsReadyByLast : Type 0 where
   pub by_last : (c : Config) (zone : Zone) (object : Object) (began : ℕ) (front : List Outcome) (x : Outcome) (rest : List Outcome)
-    → tries_problem x ≡ true → All (λ y. tries_problem y ≡ false) rest → ready c zone object began (reverse (front ++ x ∷ rest)) ≡ ready_after c zone object began front x
+      → tries_problem x ≡ true → All (λ y. tries_problem y ≡ false) rest → ready c zone object began (reverse (front ++ x ∷ rest)) ≡ ready_after c zone object began front x
   pub never : (c : Config) (zone : Zone) (object : Object) (began : ℕ) (outcomes : List Outcome)
-    → All (λ y. tries_problem y ≡ false) outcomes → ready c zone object began (reverse outcomes) ≡ None
+      → All (λ y. tries_problem y ≡ false) outcomes → ready c zone object began (reverse outcomes) ≡ None
 
 -- an event starts a downtime of the object, or ends or cancels one
 abbrev pub starts_downtime : ℕ → EventKind → Bool
@@ -79,7 +78,7 @@ abbrev pub DownWhereStartsOutnumber : Type 0
 DownWhereStartsOutnumber = (o : ℕ) (feed : List Event)
     → IsTrue (down o (reverse feed)) ↔ ((earlier : List Event) × (s : Event) × (later : List Event) × (feed ≡ earlier ++ s ∷ later) × Outnumbers o s later)
 
--- an event is a hard OK state of the object, or a hard pending one
+-- an event is a hard OK state of the object
 abbrev pub is_ok_of : ℕ → EventKind → Bool
 is_ok_of o Clock = false
 is_ok_of o (Program on) = false
@@ -97,6 +96,7 @@ is_pending state.Warning = false
 is_pending state.Unknown = false
 is_pending state.Critical = false
 
+-- an event is a pending state, as none of a feed is
 abbrev pub is_pending_event : EventKind → Bool
 is_pending_event Clock = false
 is_pending_event (Program on) = false
@@ -115,14 +115,18 @@ pub record IsBegin (o : ℕ) (earlier : List Event) (b : Event) (later : List Ev
   pub such : IsInProblem o b later
   pub least : (front : List Event) (x : Event) (rest : List Event) → earlier ≡ front ++ x ∷ rest → IsInProblem o x (rest ++ b ∷ later) → ⊥
 
--- A problem begins at the least event that is such: at its moment, and the outcomes of the problem are those from that event on.
--- No hard event is pending in a feed.
+-- A problem begins at the least event that is such: that is its moment, and the outcomes of the problem, and its notices, are
+-- those from that event on. While the last hard state is a problem there is such an event. No event of a feed is a pending state.
 pub record BeginIsLeast : Type 0 where
   pub at_moment : (o : ℕ) (earlier : List Event) (b : Event) (later : List Event) → All (λ e. is_pending_event e.kind ≡ false) (earlier ++ b ∷ later) → IsBegin o earlier b later
-    → began o (reverse (earlier ++ b ∷ later)) ≡ moment (reverse (earlier ++ b ∷ []))
+      → began o (reverse (earlier ++ b ∷ later)) ≡ moment (reverse (earlier ++ b ∷ []))
   pub outcomes : (o : ℕ) (earlier : List Event) (b : Event) (later : List Event) (before_it from_it : List Outcome)
-    → All (λ e. is_pending_event e.kind ≡ false) (earlier ++ b ∷ later) → IsBegin o earlier b later
-    → length before_it ≡ length earlier → length from_it ≡ length (b ∷ later)
-    → reverse (of_problem o (reverse (earlier ++ b ∷ later)) (reverse (before_it ++ from_it))) ≡ from_it
-  pub exists : (o : ℕ) (feed : List Event) → is_problem_state (hard o (reverse feed)) ≡ true
-    → (earlier : List Event) × (b : Event) × (later : List Event) × (feed ≡ earlier ++ b ∷ later) × IsBegin o earlier b later
+      → All (λ e. is_pending_event e.kind ≡ false) (earlier ++ b ∷ later) → IsBegin o earlier b later
+      → length before_it ≡ length earlier → length from_it ≡ length (b ∷ later)
+      → reverse (of_problem o (reverse (earlier ++ b ∷ later)) (reverse (before_it ++ from_it))) ≡ from_it
+  pub notices : (o : ℕ) (earlier : List Event) (b : Event) (later : List Event) (before_it from_it : List Outcome)
+      → All (λ e. is_pending_event e.kind ≡ false) (earlier ++ b ∷ later) → IsBegin o earlier b later
+      → length before_it ≡ length earlier → length from_it ≡ length (b ∷ later)
+      → notices_sent (of_problem o (reverse (earlier ++ b ∷ later)) (reverse (before_it ++ from_it))) ≡ notices_sent from_it
+  pub exists : (o : ℕ) (feed : List Event) → All (λ e. is_pending_event e.kind ≡ false) feed → is_problem_state (hard o (reverse feed)) ≡ true
+      → (earlier : List Event) × (b : Event) × (later : List Event) × (feed ≡ earlier ++ b ∷ later) × IsBegin o earlier b later

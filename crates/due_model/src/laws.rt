@@ -3,7 +3,7 @@
 
 ghost use Rattle.due_model.specs.Laws.{DueOnlyGrows, SuppressionsOnlyGrow, NoticesStandInOrder, NoticesStandOnce, NoticesTellOfEvents, ProblemsAreHeldBack, RecoveriesFollowNotices, NumbersGoUpByOne, NoticesKeepTheirGaps};
 ghost use Rattle.due_model.specs.LawsOfAttempts.{EachAttemptIsAnswered};
-ghost use Rattle.due_model.specs.LawsOfReadings.{MomentIsGreatestStamp, IsReadyByLast, DownWhereStartsOutnumber};
+ghost use Rattle.due_model.specs.LawsOfReadings.{MomentIsGreatestStamp, IsReadyByLast, DownWhereStartsOutnumber, BeginIsLeast};
 
 /// What was due, or suppressed, after some events is the front of that after more events.
 pub fn only_grows()
@@ -37,10 +37,11 @@ pub fn answer_each_attempt()
 {}
 
 /// The readings say of the whole list of events what the manual says: the moment is the greatest stamp, the
-/// ready moment is told by the last problem attempt, and the object is in downtime where from some start on
-/// starts outnumber ends.
+/// ready moment is told by the last problem attempt, the object is in downtime where from some start on
+/// starts outnumber ends, and a problem begins at the least event since which it runs.
 pub fn read_the_feed()
     ensures moment { MomentIsGreatestStamp }
     ensures ready { IsReadyByLast }
     ensures downtime { DownWhereStartsOutnumber }
+    ensures begin { BeginIsLeast }
 {}

@@ -1,4 +1,4 @@
-use Rattle.std.proofs.Common.{◌≡◌, Some, slice_get, add-one, ap, ◌∙◌, sym, filter_map, suc}
+use Rattle.std.proofs.Common.{slice_get, add-one, ap, ◌∙◌, sym, filter_map}
 use Rattle.due_model.specs.Histories.{notice_of}
 use Rattle.due_model.specs.Laws.{last_problem}
 use Rattle.due_model.proofs.Problems.{problem_follows, numbers_go_up, gaps_are_kept}

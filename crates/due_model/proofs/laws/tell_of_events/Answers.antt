@@ -1,5 +1,4 @@
-use Rattle.std.proofs.Common.{◌≡◌, ◌<◌, slice_get, true, List, Some, None, ap, ◌∙◌, sym}
-use Rattle.due_model.specs.declared.config.Object.{Object}
+use Rattle.std.proofs.Common.{◌≡◌, ◌<◌, slice_get, true}
 use Rattle.due_model.specs.Due.{due_for}
 use Rattle.due_model.specs.Laws.{TellsOfEvent, NothingHoldsBack, up_to, last_problem}
 use Rattle.due_model.specs.Histories.{notices_sent}
@@ -17,12 +16,12 @@ pub returns-clause-held_back : goal.returns-clause-held_back
 returns-clause-held_back x c zone o l object past known =
     due_each c o (slice_get c.objects o) (λ n. is_of_problem n.kind ≡ true → NothingHoldsBack o object (up_to past n.event)) (λ other. due_for c zone o other l past)
     (λ other found.
-      let same : object ≡ other = cc in
-      rw same (due_for_held_back c zone o other l past))
+    let same : object ≡ other = cc in
+    rw same (due_for_held_back c zone o other l past))
 
 pub returns-clause-recoveries : goal.returns-clause-recoveries
 returns-clause-recoveries x c zone o l object past known =
     due_each c o (slice_get c.objects o) (λ n. is_recovery n.kind ≡ true → 0 < notices_sent (last_problem c zone o object (up_to past n.event))) (λ other. due_for c zone o other l past)
     (λ other found.
-      let same : object ≡ other = cc in
-      rw same (due_for_recoveries c zone o other l past))
+    let same : object ≡ other = cc in
+    rw same (due_for_recoveries c zone o other l past))

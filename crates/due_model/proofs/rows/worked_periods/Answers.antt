@@ -1,14 +1,13 @@
 -- The definitions compute, but where no moment of a stretch is in a period, its moments are passed over at once.
-use Rattle.std.proofs.Common.{◌≡◌, ℕ, zero, suc, ◌+◌, ◌%◌, ◌<◌, ◌≤◌, Bool, true, false, not, ◌&&◌, ◌||◌, nat_le, nat_lt, List, [], ◌∷◌, replicate, slice_get, Option, Some, None, add-zero, zero-add, suc-add, refl, sym, ap, ◌∙◌, subst, arith, le-ltb, inl, inr, ⊎_elim}
+use Rattle.std.proofs.Common.{◌≡◌, ℕ, zero, suc, ◌+◌, ◌%◌, ◌<◌, ◌≤◌, Bool, true, false, ◌||◌, nat_le, nat_lt, List, [], ◌∷◌, replicate, slice_get, Option, Some, None, add-zero, zero-add, suc-add, refl, ap, ◌∙◌, arith, le-ltb, ⊎_elim}
 use Rattle.std.proofs.lemmas.Bool.{lt-leb, and_left, and_right, cases_lt}
 use Rattle.std.specs.List.{list_any}
-use Rattle.due_model.specs.declared.config.PeriodId.{PeriodId}
 use Rattle.due_model.specs.declared.config.Range.{Range}
 use Rattle.due_model.specs.declared.zone.Zone.TheVariants.{Utc}
 use Rattle.due_model.specs.Histories.{hist}
 use Rattle.due_model.specs.Local.{local}
 use Rattle.due_model.specs.Periods.{in_range, in_period, first_passing, next_in}
-use Rattle.due_model.specs.Rows.{work_hours, meals}
+use Rattle.due_model.specs.Rows.{work_hours}
 use Rattle.due_model.proofs.rows.worked_periods.Goals as goal
 
 -- moments that don't pass are passed over
@@ -38,8 +37,8 @@ not_at_work t low high =
     let s : ℕ = (t + 0) % 86400 in
     and_left _ true
     (at_any_day {X = List Range} (λ day. list_any (in_range s) (elim day as (λ _. List Range) [ None ↦ [] | Some ranges ↦ ranges ]) ≡ false)
-      (record { start = 32400; end = 61200 } ∷ []) 7 (local Utc t).weekday refl
-      (ap (λ b. b || false) (off_hours t low high)))
+    (record { start = 32400; end = 61200 } ∷ []) 7 (local Utc t).weekday refl
+    (ap (λ b. b || false) (off_hours t low high)))
 
 next_at_work : next_in work_hours Utc (Some (record { 0 = 0 })) 61200 ≡ Some 118800
 unfolding next_in first_passing
