@@ -18,7 +18,7 @@ use crate::zone::Zone;
 
 /// The last problem notice of the running problem.
 #[derive(Clone, Copy, Debug)]
-pub struct LastNotice {
+pub(crate) struct LastNotice {
     /// The state that it reported.
     pub state: State,
     /// In seconds since the epoch.
@@ -28,7 +28,11 @@ pub struct LastNotice {
 }
 
 /// The outcomes of the object's last problem: those from the event on with which it began.
-pub fn of_problem<'a>(object: ObjectId, events: &[Event], history: &'a [Outcome]) -> &'a [Outcome]
+pub(crate) fn of_problem<'a>(
+    object: ObjectId,
+    events: &[Event],
+    history: &'a [Outcome],
+) -> &'a [Outcome]
     requires { length events.now ≡ length history.now }
     ensures value { reverse result.now ≡ of_problem object.0 (reverse events.now) (reverse history.now) }
     ensures in_range { All IsInRange history.now → All IsInRange result.now }
@@ -46,7 +50,7 @@ pub fn of_problem<'a>(object: ObjectId, events: &[Event], history: &'a [Outcome]
 }
 
 /// The problem notice that this outcome is, if it is one.
-pub fn notice_of(outcome: Outcome) -> Option<LastNotice>
+pub(crate) fn notice_of(outcome: Outcome) -> Option<LastNotice>
     ensures value { option_map last_of result ≡ notice_of outcome }
     ensures in_range { IsInRange outcome → IfSome result IsLastInRange }
 {
@@ -63,7 +67,7 @@ pub fn notice_of(outcome: Outcome) -> Option<LastNotice>
 }
 
 /// How many problem notices went out.
-pub fn notices_sent(history: &[Outcome]) -> u64
+pub(crate) fn notices_sent(history: &[Outcome]) -> u64
     ensures value { result ≡ notices_sent (reverse history.now) }
     ensures few { result ≤ length history.now }
 {
@@ -77,7 +81,7 @@ pub fn notices_sent(history: &[Outcome]) -> u64
 }
 
 /// The last problem notice that went out.
-pub fn last_notice(history: &[Outcome]) -> Option<LastNotice>
+pub(crate) fn last_notice(history: &[Outcome]) -> Option<LastNotice>
     ensures value { option_map last_of result ≡ last_notice (reverse history.now) }
     ensures in_range { All IsInRange history.now → IfSome result IsLastInRange }
 {
@@ -89,7 +93,7 @@ pub fn last_notice(history: &[Outcome]) -> Option<LastNotice>
 }
 
 /// When the last notice may be followed by one of the same state, in seconds since the epoch.
-pub fn after_last(last: Option<LastNotice>) -> Option<u64>
+pub(crate) fn after_last(last: Option<LastNotice>) -> Option<u64>
     requires { IfSome last IsLastInRange }
     ensures { result ≡ after_last (option_map last_of last) }
 {
@@ -101,7 +105,7 @@ pub fn after_last(last: Option<LastNotice>) -> Option<u64>
 
 /// When a problem is attempted again by the clock, in seconds since the epoch, after an attempt at `moment`
 /// that this filter stopped; none is never.
-pub fn retry_after(
+pub(crate) fn retry_after(
     config: &Config,
     zone: &Zone,
     settings: &Object,
@@ -164,7 +168,7 @@ fn ready_after(
 
 /// When the clock next attempts a problem, by its last attempt as a problem, in seconds since the epoch;
 /// none is never.
-pub fn ready(
+pub(crate) fn ready(
     config: &Config,
     zone: &Zone,
     settings: &Object,
@@ -188,7 +192,7 @@ pub fn ready(
 
 /// The outcomes of the problem that runs at an event, or ends there, from before that event, where `problem`
 /// has those of the last problem before it.
-pub fn before<'a>(
+pub(crate) fn before<'a>(
     object: ObjectId,
     event: &Event,
     past: &[Event],
