@@ -8,6 +8,9 @@ pub mod Histories
 pub mod Due
 pub mod Accepted
 pub mod Covered
+pub mod Laws
+pub mod LawsOfAttempts
+pub mod LawsOfReadings
 pub mod Rows
 pub mod Objects
 pub mod Slow

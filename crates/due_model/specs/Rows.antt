@@ -1,10 +1,11 @@
 -- Worked examples: a configuration with the host web, its contact ann and the command mail, in UTC.
-use Rattle.std.specs.Prelude.{◌≡◌, ℕ, Bool, true, false, List, [], ◌∷◌, reverse, replicate, map, codes, Some, None}
+use Rattle.std.specs.Prelude.{◌≡◌, ℕ, Bool, true, false, List, [], ◌∷◌, reverse, replicate, map, codes, Some, None, Option, ◌++◌}
 use Rattle.due_model.specs.declared.config.Config.{Config}
 use Rattle.due_model.specs.declared.config.Contact.{Contact}
 use Rattle.due_model.specs.declared.config.Escalation.{Escalation}
 use Rattle.due_model.specs.declared.config.Object.{Object}
 use Rattle.due_model.specs.declared.config.Period.{Period}
+use Rattle.due_model.specs.declared.config.PeriodId.{PeriodId}
 use Rattle.due_model.specs.declared.config.Range.{Range}
 use Rattle.due_model.specs.declared.config.Rights.{Rights}
 use Rattle.due_model.specs.declared.event.Event.{Event}
@@ -23,6 +24,7 @@ use Rattle.due_model.specs.declared.state.State.TheVariants as state
 use Rattle.due_model.specs.declared.state.StateSet.{StateSet}
 use Rattle.due_model.specs.declared.zone.Zone.TheVariants.{Utc}
 use Rattle.due_model.specs.Due.{due, sup}
+use Rattle.due_model.specs.Periods.{in_period, next_in}
 
 abbrev pub every_letter : Letters
 every_letter = record { down = true; unreachable = true; warning = true; unknown = true; critical = true; recovery = true; flapping = true; downtime = true }
@@ -239,3 +241,29 @@ refusal = record {
 abbrev pub ContactOptions : Type 0
 ContactOptions = sup (record base { contacts = record (by_mail (codes "ann")) { hosts = not_recoveries } ∷ [] }) Utc 0
     (reverse (at 1000 (has 0 state.Down) ∷ at 1010 (has 0 state.Up) ∷ [])) ≡ refusal ∷ []
+
+-- a period that holds on Thursdays, but not where these others do
+abbrev pub thursdays : List Range → List PeriodId → Period
+thursdays ranges excludes = record { name = codes "day"; days = replicate 4 [] ++ ranges ∷ [] ∷ [] ∷ []; excludes = excludes }
+
+-- period 0 is all of Thursday without lunch, period 1 is lunch without tea, period 2 is tea
+abbrev pub meals : Config
+meals = record base {
+  periods = thursdays (record { start = 0; end = 86400 } ∷ []) (record { 0 = 1 } ∷ [])
+      ∷ thursdays (record { start = 43200; end = 46800 } ∷ []) (record { 0 = 2 } ∷ [])
+      ∷ thursdays (record { start = 45000; end = 45900 } ∷ []) [] ∷ [];
+}
+
+-- whether a moment is in the first period, and the next moment that is
+abbrev pub in_first : ℕ → Bool
+in_first t = in_period meals Utc (Some (record { 0 = 0 })) t
+
+abbrev pub next_in_first : ℕ → Option ℕ
+next_in_first t = next_in meals Utc (Some (record { 0 = 0 })) t
+
+-- a moment of tea is one of the first period, since tea isn't lunch (chapter "Time Periods")
+pub record NestedExclusion : Type 0 where
+  pub lunch : in_first 43800 ≡ false
+  pub tea : in_first 45600 ≡ true
+  pub until_tea : next_in_first 43800 ≡ Some 45000
+  pub after_lunch : next_in_first 46200 ≡ Some 46800

@@ -5,6 +5,7 @@
 pub mod config;
 pub mod covered;
 pub mod event;
+pub mod laws;
 pub mod letters;
 pub mod notice;
 pub mod objects;

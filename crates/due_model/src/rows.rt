@@ -1,6 +1,6 @@
 //! Worked examples that the definitions must get right.
 
-ghost use Rattle.due_model.specs.Rows.{OneHostDown, EmptyFeed, Renotify, SameStateTooSoon, ProgramSwitch, EscalationAndRecovery, OverlappingEscalations, IntervalZero, InDowntime, NestedDowntimes, WhileFlapping, DependencyChain, FirstDelay, WorkHours, ContactOptions};
+ghost use Rattle.due_model.specs.Rows.{OneHostDown, EmptyFeed, Renotify, SameStateTooSoon, ProgramSwitch, EscalationAndRecovery, OverlappingEscalations, IntervalZero, InDowntime, NestedDowntimes, WhileFlapping, DependencyChain, FirstDelay, ContactOptions, WorkHours, NestedExclusion};
 
 /// The definitions give what the worked examples say of one host: a notice, none, the next after the
 /// interval, the filters for the same state and for the program switch.
@@ -27,4 +27,10 @@ pub fn worked_filters()
     ensures dependency_chain { DependencyChain }
     ensures first_delay { FirstDelay }
     ensures contact_options { ContactOptions }
+{}
+
+/// The definitions give what the worked examples say of time periods (chapter "Time Periods").
+pub fn worked_periods()
+    ensures work_hours { WorkHours }
+    ensures nested_exclusion { NestedExclusion }
 {}

@@ -1,12 +1,12 @@
 //! The plain slow program: it looks back over all events for each answer, as the definitions do.
 
-pub mod escalations;
-pub mod filters;
-pub mod histories;
-pub mod notices;
-pub mod outcomes;
-pub mod periods;
-pub mod readings;
+pub(crate) mod escalations;
+pub(crate) mod filters;
+pub(crate) mod histories;
+pub(crate) mod notices;
+pub(crate) mod outcomes;
+pub(crate) mod periods;
+pub(crate) mod readings;
 #[cfg(test)]
 mod tests;
 

@@ -11,7 +11,7 @@ use crate::zone::Zone;
 
 /// How long after a problem notice the next of the same state is due, in seconds; 0 is never.
 #[tactic(auto, using(crate::proofs::Coverage::no_escalation))]
-pub fn gap(
+pub(crate) fn gap(
     config: &Config,
     zone: &Zone,
     object: ObjectId,
@@ -29,7 +29,7 @@ pub fn gap(
 }
 
 /// Whether a list of contacts has this one.
-pub fn has_contact(contacts: &[ContactId], contact: ContactId) -> bool
+pub(crate) fn has_contact(contacts: &[ContactId], contact: ContactId) -> bool
     ensures { result ≡ has_contact contacts.now contact.0 }
 {
     contacts.iter().any(|other| other.0 == contact.0)

@@ -17,7 +17,7 @@ use crate::zone::Zone;
 
 /// A notification that is attempted.
 #[derive(Clone, Copy, Debug)]
-pub struct Attempted {
+pub(crate) struct Attempted {
     pub kind: Kind,
     /// The object's last hard state, the event's own counted.
     pub state: State,
@@ -27,7 +27,7 @@ pub struct Attempted {
 
 /// What the filters of an object read.
 #[derive(Clone, Copy, Debug)]
-pub struct ObjectView {
+pub(crate) struct ObjectView {
     /// Whether the program switch is on.
     pub program: bool,
     /// `notifications_enabled`.
@@ -52,21 +52,21 @@ pub struct ObjectView {
 }
 
 /// Whether this is a problem notification.
-pub fn is_problem(kind: Kind) -> bool
+pub(crate) fn is_problem(kind: Kind) -> bool
     ensures { result ≡ is_problem kind }
 {
     matches!(kind, Kind::Problem)
 }
 
 /// Whether this is a recovery notification.
-pub fn is_recovery(kind: Kind) -> bool
+pub(crate) fn is_recovery(kind: Kind) -> bool
     ensures { result ≡ is_recovery kind }
 {
     matches!(kind, Kind::Recovery)
 }
 
 /// Whether this notification tells of a downtime.
-pub fn is_of_downtime(kind: Kind) -> bool
+pub(crate) fn is_of_downtime(kind: Kind) -> bool
     ensures { result ≡ is_of_downtime kind }
 {
     matches!(
@@ -76,14 +76,19 @@ pub fn is_of_downtime(kind: Kind) -> bool
 }
 
 /// Whether this notification tells of a problem, or of the recovery from one.
-pub fn is_of_problem(kind: Kind) -> bool
+pub(crate) fn is_of_problem(kind: Kind) -> bool
     ensures { result ≡ is_of_problem kind }
 {
     is_problem(kind) || is_recovery(kind)
 }
 
 /// The first of an object's filters that fails, in their order.
-pub fn failing(config: &Config, zone: &Zone, view: ObjectView, attempt: Attempted) -> Option<Filter>
+pub(crate) fn failing(
+    config: &Config,
+    zone: &Zone,
+    view: ObjectView,
+    attempt: Attempted,
+) -> Option<Filter>
     requires period { view.period ≡ None }
     requires began { view.began ≤ last_moment }
     requires delay { view.delay ≤ most }
@@ -118,7 +123,7 @@ pub fn failing(config: &Config, zone: &Zone, view: ObjectView, attempt: Attempte
 }
 
 /// The first of a contact's filters that fails, in their order.
-pub fn contact_failing(
+pub(crate) fn contact_failing(
     config: &Config,
     zone: &Zone,
     rights: &Rights,

@@ -17,7 +17,11 @@ use crate::state::State;
 use crate::zone::Zone;
 
 /// The outcomes of the object's last problem: those from the event on with which it began.
-pub fn of_problem<'a>(object: ObjectId, events: &[Event], history: &'a [Outcome]) -> &'a [Outcome]
+pub(crate) fn of_problem<'a>(
+    object: ObjectId,
+    events: &[Event],
+    history: &'a [Outcome],
+) -> &'a [Outcome]
     requires { length events.now ≡ length history.now }
     ensures value { reverse result.now ≡ of_problem object.0 (reverse events.now) (reverse history.now) }
     ensures in_range { All IsInRange history.now → All IsInRange result.now }
@@ -35,7 +39,7 @@ pub fn of_problem<'a>(object: ObjectId, events: &[Event], history: &'a [Outcome]
 }
 
 /// The problem notice that this outcome is, if it is one.
-pub fn notice_of(outcome: Outcome) -> Option<Last>
+pub(crate) fn notice_of(outcome: Outcome) -> Option<Last>
     ensures value { result ≡ notice_of outcome }
     ensures in_range { IsInRange outcome → IfSome result IsLastInRange }
 {
@@ -52,7 +56,7 @@ pub fn notice_of(outcome: Outcome) -> Option<Last>
 }
 
 /// How many problem notices went out.
-pub fn notices_sent(history: &[Outcome]) -> u64
+pub(crate) fn notices_sent(history: &[Outcome]) -> u64
     ensures value { result ≡ notices_sent (reverse history.now) }
     ensures few { result ≤ length history.now }
 {
@@ -66,7 +70,7 @@ pub fn notices_sent(history: &[Outcome]) -> u64
 }
 
 /// The last problem notice that went out.
-pub fn last_notice(history: &[Outcome]) -> Option<Last>
+pub(crate) fn last_notice(history: &[Outcome]) -> Option<Last>
     ensures value { result ≡ last_notice (reverse history.now) }
     ensures in_range { All IsInRange history.now → IfSome result IsLastInRange }
 {
@@ -78,7 +82,7 @@ pub fn last_notice(history: &[Outcome]) -> Option<Last>
 }
 
 /// When the last notice may be followed by one of the same state, in seconds since the epoch.
-pub fn after_last(last: Option<Last>) -> Option<u64>
+pub(crate) fn after_last(last: Option<Last>) -> Option<u64>
     requires { IfSome last IsLastInRange }
     ensures { result ≡ after_last last }
 {
@@ -90,7 +94,7 @@ pub fn after_last(last: Option<Last>) -> Option<u64>
 
 /// When a problem is attempted again by the clock, in seconds since the epoch, after an attempt at `moment`
 /// that this filter stopped; none is never.
-pub fn retry_after(
+pub(crate) fn retry_after(
     config: &Config,
     zone: &Zone,
     settings: &Object,
@@ -153,7 +157,7 @@ fn ready_after(
 
 /// When the clock next attempts a problem, by its last attempt as a problem, in seconds since the epoch;
 /// none is never.
-pub fn ready(
+pub(crate) fn ready(
     config: &Config,
     zone: &Zone,
     settings: &Object,
@@ -177,7 +181,7 @@ pub fn ready(
 
 /// The outcomes of the problem that runs at an event, or ends there, from before that event, where `problem`
 /// has those of the last problem before it.
-pub fn before<'a>(
+pub(crate) fn before<'a>(
     object: ObjectId,
     event: &Event,
     past: &[Event],

@@ -14,7 +14,7 @@ use crate::zone::Zone;
 use std::alloc::{AllocError, Global};
 
 /// What a contact is notified of, for the kind of this object.
-pub fn rights_for<'a>(settings: &Object, contact: &'a Contact) -> &'a Rights
+pub(crate) fn rights_for<'a>(settings: &Object, contact: &'a Contact) -> &'a Rights
     ensures { result.now ≡ rights_for settings.now contact.now }
 {
     if settings.host.is_some() {
@@ -25,7 +25,7 @@ pub fn rights_for<'a>(settings: &Object, contact: &'a Contact) -> &'a Rights
 }
 
 /// Whether a contact's notices go out on this lane.
-pub fn uses_lane(rights: &Rights, lane: LaneId) -> bool
+pub(crate) fn uses_lane(rights: &Rights, lane: LaneId) -> bool
     ensures { result ≡ uses_lane rights.now lane.0 }
 {
     rights
@@ -36,7 +36,7 @@ pub fn uses_lane(rights: &Rights, lane: LaneId) -> bool
 }
 
 /// The contacts of the configuration that are on this list, each once, in number order.
-pub fn contacts_with(
+pub(crate) fn contacts_with(
     alloc: Global,
     config: &Config,
     contacts: &[ContactId],
@@ -58,7 +58,7 @@ pub fn contacts_with(
 /// The contacts that a notice goes to, each once, in number order. So far no escalation is read, and they
 /// are the object's own.
 #[tactic(auto, using(crate::proofs::Coverage::no_escalation))]
-pub fn receivers(
+pub(crate) fn receivers(
     alloc: Global,
     config: &Config,
     zone: &Zone,
@@ -76,7 +76,7 @@ pub fn receivers(
 }
 
 /// The notice to a contact on a lane, if the contact's filters pass and it uses that lane.
-pub fn notice_to(
+pub(crate) fn notice_to(
     config: &Config,
     zone: &Zone,
     object: ObjectId,
@@ -117,7 +117,7 @@ pub fn notice_to(
 }
 
 /// The suppression of a contact, if one of the contact's filters fails.
-pub fn refusal_of(
+pub(crate) fn refusal_of(
     config: &Config,
     zone: &Zone,
     object: ObjectId,
@@ -214,7 +214,7 @@ fn add_refused(
 
 /// Appends the notices of an outcome for a lane, one for each receiver that gets it there. After an error
 /// some are appended.
-pub fn add_notices(
+pub(crate) fn add_notices(
     alloc: Global,
     config: &Config,
     zone: &Zone,
@@ -256,7 +256,7 @@ pub fn add_notices(
 
 /// Appends the suppressions of an outcome: the object's, or one for each receiver that is refused. After an
 /// error some are appended.
-pub fn add_suppressions(
+pub(crate) fn add_suppressions(
     alloc: Global,
     config: &Config,
     zone: &Zone,

@@ -19,7 +19,7 @@ use crate::slow::readings::{began, began_at, hard, moment_at, program_on};
 use crate::zone::Zone;
 
 /// How the object stands after the events. So far no downtime runs and nothing is flapping.
-pub fn standing(config: &Config, object: ObjectId, past: &[Event]) -> Standing
+pub(crate) fn standing(config: &Config, object: ObjectId, past: &[Event]) -> Standing
     requires { All (IsPlainEvent config.now) past.now }
     ensures value { result ≡ standing object.0 (reverse past.now) }
     ensures no_downtime { result.depth ≡ 0 }
@@ -33,7 +33,7 @@ pub fn standing(config: &Config, object: ObjectId, past: &[Event]) -> Standing
 
 /// The number of a notification in its problem, after so many problem notices; 0 for the kinds that have
 /// none.
-pub fn number_after(sent: u64, kind: Kind) -> u64
+pub(crate) fn number_after(sent: u64, kind: Kind) -> u64
     requires { sent + 1 < 2 ^ 64 }
     ensures { result ≡ number_after sent kind }
 {
@@ -44,7 +44,7 @@ pub fn number_after(sent: u64, kind: Kind) -> u64
 }
 
 /// The gap of a notice in seconds: only a problem's has one.
-pub fn gap_of(
+pub(crate) fn gap_of(
     config: &Config,
     zone: &Zone,
     object: ObjectId,
@@ -74,7 +74,7 @@ pub fn gap_of(
 }
 
 /// What becomes of an attempt: the first failing filter suppresses it, else it goes out.
-pub fn judged(
+pub(crate) fn judged(
     config: &Config,
     zone: &Zone,
     object: ObjectId,
@@ -122,7 +122,7 @@ pub fn judged(
 
 /// What the filters read at an event, the event itself counted; `earlier` has the outcomes of the problem
 /// before it. So far no downtime runs, nothing is flapping, and no dependency fails.
-pub fn view(
+pub(crate) fn view(
     config: &Config,
     zone: &Zone,
     object: ObjectId,
@@ -160,7 +160,7 @@ pub fn view(
 
 /// What becomes of the object at an event, after the events before it and their outcomes. `history` has one
 /// outcome for each of those events.
-pub fn outcome(
+pub(crate) fn outcome(
     config: &Config,
     zone: &Zone,
     object: ObjectId,

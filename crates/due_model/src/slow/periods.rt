@@ -7,7 +7,7 @@ use crate::config::{Config, PeriodId};
 use crate::zone::Zone;
 
 /// Whether a moment, in seconds since the epoch, is in a period; no period is always.
-pub fn in_period(config: &Config, zone: &Zone, period: Option<PeriodId>, t: u64) -> bool
+pub(crate) fn in_period(config: &Config, zone: &Zone, period: Option<PeriodId>, t: u64) -> bool
     requires { period ≡ None }
     ensures { result ≡ in_period config.now zone.now period t }
 {
@@ -19,7 +19,7 @@ pub fn in_period(config: &Config, zone: &Zone, period: Option<PeriodId>, t: u64)
 
 /// The least moment of a period at or after `t`, at most 400 days on.
 #[tactic(auto, using(crate::proofs::Coverage::next_in_none))]
-pub fn next_in(config: &Config, zone: &Zone, period: Option<PeriodId>, t: u64) -> Option<u64>
+pub(crate) fn next_in(config: &Config, zone: &Zone, period: Option<PeriodId>, t: u64) -> Option<u64>
     requires { period ≡ None }
     ensures { result ≡ next_in config.now zone.now period t }
 {

@@ -8,7 +8,7 @@ use crate::event::{Event, EventKind};
 use crate::state::State;
 
 /// The greatest stamp of the events, in seconds since the epoch; 0, if there is none.
-pub fn moment(events: &[Event]) -> u64
+pub(crate) fn moment(events: &[Event]) -> u64
     ensures { result ≡ moment (reverse events.now) }
 {
     let mut greatest: u64 = 0;
@@ -19,7 +19,7 @@ pub fn moment(events: &[Event]) -> u64
 }
 
 /// Whether the program switch is on after the events (chapter "External Commands").
-pub fn program_on(events: &[Event]) -> bool
+pub(crate) fn program_on(events: &[Event]) -> bool
     ensures { result ≡ program_on (reverse events.now) }
 {
     let mut on = true;
@@ -30,7 +30,7 @@ pub fn program_on(events: &[Event]) -> bool
 }
 
 /// The last hard state of the object; pending, if there is none (chapter "State Types").
-pub fn hard(object: ObjectId, events: &[Event]) -> State
+pub(crate) fn hard(object: ObjectId, events: &[Event]) -> State
     ensures { result ≡ hard object.0 (reverse events.now) }
 {
     let mut state = State::Pending;
@@ -42,14 +42,14 @@ pub fn hard(object: ObjectId, events: &[Event]) -> State
 
 /// Whether a problem of the object begins with this event, of which the hard state was `old` before it
 /// (chapter "Notifications").
-pub fn begins(object: ObjectId, event: EventKind, old: State) -> bool
+pub(crate) fn begins(object: ObjectId, event: EventKind, old: State) -> bool
     ensures { result ≡ (is_problem_of object.0 event && not (is_problem_state old)) }
 {
     event.is_problem_of(object) && !old.is_problem()
 }
 
 /// The moment at which the object's last problem began, in seconds since the epoch; 0, if there was none.
-pub fn began(object: ObjectId, events: &[Event]) -> u64
+pub(crate) fn began(object: ObjectId, events: &[Event]) -> u64
     ensures { result ≡ began object.0 (reverse events.now) }
 {
     let mut began = 0;
@@ -66,14 +66,14 @@ pub fn began(object: ObjectId, events: &[Event]) -> u64
 }
 
 /// The moment of an event, in seconds since the epoch: the greatest stamp up to it.
-pub fn moment_at(event: &Event, past: &[Event]) -> u64
+pub(crate) fn moment_at(event: &Event, past: &[Event]) -> u64
     ensures { result ≡ moment (event.now ∷ reverse past.now) }
 {
     moment(past).max(event.moment)
 }
 
 /// The moment at which the object's last problem began, this event counted; 0, if there was none.
-pub fn began_at(object: ObjectId, event: &Event, past: &[Event]) -> u64
+pub(crate) fn began_at(object: ObjectId, event: &Event, past: &[Event]) -> u64
     ensures { result ≡ began object.0 (event.now ∷ reverse past.now) }
 {
     if begins(object, event.kind, hard(object, past)) {

@@ -1,0 +1,13 @@
+use Rattle.std.proofs.Common.{slice_get, add-one, ap, ◌∙◌, sym, filter_map}
+use Rattle.due_model.specs.Histories.{notice_of}
+use Rattle.due_model.specs.Laws.{last_problem}
+use Rattle.due_model.proofs.Problems.{problem_follows, numbers_go_up, gaps_are_kept}
+use Rattle.due_model.proofs.laws.follow_in_problem.Goals as goal
+
+pub returns-clause-numbers : goal.returns-clause-numbers
+returns-clause-numbers x c zone o object past = numbers_go_up (last_problem c zone o object past) (problem_follows c zone o object past)
+
+pub returns-clause-gaps : goal.returns-clause-gaps
+returns-clause-gaps x c zone o object past i earlier later is_later is_earlier same =
+    let notices = filter_map notice_of (last_problem c zone o object past) in
+    gaps_are_kept (last_problem c zone o object past) (problem_follows c zone o object past) i earlier later is_later (ap (slice_get notices) (sym (add-one i)) ∙ is_earlier) same
