@@ -1,0 +1,3 @@
+pub mod ResolvedFault
+pub mod ResolvedFaults
+pub mod ResolvedValues
