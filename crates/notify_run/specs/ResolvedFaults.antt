@@ -1,0 +1,51 @@
+-- Which blocks are refused.
+use Rattle.std.specs.Prelude.{◌≡◌, ℕ, Bool, true, false, not, ◌&&◌, ◌||◌, ◌==◌, List, [], ◌∷◌, ◌++◌, length, codes, Option, Some, None, is_some, is_none, if◌then◌else◌}
+use Rattle.std.specs.List.{list_any}
+use Rattle.std.specs.Str.{bytes_eq}
+use Rattle.object_reader.specs.declared.block.Block.{Block}
+use Rattle.object_reader.specs.declared.block.BlockKind.{BlockKind}
+use Rattle.object_reader.specs.declared.block.BlockKind.TheVariants.{Command, Contact, Host}
+use Rattle.object_reader.specs.declared.block.Directive.{Directive}
+use Rattle.notify_run.specs.declared.configure.fault.BlockFault.{BlockFault}
+use Rattle.notify_run.specs.declared.configure.fault.BlockFault.TheVariants.{MissingDirective, UnknownName, Doubled, BadNumber, TooMany, NotYet}
+use Rattle.notify_run.specs.ResolvedValues.{entries_read, naming, number_in, value_in}
+
+-- ---- what isn't read yet
+
+-- the directives that aren't read yet, by the type of the block (chapter "Object Definitions")
+abbrev pub later_names : BlockKind → List (List ℕ)
+later_names Command = codes "name" ∷ codes "use" ∷ codes "register" ∷ []
+later_names Contact = codes "name" ∷ codes "use" ∷ codes "register" ∷ codes "contactgroups"
+    ∷ codes "host_notifications_enabled" ∷ codes "host_notification_period" ∷ codes "host_notification_options"
+    ∷ codes "service_notifications_enabled" ∷ codes "service_notification_period" ∷ codes "service_notification_options" ∷ []
+later_names Host = codes "name" ∷ codes "use" ∷ codes "register" ∷ codes "hostgroups" ∷ codes "contact_groups"
+    ∷ codes "notification_period" ∷ codes "notification_options" ∷ codes "notifications_enabled" ∷ codes "first_notification_delay" ∷ []
+
+-- an entry that begins with !, * or +, or is `null`
+abbrev pub is_later_entry : List ℕ → Bool
+is_later_entry [] = false
+is_later_entry (b ∷ bs) = b == 33 || b == 42 || b == 43 || bytes_eq (b ∷ bs) (codes "null")
+
+-- whether a block has a directive, or an entry of a list, that isn't read yet
+abbrev pub has_later_parts : Block → Bool
+has_later_parts block = list_any (λ d. list_any (bytes_eq d.name) (later_names block.kind)) block.directives
+    || list_any is_later_entry (entries_read block.kind block.directives)
+
+-- ---- the values of one block
+
+-- whether a value that is there isn't a number
+abbrev pub is_bad_number : Option (List ℕ) → Bool
+is_bad_number None = false
+is_bad_number (Some value) = is_none (number_in value)
+
+-- whether a block is a host with an interval that isn't a number
+abbrev pub has_bad_interval : BlockKind → List Directive → Bool
+has_bad_interval Command directives = false
+has_bad_interval Contact directives = false
+has_bad_interval Host directives = is_bad_number (value_in directives (codes "notification_interval"))
+
+-- the first fault of a block's own values: a name that is missing, or an interval that isn't a number
+abbrev pub value_fault : Block → Option BlockFault
+value_fault block = if is_none (value_in block.directives (naming block.kind)) then Some MissingDirective
+    else if has_bad_interval block.kind block.directives then Some BadNumber
+    else None
