@@ -42,7 +42,7 @@ object_filter c zone v a f is =
     ∷ (not (in_period c zone v.period a.moment), why.Period)
     ∷ (is_of_problem a.kind && v.depends, why.Dependency)
     ∷ (is_problem a.kind && v.sent == 0 && nat_lt a.moment (v.began + 60 * v.delay), why.FirstDelay)
-    ∷ (is_problem a.kind && is_too_soon v.last a, why.Interval)
+    ∷ (is_problem a.kind && is_too_soon v.last a.state a.moment, why.Interval)
     ∷ [])
     (refl, (refl, (refl, (refl, (refl, (refl, (refl, (refl, (refl, (refl, tt)))))))))) f is
 

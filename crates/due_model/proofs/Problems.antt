@@ -48,7 +48,7 @@ come_by true gap moment t is h = absurd (false≢true h)
 come_by false gap moment t is h = let some : gap ≡ 0 → ⊥ = eqb-false gap 0 is in let come = leb-true (moment + gap) t h in (omega (arith, some), come)
 
 -- the gap has passed where the last notice isn't too soon
-spaced_by : (last : Last) (a : Attempt) → is_too_soon (Some last) a ≡ false → a.state ≡ last.state → (0 < last.gap) × (last.moment + last.gap ≤ a.moment)
+spaced_by : (last : Last) (a : Attempt) → is_too_soon (Some last) a.state a.moment ≡ false → a.state ≡ last.state → (0 < last.gap) × (last.moment + last.gap ≤ a.moment)
 spaced_by last a h same =
     let one : same_state last.state a.state ≡ true = ap (same_state last.state) same ∙ same_state_self last.state in
     let come = not-false (has_come (next_notice last.moment last.gap) a.moment) (and_second (same_state last.state a.state) (not (has_come (next_notice last.moment last.gap) a.moment)) h one) in
@@ -81,8 +81,8 @@ sent_follows c zone o object e past earlier k passes = record {
   numbered = λ h. number_of_problem k (notices_sent earlier) h;
   spaced = λ h last is same.
       let a = attempt_at o e past k in
-      let soon : is_too_soon (last_notice earlier) a ≡ false = and_second (is_problem k) (is_too_soon (last_notice earlier) a) passes.interval h in
-      spaced_by last a (ap (λ x. is_too_soon x a) (sym is) ∙ soon) (sym same);
+      let soon : is_too_soon (last_notice earlier) a.state a.moment ≡ false = and_second (is_problem k) (is_too_soon (last_notice earlier) a.state a.moment) passes.interval h in
+      spaced_by last a (ap (λ x. is_too_soon x a.state a.moment) (sym is) ∙ soon) (sym same);
   recovers = λ h.
       let none = and_second (is_recovery k) (notices_sent earlier == 0) passes.sent h in
       let some : notices_sent earlier ≡ 0 → ⊥ = eqb-false (notices_sent earlier) 0 none in

@@ -31,11 +31,11 @@ pub record Passes (v : View) (a : Attempt) : Type 0 where
   pub down : (not (is_of_downtime a.kind) && v.down) ≡ false
   pub flapping : (is_of_problem a.kind && v.flapping) ≡ false
   pub sent : (is_recovery a.kind && v.sent == 0) ≡ false
-  pub interval : (is_problem a.kind && is_too_soon v.last a) ≡ false
+  pub interval : (is_problem a.kind && is_too_soon v.last a.state a.moment) ≡ false
 
 pub passes_from_none : (c : Config) (zone : Zone) (v : View) (a : Attempt) → failing c zone v a ≡ None → Passes v a
 passes_from_none c zone v a h =
-    let t10 : List (Bool × Filter) = (is_problem a.kind && is_too_soon v.last a, why.Interval) ∷ [] in
+    let t10 : List (Bool × Filter) = (is_problem a.kind && is_too_soon v.last a.state a.moment, why.Interval) ∷ [] in
     let t9 : List (Bool × Filter) = (is_problem a.kind && v.sent == 0 && nat_lt a.moment (v.began + 60 * v.delay), why.FirstDelay) ∷ t10 in
     let t8 : List (Bool × Filter) = (is_of_problem a.kind && v.depends, why.Dependency) ∷ t9 in
     let t7 : List (Bool × Filter) = (not (in_period c zone v.period a.moment), why.Period) ∷ t8 in
@@ -53,7 +53,7 @@ passes_from_none c zone v a h =
     let p7 = none_by_test (not (in_period c zone v.period a.moment)) why.Period t8 p6.1 in
     let p8 = none_by_test (is_of_problem a.kind && v.depends) why.Dependency t9 p7.1 in
     let p9 = none_by_test (is_problem a.kind && v.sent == 0 && nat_lt a.moment (v.began + 60 * v.delay)) why.FirstDelay t10 p8.1 in
-    let p10 = none_by_test (is_problem a.kind && is_too_soon v.last a) why.Interval [] p9.1 in
+    let p10 = none_by_test (is_problem a.kind && is_too_soon v.last a.state a.moment) why.Interval [] p9.1 in
     record { program = not-false v.program p1.0; down = p3.0; flapping = p4.0; sent = p6.0; interval = p10.0 }
 
 -- a problem or a recovery tells of no downtime

@@ -16,7 +16,7 @@ use Rattle.due_model.specs.declared.notice.Filter.TheVariants as filter
 use Rattle.due_model.specs.declared.config.Config.{Config}
 use Rattle.due_model.specs.declared.config.PeriodId.{PeriodId}
 use Rattle.due_model.specs.declared.config.Rights.{Rights}
-use Rattle.due_model.specs.declared.rules.Last.{Last}
+pub use Rattle.due_model.specs.declared.rules.Last.{Last}
 use Rattle.due_model.specs.declared.rules.Standing.{Standing}
 use Rattle.due_model.specs.declared.zone.Zone.{Zone}
 use Rattle.due_model.specs.Periods.{in_period}

@@ -1,11 +1,12 @@
 //! The command `replay`: what would have been sent, from object text and a feed.
 
-ghost use Rattle.std.specs.Prelude.{◌≡◌, ◌≤◌, length, OnOk};
+ghost use Rattle.std.specs.Prelude.{◌≡◌, ◌≤◌, length, OnOk, IfOk};
 ghost use Rattle.due_model.specs.Accepted.{IsAccepted, IsProper};
 ghost use Rattle.due_model.specs.Covered.{IsCovered, IsTakenIn};
 ghost use Rattle.decider.specs.Outboxes.{lists};
 ghost use Rattle.notify_run.specs.Replays.{GoesOn};
 
+use crate::configure::{ResolveFault, configure};
 use crate::input::{InputFault, take_objects};
 use crate::output::{Buffer, OutputFailed};
 use crate::report::{push_notice, push_refused, push_suppression};
@@ -16,6 +17,7 @@ use due_model::notice::{Notice, Suppression};
 use due_model::zone::Zone;
 use event_feed::{FeedFault, Feeder, LineFault};
 use object_reader::fault::ReadFault;
+use object_reader::reading::read;
 use std::alloc::{AllocError, Global};
 use std::io::{Read, Write};
 
@@ -31,8 +33,12 @@ pub enum Ending {
 /// Why a replay was given up.
 #[derive(Clone, Copy, Debug, PartialEq, Eq)]
 pub enum ReplayFault {
-    /// The object text is refused. Nothing was written.
-    Objects(ReadFault),
+    /// The object text isn't blocks. Nothing was written.
+    Read(ReadFault),
+    /// The blocks give no configuration. Nothing was written.
+    Resolve(ResolveFault),
+    /// The object text is too large. Nothing was written.
+    TooLarge,
     /// The object text couldn't be read. Nothing was written.
     Unreadable,
     /// The output failed, or took nothing. A part of the report was written.
@@ -44,6 +50,35 @@ pub enum ReplayFault {
 impl From<AllocError> for ReplayFault {
     fn from(_error: AllocError) -> ReplayFault {
         ReplayFault::NoMemory
+    }
+}
+
+impl From<InputFault> for ReplayFault {
+    fn from(fault: InputFault) -> ReplayFault {
+        match fault {
+            InputFault::Unreadable => ReplayFault::Unreadable,
+            InputFault::TooLarge => ReplayFault::TooLarge,
+            InputFault::NoMemory => ReplayFault::NoMemory,
+        }
+    }
+}
+
+impl From<ReadFault> for ReplayFault {
+    fn from(fault: ReadFault) -> ReplayFault {
+        match fault {
+            ReadFault::NoMemory => ReplayFault::NoMemory,
+            ReadFault::TooLarge => ReplayFault::TooLarge,
+            fault => ReplayFault::Read(fault),
+        }
+    }
+}
+
+impl From<ResolveFault> for ReplayFault {
+    fn from(fault: ResolveFault) -> ReplayFault {
+        match fault {
+            ResolveFault::NoMemory => ReplayFault::NoMemory,
+            fault => ReplayFault::Resolve(fault),
+        }
     }
 }
 
@@ -279,4 +314,25 @@ fn report_feed<R: Read + Drop, W: Write>(
     }
     lines.buffer.flush(writer)?;
     Ok(Ending::Short)
+}
+
+/// The configuration that an object text gives.
+fn load(alloc: Global, text: &[u8]) -> Result<Config, ReplayFault>
+    ensures { IfOk result (λ config. IsAccepted config × IsCovered config) }
+{
+    let blocks = read(alloc, text)?;
+    Ok(configure(alloc, blocks.as_slice())?)
+}
+
+/// Reads object text up to a line `%events`, and then a feed, and writes the report of the feed. The feed is
+/// read and the report written as it comes: memory grows with the configuration alone. Where the object text
+/// is refused nothing is written; where the output fails or memory runs out, a part of the report was.
+pub fn replay<R: Read + Drop, W: Write>(
+    alloc: Global,
+    reader: R,
+    writer: &mut W,
+) -> Result<Ending, ReplayFault> {
+    let (text, feed) = take_objects(alloc, reader)?;
+    let config = load(alloc, &text)?;
+    report_feed(alloc, &config, feed, writer)
 }
