@@ -112,7 +112,7 @@ impl Outbox {
     pub fn len(&self) -> usize
         ensures { result ≡ length (lists self.now) }
     {
-        self.lanes.len()
+        self.lanes.as_slice().len()
     }
 
     /// The notice that has waited longest for this lane. It takes no memory.

@@ -20,6 +20,8 @@ use Rattle.event_feed.specs.Source.{Source, to_come, byte_limit, call_limit, Beg
 use Rattle.event_feed.specs.Feed.{Answer, answers, feed_limit, is_stopped, text_reading, moment_after, AreFromLine, HasLine, LineAnswers, CallsFit, GoesToLine, CountsLine, GivesEvent, GivesFault, raised}
 use Rattle.event_feed.proofs.Parts.{HasFirst, slice_split-first}
 use Rattle.event_feed.proofs.ProperLines.{line_reading-fault}
+use Rattle.event_feed.proofs.TakenLines.{taken_in_line}
+use Rattle.due_model.specs.Covered.{IsTakenIn}
 
 -- ---- pieces
 
@@ -235,6 +237,7 @@ GivesEvent-line c before after line last line' None event given goes_on goes cou
       answers = Known-map (to_come before) (to_come after) _ _ goes (λ bytes rest answers.
           answers.0 c.objects last ∙ rw text refl);
       proper = subst (IsProper c) (sym same) (record { stamp = omega (arith, proper.stamp); kind = proper.kind });
+      taken_in = subst (λ (e : Event). IsTakenIn e.kind) (sym same) (taken_in_line c.objects after.line event reading);
       later = rw same (omega arith);
       last = refl;
       line = counts.0;

@@ -2,6 +2,7 @@
 use Rattle.std.specs.Prelude.{◌≡◌, ℕ, ◌+◌, ◌<◌, ◌≤◌, ◌^◌, max, Bool, ◌||◌, ◌==◌, if◌then◌else◌, nat_lt, nat_le, List, [], ◌∷◌, length, take_while, IsTrue, IsSome, is_some, ⊤, Option, Some, None, Result, Ok, Err}
 use Rattle.std.specs.List.{list_any}
 use Rattle.due_model.specs.Accepted.{IsProper}
+use Rattle.due_model.specs.Covered.{IsTakenIn}
 use Rattle.due_model.specs.declared.config.Config.{Config}
 use Rattle.due_model.specs.declared.config.Object.{Object}
 use Rattle.due_model.specs.declared.event.Event.{Event}
@@ -113,10 +114,11 @@ abbrev pub FaultFits : FeedFault → Option Stop → Type 0
 FaultFits fault None = IsTrue (is_line_fault fault)
 FaultFits fault (Some stop) = stop_fault stop ≡ Some fault
 
--- the feed gives an event: proper, its moment no earlier than the last
+-- the feed gives an event: proper, of a kind that is taken in, its moment no earlier than the last
 pub record GivesEvent (c : Config) (old : Feed) (event : Event) (new : Feed) : Type 0 where
   pub answers : AnswersNext c.objects old (record { line = new.line; given = Ok event }) new
   pub proper : IsProper c event
+  pub taken_in : IsTakenIn event.kind
   pub later : old.last ≤ event.moment
   pub last : new.last ≡ event.moment
   pub line : old.line < new.line

@@ -6,6 +6,8 @@ mod input;
 mod output;
 mod replay;
 mod report;
+#[cfg(test)]
+mod tests;
 
 use replay::{Ending, ReplayFault, replay};
 use std::env;

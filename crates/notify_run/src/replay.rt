@@ -266,10 +266,8 @@ fn take_line<R: Read + Drop, W: Write>(
     match feeder.next(config) {
         Ok(None) => Ok(Some(Ending::Whole)),
         Ok(Some(event)) => {
-            if !event.kind.is_taken_in() {
-                return Ok(None);
-            }
-            decide_event(lines, writer, config, decider, outbox, event, feeder.line())
+            let line = feeder.line();
+            decide_event(lines, writer, config, decider, outbox, event, line)
         }
         Err(LineFault { line, fault }) => {
             lines.refused(writer, line, fault)?;

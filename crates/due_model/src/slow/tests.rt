@@ -9,6 +9,7 @@ use crate::covered::{covered, proper};
 use crate::event::{Event, EventKind};
 use crate::letters::Letters;
 use crate::notice::{Filter, Kind, Notice, Suppression};
+use crate::objects::Objects;
 use crate::sequence::{Sequence, Text};
 use crate::slow::{slow_due, slow_sup};
 use crate::state::State;
@@ -78,7 +79,7 @@ fn base(alloc: Global) -> Result<Config, AllocError>
         name: text(alloc, b"mail")?,
     })?;
     Ok(Config {
-        objects: Sequence::new(objects),
+        objects: Objects::new(alloc, objects)?,
         contacts: Sequence::new(contacts),
         lanes: Sequence::new(lanes),
         periods: Sequence::new(Vec::new(alloc)),

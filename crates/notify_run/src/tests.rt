@@ -1,0 +1,184 @@
+//! Replays of the worked examples, over readers and writers in memory.
+
+use crate::configure::{BlockFault, ResolveFault};
+use crate::replay::{Ending, ReplayFault, replay};
+use object_reader::fault::{LineFault, ReadFault};
+use std::alloc::Global;
+use std::io::{self, Read, Write};
+use std::process::Abort;
+use std::test::Fail;
+
+/// One host, its contact and a command.
+const BASE: &str = "\
+define command{
+ command_name mail
+ command_line /usr/bin/true
+}
+define contact{
+ contact_name ann
+ host_notification_commands mail
+ service_notification_commands mail
+}
+define host{
+ host_name web
+ contacts ann
+ notification_interval 1
+}
+";
+
+/// The input of BASE and this feed.
+fn input(alloc: Global, feed: &str) -> Result<String, Fail> {
+    Ok(format!(in alloc; "{BASE}%events\n{feed}")?)
+}
+
+/// Replays BASE with this feed, and compares what is written and how it ends.
+fn gives(rt: &impl Abort, alloc: Global, feed: &str, report: &str, ending: Ending) -> Result<(), Fail> {
+    let text = input(alloc, feed)?;
+    let mut out = Vec::new(alloc);
+    let ended = replay(alloc, text.as_bytes(), &mut out);
+    assert_eq!(rt; ended, Ok(ending), "{feed}");
+    assert_eq!(rt; out.as_slice(), report.as_bytes(), "{feed}");
+    Ok(())
+}
+
+#[test]
+fn one_host_down(rt: HostRuntime) -> Result<(), Fail> {
+    gives(
+        &rt,
+        rt.alloc(),
+        "[1000] HOST_STATE;web;DOWN\n",
+        "N;0;1000;web;PROBLEM;DOWN;1;ann;mail\n",
+        Ending::Whole,
+    )
+}
+
+#[test]
+fn worked_feeds(rt: HostRuntime) -> Result<(), Fail> {
+    let feeds = [
+        ("", "", Ending::Whole),
+        (
+            "[1000] HOST_STATE;web;DOWN\n[1059] CLOCK\n[1060] CLOCK\n",
+            "N;0;1000;web;PROBLEM;DOWN;1;ann;mail\nN;2;1060;web;PROBLEM;DOWN;2;ann;mail\n",
+            Ending::Whole,
+        ),
+        (
+            "[1000] HOST_STATE;web;DOWN\n[1030] HOST_STATE;web;DOWN\n[1059] CLOCK\n[1060] CLOCK\n",
+            "N;0;1000;web;PROBLEM;DOWN;1;ann;mail\nS;1;1030;web;PROBLEM;DOWN;Interval\nN;3;1060;web;PROBLEM;DOWN;2;ann;mail\n",
+            Ending::Whole,
+        ),
+        (
+            "[1000] DISABLE_NOTIFICATIONS\n[1000] HOST_STATE;web;DOWN\n[1005] ENABLE_NOTIFICATIONS\n[1010] HOST_STATE;web;UP\n",
+            "S;1;1000;web;PROBLEM;DOWN;Program\nS;3;1010;web;RECOVERY;UP;NoProblem\n",
+            Ending::Whole,
+        ),
+        (
+            "[1000] HOST_STATE;web;DOWN\n[990] HOST_STATE;web;UP\n[10",
+            "N;0;1000;web;PROBLEM;DOWN;1;ann;mail\nN;1;1000;web;RECOVERY;UP;2;ann;mail\nR;3;Cut\n",
+            Ending::Short,
+        ),
+        (
+            "[x] CLOCK\n[1] NOPE\n[1] HOST_STATE;db;DOWN\n[1] HOST_STATE;web;CRITICAL\n[32503680000] CLOCK\n",
+            "R;1;BadStamp\nR;2;UnknownKind\nR;3;UnknownObject\nR;4;BadState\nR;5;BadStamp\n",
+            Ending::Whole,
+        ),
+    ];
+    for (feed, report, ending) in feeds {
+        gives(&rt, rt.alloc(), feed, report, ending)?;
+    }
+    Ok(())
+}
+
+#[test]
+fn refused_objects(rt: HostRuntime) -> Result<(), Fail> {
+    let texts = [
+        (
+            "define host{\n host_name web\n",
+            ReplayFault::Read(ReadFault::AtLine {
+                line: 1,
+                fault: LineFault::Unclosed,
+            }),
+        ),
+        (
+            "\ndefine host{\n contacts ann\n}\n",
+            ReplayFault::Resolve(ResolveFault::AtLine {
+                line: 2,
+                fault: BlockFault::MissingDirective,
+            }),
+        ),
+    ];
+    for (text, fault) in texts {
+        let mut out = Vec::new(rt.alloc());
+        let ended = replay(rt.alloc(), text.as_bytes(), &mut out);
+        assert_eq!(rt; ended, Err(fault), "{text}");
+        assert!(rt; out.is_empty());
+    }
+    Ok(())
+}
+
+/// A reader that gives at most so many bytes at a time.
+#[derive(Drop)]
+struct Pieces<'a> {
+    bytes: &'a [u8],
+    most: usize,
+}
+
+impl Read for Pieces<'_> {
+    fn read(&mut self, buf: &mut [u8]) -> io::Result<usize> {
+        let count = self.bytes.len().min(buf.len()).min(self.most);
+        let (front, rest) = self.bytes.split_at(count);
+        buf[..count].copy_from_slice(front);
+        self.bytes = rest;
+        Ok(count)
+    }
+}
+
+/// A writer that takes nothing from the call of this number on.
+#[derive(Drop)]
+struct Stubborn {
+    calls: usize,
+}
+
+impl Write for Stubborn {
+    fn write(&mut self, buf: &[u8]) -> io::Result<usize> {
+        if self.calls == 0 {
+            return Ok(0);
+        }
+        self.calls -= 1;
+        Ok(buf.len().min(5))
+    }
+
+    fn flush(&mut self) -> io::Result<()> {
+        Ok(())
+    }
+}
+
+#[test]
+fn in_pieces(rt: HostRuntime) -> Result<(), Fail> {
+    let text = input(rt.alloc(), "[1000] HOST_STATE;web;DOWN\n[1060] CLOCK\n")?;
+    for most in [1, 2, 3, 7, 4096] {
+        let mut out = Vec::new(rt.alloc());
+        let reader = Pieces {
+            bytes: text.as_bytes(),
+            most,
+        };
+        let ended = replay(rt.alloc(), reader, &mut out);
+        assert_eq!(rt; ended, Ok(Ending::Whole));
+        assert_eq!(rt;
+            out.as_slice(),
+            b"N;0;1000;web;PROBLEM;DOWN;1;ann;mail\nN;1;1060;web;PROBLEM;DOWN;2;ann;mail\n".as_slice(),
+            "pieces of {most}"
+        );
+    }
+    Ok(())
+}
+
+#[test]
+fn output_fails(rt: HostRuntime) -> Result<(), Fail> {
+    let text = input(rt.alloc(), "[1000] HOST_STATE;web;DOWN\n")?;
+    for calls in 0..7 {
+        let mut writer = Stubborn { calls };
+        let ended = replay(rt.alloc(), text.as_bytes(), &mut writer);
+        assert_eq!(rt; ended, Err(ReplayFault::Output), "after {calls} calls");
+    }
+    Ok(())
+}
