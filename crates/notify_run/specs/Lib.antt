@@ -1,3 +1,5 @@
+pub mod Resolved
 pub mod ResolvedFault
 pub mod ResolvedFaults
+pub mod ResolvedLimits
 pub mod ResolvedValues

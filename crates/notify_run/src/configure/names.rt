@@ -44,7 +44,7 @@ impl Names {
         ensures added { IfOk result (λ added. added ≡ not (list_any (bytes_eq name.now) self.old)) }
         ensures names { OnOk result (self.new ≡ (if list_any (bytes_eq name.now) self.old then self.old else self.old ++ name.now ∷ [])) }
     {
-        let added = self.set.insert(name.to_vec(alloc)?)?;
+        let added = self.set.insert(Vec::from_slice(alloc, name)?)?;
         Ok(added)
     }
 
@@ -53,5 +53,12 @@ impl Names {
         ensures { result ≡ position (bytes_eq name.now) self.now }
     {
         self.set.get_index_of(name)
+    }
+
+    /// Whether a name is there.
+    pub(crate) fn has(&self, name: &[u8]) -> bool
+        ensures { result ≡ list_any (bytes_eq name.now) self.now }
+    {
+        self.set.contains(name)
     }
 }
