@@ -1,14 +1,14 @@
 -- The configuration of blocks within the limits is accepted, and covered.
 use Rattle.std.proofs.Common.{◌≡◌, ℕ, zero, suc, ◌<◌, ◌≤◌, Bool, true, false, not, cond, nat_eq, nat_le, nat_lt, List, [], ◌∷◌, length, map, filter, get_or, All, Contains, Option, Some, None, IfSome, unwrap_or, refl, sym, ap, subst, ◌∙◌, arith}
 use Rattle.std.specs.List.{AllZip, filter_map, position, position_or_len, list_all, cons_option}
-use Rattle.std.specs.Prelude.{slice_get}
+use Rattle.std.specs.Prelude.{codes, slice_get}
 use Rattle.std.specs.Char.{is_ascii_digit}
 use Rattle.std.specs.Str.{bytes_eq}
 use Rattle.std.proofs.lemmas.Bool.{leb-true, ltb-true}
 use Rattle.std.proofs.lemmas.List.{get_or-map, get_or_default, length-map}
 use Rattle.std.proofs.lemmas.Option.{slice_get_within}
 use Rattle.std.proofs.lemmas.List.Elements.{All-nil, All-cons, All-contains}
-use Rattle.due_model.specs.Accepted.{Chain, ContactFits, DependsOn, Excludes, HasNoLoop, IsAccepted, ObjectFits, RightsFit, most}
+use Rattle.due_model.specs.Accepted.{Chain, ContactFits, DependsOn, Excludes, HasNoLoop, DependencyFits, EscalationFits, IsAccepted, ObjectFits, PeriodFits, RightsFit}
 use Rattle.due_model.specs.Covered.{AreFullRights, HasHostLetters, IsCovered, IsPlainHost}
 use Rattle.due_model.specs.declared.config.Config.{Config}
 use Rattle.due_model.specs.declared.config.Contact.{Contact}
@@ -18,25 +18,19 @@ use Rattle.due_model.specs.declared.config.Rights.{Rights}
 use Rattle.due_model.specs.declared.letters.Letters.{Letters}
 use Rattle.object_reader.specs.declared.block.Block.{Block}
 use Rattle.notify_run.specs.Resolved.{AreRightsOf, AreSetOf, IsConfigOf, IsContactOf, IsHostOf, contact_names, contacts_in, contacts_named, every_letter, hosts_in, interval_of, lanes_named}
-use Rattle.notify_run.specs.ResolvedValues.{command_name, name_of, number_in, number_of}
-use Rattle.notify_run.proofs.ResolvedLists.{All-paired, length-paired}
+use Rattle.notify_run.specs.ResolvedValues.{command_name, entries_read, name_of, number_in, number_of, value_in}
+use Rattle.object_reader.specs.declared.block.BlockKind.TheVariants.{Host}
+use Rattle.notify_run.proofs.ResolvedLists.{All-paired, length-paired, position-within}
 
 -- ---- numbers within their lists
 
-found-within : (b : Bool) (a n : ℕ) → nat_lt a n ≡ b → IfSome (cond b (Some a) None) (λ k. k < n)
-found-within true a n is = ltb-true a n is
-found-within false a n is = tt
-
-pub position-within : {X : Type 0} (p : X → Bool) (xs : List X) → IfSome (position p xs) (λ k. k < length xs)
-position-within p xs = found-within _ (position_or_len p xs) (length xs) refl
+added-found : (P : ℕ → Type 0) (found : Option ℕ) (others : List ℕ) → IfSome found P → All P others → All P (cons_option found others)
+added-found P None others here each = each
+added-found P (Some k) others here each = All-cons P k others here each
 
 all-found : {X : Type 0} (f : X → Option ℕ) (n : ℕ) → ((x : X) → IfSome (f x) (λ k. k < n)) → (xs : List X) → All (λ k. k < n) (filter_map f xs)
 all-found f n each [] = All-nil (λ k. k < n)
-all-found f n each (x ∷ xs) = added (f x) (each x)
-  where
-    added : (found : Option ℕ) → IfSome found (λ k. k < n) → All (λ k. k < n) (cons_option found (filter_map f xs))
-    added None here = all-found f n each xs
-    added (Some k) here = All-cons (λ k. k < n) k (filter_map f xs) here (all-found f n each xs)
+all-found f n each (x ∷ xs) = added-found (λ k. k < n) (f x) (filter_map f xs) (each x) (all-found f n each xs)
 
 pub contacts-within : (names entries : List (List ℕ)) → All (λ k. k < length names) (contacts_named names entries)
 contacts-within names entries = all-found (λ entry. position (bytes_eq entry) names) (length names) (λ entry. position-within (bytes_eq entry) names) entries
@@ -52,6 +46,11 @@ set-within number n listed ids each set = λ k d below.
     let is : get_or (map number ids) k (number (get_or ids k d)) ≡ number (get_or ids k d) =
       get_or-map number ids k d (number (get_or ids k d)) below in
     All-contains (λ j. j < n) listed (number (get_or ids k d)) each (set.only (number (get_or ids k d)) (k, inside, is))
+
+-- and of the set itself
+pub all-of_set : (P : ℕ → Type 0) (listed set : List ℕ) → All P listed → AreSetOf listed set → All P set
+all-of_set P listed set each are = λ k d below.
+    All-contains P listed (get_or set k d) each (are.only (get_or set k d) (k, below, get_or_default set k (get_or set k d) d below))
 
 -- ---- the interval
 
@@ -86,9 +85,10 @@ host-fits : (config : Config) (names : List (List ℕ)) → length names ≡ len
 host-fits config names long block object of = record {
   host = none-fits _ object.host of.host;
   period = none-fits _ object.period of.period;
-  interval = rw of.interval (interval-few _);
+  interval = rw of.interval (interval-few (value_in block.directives (codes "notification_interval")));
   delay = rw of.delay (omega arith);
-  contacts = set-within (λ contact. contact.0) (length config.contacts) _ object.contacts (subst (λ n. All (λ k. k < n) _) long (contacts-within names _)) of.contacts
+  contacts = set-within (λ contact. contact.0) (length config.contacts) (contacts_named names (entries_read Host block.directives)) object.contacts
+    (subst (λ n. All (λ k. k < n) (contacts_named names (entries_read Host block.directives))) long (contacts-within names (entries_read Host block.directives))) of.contacts
 }
 
 host-plain : (names : List (List ℕ)) (block : Block) (object : Object) → IsHostOf names block object → IsPlainHost object
@@ -148,9 +148,9 @@ resolved-accepted blocks lane_blocks config of few_hosts few_contacts few_lanes 
       few_dependencies = rw of.no_dependency (omega arith);
       objects = All-paired _ (ObjectFits config) (hosts_in blocks) config.objects (host-fits config (contact_names blocks) names) of.objects;
       contacts = All-paired _ (ContactFits config) (contacts_in blocks) config.contacts (contact-fits config) of.contacts;
-      periods = empty-all _ config.periods of.no_period;
-      escalations = empty-all _ config.escalations of.no_escalation;
-      dependencies = empty-all _ config.dependencies of.no_dependency;
+      periods = empty-all (PeriodFits config) config.periods of.no_period;
+      escalations = empty-all (EscalationFits config) config.escalations of.no_escalation;
+      dependencies = empty-all (DependencyFits config) config.dependencies of.no_dependency;
       no_period_loop = no-loop (Excludes config) (λ p q step. empty-none config.periods step.0 p of.no_period step.1);
       no_dependency_loop = no-loop (DependsOn config) (λ p q step. empty-contains config.dependencies step.0 of.no_dependency step.1)
     }

@@ -1,8 +1,13 @@
 -- Facts about lists: what a test finds among what a function makes of a list, and one more element of a list
 -- that is filtered or whose parts are taken.
-use Rattle.std.proofs.Common.{◌≡◌, ℕ, suc, ◌+◌, ◌-◌, ◌<◌, ◌≤◌, nat_lt, Bool, true, false, not, cond, ◌||◌, List, [], ◌∷◌, ◌++◌, length, map, filter, take, drop, get_or, Option, Some, None, refl, sym, ap, subst, eqb, Contains, length-append, ◌∙◌, arith}
+use Rattle.std.proofs.Common.{◌≡◌, ℕ, suc, ◌+◌, ◌-◌, ◌<◌, ◌≤◌, nat_lt, Bool, true, false, not, cond, ◌||◌, List, [], ◌∷◌, ◌++◌, append_assoc, zero, Bor, length-drop, length, map, filter, take, drop, get_or, Option, Some, None, refl, sym, ap, subst, eqb, Contains, length-append, length-take-le, ◌∙◌, arith}
 use Rattle.std.specs.List.{All, AllZip, list_any, position, position_or_len, slice_split, before_first}
-use Rattle.std.specs.List.{dedup}
+use Rattle.std.specs.List.{after_first, cons_option, dedup, filter_map, onto_first}
+use Rattle.std.specs.Option.{IfSome, option_to_list}
+use Rattle.std.proofs.lemmas.Bool.{ltb-true}
+use Rattle.std.proofs.lemmas.List.Elements.{filter_map-append}
+use Rattle.std.proofs.Math.Seq.{take-length}
+use Rattle.notify_run.specs.ResolvedValues.{entries, is_comma, texts, trimmed}
 use Rattle.std.specs.List.Sorted.{IsPermutation, IsSorted, IsStrictlyIncreasing}
 use Rattle.std.specs.Ordering.{nat_cmp}
 use Rattle.std.proofs.lemmas.List.Kept.{Contains-dedup_nat, Contains-from_dedup}
@@ -116,3 +121,99 @@ pairs-item R p xs ys i x y within is passes pairs pair =
 pub pairs-skip : {X Y : Type 0} (R : X → Y → Type 0) (p : X → Bool) (xs : List X) (ys : List Y) (i : ℕ) (x : X) → i < length xs → x ≡ get_or xs i x → p x ≡ false
     → AllZip R (filter p (take i xs)) ys → AllZip R (filter p (take (i + 1) xs)) ys
 pairs-skip R p xs ys i x within is fails pairs = rw (filter-skip p xs i x within is fails) pairs
+
+-- ---- where a search ends
+
+found-within : (b : Bool) (a n : ℕ) → nat_lt a n ≡ b → IfSome (cond b (Some a) None) (λ k. k < n)
+found-within true a n is = ltb-true a n is
+found-within false a n is = tt
+
+pub position-within : {X : Type 0} (p : X → Bool) (xs : List X) → IfSome (position p xs) (λ k. k < length xs)
+position-within p xs = found-within _ (position_or_len p xs) (length xs) refl
+
+
+-- ---- the texts of borrowed entries
+
+pub any-at : (p : List ℕ → Bool) (xs : List (Bor (List ℕ))) (i : ℕ) (d : Bor (List ℕ)) → i < length xs → true ≡ p ((get_or xs i d).now) → true ≡ list_any p (texts xs)
+any-at p [] i d within is = absurd (omega arith)
+any-at p (x ∷ xs) zero d within is = rw (← is) refl
+any-at p (x ∷ xs) (suc i) d within is =
+    elim (p x.now) as (λ b. true ≡ (b || list_any p (texts xs))) [ true ↦ refl | false ↦ any-at p xs i d (omega arith) is ]
+
+texts-more : (xs : List (Bor (List ℕ))) (i : ℕ) (d : Bor (List ℕ)) → i < length xs → texts (take (i + 1) xs) ≡ texts (take i xs) ++ (get_or xs i d).now ∷ []
+texts-more xs i d within = ap texts (take_more xs i d within) ∙ map-append (λ text. text.now) (take i xs) (get_or xs i d ∷ [])
+
+listed-one : (found : Option ℕ) → cons_option found [] ≡ option_to_list found
+listed-one None = refl
+listed-one (Some k) = refl
+
+-- one more entry of those whose numbers are found
+pub found-more : (f : List ℕ → Option ℕ) (xs : List (Bor (List ℕ))) (i : ℕ) (d : Bor (List ℕ)) (old new : List ℕ) (found : Option ℕ) → i < length xs
+    → old ≡ filter_map f (texts (take i xs)) → found ≡ f ((get_or xs i d).now) → new ≡ old ++ option_to_list found → new ≡ filter_map f (texts (take (i + 1) xs))
+found-more f xs i d old new found within before is more =
+    more ∙ ap (λ numbers. numbers ++ option_to_list found) before
+    ∙ ap (λ one. filter_map f (texts (take i xs)) ++ one) (ap option_to_list is ∙ sym (listed-one (f ((get_or xs i d).now))))
+    ∙ sym (filter_map-append f (texts (take i xs)) ((get_or xs i d).now ∷ [])) ∙ ap (filter_map f) (sym (texts-more xs i d within))
+
+-- ---- the entries of a list
+
+position_or_len-le : (bytes : List ℕ) → position_or_len is_comma bytes ≤ length bytes
+position_or_len-le [] = omega arith
+position_or_len-le (x ∷ xs) =
+    elim (is_comma x) as (λ b. cond (not b) (1 + position_or_len is_comma xs) 0 ≤ length (x ∷ xs)) [ true ↦ omega arith | false ↦ let few = position_or_len-le xs in omega (arith, few) ]
+
+rest-is : (xs : List ℕ) (k : ℕ) → take (length xs - k) (drop k xs) ≡ drop k xs
+rest-is xs k = rw (← length-drop k xs) (take-length (drop k xs))
+
+split-whole : (value : List ℕ) → position_or_len is_comma value ≡ length value → slice_split is_comma value ≡ value ∷ []
+split-whole [] none = refl
+split-whole (x ∷ xs) none =
+    elim (is_comma x) as (λ b. cond (not b) (1 + position_or_len is_comma xs) 0 ≡ length (x ∷ xs) → cond b ([] ∷ slice_split is_comma xs) (onto_first x (slice_split is_comma xs)) ≡ (x ∷ xs) ∷ []) [
+      true ↦ λ here. absurd (omega (arith, here))
+    | false ↦ λ further. ap (λ parts. onto_first x parts) (split-whole xs (omega (arith, further)))
+    ] none
+
+one_entry : (part : List ℕ) (others : List (List ℕ))
+    → filter (λ e. not (eqb (length e) 0)) (map trimmed (part ∷ others)) ≡ cond (eqb (length (trimmed part)) 0) [] (trimmed part ∷ []) ++ filter (λ e. not (eqb (length e) 0)) (map trimmed others)
+one_entry part others =
+    elim (eqb (length (trimmed part)) 0) as (λ b. cond (not b) (trimmed part ∷ filter (λ e. not (eqb (length e) 0)) (map trimmed others)) (filter (λ e. not (eqb (length e) 0)) (map trimmed others)) ≡ cond b [] (trimmed part ∷ []) ++ filter (λ e. not (eqb (length e) 0)) (map trimmed others)) [ true ↦ refl | false ↦ refl ]
+
+first_long : (value : List ℕ) → length (before_first is_comma value) ≡ position_or_len is_comma value
+first_long value = let few = position_or_len-le value in length-take-le (position_or_len is_comma value) value few
+
+-- the last part
+pub entries-end : (old new every : List (List ℕ)) (rest part entry : List ℕ) → old ++ entries rest ≡ every → part ≡ before_first is_comma rest → entry ≡ trimmed part
+    → new ≡ old ++ cond (eqb (length entry) 0) [] (entry ∷ []) → length part ≡ length rest → new ≡ every
+entries-end old new every rest part entry before is trim-is more whole =
+    let at_end : position_or_len is_comma rest ≡ length rest = sym (first_long rest) ∙ ap length (sym is) ∙ whole in
+    let all : part ≡ rest = is ∙ ap (λ n. take n rest) at_end ∙ take-length rest in
+    let split : entries rest ≡ cond (eqb (length (trimmed part)) 0) [] (trimmed part ∷ []) =
+      ap (λ parts. filter (λ e. not (eqb (length e) 0)) (map trimmed parts)) (split-whole rest at_end ∙ ap (λ r. r ∷ []) (sym all)) ∙ one_entry part [] ∙ append-nil _ in
+    more ∙ ap (λ e. old ++ cond (eqb (length e) 0) [] (e ∷ [])) trim-is ∙ ap (λ es. old ++ es) (sym split) ∙ before
+
+-- a part that others follow
+pub entries-more : (old new every : List (List ℕ)) (rest part entry : List ℕ) → old ++ entries rest ≡ every → part ≡ before_first is_comma rest → entry ≡ trimmed part
+    → new ≡ old ++ cond (eqb (length entry) 0) [] (entry ∷ []) → (length part ≡ length rest → ⊥)
+    → new ++ entries (take (length rest - (length part + 1)) (drop (length part + 1) rest)) ≡ every
+entries-more old new every rest part entry before is trim-is more inside =
+    let long : length part ≡ position_or_len is_comma rest = ap length is ∙ first_long rest in
+    let within : position_or_len is_comma rest < length rest = let few = position_or_len-le rest in omega (arith, few) in
+    let after : take (length rest - (length part + 1)) (drop (length part + 1) rest) ≡ after_first is_comma rest =
+      rest-is rest (length part + 1) ∙ ap (λ n. drop (n + 1) rest) long in
+    let split : entries rest ≡ cond (eqb (length (trimmed part)) 0) [] (trimmed part ∷ []) ++ entries (after_first is_comma rest) =
+      ap (λ parts. filter (λ e. not (eqb (length e) 0)) (map trimmed parts)) (slice_split_first is_comma rest 0 within ∙ ap (λ p. p ∷ slice_split is_comma (after_first is_comma rest)) (sym is)) ∙ one_entry part (slice_split is_comma (after_first is_comma rest)) in
+    ap (λ es. new ++ entries es) after
+    ∙ ap (λ ns. ns ++ entries (after_first is_comma rest)) (more ∙ ap (λ e. old ++ cond (eqb (length e) 0) [] (e ∷ [])) trim-is)
+    ∙ append_assoc old _ _ ∙ ap (λ es. old ++ es) (sym split) ∙ before
+
+-- ---- sets of numbers
+
+pub moved-set : (listed listed' numbers numbers' : List ℕ) → listed ≡ listed' → numbers ≡ numbers' → AreSetOf listed numbers → AreSetOf listed' numbers'
+moved-set listed listed' numbers numbers' e f set = subst (λ xs. AreSetOf xs numbers') e (subst (λ ys. AreSetOf listed ys) f set)
+
+-- the names of what is made of the blocks so far
+pub names-item : {X Y : Type 0} (h : Y → List ℕ) (n : X → List ℕ) (p : X → Bool) (xs : List X) (ys ys' : List Y) (i : ℕ) (x : X) (y : Y) → i < length xs → x ≡ get_or xs i x → p x ≡ true
+    → map h ys ≡ map n (filter p (take i xs)) → h y ≡ n x → ys' ≡ ys ++ y ∷ [] → map h ys' ≡ map n (filter p (take (i + 1) xs))
+names-item h n p xs ys ys' i x y within is passes before same more =
+    ap (map h) more ∙ map-append h ys (y ∷ []) ∙ ap (λ names. names ++ h y ∷ []) before ∙ ap (λ name. map n (filter p (take i xs)) ++ name ∷ []) same
+    ∙ sym (map-append n (filter p (take i xs)) (x ∷ [])) ∙ ap (map n) (sym (filter-item p xs i x within is passes))

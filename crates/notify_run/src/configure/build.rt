@@ -1,7 +1,8 @@
 //! The hosts, contacts and lanes of blocks that have no fault.
 
-ghost use Rattle.std.specs.Prelude.{◌≡◌, ◌≤◌, ◌<◌, All, codes, length, map, filter, position, vec_len, IfOk};
+ghost use Rattle.std.specs.Prelude.{◌≡◌, ◌≤◌, ◌<◌, ◌++◌, All, IfSome, OnOk, codes, length, map, filter, position, vec_len, IfOk};
 ghost use Rattle.std.specs.List.{AllZip, filter_map};
+ghost use Rattle.std.specs.Option.{option_to_list};
 ghost use Rattle.std.specs.Str.{bytes_eq};
 ghost use Rattle.notify_run.specs.Resolved.{AreRightsOf, AreSetOf, IsContactOf, IsHostOf, contacts_in, contacts_named, hosts_in, lanes_named};
 ghost use Rattle.notify_run.specs.ResolvedLimits.{is_used};
@@ -24,6 +25,17 @@ fn text_of(alloc: Global, block: &Block) -> Result<Text, AllocError>
     Ok(Sequence::new(Vec::from_slice(alloc, name_of(block))?))
 }
 
+/// Adds a number, where there is one.
+fn push_number(numbers: &mut Vec<u16>, number: Option<usize>) -> Result<(), AllocError>
+    requires { IfSome number (λ n. n < 65536) }
+    ensures { OnOk result (numbers.new.items ≡ numbers.old.items ++ option_to_list number) }
+{
+    if let Some(number) = number {
+        numbers.push(number as u16)?;
+    }
+    Ok(())
+}
+
 /// The numbers of the contacts that the entries name, in the order of the entries.
 fn contact_numbers(
     alloc: Global,
@@ -35,9 +47,7 @@ fn contact_numbers(
 {
     let mut numbers = Vec::new(alloc);
     for entry in entries {
-        if let Some(number) = contacts.find(*entry) {
-            numbers.push(number as u16)?;
-        }
+        push_number(&mut numbers, contacts.find(*entry))?;
     }
     Ok(numbers)
 }
@@ -137,7 +147,8 @@ pub(crate) fn lanes_of(
 
 /// The number of the lane of a command.
 fn find_lane(lanes: &[Lane], command: &[u8]) -> Option<usize>
-    ensures { result ≡ position (λ lane. bytes_eq command.now lane.name) lanes.now }
+    ensures place { result ≡ position (λ lane. bytes_eq command.now lane.name) lanes.now }
+    ensures within { IfSome result (λ number. number < length lanes.now) }
 {
     lanes
         .iter()
@@ -155,9 +166,7 @@ fn lane_numbers(
 {
     let mut numbers = Vec::new(alloc);
     for entry in entries {
-        if let Some(number) = find_lane(lanes, command_name(*entry)) {
-            numbers.push(number as u16)?;
-        }
+        push_number(&mut numbers, find_lane(lanes, command_name(*entry)))?;
     }
     Ok(numbers)
 }
