@@ -5,6 +5,9 @@ use Rattle.std.specs.List.{All, AllZip, list_any, position, position_or_len, sli
 use Rattle.std.specs.List.{after_first, cons_option, dedup, filter_map, onto_first}
 use Rattle.std.specs.Option.{IfSome, option_to_list}
 use Rattle.std.proofs.lemmas.Bool.{ltb-true}
+use Rattle.std.proofs.lemmas.Cmp.{nat_list_eq_equiv}
+use Rattle.std.proofs.lemmas.List.Folds.{list_any-append}
+use Rattle.std.proofs.lemmas.Map.Steps.{list_any_congr}
 use Rattle.std.proofs.lemmas.List.Elements.{filter_map-append}
 use Rattle.std.proofs.Math.Seq.{take-length}
 use Rattle.notify_run.specs.ResolvedValues.{entries, is_comma, texts, trimmed}
@@ -217,3 +220,43 @@ pub names-item : {X Y : Type 0} (h : Y → List ℕ) (n : X → List ℕ) (p : X
 names-item h n p xs ys ys' i x y within is passes before same more =
     ap (map h) more ∙ map-append h ys (y ∷ []) ∙ ap (λ names. names ++ h y ∷ []) before ∙ ap (λ name. map n (filter p (take i xs)) ++ name ∷ []) same
     ∙ sym (map-append n (filter p (take i xs)) (x ∷ [])) ∙ ap (map n) (sym (filter-item p xs i x within is passes))
+
+-- ---- names that are added
+
+or-right : (a b : Bool) → (b ≡ true → a ≡ true) → a ≡ (a || b)
+or-right a b both = elim a as (λ x. (b ≡ true → x ≡ true) → x ≡ (x || b)) [ true ↦ λ _. refl | false ↦ λ here. none b here ] both
+  where
+    none : (c : Bool) → (c ≡ true → false ≡ true) → false ≡ c
+    none true here = here refl
+    none false here = refl
+
+or-false : (a b : Bool) → (a || (b || false)) ≡ (a || b)
+or-false a b = elim a as (λ x. (x || (b || false)) ≡ (x || b)) [ true ↦ refl | false ↦ elim b as (λ y. (y || false) ≡ y) [ true ↦ refl | false ↦ refl ] ]
+
+pub or-assoc : (a b c : Bool) → ((a || b) || c) ≡ (a || (b || c))
+or-assoc a b c = elim a as (λ x. ((x || b) || c) ≡ (x || (b || c))) [ true ↦ refl | false ↦ refl ]
+
+-- which names are there once one was added where it wasn't there
+pub has-added : (old new : List (List ℕ)) (added name : List ℕ) → new ≡ cond (list_any (bytes_eq added) old) old (old ++ added ∷ [])
+    → list_any (bytes_eq name) new ≡ (list_any (bytes_eq name) old || bytes_eq name added)
+has-added old new added name is = ap (list_any (bytes_eq name)) is ∙ one (list_any (bytes_eq added) old) refl
+  where
+    one : (b : Bool) → list_any (bytes_eq added) old ≡ b → list_any (bytes_eq name) (cond b old (old ++ added ∷ [])) ≡ (list_any (bytes_eq name) old || bytes_eq name added)
+    one true there = or-right (list_any (bytes_eq name) old) (bytes_eq name added) (λ same. list_any_congr nat_list_eq_equiv name added old same ∙ there)
+    one false there = list_any-append (bytes_eq name) old (added ∷ []) ∙ or-false (list_any (bytes_eq name) old) (bytes_eq name added)
+
+-- one more entry
+pub any-more : (p : List ℕ → Bool) (xs : List (Bor (List ℕ))) (i : ℕ) (d : Bor (List ℕ)) → i < length xs
+    → list_any p (texts (take (i + 1) xs)) ≡ (list_any p (texts (take i xs)) || p ((get_or xs i d).now))
+any-more p xs i d within =
+    ap (list_any p) (texts-more xs i d within) ∙ list_any-append p (texts (take i xs)) ((get_or xs i d).now ∷ []) ∙ or-false (list_any p (texts (take i xs))) (p ((get_or xs i d).now))
+
+-- one more block that passes
+pub any-item : {X : Type 0} (q p : X → Bool) (xs : List X) (i : ℕ) (x : X) → i < length xs → x ≡ get_or xs i x → p x ≡ true
+    → list_any q (filter p (take (i + 1) xs)) ≡ (list_any q (filter p (take i xs)) || q x)
+any-item q p xs i x within is passes =
+    ap (list_any q) (filter-item p xs i x within is passes) ∙ list_any-append q (filter p (take i xs)) (x ∷ []) ∙ or-false (list_any q (filter p (take i xs))) (q x)
+
+pub filter-same : {X : Type 0} (p q : X → Bool) → ((x : X) → p x ≡ q x) → (xs : List X) → filter p xs ≡ filter q xs
+filter-same p q same [] = refl
+filter-same p q same (x ∷ xs) = ap (λ b. cond b (x ∷ filter p xs) (filter p xs)) (same x) ∙ ap (λ others. cond (q x) (x ∷ others) others) (filter-same p q same xs)

@@ -54,7 +54,7 @@ pub(crate) fn name_of(block: &Block) -> &[u8]
 }
 
 /// The entries of both lists of notification commands.
-fn command_entries(
+pub(crate) fn command_entries(
     alloc: Global,
     directives: &[Directive],
 ) -> Result<Vec<&[u8]>, AllocError>

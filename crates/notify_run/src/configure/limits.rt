@@ -1,13 +1,13 @@
 //! The commands that are lanes, and the limits of a configuration.
 
-ghost use Rattle.std.specs.Prelude.{◌≡◌, ◌+◌, ◌≤◌, ◌<◌, length, filter, is_some, IfOk, IfSome, OnOk, if◌then◌else◌};
+ghost use Rattle.std.specs.Prelude.{◌≡◌, ℕ, List, ◌||◌, ◌+◌, ◌≤◌, ◌<◌, length, filter, is_some, IfOk, IfSome, OnOk, if◌then◌else◌};
 ghost use Rattle.std.specs.List.{list_any};
 ghost use Rattle.std.specs.Str.{bytes_eq};
-ghost use Rattle.notify_run.specs.Resolved.{contacts_in, hosts_in, is_contact, is_contact_kind, is_host, is_host_kind, is_used_command};
+ghost use Rattle.notify_run.specs.Resolved.{contacts_in, hosts_in, is_contact, is_contact_kind, is_host, is_host_kind, is_used_command, uses};
 ghost use Rattle.notify_run.specs.ResolvedLimits.{IsWithinLimits, is_used};
 ghost use Rattle.notify_run.specs.ResolvedValues.{name_of};
 
-use crate::configure::blocks::{entries_read, is_contact, name_of};
+use crate::configure::blocks::{command_entries, is_contact, name_of};
 use crate::configure::fault::{BlockFault, ResolveFault};
 use crate::configure::names::Names;
 use crate::configure::values::command_name;
@@ -22,19 +22,24 @@ const MOST_CONTACTS: usize = 4_096;
 const MOST_LANES: usize = 16;
 
 /// The names of the commands that some contact uses.
-pub(crate) fn used_commands(alloc: Global, blocks: &[Block]) -> Result<Names, AllocError> {
+pub(crate) fn used_commands(alloc: Global, blocks: &[Block]) -> Result<Names, AllocError>
+    ensures { IfOk result (λ used. (name : List ℕ) → list_any (bytes_eq name) used ≡ list_any (uses name) (contacts_in blocks.now)) }
+{
     let mut used = Names::new(alloc);
     for block in blocks {
-        if is_contact(block) {
-            add_commands(alloc, &mut used, block)?;
+        if !is_contact(block) {
+            continue;
         }
+        add_commands(alloc, &mut used, block)?;
     }
     Ok(used)
 }
 
 /// Adds the names of the commands that a contact uses.
-fn add_commands(alloc: Global, used: &mut Names, block: &Block) -> Result<(), AllocError> {
-    let entries = entries_read(alloc, block)?;
+fn add_commands(alloc: Global, used: &mut Names, block: &Block) -> Result<(), AllocError>
+    ensures { OnOk result ((name : List ℕ) → list_any (bytes_eq name) used.new ≡ (list_any (bytes_eq name) used.old || uses name block.now)) }
+{
+    let entries = command_entries(alloc, block.directives.as_slice())?;
     for entry in entries.as_slice() {
         used.add(alloc, command_name(*entry))?;
     }
