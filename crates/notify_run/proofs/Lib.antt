@@ -1,1 +1,3 @@
+pub mod ResolvedAccepted
+pub mod ResolvedLists
 pub mod ResolvedNumbers

@@ -1,5 +1,6 @@
 -- What the directives of a block say (chapter "Object Definitions").
-use Rattle.std.specs.Prelude.{ℕ, ◌-◌, Bool, true, false, not, ◌&&◌, ◌||◌, ◌==◌, nat_le, List, [], ◌∷◌, length, map, filter, find, reverse, take, drop, codes, ◌++◌, unwrap_or, Option, Some, None, is_some, if◌then◌else◌, Bor}
+use Rattle.std.specs.Prelude.{ℕ, ◌-◌, Bool, true, false, not, ◌&&◌, ◌||◌, ◌==◌, nat_le, List, [], ◌∷◌, length, map, filter, find, reverse, take, drop, codes, ◌++◌, unwrap_or, Option, Some, None, is_some, if◌then◌else◌}
+use Rattle.std.proofs.Common.{Bor}
 use Rattle.std.specs.Char.{is_ascii_digit}
 use Rattle.std.specs.Int.Digits.{number_from_digits}
 use Rattle.std.specs.List.{list_all, list_any, slice_split, suffix_len, position_or_len, before_first}
@@ -57,8 +58,9 @@ number_of digits = number_from_digits 10 (map (λ digit. digit - 48) digits)
 
 -- a number of object text: decimal digits of 0 to 1,000,000
 abbrev pub number_in : List ℕ → Option ℕ
-number_in value = if not (length value == 0) && list_all is_ascii_digit value && nat_le (number_of value) 1_000_000
-    then Some (number_of value) else None
+number_in value = if length value == 0 then None
+    else if not (list_all is_ascii_digit value) then None
+    else if nat_le (number_of value) 1_000_000 then Some (number_of value) else None
 
 -- ---- blocks
 

@@ -1,5 +1,11 @@
 //! The configuration that the blocks of object text give (chapter "Object Definitions").
 
+ghost use Rattle.std.specs.Prelude.{◌≡◌, ◌≤◌, IfOk, length, filter};
+ghost use Rattle.due_model.specs.Accepted.{IsAccepted};
+ghost use Rattle.due_model.specs.Covered.{IsCovered};
+ghost use Rattle.notify_run.specs.Resolved.{IsConfigOf, IsResolved, contact_names};
+ghost use Rattle.notify_run.specs.ResolvedLimits.{IsWithinLimits, is_used};
+
 mod blocks;
 mod build;
 mod fault;
@@ -26,7 +32,10 @@ use tables::Tables;
 /// The configuration that the blocks give, or the first fault: first of directives and entries that aren't
 /// read yet, then of the values of each block, then of names, then of limits; each over all blocks in file
 /// order. Out of memory says nothing of the blocks. The work grows with the bytes of the blocks.
-pub(crate) fn configure(alloc: Global, blocks: &[Block]) -> Result<Config, ResolveFault> {
+pub(crate) fn configure(alloc: Global, blocks: &[Block]) -> Result<Config, ResolveFault>
+    ensures accepted { IfOk result (λ config. IsAccepted config) }
+    ensures covered { IfOk result (λ config. IsCovered config) }
+{
     check_read(alloc, blocks)?;
     check_values(blocks)?;
     let tables = Tables::of_blocks(alloc, blocks)?;
@@ -68,7 +77,11 @@ fn config_of(
     blocks: &[Block],
     contacts: &Names,
     used: &Names,
-) -> Result<Config, AllocError> {
+) -> Result<Config, AllocError>
+    requires names { contacts.now ≡ contact_names blocks.now }
+    requires limits { IsWithinLimits used.now blocks.now }
+    ensures { IfOk result (λ config. IsConfigOf blocks.now (filter (is_used used.now) blocks.now) config) }
+{
     let lanes = lanes_of(alloc, blocks, used)?;
     let people = contacts_of(alloc, blocks, lanes.as_slice())?;
     let hosts = hosts_of(alloc, blocks, contacts)?;

@@ -1,15 +1,36 @@
 //! What a block says by itself: its name, the entries of its lists, and the faults that it has by itself.
 
-ghost use Rattle.std.specs.Prelude.{◌≡◌, ◌++◌, IfOk};
+ghost use Rattle.std.specs.Prelude.{◌≡◌, ◌++◌, codes, IfOk};
 ghost use Rattle.std.specs.List.{list_any};
 ghost use Rattle.std.specs.Str.{bytes_eq};
-ghost use Rattle.notify_run.specs.ResolvedValues.{entries_read, name_of, naming, texts};
-ghost use Rattle.notify_run.specs.ResolvedFaults.{has_later_parts, is_later_entry, later_names, value_fault};
+ghost use Rattle.notify_run.specs.ResolvedValues.{entries_read, name_of, naming, texts, value_in};
+ghost use Rattle.notify_run.specs.Resolved.{interval_of, is_contact, is_host};
+ghost use Rattle.notify_run.specs.ResolvedFaults.{has_bad_interval, has_later_parts, is_bad_number, is_later_entry, later_names, value_fault};
 
 use crate::configure::fault::BlockFault;
 use crate::configure::values::{entries_in, is_text, number_in, value_in};
 use object_reader::block::{Block, BlockKind, Directive};
 use std::alloc::{AllocError, Global};
+
+/// Whether a block is a host's.
+pub(crate) fn is_host(block: &Block) -> bool
+    ensures { result ≡ is_host block.now }
+{
+    match block.kind {
+        BlockKind::Command | BlockKind::Contact => false,
+        BlockKind::Host => true,
+    }
+}
+
+/// Whether a block is a contact's.
+pub(crate) fn is_contact(block: &Block) -> bool
+    ensures { result ≡ is_contact block.now }
+{
+    match block.kind {
+        BlockKind::Command | BlockKind::Host => false,
+        BlockKind::Contact => true,
+    }
+}
 
 /// The directive that names the object of a block of that type.
 fn naming(kind: BlockKind) -> &'static str
@@ -33,7 +54,7 @@ pub(crate) fn name_of(block: &Block) -> &[u8]
 }
 
 /// The entries of both lists of notification commands.
-fn command_entries(
+pub(crate) fn command_entries(
     alloc: Global,
     directives: &[Directive],
 ) -> Result<Vec<&[u8]>, AllocError>
@@ -143,8 +164,20 @@ pub(crate) fn has_later_parts(alloc: Global, block: &Block) -> Result<bool, Allo
     Ok(has_later_name(block.kind, block.directives.as_slice()) || in_entries)
 }
 
+/// Whether a block of that type is a host's with an interval that isn't a number.
+fn has_bad_number(kind: BlockKind, directives: &[Directive]) -> bool
+    ensures { result ≡ has_bad_interval kind directives.now }
+{
+    match kind {
+        BlockKind::Command | BlockKind::Contact => false,
+        BlockKind::Host => has_bad_interval(directives),
+    }
+}
+
 /// Whether the interval of a host, where it gives one, isn't a number.
-fn has_bad_interval(directives: &[Directive]) -> bool {
+fn has_bad_interval(directives: &[Directive]) -> bool
+    ensures { result ≡ is_bad_number (value_in directives.now (codes "notification_interval")) }
+{
     match value_in(directives, "notification_interval") {
         None => false,
         Some(value) => number_in(value).is_none(),
@@ -159,14 +192,16 @@ pub(crate) fn value_fault(block: &Block) -> Option<BlockFault>
     if value_in(directives, naming(block.kind)).is_none() {
         return Some(BlockFault::MissingDirective);
     }
-    if block.kind == BlockKind::Host && has_bad_interval(directives) {
+    if has_bad_number(block.kind, directives) {
         return Some(BlockFault::BadNumber);
     }
     None
 }
 
 /// The interval of a host: the number that it gives, and else 30.
-pub(crate) fn interval_of(directives: &[Directive]) -> u32 {
+pub(crate) fn interval_of(directives: &[Directive]) -> u32
+    ensures { result ≡ interval_of (value_in directives.now (codes "notification_interval")) }
+{
     match value_in(directives, "notification_interval") {
         None => 30,
         Some(value) => number_in(value).unwrap_or(30),

@@ -1,6 +1,13 @@
 //! The commands that are lanes, and the limits of a configuration.
 
-use crate::configure::blocks::{entries_read, name_of};
+ghost use Rattle.std.specs.Prelude.{◌≡◌, ℕ, List, ◌||◌, ◌+◌, ◌≤◌, ◌<◌, length, filter, is_some, IfOk, IfSome, OnOk, if◌then◌else◌};
+ghost use Rattle.std.specs.List.{list_any};
+ghost use Rattle.std.specs.Str.{bytes_eq};
+ghost use Rattle.notify_run.specs.Resolved.{contacts_in, hosts_in, is_contact, is_contact_kind, is_host, is_host_kind, is_used_command, uses};
+ghost use Rattle.notify_run.specs.ResolvedLimits.{IsWithinLimits, is_used};
+ghost use Rattle.notify_run.specs.ResolvedValues.{name_of};
+
+use crate::configure::blocks::{command_entries, is_contact, name_of};
 use crate::configure::fault::{BlockFault, ResolveFault};
 use crate::configure::names::Names;
 use crate::configure::values::command_name;
@@ -15,19 +22,24 @@ const MOST_CONTACTS: usize = 4_096;
 const MOST_LANES: usize = 16;
 
 /// The names of the commands that some contact uses.
-pub(crate) fn used_commands(alloc: Global, blocks: &[Block]) -> Result<Names, AllocError> {
+pub(crate) fn used_commands(alloc: Global, blocks: &[Block]) -> Result<Names, AllocError>
+    ensures { IfOk result (λ used. (name : List ℕ) → list_any (bytes_eq name) used ≡ list_any (uses name) (contacts_in blocks.now)) }
+{
     let mut used = Names::new(alloc);
     for block in blocks {
-        if block.kind == BlockKind::Contact {
-            add_commands(alloc, &mut used, block)?;
+        if !is_contact(block) {
+            continue;
         }
+        add_commands(alloc, &mut used, block)?;
     }
     Ok(used)
 }
 
 /// Adds the names of the commands that a contact uses.
-fn add_commands(alloc: Global, used: &mut Names, block: &Block) -> Result<(), AllocError> {
-    let entries = entries_read(alloc, block)?;
+fn add_commands(alloc: Global, used: &mut Names, block: &Block) -> Result<(), AllocError>
+    ensures { OnOk result ((name : List ℕ) → list_any (bytes_eq name) used.new ≡ (list_any (bytes_eq name) used.old || uses name block.now)) }
+{
+    let entries = command_entries(alloc, block.directives.as_slice())?;
     for entry in entries.as_slice() {
         used.add(alloc, command_name(*entry))?;
     }
@@ -35,8 +47,13 @@ fn add_commands(alloc: Global, used: &mut Names, block: &Block) -> Result<(), Al
 }
 
 /// Whether a block is a command that some contact uses.
-pub(crate) fn is_lane(block: &Block, used: &Names) -> bool {
-    block.kind == BlockKind::Command && used.find(name_of(block)).is_some()
+pub(crate) fn is_lane(block: &Block, used: &Names) -> bool
+    ensures { result ≡ is_used used.now block.now }
+{
+    match block.kind {
+        BlockKind::Command => used.has(name_of(block)),
+        BlockKind::Contact | BlockKind::Host => false,
+    }
 }
 
 /// How many of each there are.
@@ -48,22 +65,32 @@ struct Counts {
 }
 
 /// The counts with one more block, or none where it passes a limit.
-fn counted(counts: Counts, block: &Block, used: &Names) -> Option<Counts> {
+fn counted(counts: Counts, block: &Block, used: &Names) -> Option<Counts>
+    requires hosts { counts.hosts ≤ 65535 }
+    requires contacts { counts.contacts ≤ 4096 }
+    requires lanes { counts.lanes ≤ 16 }
+    ensures hosts { IfSome result (λ more. (more.hosts ≡ counts.hosts + (if is_host block.now then 1 else 0)) × (more.hosts ≤ 65535)) }
+    ensures contacts { IfSome result (λ more. (more.contacts ≡ counts.contacts + (if is_contact block.now then 1 else 0)) × (more.contacts ≤ 4096)) }
+    ensures lanes { IfSome result (λ more. (more.lanes ≡ counts.lanes + (if is_used used.now block.now then 1 else 0)) × (more.lanes ≤ 16)) }
+{
     let mut more = counts;
     match block.kind {
-        BlockKind::Host if counts.hosts < MOST_HOSTS => more.hosts = counts.hosts + 1,
-        BlockKind::Contact if counts.contacts < MOST_CONTACTS => {
-            more.contacts = counts.contacts + 1;
+        BlockKind::Host => more.hosts += 1,
+        BlockKind::Contact => more.contacts += 1,
+        BlockKind::Command => {
+            if is_lane(block, used) {
+                more.lanes += 1;
+            }
         }
-        BlockKind::Command if !is_lane(block, used) => {}
-        BlockKind::Command if counts.lanes < MOST_LANES => more.lanes = counts.lanes + 1,
-        _ => return None,
     }
-    Some(more)
+    let few = more.hosts <= MOST_HOSTS && more.contacts <= MOST_CONTACTS && more.lanes <= MOST_LANES;
+    if few { Some(more) } else { None }
 }
 
 /// Finds the first block with which there are too many hosts, contacts or lanes.
-pub(crate) fn check_limits(blocks: &[Block], used: &Names) -> Result<(), ResolveFault> {
+pub(crate) fn check_limits(blocks: &[Block], used: &Names) -> Result<(), ResolveFault>
+    ensures { OnOk result (IsWithinLimits used.now blocks.now) }
+{
     let mut counts = Counts {
         hosts: 0,
         contacts: 0,

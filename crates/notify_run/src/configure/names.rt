@@ -1,6 +1,6 @@
 //! Names, numbered in the order in which they are first met.
 
-ghost use Rattle.std.specs.Prelude.{◌≡◌, ◌++◌, ◌∷◌, [], not, length, position, IfOk, OnOk, if◌then◌else◌};
+ghost use Rattle.std.specs.Prelude.{◌≡◌, ◌++◌, ◌∷◌, ◌<◌, [], not, length, position, IfOk, IfSome, OnOk, if◌then◌else◌};
 ghost use Rattle.std.specs.List.{list_any};
 ghost use Rattle.std.specs.Str.{bytes_eq};
 
@@ -44,14 +44,22 @@ impl Names {
         ensures added { IfOk result (λ added. added ≡ not (list_any (bytes_eq name.now) self.old)) }
         ensures names { OnOk result (self.new ≡ (if list_any (bytes_eq name.now) self.old then self.old else self.old ++ name.now ∷ [])) }
     {
-        let added = self.set.insert(name.to_vec(alloc)?)?;
+        let added = self.set.insert(Vec::from_slice(alloc, name)?)?;
         Ok(added)
     }
 
     /// The number of a name.
     pub(crate) fn find(&self, name: &[u8]) -> Option<usize>
-        ensures { result ≡ position (bytes_eq name.now) self.now }
+        ensures place { result ≡ position (bytes_eq name.now) self.now }
+        ensures within { IfSome result (λ number. number < length self.now) }
     {
         self.set.get_index_of(name)
+    }
+
+    /// Whether a name is there.
+    pub(crate) fn has(&self, name: &[u8]) -> bool
+        ensures { result ≡ list_any (bytes_eq name.now) self.now }
+    {
+        self.set.contains(name)
     }
 }

@@ -1,5 +1,9 @@
 //! The names of all blocks, and the faults that a block has beside the others.
 
+ghost use Rattle.std.specs.Prelude.{◌≡◌, ◌++◌, ◌∷◌, ◌<◌, [], None, true, length, IfOk, IfSome, OnOk, OnErr, if◌then◌else◌};
+ghost use Rattle.notify_run.specs.Resolved.{contact_names, is_contact};
+ghost use Rattle.notify_run.specs.ResolvedValues.{name_of};
+
 use crate::configure::blocks::{entries_read, name_of};
 use crate::configure::fault::{BlockFault, ResolveFault};
 use crate::configure::names::Names;
@@ -19,7 +23,10 @@ pub(crate) struct Tables {
 
 impl Tables {
     /// No names.
-    fn new(alloc: Global) -> Self {
+    fn new(alloc: Global) -> Self
+        ensures contacts { result.contacts ≡ [] }
+        ensures doubled { result.doubled ≡ None }
+    {
         Tables {
             hosts: Names::new(alloc),
             contacts: Names::new(alloc),
@@ -29,7 +36,9 @@ impl Tables {
     }
 
     /// The names of the blocks.
-    pub(crate) fn of_blocks(alloc: Global, blocks: &[Block]) -> Result<Self, AllocError> {
+    pub(crate) fn of_blocks(alloc: Global, blocks: &[Block]) -> Result<Self, AllocError>
+        ensures { IfOk result (λ tables. tables.doubled ≡ None → tables.contacts ≡ contact_names blocks.now) }
+    {
         let mut tables = Tables::new(alloc);
         for place in 0..blocks.len() {
             tables.add(alloc, &blocks[place], place)?;
@@ -38,21 +47,35 @@ impl Tables {
     }
 
     /// Adds the name of the block at a place.
-    fn add(&mut self, alloc: Global, block: &Block, place: usize) -> Result<(), AllocError> {
-        let names = match block.kind {
-            BlockKind::Command => &mut self.commands,
-            BlockKind::Contact => &mut self.contacts,
-            BlockKind::Host => &mut self.hosts,
-        };
-        let added = names.add(alloc, name_of(block))?;
+    fn add(&mut self, alloc: Global, block: &Block, place: usize) -> Result<(), AllocError>
+        ensures before { OnOk result (self.new.doubled ≡ None → self.old.doubled ≡ None) }
+        ensures contacts { OnOk result (self.new.doubled ≡ None
+            → self.new.contacts ≡ self.old.contacts ++ (if is_contact block.now then name_of block.now ∷ [] else [])) }
+    {
+        let added = self.add_name(alloc, block)?;
         if !added && self.doubled.is_none() {
             self.doubled = Some(place);
         }
         Ok(())
     }
 
+    /// Adds the name of a block where no block of its type has it, and says whether it added it.
+    fn add_name(&mut self, alloc: Global, block: &Block) -> Result<bool, AllocError>
+        ensures doubled { self.new.doubled ≡ self.old.doubled }
+        ensures contacts { IfOk result (λ added. added ≡ true
+            → self.new.contacts ≡ self.old.contacts ++ (if is_contact block.now then name_of block.now ∷ [] else [])) }
+    {
+        match block.kind {
+            BlockKind::Command => self.commands.add(alloc, name_of(block)),
+            BlockKind::Contact => self.contacts.add(alloc, name_of(block)),
+            BlockKind::Host => self.hosts.add(alloc, name_of(block)),
+        }
+    }
+
     /// The names of the contacts.
-    pub(crate) fn contacts(&self) -> &Names {
+    pub(crate) fn contacts(&self) -> &Names
+        ensures { result.now ≡ self.now.contacts }
+    {
         &self.contacts
     }
 
@@ -76,32 +99,38 @@ impl Tables {
         Ok(false)
     }
 
-    /// The fault of the names of the block at a place.
-    fn fault(
-        &self,
-        alloc: Global,
-        block: &Block,
-        place: usize,
-    ) -> Result<Option<BlockFault>, AllocError> {
-        if self.has_unknown(alloc, block)? {
-            return Ok(Some(BlockFault::UnknownName));
+    /// The place of the first block that names a contact or a command that isn't there.
+    fn first_unknown(&self, alloc: Global, blocks: &[Block]) -> Result<Option<usize>, AllocError> {
+        for place in 0..blocks.len() {
+            if self.has_unknown(alloc, &blocks[place])? {
+                return Ok(Some(place));
+            }
         }
-        match self.doubled {
-            Some(doubled) if doubled == place => Ok(Some(BlockFault::Doubled)),
-            _ => Ok(None),
-        }
+        Ok(None)
     }
 
     /// Finds the first block whose name is doubled, or that names a contact or a command that isn't there.
-    pub(crate) fn check(&self, alloc: Global, blocks: &[Block]) -> Result<(), ResolveFault> {
-        for place in 0..blocks.len() {
-            if let Some(fault) = self.fault(alloc, &blocks[place], place)? {
-                return Err(ResolveFault::AtLine {
-                    line: blocks[place].line,
-                    fault,
-                });
-            }
+    pub(crate) fn check(&self, alloc: Global, blocks: &[Block]) -> Result<(), ResolveFault>
+        ensures { OnOk result (self.now.doubled ≡ None) }
+    {
+        match (self.first_unknown(alloc, blocks)?, self.doubled) {
+            (None, None) => Ok(()),
+            (Some(unknown), Some(doubled)) if doubled < unknown => Err(fault_at(
+                blocks,
+                doubled,
+                BlockFault::Doubled,
+            )),
+            (Some(unknown), _) => Err(fault_at(blocks, unknown, BlockFault::UnknownName)),
+            (None, Some(doubled)) => Err(fault_at(blocks, doubled, BlockFault::Doubled)),
         }
-        Ok(())
     }
+}
+
+/// The fault of the block at a place.
+fn fault_at(blocks: &[Block], place: usize, fault: BlockFault) -> ResolveFault {
+    let line = match blocks.get(place) {
+        None => 0,
+        Some(block) => block.line,
+    };
+    ResolveFault::AtLine { line, fault }
 }

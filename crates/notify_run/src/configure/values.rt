@@ -144,12 +144,11 @@ pub(crate) fn command_name(entry: &[u8]) -> &[u8]
     &entry[..end]
 }
 
-/// Whether the bytes are decimal digits, and any.
+/// Whether the bytes are decimal digits.
 fn are_digits(bytes: &[u8]) -> bool
-    ensures { result ≡ (not (length bytes.now == 0) && list_all is_ascii_digit bytes.now) }
+    ensures { result ≡ list_all is_ascii_digit bytes.now }
 {
-    let all = bytes.iter().all(|byte| byte.is_ascii_digit());
-    !bytes.is_empty() && all
+    bytes.iter().all(|byte| byte.is_ascii_digit())
 }
 
 /// The number that digits write, and past 1,000,000 some number past it.
@@ -168,10 +167,12 @@ fn number_of(digits: &[u8]) -> u32
 pub(crate) fn number_in(value: &[u8]) -> Option<u32>
     ensures { result ≡ number_in value.now }
 {
-    let number = number_of(value);
-    if are_digits(value) && number <= MOST {
-        Some(number)
-    } else {
-        None
+    if value.is_empty() {
+        return None;
     }
+    if !are_digits(value) {
+        return None;
+    }
+    let number = number_of(value);
+    if number <= MOST { Some(number) } else { None }
 }

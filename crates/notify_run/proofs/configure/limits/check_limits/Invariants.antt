@@ -1,0 +1,15 @@
+use Rattle.std.proofs.Common.{◌≡◌, ◌≤◌, length, filter, take}
+use Rattle.notify_run.specs.Resolved.{contacts_in, hosts_in}
+use Rattle.notify_run.specs.ResolvedLimits.{is_used}
+use Rattle.notify_run.proofs.configure.limits.check_limits.Given as goal
+
+-- the counts of the blocks so far
+abbrev pub invariant-loop-block : goal.invariant-loop-block
+invariant-loop-block l = record {
+  hosts : l.counts.hosts ≡ length (hosts_in (take l.block-index l.blocks));
+  contacts : l.counts.contacts ≡ length (contacts_in (take l.block-index l.blocks));
+  lanes : l.counts.lanes ≡ length (filter (is_used l.used) (take l.block-index l.blocks));
+  few_hosts : l.counts.hosts ≤ 65535;
+  few_contacts : l.counts.contacts ≤ 4096;
+  few_lanes : l.counts.lanes ≤ 16
+}
