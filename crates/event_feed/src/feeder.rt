@@ -1,7 +1,8 @@
 //! The events of a feed, in order, from any reader.
 
 ghost use Rattle.std.specs.Prelude.{◌≡◌, ◌≤◌, None, Ok, IfOk, IfErr, IfSome, IfNone, OnSome};
-ghost use Rattle.event_feed.specs.Feed.{CountsLine, GivesEvent, GivesFault, GivesNone, GoesToLine, feed_limit, raised};
+ghost use Rattle.event_feed.specs.Feed.{GivesEvent, GivesFault, GivesNone, feed_limit, raised};
+ghost use Rattle.event_feed.specs.NextLine.{CountsLine, GoesToLine};
 
 use crate::fault::{FeedFault, LineFault, Stop};
 use crate::line::read_line;
