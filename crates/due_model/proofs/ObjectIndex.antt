@@ -1,20 +1,22 @@
 -- The index of the objects' names: how it grows by an object, and that a look-up in one bucket finds what
 -- a look-up among all objects does.
-use Rattle.std.proofs.Common.{◌≡◌, ℕ, zero, suc, ◌+◌, ◌%◌, ◌<◌, Bool, true, false, cond, eqb, List, [], ◌∷◌, ◌++◌, length, map, get_or, set, replicate, Option, None, Some, refl, sym, ap, ◌∙◌, ⊎_elim, arith}
-use Rattle.std.specs.Prelude.{slice_get, find, filter}
+use Rattle.std.proofs.Common.{◌≡◌, ℕ, zero, suc, ◌+◌, ◌-◌, ◌%◌, ◌<◌, ◌≤◌, Bool, true, false, cond, eqb, List, [], ◌∷◌, ◌++◌, length, map, get_or, set, take, drop, replicate, Option, None, Some, refl, sym, ap, ◌∙◌, ⊎_elim, arith}
+use Rattle.std.specs.Prelude.{slice_get, slice_range, find, filter, ◌&&◌}
 use Rattle.std.specs.Option.{option_map, option_map_or}
 use Rattle.std.specs.List.{position_from, range_with_len}
 use Rattle.std.specs.Str.{bytes_eq}
 use Rattle.std.proofs.lemmas.Bool.{and_parts, cases_eq, ne_eqb, eq-eqb}
 use Rattle.std.proofs.lemmas.Nat.{mod_below}
-use Rattle.std.proofs.lemmas.List.{length-replicate, length-set, get_or-set_other, append-nil, replicate-append-replicate}
+use Rattle.std.proofs.lemmas.List.{length-replicate, length-set, get_or-set_other, append-nil, replicate-append-replicate, length-append, length-drop, drop-append-le, take-append-le, drop_at, get_or-map}
+use Rattle.std.proofs.lemmas.Option.{slice_get-map, slice_get_cases}
+use Rattle.std.proofs.Math.Seq.{take-length}
 use Rattle.std.proofs.lemmas.List.FromFn.{filter_of_map_range_with_len_more}
 use Rattle.std.proofs.lemmas.Iterator.Adapters.{position_from-zero}
 use Rattle.std.proofs.lemmas.Grind.{get_or-set_at}
 use Rattle.std.proofs.lemmas.Slice.Eq.{bytes_eq-Decides}
 use Rattle.due_model.specs.declared.config.Object.{Object}
 use Rattle.due_model.specs.declared.config.ObjectId.{ObjectId}
-use Rattle.due_model.specs.Objects.{object_id, has_name_at, is_called, is_named, is_named_at, object_named, name_hash, called_hash, object_hash, is_in_bucket, ids_below, IsIndexUpTo}
+use Rattle.due_model.specs.Objects.{object_id, has_name_at, is_called, is_named, is_named_at, object_named, name_hash, called_hash, object_hash, is_in_bucket, ids_below, IsIndexUpTo, has_hash_at, is_hashed_name, parts, AreStarts}
 
 pub replicate_push : {A : Type 0} (n : ℕ) (a : A) → replicate n a ++ a ∷ [] ≡ replicate (n + 1) a
 replicate_push n a = replicate-append-replicate n 1 a
@@ -98,6 +100,19 @@ called_hash-is objects host (Some service) (Some id) name named =
     let own : name ≡ service = (bytes_eq-Decides name service).0 parts.1 in
     owner_hash host name (slice_get objects id.0) parts.0 ∙ ap (λ (n : List ℕ). name_hash host (Some n)) own
 
+-- the same, where the hashes are kept
+pub IsIndexUpTo-hashed : (objects : List Object) (count : ℕ) (buckets : List (List ObjectId)) (hashes : List ℕ) (bucket : ℕ)
+    → IsIndexUpTo objects count buckets → count < length objects → hashes ≡ map (object_hash objects) objects → bucket ≡ get_or hashes count 0 % length buckets
+    → IsIndexUpTo objects (count + 1) (set buckets bucket (get_or buckets bucket [] ++ object_id count ∷ []))
+IsIndexUpTo-hashed objects count buckets hashes bucket index within kept leads =
+    ⊎_elim
+    (λ (here : (x : Object) × (count < length objects) × (slice_get objects count ≡ Some x) × (get_or objects count x ≡ x)).
+    let hash : get_or hashes count 0 ≡ object_hash objects here.0 =
+    ap (λ (all : List ℕ). get_or all count 0) kept ∙ get_or-map (object_hash objects) objects count here.0 0 within ∙ ap (object_hash objects) here.3 in
+    IsIndexUpTo-more objects count buckets here.0 bucket index here.2 (leads ∙ ap (λ h. h % length buckets) hash))
+    (λ (past : (length objects ≤ count) × (slice_get objects count ≡ None)). absurd (omega (arith, past.0, within)))
+    (slice_get_cases objects count).1
+
 -- an object of the name has the name's hash
 pub object_hash-named : (objects : List Object) (host : List ℕ) (service : Option (List ℕ)) (object : Object)
     → is_named objects host service object ≡ true → object_hash objects object ≡ name_hash host service
@@ -123,3 +138,85 @@ find-bucket objects buckets host service bucket index leads =
     ∙ find-places object_id (is_named_at objects host service) (is_named objects host service) 0 objects
     (λ k object here. let none : 0 + k ≡ k = omega arith in rw (none, here) refl)
     ∙ ap (λ (place : Option ℕ). option_map object_id place) (sym (position_from-zero (is_named objects host service) objects))
+
+-- ---- hashes that are kept
+
+-- a look-up by a test that is tried only where a weaker one passes
+pub find-also : {X : Type 0} (p q : X → Bool) → ((x : X) → p x ≡ true → q x ≡ true) → (xs : List X) → find (λ x. q x && p x) xs ≡ find p xs
+find-also p q weaker [] = refl
+find-also {X} p q weaker (x ∷ xs) =
+    let same : find (λ y. q y && p y) xs ≡ find p xs = find-also p q weaker xs in
+    elim (p x) as (λ b. p x ≡ b → cond (q x && b) (Some x) (find (λ y. q y && p y) xs) ≡ cond b (Some x) (find p xs)) [
+      | true ↦ λ named. let kept : q x ≡ true = weaker x named in rw kept refl
+      | false ↦ λ other. elim (q x) as (λ d. cond (d && false) (Some x) (find (λ y. q y && p y) xs) ≡ find p xs) [ true ↦ same | false ↦ same ]
+    ] refl
+
+hash_at : (objects : List Object) (host : List ℕ) (service : Option (List ℕ)) (found : Option Object)
+    → option_map_or (is_named objects host service) found false ≡ true
+    → option_map_or (λ hash. eqb hash (name_hash host service)) (option_map (object_hash objects) found) false ≡ true
+hash_at objects host service None named = cc
+hash_at objects host service (Some object) named = eq-eqb _ _ (object_hash-named objects host service object named)
+
+-- an object of the name has the name's hash among those that are kept
+pub has_hash-named : (objects : List Object) (hashes : List ℕ) (host : List ℕ) (service : Option (List ℕ)) (hash : ℕ) (id : ObjectId)
+    → hashes ≡ map (object_hash objects) objects → hash ≡ name_hash host service → is_named_at objects host service id ≡ true → has_hash_at hashes hash id ≡ true
+has_hash-named objects hashes host service hash id kept is named =
+    rw (kept, is, slice_get-map) (hash_at objects host service (slice_get objects id.0) named)
+
+-- ---- lists that are kept one behind the other
+
+range-append : {X : Type 0} (xs ys : List X) (start end : ℕ) → start ≤ end → end ≤ length xs → slice_range (xs ++ ys) start end ≡ slice_range xs start end
+range-append xs ys start end ordered within =
+    let begins : start ≤ length xs = omega arith in
+    let few : end - start ≤ length (drop start xs) = rw length-drop (omega arith) in
+    ap (λ rest. take (end - start) rest) (drop-append-le start xs ys begins) ∙ take-append-le (end - start) (drop start xs) ys few
+
+range-end : {X : Type 0} (xs ys : List X) (start : ℕ) → start ≡ length xs → slice_range (xs ++ ys) start (length xs + length ys) ≡ ys
+range-end xs ys start at =
+    let count : length xs + length ys - length xs ≡ length ys = omega arith in
+    rw (at, count, drop_at xs ys (length xs) refl) (take-length ys)
+
+pub length-parts : {X : Type 0} (starts : List ℕ) (xs : List X) (len : ℕ) → AreStarts starts len → length (parts starts xs) + 1 ≡ length starts
+length-parts [] xs len rising = absurd rising
+length-parts (start ∷ []) xs len rising = refl
+length-parts (start ∷ end ∷ more) xs len rising = omega (arith, length-parts (end ∷ more) xs len rising.2)
+
+pub get_or-parts : {X : Type 0} (starts : List ℕ) (xs : List X) (k : ℕ) → k + 1 < length starts
+    → get_or (parts starts xs) k [] ≡ slice_range xs (get_or starts k 0) (get_or starts (k + 1) 0)
+get_or-parts [] xs k within = absurd (omega arith)
+get_or-parts (start ∷ []) xs k within = absurd (omega arith)
+get_or-parts (start ∷ end ∷ more) xs zero within = refl
+get_or-parts (start ∷ end ∷ more) xs (suc k) within = let next : suc k + 1 ≡ suc (k + 1) = omega arith in rw next (get_or-parts (end ∷ more) xs k (omega arith))
+
+pub starts-rise : (starts : List ℕ) (len k : ℕ) → AreStarts starts len → k + 1 < length starts
+    → (get_or starts k 0 ≤ get_or starts (k + 1) 0) × (get_or starts (k + 1) 0 ≤ len)
+starts-rise [] len k rising within = absurd rising
+starts-rise (start ∷ []) len k rising within = absurd (omega arith)
+starts-rise (start ∷ end ∷ more) len zero rising within = (rising.0, rising.1)
+starts-rise (start ∷ end ∷ more) len (suc k) rising within = let next : suc k + 1 ≡ suc (k + 1) = omega arith in rw next (starts-rise (end ∷ more) len k rising.2 (omega arith))
+
+pub AreStarts-push : (starts : List ℕ) (len more : ℕ) → AreStarts starts len → AreStarts (starts ++ (len + more) ∷ []) (len + more)
+AreStarts-push [] len more rising = absurd rising
+AreStarts-push (start ∷ []) len more rising = (omega (arith, rising), omega arith, refl)
+AreStarts-push (start ∷ end ∷ others) len more rising = (rising.0, omega (arith, rising.1), AreStarts-push (end ∷ others) len more rising.2)
+
+pub parts-push : {X : Type 0} (starts : List ℕ) (xs ys : List X) → AreStarts starts (length xs)
+    → parts (starts ++ (length xs + length ys) ∷ []) (xs ++ ys) ≡ parts starts xs ++ ys ∷ []
+parts-push [] xs ys rising = absurd rising
+parts-push {X} (start ∷ []) xs ys rising = ap (λ (part : List X). part ∷ []) (range-end xs ys start rising)
+parts-push {X} (start ∷ end ∷ more) xs ys rising =
+    rw (range-append xs ys start end rising.0 rising.1) (ap (λ (rest : List (List X)). slice_range xs start end ∷ rest) (parts-push (end ∷ more) xs ys rising.2))
+
+pub find-hashed : (objects : List Object) (hashes : List ℕ) (hash : ℕ) (host : List ℕ) (service : Option (List ℕ)) (ids : List ObjectId)
+    → hashes ≡ map (object_hash objects) objects → hash ≡ name_hash host service
+    → find (is_hashed_name objects hashes hash host service) ids ≡ find (is_named_at objects host service) ids
+find-hashed objects hashes hash host service ids kept is =
+    find-also (is_named_at objects host service) (has_hash_at hashes hash) (λ id named. has_hash-named objects hashes host service hash id kept is named) ids
+
+-- one more list behind the others
+pub Kept-more : (starts starts' : List ℕ) (ids ids' list : List ObjectId) (end : ℕ) → AreStarts starts (length ids) → ids' ≡ ids ++ list → starts' ≡ starts ++ end ∷ []
+    → end ≡ length ids' → AreStarts starts' (length ids') × (parts starts' ids' ≡ parts starts ids ++ list ∷ [])
+Kept-more starts starts' ids ids' list end rising grown added at =
+    let long : length ids' ≡ length ids + length list = ap (λ (all : List ObjectId). length all) grown ∙ length-append ids list in
+    let last : end ≡ length ids + length list = at ∙ long in
+    (rw (added, long, last) (AreStarts-push starts (length ids) (length list) rising), rw (added, grown, last) (parts-push starts ids list rising))

@@ -1,6 +1,6 @@
 -- Objects by name (chapter "Object Definitions"): a host has a name, and a service has a description
 -- and the name of its host.
-use Rattle.std.specs.Prelude.{◌≡◌, ℕ, ◌%◌, ◌*◌, ◌^◌, ◌<◌, Bool, false, ◌&&◌, ◌==◌, List, [], ◌∷◌, length, map, filter, fold, bit_xor, Option, None, Some, slice_get, slice_index_or}
+use Rattle.std.specs.Prelude.{◌≡◌, ℕ, ◌%◌, ◌*◌, ◌^◌, ◌<◌, ◌≤◌, Bool, false, ◌&&◌, ◌==◌, List, [], ◌∷◌, length, map, filter, fold, bit_xor, Option, None, Some, slice_get, slice_index_or, slice_range}
 use Rattle.std.specs.Option.{option_map, option_map_or}
 use Rattle.std.specs.List.{position, range_with_len}
 use Rattle.std.specs.Str.{bytes_eq}
@@ -55,6 +55,14 @@ called_hash objects (Some id) name = option_map_or (λ host. name_hash host.name
 abbrev pub object_hash : List Object → Object → ℕ
 object_hash objects object = called_hash objects object.host object.name
 
+-- whether this is the hash of that number
+abbrev pub has_hash_at : List ℕ → ℕ → ObjectId → Bool
+has_hash_at hashes hash id = option_map_or (λ found. found == hash) (slice_get hashes id.0) false
+
+-- the object of this number has the hash and the name
+abbrev pub is_hashed_name : List Object → List ℕ → ℕ → List ℕ → Option (List ℕ) → ObjectId → Bool
+is_hashed_name objects hashes hash host service id = has_hash_at hashes hash id && is_named_at objects host service id
+
 -- whether the object of this number goes into this bucket
 abbrev pub is_in_bucket : List Object → ℕ → ℕ → ObjectId → Bool
 is_in_bucket objects buckets bucket id =
@@ -69,3 +77,15 @@ pub record IsIndexUpTo (objects : List Object) (count : ℕ) (buckets : List (Li
   pub some : 0 < length buckets
   pub each : (bucket : ℕ) → bucket < length buckets
       → slice_index_or buckets bucket [] ≡ filter (is_in_bucket objects (length buckets) bucket) (ids_below count)
+
+-- the parts of a list that begin at these places, each up to the next
+abbrev pub parts : {X : Type 0} → List ℕ → List X → List (List X)
+parts [] xs = []
+parts (start ∷ []) xs = []
+parts (start ∷ end ∷ more) xs = slice_range xs start end ∷ parts (end ∷ more) xs
+
+-- the places rise up to the length, which is the last of them
+abbrev pub AreStarts : List ℕ → ℕ → Type 0
+AreStarts [] len = ⊥
+AreStarts (start ∷ []) len = start ≡ len
+AreStarts (start ∷ end ∷ more) len = (start ≤ end) × (end ≤ len) × AreStarts (end ∷ more) len

@@ -1,8 +1,8 @@
 //! The hosts and services of a configuration, found by their names.
 
-ghost use Rattle.std.specs.Prelude.{◌≡◌, ◌+◌, ◌%◌, ◌++◌, ◌∷◌, [], ◌<◌, ◌≤◌, length, map, find, replicate, slice_index_or, slice_set, IfOk, OnOk, vec_len};
+ghost use Rattle.std.specs.Prelude.{◌≡◌, ◌+◌, ◌%◌, ◌++◌, ◌∷◌, [], ◌<◌, ◌≤◌, length, map, find, replicate, slice_index, slice_index_or, slice_range, slice_set, IfOk, OnOk, vec_len};
 ghost use Rattle.std.specs.Option.{option_copied};
-ghost use Rattle.due_model.specs.Objects.{IsIndexUpTo, has_name_at, hash_of, is_named_at, name_hash, object_hash, object_named};
+ghost use Rattle.due_model.specs.Objects.{IsIndexUpTo, has_hash_at, has_name_at, hash_of, is_hashed_name, is_named_at, name_hash, object_hash, object_named};
 
 use crate::config::{Object, ObjectId};
 use std::alloc::{AllocError, Global};
@@ -13,20 +13,84 @@ use std::marker::Model;
 #[derive(Drop)]
 pub struct Objects {
     items: Vec<Object>,
+    /// The hash of each object's name.
+    hashes: Vec<u64>,
     /// As many as there are objects, at least one. Each has the objects whose name's hash leads to it.
-    buckets: Vec<Vec<ObjectId>>,
+    buckets: Buckets,
 }
 
 impl Model for Objects {
-    ghost use Rattle.std.specs.Prelude.{List, length, map};
+    ghost use Rattle.std.specs.Prelude.{◌≡◌, List, length, map};
     ghost use Rattle.due_model.specs.declared.config.Object.{Object};
-    ghost use Rattle.due_model.specs.Objects.{IsIndexUpTo};
+    ghost use Rattle.due_model.specs.Objects.{IsIndexUpTo, object_hash};
 
     ghost Value = { List Object };
 
     ghost view = { λ s. s.items.items };
 
-    ghost invariant = { λ s. IsIndexUpTo s.items.items (length s.items.items) (map (λ bucket. bucket.items) s.buckets.items) };
+    ghost invariant = { λ s. (s.hashes.items ≡ map (object_hash s.items.items) s.items.items)
+        × IsIndexUpTo s.items.items (length s.items.items) s.buckets };
+}
+
+/// Lists of objects, kept one behind the other. Contracts see the list of the lists.
+#[derive(Drop)]
+struct Buckets {
+    /// Where each list begins in `ids`, and behind the last one the length of `ids`.
+    starts: Vec<usize>,
+    ids: Vec<ObjectId>,
+}
+
+impl Model for Buckets {
+    ghost use Rattle.std.specs.Prelude.{List, length};
+    ghost use Rattle.due_model.specs.declared.config.ObjectId.{ObjectId};
+    ghost use Rattle.due_model.specs.Objects.{AreStarts, parts};
+
+    ghost Value = { List (List ObjectId) };
+
+    ghost view = { λ s. parts s.starts.items s.ids.items };
+
+    ghost invariant = { λ s. AreStarts s.starts.items (length s.ids.items) };
+}
+
+impl Buckets {
+    /// The same lists.
+    fn new(alloc: Global, lists: &[Vec<ObjectId>]) -> Result<Self, AllocError>
+        ensures { IfOk result (λ buckets. buckets ≡ map (λ list. list.items) lists.now) }
+    {
+        let mut starts = Vec::with_capacity(alloc, lists.len().saturating_add(1))?;
+        let mut ids = Vec::new(alloc);
+        starts.push(0)?;
+        for list in lists {
+            ids.extend_from_slice(list.as_slice())?;
+            starts.push(ids.len())?;
+        }
+        Ok(Buckets { starts, ids })
+    }
+
+    /// How many lists there are.
+    fn len(&self) -> usize
+        ensures { result ≡ length self.now }
+    {
+        self.starts.len() - 1
+    }
+
+    /// The list of that number.
+    fn get(&self, number: usize) -> &[ObjectId]
+        requires { number < length self.now }
+        ensures { result.now ≡ slice_index_or self.now number [] }
+    {
+        part_at(self.starts.as_slice(), self.ids.as_slice(), number)
+    }
+}
+
+/// The part of that number.
+fn part_at<'a>(starts: &[usize], ids: &'a [ObjectId], number: usize) -> &'a [ObjectId]
+    requires within { number + 1 < length starts.now }
+    requires ordered { slice_index starts.now number ≤ slice_index starts.now (number + 1) }
+    requires inside { slice_index starts.now (number + 1) ≤ length ids.now }
+    ensures { result.now ≡ slice_range ids.now (slice_index starts.now number) (slice_index starts.now (number + 1)) }
+{
+    &ids[starts[number]..starts[number + 1]]
 }
 
 impl Objects {
@@ -36,8 +100,14 @@ impl Objects {
         requires { vec_len items ≤ 65535 }
         ensures { IfOk result (λ objects. objects ≡ items.items) }
     {
-        let buckets = index_of(alloc, items.as_slice())?;
-        Ok(Objects { items, buckets })
+        let hashes = hashes_of(alloc, items.as_slice())?;
+        let lists = index_of(alloc, items.as_slice(), hashes.as_slice())?;
+        let buckets = Buckets::new(alloc, lists.as_slice())?;
+        Ok(Objects {
+            items,
+            hashes,
+            buckets,
+        })
     }
 
     /// The objects, in number order.
@@ -59,24 +129,44 @@ impl Objects {
     pub fn find(&self, host: &[u8], service: Option<&[u8]>) -> Option<ObjectId>
         ensures { result ≡ object_named self.now host.now (option_copied service.entry) }
     {
-        let bucket = name_bucket(host, service, self.buckets.len());
+        let hash = hash_name(host, service);
+        let bucket = (hash % self.buckets.len() as u64) as usize;
+        let ids = self.buckets.get(bucket);
         first_named(
             self.items.as_slice(),
-            ids_in(&self.buckets, bucket),
+            self.hashes.as_slice(),
+            ids,
+            hash,
             host,
             service,
         )
     }
 }
 
+/// The hash of each object's name.
+fn hashes_of(alloc: Global, objects: &[Object]) -> Result<Vec<u64>, AllocError>
+    ensures { IfOk result (λ hashes. hashes.items ≡ map (object_hash objects.now) objects.now) }
+{
+    let mut hashes = Vec::with_capacity(alloc, objects.len())?;
+    for object in objects {
+        hashes.push(hash_object(objects, object))?;
+    }
+    Ok(hashes)
+}
+
 /// The index of these objects.
-fn index_of(alloc: Global, objects: &[Object]) -> Result<Vec<Vec<ObjectId>>, AllocError>
-    requires { length objects.now ≤ 65535 }
+fn index_of(
+    alloc: Global,
+    objects: &[Object],
+    hashes: &[u64],
+) -> Result<Vec<Vec<ObjectId>>, AllocError>
+    requires few { length objects.now ≤ 65535 }
+    requires hashes { hashes.now ≡ map (object_hash objects.now) objects.now }
     ensures { IfOk result (λ buckets. IsIndexUpTo objects.now (length objects.now) (map (λ bucket. bucket.items) buckets.items)) }
 {
     let mut buckets = empty_buckets(alloc, objects.len().max(1))?;
     for number in 0..objects.len() {
-        let bucket = object_bucket(objects, &objects[number], buckets.len());
+        let bucket = (hashes[number] % buckets.len() as u64) as usize;
         push_to(&mut buckets, bucket, ObjectId(number as u16))?;
     }
     Ok(buckets)
@@ -104,32 +194,15 @@ fn push_to(buckets: &mut Vec<Vec<ObjectId>>, bucket: usize, id: ObjectId) -> Res
     Ok(())
 }
 
-/// The objects of a bucket.
-fn ids_in(buckets: &Vec<Vec<ObjectId>>, bucket: usize) -> &[ObjectId]
-    requires { bucket < vec_len buckets.now }
-    ensures { result.now ≡ slice_index_or (map (λ list. list.items) buckets.now.items) bucket [] }
-{
-    buckets[bucket].as_slice()
-}
-
-/// The bucket of a name.
-fn name_bucket(host: &[u8], service: Option<&[u8]>, buckets: usize) -> usize
-    requires { 0 < buckets }
-    ensures { result ≡ name_hash host.now (option_copied service.entry) % buckets }
-{
-    (hash_name(host, service) % buckets as u64) as usize
-}
-
-/// The bucket of an object.
-fn object_bucket(objects: &[Object], object: &Object, buckets: usize) -> usize
-    requires { 0 < buckets }
-    ensures { result ≡ object_hash objects.now object.now % buckets }
+/// The hash of an object's name.
+fn hash_object(objects: &[Object], object: &Object) -> u64
+    ensures { result ≡ object_hash objects.now object.now }
 {
     match object.host {
-        None => name_bucket(object.name.as_slice(), None, buckets),
+        None => hash_name(object.name.as_slice(), None),
         Some(id) => match objects.get(id.0 as usize) {
             None => 0,
-            Some(host) => name_bucket(host.name.as_slice(), Some(object.name.as_slice()), buckets),
+            Some(host) => hash_name(host.name.as_slice(), Some(object.name.as_slice())),
         },
     }
 }
@@ -155,19 +228,42 @@ fn hash_bytes(seed: u64, bytes: &[u8]) -> u64
     })
 }
 
-/// The first object of a bucket that has the name.
+/// The first of these objects that has the hash and the name.
 fn first_named(
     objects: &[Object],
-    bucket: &[ObjectId],
+    hashes: &[u64],
+    ids: &[ObjectId],
+    hash: u64,
     host: &[u8],
     service: Option<&[u8]>,
 ) -> Option<ObjectId>
-    ensures { result ≡ find (is_named_at objects.now host.now (option_copied service.entry)) bucket.now }
+    ensures { result ≡ find (is_hashed_name objects.now hashes.now hash host.now (option_copied service.entry)) ids.now }
 {
-    bucket
-        .iter()
-        .copied()
-        .find(|id| is_named_at(objects, *id, host, service))
+    ids.iter().copied().find(|id| is_hashed_name(objects, hashes, *id, hash, host, service))
+}
+
+/// Whether the object of that number has the hash and the name. Most others have another hash.
+fn is_hashed_name(
+    objects: &[Object],
+    hashes: &[u64],
+    id: ObjectId,
+    hash: u64,
+    host: &[u8],
+    service: Option<&[u8]>,
+) -> bool
+    ensures { result ≡ is_hashed_name objects.now hashes.now hash host.now (option_copied service.entry) id }
+{
+    has_hash(hashes, id, hash) && is_named_at(objects, id, host, service)
+}
+
+/// Whether this is the hash of that number.
+fn has_hash(hashes: &[u64], id: ObjectId, hash: u64) -> bool
+    ensures { result ≡ has_hash_at hashes.now hash id }
+{
+    match hashes.get(id.0 as usize) {
+        None => false,
+        Some(found) => *found == hash,
+    }
 }
 
 /// Whether the object of that number has the name.

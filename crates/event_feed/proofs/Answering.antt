@@ -17,7 +17,8 @@ use Rattle.event_feed.specs.declared.source.Taken.TheVariants.{Line, Long, Over}
 use Rattle.event_feed.specs.Line.{line_limit, line_reading}
 use Rattle.event_feed.specs.Lines.{is_newline, IsUnbroken, pieces, Known}
 use Rattle.event_feed.specs.Source.{Source, to_come, byte_limit, call_limit, BeginsWithLine, TakesFrom, Takes}
-use Rattle.event_feed.specs.Feed.{Answer, answers, feed_limit, is_stopped, text_reading, moment_after, AreFromLine, HasLine, LineAnswers, CallsFit, GoesToLine, CountsLine, GivesEvent, GivesFault, raised}
+use Rattle.event_feed.specs.Feed.{Answer, answers, feed_limit, is_stopped, text_reading, moment_after, AreFromLine, HasLine, GivesEvent, GivesFault, raised}
+use Rattle.event_feed.specs.NextLine.{LineAnswers, CallsFit, GoesToLine, CountsLine}
 use Rattle.event_feed.proofs.Parts.{HasFirst, slice_split-first}
 use Rattle.event_feed.proofs.ProperLines.{line_reading-fault}
 use Rattle.event_feed.proofs.TakenLines.{taken_in_line}

@@ -1,5 +1,5 @@
 -- A feed: its lines in order, numbered from 1, and what each answers.
-use Rattle.std.specs.Prelude.{◌≡◌, ℕ, ◌+◌, ◌<◌, ◌≤◌, ◌^◌, max, Bool, ◌||◌, ◌==◌, if◌then◌else◌, nat_lt, nat_le, List, [], ◌∷◌, length, take_while, IsTrue, IsSome, is_some, ⊤, Option, Some, None, Result, Ok, Err}
+use Rattle.std.specs.Prelude.{◌≡◌, ℕ, ◌+◌, ◌<◌, ◌≤◌, ◌^◌, max, Bool, ◌||◌, ◌==◌, if◌then◌else◌, nat_lt, nat_le, List, [], ◌∷◌, length, take_while, IsTrue, IsSome, is_some, Option, Some, None, Result, Ok, Err}
 use Rattle.std.specs.List.{list_any}
 use Rattle.due_model.specs.Accepted.{IsProper}
 use Rattle.due_model.specs.Covered.{IsTakenIn}
@@ -7,16 +7,14 @@ use Rattle.due_model.specs.declared.config.Config.{Config}
 use Rattle.due_model.specs.declared.config.Object.{Object}
 use Rattle.due_model.specs.declared.event.Event.{Event}
 use Rattle.event_feed.specs.declared.fault.FeedFault.{FeedFault}
-use Rattle.event_feed.specs.declared.fault.FeedFault.TheVariants.{LineTooLong, Cut, Read}
+use Rattle.event_feed.specs.declared.fault.FeedFault.TheVariants.{Cut, Read}
 use Rattle.event_feed.specs.declared.fault.LineFault.{LineFault}
 use Rattle.event_feed.specs.declared.fault.Stop.{Stop}
 use Rattle.event_feed.specs.declared.fault.Stop.TheVariants.{InputEnded, CutLine, ReaderFailed, TooManyCalls, TooManyBytes, TooManyLines}
 use Rattle.event_feed.specs.Fault.{is_line_fault, stop_fault}
 use Rattle.event_feed.specs.Line.{line_reading}
 use Rattle.event_feed.specs.Lines.{pieces, Known}
-use Rattle.event_feed.specs.Source.{Source, byte_limit, call_limit, to_come}
-use Rattle.event_feed.specs.declared.source.Taken.{Taken}
-use Rattle.event_feed.specs.declared.source.Taken.TheVariants.{Line, Long, Over}
+use Rattle.event_feed.specs.Source.{byte_limit, call_limit}
 
 -- what one line answers: its number, and an event or a fault
 pub record Answer : Type 0 where
@@ -138,37 +136,3 @@ pub record GivesFault (objects : List Object) (old : Feed) (fault : LineFault) (
   pub number : fault.line ≡ new.line
   pub last : new.last ≡ old.last
   pub line : old.line < new.line
-
--- ---- one line of the feed: what it makes of the answers, given what was taken, the line's number and the rest
-
-abbrev pub LineAnswers : List Object → ℕ → Taken → List ℕ → ℕ → List ℕ → List Answer → Type 0
-LineAnswers objects last Line text line rest all =
-    all ≡ record { line = line; given = text_reading objects last text }
-    ∷ answers objects line (moment_after last (text_reading objects last text)) (pieces rest)
-LineAnswers objects last Long text line rest all =
-    all ≡ record { line = line; given = Err LineTooLong } ∷ answers objects line last (pieces rest)
-LineAnswers objects last (Over InputEnded) text line rest all = all ≡ []
-LineAnswers objects last (Over CutLine) text line rest all = all ≡ record { line = line; given = Err Cut } ∷ []
-LineAnswers objects last (Over ReaderFailed) text line rest all = AreFromLine line all
-LineAnswers objects last (Over TooManyCalls) text line rest all = AreFromLine line all
-LineAnswers objects last (Over TooManyBytes) text line rest all = all ≡ record { line = line; given = Err Read } ∷ []
-LineAnswers objects last (Over TooManyLines) text line rest all = all ≡ record { line = line; given = Err Read } ∷ []
-
--- too many calls come only in a line of as many bytes
-abbrev pub CallsFit : Taken → List ℕ → Type 0
-CallsFit (Over TooManyCalls) bytes = HasLine call_limit (pieces bytes)
-CallsFit taken bytes = ⊤
-
--- going to the next line that isn't empty
-abbrev pub GoesToLine : Source → ℕ → Taken → Source → ℕ → Type 0
-GoesToLine old from taken new line =
-    Known (to_come old) (to_come new) (λ bytes rest.
-    ((objects : List Object) (last : ℕ) → LineAnswers objects last taken new.line line rest (answers objects from last (pieces bytes)))
-    × CallsFit taken bytes)
-
--- how the line's number grows
-abbrev pub CountsLine : ℕ → Taken → ℕ → Type 0
-CountsLine from (Over InputEnded) line = (from ≤ line) × (line ≤ feed_limit)
-CountsLine from (Over stop) line = (from < line) × (line ≤ feed_limit + 1)
-CountsLine from Line line = (from < line) × (line ≤ feed_limit)
-CountsLine from Long line = (from < line) × (line ≤ feed_limit)

@@ -3,3 +3,4 @@ pub mod Line
 pub mod Lines
 pub mod Source
 pub mod Feed
+pub mod NextLine

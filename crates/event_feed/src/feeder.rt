@@ -1,7 +1,8 @@
 //! The events of a feed, in order, from any reader.
 
-ghost use Rattle.std.specs.Prelude.{◌≡◌, ◌≤◌, None, Ok, IfOk, IfErr, IfSome, IfNone, OnSome};
-ghost use Rattle.event_feed.specs.Feed.{CountsLine, GivesEvent, GivesFault, GivesNone, GoesToLine, feed_limit, raised};
+ghost use Rattle.std.specs.Prelude.{◌≡◌, ◌≤◌, None, Some, Ok, IfOk, IfErr, IfSome, IfNone, OnSome};
+ghost use Rattle.event_feed.specs.Feed.{GivesEvent, GivesFault, GivesNone, feed_limit, raised};
+ghost use Rattle.event_feed.specs.NextLine.{CountsLine, GoesToLine};
 
 use crate::fault::{FeedFault, LineFault, Stop};
 use crate::line::read_line;
@@ -74,6 +75,7 @@ impl<R: Read + Drop> Feeder<R> {
         ensures over { OnSome self.old.stop ((result ≡ Ok None) × (self.new ≡ self.old)) }
         ensures event { IfOk result (λ found. IfSome found (λ event. GivesEvent config.now self.old event self.new)) }
         ensures none { IfOk result (λ found. IfNone found (GivesNone config.now.objects self.old self.new)) }
+        ensures ended { IfNone self.old.stop (IfOk result (λ found. IfNone found (self.new.stop ≡ Some Stop.InputEnded))) }
         ensures fault { IfErr result (λ fault. GivesFault config.now.objects self.old fault self.new) }
     {
         if self.stop.is_some() {

@@ -295,7 +295,11 @@ fn reads_in_any_pieces(rt: HostRuntime) -> Result<(), Fail> {
 const SHORT_FEED: &[u8] = b"[5] CLOCK\n\n[4] NOPE\n[3] CLOCK\n";
 
 /// What the short feed answers where only so many of its bytes come, and the end is this fault.
-fn short_answers(alloc: Global, count: usize, fault: FeedFault) -> Result<Vec<LineAnswer>, AllocError> {
+fn short_answers(
+    alloc: Global,
+    count: usize,
+    fault: FeedFault,
+) -> Result<Vec<LineAnswer>, AllocError> {
     let mut all = Vec::new(alloc);
     if count >= 10 {
         all.push(answer(1, clock(5)))?;
