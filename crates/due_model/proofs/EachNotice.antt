@@ -56,7 +56,8 @@ SentGives o l event Q Nothing = Unit {0}
 SentGives o l event Q (Sent k s number m gap) = (contact : ℕ) → Q (the_notice o l event number (record { kind = k; state = s; moment = m }) contact)
 SentGives o l event Q (Suppressed k s number m f) = Unit {0}
 
-notices_each : (c : Config) (zone : Zone) (o : ℕ) (object : Object) (l event : ℕ) (Q : Notice → Type 0) (x : Outcome) → SentGives o l event Q x → All Q (notices c zone o object l event x)
+-- what holds of an outcome's notice to each contact holds of each of its notices
+pub notices_each : (c : Config) (zone : Zone) (o : ℕ) (object : Object) (l event : ℕ) (Q : Notice → Type 0) (x : Outcome) → SentGives o l event Q x → All Q (notices c zone o object l event x)
 notices_each c zone o object l event Q Nothing h = All-nil Q
 notices_each c zone o object l event Q (Sent k s number m gap) h =
     let a : Attempt = record { kind = k; state = s; moment = m } in

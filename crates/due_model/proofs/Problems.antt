@@ -1,5 +1,5 @@
 -- How the outcomes of one problem follow one another.
-use Rattle.std.proofs.Common.{◌≡◌, ℕ, suc, zero, ◌+◌, ◌<◌, ◌≤◌, Bool, true, false, cond, not, ◌==◌, List, [], ◌∷◌, ◌++◌, reverse, slice_get, filter_map, All, Option, None, Some, is_some, if◌then◌else◌, refl, sym, ap, ap₂, ◌∙◌, subst, arith, ◌⊎◌, inl, inr, map-id, append-nil, zero-add, leb-true}
+use Rattle.std.proofs.Common.{length, ◌≡◌, ℕ, suc, zero, ◌+◌, ◌<◌, ◌≤◌, Bool, true, false, cond, not, ◌==◌, List, [], ◌∷◌, ◌++◌, reverse, slice_get, filter_map, All, Option, None, Some, is_some, if◌then◌else◌, refl, sym, ap, ap₂, ◌∙◌, subst, arith, ◌⊎◌, inl, inr, map-id, append-nil, zero-add, leb-true}
 use Rattle.std.specs.List.{range_with_len, cons_option}
 use Rattle.std.proofs.lemmas.Bool.{eqb-false, not-false, cond_both, false≢true}
 use Rattle.std.proofs.lemmas.List.{reverse-append}
@@ -16,10 +16,10 @@ use Rattle.due_model.specs.declared.notice.Outcome.TheVariants.{Nothing, Sent, S
 use Rattle.due_model.specs.declared.state.State.{State}
 use Rattle.due_model.specs.declared.state.State.TheVariants as state
 use Rattle.due_model.specs.declared.zone.Zone.{Zone}
-use Rattle.due_model.specs.Histories.{before, of_problem, hist, outcome, view, number_after, notice_of, notices_sent, last_notice}
-use Rattle.due_model.specs.Due.{due_for}
-use Rattle.due_model.specs.Laws.{last_problem, notice_number, up_to}
-use Rattle.due_model.proofs.EachNotice.{due_for_each, due_at_each}
+use Rattle.due_model.specs.Histories.{before, of_problem, hist, outcome, view, number_after, notice_of, notices_sent, last_notice, gap_of}
+use Rattle.due_model.specs.Due.{due_for, due_at}
+use Rattle.due_model.specs.Laws.{last_problem, notice_number, number_told, up_to}
+use Rattle.due_model.proofs.EachNotice.{SentGives, notices_each, due_for_each, due_at_each}
 use Rattle.due_model.specs.Readings.{begins}
 use Rattle.due_model.specs.Rules.{Attempt, Last, has_come, is_problem, is_recovery, is_too_soon, next_notice, same_state}
 use Rattle.due_model.proofs.Verdicts.{Passes, passes_from_none, and_second, attempt_at, outcome_cases}
@@ -249,3 +249,33 @@ due_for_recoveries c zone o object l past =
     (λ e earlier. due_at_each c zone o object l e earlier (λ n. is_recovery n.kind ≡ true → 0 < notices_sent (last_problem c zone o object (e ∷ earlier)))
     (λ k number contact passes h. recovery_after c zone o object e earlier k passes h))
     past
+
+-- a notice carries the number of its problem's notices so far
+
+number_is : (k : Kind) (s : State) (m gap : ℕ) (earlier : List Outcome)
+    → number_after (notices_sent earlier) k ≡ number_told k (notices_sent (Sent k s (number_after (notices_sent earlier) k) m gap ∷ earlier))
+number_is kind.Problem s m gap earlier = omega (arith, notices_sent-cons (Sent kind.Problem s (notices_sent earlier + 1) m gap) earlier)
+number_is kind.Recovery s m gap earlier = omega (arith, notices_sent-cons (Sent kind.Recovery s (notices_sent earlier + 1) m gap) earlier)
+number_is kind.FlappingStart s m gap earlier = refl
+number_is kind.FlappingStop s m gap earlier = refl
+number_is kind.DowntimeStart s m gap earlier = refl
+number_is kind.DowntimeEnd s m gap earlier = refl
+number_is kind.DowntimeCancelled s m gap earlier = refl
+
+due_at_numbered : (c : Config) (zone : Zone) (o : ℕ) (object : Object) (l : ℕ) (e : Event) (past : List Event)
+    → All (λ n. n.number ≡ number_told n.kind (notices_sent (last_problem c zone o object (e ∷ past)))) (due_at c zone o object l e past)
+due_at_numbered c zone o object l e past =
+    let history = hist c zone o object past in
+    let x = outcome c zone o object e past history in
+    let earlier = before o e past history in
+    subst (λ xs. All (λ n. n.number ≡ number_told n.kind (notices_sent xs)) (due_at c zone o object l e past)) (sym (last_problem-cons c zone o object e past))
+    (notices_each c zone o object l (length past) (λ n. n.number ≡ number_told n.kind (notices_sent (x ∷ earlier))) x
+    (outcome_cases c zone o object e past history (λ y. SentGives o l (length past) (λ n. n.number ≡ number_told n.kind (notices_sent (y ∷ earlier))) y) tt
+    (λ k none contact. number_is k (attempt_at o e past k).state (attempt_at o e past k).moment
+    (gap_of c zone o object (attempt_at o e past k) (number_after (notices_sent earlier) k)) earlier)
+    (λ k f. tt)))
+
+pub due_for_numbered : (c : Config) (zone : Zone) (o : ℕ) (object : Object) (l : ℕ) (past : List Event)
+    → All (λ n. n.number ≡ number_told n.kind (notices_sent (last_problem c zone o object (up_to past n.event)))) (due_for c zone o object l past)
+due_for_numbered c zone o object l past =
+    due_for_each c zone o object l (λ so_far n. n.number ≡ number_told n.kind (notices_sent (last_problem c zone o object so_far))) (due_at_numbered c zone o object l) past

@@ -5,6 +5,8 @@ use Rattle.std.specs.Option.{ForSome}
 use Rattle.due_model.specs.declared.config.Config.{Config}
 use Rattle.due_model.specs.declared.config.Object.{Object}
 use Rattle.due_model.specs.declared.event.Event.{Event}
+use Rattle.due_model.specs.declared.notice.Kind.{Kind}
+use Rattle.due_model.specs.declared.notice.Kind.TheVariants as kind
 use Rattle.due_model.specs.declared.notice.Notice.{Notice}
 use Rattle.due_model.specs.declared.notice.Outcome.{Outcome}
 use Rattle.due_model.specs.declared.notice.Outcome.TheVariants.{Nothing, Sent, Suppressed}
@@ -93,3 +95,18 @@ NoticesKeepTheirGaps = (c : Config) (zone : Zone) (o : ℕ) (object : Object) (p
     → slice_get (filter_map notice_of (last_problem c zone o object past)) i ≡ Some later
     → slice_get (filter_map notice_of (last_problem c zone o object past)) (i + 1) ≡ Some earlier
     → earlier.state ≡ later.state → (0 < earlier.gap) × (earlier.moment + earlier.gap ≤ later.moment)
+
+-- the number of a notice of this kind, after so many problem notices of its problem, its own counted
+abbrev pub number_told : Kind → ℕ → ℕ
+number_told kind.Problem sent = sent
+number_told kind.Recovery sent = sent + 1
+number_told kind.FlappingStart sent = 0
+number_told kind.FlappingStop sent = 0
+number_told kind.DowntimeStart sent = 0
+number_told kind.DowntimeEnd sent = 0
+number_told kind.DowntimeCancelled sent = 0
+
+-- Each notice carries that number.
+abbrev pub NoticesAreNumbered : Type 0
+NoticesAreNumbered = (c : Config) (zone : Zone) (o l : ℕ) (object : Object) (past : List Event) → slice_get c.objects o ≡ Some object
+    → All (λ n. n.number ≡ number_told n.kind (notices_sent (last_problem c zone o object (up_to past n.event)))) (due c zone o l past)

@@ -1,7 +1,7 @@
 //! Laws of what is due, over every configuration, zone and list of events. Each is the contract of a function
 //! with nothing to do.
 
-ghost use Rattle.due_model.specs.Laws.{DueOnlyGrows, SuppressionsOnlyGrow, NoticesStandInOrder, NoticesStandOnce, NoticesTellOfEvents, ProblemsAreHeldBack, RecoveriesFollowNotices, NumbersGoUpByOne, NoticesKeepTheirGaps};
+ghost use Rattle.due_model.specs.Laws.{DueOnlyGrows, SuppressionsOnlyGrow, NoticesStandInOrder, NoticesStandOnce, NoticesTellOfEvents, ProblemsAreHeldBack, RecoveriesFollowNotices, NumbersGoUpByOne, NoticesAreNumbered, NoticesKeepTheirGaps};
 ghost use Rattle.due_model.specs.LawsOfAttempts.{EachAttemptIsAnswered};
 ghost use Rattle.due_model.specs.LawsOfReadings.{MomentIsGreatestStamp, IsReadyByLast, DownWhereStartsOutnumber, BeginIsLeast};
 
@@ -27,6 +27,7 @@ pub fn tell_of_events()
 /// The notices of one problem are numbered from 1 on, and keep their gaps.
 pub fn follow_in_problem()
     ensures numbers { NumbersGoUpByOne }
+    ensures notices { NoticesAreNumbered }
     ensures gaps { NoticesKeepTheirGaps }
 {}
 

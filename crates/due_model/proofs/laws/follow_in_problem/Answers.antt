@@ -1,11 +1,20 @@
-use Rattle.std.proofs.Common.{slice_get, add-one, ap, ◌∙◌, sym, filter_map}
-use Rattle.due_model.specs.Histories.{notice_of}
-use Rattle.due_model.specs.Laws.{last_problem}
-use Rattle.due_model.proofs.Problems.{problem_follows, numbers_go_up, gaps_are_kept}
+use Rattle.std.proofs.Common.{◌≡◌, slice_get, add-one, ap, ◌∙◌, sym, filter_map}
+use Rattle.due_model.specs.Histories.{notice_of, notices_sent}
+use Rattle.due_model.specs.Laws.{last_problem, number_told, up_to}
+use Rattle.due_model.proofs.Problems.{problem_follows, numbers_go_up, gaps_are_kept, due_for_numbered}
+use Rattle.due_model.specs.Due.{due_for}
+use Rattle.due_model.proofs.EachNotice.{due_each}
 use Rattle.due_model.proofs.laws.follow_in_problem.Goals as goal
 
 pub returns-clause-numbers : goal.returns-clause-numbers
 returns-clause-numbers x c zone o object past = numbers_go_up (last_problem c zone o object past) (problem_follows c zone o object past)
+
+pub returns-clause-notices : goal.returns-clause-notices
+returns-clause-notices x c zone o l object past known =
+    due_each c o (slice_get c.objects o) (λ n. n.number ≡ number_told n.kind (notices_sent (last_problem c zone o object (up_to past n.event)))) (λ other. due_for c zone o other l past)
+    (λ other found.
+    let same : object ≡ other = cc in
+    rw same (due_for_numbered c zone o other l past))
 
 pub returns-clause-gaps : goal.returns-clause-gaps
 returns-clause-gaps x c zone o object past i earlier later is_later is_earlier same =
