@@ -100,11 +100,7 @@ fn own_name(config: &Config, object: ObjectId) -> &[u8]
 }
 
 /// Adds the name of a service's host, and a slash.
-fn push_host(
-    line: &mut Vec<u8>,
-    config: &Config,
-    host: Option<ObjectId>,
-) -> Result<(), AllocError>
+fn push_host(line: &mut Vec<u8>, config: &Config, host: Option<ObjectId>) -> Result<(), AllocError>
     ensures { OnOk result (line.new.items ≡ line.old.items ++ host_part config.now host) }
 {
     let Some(host) = host else {
@@ -115,11 +111,7 @@ fn push_host(
 }
 
 /// Adds an object: `host`, or `host/service`.
-fn push_object_text(
-    line: &mut Vec<u8>,
-    config: &Config,
-    object: ObjectId,
-) -> Result<(), AllocError>
+fn push_object_text(line: &mut Vec<u8>, config: &Config, object: ObjectId) -> Result<(), AllocError>
     ensures { OnOk result (line.new.items ≡ line.old.items ++ object_text config.now object.0) }
 {
     match config.objects.as_slice().get(object.0 as usize) {
@@ -132,11 +124,7 @@ fn push_object_text(
 }
 
 /// Adds an object as a field.
-fn push_object(
-    line: &mut Vec<u8>,
-    config: &Config,
-    object: ObjectId,
-) -> Result<(), AllocError>
+fn push_object(line: &mut Vec<u8>, config: &Config, object: ObjectId) -> Result<(), AllocError>
     ensures { OnOk result (line.new.items ≡ line.old.items ++ field (object_text config.now object.0)) }
 {
     line.push(b';')?;
@@ -144,11 +132,7 @@ fn push_object(
 }
 
 /// Adds a contact as a field.
-fn push_contact(
-    line: &mut Vec<u8>,
-    config: &Config,
-    contact: ContactId,
-) -> Result<(), AllocError>
+fn push_contact(line: &mut Vec<u8>, config: &Config, contact: ContactId) -> Result<(), AllocError>
     ensures { OnOk result (line.new.items ≡ line.old.items ++ field (contact_text config.now contact.0)) }
 {
     match config.contacts.as_slice().get(contact.0 as usize) {
@@ -168,11 +152,7 @@ fn push_lane(line: &mut Vec<u8>, config: &Config, lane: LaneId) -> Result<(), Al
 }
 
 /// Adds the line of a notice.
-pub fn push_notice(
-    line: &mut Vec<u8>,
-    config: &Config,
-    notice: &Notice,
-) -> Result<(), AllocError>
+pub fn push_notice(line: &mut Vec<u8>, config: &Config, notice: &Notice) -> Result<(), AllocError>
     ensures { OnOk result (line.new.items ≡ line.old.items ++ notice_line config.now notice.now) }
 {
     line.extend_from_slice(b"N")?;

@@ -32,7 +32,13 @@ fn input(alloc: Global, feed: &str) -> Result<String, Fail> {
 }
 
 /// Replays BASE with this feed, and compares what is written and how it ends.
-fn gives(rt: &impl Abort, alloc: Global, feed: &str, report: &str, ending: Ending) -> Result<(), Fail> {
+fn gives(
+    rt: &impl Abort,
+    alloc: Global,
+    feed: &str,
+    report: &str,
+    ending: Ending,
+) -> Result<(), Fail> {
     let text = input(alloc, feed)?;
     let mut out = Vec::new(alloc);
     let ended = replay(alloc, text.as_bytes(), &mut out);
