@@ -1,14 +1,14 @@
 -- The configuration of blocks within the limits is accepted, and covered.
-use Rattle.std.proofs.Common.{◌≡◌, ℕ, zero, suc, ◌<◌, ◌≤◌, Bool, true, false, not, cond, nat_eq, nat_le, nat_lt, List, [], ◌∷◌, length, map, filter, get_or, All, Contains, Option, Some, None, IfSome, unwrap_or, refl, sym, ap, subst, ◌∙◌, arith}
-use Rattle.std.specs.List.{AllZip, filter_map, position, position_or_len, list_all, cons_option}
+use Rattle.std.proofs.Common.{◌≡◌, ℕ, ◌<◌, ◌≤◌, Bool, true, false, not, cond, nat_eq, nat_le, List, [], ◌∷◌, length, map, get_or, All, Contains, Option, Some, None, IfSome, unwrap_or, refl, sym, ap, subst, ◌∙◌, arith}
+use Rattle.std.specs.List.{filter_map, position, list_all, cons_option}
 use Rattle.std.specs.Prelude.{codes, slice_get}
 use Rattle.std.specs.Char.{is_ascii_digit}
 use Rattle.std.specs.Str.{bytes_eq}
-use Rattle.std.proofs.lemmas.Bool.{leb-true, ltb-true}
+use Rattle.std.proofs.lemmas.Bool.{leb-true}
 use Rattle.std.proofs.lemmas.List.{get_or-map, get_or_default, length-map}
 use Rattle.std.proofs.lemmas.Option.{slice_get_within}
 use Rattle.std.proofs.lemmas.List.Elements.{All-nil, All-cons, All-contains}
-use Rattle.due_model.specs.Accepted.{Chain, ContactFits, DependsOn, Excludes, HasNoLoop, DependencyFits, EscalationFits, IsAccepted, ObjectFits, PeriodFits, RightsFit}
+use Rattle.due_model.specs.Accepted.{ContactFits, DependsOn, Excludes, HasNoLoop, DependencyFits, EscalationFits, IsAccepted, ObjectFits, PeriodFits, RightsFit}
 use Rattle.due_model.specs.Covered.{AreFullRights, HasHostLetters, IsCovered, IsPlainHost}
 use Rattle.due_model.specs.declared.config.Config.{Config}
 use Rattle.due_model.specs.declared.config.Contact.{Contact}
@@ -18,7 +18,7 @@ use Rattle.due_model.specs.declared.config.Rights.{Rights}
 use Rattle.due_model.specs.declared.letters.Letters.{Letters}
 use Rattle.object_reader.specs.declared.block.Block.{Block}
 use Rattle.notify_run.specs.Resolved.{AreRightsOf, AreSetOf, IsConfigOf, IsContactOf, IsHostOf, contact_names, contacts_in, contacts_named, every_letter, hosts_in, interval_of, lanes_named}
-use Rattle.notify_run.specs.ResolvedValues.{command_name, entries_read, name_of, number_in, number_of, value_in}
+use Rattle.notify_run.specs.ResolvedValues.{command_name, entries_read, name_of, number_of, value_in}
 use Rattle.object_reader.specs.declared.block.BlockKind.TheVariants.{Host}
 use Rattle.notify_run.proofs.ResolvedLists.{All-paired, length-paired, position-within}
 
@@ -44,7 +44,7 @@ pub set-within : {X : Type 0} (number : X → ℕ) (n : ℕ) (listed : List ℕ)
 set-within number n listed ids each set = λ k d below.
     let inside : k < length (map number ids) = rw (length-map ids number) below in
     let is : get_or (map number ids) k (number (get_or ids k d)) ≡ number (get_or ids k d) =
-      get_or-map number ids k d (number (get_or ids k d)) below in
+    get_or-map number ids k d (number (get_or ids k d)) below in
     All-contains (λ j. j < n) listed (number (get_or ids k d)) each (set.only (number (get_or ids k d)) (k, inside, is))
 
 -- and of the set itself
@@ -75,7 +75,7 @@ every-host_letter set is = record {
   unreachable = ap (λ (letters : Letters). letters.unreachable) is;
   recovery = ap (λ (letters : Letters). letters.recovery) is;
   flapping = ap (λ (letters : Letters). letters.flapping) is;
-  downtime = ap (λ (letters : Letters). letters.downtime) is
+  downtime = ap (λ (letters : Letters). letters.downtime) is;
 }
 
 none-fits : {X : Type 0} (P : X → Type 0) (x : Option X) → x ≡ None → IfSome x P
@@ -88,7 +88,7 @@ host-fits config names long block object of = record {
   interval = rw of.interval (interval-few (value_in block.directives (codes "notification_interval")));
   delay = rw of.delay (omega arith);
   contacts = set-within (λ contact. contact.0) (length config.contacts) (contacts_named names (entries_read Host block.directives)) object.contacts
-    (subst (λ n. All (λ k. k < n) (contacts_named names (entries_read Host block.directives))) long (contacts-within names (entries_read Host block.directives))) of.contacts
+      (subst (λ n. All (λ k. k < n) (contacts_named names (entries_read Host block.directives))) long (contacts-within names (entries_read Host block.directives))) of.contacts;
 }
 
 host-plain : (names : List (List ℕ)) (block : Block) (object : Object) → IsHostOf names block object → IsPlainHost object
@@ -97,26 +97,26 @@ host-plain names block object of = record {
   enabled = of.enabled;
   options = every-host_letter object.options of.options;
   period = of.period;
-  delay = of.delay
+  delay = of.delay;
 }
 
 rights-fit : (config : Config) (entries : List (List ℕ)) (rights : Rights) → AreRightsOf config.lanes entries rights → RightsFit config rights
 rights-fit config entries rights of = record {
   period = none-fits _ rights.period of.period;
-  lanes = set-within (λ lane. lane.0) (length config.lanes) (lanes_named config.lanes entries) rights.lanes (lanes-within config.lanes entries) of.lanes
+  lanes = set-within (λ lane. lane.0) (length config.lanes) (lanes_named config.lanes entries) rights.lanes (lanes-within config.lanes entries) of.lanes;
 }
 
 rights-full : (lanes : List Lane) (entries : List (List ℕ)) (rights : Rights) → AreRightsOf lanes entries rights → AreFullRights rights
 rights-full lanes entries rights of = record {
   enabled = of.enabled;
   options = every-host_letter rights.options of.options;
-  period = of.period
+  period = of.period;
 }
 
 contact-fits : (config : Config) (block : Block) (contact : Contact) → IsContactOf config.lanes block contact → ContactFits config contact
 contact-fits config block contact of = record {
   hosts = rights-fit config _ contact.hosts of.hosts;
-  services = rights-fit config _ contact.services of.services
+  services = rights-fit config _ contact.services of.services;
 }
 
 -- ---- the whole
@@ -137,7 +137,7 @@ resolved-accepted blocks lane_blocks config of few_hosts few_contacts few_lanes 
     let hosts : length config.objects ≡ length (hosts_in blocks) = length-paired _ (hosts_in blocks) config.objects of.objects in
     let contacts : length config.contacts ≡ length (contacts_in blocks) = length-paired _ (contacts_in blocks) config.contacts of.contacts in
     let lanes : length config.lanes ≡ length lane_blocks =
-      sym (length-map config.lanes (λ lane. lane.name)) ∙ ap length of.lanes ∙ length-map lane_blocks name_of in
+    sym (length-map config.lanes (λ lane. lane.name)) ∙ ap length of.lanes ∙ length-map lane_blocks name_of in
     let names : length (contact_names blocks) ≡ length config.contacts = length-map (contacts_in blocks) name_of ∙ sym contacts in
     record {
       few_objects = omega arith;
@@ -152,7 +152,7 @@ resolved-accepted blocks lane_blocks config of few_hosts few_contacts few_lanes 
       escalations = empty-all (EscalationFits config) config.escalations of.no_escalation;
       dependencies = empty-all (DependencyFits config) config.dependencies of.no_dependency;
       no_period_loop = no-loop (Excludes config) (λ p q step. empty-none config.periods step.0 p of.no_period step.1);
-      no_dependency_loop = no-loop (DependsOn config) (λ p q step. empty-contains config.dependencies step.0 of.no_dependency step.1)
+      no_dependency_loop = no-loop (DependsOn config) (λ p q step. empty-contains config.dependencies step.0 of.no_dependency step.1);
     }
   where
     empty-contains : {X : Type 0} (xs : List X) (x : X) → xs ≡ [] → Contains xs x → ⊥
@@ -163,5 +163,5 @@ resolved-covered blocks lane_blocks config of = record {
   objects = All-paired _ IsPlainHost (hosts_in blocks) config.objects (host-plain (contact_names blocks)) of.objects;
   contacts = All-paired _ (λ contact. AreFullRights contact.hosts) (contacts_in blocks) config.contacts (λ block contact fits. rights-full config.lanes _ contact.hosts fits.hosts) of.contacts;
   no_escalation = of.no_escalation;
-  no_dependency = of.no_dependency
+  no_dependency = of.no_dependency;
 }

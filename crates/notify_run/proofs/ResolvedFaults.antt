@@ -1,7 +1,6 @@
 -- Which refusal is which.
 use Rattle.std.proofs.Common.{List, Result, Ok, Err, OnOk, IfErr}
 use Rattle.object_reader.specs.declared.block.Block.{Block}
-use Rattle.notify_run.specs.declared.configure.fault.BlockFault.{BlockFault}
 use Rattle.notify_run.specs.declared.configure.fault.BlockFault.TheVariants.{MissingDirective, UnknownName, Doubled, BadNumber, TooMany, NotYet}
 use Rattle.notify_run.specs.declared.configure.fault.ResolveFault.{ResolveFault}
 use Rattle.notify_run.specs.declared.configure.fault.ResolveFault.TheVariants.{AtLine, NoMemory}

@@ -93,7 +93,7 @@ pub set-from_sorted : (xs ys zs : List ℕ) → IsPermutation xs ys → IsSorted
 set-from_sorted xs ys zs moved sorted is = record {
   rising = subst IsStrictlyIncreasing (sym is) (IsStrictlyIncreasing-dedup ys sorted);
   all = λ k here. subst (λ set. Contains set k) (sym is) (Contains-dedup_nat ys k (Contains-permutation xs ys k moved here));
-  only = λ k here. Contains-permutation ys xs k (IsPermutation-sym xs ys moved) (Contains-from_dedup eqb ys k (subst (λ set. Contains set k) is here))
+  only = λ k here. Contains-permutation ys xs k (IsPermutation-sym xs ys moved) (Contains-from_dedup eqb ys k (subst (λ set. Contains set k) is here));
 }
 
 -- a loop over a list, at an element that passes or doesn't
@@ -134,7 +134,6 @@ found-within false a n is = tt
 pub position-within : {X : Type 0} (p : X → Bool) (xs : List X) → IfSome (position p xs) (λ k. k < length xs)
 position-within p xs = found-within _ (position_or_len p xs) (length xs) refl
 
-
 -- ---- the texts of borrowed entries
 
 pub any-at : (p : List ℕ → Bool) (xs : List (Bor (List ℕ))) (i : ℕ) (d : Bor (List ℕ)) → i < length xs → true ≡ p ((get_or xs i d).now) → true ≡ list_any p (texts xs)
@@ -172,8 +171,8 @@ split-whole : (value : List ℕ) → position_or_len is_comma value ≡ length v
 split-whole [] none = refl
 split-whole (x ∷ xs) none =
     elim (is_comma x) as (λ b. cond (not b) (1 + position_or_len is_comma xs) 0 ≡ length (x ∷ xs) → cond b ([] ∷ slice_split is_comma xs) (onto_first x (slice_split is_comma xs)) ≡ (x ∷ xs) ∷ []) [
-      true ↦ λ here. absurd (omega (arith, here))
-    | false ↦ λ further. ap (λ parts. onto_first x parts) (split-whole xs (omega (arith, further)))
+      | true ↦ λ here. absurd (omega (arith, here))
+      | false ↦ λ further. ap (λ parts. onto_first x parts) (split-whole xs (omega (arith, further)))
     ] none
 
 one_entry : (part : List ℕ) (others : List (List ℕ))
@@ -191,7 +190,7 @@ entries-end old new every rest part entry before is trim-is more whole =
     let at_end : position_or_len is_comma rest ≡ length rest = sym (first_long rest) ∙ ap length (sym is) ∙ whole in
     let all : part ≡ rest = is ∙ ap (λ n. take n rest) at_end ∙ take-length rest in
     let split : entries rest ≡ cond (eqb (length (trimmed part)) 0) [] (trimmed part ∷ []) =
-      ap (λ parts. filter (λ e. not (eqb (length e) 0)) (map trimmed parts)) (split-whole rest at_end ∙ ap (λ r. r ∷ []) (sym all)) ∙ one_entry part [] ∙ append-nil _ in
+    ap (λ parts. filter (λ e. not (eqb (length e) 0)) (map trimmed parts)) (split-whole rest at_end ∙ ap (λ r. r ∷ []) (sym all)) ∙ one_entry part [] ∙ append-nil _ in
     more ∙ ap (λ e. old ++ cond (eqb (length e) 0) [] (e ∷ [])) trim-is ∙ ap (λ es. old ++ es) (sym split) ∙ before
 
 -- a part that others follow
@@ -202,9 +201,9 @@ entries-more old new every rest part entry before is trim-is more inside =
     let long : length part ≡ position_or_len is_comma rest = ap length is ∙ first_long rest in
     let within : position_or_len is_comma rest < length rest = let few = position_or_len-le rest in omega (arith, few) in
     let after : take (length rest - (length part + 1)) (drop (length part + 1) rest) ≡ after_first is_comma rest =
-      rest-is rest (length part + 1) ∙ ap (λ n. drop (n + 1) rest) long in
+    rest-is rest (length part + 1) ∙ ap (λ n. drop (n + 1) rest) long in
     let split : entries rest ≡ cond (eqb (length (trimmed part)) 0) [] (trimmed part ∷ []) ++ entries (after_first is_comma rest) =
-      ap (λ parts. filter (λ e. not (eqb (length e) 0)) (map trimmed parts)) (slice_split_first is_comma rest 0 within ∙ ap (λ p. p ∷ slice_split is_comma (after_first is_comma rest)) (sym is)) ∙ one_entry part (slice_split is_comma (after_first is_comma rest)) in
+    ap (λ parts. filter (λ e. not (eqb (length e) 0)) (map trimmed parts)) (slice_split_first is_comma rest 0 within ∙ ap (λ p. p ∷ slice_split is_comma (after_first is_comma rest)) (sym is)) ∙ one_entry part (slice_split is_comma (after_first is_comma rest)) in
     ap (λ es. new ++ entries es) after
     ∙ ap (λ ns. ns ++ entries (after_first is_comma rest)) (more ∙ ap (λ e. old ++ cond (eqb (length e) 0) [] (e ∷ [])) trim-is)
     ∙ append_assoc old _ _ ∙ ap (λ es. old ++ es) (sym split) ∙ before

@@ -19,13 +19,12 @@ mod tables;
 mod tests;
 mod values;
 
-pub(crate) use fault::{BlockFault, ResolveFault};
-
 use blocks::{has_later_parts, value_fault};
 use build::{contacts_of, hosts_of, lanes_of};
 use due_model::config::Config;
 use due_model::objects::Objects;
 use due_model::sequence::Sequence;
+pub(crate) use fault::{BlockFault, ResolveFault};
 use limits::{check_limits, used_commands};
 use names::Names;
 use object_reader::block::Block;

@@ -156,11 +156,7 @@ fn find_lane(lanes: &[Lane], command: &[u8]) -> Option<usize>
 }
 
 /// The numbers of the lanes that the entries name, in the order of the entries.
-fn lane_numbers(
-    alloc: Global,
-    entries: &[&[u8]],
-    lanes: &[Lane],
-) -> Result<Vec<u16>, AllocError>
+fn lane_numbers(alloc: Global, entries: &[&[u8]], lanes: &[Lane]) -> Result<Vec<u16>, AllocError>
     requires { length lanes.now ≤ 16 }
     ensures { IfOk result (λ numbers. numbers.items ≡ lanes_named lanes.now (texts entries.now)) }
 {

@@ -84,7 +84,9 @@ fn counted(counts: Counts, block: &Block, used: &Names) -> Option<Counts>
             }
         }
     }
-    let few = more.hosts <= MOST_HOSTS && more.contacts <= MOST_CONTACTS && more.lanes <= MOST_LANES;
+    let few = more.hosts <= MOST_HOSTS
+        && more.contacts <= MOST_CONTACTS
+        && more.lanes <= MOST_LANES;
     if few { Some(more) } else { None }
 }
 

@@ -102,38 +102,128 @@ fn base_gives_its_configuration(rt: HostRuntime) -> Result<(), Fail> {
 const CASES: [(&str, &str); 34] = [
     ("", ""),
     ("define host{\nhost_name web\n}\n", "host web 30:\n"),
-    ("define host{\nhost_name web\nhost_name db\n}\n", "host db 30:\n"),
-    ("define host{\nhost_name web\nHost_name db\nalias x\n}\n", "host web 30:\n"),
-    ("define host{\nhost_name web\nnotification_interval 01000000\n}\n", "host web 1000000:\n"),
-    ("define host{\nhost_name web\nnotification_interval 1000001\n}\n", "line 1: BadNumber"),
-    ("define host{\nhost_name web\nnotification_interval +1\n}\n", "line 1: BadNumber"),
-    ("define host{\nhost_name web\nnotification_interval 1 2\n}\n", "line 1: BadNumber"),
-    ("define host{\nhost_name web\nnotification_interval 99999999999999999999\n}\n", "line 1: BadNumber"),
-    ("define host{\nhost_name web\nnotification_interval x\nnotification_interval 0\n}\n", "host web 0:\n"),
-    ("define host{\nnotification_interval x\n}\n", "line 1: MissingDirective"),
-    ("define command{\ncommand_line x\n}\n", "line 1: MissingDirective"),
-    ("define contact{\nhost_name ann\n}\n", "line 1: MissingDirective"),
+    (
+        "define host{\nhost_name web\nhost_name db\n}\n",
+        "host db 30:\n",
+    ),
+    (
+        "define host{\nhost_name web\nHost_name db\nalias x\n}\n",
+        "host web 30:\n",
+    ),
+    (
+        "define host{\nhost_name web\nnotification_interval 01000000\n}\n",
+        "host web 1000000:\n",
+    ),
+    (
+        "define host{\nhost_name web\nnotification_interval 1000001\n}\n",
+        "line 1: BadNumber",
+    ),
+    (
+        "define host{\nhost_name web\nnotification_interval +1\n}\n",
+        "line 1: BadNumber",
+    ),
+    (
+        "define host{\nhost_name web\nnotification_interval 1 2\n}\n",
+        "line 1: BadNumber",
+    ),
+    (
+        "define host{\nhost_name web\nnotification_interval 99999999999999999999\n}\n",
+        "line 1: BadNumber",
+    ),
+    (
+        "define host{\nhost_name web\nnotification_interval x\nnotification_interval 0\n}\n",
+        "host web 0:\n",
+    ),
+    (
+        "define host{\nnotification_interval x\n}\n",
+        "line 1: MissingDirective",
+    ),
+    (
+        "define command{\ncommand_line x\n}\n",
+        "line 1: MissingDirective",
+    ),
+    (
+        "define contact{\nhost_name ann\n}\n",
+        "line 1: MissingDirective",
+    ),
     ("define host{\nuse x\n}\n", "line 1: NotYet"),
-    ("define host{\nhost_name x\nregister 1\nregister 1\n}\n", "line 1: NotYet"),
-    ("define host{\nhost_name x\nfirst_notification_delay 1\n}\n", "line 1: NotYet"),
-    ("define contact{\ncontact_name x\nservice_notification_options n\n}\n", "line 1: NotYet"),
-    ("define contact{\ncontact_name x\ncontact_groups n\n}\n", "contact x:;\n"),
+    (
+        "define host{\nhost_name x\nregister 1\nregister 1\n}\n",
+        "line 1: NotYet",
+    ),
+    (
+        "define host{\nhost_name x\nfirst_notification_delay 1\n}\n",
+        "line 1: NotYet",
+    ),
+    (
+        "define contact{\ncontact_name x\nservice_notification_options n\n}\n",
+        "line 1: NotYet",
+    ),
+    (
+        "define contact{\ncontact_name x\ncontact_groups n\n}\n",
+        "contact x:;\n",
+    ),
     ("define command{\ncommand_name x\nhostgroups n\n}\n", ""),
-    ("define host{\nhost_name x\ncontacts ,*\n}\n", "line 1: NotYet"),
-    ("define host{\nhost_name x\ncontacts a, +b\n}\n", "line 1: NotYet"),
-    ("define host{\nhost_name x\ncontacts a,!b\n}\n", "line 1: NotYet"),
-    ("define host{\nhost_name x\ncontacts a,null\n}\n", "line 1: NotYet"),
-    ("define host{\nhost_name x\ncontacts a,nullx\n}\n", "line 1: UnknownName"),
-    ("define contact{\ncontact_name x\nhost_notification_commands !a\n}\n", "line 1: NotYet"),
-    ("define host{\nhost_name x\ncontacts *\ncontacts ,\n}\n", "host x 30:\n"),
-    ("define host{\n}\ndefine host{\nuse x\n}\n", "line 3: NotYet"),
-    ("define host{\nhost_name x\ncontacts a\n}\ndefine host{\n}\n", "line 5: MissingDirective"),
-    ("define host{\nhost_name x\n}\ndefine host{\nhost_name x\n}\n", "line 4: Doubled"),
-    ("define host{\nhost_name x\n}\ndefine host{\nhost_name x\ncontacts a\n}\n", "line 4: UnknownName"),
-    ("define host{\nhost_name x\n}\ndefine host{\nhost_name x\n}\ndefine host{\nhost_name y\ncontacts a\n}\n", "line 4: Doubled"),
-    ("define host{\nhost_name x\n}\ndefine contact{\ncontact_name x\n}\ndefine command{\ncommand_name x\n}\n", "host x 30:\ncontact x:;\n"),
-    ("define command{\ncommand_name mail\n}\ndefine contact{\ncontact_name x\nhost_notification_commands mail !x\n}\n", "line 4: UnknownName"),
-    ("define contact{\ncontact_name b\nhost_notification_commands p, m!1!2,m\nservice_notification_commands m\n}\ndefine contact{\ncontact_name a\n}\ndefine host{\nhost_name h\ncontacts a,b , ,a\n}\ndefine command{\ncommand_name m\n}\ndefine command{\ncommand_name n\n}\ndefine command{\ncommand_name p\n}\n", "host h 30: 0 1\ncontact b: 0 1; 0\ncontact a:;\nlane m\nlane p\n"),
+    (
+        "define host{\nhost_name x\ncontacts ,*\n}\n",
+        "line 1: NotYet",
+    ),
+    (
+        "define host{\nhost_name x\ncontacts a, +b\n}\n",
+        "line 1: NotYet",
+    ),
+    (
+        "define host{\nhost_name x\ncontacts a,!b\n}\n",
+        "line 1: NotYet",
+    ),
+    (
+        "define host{\nhost_name x\ncontacts a,null\n}\n",
+        "line 1: NotYet",
+    ),
+    (
+        "define host{\nhost_name x\ncontacts a,nullx\n}\n",
+        "line 1: UnknownName",
+    ),
+    (
+        "define contact{\ncontact_name x\nhost_notification_commands !a\n}\n",
+        "line 1: NotYet",
+    ),
+    (
+        "define host{\nhost_name x\ncontacts *\ncontacts ,\n}\n",
+        "host x 30:\n",
+    ),
+    (
+        "define host{\n}\ndefine host{\nuse x\n}\n",
+        "line 3: NotYet",
+    ),
+    (
+        "define host{\nhost_name x\ncontacts a\n}\ndefine host{\n}\n",
+        "line 5: MissingDirective",
+    ),
+    (
+        "define host{\nhost_name x\n}\ndefine host{\nhost_name x\n}\n",
+        "line 4: Doubled",
+    ),
+    (
+        "define host{\nhost_name x\n}\ndefine host{\nhost_name x\ncontacts a\n}\n",
+        "line 4: UnknownName",
+    ),
+    (
+        "define host{\nhost_name x\n}\ndefine host{\nhost_name x\n}\ndefine host{\nhost_name y\ncontacts a\n}\n",
+        "line 4: Doubled",
+    ),
+    (
+        "define host{\nhost_name x\n}\ndefine contact{\ncontact_name x\n}\ndefine command{\ncommand_name x\n}\n",
+        "host x 30:\ncontact x:;\n",
+    ),
+    (
+        "define command{\ncommand_name mail\n}\ndefine contact{\ncontact_name x\nhost_notification_commands mail !x\n}\n",
+        "line 4: UnknownName",
+    ),
+    (
+        "define contact{\ncontact_name b\nhost_notification_commands p, m!1!2,m\nservice_notification_commands m\n}\ndefine contact{\ncontact_name a\n}\ndefine host{\nhost_name h\ncontacts a,b , ,a\n}\ndefine command{\ncommand_name m\n}\ndefine command{\ncommand_name n\n}\ndefine command{\ncommand_name p\n}\n",
+        "host h 30: 0 1\ncontact b: 0 1; 0\ncontact a:;\nlane m\nlane p\n",
+    ),
 ];
 
 #[test]
@@ -177,11 +267,17 @@ fn limits_are_kept(rt: HostRuntime) -> Result<(), Fail> {
     let hosts = repeated(alloc, "", "host", 65_535)?;
     assert_eq!(rt; counted(alloc, hosts.as_str())?.as_str(), "65535 0 0");
     let more = repeated(alloc, "", "host", 65_536)?;
-    assert_eq!(rt; counted(alloc, more.as_str())?.as_str(), "line 196606: TooMany");
+    assert_eq!(rt;
+        counted(alloc, more.as_str())?.as_str(),
+        "line 196606: TooMany"
+    );
     let contacts = repeated(alloc, "", "contact", 4_096)?;
     assert_eq!(rt; counted(alloc, contacts.as_str())?.as_str(), "0 4096 0");
     let more = repeated(alloc, "", "contact", 4_097)?;
-    assert_eq!(rt; counted(alloc, more.as_str())?.as_str(), "line 12289: TooMany");
+    assert_eq!(rt;
+        counted(alloc, more.as_str())?.as_str(),
+        "line 12289: TooMany"
+    );
     Ok(())
 }
 
@@ -204,6 +300,9 @@ fn sixteen_lanes_are_kept(rt: HostRuntime) -> Result<(), Fail> {
     let kept = repeated(alloc, SIXTEEN, "command", 30)?;
     assert_eq!(rt; counted(alloc, kept.as_str())?.as_str(), "0 1 16");
     let refused = repeated(alloc, SEVENTEEN, "command", 30)?;
-    assert_eq!(rt; counted(alloc, refused.as_str())?.as_str(), "line 66: TooMany");
+    assert_eq!(rt;
+        counted(alloc, refused.as_str())?.as_str(),
+        "line 66: TooMany"
+    );
     Ok(())
 }

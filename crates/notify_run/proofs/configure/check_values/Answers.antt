@@ -1,4 +1,4 @@
-use Rattle.std.proofs.Common.{◌≡◌, ◌≤◌, ◌∙◌, None, arith, false, length, sym}
+use Rattle.std.proofs.Common.{◌≡◌, ◌≤◌, None, arith, length, sym}
 use Rattle.notify_run.specs.ResolvedFaults.{value_fault}
 use Rattle.notify_run.proofs.ResolvedLists.{all-item, all-taken}
 use Rattle.notify_run.proofs.configure.check_values.Goals as goal

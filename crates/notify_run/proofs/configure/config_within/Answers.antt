@@ -1,7 +1,5 @@
-use Rattle.std.proofs.Common.{◌≡◌, ◌&&◌, ◌∙◌, ap, filter, refl, subst, sym, List, ℕ}
-use Rattle.std.specs.List.{list_any}
-use Rattle.std.specs.Str.{bytes_eq}
-use Rattle.notify_run.specs.Resolved.{IsConfigOf, is_command_kind, is_lane, is_used_command, lanes_in}
+use Rattle.std.proofs.Common.{◌≡◌, ◌&&◌, ap, filter, subst}
+use Rattle.notify_run.specs.Resolved.{IsConfigOf, is_command_kind, is_lane, lanes_in}
 use Rattle.notify_run.specs.ResolvedLimits.{is_used}
 use Rattle.notify_run.specs.ResolvedValues.{name_of}
 use Rattle.notify_run.proofs.ResolvedAccepted.{resolved-accepted, resolved-covered}
@@ -20,5 +18,5 @@ pub returns-clause-resolved : goal.returns-clause-resolved
 returns-clause-resolved c =
     let blocks = c.args.blocks.now in
     let lanes : filter (is_used c.args.used.now) blocks ≡ lanes_in blocks =
-      filter-same (is_used c.args.used.now) (is_lane blocks) (λ block. ap (λ b. is_command_kind block.kind && b) (c.requires.used (name_of block))) blocks in
+    filter-same (is_used c.args.used.now) (is_lane blocks) (λ block. ap (λ b. is_command_kind block.kind && b) (c.requires.used (name_of block))) blocks in
     subst (λ lane_blocks. IsConfigOf blocks lane_blocks c.in_ok-config_of.field-0) lanes c.in_ok-config_of.ensures

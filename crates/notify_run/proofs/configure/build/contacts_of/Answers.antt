@@ -7,5 +7,5 @@ use Rattle.notify_run.proofs.configure.build.contacts_of.Goals as goal
 pub loop-block-preserved : goal.loop-block-preserved
 loop-block-preserved c =
     subst (AllZip (IsContactOf c.args.lanes.now) _) (sym c.in_ok-push.ensures.items)
-      (pairs-item (IsContactOf c.args.lanes.now) is_contact c.args.blocks.now c.loop-block.contacts.items c.loop-block.block-index c.block-item.result _
-        c.loop-block-test.true c.block-item.is (sym c.is_contact.ensures ∙ c.if-not-is_contact.false) c.loop-block.invariant c.in_ok-contact_of.ensures)
+    (pairs-item (IsContactOf c.args.lanes.now) is_contact c.args.blocks.now c.loop-block.contacts.items c.loop-block.block-index c.block-item.result _
+    c.loop-block-test.true c.block-item.is (sym c.is_contact.ensures ∙ c.if-not-is_contact.false) c.loop-block.invariant c.in_ok-contact_of.ensures)

@@ -7,5 +7,5 @@ use Rattle.notify_run.proofs.configure.build.hosts_of.Goals as goal
 pub loop-block-preserved : goal.loop-block-preserved
 loop-block-preserved c =
     subst (AllZip (IsHostOf c.args.contacts.now) _) (sym c.in_ok-push.ensures.items)
-      (pairs-item (IsHostOf c.args.contacts.now) is_host c.args.blocks.now c.loop-block.hosts.items c.loop-block.block-index c.block-item.result _
-        c.loop-block-test.true c.block-item.is (sym c.is_host.ensures ∙ c.if-not-is_host.false) c.loop-block.invariant c.in_ok-host_of.ensures)
+    (pairs-item (IsHostOf c.args.contacts.now) is_host c.args.blocks.now c.loop-block.hosts.items c.loop-block.block-index c.block-item.result _
+    c.loop-block-test.true c.block-item.is (sym c.is_host.ensures ∙ c.if-not-is_host.false) c.loop-block.invariant c.in_ok-host_of.ensures)

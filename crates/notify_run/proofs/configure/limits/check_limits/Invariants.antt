@@ -11,5 +11,5 @@ invariant-loop-block l = record {
   lanes : l.counts.lanes ≡ length (filter (is_used l.used) (take l.block-index l.blocks));
   few_hosts : l.counts.hosts ≤ 65535;
   few_contacts : l.counts.contacts ≤ 4096;
-  few_lanes : l.counts.lanes ≤ 16
+  few_lanes : l.counts.lanes ≤ 16;
 }
