@@ -1,3 +1,4 @@
 pub mod ResolvedAccepted
+pub mod ResolvedFaults
 pub mod ResolvedLists
 pub mod ResolvedNumbers

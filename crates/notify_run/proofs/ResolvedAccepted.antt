@@ -1,14 +1,14 @@
 -- The configuration of blocks within the limits is accepted, and covered.
-use Rattle.std.proofs.Common.{◌≡◌, ℕ, zero, suc, ◌<◌, ◌≤◌, Bool, true, false, not, cond, nat_eq, nat_le, nat_lt, List, [], ◌∷◌, length, map, filter, get_or, All, Contains, Option, Some, None, IfSome, unwrap_or, refl, sym, ap, subst, ◌∙◌, arith}
-use Rattle.std.specs.List.{AllZip, filter_map, position, position_or_len, list_all, cons_option}
+use Rattle.std.proofs.Common.{◌≡◌, ℕ, ◌<◌, ◌≤◌, Bool, true, false, not, cond, nat_eq, nat_le, List, [], ◌∷◌, length, map, get_or, All, Contains, Option, Some, None, IfSome, unwrap_or, refl, sym, ap, subst, ◌∙◌, arith}
+use Rattle.std.specs.List.{filter_map, position, list_all, cons_option}
 use Rattle.std.specs.Prelude.{codes, slice_get}
 use Rattle.std.specs.Char.{is_ascii_digit}
 use Rattle.std.specs.Str.{bytes_eq}
-use Rattle.std.proofs.lemmas.Bool.{leb-true, ltb-true}
+use Rattle.std.proofs.lemmas.Bool.{leb-true}
 use Rattle.std.proofs.lemmas.List.{get_or-map, get_or_default, length-map}
 use Rattle.std.proofs.lemmas.Option.{slice_get_within}
 use Rattle.std.proofs.lemmas.List.Elements.{All-nil, All-cons, All-contains}
-use Rattle.due_model.specs.Accepted.{Chain, ContactFits, DependsOn, Excludes, HasNoLoop, DependencyFits, EscalationFits, IsAccepted, ObjectFits, PeriodFits, RightsFit}
+use Rattle.due_model.specs.Accepted.{ContactFits, DependsOn, Excludes, HasNoLoop, DependencyFits, EscalationFits, IsAccepted, ObjectFits, PeriodFits, RightsFit}
 use Rattle.due_model.specs.Covered.{AreFullRights, HasHostLetters, IsCovered, IsPlainHost}
 use Rattle.due_model.specs.declared.config.Config.{Config}
 use Rattle.due_model.specs.declared.config.Contact.{Contact}
@@ -18,7 +18,7 @@ use Rattle.due_model.specs.declared.config.Rights.{Rights}
 use Rattle.due_model.specs.declared.letters.Letters.{Letters}
 use Rattle.object_reader.specs.declared.block.Block.{Block}
 use Rattle.notify_run.specs.Resolved.{AreRightsOf, AreSetOf, IsConfigOf, IsContactOf, IsHostOf, contact_names, contacts_in, contacts_named, every_letter, hosts_in, interval_of, lanes_named}
-use Rattle.notify_run.specs.ResolvedValues.{command_name, entries_read, name_of, number_in, number_of, value_in}
+use Rattle.notify_run.specs.ResolvedValues.{command_name, entries_read, name_of, number_of, value_in}
 use Rattle.object_reader.specs.declared.block.BlockKind.TheVariants.{Host}
 use Rattle.notify_run.proofs.ResolvedLists.{All-paired, length-paired, position-within}
 

@@ -1,6 +1,6 @@
 -- Facts about lists: what a test finds among what a function makes of a list, and one more element of a list
 -- that is filtered or whose parts are taken.
-use Rattle.std.proofs.Common.{◌≡◌, ℕ, suc, ◌+◌, ◌-◌, ◌<◌, ◌≤◌, nat_lt, Bool, true, false, not, cond, ◌||◌, List, [], ◌∷◌, ◌++◌, append_assoc, zero, Bor, length-drop, length, map, filter, take, drop, get_or, Option, Some, None, refl, sym, ap, subst, eqb, Contains, length-append, length-take-le, ◌∙◌, arith}
+use Rattle.std.proofs.Common.{◌≡◌, ℕ, suc, ◌+◌, ◌-◌, ◌<◌, ◌≤◌, nat_lt, Bool, true, false, not, cond, ◌||◌, List, [], ◌∷◌, ◌++◌, append_assoc, zero, Bor, length-drop, length, map, filter, take, drop, get_or, Option, Some, None, refl, sym, ap, subst, eqb, Contains, length-append, length-take-le, take_all, ◌∙◌, arith}
 use Rattle.std.specs.List.{All, AllZip, list_any, position, position_or_len, slice_split, before_first}
 use Rattle.std.specs.List.{after_first, cons_option, dedup, filter_map, onto_first}
 use Rattle.std.specs.Option.{IfSome, option_to_list}
@@ -18,7 +18,7 @@ use Rattle.std.proofs.lemmas.List.Sorted.{Contains-permutation, IsPermutation-sy
 use Rattle.std.proofs.lemmas.Map.Keys.{IsStrictlyIncreasing-dedup}
 use Rattle.notify_run.specs.Resolved.{AreSetOf}
 use Rattle.std.proofs.lemmas.List.{append-nil, take_more, map-append}
-use Rattle.std.proofs.lemmas.List.Elements.{filter-append, All-nil, All-cons}
+use Rattle.std.proofs.lemmas.List.Elements.{filter-append, All-nil, All-cons, All-push, All-same}
 use Rattle.std.specs.Str.{bytes_eq}
 use Rattle.std.proofs.lemmas.List.Splits.{slice_split_first}
 
@@ -259,3 +259,11 @@ any-item q p xs i x within is passes =
 pub filter-same : {X : Type 0} (p q : X → Bool) → ((x : X) → p x ≡ q x) → (xs : List X) → filter p xs ≡ filter q xs
 filter-same p q same [] = refl
 filter-same p q same (x ∷ xs) = ap (λ b. cond b (x ∷ filter p xs) (filter p xs)) (same x) ∙ ap (λ others. cond (q x) (x ∷ others) others) (filter-same p q same xs)
+
+-- what holds of each element so far, and of one more
+pub all-item : {X : Type 0} (P : X → Type 0) (xs : List X) (i : ℕ) (x : X) → i < length xs → x ≡ get_or xs i x → All P (take i xs) → P x → All P (take (i + 1) xs)
+all-item P xs i x within is each here =
+    All-same P (take (i + 1) xs) (take i xs ++ x ∷ []) (take_more xs i x within ∙ ap (λ y. take i xs ++ y ∷ []) (sym is)) (All-push P (take i xs) x each here)
+
+pub all-taken : {X : Type 0} (P : X → Type 0) (xs : List X) (i : ℕ) → length xs ≤ i → All P (take i xs) → All P xs
+all-taken P xs i whole each = All-same P xs (take i xs) (sym (take_all i xs whole)) each

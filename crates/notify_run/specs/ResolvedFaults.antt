@@ -1,5 +1,5 @@
 -- Which blocks are refused.
-use Rattle.std.specs.Prelude.{◌≡◌, ℕ, Bool, true, false, not, ◌&&◌, ◌||◌, ◌==◌, List, [], ◌∷◌, ◌++◌, length, codes, Option, Some, None, is_some, is_none, if◌then◌else◌}
+use Rattle.std.specs.Prelude.{◌≡◌, ℕ, Bool, true, false, ◌||◌, ◌==◌, List, [], ◌∷◌, codes, Option, Some, None, All, is_none, slice_get, take, if◌then◌else◌}
 use Rattle.std.specs.List.{list_any}
 use Rattle.std.specs.Str.{bytes_eq}
 use Rattle.object_reader.specs.declared.block.Block.{Block}
@@ -8,6 +8,8 @@ use Rattle.object_reader.specs.declared.block.BlockKind.TheVariants.{Command, Co
 use Rattle.object_reader.specs.declared.block.Directive.{Directive}
 use Rattle.notify_run.specs.declared.configure.fault.BlockFault.{BlockFault}
 use Rattle.notify_run.specs.declared.configure.fault.BlockFault.TheVariants.{MissingDirective, UnknownName, Doubled, BadNumber, TooMany, NotYet}
+use Rattle.notify_run.specs.declared.configure.fault.ResolveFault.{ResolveFault}
+use Rattle.notify_run.specs.declared.configure.fault.ResolveFault.TheVariants.{AtLine, NoMemory}
 use Rattle.notify_run.specs.ResolvedValues.{entries_read, naming, number_in, value_in}
 
 -- ---- what isn't read yet
@@ -49,3 +51,58 @@ abbrev pub value_fault : Block → Option BlockFault
 value_fault block = if is_none (value_in block.directives (naming block.kind)) then Some MissingDirective
     else if has_bad_interval block.kind block.directives then Some BadNumber
     else None
+
+-- ---- the order of the refusals
+
+-- the line is that of the first block that is refused; the blocks before it pass
+pub record IsFirstOf (Refused Passed : Block → Type 0) (blocks : List Block) (number : ℕ) : Type 0 where
+  pub place : ℕ
+  pub block : Block
+  pub here : slice_get blocks place ≡ Some block
+  pub line : block.line ≡ number
+  pub refused : Refused block
+  pub before : All Passed (take place blocks)
+
+-- everything in the blocks is read
+abbrev pub AreRead : List Block → Type 0
+AreRead blocks = All (λ block. has_later_parts block ≡ false) blocks
+
+-- no block has a fault of its own values
+abbrev pub HaveValues : List Block → Type 0
+HaveValues blocks = All (λ block. value_fault block ≡ None) blocks
+
+-- the first block with something that isn't read yet
+abbrev pub IsUnread : List Block → ResolveFault → Type 0
+IsUnread blocks (AtLine number NotYet) = IsFirstOf (λ block. has_later_parts block ≡ true) (λ block. has_later_parts block ≡ false) blocks number
+IsUnread blocks (AtLine number MissingDirective) = ⊥
+IsUnread blocks (AtLine number UnknownName) = ⊥
+IsUnread blocks (AtLine number Doubled) = ⊥
+IsUnread blocks (AtLine number BadNumber) = ⊥
+IsUnread blocks (AtLine number TooMany) = ⊥
+IsUnread blocks NoMemory = Unit {0}
+
+-- the first block with a fault of its own values, and the first of those
+abbrev pub IsMisvalued : List Block → ResolveFault → Type 0
+IsMisvalued blocks (AtLine number fault) = IsFirstOf (λ block. value_fault block ≡ Some fault) (λ block. value_fault block ≡ None) blocks number
+IsMisvalued blocks NoMemory = ⊥
+
+-- a fault of names or of limits
+abbrev pub IsLateFault : ResolveFault → Type 0
+IsLateFault (AtLine number NotYet) = ⊥
+IsLateFault (AtLine number MissingDirective) = ⊥
+IsLateFault (AtLine number UnknownName) = Unit {0}
+IsLateFault (AtLine number Doubled) = Unit {0}
+IsLateFault (AtLine number BadNumber) = ⊥
+IsLateFault (AtLine number TooMany) = Unit {0}
+IsLateFault NoMemory = Unit {0}
+
+-- What a refusal says: first of what isn't read yet, then of the values of each block, then of names, then
+-- of limits; each over all blocks in file order.
+abbrev pub IsRefusal : List Block → ResolveFault → Type 0
+IsRefusal blocks (AtLine number NotYet) = IsUnread blocks (AtLine number NotYet)
+IsRefusal blocks (AtLine number MissingDirective) = AreRead blocks × IsMisvalued blocks (AtLine number MissingDirective)
+IsRefusal blocks (AtLine number UnknownName) = AreRead blocks × HaveValues blocks
+IsRefusal blocks (AtLine number Doubled) = AreRead blocks × HaveValues blocks
+IsRefusal blocks (AtLine number BadNumber) = AreRead blocks × IsMisvalued blocks (AtLine number BadNumber)
+IsRefusal blocks (AtLine number TooMany) = AreRead blocks × HaveValues blocks
+IsRefusal blocks NoMemory = Unit {0}

@@ -1,5 +1,5 @@
 -- How many hosts, contacts and lanes blocks may give.
-use Rattle.std.specs.Prelude.{◌≡◌, ℕ, ◌≤◌, Bool, List, length, filter}
+use Rattle.std.specs.Prelude.{ℕ, ◌≤◌, Bool, List, length, filter}
 use Rattle.std.specs.List.{list_any}
 use Rattle.std.specs.Str.{bytes_eq}
 use Rattle.object_reader.specs.declared.block.Block.{Block}

@@ -1,9 +1,9 @@
 -- What the directives of a block say (chapter "Object Definitions").
-use Rattle.std.specs.Prelude.{ℕ, ◌-◌, Bool, true, false, not, ◌&&◌, ◌||◌, ◌==◌, nat_le, List, [], ◌∷◌, length, map, filter, find, reverse, take, drop, codes, ◌++◌, unwrap_or, Option, Some, None, is_some, if◌then◌else◌}
+use Rattle.std.specs.Prelude.{ℕ, ◌-◌, Bool, not, ◌||◌, ◌==◌, nat_le, List, [], length, map, filter, find, reverse, take, drop, codes, ◌++◌, unwrap_or, Option, Some, None, if◌then◌else◌}
 use Rattle.std.proofs.Common.{Bor}
 use Rattle.std.specs.Char.{is_ascii_digit}
 use Rattle.std.specs.Int.Digits.{number_from_digits}
-use Rattle.std.specs.List.{list_all, list_any, slice_split, suffix_len, position_or_len, before_first}
+use Rattle.std.specs.List.{list_all, slice_split, suffix_len, position_or_len, before_first}
 use Rattle.std.specs.Option.{option_map, option_map_or}
 use Rattle.std.specs.Str.{bytes_eq}
 use Rattle.object_reader.specs.declared.block.Block.{Block}

@@ -1,9 +1,12 @@
 //! The configuration that the blocks of object text give (chapter "Object Definitions").
 
-ghost use Rattle.std.specs.Prelude.{◌≡◌, ◌≤◌, IfOk, length, filter};
+ghost use Rattle.std.specs.Prelude.{◌≡◌, ◌≤◌, ℕ, List, IfErr, IfOk, OnOk, length, filter};
+ghost use Rattle.std.specs.List.{list_any};
+ghost use Rattle.std.specs.Str.{bytes_eq};
 ghost use Rattle.due_model.specs.Accepted.{IsAccepted};
 ghost use Rattle.due_model.specs.Covered.{IsCovered};
-ghost use Rattle.notify_run.specs.Resolved.{IsConfigOf, IsResolved, contact_names};
+ghost use Rattle.notify_run.specs.Resolved.{IsConfigOf, IsResolved, contact_names, contacts_in, uses};
+ghost use Rattle.notify_run.specs.ResolvedFaults.{AreRead, HaveValues, IsLateFault, IsMisvalued, IsRefusal, IsUnread};
 ghost use Rattle.notify_run.specs.ResolvedLimits.{IsWithinLimits, is_used};
 
 mod blocks;
@@ -34,20 +37,56 @@ use tables::Tables;
 pub(crate) fn configure(alloc: Global, blocks: &[Block]) -> Result<Config, ResolveFault>
     ensures accepted { IfOk result (λ config. IsAccepted config) }
     ensures covered { IfOk result (λ config. IsCovered config) }
+    ensures resolved { IfOk result (λ config. IsResolved blocks.now config) }
+    ensures read { OnOk result (AreRead blocks.now) }
+    ensures values { OnOk result (HaveValues blocks.now) }
+    ensures refusal { IfErr result (λ fault. IsRefusal blocks.now fault) }
 {
     check_read(alloc, blocks)?;
     check_values(blocks)?;
+    config_of_read(alloc, blocks)
+}
+
+/// The configuration of blocks in which everything is read and that have no fault of their own values, or
+/// the first fault of names, and else of limits.
+fn config_of_read(alloc: Global, blocks: &[Block]) -> Result<Config, ResolveFault>
+    ensures accepted { IfOk result (λ config. IsAccepted config) }
+    ensures covered { IfOk result (λ config. IsCovered config) }
+    ensures resolved { IfOk result (λ config. IsResolved blocks.now config) }
+    ensures fault { IfErr result (λ fault. IsLateFault fault) }
+{
     let tables = Tables::of_blocks(alloc, blocks)?;
     tables.check(alloc, blocks)?;
     let used = used_commands(alloc, blocks)?;
-    check_limits(blocks, &used)?;
-    Ok(config_of(alloc, blocks, tables.contacts(), &used)?)
+    config_within(alloc, blocks, tables.contacts(), &used)
+}
+
+/// The configuration of blocks without a fault of names, or the first fault of limits.
+fn config_within(
+    alloc: Global,
+    blocks: &[Block],
+    contacts: &Names,
+    used: &Names,
+) -> Result<Config, ResolveFault>
+    requires names { contacts.now ≡ contact_names blocks.now }
+    requires used { (name : List ℕ) → list_any (bytes_eq name) used.now ≡ list_any (uses name) (contacts_in blocks.now) }
+    ensures accepted { IfOk result (λ config. IsAccepted config) }
+    ensures covered { IfOk result (λ config. IsCovered config) }
+    ensures resolved { IfOk result (λ config. IsResolved blocks.now config) }
+    ensures fault { IfErr result (λ fault. IsLateFault fault) }
+{
+    check_limits(blocks, used)?;
+    Ok(config_of(alloc, blocks, contacts, used)?)
 }
 
 /// Finds the first block with a directive or an entry of a list that isn't read yet.
-fn check_read(alloc: Global, blocks: &[Block]) -> Result<(), ResolveFault> {
+fn check_read(alloc: Global, blocks: &[Block]) -> Result<(), ResolveFault>
+    ensures read { OnOk result (AreRead blocks.now) }
+    ensures fault { IfErr result (λ fault. IsUnread blocks.now fault) }
+{
     for block in blocks {
-        if has_later_parts(alloc, block)? {
+        let later = has_later_parts(alloc, block)?;
+        if later {
             return Err(ResolveFault::AtLine {
                 line: block.line,
                 fault: BlockFault::NotYet,
@@ -58,13 +97,19 @@ fn check_read(alloc: Global, blocks: &[Block]) -> Result<(), ResolveFault> {
 }
 
 /// Finds the first block that lacks its name or whose interval isn't a number.
-fn check_values(blocks: &[Block]) -> Result<(), ResolveFault> {
+fn check_values(blocks: &[Block]) -> Result<(), ResolveFault>
+    ensures values { OnOk result (HaveValues blocks.now) }
+    ensures fault { IfErr result (λ fault. IsMisvalued blocks.now fault) }
+{
     for block in blocks {
-        if let Some(fault) = value_fault(block) {
-            return Err(ResolveFault::AtLine {
-                line: block.line,
-                fault,
-            });
+        match value_fault(block) {
+            None => {}
+            Some(fault) => {
+                return Err(ResolveFault::AtLine {
+                    line: block.line,
+                    fault,
+                });
+            }
         }
     }
     Ok(())

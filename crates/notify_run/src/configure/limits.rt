@@ -1,9 +1,10 @@
 //! The commands that are lanes, and the limits of a configuration.
 
-ghost use Rattle.std.specs.Prelude.{◌≡◌, ℕ, List, ◌||◌, ◌+◌, ◌≤◌, ◌<◌, length, filter, is_some, IfOk, IfSome, OnOk, if◌then◌else◌};
+ghost use Rattle.std.specs.Prelude.{◌≡◌, ℕ, List, ◌||◌, ◌+◌, ◌≤◌, ◌<◌, length, filter, is_some, IfErr, IfOk, IfSome, OnOk, if◌then◌else◌};
 ghost use Rattle.std.specs.List.{list_any};
 ghost use Rattle.std.specs.Str.{bytes_eq};
 ghost use Rattle.notify_run.specs.Resolved.{contacts_in, hosts_in, is_contact, is_contact_kind, is_host, is_host_kind, is_used_command, uses};
+ghost use Rattle.notify_run.specs.ResolvedFaults.{IsLateFault};
 ghost use Rattle.notify_run.specs.ResolvedLimits.{IsWithinLimits, is_used};
 ghost use Rattle.notify_run.specs.ResolvedValues.{name_of};
 
@@ -91,7 +92,8 @@ fn counted(counts: Counts, block: &Block, used: &Names) -> Option<Counts>
 
 /// Finds the first block with which there are too many hosts, contacts or lanes.
 pub(crate) fn check_limits(blocks: &[Block], used: &Names) -> Result<(), ResolveFault>
-    ensures { OnOk result (IsWithinLimits used.now blocks.now) }
+    ensures limits { OnOk result (IsWithinLimits used.now blocks.now) }
+    ensures fault { IfErr result (λ fault. IsLateFault fault) }
 {
     let mut counts = Counts {
         hosts: 0,

@@ -1,7 +1,8 @@
 //! The names of all blocks, and the faults that a block has beside the others.
 
-ghost use Rattle.std.specs.Prelude.{◌≡◌, ◌++◌, ◌∷◌, ◌<◌, [], None, true, length, IfOk, IfSome, OnOk, OnErr, if◌then◌else◌};
+ghost use Rattle.std.specs.Prelude.{◌≡◌, ◌++◌, ◌∷◌, ◌<◌, [], None, true, length, IfErr, IfOk, IfSome, OnOk, if◌then◌else◌};
 ghost use Rattle.notify_run.specs.Resolved.{contact_names, is_contact};
+ghost use Rattle.notify_run.specs.ResolvedFaults.{IsLateFault};
 ghost use Rattle.notify_run.specs.ResolvedValues.{name_of};
 
 use crate::configure::blocks::{entries_read, name_of};
@@ -111,26 +112,25 @@ impl Tables {
 
     /// Finds the first block whose name is doubled, or that names a contact or a command that isn't there.
     pub(crate) fn check(&self, alloc: Global, blocks: &[Block]) -> Result<(), ResolveFault>
-        ensures { OnOk result (self.now.doubled ≡ None) }
+        ensures single { OnOk result (self.now.doubled ≡ None) }
+        ensures fault { IfErr result (λ fault. IsLateFault fault) }
     {
-        match (self.first_unknown(alloc, blocks)?, self.doubled) {
-            (None, None) => Ok(()),
-            (Some(unknown), Some(doubled)) if doubled < unknown => Err(fault_at(
-                blocks,
-                doubled,
-                BlockFault::Doubled,
-            )),
-            (Some(unknown), _) => Err(fault_at(blocks, unknown, BlockFault::UnknownName)),
-            (None, Some(doubled)) => Err(fault_at(blocks, doubled, BlockFault::Doubled)),
-        }
+        let unknown = self.first_unknown(alloc, blocks)?;
+        let (place, fault) = match (unknown, self.doubled) {
+            (None, None) => return Ok(()),
+            (Some(unknown), Some(doubled)) if doubled < unknown => (doubled, BlockFault::Doubled),
+            (Some(unknown), _) => (unknown, BlockFault::UnknownName),
+            (None, Some(doubled)) => (doubled, BlockFault::Doubled),
+        };
+        let line = line_at(blocks, place);
+        Err(ResolveFault::AtLine { line, fault })
     }
 }
 
-/// The fault of the block at a place.
-fn fault_at(blocks: &[Block], place: usize, fault: BlockFault) -> ResolveFault {
-    let line = match blocks.get(place) {
+/// The line of the block at a place.
+fn line_at(blocks: &[Block], place: usize) -> u64 {
+    match blocks.get(place) {
         None => 0,
         Some(block) => block.line,
-    };
-    ResolveFault::AtLine { line, fault }
+    }
 }

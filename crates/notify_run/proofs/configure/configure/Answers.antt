@@ -1,12 +1,11 @@
-use Rattle.std.proofs.Common.{filter}
-use Rattle.notify_run.specs.ResolvedLimits.{is_used}
-use Rattle.notify_run.proofs.ResolvedAccepted.{resolved-accepted, resolved-covered}
+use Rattle.notify_run.proofs.ResolvedFaults.{late-result, on-ok}
 use Rattle.notify_run.proofs.configure.configure.Goals as goal
 
-pub returns-clause-accepted : goal.returns-clause-accepted
-returns-clause-accepted c =
-    let limits = c.in_ok-check_limits.ensures in
-    resolved-accepted c.args.blocks.now _ c.in_ok-config_of.field-0 c.in_ok-config_of.ensures limits.hosts limits.contacts limits.lanes
+pub returns-clause-read : goal.returns-clause-read
+returns-clause-read c = on-ok _ c.config_of_read.result c.in_ok-check_read.ensures.read
 
-pub returns-clause-covered : goal.returns-clause-covered
-returns-clause-covered c = resolved-covered c.args.blocks.now _ c.in_ok-config_of.field-0 c.in_ok-config_of.ensures
+pub returns-clause-values : goal.returns-clause-values
+returns-clause-values c = on-ok _ c.config_of_read.result c.in_ok-check_values.ensures.values
+
+pub returns-clause-refusal : goal.returns-clause-refusal
+returns-clause-refusal c = late-result c.args.blocks.now c.config_of_read.result c.config_of_read.ensures.fault c.in_ok-check_read.ensures.read c.in_ok-check_values.ensures.values

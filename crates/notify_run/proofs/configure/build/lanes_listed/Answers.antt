@@ -1,6 +1,5 @@
-use Rattle.std.proofs.Common.{◌<◌, ◌≡◌, All, arith, length, subst, sym, ap, ℕ}
+use Rattle.std.proofs.Common.{◌<◌, All, arith, length, subst, sym, ℕ}
 use Rattle.std.proofs.lemmas.List.Elements.{All-weaker}
-use Rattle.notify_run.specs.Resolved.{AreSetOf}
 use Rattle.notify_run.proofs.ResolvedAccepted.{all-of_set, lanes-within}
 use Rattle.notify_run.specs.ResolvedValues.{texts}
 use Rattle.notify_run.proofs.configure.build.lanes_listed.Goals as goal

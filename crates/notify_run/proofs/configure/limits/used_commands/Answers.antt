@@ -1,7 +1,6 @@
-use Rattle.std.proofs.Common.{◌≡◌, ◌∙◌, ◌||◌, ap, sym, take, List, ℕ}
+use Rattle.std.proofs.Common.{◌∙◌, ◌||◌, ap, sym}
 use Rattle.std.specs.List.{list_any}
-use Rattle.std.specs.Str.{bytes_eq}
-use Rattle.notify_run.specs.Resolved.{contacts_in, is_contact, uses}
+use Rattle.notify_run.specs.Resolved.{is_contact, uses}
 use Rattle.notify_run.proofs.ResolvedLists.{any-item, filter-skip}
 use Rattle.notify_run.proofs.configure.limits.used_commands.Goals as goal
 

@@ -1,4 +1,3 @@
-use Rattle.std.proofs.Common.{length}
 use Rattle.notify_run.specs.ResolvedValues.{texts}
 use Rattle.notify_run.proofs.ResolvedLists.{entries-end, entries-more}
 use Rattle.notify_run.proofs.configure.values.entries.Goals as goal
