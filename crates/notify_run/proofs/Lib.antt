@@ -1,3 +1,4 @@
+pub mod Writing
 pub mod ResolvedAccepted
 pub mod ResolvedFaults
 pub mod ResolvedLists

@@ -1,3 +1,5 @@
+pub mod Entries
+pub mod Outputs
 pub mod Reports
 pub mod Replays
 pub mod Resolved

@@ -3,6 +3,7 @@
 
 mod configure;
 mod input;
+mod order;
 mod output;
 mod replay;
 mod report;

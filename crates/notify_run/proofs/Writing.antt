@@ -1,0 +1,63 @@
+-- What is left of bytes to be written, as a writer takes them.
+use Rattle.std.proofs.Common.{◌≡◌, ℕ, ◌-◌, List, [], ◌++◌, length, take, drop, Option, None, Some, Result, Ok, Err, OnOk, refl, sym, ap, ◌∙◌, append_assoc}
+use Rattle.std.proofs.lemmas.List.{append-nil, take_rest, take-append-drop}
+use Rattle.std.specs.Io.KnownBytes.{Appends, Keeps}
+use Rattle.notify_run.specs.Outputs.{Leaves, TakesFront}
+
+appends_none : (known : Option (List ℕ)) → Appends known known []
+appends_none None = tt
+appends_none (Some xs) = sym (append-nil xs)
+
+appends_kept : (old mid new : Option (List ℕ)) (bs : List ℕ) → Appends old mid bs → Keeps mid new → Appends old new bs
+appends_kept None mid new bs a k = tt
+appends_kept (Some xs) None new bs a k = absurd a
+appends_kept (Some xs) (Some ys) None bs a k = k
+appends_kept (Some xs) (Some ys) (Some zs) bs a k = k ∙ a
+
+appends_more : (old mid new : Option (List ℕ)) (bs cs : List ℕ) → Appends old mid bs → Appends mid new cs → Appends old new (bs ++ cs)
+appends_more None mid new bs cs a b = tt
+appends_more (Some xs) None new bs cs a b = absurd a
+appends_more (Some xs) (Some ys) None bs cs a b = b
+appends_more (Some xs) (Some ys) (Some zs) bs cs a b = b ∙ ap (λ us. us ++ cs) a ∙ append_assoc xs bs cs
+
+-- before a write all is left
+pub leaves_all : (known : Option (List ℕ)) (all : List ℕ) → Leaves known known all all
+leaves_all known all = ([], appends_none known, refl)
+
+-- the writer keeps what it holds
+pub leaves_kept : (old mid new : Option (List ℕ)) (all left : List ℕ) → Leaves old mid all left → Keeps mid new → Leaves old new all left
+leaves_kept old mid new all left h k = (h.0, appends_kept old mid new h.0 h.1 k, h.2)
+
+-- the writer takes more of what is left
+pub leaves_less : (old mid new : Option (List ℕ)) (all left rest : List ℕ) → Leaves old mid all left → Leaves mid new left rest → Leaves old new all rest
+leaves_less old mid new all left rest h k =
+    (h.0 ++ k.0, appends_more old mid new h.0 k.0 h.1 k.1, append_assoc h.0 k.0 rest ∙ ap (λ xs. h.0 ++ xs) k.2 ∙ h.2)
+
+-- more is to be written than was thought of
+pub leaves_longer : (old new : Option (List ℕ)) (all left more : List ℕ) → Leaves old new all left → Leaves old new (all ++ more) (left ++ more)
+leaves_longer old new all left more h = (h.0, h.1, sym (append_assoc h.0 left more) ∙ ap (λ xs. xs ++ more) h.2)
+
+pub front_longer : (old new : Option (List ℕ)) (all more : List ℕ) → TakesFront old new all → TakesFront old new (all ++ more)
+front_longer old new all more h = (h.0 ++ more, leaves_longer old new all h.0 more h.1)
+
+-- of what is left a front is taken
+pub front_less : (old mid new : Option (List ℕ)) (all left : List ℕ) → Leaves old mid all left → TakesFront mid new left → TakesFront old new all
+front_less old mid new all left h k = (k.0, leaves_less old mid new all left k.0 h k.1)
+
+-- the writer took so many of the bytes that were left
+pub leaves_rest : (old mid new : Option (List ℕ)) (all left : List ℕ) (n : ℕ) → Leaves old mid all left → Appends mid new (take n left)
+    → Leaves old new all (take (length left - n) (drop n left))
+leaves_rest old mid new all left n h a =
+    leaves_less old mid new all left (take (length left - n) (drop n left)) h (take n left, a, ap (λ xs. take n left ++ xs) (take_rest left n) ∙ take-append-drop n left)
+
+-- after all of the bytes the writer takes of more
+pub leaves_next : (old mid new : Option (List ℕ)) (all more left : List ℕ) → Leaves old mid all [] → Leaves mid new more left → Leaves old new (all ++ more) left
+leaves_next old mid new all more left h k = leaves_less old mid new (all ++ more) more left (leaves_longer old mid all [] more h) k
+
+pub front_next : (old mid new : Option (List ℕ)) (all more : List ℕ) → Leaves old mid all [] → TakesFront mid new more → TakesFront old new (all ++ more)
+front_next old mid new all more h k = (k.0, leaves_next old mid new all more k.0 h k.1)
+
+-- a fact of an answer that is Ok, from another
+pub on_ok : {A E : Type 0} {P Q : Type 0} (r : Result A E) → (P → Q) → OnOk r P → OnOk r Q
+on_ok (Ok a) f h = f h
+on_ok (Err e) f h = tt
