@@ -1,3 +1,4 @@
+pub mod Merging
 pub mod Writing
 pub mod ResolvedAccepted
 pub mod ResolvedFaults

@@ -1,6 +1,6 @@
 -- What an event adds to a report, entry by entry and in order: by object, then contact, then lane.
-use Rattle.std.specs.Prelude.{◌≡◌, ℕ, ◌<◌, Bool, true, ◌||◌, ◌&&◌, ◌==◌, nat_lt, List, [], ◌∷◌, ◌++◌, length, filter, flat_map, map, slice_get, slice_index_or, All, AllPairs, Option, Some, None, ◌⊎◌, if◌then◌else◌}
-use Rattle.std.specs.List.{range_with_len}
+use Rattle.std.specs.Prelude.{◌≡◌, ℕ, ◌<◌, ◌≤◌, Bool, true, ◌||◌, ◌&&◌, ◌==◌, nat_lt, List, [], ◌∷◌, ◌++◌, length, filter, flat_map, map, slice_get, slice_index_or, All, Option, Some, None, IfSome, ◌⊎◌, if◌then◌else◌}
+use Rattle.std.specs.List.{range_with_len, AllPairs}
 use Rattle.std.specs.Option.{option_map_or}
 use Rattle.due_model.specs.declared.config.Config.{Config}
 use Rattle.due_model.specs.declared.config.ContactId.{ContactId}
@@ -103,7 +103,7 @@ pub record AreOnLanes (lanes : List (List Notice)) (notices : List Notice) : Typ
 -- the lanes and the log hold these entries, which stand in order, and no others
 pub record HoldEntries (lanes : List (List Notice)) (log : List Suppression) (entries : List Entry) : Type 0 where
   pub notices : AreOnLanes lanes (notices_in entries)
-  pub log : log ≡ suppressions_in entries
+  pub suppressions : log ≡ suppressions_in entries
   pub order : AllPairs StandsBefore entries
 
 -- of two notices the one that is told first; the first, where their lanes alone differ
@@ -111,3 +111,16 @@ abbrev pub earlier_of : Option Notice → Option Notice → Option Notice
 earlier_of None second = second
 earlier_of (Some first) None = Some first
 earlier_of (Some first) (Some second) = if comes_before second first then Some second else Some first
+
+-- after a search of the lanes below one for the notice that is told first: it is found where its lane is among
+-- them, and else what was found comes behind it
+abbrev pub FoundBelow : ℕ → List Notice → Option Notice → Type 0
+FoundBelow lane [] found = found ≡ None
+FoundBelow lane (n ∷ notices) found = (n.lane.0 < lane → found ≡ Some n) × (lane ≤ n.lane.0 → IfSome found (λ other. comes_before n other ≡ true))
+
+-- of a notice and a suppression the one that is told first
+abbrev pub told_first : Option Notice → Option Suppression → Option Entry
+told_first None None = None
+told_first None (Some s) = Some (Withheld s)
+told_first (Some n) None = Some (Sent n)
+told_first (Some n) (Some s) = if is_told_first s n then Some (Withheld s) else Some (Sent n)

@@ -1,10 +1,10 @@
 //! What an event added, in the order of a report: by object, then contact, then lane.
 
-ghost use Rattle.std.specs.Prelude.{◌≡◌, ◌≤◌, ◌<◌, List, length, slice_get, drop};
+ghost use Rattle.std.specs.Prelude.{◌≡◌, ◌≤◌, List, length, slice_get};
 ghost use Rattle.due_model.specs.declared.notice.Notice.{Notice};
 ghost use Rattle.decider.specs.Outboxes.{lists};
 ghost use Rattle.notify_run.specs.declared.order.Entry.{Entry};
-ghost use Rattle.notify_run.specs.Entries.{AreOnLanes, HoldEntries, comes_before, earlier_of, is_told_first};
+ghost use Rattle.notify_run.specs.Entries.{AreOnLanes, HoldEntries, comes_before, earlier_of, is_told_first, told_first};
 
 use decider::Outbox;
 use due_model::config::LaneId;
@@ -67,21 +67,28 @@ fn is_told_first(suppression: &Suppression, notice: &Notice) -> bool
         || (suppression.object.0 == notice.object.0 && contact < notice.contact.0)
 }
 
-/// The entry that is told first, of the notices that wait and of these suppressions.
-pub(crate) fn first_entry(outbox: &Outbox, log: &[Suppression]) -> Option<Entry>
-    requires { length (lists outbox.now) ≤ 16 }
-    ensures { (entries : List Entry) → HoldEntries (lists outbox.now) log.now entries → result ≡ slice_get entries 0 }
+/// Of a notice and a suppression the one that is told first.
+fn told_first(notice: Option<Notice>, suppression: Option<Suppression>) -> Option<Entry>
+    ensures { result ≡ told_first notice suppression }
 {
-    match (first_waiting(outbox), log.first()) {
+    match (notice, suppression) {
         (None, None) => None,
         (Some(notice), None) => Some(Entry::Sent(notice)),
-        (None, Some(suppression)) => Some(Entry::Withheld(*suppression)),
+        (None, Some(suppression)) => Some(Entry::Withheld(suppression)),
         (Some(notice), Some(suppression)) => {
-            if is_told_first(suppression, &notice) {
-                Some(Entry::Withheld(*suppression))
+            if is_told_first(&suppression, &notice) {
+                Some(Entry::Withheld(suppression))
             } else {
                 Some(Entry::Sent(notice))
             }
         }
     }
+}
+
+/// The entry that is told first, of the notices that wait and of these suppressions.
+pub(crate) fn first_entry(outbox: &Outbox, log: &[Suppression]) -> Option<Entry>
+    requires { length (lists outbox.now) ≤ 16 }
+    ensures { (entries : List Entry) → HoldEntries (lists outbox.now) log.now entries → result ≡ slice_get entries 0 }
+{
+    told_first(first_waiting(outbox), log.first().copied())
 }

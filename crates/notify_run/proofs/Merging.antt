@@ -1,0 +1,117 @@
+-- Of lanes and a log that hold entries in order, the entry that is told first is the first of them.
+use Rattle.std.proofs.Common.{◌≡◌, ◌≢◌, ℕ, suc, ◌+◌, ◌<◌, ◌≤◌, Bool, true, false, cond, eqb, nat_lt, nat_eq, ◌||◌, ◌&&◌, List, [], ◌∷◌, ◌++◌, length, filter, flat_map, get_or, slice_get, slice_index_or, drop, set, All, Option, None, Some, IfSome, refl, sym, ap, subst, ◌∙◌, arith, inl, inr, ◌⊎◌}
+use Rattle.std.specs.List.{AllPairs}
+use Rattle.std.proofs.lemmas.Bool.{cases_eq, ne_eqb, eq-eqb}
+use Rattle.std.proofs.lemmas.Bool.Decides.{nat_tests}
+use Rattle.std.proofs.lemmas.List.Elements.{All-head, All-tail, All-filter, All-nil, All-cons}
+use Rattle.due_model.specs.declared.notice.Notice.{Notice}
+use Rattle.due_model.specs.declared.notice.Suppression.{Suppression}
+use Rattle.due_model.proofs.Notices.{AllPairs-head, AllPairs-tail}
+use Rattle.notify_run.specs.declared.order.Entry.{Entry}
+use Rattle.notify_run.specs.declared.order.Entry.TheVariants.{Sent, Withheld}
+use Rattle.notify_run.specs.Entries.{AreOnLanes, FoundBelow, HoldEntries, NoticeBefore, StandsBefore, comes_before, contact_number, earlier_of, is_lower, is_on, is_told_first, told_first, notice_in, notices_in, suppressions_in}
+
+-- by object, then contact: never both ways
+pub lower_not_back : (o k p j : ℕ) → is_lower o k p j ≡ true → is_lower p j o k ≡ false
+lower_not_back o k p j h = grind (arith, nat_tests)
+
+-- a notice that stands behind another isn't told before it
+pub behind_not_before : (n m : Notice) → NoticeBefore n m → comes_before m n ≡ false
+behind_not_before n m (inl h) = lower_not_back n.object.0 n.contact.0 m.object.0 m.contact.0 h
+behind_not_before n m (inr h) = let o : n.object.0 ≡ m.object.0 = h.0 in let k : n.contact.0 ≡ m.contact.0 = h.1 in grind (arith, nat_tests)
+
+-- a notice behind another on a lower lane is told behind it
+pub behind_on_lower : (n m : Notice) → NoticeBefore n m → m.lane.0 < n.lane.0 → comes_before n m ≡ true
+behind_on_lower n m (inl h) lower = h
+behind_on_lower n m (inr h) lower = absurd (omega (arith, h.2))
+
+-- the first that passes a test
+pub first_passes : (l : ℕ) (P : Notice → Type 0) (notices : List Notice) → All P notices → IfSome (slice_get (filter (is_on l) notices) 0) (λ n. P n × (n.lane.0 ≡ l))
+first_passes l P [] h = tt
+first_passes l P (n ∷ notices) h = by_test (cases_eq n.lane.0 l) (first_passes l P notices (All-tail P n notices h))
+  where
+    by_test : (n.lane.0 ≡ l) ⊎ (n.lane.0 ≢ l) → IfSome (slice_get (filter (is_on l) notices) 0) (λ m. P m × (m.lane.0 ≡ l))
+        → IfSome (slice_get (filter (is_on l) (n ∷ notices)) 0) (λ m. P m × (m.lane.0 ≡ l))
+    by_test (inl e) others = rw (eq-eqb n.lane.0 l e) (All-head P n notices h, e)
+    by_test (inr ne) others = rw (ne_eqb n.lane.0 l ne) others
+
+-- at first nothing is found
+pub found_none : (notices : List Notice) → FoundBelow 0 notices None
+found_none [] = refl
+found_none (n ∷ notices) = (λ h. absurd (omega arith), λ h. tt)
+
+found_at : (n : Notice) (found front : Option Notice) → IfSome found (λ other. comes_before n other ≡ true) → front ≡ Some n → earlier_of found front ≡ Some n
+found_at n None front h e = e
+found_at n (Some m) front h e = rw e (rw h refl)
+
+found_stays : (n : Notice) (found front : Option Notice) → found ≡ Some n → IfSome front (λ m. comes_before m n ≡ false) → earlier_of found front ≡ Some n
+found_stays n found None e h = rw e refl
+found_stays n found (Some m) e h = rw e (rw h refl)
+
+found_behind : (n : Notice) (found front : Option Notice) → IfSome found (λ m. comes_before n m ≡ true) → IfSome front (λ m. comes_before n m ≡ true)
+    → IfSome (earlier_of found front) (λ m. comes_before n m ≡ true)
+found_behind n None front h k = k
+found_behind n (Some a) None h k = h
+found_behind n (Some a) (Some b) h k = by_test (comes_before b a)
+  where
+    by_test : (t : Bool) → IfSome (cond t (Some b) (Some a)) (λ m. comes_before n m ≡ true)
+    by_test true = k
+    by_test false = h
+
+for_some : {A : Type 0} (P Q : A → Type 0) (found : Option A) → ((a : A) → P a → Q a) → IfSome found P → IfSome found Q
+for_some P Q None f h = tt
+for_some P Q (Some a) f h = f a h
+
+-- one lane more
+pub found_more : (lane : ℕ) (notices : List Notice) (found front : Option Notice) → AllPairs NoticeBefore notices → front ≡ slice_get (filter (is_on lane) notices) 0
+    → FoundBelow lane notices found → FoundBelow (lane + 1) notices (earlier_of found front)
+found_more lane [] found front order e h = rw h e
+found_more lane (n ∷ notices) found front order e h = by_lane (cases_eq n.lane.0 lane)
+  where
+    behind : All (NoticeBefore n) notices
+    behind = AllPairs-head NoticeBefore n notices order
+
+    by_lane : (n.lane.0 ≡ lane) ⊎ (n.lane.0 ≢ lane) → FoundBelow (lane + 1) (n ∷ notices) (earlier_of found front)
+    by_lane (inl same) =
+        let first : front ≡ Some n = e ∙ ap (λ t. slice_get (cond t (n ∷ filter (is_on lane) notices) (filter (is_on lane) notices)) 0) (eq-eqb n.lane.0 lane same) in
+        (λ less. found_at n found front (h.1 (omega arith)) first, λ above. absurd (omega arith))
+    by_lane (inr other) =
+        let first : front ≡ slice_get (filter (is_on lane) notices) 0 = e ∙ ap (λ t. slice_get (cond t (n ∷ filter (is_on lane) notices) (filter (is_on lane) notices)) 0) (ne_eqb n.lane.0 lane other) in
+        let passes : IfSome front (λ m. NoticeBefore n m × (m.lane.0 ≡ lane)) = subst (λ f. IfSome f (λ m. NoticeBefore n m × (m.lane.0 ≡ lane))) (sym first) (first_passes lane (NoticeBefore n) notices behind) in
+        (λ less. found_stays n found front (h.0 (omega arith)) (for_some (λ m. NoticeBefore n m × (m.lane.0 ≡ lane)) (λ m. comes_before m n ≡ false) front (λ m at. behind_not_before n m at.0) passes),
+        λ above. found_behind n found front (h.1 (omega arith))
+            (for_some (λ m. NoticeBefore n m × (m.lane.0 ≡ lane)) (λ m. comes_before n m ≡ true) front (λ m at. behind_on_lower n m at.0 (omega (arith, at.1))) passes))
+
+-- all lanes were looked at
+pub found_all : (lanes : ℕ) (notices : List Notice) (found : Option Notice) → All (λ n. n.lane.0 < lanes) notices → FoundBelow lanes notices found → found ≡ slice_get notices 0
+found_all lanes [] found within h = h
+found_all lanes (n ∷ notices) found within h = h.0 (All-head (λ n. n.lane.0 < lanes) n notices within)
+
+-- ---- notices and suppressions
+
+-- what holds of each entry holds of the first notice among them, and of the first suppression
+first_notice : (P : Entry → Type 0) (entries : List Entry) → All P entries → IfSome (slice_get (notices_in entries) 0) (λ n. P (Sent n))
+first_notice P [] h = tt
+first_notice P (Sent n ∷ entries) h = All-head P (Sent n) entries h
+first_notice P (Withheld s ∷ entries) h = first_notice P entries (All-tail P (Withheld s) entries h)
+
+first_suppression : (P : Entry → Type 0) (entries : List Entry) → All P entries → IfSome (slice_get (suppressions_in entries) 0) (λ s. P (Withheld s))
+first_suppression P [] h = tt
+first_suppression P (Sent n ∷ entries) h = first_suppression P entries (All-tail P (Sent n) entries h)
+first_suppression P (Withheld s ∷ entries) h = All-head P (Withheld s) entries h
+
+sent_is_first : (n : Notice) (found : Option Suppression) → IfSome found (λ s. StandsBefore (Sent n) (Withheld s)) → told_first (Some n) found ≡ Some (Sent n)
+sent_is_first n None h = refl
+sent_is_first n (Some s) h = rw (lower_not_back n.object.0 n.contact.0 s.object.0 (contact_number s.contact) h) refl
+
+withheld_is_first : (s : Suppression) (found : Option Notice) → IfSome found (λ n. StandsBefore (Withheld s) (Sent n)) → told_first found (Some s) ≡ Some (Withheld s)
+withheld_is_first s None h = refl
+withheld_is_first s (Some n) h = rw h refl
+
+-- of entries in order the first is the one that is told first, of the notices and of the suppressions among them
+pub first_of_both : (entries : List Entry) → AllPairs StandsBefore entries → told_first (slice_get (notices_in entries) 0) (slice_get (suppressions_in entries) 0) ≡ slice_get entries 0
+first_of_both [] order = refl
+first_of_both (Sent n ∷ entries) order =
+    sent_is_first n (slice_get (suppressions_in entries) 0) (first_suppression (StandsBefore (Sent n)) entries (AllPairs-head StandsBefore (Sent n) entries order))
+first_of_both (Withheld s ∷ entries) order =
+    withheld_is_first s (slice_get (notices_in entries) 0) (first_notice (StandsBefore (Withheld s)) entries (AllPairs-head StandsBefore (Withheld s) entries order))
