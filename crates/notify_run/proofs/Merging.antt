@@ -1,8 +1,9 @@
 -- Of lanes and a log that hold entries in order, the entry that is told first is the first of them.
-use Rattle.std.proofs.Common.{◌≡◌, ◌≢◌, ℕ, suc, ◌+◌, ◌<◌, ◌≤◌, Bool, true, false, cond, eqb, nat_lt, nat_eq, ◌||◌, ◌&&◌, List, [], ◌∷◌, ◌++◌, length, filter, flat_map, get_or, slice_get, slice_index_or, drop, set, All, Option, None, Some, IfSome, refl, sym, ap, subst, ◌∙◌, arith, inl, inr, ◌⊎◌}
-use Rattle.std.specs.List.{AllPairs}
+use Rattle.std.proofs.Common.{◌≡◌, ◌≢◌, ℕ, suc, ◌+◌, ◌<◌, ◌≤◌, Bool, true, false, cond, eqb, nat_lt, nat_eq, ◌||◌, ◌&&◌, List, [], ◌∷◌, ◌++◌, length, filter, flat_map, get_or, slice_get, slice_index_or, drop, set, All, Option, None, Some, IfSome, refl, sym, ap, subst, ◌∙◌, arith, get_or-set_same, get_or-set_other, length-set, length-drop, inl, inr, ◌⊎◌}
+use Rattle.std.specs.List.{AllPairs, sum_by}
 use Rattle.std.proofs.lemmas.Bool.{cases_eq, ne_eqb, eq-eqb}
 use Rattle.std.proofs.lemmas.Bool.Decides.{nat_tests}
+use Rattle.std.proofs.lemmas.List.Sums.{sum_by-set}
 use Rattle.std.proofs.lemmas.List.Elements.{All-head, All-tail, All-filter, All-nil, All-cons}
 use Rattle.due_model.specs.declared.notice.Notice.{Notice}
 use Rattle.due_model.specs.declared.notice.Suppression.{Suppression}
@@ -115,3 +116,81 @@ first_of_both (Sent n ∷ entries) order =
     sent_is_first n (slice_get (suppressions_in entries) 0) (first_suppression (StandsBefore (Sent n)) entries (AllPairs-head StandsBefore (Sent n) entries order))
 first_of_both (Withheld s ∷ entries) order =
     withheld_is_first s (slice_get (notices_in entries) 0) (first_notice (StandsBefore (Withheld s)) entries (AllPairs-head StandsBefore (Withheld s) entries order))
+
+-- ---- taking entries
+
+taken_lane : (lanes : List (List Notice)) (n : Notice) (notices : List Notice) → AreOnLanes lanes (n ∷ notices) → get_or lanes n.lane.0 [] ≡ n ∷ filter (is_on n.lane.0) notices
+taken_lane lanes n notices on =
+    on.each n.lane.0 (All-head (λ (m : Notice). m.lane.0 < length lanes) n notices on.within)
+    ∙ ap (λ t. cond t (n ∷ filter (is_on n.lane.0) notices) (filter (is_on n.lane.0) notices)) (eq-eqb n.lane.0 n.lane.0 refl)
+
+-- the first notice is taken from its lane
+take_notice : (lanes : List (List Notice)) (n : Notice) (notices : List Notice) → AreOnLanes lanes (n ∷ notices) → AreOnLanes (set lanes n.lane.0 (drop 1 (get_or lanes n.lane.0 []))) notices
+take_notice lanes n notices on = record {
+  each = λ l h. by_lane l (subst (λ k. l < k) (length-set lanes n.lane.0 behind) h) (cases_eq n.lane.0 l);
+  within = subst (λ k. All (λ (m : Notice). m.lane.0 < k) notices) (sym (length-set lanes n.lane.0 behind)) (All-tail (λ (m : Notice). m.lane.0 < length lanes) n notices on.within);
+  order = AllPairs-tail NoticeBefore n notices on.order;
+}
+  where
+    behind : List Notice
+    behind = drop 1 (get_or lanes n.lane.0 [])
+
+    by_lane : (l : ℕ) → l < length lanes → (n.lane.0 ≡ l) ⊎ (n.lane.0 ≢ l) → get_or (set lanes n.lane.0 behind) l [] ≡ filter (is_on l) notices
+    by_lane l h (inl e) = subst (λ k. get_or (set lanes n.lane.0 behind) k [] ≡ filter (is_on k) notices) e
+        (get_or-set_same lanes n.lane.0 behind [] (All-head (λ (m : Notice). m.lane.0 < length lanes) n notices on.within) ∙ ap (drop 1) (taken_lane lanes n notices on))
+    by_lane l h (inr ne) =
+        get_or-set_other lanes n.lane.0 l behind [] (λ e. ne (sym e)) ∙ on.each l h
+        ∙ ap (λ t. cond t (n ∷ filter (is_on l) notices) (filter (is_on l) notices)) (ne_eqb n.lane.0 l ne)
+
+pub take_sent : (lanes : List (List Notice)) (log : List Suppression) (n : Notice) (entries : List Entry) → HoldEntries lanes log entries → Some (Sent n) ≡ slice_get entries 0
+    → HoldEntries (set lanes n.lane.0 (drop 1 (get_or lanes n.lane.0 []))) log (drop 1 entries)
+take_sent lanes log n [] held e = cc
+take_sent lanes log n (x ∷ entries) held e = by_entry (subst (λ y. HoldEntries lanes log (y ∷ entries)) same held)
+  where
+    same : x ≡ Sent n
+    same = cc
+
+    by_entry : HoldEntries lanes log (Sent n ∷ entries) → HoldEntries (set lanes n.lane.0 (drop 1 (get_or lanes n.lane.0 []))) log entries
+    by_entry h = record { notices = take_notice lanes n (notices_in entries) h.notices; suppressions = h.suppressions; order = AllPairs-tail StandsBefore (Sent n) entries h.order }
+
+pub take_withheld : (lanes : List (List Notice)) (log : List Suppression) (s : Suppression) (entries : List Entry) → HoldEntries lanes log entries → Some (Withheld s) ≡ slice_get entries 0
+    → HoldEntries lanes (drop 1 log) (drop 1 entries)
+take_withheld lanes log s [] held e = cc
+take_withheld lanes log s (x ∷ entries) held e = by_entry (subst (λ y. HoldEntries lanes log (y ∷ entries)) same held)
+  where
+    same : x ≡ Withheld s
+    same = cc
+
+    by_entry : HoldEntries lanes log (Withheld s ∷ entries) → HoldEntries lanes (drop 1 log) entries
+    by_entry h = record { notices = h.notices; suppressions = ap (drop 1) h.suppressions; order = AllPairs-tail StandsBefore (Withheld s) entries h.order }
+
+-- the entry's lane is there, and isn't empty
+pub sent_lane : (lanes : List (List Notice)) (log : List Suppression) (n : Notice) (entries : List Entry) → HoldEntries lanes log entries → Some (Sent n) ≡ slice_get entries 0
+    → (n.lane.0 < length lanes) × (0 < length (get_or lanes n.lane.0 []))
+sent_lane lanes log n [] held e = cc
+sent_lane lanes log n (x ∷ entries) held e = by_entry (subst (λ y. HoldEntries lanes log (y ∷ entries)) same held)
+  where
+    same : x ≡ Sent n
+    same = cc
+
+    by_entry : HoldEntries lanes log (Sent n ∷ entries) → (n.lane.0 < length lanes) × (0 < length (get_or lanes n.lane.0 []))
+    by_entry h =
+        let on = h.notices in
+        let some = ap length (taken_lane lanes n (notices_in entries) on) in
+        (All-head (λ (m : Notice). m.lane.0 < length lanes) n (notices_in entries) on.within, omega (arith, some))
+
+-- a suppression is left
+pub withheld_left : (lanes : List (List Notice)) (log : List Suppression) (s : Suppression) (entries : List Entry) → HoldEntries lanes log entries → Some (Withheld s) ≡ slice_get entries 0
+    → 0 < length log
+withheld_left lanes log s [] held e = cc
+withheld_left lanes log s (x ∷ entries) held e = by_entry (subst (λ y. HoldEntries lanes log (y ∷ entries)) same held)
+  where
+    same : x ≡ Withheld s
+    same = cc
+
+    by_entry : HoldEntries lanes log (Withheld s ∷ entries) → 0 < length log
+    by_entry h = omega (arith, ap length h.suppressions)
+
+-- fewer notices are left
+pub fewer_notices : (lanes : List (List Notice)) (l : ℕ) → l < length lanes → 0 < length (get_or lanes l []) → sum_by length (set lanes l (drop 1 (get_or lanes l []))) < sum_by length lanes
+fewer_notices lanes l h some = omega (arith, sum_by-set length lanes l (drop 1 (get_or lanes l [])) [] h, length-drop 1 (get_or lanes l []))

@@ -1,6 +1,6 @@
 -- What an event adds to a report, entry by entry and in order: by object, then contact, then lane.
-use Rattle.std.specs.Prelude.{◌≡◌, ℕ, ◌<◌, ◌≤◌, Bool, true, ◌||◌, ◌&&◌, ◌==◌, nat_lt, List, [], ◌∷◌, ◌++◌, length, filter, flat_map, map, slice_get, slice_index_or, All, Option, Some, None, IfSome, ◌⊎◌, if◌then◌else◌}
-use Rattle.std.specs.List.{range_with_len, AllPairs}
+use Rattle.std.specs.Prelude.{◌≡◌, ℕ, ◌+◌, ◌-◌, ◌<◌, ◌≤◌, Bool, true, ◌||◌, ◌&&◌, ◌==◌, nat_lt, List, [], ◌∷◌, ◌++◌, length, filter, flat_map, map, drop, slice_get, slice_index_or, All, Option, Some, None, IfSome, ◌⊎◌, if◌then◌else◌}
+use Rattle.std.specs.List.{range_with_len, AllPairs, sum_by}
 use Rattle.std.specs.Option.{option_map_or}
 use Rattle.due_model.specs.declared.config.Config.{Config}
 use Rattle.due_model.specs.declared.config.ContactId.{ContactId}
@@ -124,3 +124,12 @@ told_first None None = None
 told_first None (Some s) = Some (Withheld s)
 told_first (Some n) None = Some (Sent n)
 told_first (Some n) (Some s) = if is_told_first s n then Some (Withheld s) else Some (Sent n)
+
+-- the entry that is told first was taken, and the lanes and the log hold the others
+pub record TakesEntry (taken : Option Entry) (lanes : List (List Notice)) (log : List Suppression) (entries : List Entry) : Type 0 where
+  pub first : taken ≡ slice_get entries 0
+  pub others : HoldEntries lanes log (drop 1 entries)
+
+-- how many notices and suppressions are still to be told
+abbrev pub entries_left : List (List Notice) → List Suppression → (told : ℕ) → ℕ
+entries_left lanes log told = sum_by length lanes + (length log - told)

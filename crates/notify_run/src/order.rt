@@ -1,10 +1,10 @@
 //! What an event added, in the order of a report: by object, then contact, then lane.
 
-ghost use Rattle.std.specs.Prelude.{◌≡◌, ◌≤◌, List, length, slice_get};
+ghost use Rattle.std.specs.Prelude.{◌≡◌, ◌<◌, ◌≤◌, List, length, slice_get, drop, IsSome};
 ghost use Rattle.due_model.specs.declared.notice.Notice.{Notice};
 ghost use Rattle.decider.specs.Outboxes.{lists};
 ghost use Rattle.notify_run.specs.declared.order.Entry.{Entry};
-ghost use Rattle.notify_run.specs.Entries.{AreOnLanes, HoldEntries, comes_before, earlier_of, is_told_first, told_first};
+ghost use Rattle.notify_run.specs.Entries.{AreOnLanes, HoldEntries, TakesEntry, comes_before, earlier_of, entries_left, is_told_first, told_first};
 
 use decider::Outbox;
 use due_model::config::LaneId;
@@ -86,9 +86,34 @@ fn told_first(notice: Option<Notice>, suppression: Option<Suppression>) -> Optio
 }
 
 /// The entry that is told first, of the notices that wait and of these suppressions.
-pub(crate) fn first_entry(outbox: &Outbox, log: &[Suppression]) -> Option<Entry>
+fn first_entry(outbox: &Outbox, log: &[Suppression]) -> Option<Entry>
     requires { length (lists outbox.now) ≤ 16 }
     ensures { (entries : List Entry) → HoldEntries (lists outbox.now) log.now entries → result ≡ slice_get entries 0 }
 {
     told_first(first_waiting(outbox), log.first().copied())
+}
+
+/// Takes the entry that is told first: of the notices that wait, and of the suppressions from a place on.
+pub(crate) fn next_entry(
+    outbox: &mut Outbox,
+    log: &[Suppression],
+    told: &mut usize,
+) -> Option<Entry>
+    requires few { length (lists outbox.old) ≤ 16 }
+    requires told { told.old ≤ length log.now }
+    requires held { (entries : List Entry) × HoldEntries (lists outbox.old) (drop told.old log.now) entries }
+    ensures takes { (entries : List Entry) → HoldEntries (lists outbox.old) (drop told.old log.now) entries
+        → TakesEntry result (lists outbox.new) (drop told.new log.now) entries }
+    ensures fewer { IsSome result → entries_left (lists outbox.new) log.now told.new < entries_left (lists outbox.old) log.now told.old }
+    ensures told { told.new ≤ length log.now }
+    ensures lanes { length (lists outbox.new) ≡ length (lists outbox.old) }
+{
+    let entry = first_entry(outbox, &log[*told..])?;
+    match entry {
+        Entry::Sent(notice) => {
+            outbox.take_front(notice.lane);
+        }
+        Entry::Withheld(_) => *told += 1,
+    }
+    Some(entry)
 }
