@@ -1,3 +1,5 @@
+pub mod EntryLines
+pub mod EventEntries
 pub mod Merging
 pub mod Writing
 pub mod ResolvedAccepted

@@ -61,3 +61,11 @@ front_next old mid new all more h k = (k.0, leaves_next old mid new all more k.0
 pub on_ok : {A E : Type 0} {P Q : Type 0} (r : Result A E) → (P → Q) → OnOk r P → OnOk r Q
 on_ok (Ok a) f h = f h
 on_ok (Err e) f h = tt
+
+-- nothing was taken
+pub front_none : (known : Option (List ℕ)) (all : List ℕ) → TakesFront known known all
+front_none known all = (all, leaves_all known all)
+
+-- of the same bytes the same front
+pub front_same : (old new : Option (List ℕ)) (held held' text text' : List ℕ) → held ≡ held' → text ≡ text' → TakesFront old new (held ++ text) → TakesFront old new (held' ++ text')
+front_same old new held held' text text' e f h = (h.0, (h.1.0, h.1.1, h.1.2 ∙ ap (λ xs. xs ++ text) e ∙ ap (λ xs. held' ++ xs) f))

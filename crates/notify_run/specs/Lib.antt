@@ -1,6 +1,7 @@
 pub mod Entries
 pub mod Outputs
 pub mod Reports
+pub mod ReportText
 pub mod Replays
 pub mod Resolved
 pub mod ResolvedFault

@@ -1,25 +1,32 @@
 //! The command `replay`: what would have been sent, from object text and a feed.
 
-ghost use Rattle.std.specs.Prelude.{◌≡◌, ◌≤◌, length, OnOk, IfOk};
+ghost use Rattle.std.specs.Prelude.{◌≡◌, ◌<◌, ◌≤◌, ℕ, List, [], ◌++◌, length, OnOk, IfOk};
 ghost use Rattle.due_model.specs.Accepted.{IsAccepted, IsProper};
 ghost use Rattle.due_model.specs.Covered.{IsCovered, IsTakenIn};
-ghost use Rattle.decider.specs.Outboxes.{lists};
+ghost use Rattle.decider.specs.Outboxes.{lists, waiting_at};
+ghost use Rattle.notify_run.specs.declared.order.Entry.{Entry};
+ghost use Rattle.notify_run.specs.Entries.{HoldEntries};
+ghost use Rattle.notify_run.specs.Outputs.{Leaves, TakesFront};
 ghost use Rattle.notify_run.specs.Replays.{GoesOn};
+ghost use Rattle.notify_run.specs.Reports.{refused_line};
+ghost use Rattle.notify_run.specs.ReportText.{entries_text, entry_line};
 
 use crate::configure::{ResolveFault, configure};
 use crate::input::{InputFault, take_objects};
+use crate::order::{Entry, next_entry};
 use crate::output::{Buffer, OutputFailed};
-use crate::report::{push_notice, push_refused, push_suppression};
+use crate::report::{push_entry, push_refused};
 use decider::{DecideFault, Decider, Outbox, Owned};
-use due_model::config::{Config, LaneId};
+use due_model::config::Config;
 use due_model::event::Event;
-use due_model::notice::{Notice, Suppression};
+use due_model::notice::Suppression;
 use due_model::zone::Zone;
 use event_feed::{FeedFault, Feeder, LineFault};
 use object_reader::fault::ReadFault;
 use object_reader::reading::read;
 use std::alloc::{AllocError, Global};
 use std::io::{Read, Write};
+use std::marker::Model;
 
 /// How the reading of a feed ended.
 #[derive(Clone, Copy, Debug, PartialEq, Eq)]
@@ -88,7 +95,7 @@ impl From<OutputFailed> for ReplayFault {
     }
 }
 
-/// Where the lines of a report are made.
+/// Where the lines of a report are made. Contracts see the bytes that are still to be written.
 #[derive(Drop)]
 struct Lines {
     buffer: Buffer,
@@ -96,36 +103,37 @@ struct Lines {
     line: Vec<u8>,
 }
 
+impl Model for Lines {
+    ghost use Rattle.std.specs.Prelude.{ℕ, List};
+
+    ghost Value = { List ℕ };
+
+    ghost view = { λ s. s.buffer };
+}
+
 impl Lines {
-    fn new(alloc: Global) -> Result<Lines, AllocError> {
+    /// Nothing is to be written yet.
+    fn new(alloc: Global) -> Result<Lines, AllocError>
+        ensures { IfOk result (λ lines. lines ≡ []) }
+    {
         Ok(Lines {
             buffer: Buffer::new(alloc)?,
             line: Vec::new(alloc),
         })
     }
 
-    /// Writes the line of a notice.
-    fn notice<W: Write>(
+    /// Writes the line of an entry.
+    fn entry<W: Write>(
         &mut self,
         writer: &mut W,
         config: &Config,
-        notice: &Notice,
-    ) -> Result<(), ReplayFault> {
+        entry: &Entry,
+    ) -> Result<(), ReplayFault>
+        ensures ok { OnOk result (Leaves (W.contents writer.old) (W.contents writer.new) (self.old ++ entry_line config.now entry.now) self.new) }
+        ensures front { TakesFront (W.contents writer.old) (W.contents writer.new) (self.old ++ entry_line config.now entry.now) }
+    {
         self.line.clear();
-        push_notice(&mut self.line, config, notice)?;
-        self.buffer.push(writer, &self.line)?;
-        Ok(())
-    }
-
-    /// Writes the line of a suppression.
-    fn suppression<W: Write>(
-        &mut self,
-        writer: &mut W,
-        config: &Config,
-        suppression: &Suppression,
-    ) -> Result<(), ReplayFault> {
-        self.line.clear();
-        push_suppression(&mut self.line, config, suppression)?;
+        push_entry(&mut self.line, config, entry)?;
         self.buffer.push(writer, &self.line)?;
         Ok(())
     }
@@ -136,50 +144,27 @@ impl Lines {
         writer: &mut W,
         line: u64,
         fault: FeedFault,
-    ) -> Result<(), ReplayFault> {
+    ) -> Result<(), ReplayFault>
+        ensures ok { OnOk result (Leaves (W.contents writer.old) (W.contents writer.new) (self.old ++ refused_line line fault) self.new) }
+        ensures front { TakesFront (W.contents writer.old) (W.contents writer.new) (self.old ++ refused_line line fault) }
+    {
         self.line.clear();
         push_refused(&mut self.line, line, fault)?;
         self.buffer.push(writer, &self.line)?;
         Ok(())
     }
-}
 
-/// Whether the first notice stands before the second in a report: by object, then contact.
-fn comes_before(first: &Notice, second: &Notice) -> bool {
-    (first.object.0, first.contact.0) < (second.object.0, second.contact.0)
-}
-
-/// The notice that stands first in the report among those that wait: by object, then contact, then lane.
-fn first_waiting(outbox: &Outbox) -> Option<Notice>
-    requires { length (lists outbox.now) ≤ 16 }
-{
-    let mut first: Option<Notice> = None;
-    for lane in 0..outbox.len() {
-        if let Some(notice) = outbox.front(LaneId(lane as u8)) {
-            let earlier = match &first {
-                Some(other) => comes_before(&notice, other),
-                None => true,
-            };
-            if earlier {
-                first = Some(notice);
-            }
-        }
+    /// Writes all that is still to be written.
+    fn flush<W: Write>(&mut self, writer: &mut W) -> Result<(), ReplayFault>
+        ensures ok { OnOk result (Leaves (W.contents writer.old) (W.contents writer.new) self.old []) }
+        ensures front { TakesFront (W.contents writer.old) (W.contents writer.new) self.old }
+    {
+        self.buffer.flush(writer)?;
+        Ok(())
     }
-    first
 }
 
-/// Whether a suppression stands before a notice in a report. Where both speak of one object, the
-/// suppression is of a contact.
-fn is_suppressed_before(suppression: &Suppression, notice: &Notice) -> bool {
-    let contact = match suppression.contact {
-        Some(contact) => contact.0,
-        None => 0,
-    };
-    (suppression.object.0, contact) < (notice.object.0, notice.contact.0)
-}
-
-/// Writes what an event added to the outbox and to the log, by object, then contact, then lane, and takes it
-/// out of the outbox.
+/// Writes what an event added to the outbox and to the log, and takes it out of the outbox.
 fn write_event<W: Write>(
     lines: &mut Lines,
     writer: &mut W,
@@ -187,37 +172,20 @@ fn write_event<W: Write>(
     outbox: &mut Outbox,
     log: &[Suppression],
 ) -> Result<(), ReplayFault>
-    requires { length (lists outbox.old) ≤ 16 }
-    ensures { length (lists outbox.new) ≡ length (lists outbox.old) }
+    requires few { length (lists outbox.old) ≤ 16 }
+    requires held { (entries : List Entry) × HoldEntries (lists outbox.old) log.now entries }
+    ensures ok { OnOk result ((entries : List Entry) → HoldEntries (lists outbox.old) log.now entries
+        → Leaves (W.contents writer.old) (W.contents writer.new) (lines.old ++ entries_text config.now entries) lines.new) }
+    ensures front { (entries : List Entry) → HoldEntries (lists outbox.old) log.now entries
+        → TakesFront (W.contents writer.old) (W.contents writer.new) (lines.old ++ entries_text config.now entries) }
+    ensures empty { OnOk result ((l : ℕ) → l < length (lists outbox.old) → waiting_at outbox.new l ≡ []) }
+    ensures lanes { length (lists outbox.new) ≡ length (lists outbox.old) }
 {
     let mut told = 0usize;
-    for _line in 0..u64::MAX {
-        match (first_waiting(outbox), log.get(told)) {
-            (None, None) => return Ok(()),
-            (Some(notice), Some(suppression)) if is_suppressed_before(suppression, &notice) => {
-                lines.suppression(writer, config, suppression)?;
-                told += 1;
-            }
-            (Some(notice), _) => {
-                lines.notice(writer, config, &notice)?;
-                take(outbox, notice.lane);
-            }
-            (None, Some(suppression)) => {
-                lines.suppression(writer, config, suppression)?;
-                told += 1;
-            }
-        }
+    while let Some(entry) = next_entry(outbox, log, &mut told) {
+        lines.entry(writer, config, &entry)?;
     }
     Ok(())
-}
-
-/// Takes the first notice of a lane out of the outbox.
-fn take(outbox: &mut Outbox, lane: LaneId)
-    ensures { length (lists outbox.new) ≡ length (lists outbox.old) }
-{
-    if (lane.0 as usize) < outbox.len() {
-        outbox.take_front(lane);
-    }
 }
 
 /// Decides one event and writes its lines. An event that would have the number 2^32 is refused, and the
@@ -306,11 +274,11 @@ fn report_feed<R: Read + Drop, W: Write>(
             &mut feeder,
         )?;
         if let Some(ending) = ended {
-            lines.buffer.flush(writer)?;
+            lines.flush(writer)?;
             return Ok(ending);
         }
     }
-    lines.buffer.flush(writer)?;
+    lines.flush(writer)?;
     Ok(Ending::Short)
 }
 

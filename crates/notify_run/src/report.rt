@@ -1,8 +1,10 @@
 //! The lines of a report.
 
 ghost use Rattle.std.specs.Prelude.{◌≡◌, ◌++◌, ◌∷◌, [], decimal, OnOk, Some};
+ghost use Rattle.notify_run.specs.ReportText.{entry_line};
 ghost use Rattle.notify_run.specs.Reports.{field, state_name, kind_name, filter_name, number_text, own_name, host_part, object_text, contact_text, lane_text, notice_line, stopped_line, refused_contact_line, suppression_line, refused_line};
 
+use crate::order::Entry;
 use due_model::config::{Config, ContactId, LaneId, ObjectId};
 use due_model::notice::{Filter, Kind, Notice, Suppression};
 use due_model::state::State;
@@ -152,7 +154,7 @@ fn push_lane(line: &mut Vec<u8>, config: &Config, lane: LaneId) -> Result<(), Al
 }
 
 /// Adds the line of a notice.
-pub fn push_notice(line: &mut Vec<u8>, config: &Config, notice: &Notice) -> Result<(), AllocError>
+fn push_notice(line: &mut Vec<u8>, config: &Config, notice: &Notice) -> Result<(), AllocError>
     ensures { OnOk result (line.new.items ≡ line.old.items ++ notice_line config.now notice.now) }
 {
     line.extend_from_slice(b"N")?;
@@ -207,7 +209,7 @@ fn push_refused_contact(
 }
 
 /// Adds the line of a suppression.
-pub fn push_suppression(
+fn push_suppression(
     line: &mut Vec<u8>,
     config: &Config,
     suppression: &Suppression,
@@ -221,11 +223,25 @@ pub fn push_suppression(
 }
 
 /// Adds the line of a refused line of the feed.
-pub fn push_refused(line: &mut Vec<u8>, number: u64, fault: FeedFault) -> Result<(), AllocError>
+pub(crate) fn push_refused(line: &mut Vec<u8>, number: u64, fault: FeedFault) -> Result<(), AllocError>
     ensures { OnOk result (line.new.items ≡ line.old.items ++ refused_line number fault) }
 {
     line.extend_from_slice(b"R")?;
     push_number(line, number)?;
     push_field(line, fault.name().as_bytes())?;
     line.extend_from_slice(b"\n")
+}
+
+/// Adds the line of an entry of an event.
+pub(crate) fn push_entry(
+    line: &mut Vec<u8>,
+    config: &Config,
+    entry: &Entry,
+) -> Result<(), AllocError>
+    ensures { OnOk result (line.new.items ≡ line.old.items ++ entry_line config.now entry.now) }
+{
+    match entry {
+        Entry::Sent(notice) => push_notice(line, config, notice),
+        Entry::Withheld(suppression) => push_suppression(line, config, suppression),
+    }
 }

@@ -66,3 +66,4 @@ returns-in-Withheld-clause-told c =
 
 pub returns-in-Withheld-clause-fewer : goal.returns-in-Withheld-clause-fewer
 returns-in-Withheld-clause-fewer c = λ some. let left = returns-in-Withheld-clause-told c in omega (arith, left)
+
