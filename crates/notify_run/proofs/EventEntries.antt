@@ -24,10 +24,10 @@ use Rattle.due_model.specs.Due.{due_at, notice_to, notices, receivers, refusal_o
 use Rattle.due_model.specs.Histories.{hist, outcome as outcome_of}
 use Rattle.due_model.specs.Rules.{Attempt, contact_failing}
 use Rattle.due_model.proofs.Notices.{All-flat_map, AllPairs-append, AllPairs-head, AllPairs-tail, notice_to_cases, receivers_increase, the_notice}
-use Rattle.decider.specs.declared.owned.Owned.{Owned}
 use Rattle.decider.specs.Gains.{gain, gained, is_owned, owned_numbers, suppressed_gain, suppressed_gained}
 use Rattle.notify_run.specs.declared.order.Entry.{Entry}
 use Rattle.notify_run.specs.declared.order.Entry.TheVariants.{Sent, Withheld}
+use Rattle.notify_run.specs.Replays.{sole}
 use Rattle.notify_run.specs.Entries.{AreOnLanes, HoldEntries, NoticeBefore, StandsBefore, contact_entries, contact_number, event_entries, is_lower, is_on, notice_in, notices_in, object_entries, outcome_entries, suppression_in, suppressions_in}
 
 -- ---- lists of lists
@@ -177,9 +177,6 @@ object_suppressions c zone e past o = by_object (slice_get c.objects o)
 filter_all : {X : Type 0} (p : X → Bool) (xs : List X) → ((x : X) → p x ≡ true) → filter p xs ≡ xs
 filter_all p [] h = refl
 filter_all p (x ∷ xs) h = ap (λ t. cond t (x ∷ filter p xs) (filter p xs)) (h x) ∙ ap (λ ys. x ∷ ys) (filter_all p xs h)
-
-abbrev pub sole : Owned
-sole = record { decider = 0; deciders = 1 }
 
 owns_all : (n : ℕ) → owned_numbers sole n ≡ range_with_len 0 n
 owns_all n = filter_all (is_owned sole) (range_with_len 0 n) (λ o. eq-eqb (o % 1) 0 (omega arith))

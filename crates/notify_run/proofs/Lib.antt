@@ -1,3 +1,4 @@
+pub mod Deciding
 pub mod EntryLines
 pub mod EventEntries
 pub mod Merging

@@ -1,15 +1,16 @@
 //! The command `replay`: what would have been sent, from object text and a feed.
 
-ghost use Rattle.std.specs.Prelude.{◌≡◌, ◌<◌, ◌≤◌, ℕ, List, [], ◌++◌, length, OnOk, IfOk};
+ghost use Rattle.std.specs.Prelude.{◌≡◌, ◌<◌, ◌≤◌, ℕ, true, false, List, [], ◌∷◌, ◌++◌, length, IfNone, IfSome, OnOk, IfOk, Ok};
 ghost use Rattle.due_model.specs.Accepted.{IsAccepted, IsProper};
 ghost use Rattle.due_model.specs.Covered.{IsCovered, IsTakenIn};
+ghost use Rattle.due_model.specs.declared.event.Event.{Event};
 ghost use Rattle.decider.specs.Outboxes.{lists, waiting_at};
 ghost use Rattle.notify_run.specs.declared.order.Entry.{Entry};
-ghost use Rattle.notify_run.specs.Entries.{HoldEntries};
+ghost use Rattle.notify_run.specs.Entries.{HoldEntries, event_entries};
 ghost use Rattle.notify_run.specs.Outputs.{Leaves, TakesFront};
-ghost use Rattle.notify_run.specs.Replays.{GoesOn};
+ghost use Rattle.notify_run.specs.Replays.{StandsAfter};
 ghost use Rattle.notify_run.specs.Reports.{refused_line};
-ghost use Rattle.notify_run.specs.ReportText.{entries_text, entry_line};
+ghost use Rattle.notify_run.specs.ReportText.{answer_text, entries_text, entry_line, is_ended};
 
 use crate::configure::{ResolveFault, configure};
 use crate::input::{InputFault, take_objects};
@@ -201,8 +202,15 @@ fn decide_event<W: Write>(
 ) -> Result<Option<Ending>, ReplayFault>
     requires proper { IsProper config.now event }
     requires taken_in { IsTakenIn event.kind }
-    requires goes_on { GoesOn config.now decider.old outbox.old }
-    ensures { OnOk result (GoesOn config.now decider.new outbox.new) }
+    requires stands { (past : List Event) × StandsAfter config.now Zone.Utc decider.old outbox.old past }
+    ensures goes_on { IfOk result (λ ended. IfNone ended ((past : List Event) → StandsAfter config.now Zone.Utc decider.old outbox.old past
+        → (is_ended past (Ok event) ≡ false) × StandsAfter config.now Zone.Utc decider.new outbox.new (event ∷ past)
+        × Leaves (W.contents writer.old) (W.contents writer.new) (lines.old ++ entries_text config.now (event_entries config.now Zone.Utc event past)) lines.new)) }
+    ensures ends { IfOk result (λ ended. IfSome ended (λ ending. (past : List Event) → StandsAfter config.now Zone.Utc decider.old outbox.old past
+        → (is_ended past (Ok event) ≡ true) × (ending ≡ Ending.Short)
+        × Leaves (W.contents writer.old) (W.contents writer.new) (lines.old ++ refused_line line FeedFault.Ended) lines.new)) }
+    ensures front { (past : List Event) → StandsAfter config.now Zone.Utc decider.old outbox.old past
+        → TakesFront (W.contents writer.old) (W.contents writer.new) (lines.old ++ answer_text config.now Zone.Utc past (record { line = line; given = Ok event })) }
 {
     match decider.decide(event, outbox) {
         Ok(()) => {
@@ -228,8 +236,8 @@ fn take_line<R: Read + Drop, W: Write>(
     outbox: &mut Outbox,
     feeder: &mut Feeder<R>,
 ) -> Result<Option<Ending>, ReplayFault>
-    requires { GoesOn config.now decider.old outbox.old }
-    ensures { OnOk result (GoesOn config.now decider.new outbox.new) }
+    requires { (past : List Event) × StandsAfter config.now Zone.Utc decider.old outbox.old past }
+    ensures { OnOk result ((past : List Event) × StandsAfter config.now Zone.Utc decider.new outbox.new past) }
 {
     match feeder.next(config) {
         Ok(None) => Ok(Some(Ending::Whole)),
