@@ -1,6 +1,6 @@
 //! The events of a feed, in order, from any reader.
 
-ghost use Rattle.std.specs.Prelude.{◌≡◌, ◌≤◌, None, Some, Ok, IfOk, IfErr, IfSome, IfNone, OnSome};
+ghost use Rattle.std.specs.Prelude.{◌≡◌, ◌+◌, ◌≤◌, None, Some, Ok, IfOk, IfErr, IfSome, IfNone, OnSome};
 ghost use Rattle.event_feed.specs.Feed.{GivesEvent, GivesFault, GivesNone, feed_limit, raised};
 ghost use Rattle.event_feed.specs.NextLine.{CountsLine, GoesToLine};
 
@@ -77,6 +77,7 @@ impl<R: Read + Drop> Feeder<R> {
         ensures none { IfOk result (λ found. IfNone found (GivesNone config.now.objects self.old self.new)) }
         ensures ended { IfNone self.old.stop (IfOk result (λ found. IfNone found (self.new.stop ≡ Some Stop.InputEnded))) }
         ensures fault { IfErr result (λ fault. GivesFault config.now.objects self.old fault self.new) }
+        ensures limit { self.new.line ≤ feed_limit + 1 }
     {
         if self.stop.is_some() {
             return Ok(None);

@@ -1,5 +1,5 @@
 -- What is left of bytes to be written, as a writer takes them.
-use Rattle.std.proofs.Common.{◌≡◌, ℕ, ◌-◌, List, [], ◌++◌, length, take, drop, Option, None, Some, Result, Ok, Err, OnOk, refl, sym, ap, ◌∙◌, append_assoc}
+use Rattle.std.proofs.Common.{◌≡◌, ℕ, ◌-◌, List, [], ◌++◌, length, take, drop, Option, None, Some, Result, Ok, Err, IfNone, IfOk, IfSome, OnOk, refl, sym, ap, subst, ◌∙◌, append_assoc}
 use Rattle.std.proofs.lemmas.List.{append-nil, take_rest, take-append-drop}
 use Rattle.std.specs.Io.KnownBytes.{Appends, Keeps}
 use Rattle.notify_run.specs.Outputs.{Leaves, TakesFront}
@@ -69,3 +69,39 @@ front_none known all = (all, leaves_all known all)
 -- of the same bytes the same front
 pub front_same : (old new : Option (List ℕ)) (held held' text text' : List ℕ) → held ≡ held' → text ≡ text' → TakesFront old new (held ++ text) → TakesFront old new (held' ++ text')
 front_same old new held held' text text' e f h = (h.0, (h.1.0, h.1.1, h.1.2 ∙ ap (λ xs. xs ++ text) e ∙ ap (λ xs. held' ++ xs) f))
+
+-- nothing more is to be written
+pub leaves_nothing : (known : Option (List ℕ)) (held : List ℕ) → Leaves known known (held ++ []) held
+leaves_nothing known held = subst (λ all. Leaves known known all held) (sym (append-nil held)) (leaves_all known held)
+
+-- the text that was written is another way to say what was to be written
+pub leaves_same : (old new : Option (List ℕ)) (held text text' left : List ℕ) → text ≡ text' → Leaves old new (held ++ text) left → Leaves old new (held ++ text') left
+leaves_same old new held text text' left e h = (h.0, h.1, h.2 ∙ ap (λ xs. held ++ xs) e)
+
+-- more is to be written behind the text
+pub front_begun : (old new : Option (List ℕ)) (held text more : List ℕ) → TakesFront old new (held ++ text) → TakesFront old new (held ++ (text ++ more))
+front_begun old new held text more h = subst (λ all. TakesFront old new all) (append_assoc held text more) (front_longer old new (held ++ text) more h)
+
+-- a fact of an answer, from another
+pub if_ok : {A E : Type 0} (P Q : A → Type 0) (r : Result A E) → ((a : A) → P a → Q a) → IfOk r P → IfOk r Q
+if_ok P Q (Ok a) f h = f a h
+if_ok P Q (Err e) f h = tt
+
+pub if_none : {A : Type 0} (P Q : Type 0) (found : Option A) → (P → Q) → IfNone found P → IfNone found Q
+if_none P Q None f h = f h
+if_none P Q (Some a) f h = tt
+
+pub if_some : {A : Type 0} (P Q : A → Type 0) (found : Option A) → ((a : A) → P a → Q a) → IfSome found P → IfSome found Q
+if_some P Q None f h = tt
+if_some P Q (Some a) f h = f a h
+
+-- a front of what is held, under another name, is one of that and more
+pub front_of_held : (old new : Option (List ℕ)) (held held' text : List ℕ) → held ≡ held' → TakesFront old new held → TakesFront old new (held' ++ text)
+front_of_held old new held held' text e h = front_longer old new held' text (subst (λ all. TakesFront old new all) e h)
+
+-- more text is written behind what is held
+pub leaves_on : (old mid new : Option (List ℕ)) (all held text held' : List ℕ) → Leaves old mid all held → Leaves mid new (held ++ text) held' → Leaves old new (all ++ text) held'
+leaves_on old mid new all held text held' h k = leaves_less old mid new (all ++ text) (held ++ text) held' (leaves_longer old mid all held text h) k
+
+pub front_on : (old mid new : Option (List ℕ)) (all held text : List ℕ) → Leaves old mid all held → TakesFront mid new (held ++ text) → TakesFront old new (all ++ text)
+front_on old mid new all held text h k = front_less old mid new (all ++ text) (held ++ text) (leaves_longer old mid all held text h) k

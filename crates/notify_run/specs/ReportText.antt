@@ -1,5 +1,5 @@
 -- The text of a report: for each line of a feed its refusal, or what its event adds.
-use Rattle.std.specs.Prelude.{◌≡◌, ℕ, ◌^◌, Bool, false, not, ◌||◌, ◌==◌, List, [], ◌∷◌, ◌++◌, length, flat_map, ◌⊎◌, IfSome, Result, Ok, Err, if◌then◌else◌}
+use Rattle.std.specs.Prelude.{◌≡◌, ℕ, ◌<◌, ◌^◌, Bool, false, not, ◌||◌, ◌==◌, List, [], ◌∷◌, ◌++◌, length, flat_map, ◌⊎◌, IfSome, Option, None, Result, Ok, Err, if◌then◌else◌}
 use Rattle.due_model.specs.declared.config.Config.{Config}
 use Rattle.due_model.specs.declared.config.Object.{Object}
 use Rattle.due_model.specs.declared.event.Event.{Event}
@@ -7,9 +7,10 @@ use Rattle.due_model.specs.declared.zone.Zone.{Zone}
 use Rattle.event_feed.specs.declared.fault.FeedFault.{FeedFault}
 use Rattle.event_feed.specs.declared.fault.FeedFault.TheVariants.{Ended, Read}
 use Rattle.event_feed.specs.Fault.{is_line_fault}
-use Rattle.event_feed.specs.Feed.{Answer, AreFromLine, Feed, answers_from}
+use Rattle.event_feed.specs.Feed.{Answer, AnswersNext, AreFromLine, Feed, answers_from}
 use Rattle.notify_run.specs.declared.order.Entry.{Entry}
 use Rattle.notify_run.specs.declared.order.Entry.TheVariants.{Sent, Withheld}
+use Rattle.event_feed.specs.Lines.{Known}
 use Rattle.notify_run.specs.declared.replay.Ending.{Ending}
 use Rattle.notify_run.specs.declared.replay.Ending.TheVariants.{Short, Whole}
 use Rattle.notify_run.specs.Entries.{event_entries}
@@ -63,9 +64,9 @@ abbrev pub ends_short : List Event → List Answer → Bool
 ends_short past [] = false
 ends_short past (answer ∷ answers) = is_ended past answer.given || is_short answer.given || ends_short (past_after past answer.given) answers
 
--- how the reading of a feed ended
-abbrev pub ending : List Answer → Ending
-ending answers = if ends_short [] answers then Short else Whole
+-- how the reading of a feed ends, after a past
+abbrev pub ending_after : List Event → List Answer → Ending
+ending_after past answers = if ends_short past answers then Short else Whole
 
 -- the first of some answers, and then the refusal of a line from which on the others are
 pub record FailsBefore (told given : List Answer) : Type 0 where
@@ -84,3 +85,23 @@ AreTold told given = (told ≡ given) ⊎ FailsBefore told given
 -- the answers told of a feed whose bytes are known
 abbrev pub AreToldOf : List Object → Feed → List Answer → Type 0
 AreToldOf objects feed told = IfSome feed.bytes (λ bytes. AreTold told (answers_from objects feed bytes))
+
+-- A line of the feed was taken whose answer doesn't end the report, and the feed goes on behind it.
+pub record TakesAnswer (objects : List Object) (past : List Event) (old : Feed) (answer : Answer) (new : Feed) : Type 0 where
+  pub next : AnswersNext objects old answer new
+  pub line : old.line < new.line
+  pub numbered : is_ended past answer.given ≡ false
+  pub read_on : is_short answer.given ≡ false
+  pub goes_on : new.stop ≡ None
+
+-- a feed from its first line on
+abbrev pub start_of : Option (List ℕ) → Feed
+start_of bytes = record { bytes = bytes; line = 0; last = 0; stop = None }
+
+-- Of a feed's answers these came first; the past is theirs, the text is what they add to a report, and the feed
+-- goes on behind them.
+pub record Follows (c : Config) (zone : Zone) (start : Feed) (told : List Answer) (text : List ℕ) (past : List Event) (now : Feed) : Type 0 where
+  pub answers : Known start.bytes now.bytes (λ bytes rest. answers_from c.objects start bytes ≡ told ++ answers_from c.objects now rest)
+  pub report : (others : List Answer) → report_text c zone (told ++ others) ≡ text ++ report_from c zone past others
+  pub ending : (others : List Answer) → ending_after [] (told ++ others) ≡ ending_after past others
+  pub goes_on : now.stop ≡ None

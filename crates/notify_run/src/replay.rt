@@ -1,16 +1,17 @@
 //! The command `replay`: what would have been sent, from object text and a feed.
 
-ghost use Rattle.std.specs.Prelude.{◌≡◌, ◌<◌, ◌≤◌, ℕ, true, false, List, [], ◌∷◌, ◌++◌, length, IfNone, IfSome, OnOk, IfOk, Ok};
+ghost use Rattle.std.specs.Prelude.{◌≡◌, ◌+◌, ◌<◌, ◌≤◌, ℕ, true, false, List, [], ◌∷◌, ◌++◌, length, IfNone, IfSome, OnOk, IfOk, None, Ok};
 ghost use Rattle.due_model.specs.Accepted.{IsAccepted, IsProper};
 ghost use Rattle.due_model.specs.Covered.{IsCovered, IsTakenIn};
 ghost use Rattle.due_model.specs.declared.event.Event.{Event};
 ghost use Rattle.decider.specs.Outboxes.{lists, waiting_at};
+ghost use Rattle.event_feed.specs.Feed.{Answer, feed_limit};
 ghost use Rattle.notify_run.specs.declared.order.Entry.{Entry};
 ghost use Rattle.notify_run.specs.Entries.{HoldEntries, event_entries};
 ghost use Rattle.notify_run.specs.Outputs.{Leaves, TakesFront};
 ghost use Rattle.notify_run.specs.Replays.{StandsAfter};
 ghost use Rattle.notify_run.specs.Reports.{refused_line};
-ghost use Rattle.notify_run.specs.ReportText.{answer_text, entries_text, entry_line, is_ended};
+ghost use Rattle.notify_run.specs.ReportText.{AreToldOf, TakesAnswer, answer_text, ending_after, entries_text, entry_line, is_ended, past_after, report_from, report_text, start_of};
 
 use crate::configure::{ResolveFault, configure};
 use crate::input::{InputFault, take_objects};
@@ -22,7 +23,7 @@ use due_model::config::Config;
 use due_model::event::Event;
 use due_model::notice::Suppression;
 use due_model::zone::Zone;
-use event_feed::{FeedFault, Feeder, LineFault};
+use event_feed::{FeedFault, Feeder};
 use object_reader::fault::ReadFault;
 use object_reader::reading::read;
 use std::alloc::{AllocError, Global};
@@ -134,7 +135,9 @@ impl Lines {
         ensures front { TakesFront (W.contents writer.old) (W.contents writer.new) (self.old ++ entry_line config.now entry.now) }
     {
         self.line.clear();
-        push_entry(&mut self.line, config, entry)?;
+        if push_entry(&mut self.line, config, entry).is_err() {
+            return Err(self.out_of_memory(writer));
+        }
         self.buffer.push(writer, &self.line)?;
         Ok(())
     }
@@ -150,9 +153,20 @@ impl Lines {
         ensures front { TakesFront (W.contents writer.old) (W.contents writer.new) (self.old ++ refused_line line fault) }
     {
         self.line.clear();
-        push_refused(&mut self.line, line, fault)?;
+        if push_refused(&mut self.line, line, fault).is_err() {
+            return Err(self.out_of_memory(writer));
+        }
         self.buffer.push(writer, &self.line)?;
         Ok(())
+    }
+
+    /// Writes what is still to be written, since nothing more will come for want of memory.
+    fn out_of_memory<W: Write>(&mut self, writer: &mut W) -> ReplayFault
+        ensures front { TakesFront (W.contents writer.old) (W.contents writer.new) self.old }
+        ensures fault { result ≡ ReplayFault.NoMemory }
+    {
+        let _ = self.buffer.flush(writer);
+        ReplayFault::NoMemory
     }
 
     /// Writes all that is still to be written.
@@ -222,7 +236,7 @@ fn decide_event<W: Write>(
             lines.refused(writer, line, FeedFault::Ended)?;
             Ok(Some(Ending::Short))
         }
-        Err(DecideFault::NoMemory) => Err(ReplayFault::NoMemory),
+        Err(DecideFault::NoMemory) => Err(lines.out_of_memory(writer)),
     }
 }
 
@@ -236,8 +250,19 @@ fn take_line<R: Read + Drop, W: Write>(
     outbox: &mut Outbox,
     feeder: &mut Feeder<R>,
 ) -> Result<Option<Ending>, ReplayFault>
-    requires { (past : List Event) × StandsAfter config.now Zone.Utc decider.old outbox.old past }
-    ensures { OnOk result ((past : List Event) × StandsAfter config.now Zone.Utc decider.new outbox.new past) }
+    requires stands { (past : List Event) × StandsAfter config.now Zone.Utc decider.old outbox.old past }
+    requires open { feeder.old.stop ≡ None }
+    ensures goes_on { IfOk result (λ ended. IfNone ended ((past : List Event) → StandsAfter config.now Zone.Utc decider.old outbox.old past
+        → (answer : Answer) × TakesAnswer config.now.objects past feeder.old answer feeder.new
+        × StandsAfter config.now Zone.Utc decider.new outbox.new (past_after past answer.given)
+        × Leaves (W.contents writer.old) (W.contents writer.new) (lines.old ++ answer_text config.now Zone.Utc past answer) lines.new)) }
+    ensures ends { IfOk result (λ ended. IfSome ended (λ ending. (past : List Event) → StandsAfter config.now Zone.Utc decider.old outbox.old past
+        → (told : List Answer) × AreToldOf config.now.objects feeder.old told × (ending ≡ ending_after past told)
+        × Leaves (W.contents writer.old) (W.contents writer.new) (lines.old ++ report_from config.now Zone.Utc past told) lines.new)) }
+    ensures front { (past : List Event) → StandsAfter config.now Zone.Utc decider.old outbox.old past
+        → (told : List Answer) × AreToldOf config.now.objects feeder.old told
+        × TakesFront (W.contents writer.old) (W.contents writer.new) (lines.old ++ report_from config.now Zone.Utc past told) }
+    ensures limit { feeder.new.line ≤ feed_limit + 1 }
 {
     match feeder.next(config) {
         Ok(None) => Ok(Some(Ending::Whole)),
@@ -245,9 +270,12 @@ fn take_line<R: Read + Drop, W: Write>(
             let line = feeder.line();
             decide_event(lines, writer, config, decider, outbox, event, line)
         }
-        Err(LineFault { line, fault }) => {
-            lines.refused(writer, line, fault)?;
-            Ok(feeder.stop().map(|_| Ending::Short))
+        Err(refusal) => {
+            lines.refused(writer, refusal.line, refusal.fault)?;
+            match feeder.stop() {
+                None => Ok(None),
+                Some(_) => Ok(Some(Ending::Short)),
+            }
         }
     }
 }
@@ -262,6 +290,10 @@ fn report_feed<R: Read + Drop, W: Write>(
 ) -> Result<Ending, ReplayFault>
     requires accepted { IsAccepted config.now }
     requires covered { IsCovered config.now }
+    ensures ok { IfOk result (λ ending. (told : List Answer) × AreToldOf config.now.objects (start_of (R.remaining feed)) told
+        × (ending ≡ ending_after [] told) × Leaves (W.contents writer.old) (W.contents writer.new) (report_text config.now Zone.Utc told) []) }
+    ensures front { (told : List Answer) × AreToldOf config.now.objects (start_of (R.remaining feed)) told
+        × TakesFront (W.contents writer.old) (W.contents writer.new) (report_text config.now Zone.Utc told) }
 {
     let zone = Zone::Utc;
     let owned = Owned {
@@ -272,22 +304,42 @@ fn report_feed<R: Read + Drop, W: Write>(
     let mut feeder = Feeder::new(alloc, feed)?;
     let mut outbox = Outbox::new(alloc, config.lanes.len())?;
     let mut decider = Decider::new(alloc, config, &zone, owned)?;
-    for _line in 0..u64::MAX {
-        let ended = take_line(
-            &mut lines,
-            writer,
-            config,
-            &mut decider,
-            &mut outbox,
-            &mut feeder,
-        )?;
-        if let Some(ending) = ended {
-            lines.flush(writer)?;
-            return Ok(ending);
+    let ending = report_lines(
+        &mut lines,
+        writer,
+        config,
+        &mut decider,
+        &mut outbox,
+        &mut feeder,
+    )?;
+    lines.flush(writer)?;
+    Ok(ending)
+}
+
+/// Makes the report of a feed from its beginning, and holds back what isn't written yet.
+fn report_lines<R: Read + Drop, W: Write>(
+    lines: &mut Lines,
+    writer: &mut W,
+    config: &Config,
+    decider: &mut Decider,
+    outbox: &mut Outbox,
+    feeder: &mut Feeder<R>,
+) -> Result<Ending, ReplayFault>
+    requires stands { StandsAfter config.now Zone.Utc decider.old outbox.old [] }
+    requires open { feeder.old.stop ≡ None }
+    requires lines { lines.old ≡ [] }
+    requires limit { feeder.old.line ≤ feed_limit + 1 }
+    ensures ok { IfOk result (λ ending. (told : List Answer) × AreToldOf config.now.objects feeder.old told
+        × (ending ≡ ending_after [] told) × Leaves (W.contents writer.old) (W.contents writer.new) (report_text config.now Zone.Utc told) lines.new) }
+    ensures front { (told : List Answer) × AreToldOf config.now.objects feeder.old told
+        × TakesFront (W.contents writer.old) (W.contents writer.new) (report_text config.now Zone.Utc told) }
+{
+    loop {
+        match take_line(lines, writer, config, decider, outbox, feeder)? {
+            None => {}
+            Some(ending) => return Ok(ending),
         }
     }
-    lines.flush(writer)?;
-    Ok(Ending::Short)
 }
 
 /// The configuration that an object text gives.

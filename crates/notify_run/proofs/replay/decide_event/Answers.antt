@@ -8,7 +8,7 @@ use Rattle.notify_run.specs.Entries.{HoldEntries, event_entries}
 use Rattle.notify_run.specs.Replays.{StandsAfter}
 use Rattle.notify_run.specs.ReportText.{answer_text, is_ended}
 use Rattle.notify_run.proofs.Deciding.{decided_held, ok_is_no_fault, stands_after, text_of_end, text_of_event}
-use Rattle.notify_run.proofs.Writing.{front_none, front_same}
+use Rattle.notify_run.proofs.Writing.{front_longer, front_same}
 use Rattle.notify_run.proofs.replay.decide_event.Goals as goal
 
 pub write_event-requires-clause-held : goal.write_event-requires-clause-held
@@ -52,4 +52,4 @@ returns-in_err-refused-in-Err-Ended-clause-front g c = λ past s.
     front_same _ _ c.args.lines.now c.args.lines.now _ _ refl (text_of_end c.args.config.now Utc past c.args.line c.args.event ended) c.refused.ensures.front
 
 pub returns-in-Err-NoMemory-clause-front : goal.returns-in-Err-NoMemory-clause-front
-returns-in-Err-NoMemory-clause-front g c = λ past s. front_none _ _
+returns-in-Err-NoMemory-clause-front g c = λ past s. front_longer _ _ c.args.lines.now _ c.out_of_memory.ensures.front
