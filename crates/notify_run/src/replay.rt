@@ -285,17 +285,18 @@ fn take_line<R: Read + Drop, W: Write>(
 fn report_feed<R: Read + Drop, W: Write>(
     alloc: Global,
     config: &Config,
+    zone: &Zone,
     feed: R,
     writer: &mut W,
 ) -> Result<Ending, ReplayFault>
     requires accepted { IsAccepted config.now }
     requires covered { IsCovered config.now }
+    requires utc { zone.now ≡ Zone.Utc }
     ensures ok { IfOk result (λ ending. (told : List Answer) × AreToldOf config.now.objects (start_of (R.remaining feed)) told
         × (ending ≡ ending_after [] told) × Leaves (W.contents writer.old) (W.contents writer.new) (report_text config.now Zone.Utc told) []) }
     ensures front { (told : List Answer) × AreToldOf config.now.objects (start_of (R.remaining feed)) told
         × TakesFront (W.contents writer.old) (W.contents writer.new) (report_text config.now Zone.Utc told) }
 {
-    let zone = Zone::Utc;
     let owned = Owned {
         decider: 0,
         deciders: 1,
@@ -303,15 +304,36 @@ fn report_feed<R: Read + Drop, W: Write>(
     let mut lines = Lines::new(alloc)?;
     let mut feeder = Feeder::new(alloc, feed)?;
     let mut outbox = Outbox::new(alloc, config.lanes.len())?;
-    let mut decider = Decider::new(alloc, config, &zone, owned)?;
-    let ending = report_lines(
+    let mut decider = Decider::new(alloc, config, zone, owned)?;
+    report_whole(
         &mut lines,
         writer,
         config,
         &mut decider,
         &mut outbox,
         &mut feeder,
-    )?;
+    )
+}
+
+/// Writes the report of a feed from its beginning.
+fn report_whole<R: Read + Drop, W: Write>(
+    lines: &mut Lines,
+    writer: &mut W,
+    config: &Config,
+    decider: &mut Decider,
+    outbox: &mut Outbox,
+    feeder: &mut Feeder<R>,
+) -> Result<Ending, ReplayFault>
+    requires stands { StandsAfter config.now Zone.Utc decider.old outbox.old [] }
+    requires open { feeder.old.stop ≡ None }
+    requires lines { lines.old ≡ [] }
+    requires limit { feeder.old.line ≤ feed_limit + 1 }
+    ensures ok { IfOk result (λ ending. (told : List Answer) × AreToldOf config.now.objects feeder.old told
+        × (ending ≡ ending_after [] told) × Leaves (W.contents writer.old) (W.contents writer.new) (report_text config.now Zone.Utc told) []) }
+    ensures front { (told : List Answer) × AreToldOf config.now.objects feeder.old told
+        × TakesFront (W.contents writer.old) (W.contents writer.new) (report_text config.now Zone.Utc told) }
+{
+    let ending = report_lines(lines, writer, config, decider, outbox, feeder)?;
     lines.flush(writer)?;
     Ok(ending)
 }
@@ -358,7 +380,20 @@ pub fn replay<R: Read + Drop, W: Write>(
     reader: R,
     writer: &mut W,
 ) -> Result<Ending, ReplayFault> {
+    let zone = Zone::Utc;
+    replay_in(alloc, &zone, reader, writer)
+}
+
+/// The same, for local times of a zone.
+fn replay_in<R: Read + Drop, W: Write>(
+    alloc: Global,
+    zone: &Zone,
+    reader: R,
+    writer: &mut W,
+) -> Result<Ending, ReplayFault>
+    requires utc { zone.now ≡ Zone.Utc }
+{
     let (text, feed) = take_objects(alloc, reader)?;
     let config = load(alloc, &text)?;
-    report_feed(alloc, &config, feed, writer)
+    report_feed(alloc, &config, zone, feed, writer)
 }
