@@ -1,5 +1,5 @@
 -- The book after an event is the book before it, told what became of the event.
-use Rattle.std.proofs.Common.{◌≡◌, ℕ, ◌+◌, ◌*◌, Bool, true, false, not, ◌&&◌, ◌==◌, List, [], ◌∷◌, All, Option, Some, None, if◌then◌else◌, is_some, refl, sym, ap, ◌∙◌, subst, cond, arith, add_comm}
+use Rattle.std.proofs.Common.{◌≡◌, ℕ, ◌+◌, ◌*◌, Bool, true, false, not, ◌&&◌, ◌==◌, List, [], ◌∷◌, Option, Some, None, if◌then◌else◌, is_some, refl, sym, ap, ◌∙◌, subst, cond, add_comm}
 use Rattle.std.proofs.lemmas.List.Sums.{sum_by-cons}
 use Rattle.std.proofs.lemmas.List.Elements.{All-tail}
 use Rattle.due_model.specs.declared.config.Config.{Config}
@@ -9,23 +9,20 @@ use Rattle.due_model.specs.declared.event.EventKind.{EventKind}
 use Rattle.due_model.specs.declared.event.EventKind.TheVariants as event
 use Rattle.due_model.specs.declared.notice.Kind.{Kind}
 use Rattle.due_model.specs.declared.notice.Kind.TheVariants as kind
-use Rattle.due_model.specs.declared.notice.Filter.{Filter}
 use Rattle.due_model.specs.declared.notice.Filter.TheVariants as filter
 use Rattle.due_model.specs.declared.notice.Outcome.{Outcome}
 use Rattle.due_model.specs.declared.notice.Outcome.TheVariants.{Nothing, Sent, Suppressed}
-use Rattle.due_model.specs.declared.rules.Last.{Last}
 use Rattle.due_model.specs.declared.rules.Standing.{Standing}
 use Rattle.due_model.specs.declared.state.State.{State}
 use Rattle.due_model.specs.declared.zone.Zone.{Zone}
 use Rattle.due_model.specs.Covered.{IsCovered}
-use Rattle.due_model.specs.Readings.{is_ok_state, is_problem_state, is_problem_of, moment, program_on, hard, begins, began, flapping, hard_after}
+use Rattle.due_model.specs.Readings.{is_ok_state, is_problem_state, is_problem_of, moment, program_on, hard, begins, began, flapping}
 use Rattle.due_model.specs.Rules.{attempted, first_failing, next_notice, is_problem, is_recovery, is_too_soon}
-use Rattle.due_model.specs.Histories.{hist, longer, notice_of, of_problem, before, notices_sent, last_notice, ready, standing, number_after, outcome}
-use Rattle.due_model.proofs.Coverage.{IsPlainEvent, IsPlainPast, IsPlainObject, IsOfHost, IsOfHost-hard, depth-covered, flapping-covered, plain_judged, plain_outcome_of, outcome-covered}
+use Rattle.due_model.specs.Histories.{hist, notice_of, before, notices_sent, last_notice, ready, standing, number_after, outcome}
+use Rattle.due_model.proofs.Coverage.{IsPlainEvent, IsPlainPast, IsPlainObject, IsOfHost, IsOfHost-hard, depth-covered, flapping-covered, plain_outcome_of, outcome-covered}
 use Rattle.decider.specs.declared.book.Book.{Book}
-use Rattle.decider.specs.declared.book.Told.{Told}
 use Rattle.decider.specs.declared.book.Now.{Now}
-use Rattle.decider.specs.Books.{empty_book, book_after, book_at, judged_by_book, told_of, told_kind, told_by_book, problem, book_by, book_of, told_outcome, told_at}
+use Rattle.decider.specs.Books.{empty_book, book_after, judged_by_book, told_of, told_kind, told_by_book, problem, book_by, book_of, told_outcome, told_at}
 
 -- what becomes of an attempt, by the tests that can stop it
 abbrev by_tests : Kind → State → (number t gap : ℕ) → (program no_problem interval : Bool) → Outcome

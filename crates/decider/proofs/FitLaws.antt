@@ -1,9 +1,8 @@
 -- What is kept after an event stands for the past with the event.
-use Rattle.std.proofs.Common.{◌≡◌, ◌≢◌, ℕ, zero, suc, ◌+◌, ◌*◌, ◌^◌, ◌<◌, ◌≤◌, max, Bool, true, false, not, ◌&&◌, ◌==◌, cond, if◌then◌else◌, List, [], ◌∷◌, ◌++◌, length, set, get_or, slice_get, All, flat_map, Option, Some, None, refl, sym, ap, ◌∙◌, subst, arith, inl, inr, ◌⊎◌, length-set}
-use Rattle.std.specs.List.{range_with_len}
+use Rattle.std.proofs.Common.{◌≡◌, ℕ, suc, ◌*◌, ◌^◌, ◌<◌, ◌≤◌, max, Bool, true, false, if◌then◌else◌, List, [], ◌∷◌, length, get_or, slice_get, All, flat_map, Option, Some, None, refl, sym, ap, ◌∙◌, subst, arith, inl, inr, length-set}
 use Rattle.std.specs.Option.{option_map_or}
 use Rattle.std.proofs.lemmas.List.Elements.{All-cons, All-weaker, All-head, All-tail}
-use Rattle.std.proofs.lemmas.Option.{slice_get_within, slice_get-get_or, slice_get_cases}
+use Rattle.std.proofs.lemmas.Option.{slice_get_within, slice_get_cases}
 use Rattle.due_model.specs.declared.config.Config.{Config}
 use Rattle.due_model.specs.declared.config.Object.{Object}
 use Rattle.due_model.specs.declared.event.Event.{Event}
@@ -12,32 +11,29 @@ use Rattle.due_model.specs.declared.event.EventKind.TheVariants as event
 use Rattle.due_model.specs.declared.notice.Kind.{Kind}
 use Rattle.due_model.specs.declared.notice.Kind.TheVariants as kind
 use Rattle.due_model.specs.declared.notice.Filter.{Filter}
-use Rattle.due_model.specs.declared.notice.Notice.{Notice}
 use Rattle.due_model.specs.declared.notice.Outcome.{Outcome}
 use Rattle.due_model.specs.declared.notice.Outcome.TheVariants.{Nothing, Sent, Suppressed}
 use Rattle.due_model.specs.declared.notice.Suppression.{Suppression}
-use Rattle.due_model.specs.declared.rules.Last.{Last}
 use Rattle.due_model.specs.declared.state.State.{State}
 use Rattle.due_model.specs.declared.state.State.TheVariants.{Pending}
-use Rattle.due_model.specs.declared.zone.Zone.{Zone}
-use Rattle.due_model.specs.Accepted.{IsAccepted, IsProper, KindIsProper, ObjectFits, last_moment}
-use Rattle.due_model.specs.Covered.{IsCovered, IsPlainHost, IsTakenIn}
-use Rattle.due_model.specs.Readings.{moment, program_on, hard, hard_after, switch_after}
+use Rattle.due_model.specs.Accepted.{IsProper, KindIsProper, ObjectFits, last_moment}
+use Rattle.due_model.specs.Covered.{IsPlainHost, IsTakenIn}
+use Rattle.due_model.specs.Readings.{moment, hard, hard_after, switch_after}
 use Rattle.due_model.specs.Rules.{is_problem}
-use Rattle.due_model.specs.Due.{due_at, suppressed_at, notices, suppressions}
+use Rattle.due_model.specs.Due.{due_at, suppressed_at}
 use Rattle.due_model.specs.Histories.{hist, outcome, number_after}
 use Rattle.due_model.proofs.Coverage.{IsPlainEvent, IsPlainPast, IsPlainObject}
 use Rattle.decider.specs.declared.book.Book.{Book}
 use Rattle.decider.specs.declared.book.Told.{Told}
 use Rattle.decider.specs.declared.book.Now.{Now}
-use Rattle.decider.specs.Books.{empty_book, book_after, book_at, stopped_by, judged_by_book, told_kind, told_by_book, told_outcome, told_at, book_of}
-use Rattle.decider.specs.Gains.{is_owned, owned_numbers, gain, gained, suppressed_gain, suppressed_gained, told_number, told_numbers, settled, states_after, BookFits, LastFits, KindIsWithin, told_notices, told_suppressions}
+use Rattle.decider.specs.Books.{empty_book, book_after, book_at, stopped_by, told_kind, told_by_book, told_outcome, told_at, book_of}
+use Rattle.decider.specs.Gains.{is_owned, owned_numbers, gain, gained, suppressed_gain, suppressed_gained, told_number, told_numbers, settled, states_after, BookFits, KindIsWithin, told_notices, told_suppressions}
 use Rattle.decider.specs.Kept.{Kept, Fits, CanTell, now_of, kept_after}
 use Rattle.decider.proofs.BookLaws.{now_at, told_law, quiet_law, goes_out}
 use Rattle.decider.proofs.GainLaws.{all_at, told_notices_law, told_suppressions_law}
 use Rattle.decider.proofs.ListLemmas.{at_set}
-use Rattle.decider.proofs.Numbers.{flat_below, flat_same, flat_flat}
-use Rattle.decider.proofs.SettleLaws.{One, AtMostOne, book_told, length-settled, settled_at, settled_all}
+use Rattle.decider.proofs.Numbers.{flat_same, flat_flat}
+use Rattle.decider.proofs.SettleLaws.{AtMostOne, book_told, length-settled, settled_at, settled_all}
 
 -- an element within a list
 pub found_at : {X : Type 0} (xs : List X) (i : ℕ) → i < length xs → (x : X) × (slice_get xs i ≡ Some x)

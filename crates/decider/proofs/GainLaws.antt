@@ -1,32 +1,24 @@
 -- What is told gives the notices and the suppressions that the definitions gain.
-use Rattle.std.proofs.Common.{◌≡◌, ℕ, ◌+◌, ◌*◌, ◌<◌, Bool, true, false, not, ◌&&◌, ◌==◌, List, [], ◌∷◌, ◌++◌, length, slice_get, All, filter, flat_map, Option, Some, None, is_some, if◌then◌else◌, refl, sym, ap, ◌∙◌, subst, arith}
-use Rattle.std.specs.List.{range_with_len}
+use Rattle.std.proofs.Common.{◌≡◌, ℕ, List, [], ◌∷◌, ◌++◌, slice_get, All, flat_map, Option, Some, None, is_some, if◌then◌else◌, refl, sym, ap, ◌∙◌, subst}
 use Rattle.std.specs.Option.{option_map_or}
 use Rattle.std.proofs.lemmas.List.{append-nil}
 use Rattle.std.proofs.lemmas.Option.{get_or_from_slice_get, slice_get_within}
 use Rattle.due_model.specs.declared.config.Config.{Config}
 use Rattle.due_model.specs.declared.config.Contact.{Contact}
-use Rattle.due_model.specs.declared.config.ContactId.{ContactId}
 use Rattle.due_model.specs.declared.config.Object.{Object}
 use Rattle.due_model.specs.declared.config.Rights.{Rights}
-use Rattle.due_model.specs.declared.event.Event.{Event}
 use Rattle.due_model.specs.declared.notice.Filter.{Filter}
-use Rattle.due_model.specs.declared.notice.Filter.TheVariants as filter
-use Rattle.due_model.specs.declared.notice.Kind.{Kind}
 use Rattle.due_model.specs.declared.notice.Notice.{Notice}
 use Rattle.due_model.specs.declared.notice.Outcome.{Outcome}
 use Rattle.due_model.specs.declared.notice.Outcome.TheVariants.{Nothing, Sent, Suppressed}
 use Rattle.due_model.specs.declared.notice.Suppression.{Suppression}
-use Rattle.due_model.specs.declared.state.State.{State}
 use Rattle.due_model.specs.declared.zone.Zone.{Zone}
 use Rattle.due_model.specs.Covered.{IsCovered, AreFullRights}
 use Rattle.due_model.specs.Escalations.{contacts_with, has_contact}
 use Rattle.due_model.specs.Rules.{Attempt, contact_failing}
-use Rattle.due_model.specs.Due.{receivers, rights_for, notice_to, refusal_of, notices, suppressions, due_at, suppressed_at, uses_lane}
-use Rattle.due_model.specs.Histories.{hist, outcome}
+use Rattle.due_model.specs.Due.{receivers, rights_for, notice_to, refusal_of, notices, suppressions, uses_lane}
 use Rattle.due_model.proofs.Coverage.{IsOfHost, IsPlainObject, receivers-covered, contact_failing-covered}
 use Rattle.decider.specs.declared.book.Book.{Book}
-use Rattle.decider.specs.declared.book.Told.{Told}
 use Rattle.decider.specs.Books.{told_outcome}
 use Rattle.decider.proofs.BookLaws.{GoesOutOfHost}
 use Rattle.decider.specs.Gains.{contact_notices, plain_notice_from, plain_notices, plain_suppressions, notices_of_object, object_notices, notice_of, told_notices, told_suppressions}

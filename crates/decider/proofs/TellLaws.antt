@@ -1,17 +1,15 @@
 -- Which objects an event tells nothing of.
-use Rattle.std.proofs.Common.{◌≡◌, ◌≢◌, ℕ, ◌<◌, Bool, true, false, cond, List, [], ◌++◌, length, filter, flat_map, slice_get, slice_index_or, Option, Some, None, refl, sym, ap, ◌∙◌}
+use Rattle.std.proofs.Common.{◌≡◌, ℕ, ◌<◌, Bool, false, cond, List, [], slice_get, slice_index_or, Option, Some, None, refl, sym, ap, ◌∙◌}
 use Rattle.std.specs.Option.{option_map_or}
 use Rattle.std.proofs.lemmas.Bool.{ne_eqb}
 use Rattle.due_model.specs.declared.config.Object.{Object}
 use Rattle.due_model.specs.declared.event.EventKind.{EventKind}
 use Rattle.due_model.specs.declared.event.EventKind.TheVariants as event
 use Rattle.due_model.specs.declared.config.ObjectId.{ObjectId}
-use Rattle.due_model.specs.declared.rules.Standing.{Standing}
 use Rattle.due_model.specs.declared.state.State.{State}
 use Rattle.due_model.specs.declared.state.State.TheVariants.{Pending}
 use Rattle.due_model.specs.Rules.{attempted, attempted_by_state}
 use Rattle.decider.specs.declared.book.Book.{Book}
-use Rattle.decider.specs.declared.book.Told.{Told}
 use Rattle.decider.specs.declared.book.Now.{Now}
 use Rattle.decider.specs.declared.owned.Owned.{Owned}
 use Rattle.decider.specs.Books.{empty_book, told_kind, told_by_book}

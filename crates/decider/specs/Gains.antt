@@ -1,5 +1,5 @@
 -- What an event adds to the notices and the suppressions of the objects that a decider owns.
-use Rattle.std.specs.Prelude.{ℕ, ◌+◌, ◌%◌, ◌^◌, ◌<◌, ◌≤◌, Bool, ◌==◌, List, [], ◌∷◌, ◌++◌, length, filter, flat_map, slice_get, slice_set, slice_index_or, Option, Some, None, IfSome, if◌then◌else◌}
+use Rattle.std.specs.Prelude.{ℕ, ◌%◌, ◌<◌, ◌≤◌, Bool, ◌==◌, List, [], ◌∷◌, length, filter, flat_map, slice_get, slice_set, slice_index_or, Option, None, IfSome, if◌then◌else◌}
 use Rattle.std.specs.List.{range_with_len}
 use Rattle.std.specs.Option.{option_map_or}
 use Rattle.due_model.specs.declared.config.Config.{Config}

@@ -1,7 +1,6 @@
 //! What a decider keeps of one object's running problem, and what an event makes of it.
 
 ghost use Rattle.std.specs.Prelude.{◌≡◌, ◌+◌, ◌*◌, ◌^◌, ◌<◌, if◌then◌else◌};
-ghost use Rattle.due_model.specs.Histories.{number_after};
 ghost use Rattle.due_model.specs.Rules.{is_problem};
 
 use due_model::config::ObjectId;
@@ -132,7 +131,7 @@ impl Book {
         ensures outcome { result ≡ judged_by_book interval now.program self kind state now.moment }
         ensures bounded { IsBounded self result }
     {
-        let number = number_after(self.sent, kind);
+        let number = kind.number_after(self.sent);
         match self.stopped_by(now, kind, state) {
             None => Outcome::Sent {
                 kind,
@@ -177,17 +176,6 @@ impl Book {
             outcome,
             book: begun.after(outcome),
         })
-    }
-}
-
-/// The number of a notification in its problem, after so many; 0 for the kinds that have none.
-fn number_after(sent: u64, kind: Kind) -> u64
-    requires { sent + 1 < 2 ^ 64 }
-    ensures { result ≡ number_after sent kind }
-{
-    match kind {
-        Kind::Problem | Kind::Recovery => sent + 1,
-        _ => 0,
     }
 }
 

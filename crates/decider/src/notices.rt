@@ -1,7 +1,6 @@
 //! The notices and suppressions of what an event tells, before anything is changed.
 
 ghost use Rattle.std.specs.Prelude.{◌≡◌, ℕ, ◌<◌, ◌≤◌, ◌==◌, [], ◌++◌, length, flat_map, if◌then◌else◌, OnOk};
-ghost use Rattle.due_model.specs.Due.{uses_lane};
 ghost use Rattle.due_model.specs.Escalations.{has_contact};
 ghost use Rattle.decider.specs.Gains.{contact_notices, object_notices, plain_notice_from, notices_of_object, told_notices, told_suppressions};
 ghost use Rattle.decider.specs.Logs.{noted, staged};
@@ -13,20 +12,6 @@ use crate::outbox::Outbox;
 use due_model::config::{Config, Contact, ContactId, LaneId, Object, Rights};
 use due_model::notice::{Notice, Outcome, Suppression};
 use std::alloc::AllocError;
-
-/// Whether a list of contacts has this one.
-fn has_contact(contacts: &[ContactId], contact: usize) -> bool
-    ensures { result ≡ has_contact contacts.now contact }
-{
-    contacts.iter().any(|c| c.0 as usize == contact)
-}
-
-/// Whether the notices go out on this lane.
-fn uses_lane(rights: &Rights, lane: usize) -> bool
-    ensures { result ≡ uses_lane rights.now lane }
-{
-    rights.lanes.as_slice().iter().any(|l| l.0 as usize == lane)
-}
 
 /// Stages a notice for one lane, if the contact uses it.
 fn stage_on_lane(
@@ -40,13 +25,11 @@ fn stage_on_lane(
     ensures waiting { lists outbox.new ≡ lists outbox.old }
     ensures ok { OnOk result ((l : ℕ) → staged_at outbox.new l ≡ staged_at outbox.old l ++ (if lane == l then contact_notices notice rights.now lane else [])) }
 {
-    if !uses_lane(rights, lane) {
+    let lane = LaneId(lane as u8);
+    if !rights.uses_lane(lane) {
         return Ok(());
     }
-    outbox.stage(Notice {
-        lane: LaneId(lane as u8),
-        ..notice
-    })
+    outbox.stage(Notice { lane, ..notice })
 }
 
 /// Stages a notice for each lane that the contact uses, each once.
@@ -75,13 +58,11 @@ fn stage_if_contact(
     ensures waiting { lists outbox.new ≡ lists outbox.old }
     ensures ok { OnOk result ((l : ℕ) → l < length (lists outbox.old) → staged_at outbox.new l ≡ staged_at outbox.old l ++ (if has_contact object.now.contacts k then plain_notice_from contacts.now notice l k else [])) }
 {
-    if !has_contact(object.contacts.as_slice(), k) {
+    let contact = ContactId(k as u16);
+    if !object.has_contact(contact) {
         return Ok(());
     }
-    let notice = Notice {
-        contact: ContactId(k as u16),
-        ..notice
-    };
+    let notice = Notice { contact, ..notice };
     stage_to_contact(notice, &contacts[k].hosts, outbox)
 }
 

@@ -1,5 +1,5 @@
 -- What the filters of the plain slow program read, as values of the definitions.
-use Rattle.std.specs.Prelude.{ℕ, option_map}
+use Rattle.std.specs.Prelude.{ℕ}
 use Rattle.due_model.specs.declared.config.ContactId.{ContactId}
 use Rattle.due_model.specs.declared.slow.filters.Attempted.{Attempted}
 use Rattle.due_model.specs.declared.slow.filters.ObjectView.{ObjectView}

@@ -1,5 +1,9 @@
 //! A configuration: what the object text gives, in numbers.
 
+ghost use Rattle.std.specs.Prelude.{◌≡◌};
+ghost use Rattle.due_model.specs.Due.{uses_lane};
+ghost use Rattle.due_model.specs.Escalations.{has_contact};
+
 use crate::letters::Letters;
 use crate::objects::Objects;
 use crate::sequence::{Sequence, Text};
@@ -42,6 +46,18 @@ pub struct Object {
     pub contacts: Sequence<ContactId>,
 }
 
+impl Object {
+    /// Whether this contact is one of the object's own.
+    pub fn has_contact(&self, contact: ContactId) -> bool
+        ensures { result ≡ has_contact self.now.contacts contact.0 }
+    {
+        self.contacts
+            .as_slice()
+            .iter()
+            .any(|other| other.0 == contact.0)
+    }
+}
+
 /// Who is notified, of what and how (chapter "Object Definitions").
 #[derive(Drop)]
 pub struct Contact {
@@ -63,6 +79,15 @@ pub struct Rights {
     pub period: Option<PeriodId>,
     /// `host_notification_commands` or `service_notification_commands`.
     pub lanes: Sequence<LaneId>,
+}
+
+impl Rights {
+    /// Whether the contact's notices go out on this lane.
+    pub fn uses_lane(&self, lane: LaneId) -> bool
+        ensures { result ≡ uses_lane self.now lane.0 }
+    {
+        self.lanes.as_slice().iter().any(|other| other.0 == lane.0)
+    }
 }
 
 /// A lane: a notification command that some contact uses.

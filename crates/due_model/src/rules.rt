@@ -4,6 +4,7 @@ ghost use Rattle.std.specs.Prelude.{◌≡◌, ◌+◌, ◌^◌, ◌<◌, Some, 
 ghost use Rattle.due_model.specs.Readings.{is_ok_state, is_problem_state, switch_after, hard_after, depth_changed, is_problem_of};
 ghost use Rattle.due_model.specs.Rules.{attempted, attempted_by_state, attempted_by_downtime, attempted_by_flapping, downtime_kind, has_come, state_letter, letter_of, has_letter, is_too_soon, next_notice, same_state};
 ghost use Rattle.due_model.specs.Dependencies.{has_state};
+ghost use Rattle.due_model.specs.Histories.{number_after};
 
 use crate::config::ObjectId;
 use crate::event::{DowntimeChange, EventKind};
@@ -88,6 +89,18 @@ impl Kind {
             Kind::Recovery => Letter::Recovery,
             Kind::FlappingStart | Kind::FlappingStop => Letter::Flapping,
             Kind::DowntimeStart | Kind::DowntimeEnd | Kind::DowntimeCancelled => Letter::Downtime,
+        }
+    }
+
+    /// The number of a notification of this kind in its problem, of which so many problem notices went out
+    /// before it; 0 for the kinds that have none.
+    pub fn number_after(self, sent: u64) -> u64
+        requires { sent + 1 < 2 ^ 64 }
+        ensures { result ≡ number_after sent self }
+    {
+        match self {
+            Kind::Problem | Kind::Recovery => sent + 1,
+            _ => 0,
         }
     }
 }

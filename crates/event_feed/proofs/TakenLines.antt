@@ -5,7 +5,7 @@ use Rattle.due_model.specs.declared.config.Object.{Object}
 use Rattle.due_model.specs.declared.config.ObjectId.{ObjectId}
 use Rattle.due_model.specs.declared.event.Event.{Event}
 use Rattle.due_model.specs.declared.event.EventKind.{EventKind}
-use Rattle.due_model.specs.declared.event.EventKind.TheVariants.{Clock, Program, Hard}
+use Rattle.due_model.specs.declared.event.EventKind.TheVariants.{Clock, Program}
 use Rattle.due_model.specs.declared.state.State.{State}
 use Rattle.due_model.specs.Objects.{object_named}
 use Rattle.event_feed.specs.declared.fault.FeedFault.{FeedFault}

@@ -1,11 +1,11 @@
-//! Who is notified, and when again (chapter "Notification Escalations"). So far no escalation is read.
+//! When a problem is notified of again (chapter "Notification Escalations"). So far no escalation is read.
 
-ghost use Rattle.std.specs.Prelude.{◌≡◌, ◌≤◌, ◌<◌, [], All, IfOk, map, length, IsTrue};
+ghost use Rattle.std.specs.Prelude.{◌≡◌, ◌≤◌, []};
 ghost use Rattle.due_model.specs.Accepted.{most};
-ghost use Rattle.due_model.specs.Escalations.{gap, has_contact};
+ghost use Rattle.due_model.specs.Escalations.{gap};
 ghost use Rattle.due_model.specs.Slow.{longest_gap};
 
-use crate::config::{Config, ContactId, Object, ObjectId};
+use crate::config::{Config, Object, ObjectId};
 use crate::letters::Letter;
 use crate::zone::Zone;
 
@@ -26,11 +26,4 @@ pub(crate) fn gap(
     ensures in_range { result ≤ longest_gap }
 {
     60 * u64::from(settings.interval)
-}
-
-/// Whether a list of contacts has this one.
-pub(crate) fn has_contact(contacts: &[ContactId], contact: ContactId) -> bool
-    ensures { result ≡ has_contact contacts.now contact.0 }
-{
-    contacts.iter().any(|other| other.0 == contact.0)
 }

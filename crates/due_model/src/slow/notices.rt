@@ -2,13 +2,12 @@
 
 ghost use Rattle.std.specs.Prelude.{◌≡◌, ◌≤◌, ◌<◌, ◌++◌, [], All, IfOk, OnOk, length, map, None, flat_map, option_to_list};
 ghost use Rattle.due_model.specs.Covered.{IsCovered};
-ghost use Rattle.due_model.specs.Due.{receivers, rights_for, uses_lane, notice_to, refusal_of, notices, suppressions};
+ghost use Rattle.due_model.specs.Due.{receivers, rights_for, notice_to, refusal_of, notices, suppressions};
 ghost use Rattle.due_model.specs.Escalations.{contacts_with, has_contact};
 ghost use Rattle.due_model.specs.SlowViews.{attempt_of, number_of_contact};
 
 use crate::config::{Config, Contact, ContactId, LaneId, Object, ObjectId, Rights};
 use crate::notice::{Notice, Outcome, Suppression};
-use crate::slow::escalations::has_contact;
 use crate::slow::filters::{Attempted, contact_failing};
 use crate::zone::Zone;
 use std::alloc::{AllocError, Global};
@@ -24,31 +23,20 @@ pub(crate) fn rights_for<'a>(settings: &Object, contact: &'a Contact) -> &'a Rig
     }
 }
 
-/// Whether a contact's notices go out on this lane.
-pub(crate) fn uses_lane(rights: &Rights, lane: LaneId) -> bool
-    ensures { result ≡ uses_lane rights.now lane.0 }
-{
-    rights
-        .lanes
-        .as_slice()
-        .iter()
-        .any(|other| other.0 == lane.0)
-}
-
-/// The contacts of the configuration that are on this list, each once, in number order.
+/// The object's own contacts, each once, in number order.
 pub(crate) fn contacts_with(
     alloc: Global,
     config: &Config,
-    contacts: &[ContactId],
+    settings: &Object,
 ) -> Result<Vec<ContactId>, AllocError>
     requires { length config.now.contacts ≤ 4096 }
     ensures { IfOk result
-        (λ v. map number_of_contact v.items ≡ contacts_with config.now (has_contact contacts.now)) }
+        (λ v. map number_of_contact v.items ≡ contacts_with config.now (has_contact settings.now.contacts)) }
 {
     let mut found = Vec::new(alloc);
     for number in 0..config.contacts.len() {
         let contact = ContactId(number as u16);
-        if has_contact(contacts, contact) {
+        if settings.has_contact(contact) {
             found.push(contact)?;
         }
     }
@@ -72,7 +60,7 @@ pub(crate) fn receivers(
     ensures { IfOk result (λ v. map number_of_contact v.items
         ≡ receivers config.now zone.now object.0 settings.now (attempt_of attempt) number) }
 {
-    contacts_with(alloc, config, settings.contacts.as_slice())
+    contacts_with(alloc, config, settings)
 }
 
 /// The notice to a contact on a lane, if the contact's filters pass and it uses that lane.
@@ -96,7 +84,7 @@ pub(crate) fn notice_to(
         settings,
         config.contacts.as_slice().get(contact.0 as usize)?,
     );
-    if contact_failing(config, zone, rights, attempt).is_some() || !uses_lane(rights, lane) {
+    if contact_failing(config, zone, rights, attempt).is_some() || !rights.uses_lane(lane) {
         return None;
     }
     let Attempted {

@@ -3,14 +3,14 @@
 ghost use Rattle.std.specs.Prelude.{◌≡◌, ◌≤◌, ◌<◌, ◌+◌, ◌^◌, [], ◌∷◌, All, IfSome, length, reverse, None};
 ghost use Rattle.due_model.specs.Accepted.{last_moment, most, ObjectFits};
 ghost use Rattle.due_model.specs.Covered.{IsCovered, IsPlainEvent, IsPlainObject};
-ghost use Rattle.due_model.specs.Histories.{standing, view, number_after, gap_of, judged, outcome};
+ghost use Rattle.due_model.specs.Histories.{standing, view, gap_of, judged, outcome};
 ghost use Rattle.due_model.specs.Readings.{moment};
 ghost use Rattle.due_model.specs.Slow.{IsInRange, IsLastInRange, longest_gap};
 ghost use Rattle.due_model.specs.SlowViews.{attempt_of, view_of};
 
 use crate::config::{Config, Object, ObjectId};
 use crate::event::Event;
-use crate::notice::{Kind, Outcome};
+use crate::notice::Outcome;
 use crate::rules::{Standing, attempted};
 use crate::slow::escalations::gap;
 use crate::slow::filters::{Attempted, ObjectView, failing, is_problem};
@@ -28,18 +28,6 @@ pub(crate) fn standing(config: &Config, object: ObjectId, past: &[Event]) -> Sta
         state: hard(object, past),
         depth: 0,
         flapping: false,
-    }
-}
-
-/// The number of a notification in its problem, after so many problem notices; 0 for the kinds that have
-/// none.
-pub(crate) fn number_after(sent: u64, kind: Kind) -> u64
-    requires { sent + 1 < 2 ^ 64 }
-    ensures { result ≡ number_after sent kind }
-{
-    match kind {
-        Kind::Problem | Kind::Recovery => sent + 1,
-        _ => 0,
     }
 }
 
@@ -98,7 +86,7 @@ pub(crate) fn judged(
         state,
         moment,
     } = attempt;
-    let number = number_after(view.sent, kind);
+    let number = kind.number_after(view.sent);
     match failing(config, zone, view, attempt) {
         None => {
             let gap = gap_of(config, zone, object, settings, attempt, number);

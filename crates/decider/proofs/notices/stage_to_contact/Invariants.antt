@@ -1,4 +1,4 @@
-use Rattle.std.proofs.Common.{◌≡◌, ℕ, ◌<◌, ◌≤◌, ◌++◌, length}
+use Rattle.std.proofs.Common.{◌≡◌, ℕ, ◌<◌, ◌≤◌, ◌++◌}
 use Rattle.decider.specs.Gains.{contact_notices}
 use Rattle.decider.specs.Outboxes.{lists, staged_at}
 use Rattle.decider.proofs.notices.stage_to_contact.Given as goal

@@ -1,4 +1,4 @@
-use Rattle.std.proofs.Common.{◌≡◌, ℕ, ◌+◌, ◌<◌, List, [], ◌++◌, length, cond, ap, ◌∙◌, sym, append_assoc, add-one}
+use Rattle.std.proofs.Common.{◌<◌, [], ◌++◌, length, cond, ap, ◌∙◌, sym, append_assoc, add-one}
 use Rattle.due_model.specs.Escalations.{has_contact}
 use Rattle.decider.specs.Gains.{plain_notice_from}
 use Rattle.decider.specs.Outboxes.{lists, staged_at}

@@ -1,4 +1,4 @@
-use Rattle.std.proofs.Common.{◌≡◌, ℕ, suc, ◌+◌, List, [], cond, ◌++◌, ap, ◌∙◌, sym, append_assoc, add-one}
+use Rattle.std.proofs.Common.{[], cond, ◌++◌, ap, ◌∙◌, sym, append_assoc, add-one}
 use Rattle.decider.specs.Gains.{is_owned, told_number}
 use Rattle.decider.proofs.Numbers.{flat_more, flat_below}
 use Rattle.decider.proofs.stage.tell_each.Goals as goal

@@ -1,7 +1,6 @@
-use Rattle.std.proofs.Common.{◌≡◌, List, ◌++◌, ◌<◌, length, ap, ◌∙◌, sym}
+use Rattle.std.proofs.Common.{◌++◌, ◌<◌, length, ap, ◌∙◌, sym}
 use Rattle.std.proofs.lemmas.List.{append-nil}
 use Rattle.std.proofs.lemmas.Result.{on_ok_weaker}
-use Rattle.decider.specs.Gains.{KindIsWithin}
 use Rattle.decider.proofs.TellLaws.{told_by_program, told_by_hard}
 use Rattle.decider.proofs.stage.tell_owned.Goals as goal
 

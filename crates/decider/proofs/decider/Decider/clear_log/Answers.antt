@@ -1,5 +1,4 @@
-use Rattle.std.proofs.Common.{[], List, sym, subst}
-use Rattle.decider.specs.Kept.{Kept, Fits, kept}
+use Rattle.decider.specs.Kept.{kept}
 use Rattle.decider.specs.Logs.{noted}
 use Rattle.decider.proofs.FitLaws.{fits_with_log}
 use Rattle.decider.proofs.decider.Decider.clear_log.Goals as goal

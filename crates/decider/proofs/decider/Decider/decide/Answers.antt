@@ -1,11 +1,10 @@
-use Rattle.std.proofs.Common.{◌≡◌, ℕ, ◌+◌, ◌^◌, ◌<◌, List, [], ◌∷◌, ◌++◌, length, flat_map, slice_index_or, subst, sym, ap, ◌∙◌, arith}
-use Rattle.due_model.specs.declared.event.Event.{Event}
+use Rattle.std.proofs.Common.{◌^◌, ◌<◌, List, [], ◌∷◌, ◌++◌, length, flat_map, slice_index_or, subst, sym, ap, ◌∙◌, arith}
 use Rattle.due_model.specs.declared.notice.Notice.{Notice}
 use Rattle.due_model.specs.declared.notice.Suppression.{Suppression}
 use Rattle.decider.specs.declared.book.Told.{Told}
 use Rattle.decider.specs.Gains.{told_notices, told_suppressions}
 use Rattle.decider.specs.Kept.{Kept, Fits, kept, kept_after}
-use Rattle.decider.specs.Logs.{noted, staged}
+use Rattle.decider.specs.Logs.{staged}
 use Rattle.decider.specs.Outboxes.{waiting_at, staged_at}
 use Rattle.decider.proofs.FitLaws.{can_tell, fits_after, notices_law, suppressions_law}
 use Rattle.decider.proofs.decider.Decider.decide.Goals as goal

@@ -1,4 +1,4 @@
-use Rattle.std.proofs.Common.{◌≡◌, ◌<◌, ℕ, [], ◌++◌, List, map, get_or, length, sym, ap, ◌∙◌, arith, below_more, length-set}
+use Rattle.std.proofs.Common.{◌<◌, [], ◌++◌, length, sym, ap, ◌∙◌, arith, below_more, length-set}
 use Rattle.std.proofs.lemmas.List.{length-map}
 use Rattle.decider.specs.Outboxes.{waiting, staged, waiting_at}
 use Rattle.decider.proofs.ListLemmas.{read_at, written_at, kept_at}

@@ -1,5 +1,4 @@
-use Rattle.std.proofs.Common.{◌≡◌, ◌<◌, ℕ, [], List, map, get_or, length, cond, eqb, sym, ap, ◌∙◌, subst, arith, below_more, length-set}
-use Rattle.std.proofs.lemmas.List.{length-map}
+use Rattle.std.proofs.Common.{◌<◌, [], length, ◌∙◌, arith, below_more, length-set}
 use Rattle.decider.specs.Outboxes.{waiting, staged}
 use Rattle.decider.proofs.ListLemmas.{map-set_kept, written_at, kept_at}
 use Rattle.decider.proofs.outbox.Outbox.discard.Goals as goal

@@ -1,4 +1,4 @@
-use Rattle.std.proofs.Common.{◌≡◌, reverse, take, All, IfSome, option_map}
+use Rattle.std.proofs.Common.{◌≡◌, reverse, take, All, IfSome}
 use Rattle.due_model.specs.Histories.{last_notice}
 use Rattle.due_model.specs.Slow.{IsInRange, IsLastInRange}
 use Rattle.due_model.proofs.slow.histories.last_notice.Given as goal

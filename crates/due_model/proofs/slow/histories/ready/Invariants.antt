@@ -1,4 +1,4 @@
-use Rattle.std.proofs.Common.{◌≡◌, reverse, take, IfSome, option_map}
+use Rattle.std.proofs.Common.{◌≡◌, reverse, take, IfSome}
 use Rattle.due_model.specs.Histories.{last_notice, ready}
 use Rattle.due_model.specs.Slow.{IsLastInRange}
 use Rattle.due_model.proofs.slow.histories.ready.Given as goal

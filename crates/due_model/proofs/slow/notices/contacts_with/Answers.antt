@@ -9,7 +9,7 @@ use Rattle.due_model.proofs.slow.notices.contacts_with.Goals.{then-has_contact+i
 
 pub loop-number-preserved : goal.loop-number-preserved
 loop-number-preserved c =
-    let test = has_contact c.args.contacts.now in
+    let test = has_contact c.args.settings.now.contacts in
     let n = c.loop-number.number in
     let so_far = filter test (range_with_len 0 n) in
     let more = filter_range_more test n in
