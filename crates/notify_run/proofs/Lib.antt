@@ -2,6 +2,7 @@ pub mod Deciding
 pub mod EntryLines
 pub mod EventEntries
 pub mod Merging
+pub mod Parting
 pub mod Telling
 pub mod Writing
 pub mod ResolvedAccepted

@@ -1,4 +1,5 @@
 pub mod Entries
+pub mod Inputs
 pub mod Outputs
 pub mod Reports
 pub mod ReportText

@@ -1,9 +1,12 @@
 //! The parts of an input: the object text up to a line `%events`, and the feed behind it.
 
-ghost use Rattle.std.specs.Prelude.{◌≤◌, length, vec_len, IfErr};
+ghost use Rattle.std.specs.Prelude.{◌≡◌, ◌≢◌, ◌<◌, ◌≤◌, ℕ, List, [], ◌++◌, length, take, IfErr, IfOk, IfSome, IsErrOf};
+ghost use Rattle.std.specs.Io.KnownBytes.{Consumes, IsAtEnd};
+ghost use Rattle.event_feed.specs.Lines.{Known};
+ghost use Rattle.notify_run.specs.Inputs.{IsParting, IsSearched, is_mark, parted};
 
 use std::alloc::{AllocError, Global};
-use std::io::{self, Read};
+use std::io::Read;
 
 /// The line that parts the object text from the feed.
 const MARK: &[u8] = b"%events";
@@ -29,40 +32,24 @@ pub enum InputFault {
 }
 
 impl From<AllocError> for InputFault {
+    ghost use Rattle.notify_run.specs.declared.input.InputFault.TheVariants.{NoMemory};
+
+    ghost from_gives = { λ _ fault. fault ≡ NoMemory };
+
     fn from(_error: AllocError) -> InputFault {
         InputFault::NoMemory
     }
 }
 
-/// What is read behind the object text: bytes that were read with it, and then the reader.
+/// The parts of an input.
 #[derive(Drop)]
-pub struct Rest<R> {
-    held: Vec<u8>,
-    /// Where what is held begins.
-    start: usize,
-    reader: R,
-    ghost within: { start ≤ vec_len held },
-}
-
-impl<R: Read> Read for Rest<R> {
-    fn read(&mut self, buf: &mut [u8]) -> io::Result<usize> {
-        if self.start < self.held.len() {
-            let taken = copy_front(&self.held[self.start..], buf);
-            self.start += taken;
-            return Ok(taken);
-        }
-        self.reader.read(buf)
-    }
-}
-
-/// Copies as many bytes as there are and as fit, and says how many.
-fn copy_front(from: &[u8], to: &mut [u8]) -> usize
-    ensures from { result ≤ length from.now }
-    ensures to { result ≤ length to.old }
-{
-    let count = from.len().min(to.len());
-    to[..count].copy_from_slice(&from[..count]);
-    count
+pub struct Parts<R> {
+    /// The object text.
+    pub text: Vec<u8>,
+    /// The bytes behind the mark that were read with it.
+    pub behind: Vec<u8>,
+    /// What is still to be read.
+    pub reader: R,
 }
 
 /// Where the object text ends in the bytes read so far, and where the feed begins behind the mark.
@@ -81,17 +68,16 @@ struct Search {
     at: usize,
 }
 
-/// The first line that is the mark, or how far the search came. A line that no newline ends counts only at
-/// the end of the input.
-fn find_mark(bytes: &[u8], from: Search, ended: bool) -> Result<Parting, Search>
-    requires line { from.line_start ≤ from.at }
-    requires at { from.at ≤ length bytes.now }
-    ensures { IfErr result (λ search. (search.line_start ≤ search.at) × (search.at ≤ length bytes.now)) }
+/// The first line that is the mark, or how far the search came. A line that no newline ends is not looked at.
+fn find_mark(bytes: &[u8], from: Search) -> Result<Parting, Search>
+    requires searched { IsSearched bytes.now from }
+    ensures found { IfOk result (λ parting. IsParting bytes.now parting) }
+    ensures searched { IfErr result (λ search. IsSearched bytes.now search × (search.at ≡ length bytes.now)) }
 {
     let mut line_start = from.line_start;
     for at in from.at..bytes.len() {
         if bytes[at] == b'\n' {
-            if is_mark(bytes, line_start, at) {
+            if is_mark(&bytes[line_start..at]) {
                 return Ok(Parting {
                     text_end: line_start,
                     feed_start: at + 1,
@@ -100,29 +86,24 @@ fn find_mark(bytes: &[u8], from: Search, ended: bool) -> Result<Parting, Search>
             line_start = at + 1;
         }
     }
-    if ended && is_mark(bytes, line_start, bytes.len()) {
-        return Ok(Parting {
-            text_end: line_start,
-            feed_start: bytes.len(),
-        });
-    }
     Err(Search {
         line_start,
         at: bytes.len(),
     })
 }
 
-/// Whether these bytes are the mark.
-fn is_mark(bytes: &[u8], start: usize, end: usize) -> bool
-    requires start { start ≤ end }
-    requires end { end ≤ length bytes.now }
+/// Whether a line is the mark.
+fn is_mark(line: &[u8]) -> bool
+    ensures { result ≡ is_mark line.now }
 {
-    &bytes[start..end] == MARK
+    line == MARK
 }
 
 /// Adds what one call of the reader gives, and says how many bytes that was; 0 is the end of the input.
 fn read_chunk<R: Read>(reader: &mut R, bytes: &mut Vec<u8>) -> Result<usize, InputFault>
-    ensures { vec_len bytes.old ≤ vec_len bytes.new }
+    ensures ok { IfOk result (λ count. (piece : List ℕ) × (bytes.new.items ≡ bytes.old.items ++ piece) × Consumes (R.remaining reader.old) (R.remaining reader.new) piece
+        × (count ≡ 0 → (piece ≡ []) × IsAtEnd (R.remaining reader.new))) }
+    ensures fault { IfErr result (λ fault. fault ≢ InputFault.TooLarge) }
 {
     let mut chunk = [0u8; CHUNK];
     match reader.read(&mut chunk) {
@@ -134,30 +115,17 @@ fn read_chunk<R: Read>(reader: &mut R, bytes: &mut Vec<u8>) -> Result<usize, Inp
     }
 }
 
-/// Parts what was read: the object text, and what comes behind it.
-fn part<R>(
-    alloc: Global,
-    mut bytes: Vec<u8>,
-    parting: Parting,
-    reader: R,
-) -> Result<(Vec<u8>, Rest<R>), (AllocError, R)> {
-    let held = match bytes.as_slice().get(parting.feed_start..) {
-        Some(behind) => Vec::from_slice(alloc, behind),
-        None => Ok(Vec::new(alloc)),
-    };
-    match held {
-        Ok(held) => {
-            bytes.truncate(parting.text_end);
-            Ok((
-                bytes,
-                Rest {
-                    held,
-                    start: 0,
-                    reader,
-                },
-            ))
-        }
-        Err(error) => Err((error, reader)),
+/// Where the object text ends in an input without a line before its end that is the mark.
+fn end_of_text(bytes: &[u8], search: Search) -> usize
+    requires searched { IsSearched bytes.now search }
+    requires all { search.at ≡ length bytes.now }
+    ensures within { result ≤ length bytes.now }
+    ensures text { parted bytes.now ≡ (take result bytes.now, []) }
+{
+    if is_mark(&bytes[search.line_start..]) {
+        search.line_start
+    } else {
+        bytes.len()
     }
 }
 
@@ -167,7 +135,10 @@ fn part<R>(
 pub fn take_objects<R: Read + Drop>(
     alloc: Global,
     mut reader: R,
-) -> Result<(Vec<u8>, Rest<R>), InputFault> {
+) -> Result<Parts<R>, InputFault>
+    ensures parts { IfOk result (λ parts. Known (R.remaining reader) (R.remaining parts.reader) (λ bytes rest. parted bytes ≡ (parts.text.items, parts.behind.items ++ rest))) }
+    ensures large { IsErrOf result InputFault.TooLarge → IfSome (R.remaining reader) (λ bytes. 16_777_216 < length (parted bytes).0) }
+{
     let mut bytes = Vec::new(alloc);
     let mut search = Search {
         line_start: 0,
@@ -175,21 +146,30 @@ pub fn take_objects<R: Read + Drop>(
     };
     for _call in 0..CALL_LIMIT {
         let count = read_chunk(&mut reader, &mut bytes)?;
-        let parting = match find_mark(&bytes, search, count == 0) {
-            Ok(parting) => parting,
-            Err(_) if count == 0 => Parting {
-                text_end: bytes.len(),
-                feed_start: bytes.len(),
-            },
-            Err(further) => {
-                if bytes.len() > TEXT_LIMIT + MARK.len() {
-                    return Err(InputFault::TooLarge);
-                }
-                search = further;
-                continue;
+        match find_mark(&bytes, search) {
+            Ok(parting) => {
+                let behind = Vec::from_slice(alloc, &bytes[parting.feed_start..])?;
+                bytes.truncate(parting.text_end);
+                return Ok(Parts {
+                    text: bytes,
+                    behind,
+                    reader,
+                });
             }
-        };
-        return part(alloc, bytes, parting, reader).map_err(|_| InputFault::NoMemory);
+            Err(further) => search = further,
+        }
+        if count == 0 {
+            let end = end_of_text(&bytes, search);
+            bytes.truncate(end);
+            return Ok(Parts {
+                text: bytes,
+                behind: Vec::new(alloc),
+                reader,
+            });
+        }
+        if bytes.len() > TEXT_LIMIT + MARK.len() {
+            return Err(InputFault::TooLarge);
+        }
     }
     Err(InputFault::Unreadable)
 }

@@ -27,7 +27,7 @@ use event_feed::{FeedFault, Feeder};
 use object_reader::fault::ReadFault;
 use object_reader::reading::read;
 use std::alloc::{AllocError, Global};
-use std::io::{Read, Write};
+use std::io::{Cursor, Read, Write};
 use std::marker::Model;
 
 /// How the reading of a feed ended.
@@ -393,7 +393,8 @@ fn replay_in<R: Read + Drop, W: Write>(
 ) -> Result<Ending, ReplayFault>
     requires utc { zone.now ≡ Zone.Utc }
 {
-    let (text, feed) = take_objects(alloc, reader)?;
-    let config = load(alloc, &text)?;
+    let parts = take_objects(alloc, reader)?;
+    let config = load(alloc, &parts.text)?;
+    let feed = Cursor::new(parts.behind).chain(parts.reader);
     report_feed(alloc, &config, zone, feed, writer)
 }
