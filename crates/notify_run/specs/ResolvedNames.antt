@@ -1,0 +1,41 @@
+-- Which names blocks give, and which of them are unknown or doubled (chapter "Object Definitions").
+use Rattle.std.specs.Prelude.{ℕ, Bool, true, not, List, map, filter, Option, Some, None, if◌then◌else◌}
+use Rattle.std.specs.List.{list_any}
+use Rattle.std.specs.Str.{bytes_eq}
+use Rattle.object_reader.specs.declared.block.Block.{Block}
+use Rattle.object_reader.specs.declared.block.BlockKind.{BlockKind}
+use Rattle.object_reader.specs.declared.block.BlockKind.TheVariants.{Command, Contact, Host}
+use Rattle.notify_run.specs.declared.configure.fault.BlockFault.{BlockFault}
+use Rattle.notify_run.specs.declared.configure.fault.BlockFault.TheVariants.{UnknownName, Doubled}
+use Rattle.notify_run.specs.Resolved.{is_command_kind, is_contact_kind, is_host_kind}
+use Rattle.notify_run.specs.ResolvedValues.{command_name, entries_read, name_of}
+
+-- whether a block is of the type
+abbrev pub is_of : BlockKind → Block → Bool
+is_of Command block = is_command_kind block.kind
+is_of Contact block = is_contact_kind block.kind
+is_of Host block = is_host_kind block.kind
+
+-- the names of the blocks of the type, in file order
+abbrev pub names_in : BlockKind → List Block → List (List ℕ)
+names_in kind blocks = map name_of (filter (is_of kind) blocks)
+
+-- whether an earlier block of the same type has the block's name
+abbrev pub is_doubled : List Block → Block → Bool
+is_doubled earlier block = list_any (bytes_eq (name_of block)) (names_in block.kind earlier)
+
+-- whether an entry of a list is one of the names that it may be: a host lists contacts, a contact lists commands
+abbrev pub is_known : List (List ℕ) → List (List ℕ) → BlockKind → List ℕ → Bool
+is_known contacts commands Command entry = true
+is_known contacts commands Contact entry = list_any (bytes_eq (command_name entry)) commands
+is_known contacts commands Host entry = list_any (bytes_eq entry) contacts
+
+-- whether a list of the block has an entry that isn't
+abbrev pub has_unknown : List (List ℕ) → List (List ℕ) → Block → Bool
+has_unknown contacts commands block = list_any (λ entry. not (is_known contacts commands block.kind entry)) (entries_read block.kind block.directives)
+
+-- The fault of a block's names behind the earlier blocks, where `blocks` are all: an unknown name comes before a doubled one.
+abbrev pub name_fault : List Block → List Block → Block → Option BlockFault
+name_fault blocks earlier block = if has_unknown (names_in Contact blocks) (names_in Command blocks) block then Some UnknownName
+    else if is_doubled earlier block then Some Doubled
+    else None
