@@ -24,17 +24,17 @@ names_in kind blocks = map name_of (filter (is_of kind) blocks)
 abbrev pub is_doubled : List Block → Block → Bool
 is_doubled earlier block = list_any (bytes_eq (name_of block)) (names_in block.kind earlier)
 
--- whether an entry of a list is one of the names that it may be: a host lists contacts, a contact lists commands
+-- whether an entry of a list names one of those that there are: a host's a contact, a contact's a command
 abbrev pub is_known : List (List ℕ) → List (List ℕ) → BlockKind → List ℕ → Bool
 is_known contacts commands Command entry = true
 is_known contacts commands Contact entry = list_any (bytes_eq (command_name entry)) commands
 is_known contacts commands Host entry = list_any (bytes_eq entry) contacts
 
--- whether a list of the block has an entry that isn't
+-- whether a list of the block has an entry that names none of them
 abbrev pub has_unknown : List (List ℕ) → List (List ℕ) → Block → Bool
 has_unknown contacts commands block = list_any (λ entry. not (is_known contacts commands block.kind entry)) (entries_read block.kind block.directives)
 
--- The fault of a block's names behind the earlier blocks, where `blocks` are all: an unknown name comes before a doubled one.
+-- The fault of names of a block behind the earlier ones, where `blocks` are all: an unknown entry comes before a doubled name.
 abbrev pub name_fault : List Block → List Block → Block → Option BlockFault
 name_fault blocks earlier block = if has_unknown (names_in Contact blocks) (names_in Command blocks) block then Some UnknownName
     else if is_doubled earlier block then Some Doubled

@@ -48,7 +48,7 @@ impl Known {
         Ok(Known { contacts, commands })
     }
 
-    /// Whether an entry of a list of a block of that type is a name that is there.
+    /// Whether an entry of a list of a block of that type names a block.
     fn is_known(&self, kind: BlockKind, entry: &[u8]) -> bool
         ensures { result ≡ is_known self.now.contacts self.now.commands kind entry.now }
     {
@@ -59,7 +59,7 @@ impl Known {
         }
     }
 
-    /// Whether a list of a block of that type has an entry that isn't.
+    /// Whether one of the entries of a block of that type names no block.
     fn has_unknown_entry(&self, kind: BlockKind, entries: &[&[u8]]) -> bool
         ensures { result ≡ list_any (λ entry. not (is_known self.now.contacts self.now.commands kind entry)) (texts entries.now) }
     {
@@ -71,7 +71,7 @@ impl Known {
         false
     }
 
-    /// Whether a list of a block has an entry that isn't a name that is there.
+    /// Whether a list of a block has an entry that names no block.
     fn has_unknown(&self, alloc: Global, block: &Block) -> Result<bool, AllocError>
         ensures { IfOk result (λ unknown. unknown ≡ has_unknown self.now.contacts self.now.commands block.now) }
     {
@@ -116,7 +116,8 @@ impl Tables {
         }
     }
 
-    /// Adds the names of the blocks up to the first block with an entry that isn't known or with a doubled name.
+    /// Adds the names of the blocks, or finds the first block with an entry that names no block or with a
+    /// doubled name.
     fn add_all(
         &mut self,
         alloc: Global,
@@ -157,8 +158,7 @@ impl Tables {
     }
 }
 
-/// The names of the blocks, or the first block that names a contact or a command that isn't there, or whose
-/// name is doubled.
+/// The names of the blocks, or the first block with an entry that names no block or with a doubled name.
 pub(crate) fn check_names(alloc: Global, blocks: &[Block]) -> Result<Tables, ResolveFault>
     ensures contacts { IfOk result (λ tables. tables.contacts ≡ contact_names blocks.now) }
     ensures names { OnOk result (AreNamed blocks.now) }

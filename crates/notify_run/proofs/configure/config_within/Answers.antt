@@ -1,7 +1,7 @@
-use Rattle.std.proofs.Common.{◌≡◌, ◌≤◌, ◌&&◌, ap, filter, length, subst}
+use Rattle.std.proofs.Common.{◌≡◌, ◌≤◌, ◌&&◌, ap, length, subst}
 use Rattle.std.proofs.lemmas.Result.{err_from_is_err_and}
 use Rattle.object_reader.specs.declared.block.Block.{Block}
-use Rattle.notify_run.specs.Resolved.{IsConfigOf, is_command_kind, is_lane, lanes_in}
+use Rattle.notify_run.specs.Resolved.{IsConfigOf, is_command_kind, is_lane}
 use Rattle.notify_run.specs.ResolvedLimits.{is_used}
 use Rattle.notify_run.specs.ResolvedValues.{name_of}
 use Rattle.notify_run.proofs.ResolvedAccepted.{resolved-accepted, resolved-covered}

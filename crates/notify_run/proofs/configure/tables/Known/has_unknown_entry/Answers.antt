@@ -1,4 +1,4 @@
-use Rattle.std.proofs.Common.{◌∙◌, ap, not, sym}
+use Rattle.std.proofs.Common.{◌∙◌, not, sym}
 use Rattle.std.proofs.lemmas.Bool.{not_from_false}
 use Rattle.notify_run.specs.ResolvedNames.{is_known}
 use Rattle.notify_run.proofs.ResolvedLists.{any-at}

@@ -1,13 +1,12 @@
-use Rattle.std.proofs.Common.{◌≡◌, ◌≤◌, ◌∙◌, None, Some, ap, arith, false, length, not, sym, take, true}
+use Rattle.std.proofs.Common.{◌≡◌, ◌∙◌, None, ap, false, sym, take, true}
 use Rattle.std.specs.List.{list_any}
 use Rattle.std.specs.Str.{bytes_eq}
 use Rattle.std.proofs.lemmas.Bool.{not-false, not-true}
 use Rattle.object_reader.specs.declared.block.BlockKind.TheVariants.{Command, Contact, Host}
-use Rattle.notify_run.specs.ResolvedFaults.{AreNamed}
 use Rattle.notify_run.specs.ResolvedNames.{has_unknown, is_doubled, name_fault, names_in}
 use Rattle.notify_run.specs.ResolvedValues.{name_of}
 use Rattle.notify_run.specs.declared.configure.fault.BlockFault.TheVariants.{Doubled, UnknownName}
-use Rattle.notify_run.proofs.ResolvedFaults.{fault-none, fault-some, first-item, none-first, none-item, none-whole}
+use Rattle.notify_run.proofs.ResolvedFaults.{fault-none, fault-some, first-item, none-item}
 use Rattle.notify_run.proofs.ResolvedNames.{names-more, table-is, unknown-same}
 use Rattle.notify_run.proofs.configure.tables.Tables.add_all.Goals as goal
 
