@@ -1,7 +1,7 @@
 -- Which block is the first with a fault.
 use Rattle.std.proofs.Common.{◌≡◌, ℕ, ◌+◌, ◌<◌, ◌≤◌, nat_lt, Bool, true, false, cond, List, length, take, get_or, Option, Some, None, Result, Ok, Err, OnOk, IfErr, refl, sym, ap, subst, ◌∙◌, arith}
 use Rattle.std.proofs.lemmas.Bool.{ltb-true, ltb-false}
-use Rattle.std.proofs.lemmas.Option.{get_or_from_slice_get, slice_get_read}
+use Rattle.std.proofs.lemmas.Option.{get_or_from_slice_get, none-some, same_Some, slice_get_read}
 use Rattle.object_reader.specs.declared.block.Block.{Block}
 use Rattle.notify_run.specs.declared.configure.fault.BlockFault.{BlockFault}
 use Rattle.notify_run.specs.declared.configure.fault.BlockFault.TheVariants.{MissingDirective, UnknownName, Doubled, BadNumber, TooMany, NotYet}
@@ -10,6 +10,7 @@ use Rattle.notify_run.specs.declared.configure.fault.ResolveFault.TheVariants.{A
 use Rattle.notify_run.specs.Resolved.{is_lane}
 use Rattle.notify_run.specs.ResolvedFaults.{AreNamed, AreRead, HaveNone, HaveValues, IsFirstOf, IsLateRefusal, IsMisnamed, IsOver, IsRefusal}
 use Rattle.notify_run.specs.ResolvedLimits.{limit_fault}
+use Rattle.notify_run.specs.ResolvedNames.{fault_by}
 use Rattle.notify_run.proofs.ResolvedLimits.{limit-same}
 
 -- what holds whatever comes holds where it went well
@@ -82,13 +83,19 @@ over-same p q same blocks (AtLine number BadNumber) over = over
 over-same p q same blocks (AtLine number TooMany) over = first-same (limit_fault p) (limit_fault q) blocks number TooMany (limit-same p q same) over
 over-same p q same blocks NoMemory over = over
 
+-- what a fault of names can't be
+no-other : (unknown doubled : Bool) (fault : BlockFault) → (fault ≡ UnknownName → ⊥) → (fault ≡ Doubled → ⊥) → fault_by unknown doubled ≡ Some fault → ⊥
+no-other true doubled fault unknown-not doubled-not is = unknown-not (sym (same_Some UnknownName fault is))
+no-other false true fault unknown-not doubled-not is = doubled-not (sym (same_Some Doubled fault is))
+no-other false false fault unknown-not doubled-not is = none-some fault is
+
 pub named-refusal : (blocks : List Block) (fault : ResolveFault) → IsMisnamed blocks fault → IsLateRefusal blocks fault
-named-refusal blocks (AtLine number NotYet) named = named
-named-refusal blocks (AtLine number MissingDirective) named = named
+named-refusal blocks (AtLine number NotYet) named = no-other _ _ NotYet (λ e. grind arith) (λ e. grind arith) named.refused
+named-refusal blocks (AtLine number MissingDirective) named = no-other _ _ MissingDirective (λ e. grind arith) (λ e. grind arith) named.refused
 named-refusal blocks (AtLine number UnknownName) named = named
 named-refusal blocks (AtLine number Doubled) named = named
-named-refusal blocks (AtLine number BadNumber) named = named
-named-refusal blocks (AtLine number TooMany) named = absurd named
+named-refusal blocks (AtLine number BadNumber) named = no-other _ _ BadNumber (λ e. grind arith) (λ e. grind arith) named.refused
+named-refusal blocks (AtLine number TooMany) named = absurd (no-other _ _ TooMany (λ e. grind arith) (λ e. grind arith) named.refused)
 named-refusal blocks NoMemory named = named
 
 over-refusal : (blocks : List Block) (fault : ResolveFault) → IsOver (is_lane blocks) blocks fault → AreNamed blocks → IsLateRefusal blocks fault

@@ -6,8 +6,8 @@ use Rattle.std.proofs.lemmas.List.{map-append}
 use Rattle.object_reader.specs.declared.block.Block.{Block}
 use Rattle.object_reader.specs.declared.block.BlockKind.{BlockKind}
 use Rattle.object_reader.specs.declared.block.BlockKind.TheVariants.{Command, Contact, Host}
-use Rattle.notify_run.specs.ResolvedNames.{has_unknown, is_known, is_of, names_in}
-use Rattle.notify_run.specs.ResolvedTables.{table_of, with_name}
+use Rattle.notify_run.specs.ResolvedNames.{fault_by, has_unknown, is_doubled, is_known, is_of, name_fault, names_in}
+use Rattle.notify_run.specs.ResolvedTables.{AreSameNames, table_of, with_name}
 use Rattle.notify_run.specs.ResolvedValues.{command_name, entries_read, name_of}
 use Rattle.notify_run.proofs.ResolvedLists.{any-item, filter-item, filter-skip, list_any-of_map, list_any-same}
 
@@ -50,3 +50,12 @@ pub unknown-same : (contacts contacts' commands commands' : List (List ℕ)) (bl
     → ((name : List ℕ) → list_any (bytes_eq name) commands ≡ list_any (bytes_eq name) commands') → has_unknown contacts commands block ≡ has_unknown contacts' commands' block
 unknown-same contacts contacts' commands commands' block same-contacts same-commands =
     list_any-same _ _ (known-same contacts contacts' commands commands' same-contacts same-commands block.kind) (entries_read block.kind block.directives)
+
+-- the fault of names of a block, by the names that are there and the tables of the earlier blocks
+pub name_fault-is : (blocks earlier : List Block) (block : Block) (known-contacts known-commands commands contacts hosts : List (List ℕ))
+    → AreSameNames known-contacts (names_in Contact blocks) → AreSameNames known-commands (names_in Command blocks)
+    → commands ≡ names_in Command earlier → contacts ≡ names_in Contact earlier → hosts ≡ names_in Host earlier
+    → name_fault blocks earlier block ≡ fault_by (has_unknown known-contacts known-commands block) (list_any (bytes_eq (name_of block)) (table_of block.kind commands contacts hosts))
+name_fault-is blocks earlier block known-contacts known-commands commands contacts hosts same-contacts same-commands commands-are contacts-are hosts-are =
+    ap (λ unknown. fault_by unknown (is_doubled earlier block)) (sym (unknown-same known-contacts (names_in Contact blocks) known-commands (names_in Command blocks) block same-contacts same-commands))
+    ∙ ap (λ names. fault_by (has_unknown known-contacts known-commands block) (list_any (bytes_eq (name_of block)) names)) (sym (table-is block.kind earlier commands contacts hosts commands-are contacts-are hosts-are))

@@ -105,14 +105,9 @@ abbrev pub IsMisvalued : List Block → ResolveFault → Type 0
 IsMisvalued blocks (AtLine number fault) = IsFirstOf (λ earlier block. value_fault block) blocks number fault
 IsMisvalued blocks NoMemory = ⊥
 
--- the first block with an unknown or a doubled name
+-- the first block with a fault of names
 abbrev pub IsMisnamed : List Block → ResolveFault → Type 0
-IsMisnamed blocks (AtLine number NotYet) = ⊥
-IsMisnamed blocks (AtLine number MissingDirective) = ⊥
-IsMisnamed blocks (AtLine number UnknownName) = IsFirstOf (name_fault blocks) blocks number UnknownName
-IsMisnamed blocks (AtLine number Doubled) = IsFirstOf (name_fault blocks) blocks number Doubled
-IsMisnamed blocks (AtLine number BadNumber) = ⊥
-IsMisnamed blocks (AtLine number TooMany) = ⊥
+IsMisnamed blocks (AtLine number fault) = IsFirstOf (name_fault blocks) blocks number fault
 IsMisnamed blocks NoMemory = Unit {0}
 
 -- the first block with which there are too many, where `lane` says which blocks are lanes

@@ -34,8 +34,10 @@ is_known contacts commands Host entry = list_any (bytes_eq entry) contacts
 abbrev pub has_unknown : List (List ℕ) → List (List ℕ) → Block → Bool
 has_unknown contacts commands block = list_any (λ entry. not (is_known contacts commands block.kind entry)) (entries_read block.kind block.directives)
 
--- The fault of names of a block behind the earlier ones, where `blocks` are all: an unknown entry comes before a doubled name.
+-- the fault of names: an unknown entry comes before a doubled name
+abbrev pub fault_by : Bool → Bool → Option BlockFault
+fault_by unknown doubled = if unknown then Some UnknownName else if doubled then Some Doubled else None
+
+-- that of a block behind the earlier ones, where `blocks` are all
 abbrev pub name_fault : List Block → List Block → Block → Option BlockFault
-name_fault blocks earlier block = if has_unknown (names_in Contact blocks) (names_in Command blocks) block then Some UnknownName
-    else if is_doubled earlier block then Some Doubled
-    else None
+name_fault blocks earlier block = fault_by (has_unknown (names_in Contact blocks) (names_in Command blocks) block) (is_doubled earlier block)

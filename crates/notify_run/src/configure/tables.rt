@@ -1,11 +1,11 @@
 //! The names of all blocks, and the faults that a block has beside the others.
 
-ghost use Rattle.std.specs.Prelude.{◌≡◌, [], true, not, IfErr, IfOk, OnOk};
+ghost use Rattle.std.specs.Prelude.{◌≡◌, [], None, true, not, IfErr, IfOk, OnOk};
 ghost use Rattle.std.specs.List.{list_any};
 ghost use Rattle.std.specs.Str.{bytes_eq};
 ghost use Rattle.notify_run.specs.Resolved.{contact_names};
 ghost use Rattle.notify_run.specs.ResolvedFaults.{AreNamed, IsMisnamed};
-ghost use Rattle.notify_run.specs.ResolvedNames.{has_unknown, is_known, is_of, names_in};
+ghost use Rattle.notify_run.specs.ResolvedNames.{fault_by, has_unknown, is_known, is_of, names_in};
 ghost use Rattle.notify_run.specs.ResolvedTables.{AreSameNames, table_of, with_name};
 ghost use Rattle.notify_run.specs.ResolvedValues.{name_of, texts};
 
@@ -116,6 +116,27 @@ impl Tables {
         }
     }
 
+    /// The fault of names of a block behind those whose names are there. The name of a block without one is added.
+    fn add_known(
+        &mut self,
+        alloc: Global,
+        block: &Block,
+        known: &Known,
+    ) -> Result<Option<BlockFault>, AllocError>
+        ensures fault { IfOk result (λ fault. fault ≡ fault_by (has_unknown known.now.contacts known.now.commands block.now) (list_any (bytes_eq (name_of block.now)) (table_of block.now.kind self.old.commands self.old.contacts self.old.hosts))) }
+        ensures commands { IfOk result (λ fault. fault ≡ None → self.new.commands ≡ with_name (is_of BlockKind.Command block.now) (name_of block.now) self.old.commands) }
+        ensures contacts { IfOk result (λ fault. fault ≡ None → self.new.contacts ≡ with_name (is_of BlockKind.Contact block.now) (name_of block.now) self.old.contacts) }
+        ensures hosts { IfOk result (λ fault. fault ≡ None → self.new.hosts ≡ with_name (is_of BlockKind.Host block.now) (name_of block.now) self.old.hosts) }
+    {
+        if known.has_unknown(alloc, block)? {
+            return Ok(Some(BlockFault::UnknownName));
+        }
+        if !self.add(alloc, block)? {
+            return Ok(Some(BlockFault::Doubled));
+        }
+        Ok(None)
+    }
+
     /// Adds the names of the blocks, or finds the first block with an entry that names no block or with a
     /// doubled name.
     fn add_all(
@@ -134,17 +155,14 @@ impl Tables {
         ensures fault { IfErr result (λ fault. IsMisnamed blocks.now fault) }
     {
         for block in blocks {
-            if known.has_unknown(alloc, block)? {
-                return Err(ResolveFault::AtLine {
-                    line: block.line,
-                    fault: BlockFault::UnknownName,
-                });
-            }
-            if !self.add(alloc, block)? {
-                return Err(ResolveFault::AtLine {
-                    line: block.line,
-                    fault: BlockFault::Doubled,
-                });
+            match self.add_known(alloc, block, known)? {
+                None => {}
+                Some(fault) => {
+                    return Err(ResolveFault::AtLine {
+                        line: block.line,
+                        fault,
+                    });
+                }
             }
         }
         Ok(())
