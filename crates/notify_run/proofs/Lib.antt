@@ -7,5 +7,7 @@ pub mod Telling
 pub mod Writing
 pub mod ResolvedAccepted
 pub mod ResolvedFaults
+pub mod ResolvedLimits
 pub mod ResolvedLists
+pub mod ResolvedNames
 pub mod ResolvedNumbers

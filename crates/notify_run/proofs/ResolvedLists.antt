@@ -42,7 +42,7 @@ names-of_insert : {X Y : Type 0} (h : X → Y) (xs : List X) (x : X) (b : Bool)
     → map h (cond b xs (xs ++ x ∷ [])) ≡ cond b (map h xs) (map h xs ++ h x ∷ [])
 names-of_insert h xs x b = elim b as (λ c. map h (cond c xs (xs ++ x ∷ [])) ≡ cond c (map h xs) (map h xs ++ h x ∷ [])) [ true ↦ refl | false ↦ map-append h xs (x ∷ []) ]
 
-list_any-same : {X : Type 0} (p q : X → Bool) → ((x : X) → p x ≡ q x) → (xs : List X) → list_any p xs ≡ list_any q xs
+pub list_any-same : {X : Type 0} (p q : X → Bool) → ((x : X) → p x ≡ q x) → (xs : List X) → list_any p xs ≡ list_any q xs
 list_any-same p q same [] = refl
 list_any-same p q same (x ∷ xs) = ap (λ here. here || list_any p xs) (same x) ∙ ap (λ others. q x || others) (list_any-same p q same xs)
 

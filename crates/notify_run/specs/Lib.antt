@@ -8,4 +8,6 @@ pub mod Resolved
 pub mod ResolvedFault
 pub mod ResolvedFaults
 pub mod ResolvedLimits
+pub mod ResolvedNames
+pub mod ResolvedTables
 pub mod ResolvedValues

@@ -1,5 +1,5 @@
 -- Which blocks are refused.
-use Rattle.std.specs.Prelude.{◌≡◌, ℕ, Bool, true, false, ◌||◌, ◌==◌, List, [], ◌∷◌, codes, Option, Some, None, All, is_none, slice_get, take, if◌then◌else◌}
+use Rattle.std.specs.Prelude.{◌≡◌, ℕ, ◌<◌, Bool, false, ◌||◌, ◌==◌, List, [], ◌∷◌, length, codes, Option, Some, None, is_none, slice_get, take, if◌then◌else◌}
 use Rattle.std.specs.List.{list_any}
 use Rattle.std.specs.Str.{bytes_eq}
 use Rattle.object_reader.specs.declared.block.Block.{Block}
@@ -10,6 +10,9 @@ use Rattle.notify_run.specs.declared.configure.fault.BlockFault.{BlockFault}
 use Rattle.notify_run.specs.declared.configure.fault.BlockFault.TheVariants.{MissingDirective, UnknownName, Doubled, BadNumber, TooMany, NotYet}
 use Rattle.notify_run.specs.declared.configure.fault.ResolveFault.{ResolveFault}
 use Rattle.notify_run.specs.declared.configure.fault.ResolveFault.TheVariants.{AtLine, NoMemory}
+use Rattle.notify_run.specs.Resolved.{is_lane}
+use Rattle.notify_run.specs.ResolvedLimits.{IsWithinLimits, limit_fault}
+use Rattle.notify_run.specs.ResolvedNames.{name_fault}
 use Rattle.notify_run.specs.ResolvedValues.{entries_read, naming, number_in, value_in}
 
 -- ---- what isn't read yet
@@ -54,26 +57,42 @@ value_fault block = if is_none (value_in block.directives (naming block.kind)) t
 
 -- ---- the order of the refusals
 
--- the line is that of the first block that is refused; the blocks before it pass
-pub record IsFirstOf (Refused Passed : Block → Type 0) (blocks : List Block) (number : ℕ) : Type 0 where
+-- No block before the place has a fault, where `fault_of earlier block` is that of a block behind the earlier ones.
+abbrev pub HaveNone : (List Block → Block → Option BlockFault) → List Block → ℕ → Type 0
+HaveNone fault_of blocks place = (k : ℕ) (block : Block) → k < place → slice_get blocks k ≡ Some block → fault_of (take k blocks) block ≡ None
+
+-- the line is that of the first block with a fault, and the fault is that block's
+pub record IsFirstOf (fault_of : List Block → Block → Option BlockFault) (blocks : List Block) (number : ℕ) (fault : BlockFault) : Type 0 where
   pub place : ℕ
   pub block : Block
   pub here : slice_get blocks place ≡ Some block
   pub line : block.line ≡ number
-  pub refused : Refused block
-  pub before : All Passed (take place blocks)
+  pub refused : fault_of (take place blocks) block ≡ Some fault
+  pub before : HaveNone fault_of blocks place
+
+-- the fault of something that isn't read yet
+abbrev pub unread_fault : Block → Option BlockFault
+unread_fault block = if has_later_parts block then Some NotYet else None
 
 -- everything in the blocks is read
 abbrev pub AreRead : List Block → Type 0
-AreRead blocks = All (λ block. has_later_parts block ≡ false) blocks
+AreRead blocks = HaveNone (λ earlier block. unread_fault block) blocks (length blocks)
 
 -- no block has a fault of its own values
 abbrev pub HaveValues : List Block → Type 0
-HaveValues blocks = All (λ block. value_fault block ≡ None) blocks
+HaveValues blocks = HaveNone (λ earlier block. value_fault block) blocks (length blocks)
+
+-- no name is doubled, and each entry of a list is the name of a block
+abbrev pub AreNamed : List Block → Type 0
+AreNamed blocks = HaveNone (name_fault blocks) blocks (length blocks)
+
+-- the blocks have 65,535 hosts, 4,096 contacts and 16 lanes at most
+abbrev pub AreWithin : List Block → Type 0
+AreWithin blocks = IsWithinLimits (is_lane blocks) blocks
 
 -- the first block with something that isn't read yet
 abbrev pub IsUnread : List Block → ResolveFault → Type 0
-IsUnread blocks (AtLine number NotYet) = IsFirstOf (λ block. has_later_parts block ≡ true) (λ block. has_later_parts block ≡ false) blocks number
+IsUnread blocks (AtLine number NotYet) = IsFirstOf (λ earlier block. unread_fault block) blocks number NotYet
 IsUnread blocks (AtLine number MissingDirective) = ⊥
 IsUnread blocks (AtLine number UnknownName) = ⊥
 IsUnread blocks (AtLine number Doubled) = ⊥
@@ -83,26 +102,41 @@ IsUnread blocks NoMemory = Unit {0}
 
 -- the first block with a fault of its own values, and the first of those
 abbrev pub IsMisvalued : List Block → ResolveFault → Type 0
-IsMisvalued blocks (AtLine number fault) = IsFirstOf (λ block. value_fault block ≡ Some fault) (λ block. value_fault block ≡ None) blocks number
+IsMisvalued blocks (AtLine number fault) = IsFirstOf (λ earlier block. value_fault block) blocks number fault
 IsMisvalued blocks NoMemory = ⊥
 
--- a fault of names or of limits
-abbrev pub IsLateFault : ResolveFault → Type 0
-IsLateFault (AtLine number NotYet) = ⊥
-IsLateFault (AtLine number MissingDirective) = ⊥
-IsLateFault (AtLine number UnknownName) = Unit {0}
-IsLateFault (AtLine number Doubled) = Unit {0}
-IsLateFault (AtLine number BadNumber) = ⊥
-IsLateFault (AtLine number TooMany) = Unit {0}
-IsLateFault NoMemory = Unit {0}
+-- the first block with a fault of names
+abbrev pub IsMisnamed : List Block → ResolveFault → Type 0
+IsMisnamed blocks (AtLine number fault) = IsFirstOf (name_fault blocks) blocks number fault
+IsMisnamed blocks NoMemory = Unit {0}
+
+-- the first block with which there are too many, where `lane` says which blocks are lanes
+abbrev pub IsOver : (Block → Bool) → List Block → ResolveFault → Type 0
+IsOver lane blocks (AtLine number NotYet) = ⊥
+IsOver lane blocks (AtLine number MissingDirective) = ⊥
+IsOver lane blocks (AtLine number UnknownName) = ⊥
+IsOver lane blocks (AtLine number Doubled) = ⊥
+IsOver lane blocks (AtLine number BadNumber) = ⊥
+IsOver lane blocks (AtLine number TooMany) = IsFirstOf (limit_fault lane) blocks number TooMany
+IsOver lane blocks NoMemory = Unit {0}
+
+-- first of names, then of limits
+abbrev pub IsLateRefusal : List Block → ResolveFault → Type 0
+IsLateRefusal blocks (AtLine number NotYet) = ⊥
+IsLateRefusal blocks (AtLine number MissingDirective) = ⊥
+IsLateRefusal blocks (AtLine number UnknownName) = IsFirstOf (name_fault blocks) blocks number UnknownName
+IsLateRefusal blocks (AtLine number Doubled) = IsFirstOf (name_fault blocks) blocks number Doubled
+IsLateRefusal blocks (AtLine number BadNumber) = ⊥
+IsLateRefusal blocks (AtLine number TooMany) = AreNamed blocks × IsFirstOf (limit_fault (is_lane blocks)) blocks number TooMany
+IsLateRefusal blocks NoMemory = Unit {0}
 
 -- What a refusal says: first of what isn't read yet, then of the values of each block, then of names, then
 -- of limits; each over all blocks in file order.
 abbrev pub IsRefusal : List Block → ResolveFault → Type 0
-IsRefusal blocks (AtLine number NotYet) = IsUnread blocks (AtLine number NotYet)
-IsRefusal blocks (AtLine number MissingDirective) = AreRead blocks × IsMisvalued blocks (AtLine number MissingDirective)
-IsRefusal blocks (AtLine number UnknownName) = AreRead blocks × HaveValues blocks
-IsRefusal blocks (AtLine number Doubled) = AreRead blocks × HaveValues blocks
-IsRefusal blocks (AtLine number BadNumber) = AreRead blocks × IsMisvalued blocks (AtLine number BadNumber)
-IsRefusal blocks (AtLine number TooMany) = AreRead blocks × HaveValues blocks
+IsRefusal blocks (AtLine number NotYet) = IsFirstOf (λ earlier block. unread_fault block) blocks number NotYet
+IsRefusal blocks (AtLine number MissingDirective) = AreRead blocks × IsFirstOf (λ earlier block. value_fault block) blocks number MissingDirective
+IsRefusal blocks (AtLine number UnknownName) = AreRead blocks × HaveValues blocks × IsFirstOf (name_fault blocks) blocks number UnknownName
+IsRefusal blocks (AtLine number Doubled) = AreRead blocks × HaveValues blocks × IsFirstOf (name_fault blocks) blocks number Doubled
+IsRefusal blocks (AtLine number BadNumber) = AreRead blocks × IsFirstOf (λ earlier block. value_fault block) blocks number BadNumber
+IsRefusal blocks (AtLine number TooMany) = AreRead blocks × HaveValues blocks × AreNamed blocks × IsFirstOf (limit_fault (is_lane blocks)) blocks number TooMany
 IsRefusal blocks NoMemory = Unit {0}

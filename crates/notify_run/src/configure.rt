@@ -5,8 +5,8 @@ ghost use Rattle.std.specs.List.{list_any};
 ghost use Rattle.std.specs.Str.{bytes_eq};
 ghost use Rattle.due_model.specs.Accepted.{IsAccepted};
 ghost use Rattle.due_model.specs.Covered.{IsCovered};
-ghost use Rattle.notify_run.specs.Resolved.{IsConfigOf, IsResolved, contact_names, contacts_in, uses};
-ghost use Rattle.notify_run.specs.ResolvedFaults.{AreRead, HaveValues, IsLateFault, IsMisvalued, IsRefusal, IsUnread};
+ghost use Rattle.notify_run.specs.Resolved.{IsConfigOf, IsResolved, contact_names, contacts_in, is_lane, uses};
+ghost use Rattle.notify_run.specs.ResolvedFaults.{AreNamed, AreRead, AreWithin, HaveValues, IsLateRefusal, IsMisvalued, IsOver, IsRefusal, IsUnread};
 ghost use Rattle.notify_run.specs.ResolvedLimits.{IsWithinLimits, is_used};
 
 mod blocks;
@@ -29,7 +29,7 @@ use limits::{check_limits, used_commands};
 use names::Names;
 use object_reader::block::Block;
 use std::alloc::{AllocError, Global};
-use tables::Tables;
+use tables::check_names;
 
 /// The configuration that the blocks give, or the first fault: first of directives and entries that aren't
 /// read yet, then of the values of each block, then of names, then of limits; each over all blocks in file
@@ -40,6 +40,8 @@ pub(crate) fn configure(alloc: Global, blocks: &[Block]) -> Result<Config, Resol
     ensures resolved { IfOk result (λ config. IsResolved blocks.now config) }
     ensures read { OnOk result (AreRead blocks.now) }
     ensures values { OnOk result (HaveValues blocks.now) }
+    ensures names { OnOk result (AreNamed blocks.now) }
+    ensures limits { OnOk result (AreWithin blocks.now) }
     ensures refusal { IfErr result (λ fault. IsRefusal blocks.now fault) }
 {
     check_read(alloc, blocks)?;
@@ -53,10 +55,11 @@ fn config_of_read(alloc: Global, blocks: &[Block]) -> Result<Config, ResolveFaul
     ensures accepted { IfOk result (λ config. IsAccepted config) }
     ensures covered { IfOk result (λ config. IsCovered config) }
     ensures resolved { IfOk result (λ config. IsResolved blocks.now config) }
-    ensures fault { IfErr result (λ fault. IsLateFault fault) }
+    ensures names { OnOk result (AreNamed blocks.now) }
+    ensures limits { OnOk result (AreWithin blocks.now) }
+    ensures fault { IfErr result (λ fault. IsLateRefusal blocks.now fault) }
 {
-    let tables = Tables::of_blocks(alloc, blocks)?;
-    tables.check(alloc, blocks)?;
+    let tables = check_names(alloc, blocks)?;
     let used = used_commands(alloc, blocks)?;
     config_within(alloc, blocks, tables.contacts(), &used)
 }
@@ -73,7 +76,8 @@ fn config_within(
     ensures accepted { IfOk result (λ config. IsAccepted config) }
     ensures covered { IfOk result (λ config. IsCovered config) }
     ensures resolved { IfOk result (λ config. IsResolved blocks.now config) }
-    ensures fault { IfErr result (λ fault. IsLateFault fault) }
+    ensures limits { OnOk result (AreWithin blocks.now) }
+    ensures fault { IfErr result (λ fault. IsOver (is_lane blocks.now) blocks.now fault) }
 {
     check_limits(blocks, used)?;
     Ok(config_of(alloc, blocks, contacts, used)?)
@@ -123,7 +127,7 @@ fn config_of(
     used: &Names,
 ) -> Result<Config, AllocError>
     requires names { contacts.now ≡ contact_names blocks.now }
-    requires limits { IsWithinLimits used.now blocks.now }
+    requires limits { IsWithinLimits (is_used used.now) blocks.now }
     ensures { IfOk result (λ config. IsConfigOf blocks.now (filter (is_used used.now) blocks.now) config) }
 {
     let lanes = lanes_of(alloc, blocks, used)?;

@@ -4,7 +4,8 @@ ghost use Rattle.std.specs.Prelude.{◌≡◌, ◌++◌, codes, IfOk};
 ghost use Rattle.std.specs.List.{list_any};
 ghost use Rattle.std.specs.Str.{bytes_eq};
 ghost use Rattle.notify_run.specs.ResolvedValues.{entries_read, name_of, naming, texts, value_in};
-ghost use Rattle.notify_run.specs.Resolved.{interval_of, is_contact, is_host};
+ghost use Rattle.notify_run.specs.Resolved.{interval_of, is_command_kind, is_contact, is_host};
+ghost use Rattle.notify_run.specs.ResolvedNames.{is_of};
 ghost use Rattle.notify_run.specs.ResolvedFaults.{has_bad_interval, has_later_parts, is_bad_number, is_later_entry, later_names, value_fault};
 
 use crate::configure::fault::BlockFault;
@@ -29,6 +30,27 @@ pub(crate) fn is_contact(block: &Block) -> bool
     match block.kind {
         BlockKind::Command | BlockKind::Host => false,
         BlockKind::Contact => true,
+    }
+}
+
+/// Whether a block is a command's.
+fn is_command(block: &Block) -> bool
+    ensures { result ≡ is_command_kind block.now.kind }
+{
+    match block.kind {
+        BlockKind::Command => true,
+        BlockKind::Contact | BlockKind::Host => false,
+    }
+}
+
+/// Whether a block is of that type.
+pub(crate) fn is_of(kind: BlockKind, block: &Block) -> bool
+    ensures { result ≡ is_of kind block.now }
+{
+    match kind {
+        BlockKind::Command => is_command(block),
+        BlockKind::Contact => is_contact(block),
+        BlockKind::Host => is_host(block),
     }
 }
 

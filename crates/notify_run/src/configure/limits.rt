@@ -4,8 +4,8 @@ ghost use Rattle.std.specs.Prelude.{◌≡◌, ℕ, List, ◌||◌, ◌+◌, ◌
 ghost use Rattle.std.specs.List.{list_any};
 ghost use Rattle.std.specs.Str.{bytes_eq};
 ghost use Rattle.notify_run.specs.Resolved.{contacts_in, hosts_in, is_contact, is_contact_kind, is_host, is_host_kind, is_used_command, uses};
-ghost use Rattle.notify_run.specs.ResolvedFaults.{IsLateFault};
-ghost use Rattle.notify_run.specs.ResolvedLimits.{IsWithinLimits, is_used};
+ghost use Rattle.notify_run.specs.ResolvedFaults.{IsOver};
+ghost use Rattle.notify_run.specs.ResolvedLimits.{IsWithinLimits, is_over, is_used};
 ghost use Rattle.notify_run.specs.ResolvedValues.{name_of};
 
 use crate::configure::blocks::{command_entries, is_contact, name_of};
@@ -65,14 +65,14 @@ struct Counts {
     lanes: usize,
 }
 
-/// The counts with one more block, or none where it passes a limit.
-fn counted(counts: Counts, block: &Block, used: &Names) -> Option<Counts>
+/// The counts with one more block.
+fn counted(counts: Counts, block: &Block, used: &Names) -> Counts
     requires hosts { counts.hosts ≤ 65535 }
     requires contacts { counts.contacts ≤ 4096 }
     requires lanes { counts.lanes ≤ 16 }
-    ensures hosts { IfSome result (λ more. (more.hosts ≡ counts.hosts + (if is_host block.now then 1 else 0)) × (more.hosts ≤ 65535)) }
-    ensures contacts { IfSome result (λ more. (more.contacts ≡ counts.contacts + (if is_contact block.now then 1 else 0)) × (more.contacts ≤ 4096)) }
-    ensures lanes { IfSome result (λ more. (more.lanes ≡ counts.lanes + (if is_used used.now block.now then 1 else 0)) × (more.lanes ≤ 16)) }
+    ensures hosts { result.hosts ≡ counts.hosts + (if is_host block.now then 1 else 0) }
+    ensures contacts { result.contacts ≡ counts.contacts + (if is_contact block.now then 1 else 0) }
+    ensures lanes { result.lanes ≡ counts.lanes + (if is_used used.now block.now then 1 else 0) }
 {
     let mut more = counts;
     match block.kind {
@@ -84,16 +84,20 @@ fn counted(counts: Counts, block: &Block, used: &Names) -> Option<Counts>
             }
         }
     }
-    let few = more.hosts <= MOST_HOSTS
-        && more.contacts <= MOST_CONTACTS
-        && more.lanes <= MOST_LANES;
-    if few { Some(more) } else { None }
+    more
+}
+
+/// Whether there are too many hosts, contacts or lanes.
+fn is_over(counts: Counts) -> bool
+    ensures { result ≡ is_over counts.hosts counts.contacts counts.lanes }
+{
+    counts.hosts > MOST_HOSTS || counts.contacts > MOST_CONTACTS || counts.lanes > MOST_LANES
 }
 
 /// Finds the first block with which there are too many hosts, contacts or lanes.
 pub(crate) fn check_limits(blocks: &[Block], used: &Names) -> Result<(), ResolveFault>
-    ensures limits { OnOk result (IsWithinLimits used.now blocks.now) }
-    ensures fault { IfErr result (λ fault. IsLateFault fault) }
+    ensures limits { OnOk result (IsWithinLimits (is_used used.now) blocks.now) }
+    ensures fault { IfErr result (λ fault. IsOver (is_used used.now) blocks.now fault) }
 {
     let mut counts = Counts {
         hosts: 0,
@@ -101,15 +105,14 @@ pub(crate) fn check_limits(blocks: &[Block], used: &Names) -> Result<(), Resolve
         lanes: 0,
     };
     for block in blocks {
-        match counted(counts, block, used) {
-            Some(more) => counts = more,
-            None => {
-                return Err(ResolveFault::AtLine {
-                    line: block.line,
-                    fault: BlockFault::TooMany,
-                });
-            }
+        let more = counted(counts, block, used);
+        if is_over(more) {
+            return Err(ResolveFault::AtLine {
+                line: block.line,
+                fault: BlockFault::TooMany,
+            });
         }
+        counts = more;
     }
     Ok(())
 }

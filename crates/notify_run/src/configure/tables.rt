@@ -1,16 +1,84 @@
 //! The names of all blocks, and the faults that a block has beside the others.
 
-ghost use Rattle.std.specs.Prelude.{◌≡◌, ◌++◌, ◌∷◌, ◌<◌, [], None, true, length, IfErr, IfOk, IfSome, OnOk, if◌then◌else◌};
-ghost use Rattle.notify_run.specs.Resolved.{contact_names, is_contact};
-ghost use Rattle.notify_run.specs.ResolvedFaults.{IsLateFault};
-ghost use Rattle.notify_run.specs.ResolvedValues.{name_of};
+ghost use Rattle.std.specs.Prelude.{◌≡◌, [], None, true, not, IfErr, IfOk, OnOk};
+ghost use Rattle.std.specs.List.{list_any};
+ghost use Rattle.std.specs.Str.{bytes_eq};
+ghost use Rattle.notify_run.specs.Resolved.{contact_names};
+ghost use Rattle.notify_run.specs.ResolvedFaults.{AreNamed, IsMisnamed};
+ghost use Rattle.notify_run.specs.ResolvedNames.{fault_by, has_unknown, is_known, is_of, names_in};
+ghost use Rattle.notify_run.specs.ResolvedTables.{AreSameNames, table_of, with_name};
+ghost use Rattle.notify_run.specs.ResolvedValues.{name_of, texts};
 
-use crate::configure::blocks::{entries_read, name_of};
+use crate::configure::blocks::{entries_read, is_of, name_of};
 use crate::configure::fault::{BlockFault, ResolveFault};
 use crate::configure::names::Names;
 use crate::configure::values::command_name;
 use object_reader::block::{Block, BlockKind};
 use std::alloc::{AllocError, Global};
+
+/// The names of the blocks of a type, each once.
+fn names_of(alloc: Global, kind: BlockKind, blocks: &[Block]) -> Result<Names, AllocError>
+    ensures { IfOk result (λ names. AreSameNames names (names_in kind blocks.now)) }
+{
+    let mut names = Names::new(alloc);
+    for block in blocks {
+        if !is_of(kind, block) {
+            continue;
+        }
+        names.add(alloc, name_of(block))?;
+    }
+    Ok(names)
+}
+
+/// The names that lists may name.
+#[derive(Drop)]
+struct Known {
+    contacts: Names,
+    commands: Names,
+}
+
+impl Known {
+    /// The names of the blocks.
+    fn of_blocks(alloc: Global, blocks: &[Block]) -> Result<Self, AllocError>
+        ensures contacts { IfOk result (λ known. AreSameNames known.contacts (names_in BlockKind.Contact blocks.now)) }
+        ensures commands { IfOk result (λ known. AreSameNames known.commands (names_in BlockKind.Command blocks.now)) }
+    {
+        let contacts = names_of(alloc, BlockKind::Contact, blocks)?;
+        let commands = names_of(alloc, BlockKind::Command, blocks)?;
+        Ok(Known { contacts, commands })
+    }
+
+    /// Whether an entry of a list of a block of that type names a block.
+    fn is_known(&self, kind: BlockKind, entry: &[u8]) -> bool
+        ensures { result ≡ is_known self.now.contacts self.now.commands kind entry.now }
+    {
+        match kind {
+            BlockKind::Command => true,
+            BlockKind::Contact => self.commands.has(command_name(entry)),
+            BlockKind::Host => self.contacts.has(entry),
+        }
+    }
+
+    /// Whether one of the entries of a block of that type names no block.
+    fn has_unknown_entry(&self, kind: BlockKind, entries: &[&[u8]]) -> bool
+        ensures { result ≡ list_any (λ entry. not (is_known self.now.contacts self.now.commands kind entry)) (texts entries.now) }
+    {
+        for entry in entries {
+            if !self.is_known(kind, *entry) {
+                return true;
+            }
+        }
+        false
+    }
+
+    /// Whether a list of a block has an entry that names no block.
+    fn has_unknown(&self, alloc: Global, block: &Block) -> Result<bool, AllocError>
+        ensures { IfOk result (λ unknown. unknown ≡ has_unknown self.now.contacts self.now.commands block.now) }
+    {
+        let entries = entries_read(alloc, block)?;
+        Ok(self.has_unknown_entry(block.kind, entries.as_slice()))
+    }
+}
 
 /// The names of the blocks of each type, in file order and each once.
 #[derive(Drop)]
@@ -18,53 +86,28 @@ pub(crate) struct Tables {
     hosts: Names,
     contacts: Names,
     commands: Names,
-    /// The place of the first block whose name an earlier block of its type has.
-    doubled: Option<usize>,
 }
 
 impl Tables {
     /// No names.
     fn new(alloc: Global) -> Self
+        ensures hosts { result.hosts ≡ [] }
         ensures contacts { result.contacts ≡ [] }
-        ensures doubled { result.doubled ≡ None }
+        ensures commands { result.commands ≡ [] }
     {
         Tables {
             hosts: Names::new(alloc),
             contacts: Names::new(alloc),
             commands: Names::new(alloc),
-            doubled: None,
         }
-    }
-
-    /// The names of the blocks.
-    pub(crate) fn of_blocks(alloc: Global, blocks: &[Block]) -> Result<Self, AllocError>
-        ensures { IfOk result (λ tables. tables.doubled ≡ None → tables.contacts ≡ contact_names blocks.now) }
-    {
-        let mut tables = Tables::new(alloc);
-        for place in 0..blocks.len() {
-            tables.add(alloc, &blocks[place], place)?;
-        }
-        Ok(tables)
-    }
-
-    /// Adds the name of the block at a place.
-    fn add(&mut self, alloc: Global, block: &Block, place: usize) -> Result<(), AllocError>
-        ensures before { OnOk result (self.new.doubled ≡ None → self.old.doubled ≡ None) }
-        ensures contacts { OnOk result (self.new.doubled ≡ None
-            → self.new.contacts ≡ self.old.contacts ++ (if is_contact block.now then name_of block.now ∷ [] else [])) }
-    {
-        let added = self.add_name(alloc, block)?;
-        if !added && self.doubled.is_none() {
-            self.doubled = Some(place);
-        }
-        Ok(())
     }
 
     /// Adds the name of a block where no block of its type has it, and says whether it added it.
-    fn add_name(&mut self, alloc: Global, block: &Block) -> Result<bool, AllocError>
-        ensures doubled { self.new.doubled ≡ self.old.doubled }
-        ensures contacts { IfOk result (λ added. added ≡ true
-            → self.new.contacts ≡ self.old.contacts ++ (if is_contact block.now then name_of block.now ∷ [] else [])) }
+    fn add(&mut self, alloc: Global, block: &Block) -> Result<bool, AllocError>
+        ensures added { IfOk result (λ added. added ≡ not (list_any (bytes_eq (name_of block.now)) (table_of block.now.kind self.old.commands self.old.contacts self.old.hosts))) }
+        ensures commands { IfOk result (λ added. added ≡ true → self.new.commands ≡ with_name (is_of BlockKind.Command block.now) (name_of block.now) self.old.commands) }
+        ensures contacts { IfOk result (λ added. added ≡ true → self.new.contacts ≡ with_name (is_of BlockKind.Contact block.now) (name_of block.now) self.old.contacts) }
+        ensures hosts { IfOk result (λ added. added ≡ true → self.new.hosts ≡ with_name (is_of BlockKind.Host block.now) (name_of block.now) self.old.hosts) }
     {
         match block.kind {
             BlockKind::Command => self.commands.add(alloc, name_of(block)),
@@ -73,64 +116,74 @@ impl Tables {
         }
     }
 
+    /// The fault of names of a block behind those whose names are there. The name of a block without one is added.
+    fn add_known(
+        &mut self,
+        alloc: Global,
+        block: &Block,
+        known: &Known,
+    ) -> Result<Option<BlockFault>, AllocError>
+        ensures fault { IfOk result (λ fault. fault ≡ fault_by (has_unknown known.now.contacts known.now.commands block.now) (list_any (bytes_eq (name_of block.now)) (table_of block.now.kind self.old.commands self.old.contacts self.old.hosts))) }
+        ensures commands { IfOk result (λ fault. fault ≡ None → self.new.commands ≡ with_name (is_of BlockKind.Command block.now) (name_of block.now) self.old.commands) }
+        ensures contacts { IfOk result (λ fault. fault ≡ None → self.new.contacts ≡ with_name (is_of BlockKind.Contact block.now) (name_of block.now) self.old.contacts) }
+        ensures hosts { IfOk result (λ fault. fault ≡ None → self.new.hosts ≡ with_name (is_of BlockKind.Host block.now) (name_of block.now) self.old.hosts) }
+    {
+        if known.has_unknown(alloc, block)? {
+            return Ok(Some(BlockFault::UnknownName));
+        }
+        if !self.add(alloc, block)? {
+            return Ok(Some(BlockFault::Doubled));
+        }
+        Ok(None)
+    }
+
+    /// Adds the names of the blocks, or finds the first block with an entry that names no block or with a
+    /// doubled name.
+    fn add_all(
+        &mut self,
+        alloc: Global,
+        blocks: &[Block],
+        known: &Known,
+    ) -> Result<(), ResolveFault>
+        requires commands { self.old.commands ≡ [] }
+        requires contacts { self.old.contacts ≡ [] }
+        requires hosts { self.old.hosts ≡ [] }
+        requires known_contacts { AreSameNames known.now.contacts (names_in BlockKind.Contact blocks.now) }
+        requires known_commands { AreSameNames known.now.commands (names_in BlockKind.Command blocks.now) }
+        ensures contacts { OnOk result (self.new.contacts ≡ contact_names blocks.now) }
+        ensures names { OnOk result (AreNamed blocks.now) }
+        ensures fault { IfErr result (λ fault. IsMisnamed blocks.now fault) }
+    {
+        for block in blocks {
+            match self.add_known(alloc, block, known)? {
+                None => {}
+                Some(fault) => {
+                    return Err(ResolveFault::AtLine {
+                        line: block.line,
+                        fault,
+                    });
+                }
+            }
+        }
+        Ok(())
+    }
+
     /// The names of the contacts.
     pub(crate) fn contacts(&self) -> &Names
         ensures { result.now ≡ self.now.contacts }
     {
         &self.contacts
     }
-
-    /// Whether an entry of a list of a block of that type names no block.
-    fn is_unknown(&self, kind: BlockKind, entry: &[u8]) -> bool {
-        match kind {
-            BlockKind::Command => false,
-            BlockKind::Contact => self.commands.find(command_name(entry)).is_none(),
-            BlockKind::Host => self.contacts.find(entry).is_none(),
-        }
-    }
-
-    /// Whether a list of a block has a name that no block has.
-    fn has_unknown(&self, alloc: Global, block: &Block) -> Result<bool, AllocError> {
-        let entries = entries_read(alloc, block)?;
-        for entry in entries.as_slice() {
-            if self.is_unknown(block.kind, *entry) {
-                return Ok(true);
-            }
-        }
-        Ok(false)
-    }
-
-    /// The place of the first block that names a contact or a command that isn't there.
-    fn first_unknown(&self, alloc: Global, blocks: &[Block]) -> Result<Option<usize>, AllocError> {
-        for place in 0..blocks.len() {
-            if self.has_unknown(alloc, &blocks[place])? {
-                return Ok(Some(place));
-            }
-        }
-        Ok(None)
-    }
-
-    /// Finds the first block whose name is doubled, or that names a contact or a command that isn't there.
-    pub(crate) fn check(&self, alloc: Global, blocks: &[Block]) -> Result<(), ResolveFault>
-        ensures single { OnOk result (self.now.doubled ≡ None) }
-        ensures fault { IfErr result (λ fault. IsLateFault fault) }
-    {
-        let unknown = self.first_unknown(alloc, blocks)?;
-        let (place, fault) = match (unknown, self.doubled) {
-            (None, None) => return Ok(()),
-            (Some(unknown), Some(doubled)) if doubled < unknown => (doubled, BlockFault::Doubled),
-            (Some(unknown), _) => (unknown, BlockFault::UnknownName),
-            (None, Some(doubled)) => (doubled, BlockFault::Doubled),
-        };
-        let line = line_at(blocks, place);
-        Err(ResolveFault::AtLine { line, fault })
-    }
 }
 
-/// The line of the block at a place.
-fn line_at(blocks: &[Block], place: usize) -> u64 {
-    match blocks.get(place) {
-        None => 0,
-        Some(block) => block.line,
-    }
+/// The names of the blocks, or the first block with an entry that names no block or with a doubled name.
+pub(crate) fn check_names(alloc: Global, blocks: &[Block]) -> Result<Tables, ResolveFault>
+    ensures contacts { IfOk result (λ tables. tables.contacts ≡ contact_names blocks.now) }
+    ensures names { OnOk result (AreNamed blocks.now) }
+    ensures fault { IfErr result (λ fault. IsMisnamed blocks.now fault) }
+{
+    let known = Known::of_blocks(alloc, blocks)?;
+    let mut tables = Tables::new(alloc);
+    tables.add_all(alloc, blocks, &known)?;
+    Ok(tables)
 }

@@ -1,8 +1,11 @@
-use Rattle.std.proofs.Common.{◌≡◌, ◌&&◌, ap, filter, subst}
-use Rattle.notify_run.specs.Resolved.{IsConfigOf, is_command_kind, is_lane, lanes_in}
+use Rattle.std.proofs.Common.{◌≡◌, ◌≤◌, ◌&&◌, ap, length, subst}
+use Rattle.std.proofs.lemmas.Result.{err_from_is_err_and}
+use Rattle.object_reader.specs.declared.block.Block.{Block}
+use Rattle.notify_run.specs.Resolved.{IsConfigOf, is_command_kind, is_lane}
 use Rattle.notify_run.specs.ResolvedLimits.{is_used}
 use Rattle.notify_run.specs.ResolvedValues.{name_of}
 use Rattle.notify_run.proofs.ResolvedAccepted.{resolved-accepted, resolved-covered}
+use Rattle.notify_run.proofs.ResolvedFaults.{over-same}
 use Rattle.notify_run.proofs.ResolvedLists.{filter-same}
 use Rattle.notify_run.proofs.configure.config_within.Goals as goal
 
@@ -17,6 +20,22 @@ returns-clause-covered c = resolved-covered c.args.blocks.now _ c.in_ok-config_o
 pub returns-clause-resolved : goal.returns-clause-resolved
 returns-clause-resolved c =
     let blocks = c.args.blocks.now in
-    let lanes : filter (is_used c.args.used.now) blocks ≡ lanes_in blocks =
-    filter-same (is_used c.args.used.now) (is_lane blocks) (λ block. ap (λ b. is_command_kind block.kind && b) (c.requires.used (name_of block))) blocks in
-    subst (λ lane_blocks. IsConfigOf blocks lane_blocks c.in_ok-config_of.field-0) lanes c.in_ok-config_of.ensures
+    let same : (block : Block) → is_used c.args.used.now block ≡ is_lane blocks block = λ block. ap (λ b. is_command_kind block.kind && b) (c.requires.used (name_of block)) in
+    subst (λ lane_blocks. IsConfigOf blocks lane_blocks c.in_ok-config_of.field-0) (filter-same (is_used c.args.used.now) (is_lane blocks) same blocks) c.in_ok-config_of.ensures
+
+pub returns-clause-limits : goal.returns-clause-limits
+returns-clause-limits c =
+    let blocks = c.args.blocks.now in
+    let limits = c.in_ok-check_limits.ensures.limits in
+    let same : (block : Block) → is_used c.args.used.now block ≡ is_lane blocks block = λ block. ap (λ b. is_command_kind block.kind && b) (c.requires.used (name_of block)) in
+    record {
+      hosts = limits.hosts;
+      contacts = limits.contacts;
+      lanes = subst (λ lanes. length lanes ≤ 16) (filter-same (is_used c.args.used.now) (is_lane blocks) same blocks) limits.lanes;
+    }
+
+pub returns-in_err-check_limits-clause-fault : goal.returns-in_err-check_limits-clause-fault
+returns-in_err-check_limits-clause-fault c =
+    let blocks = c.args.blocks.now in
+    let p = err_from_is_err_and c.from_residual.result c.from_residual.ensures.1 in
+    rw (p.1, p.2) (over-same (is_used c.args.used.now) (is_lane blocks) (λ block. ap (λ b. is_command_kind block.kind && b) (c.requires.used (name_of block))) blocks c.in_err-check_limits.field-0.0 c.in_err-check_limits.ensures.fault)

@@ -1,9 +1,10 @@
 use Rattle.std.proofs.Common.{◌≡◌, ◌≤◌, length, filter, take}
 use Rattle.notify_run.specs.Resolved.{contacts_in, hosts_in}
-use Rattle.notify_run.specs.ResolvedLimits.{is_used}
+use Rattle.notify_run.specs.ResolvedFaults.{HaveNone}
+use Rattle.notify_run.specs.ResolvedLimits.{is_used, limit_fault}
 use Rattle.notify_run.proofs.configure.limits.check_limits.Given as goal
 
--- the counts of the blocks so far
+-- the counts of the blocks so far, and that there are not too many of them
 abbrev pub invariant-loop-block : goal.invariant-loop-block
 invariant-loop-block l = record {
   hosts : l.counts.hosts ≡ length (hosts_in (take l.block-index l.blocks));
@@ -12,4 +13,5 @@ invariant-loop-block l = record {
   few_hosts : l.counts.hosts ≤ 65535;
   few_contacts : l.counts.contacts ≤ 4096;
   few_lanes : l.counts.lanes ≤ 16;
+  none : HaveNone (limit_fault (is_used l.used)) l.blocks l.block-index;
 }
