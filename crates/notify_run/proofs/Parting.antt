@@ -1,13 +1,14 @@
 -- The search for the mark that parts an input.
-use Rattle.std.proofs.Common.{◌≡◌, ◌≢◌, ℕ, suc, ◌+◌, ◌-◌, ◌<◌, ◌≤◌, min, Bool, true, false, cond, eqb, List, [], ◌∷◌, ◌++◌, length, take, drop, get_or, codes, All, Option, None, Some, IfSome, refl, sym, ap, subst, ◌∙◌, arith, add-one, append_assoc, length-append, length-drop, length-take, drop-cons}
+use Rattle.std.proofs.Common.{◌≡◌, ◌≢◌, ℕ, suc, ◌+◌, ◌-◌, ◌<◌, ◌≤◌, min, Bool, true, false, cond, eqb, List, [], ◌∷◌, ◌++◌, length, take, drop, get_or, codes, All, Option, None, Some, IfSome, refl, sym, ap, subst, ◌∙◌, arith, inl, inr, add-one, append_assoc, length-append, length-drop, length-take, drop-cons}
 use Rattle.std.specs.List.{slice_split, onto_first, join_with_byte}
 use Rattle.std.specs.Str.{bytes_eq}
 use Rattle.std.specs.Io.KnownBytes.{Consumes, IsAtEnd}
-use Rattle.std.proofs.Math.Seq.{take-append-add, take-length}
-use Rattle.std.proofs.lemmas.Bool.{ne_eqb, eq-eqb}
+use Rattle.std.proofs.Math.Seq.{take-append-add, take-length, drop-append_seam}
+use Rattle.std.proofs.lemmas.Bool.{cases_lt, false_from_ne_true, ne_eqb}
 use Rattle.std.proofs.lemmas.List.{append-nil, drop-drop, get_or-drop, take-append-drop, take-append-le, take_more}
 use Rattle.std.proofs.lemmas.List.Elements.{All-more, All-head, All-tail, All-nil}
 use Rattle.std.proofs.lemmas.List.Splits.{join_with_byte-slice_split, slice_split_at, slice_split_none, slice_split-cons_no}
+use Rattle.std.proofs.lemmas.Slice.Eq.{bytes_eq-Decides}
 use Rattle.event_feed.proofs.Parts.{HasFirst, slice_split-first}
 use Rattle.event_feed.specs.Lines.{IsUnbroken, Known, is_newline, pieces}
 use Rattle.notify_run.specs.declared.input.Parting.{Parting}
@@ -166,9 +167,12 @@ ends_without_mark bytes s h all mark =
 
 -- ---- a text that is too large
 
+bytes_same : (xs ys : List ℕ) → bytes_eq xs ys ≡ true → xs ≡ ys
+bytes_same xs ys e = grind (arith, bytes_eq-Decides)
+
 -- a first line that is longer than the mark is of the text
 long_first : (line : List ℕ) → 7 < length line → is_mark line ≡ false
-long_first line h = false_from_ne_true (is_mark line) (λ e. let same = ap length (bytes_eq_is line (codes "%events") e) in absurd (omega (arith, same)))
+long_first line h = false_from_ne_true (is_mark line) (λ e. let same = ap length (bytes_same line (codes "%events") e) in absurd (omega (arith, same)))
 
 first_piece : (line rest : List ℕ) → IsUnbroken line → (first : List ℕ) × (others : List (List ℕ)) × (pieces (line ++ rest) ≡ (line ++ first) ∷ others)
 first_piece [] rest h = let has = slice_split-first is_newline rest in (has.first, has.others, has.are)
@@ -190,12 +194,28 @@ text_is_large bytes rest s limit h all large =
     let whole : length (parted (bytes ++ rest)).0 ≡ start + length (parted (line ++ rest)).0 =
     ap (λ p. length p.0) (h.lines rest) ∙ length-append (take start bytes) (parted (line ++ rest)).0 ∙ ap (λ n. n + length (parted (line ++ rest)).0) before
     in
-    elim (le_or_lt (length line) 7) [
-      | inl short ↦ omega (arith, whole)
-      | inr long ↦
-          let first = first_piece line rest (last_line bytes s h all) in
-          let longer : 7 < length (line ++ first.0) = omega (arith, length-append line first.0) in
+    let first = first_piece line rest (last_line bytes s h all) in
+    let told : length (parted (line ++ rest)).0 ≡ length (parted_lines ((line ++ first.0) ∷ first.1)).0 = ap (λ ps. length (parted_lines ps).0) first.2 in
+    elim (cases_lt 7 (length line)) [
+      | inr short ↦ omega (arith, whole, short)
+      | inl long ↦
+          let longer : 7 < length (line ++ first.0) = omega (arith, long, length-append line first.0) in
           let text = text_of_long (line ++ first.0) first.1 (long_first (line ++ first.0) longer) in
-          let told : length (parted (line ++ rest)).0 ≡ length (parted_lines ((line ++ first.0) ∷ first.1)).0 = ap (λ ps. length (parted_lines ps).0) first.2 in
           omega (arith, whole, text, told, length-append line first.0)
     ]
+
+-- ---- a reader whose bytes are known
+
+-- one piece more of all the bytes was read
+pub known_more : (start now next : Option (List ℕ)) (bytes piece : List ℕ) → Known start now (λ all rest. all ≡ bytes ++ rest) → Consumes now next piece
+    → Known start next (λ all rest. all ≡ (bytes ++ piece) ++ rest)
+known_more None now next bytes piece h c = tt
+known_more (Some all) None next bytes piece h c = absurd h
+known_more (Some all) (Some rest) None bytes piece h c = c
+known_more (Some all) (Some rest) (Some more) bytes piece h c = h ∙ ap (λ xs. bytes ++ xs) c ∙ sym (append_assoc bytes piece more)
+
+pub known_large : (start next : Option (List ℕ)) (bytes : List ℕ) (s : Search) (limit : ℕ) → Known start next (λ all rest. all ≡ bytes ++ rest) → IsSearched bytes s → s.at ≡ length bytes
+    → limit + 7 < length bytes → IfSome start (λ all. limit < length (parted all).0)
+known_large None next bytes s limit h searched all large = tt
+known_large (Some xs) None bytes s limit h searched all large = absurd h
+known_large (Some xs) (Some rest) bytes s limit h searched all large = subst (λ ys. limit < length (parted ys).0) (sym h) (text_is_large bytes rest s limit searched all large)
