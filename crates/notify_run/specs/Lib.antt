@@ -4,6 +4,7 @@ pub mod Outputs
 pub mod Reports
 pub mod ReportText
 pub mod Replays
+pub mod Replayed
 pub mod Resolved
 pub mod ResolvedFault
 pub mod ResolvedFaults

@@ -1,6 +1,6 @@
 //! The command `replay`: what would have been sent, from object text and a feed.
 
-ghost use Rattle.std.specs.Prelude.{◌≡◌, ◌+◌, ◌<◌, ◌≤◌, ℕ, true, false, List, [], ◌∷◌, ◌++◌, length, IfNone, IfSome, OnOk, IfOk, None, Ok};
+ghost use Rattle.std.specs.Prelude.{◌≡◌, ◌+◌, ◌<◌, ◌≤◌, ℕ, true, false, List, [], ◌∷◌, ◌++◌, length, IfErr, IfNone, IfSome, OnOk, IfOk, None, Ok};
 ghost use Rattle.due_model.specs.Accepted.{IsAccepted, IsProper};
 ghost use Rattle.due_model.specs.Covered.{IsCovered, IsTakenIn};
 ghost use Rattle.due_model.specs.declared.event.Event.{Event};
@@ -8,13 +8,14 @@ ghost use Rattle.decider.specs.Outboxes.{lists, waiting_at};
 ghost use Rattle.event_feed.specs.Feed.{Answer, feed_limit};
 ghost use Rattle.notify_run.specs.declared.order.Entry.{Entry};
 ghost use Rattle.notify_run.specs.Entries.{HoldEntries, event_entries};
+ghost use Rattle.notify_run.specs.Replayed.{FailsWith, IsTextFault, IsTextOf, PartsFail, Reports, ReportsParts, refused_blocks, refused_text, unread};
 ghost use Rattle.notify_run.specs.Outputs.{Leaves, TakesFront};
 ghost use Rattle.notify_run.specs.Replays.{StandsAfter};
 ghost use Rattle.notify_run.specs.Reports.{refused_line};
 ghost use Rattle.notify_run.specs.ReportText.{AreToldOf, TakesAnswer, answer_text, ending_after, entries_text, entry_line, is_ended, past_after, report_from, report_text, start_of};
 
 use crate::configure::{ResolveFault, configure};
-use crate::input::{InputFault, take_objects};
+use crate::input::{InputFault, Parts, take_objects};
 use crate::order::{Entry, next_entry};
 use crate::output::{Buffer, OutputFailed};
 use crate::report::{push_entry, push_refused};
@@ -59,35 +60,6 @@ pub enum ReplayFault {
 impl From<AllocError> for ReplayFault {
     fn from(_error: AllocError) -> ReplayFault {
         ReplayFault::NoMemory
-    }
-}
-
-impl From<InputFault> for ReplayFault {
-    fn from(fault: InputFault) -> ReplayFault {
-        match fault {
-            InputFault::Unreadable => ReplayFault::Unreadable,
-            InputFault::TooLarge => ReplayFault::TooLarge,
-            InputFault::NoMemory => ReplayFault::NoMemory,
-        }
-    }
-}
-
-impl From<ReadFault> for ReplayFault {
-    fn from(fault: ReadFault) -> ReplayFault {
-        match fault {
-            ReadFault::NoMemory => ReplayFault::NoMemory,
-            ReadFault::TooLarge => ReplayFault::TooLarge,
-            fault => ReplayFault::Read(fault),
-        }
-    }
-}
-
-impl From<ResolveFault> for ReplayFault {
-    fn from(fault: ResolveFault) -> ReplayFault {
-        match fault {
-            ResolveFault::NoMemory => ReplayFault::NoMemory,
-            fault => ReplayFault::Resolve(fault),
-        }
     }
 }
 
@@ -364,22 +336,65 @@ fn report_lines<R: Read + Drop, W: Write>(
     }
 }
 
+/// Why an object text can't be taken.
+fn unread(fault: InputFault) -> ReplayFault
+    ensures { result ≡ unread fault }
+{
+    match fault {
+        InputFault::Unreadable => ReplayFault::Unreadable,
+        InputFault::TooLarge => ReplayFault::TooLarge,
+        InputFault::NoMemory => ReplayFault::NoMemory,
+    }
+}
+
+/// Why an object text isn't blocks.
+fn refused_text(fault: ReadFault) -> ReplayFault
+    ensures { result ≡ refused_text fault }
+{
+    match fault {
+        ReadFault::NoMemory => ReplayFault::NoMemory,
+        ReadFault::TooLarge => ReplayFault::TooLarge,
+        fault => ReplayFault::Read(fault),
+    }
+}
+
+/// Why blocks give no configuration.
+fn refused_blocks(fault: ResolveFault) -> ReplayFault
+    ensures { result ≡ refused_blocks fault }
+{
+    match fault {
+        ResolveFault::NoMemory => ReplayFault::NoMemory,
+        fault => ReplayFault::Resolve(fault),
+    }
+}
+
 /// The configuration that an object text gives.
 fn load(alloc: Global, text: &[u8]) -> Result<Config, ReplayFault>
-    ensures { IfOk result (λ config. IsAccepted config × IsCovered config) }
+    ensures config { IfOk result (λ config. IsAccepted config × IsCovered config × IsTextOf config text.now) }
+    ensures fault { IfErr result (λ fault. IsTextFault text.now fault) }
 {
-    let blocks = read(alloc, text)?;
-    Ok(configure(alloc, blocks.as_slice())?)
+    match read(alloc, text) {
+        Ok(blocks) => match configure(alloc, blocks.as_slice()) {
+            Ok(config) => Ok(config),
+            Err(fault) => Err(refused_blocks(fault)),
+        },
+        Err(fault) => Err(refused_text(fault)),
+    }
 }
 
 /// Reads object text up to a line `%events`, and then a feed, and writes the report of the feed. The feed is
 /// read and the report written as it comes: memory grows with the configuration alone. Where the object text
-/// is refused nothing is written; where the output fails or memory runs out, a part of the report was.
+/// is refused nothing is written; where the output fails or memory runs out, a front of the report was.
 pub fn replay<R: Read + Drop, W: Write>(
     alloc: Global,
     reader: R,
     writer: &mut W,
-) -> Result<Ending, ReplayFault> {
+) -> Result<Ending, ReplayFault>
+    // What is written is the report of the bytes read, and nothing else.
+    ensures report { IfSome (R.remaining reader) (λ bytes. IfOk result (λ ending. Reports bytes Zone.Utc ending (W.contents writer.old) (W.contents writer.new))) }
+    // A fault says what was wrong, and what was written.
+    ensures fault { IfSome (R.remaining reader) (λ bytes. IfErr result (λ fault. FailsWith bytes Zone.Utc fault (W.contents writer.old) (W.contents writer.new))) }
+{
     let zone = Zone::Utc;
     replay_in(alloc, &zone, reader, writer)
 }
@@ -392,9 +407,32 @@ fn replay_in<R: Read + Drop, W: Write>(
     writer: &mut W,
 ) -> Result<Ending, ReplayFault>
     requires utc { zone.now ≡ Zone.Utc }
+    ensures report { IfSome (R.remaining reader) (λ bytes. IfOk result (λ ending. Reports bytes Zone.Utc ending (W.contents writer.old) (W.contents writer.new))) }
+    ensures fault { IfSome (R.remaining reader) (λ bytes. IfErr result (λ fault. FailsWith bytes Zone.Utc fault (W.contents writer.old) (W.contents writer.new))) }
 {
-    let parts = take_objects(alloc, reader)?;
-    let config = load(alloc, &parts.text)?;
-    let feed = Cursor::new(parts.behind).chain(parts.reader);
+    match take_objects(alloc, reader) {
+        Ok(parts) => replay_parts(alloc, zone, parts, writer),
+        Err(fault) => Err(unread(fault)),
+    }
+}
+
+/// Replays the feed behind an object text.
+fn replay_parts<R: Read + Drop, W: Write>(
+    alloc: Global,
+    zone: &Zone,
+    parts: Parts<R>,
+    writer: &mut W,
+) -> Result<Ending, ReplayFault>
+    requires utc { zone.now ≡ Zone.Utc }
+    ensures report { IfSome (R.remaining parts.reader) (λ rest. IfOk result (λ ending. ReportsParts (parts.text.items, parts.behind.items ++ rest) Zone.Utc ending (W.contents writer.old) (W.contents writer.new))) }
+    ensures fault { IfSome (R.remaining parts.reader) (λ rest. IfErr result (λ fault. PartsFail (parts.text.items, parts.behind.items ++ rest) Zone.Utc fault (W.contents writer.old) (W.contents writer.new))) }
+{
+    let Parts {
+        text,
+        behind,
+        reader,
+    } = parts;
+    let config = load(alloc, &text)?;
+    let feed = Cursor::new(behind).chain(reader);
     report_feed(alloc, &config, zone, feed, writer)
 }
