@@ -53,6 +53,15 @@ IsTextFault text Unreadable = ⊥
 IsTextFault text Output = ⊥
 IsTextFault text NoMemory = Unit {0}
 
+-- a fault of the writing of a report
+abbrev pub IsWriteFault : ReplayFault → Type 0
+IsWriteFault (Read fault) = ⊥
+IsWriteFault (Resolve fault) = ⊥
+IsWriteFault TooLarge = ⊥
+IsWriteFault Unreadable = ⊥
+IsWriteFault Output = Unit {0}
+IsWriteFault NoMemory = Unit {0}
+
 -- ---- the report
 
 -- the answers that were told are those of a feed from its first line on

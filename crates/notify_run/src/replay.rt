@@ -8,7 +8,7 @@ ghost use Rattle.decider.specs.Outboxes.{lists, waiting_at};
 ghost use Rattle.event_feed.specs.Feed.{Answer, feed_limit};
 ghost use Rattle.notify_run.specs.declared.order.Entry.{Entry};
 ghost use Rattle.notify_run.specs.Entries.{HoldEntries, event_entries};
-ghost use Rattle.notify_run.specs.Replayed.{FailsWith, IsTextFault, IsTextOf, PartsFail, Reports, ReportsParts, refused_blocks, refused_text, unread};
+ghost use Rattle.notify_run.specs.Replayed.{FailsWith, IsWriteFault, IsTextFault, IsTextOf, PartsFail, Reports, ReportsParts, refused_blocks, refused_text, unread};
 ghost use Rattle.notify_run.specs.Outputs.{Leaves, TakesFront};
 ghost use Rattle.notify_run.specs.Replays.{StandsAfter};
 ghost use Rattle.notify_run.specs.Reports.{refused_line};
@@ -58,12 +58,20 @@ pub enum ReplayFault {
 }
 
 impl From<AllocError> for ReplayFault {
+    ghost use Rattle.notify_run.specs.declared.replay.ReplayFault.TheVariants.{NoMemory};
+
+    ghost from_gives = { λ _ fault. fault ≡ NoMemory };
+
     fn from(_error: AllocError) -> ReplayFault {
         ReplayFault::NoMemory
     }
 }
 
 impl From<OutputFailed> for ReplayFault {
+    ghost use Rattle.notify_run.specs.declared.replay.ReplayFault.TheVariants.{Output};
+
+    ghost from_gives = { λ _ fault. fault ≡ Output };
+
     fn from(_error: OutputFailed) -> ReplayFault {
         ReplayFault::Output
     }
@@ -105,6 +113,7 @@ impl Lines {
     ) -> Result<(), ReplayFault>
         ensures ok { OnOk result (Leaves (W.contents writer.old) (W.contents writer.new) (self.old ++ entry_line config.now entry.now) self.new) }
         ensures front { TakesFront (W.contents writer.old) (W.contents writer.new) (self.old ++ entry_line config.now entry.now) }
+        ensures fault { IfErr result (λ fault. IsWriteFault fault) }
     {
         self.line.clear();
         if push_entry(&mut self.line, config, entry).is_err() {
@@ -123,6 +132,7 @@ impl Lines {
     ) -> Result<(), ReplayFault>
         ensures ok { OnOk result (Leaves (W.contents writer.old) (W.contents writer.new) (self.old ++ refused_line line fault) self.new) }
         ensures front { TakesFront (W.contents writer.old) (W.contents writer.new) (self.old ++ refused_line line fault) }
+        ensures fault { IfErr result (λ fault. IsWriteFault fault) }
     {
         self.line.clear();
         if push_refused(&mut self.line, line, fault).is_err() {
@@ -145,6 +155,7 @@ impl Lines {
     fn flush<W: Write>(&mut self, writer: &mut W) -> Result<(), ReplayFault>
         ensures ok { OnOk result (Leaves (W.contents writer.old) (W.contents writer.new) self.old []) }
         ensures front { TakesFront (W.contents writer.old) (W.contents writer.new) self.old }
+        ensures fault { IfErr result (λ fault. IsWriteFault fault) }
     {
         self.buffer.flush(writer)?;
         Ok(())
@@ -167,6 +178,7 @@ fn write_event<W: Write>(
         → TakesFront (W.contents writer.old) (W.contents writer.new) (lines.old ++ entries_text config.now entries) }
     ensures empty { OnOk result ((l : ℕ) → l < length (lists outbox.old) → waiting_at outbox.new l ≡ []) }
     ensures lanes { length (lists outbox.new) ≡ length (lists outbox.old) }
+    ensures fault { IfErr result (λ fault. IsWriteFault fault) }
 {
     let mut told = 0usize;
     while let Some(entry) = next_entry(outbox, log, &mut told) {
@@ -197,6 +209,7 @@ fn decide_event<W: Write>(
         × Leaves (W.contents writer.old) (W.contents writer.new) (lines.old ++ refused_line line FeedFault.Ended) lines.new)) }
     ensures front { (past : List Event) → StandsAfter config.now Zone.Utc decider.old outbox.old past
         → TakesFront (W.contents writer.old) (W.contents writer.new) (lines.old ++ answer_text config.now Zone.Utc past (record { line = line; given = Ok event })) }
+    ensures fault { IfErr result (λ fault. IsWriteFault fault) }
 {
     match decider.decide(event, outbox) {
         Ok(()) => {
@@ -235,6 +248,7 @@ fn take_line<R: Read + Drop, W: Write>(
         → (told : List Answer) × AreToldOf config.now.objects feeder.old told
         × TakesFront (W.contents writer.old) (W.contents writer.new) (lines.old ++ report_from config.now Zone.Utc past told) }
     ensures limit { feeder.new.line ≤ feed_limit + 1 }
+    ensures fault { IfErr result (λ fault. IsWriteFault fault) }
 {
     match feeder.next(config) {
         Ok(None) => Ok(Some(Ending::Whole)),
@@ -268,6 +282,7 @@ fn report_feed<R: Read + Drop, W: Write>(
         × (ending ≡ ending_after [] told) × Leaves (W.contents writer.old) (W.contents writer.new) (report_text config.now Zone.Utc told) []) }
     ensures front { (told : List Answer) × AreToldOf config.now.objects (start_of (R.remaining feed)) told
         × TakesFront (W.contents writer.old) (W.contents writer.new) (report_text config.now Zone.Utc told) }
+    ensures fault { IfErr result (λ fault. IsWriteFault fault) }
 {
     let owned = Owned {
         decider: 0,
@@ -304,6 +319,7 @@ fn report_whole<R: Read + Drop, W: Write>(
         × (ending ≡ ending_after [] told) × Leaves (W.contents writer.old) (W.contents writer.new) (report_text config.now Zone.Utc told) []) }
     ensures front { (told : List Answer) × AreToldOf config.now.objects feeder.old told
         × TakesFront (W.contents writer.old) (W.contents writer.new) (report_text config.now Zone.Utc told) }
+    ensures fault { IfErr result (λ fault. IsWriteFault fault) }
 {
     let ending = report_lines(lines, writer, config, decider, outbox, feeder)?;
     lines.flush(writer)?;
@@ -327,6 +343,7 @@ fn report_lines<R: Read + Drop, W: Write>(
         × (ending ≡ ending_after [] told) × Leaves (W.contents writer.old) (W.contents writer.new) (report_text config.now Zone.Utc told) lines.new) }
     ensures front { (told : List Answer) × AreToldOf config.now.objects feeder.old told
         × TakesFront (W.contents writer.old) (W.contents writer.new) (report_text config.now Zone.Utc told) }
+    ensures fault { IfErr result (λ fault. IsWriteFault fault) }
 {
     loop {
         match take_line(lines, writer, config, decider, outbox, feeder)? {
