@@ -1,5 +1,5 @@
 -- What a replay's decider says of an event, and where the replay stands after it.
-use Rattle.std.proofs.Common.{◌≡◌, ℕ, ◌<◌, ◌^◌, Bool, true, false, cond, List, [], ◌∷◌, ◌++◌, length, get_or, IsErrOf, Ok, refl, sym, ap, subst, ◌∙◌}
+use Rattle.std.proofs.Common.{◌≡◌, ℕ, ◌<◌, true, false, cond, List, [], ◌∷◌, ◌++◌, length, get_or, IsErrOf, Ok, sym, ap, subst, ◌∙◌}
 use Rattle.due_model.specs.declared.config.Config.{Config}
 use Rattle.due_model.specs.declared.event.Event.{Event}
 use Rattle.due_model.specs.declared.notice.Notice.{Notice}
@@ -13,7 +13,7 @@ use Rattle.decider.specs.Kept.{Fits, Kept, kept, settings}
 use Rattle.decider.specs.Outboxes.{lists, waiting_at}
 use Rattle.event_feed.specs.declared.fault.FeedFault.TheVariants.{Ended}
 use Rattle.notify_run.specs.Entries.{HoldEntries, event_entries}
-use Rattle.notify_run.specs.Replays.{StandsAfter, sole}
+use Rattle.notify_run.specs.Replays.{StandsAfter}
 use Rattle.notify_run.specs.Reports.{refused_line}
 use Rattle.notify_run.specs.ReportText.{answer_text, entries_text, is_ended}
 use Rattle.notify_run.proofs.EventEntries.{event_held}

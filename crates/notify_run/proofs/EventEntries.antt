@@ -1,13 +1,13 @@
 -- The entries of an event: they stand in order, and the notices and suppressions among them are what the event
 -- adds to each lane and to the log.
-use Rattle.std.proofs.Common.{◌≡◌, ◌≢◌, ℕ, zero, suc, ◌+◌, ◌-◌, ◌<◌, ◌≤◌, ◌%◌, Bool, true, false, cond, eqb, ◌==◌, nat_lt, ◌||◌, ◌&&◌, List, [], ◌∷◌, ◌++◌, length, map, filter, flat_map, get_or, slice_get, All, Option, None, Some, if◌then◌else◌, refl, sym, ap, subst, ◌∙◌, arith, inl, inr, ◌⊎◌}
+use Rattle.std.proofs.Common.{◌≡◌, ◌≢◌, ℕ, zero, suc, ◌+◌, ◌<◌, ◌≤◌, ◌%◌, Bool, true, false, cond, List, [], ◌∷◌, ◌++◌, length, map, filter, flat_map, get_or, slice_get, All, Option, None, Some, if◌then◌else◌, refl, sym, ap, subst, ◌∙◌, arith, inl, inr}
 use Rattle.std.specs.List.{AllPairs, range_with_len}
 use Rattle.std.specs.Option.{option_map_or}
 use Rattle.std.proofs.lemmas.Bool.{cases_eq, cond_both, eq-eqb, ne_eqb}
 use Rattle.std.proofs.lemmas.Bool.Decides.{nat_tests}
 use Rattle.std.proofs.lemmas.Grind.{flat_map-append}
 use Rattle.std.proofs.lemmas.List.{append-nil}
-use Rattle.std.proofs.lemmas.List.Elements.{All-nil, All-cons, All-head, All-tail, All-append, All-weaker, filter-append}
+use Rattle.std.proofs.lemmas.List.Elements.{All-nil, All-cons, All-head, All-tail, All-weaker, filter-append}
 use Rattle.std.proofs.lemmas.List.Kept.{AllPairs-cons}
 use Rattle.std.proofs.lemmas.List.FromFn.{get_or-range_with_len, length-range_with_len}
 use Rattle.due_model.specs.declared.config.Config.{Config}
@@ -28,7 +28,7 @@ use Rattle.decider.specs.Gains.{gain, gained, is_owned, owned_numbers, suppresse
 use Rattle.notify_run.specs.declared.order.Entry.{Entry}
 use Rattle.notify_run.specs.declared.order.Entry.TheVariants.{Sent, Withheld}
 use Rattle.notify_run.specs.Replays.{sole}
-use Rattle.notify_run.specs.Entries.{AreOnLanes, HoldEntries, NoticeBefore, StandsBefore, contact_entries, contact_number, event_entries, is_lower, is_on, notice_in, notices_in, object_entries, outcome_entries, suppression_in, suppressions_in}
+use Rattle.notify_run.specs.Entries.{HoldEntries, NoticeBefore, StandsBefore, contact_entries, contact_number, event_entries, is_lower, is_on, notice_in, notices_in, object_entries, outcome_entries, suppression_in, suppressions_in}
 
 -- ---- lists of lists
 
@@ -97,9 +97,10 @@ suppressions_of_withheld (s ∷ ss) = ap (λ ts. s ∷ ts) (suppressions_of_with
 on_own_lane : (c : Config) (zone : Zone) (o : ℕ) (object : Object) (event number : ℕ) (a : Attempt) (k l m : ℕ)
     → (m ≡ l → filter (is_on l) (notice_to c zone o object m event number a k) ≡ notice_to c zone o object m event number a k)
     × (m ≢ l → filter (is_on l) (notice_to c zone o object m event number a k) ≡ [])
-on_own_lane c zone o object event number a k l m =
-    (λ e. notice_to_cases c zone o object m event number a k (λ ns. filter (is_on l) ns ≡ ns) refl (rw (eq-eqb m l e) refl),
-    λ ne. notice_to_cases c zone o object m event number a k (λ ns. filter (is_on l) ns ≡ []) refl (rw (ne_eqb m l ne) refl))
+on_own_lane c zone o object event number a k l m = (
+  λ e. notice_to_cases c zone o object m event number a k (λ ns. filter (is_on l) ns ≡ ns) refl (rw (eq-eqb m l e) refl),
+  λ ne. notice_to_cases c zone o object m event number a k (λ ns. filter (is_on l) ns ≡ []) refl (rw (ne_eqb m l ne) refl),
+)
 
 contact_notices : (c : Config) (zone : Zone) (o : ℕ) (object : Object) (event number : ℕ) (a : Attempt) (l k : ℕ) → l < length c.lanes
     → filter (is_on l) (notices_in (contact_entries c zone o object event number a k)) ≡ notice_to c zone o object l event number a k

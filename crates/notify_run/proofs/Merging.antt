@@ -1,16 +1,16 @@
 -- Of lanes and a log that hold entries in order, the entry that is told first is the first of them.
-use Rattle.std.proofs.Common.{◌≡◌, ◌≢◌, ℕ, suc, ◌+◌, ◌<◌, ◌≤◌, Bool, true, false, cond, eqb, nat_lt, nat_eq, ◌||◌, ◌&&◌, List, [], ◌∷◌, ◌++◌, length, filter, flat_map, get_or, slice_get, slice_index_or, drop, set, All, Option, None, Some, IfSome, refl, sym, ap, subst, ◌∙◌, arith, get_or-set_same, get_or-set_other, length-set, length-drop, inl, inr, ◌⊎◌}
+use Rattle.std.proofs.Common.{◌≡◌, ◌≢◌, ℕ, ◌+◌, ◌<◌, Bool, true, false, cond, List, [], ◌∷◌, length, filter, get_or, slice_get, drop, set, All, Option, None, Some, IfSome, refl, sym, ap, subst, ◌∙◌, arith, get_or-set_same, get_or-set_other, length-set, length-drop, inl, inr, ◌⊎◌}
 use Rattle.std.specs.List.{AllPairs, sum_by}
 use Rattle.std.proofs.lemmas.Bool.{cases_eq, ne_eqb, eq-eqb}
 use Rattle.std.proofs.lemmas.Bool.Decides.{nat_tests}
 use Rattle.std.proofs.lemmas.List.Sums.{sum_by-set}
-use Rattle.std.proofs.lemmas.List.Elements.{All-head, All-tail, All-filter, All-nil, All-cons}
+use Rattle.std.proofs.lemmas.List.Elements.{All-head, All-tail}
 use Rattle.due_model.specs.declared.notice.Notice.{Notice}
 use Rattle.due_model.specs.declared.notice.Suppression.{Suppression}
 use Rattle.due_model.proofs.Notices.{AllPairs-head, AllPairs-tail}
 use Rattle.notify_run.specs.declared.order.Entry.{Entry}
 use Rattle.notify_run.specs.declared.order.Entry.TheVariants.{Sent, Withheld}
-use Rattle.notify_run.specs.Entries.{AreOnLanes, FoundBelow, HoldEntries, NoticeBefore, StandsBefore, comes_before, contact_number, earlier_of, is_lower, is_on, is_told_first, told_first, notice_in, notices_in, suppressions_in}
+use Rattle.notify_run.specs.Entries.{AreOnLanes, FoundBelow, HoldEntries, NoticeBefore, StandsBefore, comes_before, contact_number, earlier_of, is_lower, is_on, told_first, notices_in, suppressions_in}
 
 -- by object, then contact: never both ways
 pub lower_not_back : (o k p j : ℕ) → is_lower o k p j ≡ true → is_lower p j o k ≡ false
@@ -78,10 +78,11 @@ found_more lane (n ∷ notices) found front order e h = by_lane (cases_eq n.lane
         (λ less. found_at n found front (h.1 (omega arith)) first, λ above. absurd (omega arith))
     by_lane (inr other) =
         let first : front ≡ slice_get (filter (is_on lane) notices) 0 = e ∙ ap (λ t. slice_get (cond t (n ∷ filter (is_on lane) notices) (filter (is_on lane) notices)) 0) (ne_eqb n.lane.0 lane other) in
-        let passes : IfSome front (λ m. NoticeBefore n m × (m.lane.0 ≡ lane)) = subst (λ f. IfSome f (λ m. NoticeBefore n m × (m.lane.0 ≡ lane))) (sym first) (first_passes lane (NoticeBefore n) notices behind) in
-        (λ less. found_stays n found front (h.0 (omega arith)) (for_some (λ m. NoticeBefore n m × (m.lane.0 ≡ lane)) (λ m. comes_before m n ≡ false) front (λ m at. behind_not_before n m at.0) passes),
-        λ above. found_behind n found front (h.1 (omega arith))
-            (for_some (λ m. NoticeBefore n m × (m.lane.0 ≡ lane)) (λ m. comes_before n m ≡ true) front (λ m at. behind_on_lower n m at.0 (omega (arith, at.1))) passes))
+        let passes : IfSome front (λ m. NoticeBefore n m × (m.lane.0 ≡ lane)) = subst (λ f. IfSome f (λ m. NoticeBefore n m × (m.lane.0 ≡ lane))) (sym first) (first_passes lane (NoticeBefore n) notices behind) in (
+          λ less. found_stays n found front (h.0 (omega arith)) (for_some (λ m. NoticeBefore n m × (m.lane.0 ≡ lane)) (λ m. comes_before m n ≡ false) front (λ m at. behind_not_before n m at.0) passes),
+          λ above. found_behind n found front (h.1 (omega arith))
+              (for_some (λ m. NoticeBefore n m × (m.lane.0 ≡ lane)) (λ m. comes_before n m ≡ true) front (λ m at. behind_on_lower n m at.0 (omega (arith, at.1))) passes),
+        )
 
 -- all lanes were looked at
 pub found_all : (lanes : ℕ) (notices : List Notice) (found : Option Notice) → All (λ n. n.lane.0 < lanes) notices → FoundBelow lanes notices found → found ≡ slice_get notices 0

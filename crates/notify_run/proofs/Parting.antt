@@ -1,8 +1,8 @@
 -- The search for the mark that parts an input.
-use Rattle.std.proofs.Common.{◌≡◌, ◌≢◌, ℕ, suc, ◌+◌, ◌-◌, ◌<◌, ◌≤◌, min, Bool, true, false, cond, eqb, List, [], ◌∷◌, ◌++◌, length, take, drop, get_or, codes, All, Option, None, Some, IfSome, refl, sym, ap, subst, ◌∙◌, arith, inl, inr, add-one, append_assoc, length-append, length-drop, length-take, drop-cons}
-use Rattle.std.specs.List.{slice_split, onto_first, join_with_byte}
+use Rattle.std.proofs.Common.{◌≡◌, ◌≢◌, ℕ, suc, ◌+◌, ◌-◌, ◌<◌, ◌≤◌, true, false, cond, List, [], ◌∷◌, ◌++◌, length, take, drop, get_or, codes, Option, None, Some, IfSome, refl, sym, ap, subst, ◌∙◌, arith, inl, inr, add-one, append_assoc, length-append, length-drop, length-take, drop-cons}
+use Rattle.std.specs.List.{onto_first, join_with_byte}
 use Rattle.std.specs.Str.{bytes_eq}
-use Rattle.std.specs.Io.KnownBytes.{Consumes, IsAtEnd}
+use Rattle.std.specs.Io.KnownBytes.{Consumes}
 use Rattle.std.proofs.Math.Seq.{take-append-add, take-length, drop-append_seam}
 use Rattle.std.proofs.lemmas.Bool.{cases_lt, false_from_ne_true, ne_eqb}
 use Rattle.std.proofs.lemmas.List.{append-nil, drop-drop, get_or-drop, take-append-drop, take-append-le, take_more}
@@ -11,9 +11,8 @@ use Rattle.std.proofs.lemmas.List.Splits.{join_with_byte-slice_split, slice_spli
 use Rattle.std.proofs.lemmas.Slice.Eq.{bytes_eq-Decides}
 use Rattle.event_feed.proofs.Parts.{HasFirst, slice_split-first}
 use Rattle.event_feed.specs.Lines.{IsUnbroken, Known, is_newline, pieces}
-use Rattle.notify_run.specs.declared.input.Parting.{Parting}
 use Rattle.notify_run.specs.declared.input.Search.{Search}
-use Rattle.notify_run.specs.Inputs.{IsParting, IsSearched, SkipsLines, behind, is_mark, parted, parted_lines}
+use Rattle.notify_run.specs.Inputs.{IsParting, IsSearched, behind, is_mark, parted, parted_lines}
 
 -- ---- one line
 

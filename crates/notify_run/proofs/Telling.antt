@@ -1,5 +1,5 @@
 -- What the answers of a feeder say of the lines of its feed.
-use Rattle.std.proofs.Common.{◌≡◌, ℕ, Bool, true, false, not, cond, ◌||◌, List, [], ◌∷◌, ◌++◌, Option, None, Some, is_some, IfSome, IsTrue, Ok, Err, refl, sym, ap, subst, ◌∙◌, inl, inr, append_assoc}
+use Rattle.std.proofs.Common.{◌≡◌, ℕ, true, false, not, cond, ◌||◌, List, [], ◌∷◌, ◌++◌, Option, None, Some, is_some, IfSome, IsTrue, Err, refl, sym, ap, subst, ◌∙◌, inl, inr, append_assoc}
 use Rattle.std.proofs.lemmas.List.{append-nil}
 use Rattle.due_model.specs.declared.config.Config.{Config}
 use Rattle.due_model.specs.declared.config.Object.{Object}
@@ -11,11 +11,11 @@ use Rattle.event_feed.specs.declared.fault.LineFault.{LineFault}
 use Rattle.event_feed.specs.declared.fault.Stop.{Stop}
 use Rattle.event_feed.specs.declared.fault.Stop.TheVariants.{InputEnded, CutLine, ReaderFailed, TooManyCalls, TooManyBytes, TooManyLines}
 use Rattle.event_feed.specs.Fault.{is_line_fault, stop_fault}
-use Rattle.event_feed.specs.Feed.{Answer, AnswersLater, AnswersNext, AnswersNone, AreFromLine, FaultAnswers, FaultFits, Feed, GivesFault, answers_from}
+use Rattle.event_feed.specs.Feed.{Answer, AnswersNext, AnswersNone, AreFromLine, FaultAnswers, FaultFits, Feed, GivesFault, answers_from}
 use Rattle.event_feed.specs.Lines.{Known}
 use Rattle.notify_run.specs.declared.replay.Ending.TheVariants.{Short, Whole}
 use Rattle.notify_run.specs.Reports.{refused_line}
-use Rattle.notify_run.specs.ReportText.{AreTold, AreToldOf, FailsBefore, Follows, TakesAnswer, answer_text, ending_after, ends_short, given_text, is_ended, is_short, past_after, report_from, report_text}
+use Rattle.notify_run.specs.ReportText.{AreTold, AreToldOf, Follows, TakesAnswer, answer_text, ending_after, ends_short, given_text, is_ended, is_short, past_after, report_from, report_text}
 
 -- one answer, and those behind it
 next_by : (objects : List Object) (old new : Feed) (answer : Answer) (bytes rest : Option (List ℕ))

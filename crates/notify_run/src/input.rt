@@ -132,10 +132,7 @@ fn end_of_text(bytes: &[u8], search: Search) -> usize
 /// Takes the object text of an input, up to its first line `%events`, or to its end, and gives what comes
 /// behind that line. It reads on no further than it must to find the line, and stops where the object text
 /// is too large.
-pub fn take_objects<R: Read + Drop>(
-    alloc: Global,
-    mut reader: R,
-) -> Result<Parts<R>, InputFault>
+pub fn take_objects<R: Read + Drop>(alloc: Global, mut reader: R) -> Result<Parts<R>, InputFault>
     ensures parts { IfOk result (λ parts. Known (R.remaining reader) (R.remaining parts.reader) (λ bytes rest. parted bytes ≡ (parts.text.items, parts.behind.items ++ rest))) }
     ensures large { IsErrOf result InputFault.TooLarge → IfSome (R.remaining reader) (λ bytes. 16_777_216 < length (parted bytes).0) }
 {

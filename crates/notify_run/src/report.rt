@@ -223,7 +223,11 @@ fn push_suppression(
 }
 
 /// Adds the line of a refused line of the feed.
-pub(crate) fn push_refused(line: &mut Vec<u8>, number: u64, fault: FeedFault) -> Result<(), AllocError>
+pub(crate) fn push_refused(
+    line: &mut Vec<u8>,
+    number: u64,
+    fault: FeedFault,
+) -> Result<(), AllocError>
     ensures { OnOk result (line.new.items ≡ line.old.items ++ refused_line number fault) }
 {
     line.extend_from_slice(b"R")?;

@@ -1,4 +1,4 @@
-use Rattle.std.proofs.Common.{◌≡◌, ◌+◌, ℕ, subst, sym, ◌∙◌}
+use Rattle.std.proofs.Common.{◌+◌, ℕ, subst, sym, ◌∙◌}
 use Rattle.notify_run.specs.Inputs.{IsSearched}
 use Rattle.notify_run.proofs.Parting.{found_mark, longer_line, skipped_line}
 use Rattle.notify_run.proofs.input.find_mark.Goals as goal

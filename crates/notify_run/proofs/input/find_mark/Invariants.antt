@@ -1,4 +1,3 @@
-use Rattle.std.proofs.Common.{◌≤◌}
 use Rattle.notify_run.specs.Inputs.{IsSearched}
 use Rattle.notify_run.proofs.input.find_mark.Given as goal
 

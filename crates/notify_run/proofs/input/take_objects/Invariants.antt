@@ -1,4 +1,4 @@
-use Rattle.std.proofs.Common.{◌≡◌, ◌++◌, List, ℕ}
+use Rattle.std.proofs.Common.{◌≡◌, ◌++◌}
 use Rattle.event_feed.specs.Lines.{Known}
 use Rattle.notify_run.specs.Inputs.{IsSearched}
 use Rattle.notify_run.proofs.input.take_objects.Given as goal

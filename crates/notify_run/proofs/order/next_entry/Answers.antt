@@ -1,9 +1,8 @@
-use Rattle.std.proofs.Common.{◌≡◌, ◌+◌, ◌-◌, ◌<◌, List, [], length, drop, take, get_or, slice_get, Some, sym, subst, ◌∙◌, ap, arith, length-drop}
+use Rattle.std.proofs.Common.{◌≡◌, List, drop, slice_get, Some, sym, subst, ◌∙◌, ap, arith, length-drop}
 use Rattle.std.proofs.lemmas.List.{take_rest, drop-drop}
 use Rattle.due_model.specs.declared.notice.Notice.{Notice}
 use Rattle.due_model.specs.declared.notice.Suppression.{Suppression}
 use Rattle.decider.specs.Outboxes.{lists}
-use Rattle.notify_run.specs.declared.order.Entry.{Entry}
 use Rattle.notify_run.specs.declared.order.Entry.TheVariants.{Sent, Withheld}
 use Rattle.notify_run.specs.Entries.{HoldEntries}
 use Rattle.notify_run.proofs.Merging.{fewer_notices, sent_lane, take_sent, take_withheld, withheld_left}
@@ -66,4 +65,3 @@ returns-in-Withheld-clause-told c =
 
 pub returns-in-Withheld-clause-fewer : goal.returns-in-Withheld-clause-fewer
 returns-in-Withheld-clause-fewer c = λ some. let left = returns-in-Withheld-clause-told c in omega (arith, left)
-

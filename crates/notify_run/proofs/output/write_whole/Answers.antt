@@ -1,4 +1,4 @@
-use Rattle.notify_run.proofs.Writing.{leaves_all, leaves_rest}
+use Rattle.notify_run.proofs.Writing.{leaves_rest}
 use Rattle.notify_run.proofs.output.write_whole.Goals as goal
 
 pub loop-rest-preserved : goal.loop-rest-preserved

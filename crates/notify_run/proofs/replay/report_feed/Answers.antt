@@ -1,5 +1,4 @@
-use Rattle.std.proofs.Common.{[], refl, ◌≡◌, ◌++◌}
-use Rattle.notify_run.specs.ReportText.{report_text, start_of}
+use Rattle.notify_run.specs.ReportText.{start_of}
 use Rattle.notify_run.proofs.Telling.{some_told}
 use Rattle.notify_run.proofs.Writing.{front_none}
 use Rattle.notify_run.proofs.replay.report_feed.Goals as goal

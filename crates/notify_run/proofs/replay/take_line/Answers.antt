@@ -1,9 +1,8 @@
-use Rattle.std.proofs.Common.{◌≡◌, ◌++◌, ◌∷◌, [], List, cond, Ok, Some, refl, rules, sym, ap, subst, ◌∙◌}
+use Rattle.std.proofs.Common.{◌≡◌, ◌∷◌, [], cond, Ok, Some, refl, rules, sym, subst, ◌∙◌}
 use Rattle.due_model.specs.declared.zone.Zone.TheVariants.{Utc}
-use Rattle.event_feed.specs.Feed.{Answer, AnswersNext, GivesEvent, GivesFault}
-use Rattle.notify_run.specs.Entries.{event_entries}
+use Rattle.event_feed.specs.Feed.{Answer, AnswersNext}
 use Rattle.notify_run.specs.Reports.{refused_line}
-use Rattle.notify_run.specs.ReportText.{AreToldOf, TakesAnswer, answer_text, entries_text, is_ended, past_after, report_from}
+use Rattle.notify_run.specs.ReportText.{answer_text, is_ended, past_after, report_from}
 use Rattle.notify_run.proofs.Deciding.{text_of_event}
 use Rattle.notify_run.proofs.Telling.{fault_last, fault_told, next_told, none_told, refusal, report_of_end, report_of_refusal, short_at_end, short_at_refusal}
 use Rattle.notify_run.proofs.Writing.{front_begun, front_none, if_none, if_ok, if_some, leaves_nothing, leaves_same}
@@ -27,9 +26,12 @@ returns-in-Ok-Some-clause-goes_on g c =
     subst (λ line. AnswersNext c.args.config.now.objects c.args.feeder.now (record { line = line; given = Ok c.in-Ok-Some.event }) c.next.new.self) (sym c.line-line.ensures) gives.answers in
     if_ok _ _ c.decide_event.result
     (λ ended. if_none _ _ ended (λ on. λ past s.
-    let now = on past s in
-    (answer, record { next = next; line = gives.line; numbered = now.0; read_on = refl; goes_on = gives.goes_on }, now.1,
-    leaves_same _ _ c.args.lines.now _ _ _ (text_of_event c.args.config.now Utc past c.line-line.result c.in-Ok-Some.event now.0) now.2)))
+    let now = on past s in (
+      answer,
+      record { next = next; line = gives.line; numbered = now.0; read_on = refl; goes_on = gives.goes_on },
+      now.1,
+      leaves_same _ _ c.args.lines.now _ _ _ (text_of_event c.args.config.now Utc past c.line-line.result c.in-Ok-Some.event now.0) now.2,
+    )))
     c.decide_event.ensures.goes_on
 
 pub returns-in-Ok-Some-clause-ends : goal.returns-in-Ok-Some-clause-ends
@@ -41,9 +43,12 @@ returns-in-Ok-Some-clause-ends g c =
     let told = next_told c.args.config.now.objects c.args.feeder.now c.next.new.self answer next in
     if_ok _ _ c.decide_event.result
     (λ ended. if_some _ _ ended (λ ending at. λ past s.
-    let now = at past s in
-    (answer ∷ told.0, told.1, now.1 ∙ short_at_end past answer told.0 now.0,
-    leaves_same _ _ c.args.lines.now _ _ _ (report_of_end c.args.config.now Utc past answer told.0 now.0) now.2)))
+    let now = at past s in (
+      answer ∷ told.0,
+      told.1,
+      now.1 ∙ short_at_end past answer told.0 now.0,
+      leaves_same _ _ c.args.lines.now _ _ _ (report_of_end c.args.config.now Utc past answer told.0 now.0) now.2,
+    )))
     c.decide_event.ensures.ends
 
 pub returns-in-Ok-Some-clause-front : goal.returns-in-Ok-Some-clause-front
@@ -52,35 +57,47 @@ returns-in-Ok-Some-clause-front g c = λ past s.
     let answer : Answer = record { line = c.line-line.result; given = Ok c.in-Ok-Some.event } in
     let next : AnswersNext c.args.config.now.objects c.args.feeder.now answer c.next.new.self =
     subst (λ line. AnswersNext c.args.config.now.objects c.args.feeder.now (record { line = line; given = Ok c.in-Ok-Some.event }) c.next.new.self) (sym c.line-line.ensures) gives.answers in
-    let told = next_told c.args.config.now.objects c.args.feeder.now c.next.new.self answer next in
-    (answer ∷ told.0, told.1, front_begun _ _ c.args.lines.now (answer_text c.args.config.now Utc past answer)
-    (cond (is_ended past answer.given) [] (report_from c.args.config.now Utc (past_after past answer.given) told.0)) (c.decide_event.ensures.front past s))
+    let told = next_told c.args.config.now.objects c.args.feeder.now c.next.new.self answer next in (
+      answer ∷ told.0,
+      told.1,
+      front_begun _ _ c.args.lines.now (answer_text c.args.config.now Utc past answer)
+          (cond (is_ended past answer.given) [] (report_from c.args.config.now Utc (past_after past answer.given) told.0)) (c.decide_event.ensures.front past s),
+    )
 
 pub returns-in_err-refused-in-Err-clause-front : goal.returns-in_err-refused-in-Err-clause-front
 returns-in_err-refused-in-Err-clause-front g c = λ past s.
     let fault = c.in-Err.refusal in
-    let told = fault_told c.args.config.now.objects c.args.feeder.now c.next.new.self fault c.in-Err.ensures.fault in
-    (refusal fault ∷ told.0, told.1,
-    front_begun _ _ c.args.lines.now (refused_line fault.line fault.fault) (report_from c.args.config.now Utc past told.0) c.in_err-refused-in-Err.ensures.front)
+    let told = fault_told c.args.config.now.objects c.args.feeder.now c.next.new.self fault c.in-Err.ensures.fault in (
+      refusal fault ∷ told.0,
+      told.1,
+      front_begun _ _ c.args.lines.now (refused_line fault.line fault.fault) (report_from c.args.config.now Utc past told.0) c.in_err-refused-in-Err.ensures.front,
+    )
 
 pub returns-in-None-clause-front : goal.returns-in-None-clause-front
 returns-in-None-clause-front g c = λ past s.
     let fault = c.in-Err.refusal in
-    let told = fault_told c.args.config.now.objects c.args.feeder.now c.next.new.self fault c.in-Err.ensures.fault in
-    (refusal fault ∷ told.0, told.1,
-    front_begun _ _ c.args.lines.now (refused_line fault.line fault.fault) (report_from c.args.config.now Utc past told.0) c.in_ok-refused-in-Err.ensures.front)
+    let told = fault_told c.args.config.now.objects c.args.feeder.now c.next.new.self fault c.in-Err.ensures.fault in (
+      refusal fault ∷ told.0,
+      told.1,
+      front_begun _ _ c.args.lines.now (refused_line fault.line fault.fault) (report_from c.args.config.now Utc past told.0) c.in_ok-refused-in-Err.ensures.front,
+    )
 
 pub returns-in-Some-clause-ends : goal.returns-in-Some-clause-ends
 returns-in-Some-clause-ends g c = λ past s.
     let fault = c.in-Err.refusal in
     let stopped : c.next.new.self.stop ≡ Some c.in-Some.field-0 = search rules in
-    let last = fault_last c.args.config.now.objects c.args.feeder.now c.next.new.self fault c.in-Some.field-0 stopped c.in-Err.ensures.fault in
-    (refusal fault ∷ [], last.0, short_at_refusal past fault last.1,
-    leaves_same _ _ c.args.lines.now _ _ _ (report_of_refusal c.args.config.now Utc past fault) c.in_ok-refused-in-Err.ensures.ok)
+    let last = fault_last c.args.config.now.objects c.args.feeder.now c.next.new.self fault c.in-Some.field-0 stopped c.in-Err.ensures.fault in (
+      refusal fault ∷ [],
+      last.0,
+      short_at_refusal past fault last.1,
+      leaves_same _ _ c.args.lines.now _ _ _ (report_of_refusal c.args.config.now Utc past fault) c.in_ok-refused-in-Err.ensures.ok,
+    )
 
 pub returns-in-Some-clause-front : goal.returns-in-Some-clause-front
 returns-in-Some-clause-front g c = λ past s.
     let fault = c.in-Err.refusal in
-    let told = fault_told c.args.config.now.objects c.args.feeder.now c.next.new.self fault c.in-Err.ensures.fault in
-    (refusal fault ∷ told.0, told.1,
-    front_begun _ _ c.args.lines.now (refused_line fault.line fault.fault) (report_from c.args.config.now Utc past told.0) c.in_ok-refused-in-Err.ensures.front)
+    let told = fault_told c.args.config.now.objects c.args.feeder.now c.next.new.self fault c.in-Err.ensures.fault in (
+      refusal fault ∷ told.0,
+      told.1,
+      front_begun _ _ c.args.lines.now (refused_line fault.line fault.fault) (report_from c.args.config.now Utc past told.0) c.in_ok-refused-in-Err.ensures.front,
+    )

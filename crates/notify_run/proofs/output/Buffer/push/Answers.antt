@@ -1,4 +1,4 @@
-use Rattle.std.proofs.Common.{List, [], ◌++◌, ℕ, subst, sym}
+use Rattle.std.proofs.Common.{List, ◌++◌, ℕ, subst, sym}
 use Rattle.notify_run.specs.Outputs.{Leaves}
 use Rattle.notify_run.proofs.Writing.{front_longer, front_next, leaves_next, on_ok}
 use Rattle.notify_run.proofs.output.Buffer.push.Goals as goal
