@@ -1,0 +1,5 @@
+pub mod Worlds
+pub mod Steps
+pub mod Lines
+pub mod Runs
+pub mod Held

@@ -1,0 +1,1 @@
+//! A decider, and the notices of it that wait for the queues of their lanes.
