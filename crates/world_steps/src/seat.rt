@@ -1,1 +1,133 @@
 //! A decider, and the notices of it that wait for the queues of their lanes.
+
+use crate::step::StepFault;
+use decider::{DecideFault, Decider, Outbox, Owned};
+use due_model::config::{Config, LaneId};
+use due_model::event::Event;
+use due_model::notice::Notice;
+use due_model::zone::Zone;
+use std::alloc::{AllocError, Global};
+use std::collections::VecDeque;
+
+/// The notices for one lane that wait longest.
+#[derive(Drop)]
+pub(crate) struct Front {
+    notices: VecDeque<Notice>,
+}
+
+/// A decider, and the notices of it that wait.
+#[derive(Drop)]
+pub(crate) struct Seat<'a> {
+    decider: Decider<'a>,
+    /// How many of the posted events it has decided.
+    decided: usize,
+    /// For each lane the notices that wait longest, the oldest first.
+    front: Vec<Front>,
+    /// For each lane those behind them, where the decider adds its notices.
+    back: Outbox,
+}
+
+impl Front {
+    ghost use Rattle.std.specs.Prelude.{◌≡◌, [], ◌∷◌, ◌++◌, drop, slice_get, OnOk, OnErr};
+
+    /// Adds a notice. A refused growth changes nothing.
+    fn push(&mut self, notice: Notice) -> Result<(), AllocError>
+        ensures ok { OnOk result (self.new.notices.items ≡ self.old.notices.items ++ notice ∷ []) }
+        ensures err { OnErr result (self.new.notices.items ≡ self.old.notices.items) }
+    {
+        self.notices.push_back(notice)?;
+        Ok(())
+    }
+
+    /// The notice that has waited longest.
+    fn first(&self) -> Option<Notice>
+        ensures { result ≡ slice_get self.now.notices.items 0 }
+    {
+        self.notices.front().copied()
+    }
+
+    /// Drops the notice that has waited longest.
+    fn drop_first(&mut self)
+        ensures { self.new.notices.items ≡ drop 1 self.old.notices.items }
+    {
+        self.notices.pop_front();
+    }
+}
+
+impl<'a> Seat<'a> {
+    ghost use Rattle.std.specs.Prelude.{◌≡◌, ◌≢◌, ℕ, ◌<◌, ◌^◌, [], ◌∷◌, ◌++◌, List, Some, length, ◌+◌, drop, replicate, slice_get, IfOk, OnOk, OnErr};
+    ghost use Rattle.due_model.specs.declared.event.Event.{Event};
+    ghost use Rattle.due_model.specs.Accepted.{IsAccepted, IsProper};
+    ghost use Rattle.due_model.specs.Covered.{IsCovered, IsTakenIn};
+    ghost use Rattle.decider.specs.Kept.{kept, settings, Fits, IsOwner};
+    ghost use Rattle.decider.specs.Gains.{gained};
+    ghost use Rattle.decider.specs.Outboxes.{lists, waiting_at};
+    ghost use Rattle.world_steps.specs.Held.{front_at, outbox_of, HasLanes};
+
+    /// How many of the posted events it has decided.
+    pub(crate) fn decided(&self) -> usize
+        ensures { result ≡ self.now.decided }
+    {
+        self.decided
+    }
+
+    /// The notice that has waited longest for this lane.
+    pub(crate) fn first(&self, lane: LaneId) -> Option<Notice>
+        requires lane { lane.0 < length self.now.front.items }
+        requires lanes { HasLanes self.now }
+        ensures { result ≡ slice_get (outbox_of self.now lane.0) 0 }
+    {
+        let front = &self.front[lane.0 as usize];
+        match front.first() {
+            Some(notice) => Some(notice),
+            None => self.back.front(lane),
+        }
+    }
+
+    /// Drops the notice that has waited longest for this lane.
+    pub(crate) fn drop_first(&mut self, lane: LaneId)
+        requires lane { lane.0 < length self.old.front.items }
+        requires lanes { HasLanes self.old }
+        ensures first { outbox_of self.new lane.0 ≡ drop 1 (outbox_of self.old lane.0) }
+        ensures others { (l : ℕ) → l ≢ lane.0 → outbox_of self.new l ≡ outbox_of self.old l }
+        ensures decider { self.new.decider ≡ self.old.decider }
+        ensures decided { self.new.decided ≡ self.old.decided }
+        ensures lanes { HasLanes self.new }
+        ensures length { length self.new.front.items ≡ length self.old.front.items }
+    {
+        let front = &mut self.front[lane.0 as usize];
+        if front.first().is_some() {
+            front.drop_first();
+        } else {
+            self.back.take_front(lane);
+        }
+    }
+
+    /// Decides this event for the owned objects. `NoMemory`, the only error, changes nothing.
+    pub(crate) fn decide(&mut self, event: Event) -> Result<(), StepFault>
+        requires proper { IsProper (kept self.old.decider).config event }
+        requires taken_in { IsTakenIn event.kind }
+        requires fits { (past : List Event) × Fits (kept self.old.decider) past × (length past < 2 ^ 32) }
+        requires lanes { length (lists self.old.back) ≡ length (kept self.old.decider).config.lanes }
+        requires count { self.old.decided < 2 ^ 32 }
+        ensures fits { OnOk result ((past : List Event) → Fits (kept self.old.decider) past → Fits (kept self.new.decider) (event ∷ past)) }
+        ensures notices { OnOk result ((past : List Event) → Fits (kept self.old.decider) past → (l : ℕ) → l < length (lists self.old.back)
+            → outbox_of self.new l ≡ outbox_of self.old l ++ gained (kept self.old.decider).config (kept self.old.decider).zone (kept self.old.decider).owned l event past) }
+        ensures decided { OnOk result (self.new.decided ≡ self.old.decided + 1) }
+        ensures settings { settings (kept self.new.decider) ≡ settings (kept self.old.decider) }
+        ensures back { length (lists self.new.back) ≡ length (lists self.old.back) }
+        ensures front { self.new.front ≡ self.old.front }
+        ensures err { OnErr result ((kept self.new.decider ≡ kept self.old.decider) × (lists self.new.back ≡ lists self.old.back) × (self.new.decided ≡ self.old.decided)) }
+        ensures fault { OnErr result (result ≡ Err StepFault.NoMemory) }
+    {
+        match self.decider.decide(event, &mut self.back) {
+            Ok(()) => {
+                self.decider.clear_log();
+                self.decided += 1;
+                Ok(())
+            }
+            Err(DecideFault::NoMemory) => Err(StepFault::NoMemory),
+            Err(DecideFault::Ended) => unreachable!(),
+        }
+    }
+}
