@@ -1,6 +1,12 @@
 -- Lists: a write at one place seen through a function of the elements, and the front of two lists that are joined.
 use Rattle.std.proofs.Common.{◌≡◌, ◌≢◌, ℕ, ◌+◌, ◌<◌, ◌≤◌, Bool, true, false, List, [], ◌∷◌, ◌++◌, length, map, set, get_or, drop, slice_get, is_some, Option, Some, None, subst, refl, sym, ap, ◌∙◌, arith, inl, inr, ◌⊎◌, get_or-set_same, get_or-set_other, length-set}
-use Rattle.std.proofs.lemmas.List.{map-set, get_or-map}
+use Rattle.std.proofs.Math.Seq.{map-set_same}
+use Rattle.std.proofs.lemmas.Bool.{cases_eq}
+use Rattle.std.proofs.lemmas.List.{map-set, get_or-map, append_assoc}
+
+-- what holds at i and elsewhere holds everywhere
+pub everywhere : (P : ℕ → Type 0) (i : ℕ) → P i → ((k : ℕ) → k ≢ i → P k) → (k : ℕ) → P k
+everywhere P i here others k = elim (cases_eq k i) [ inl e ↦ subst P (sym e) here | inr ne ↦ others k ne ]
 
 module _ {X Y : Type 0} (f : X → Y) where
   -- what f makes of the element that is written at i
@@ -15,12 +21,26 @@ module _ {X Y : Type 0} (f : X → Y) where
   pub read_at : (xs : List X) (i : ℕ) (x : X) (d : Y) → i < length xs → x ≡ get_or xs i x → get_or (map f xs) i d ≡ f x
   read_at xs i x d h e = get_or-map f xs i x d h ∙ ap f (sym e)
 
--- the front of two lists that are joined, where the first has one
-pub drop_front : {X : Type 0} (xs ys : List X) → is_some (slice_get xs 0) ≡ true → drop 1 (xs ++ ys) ≡ drop 1 xs ++ ys
-drop_front [] ys h = absurd (cc)
-drop_front (x ∷ xs) ys h = refl
+  -- an element that f sees unchanged
+  pub map-set_kept : (xs : List X) (i : ℕ) (x y : X) → x ≡ get_or xs i x → f y ≡ f x → map f (set xs i y) ≡ map f xs
+  map-set_kept xs i x y e w = map-set_same f xs i y x (w ∙ ap f e)
 
--- a list without a front
-pub no_front : {X : Type 0} (xs : List X) → is_some (slice_get xs 0) ≡ false → xs ≡ []
-no_front [] h = refl
-no_front (x ∷ xs) h = absurd (cc)
+module _ {X : Type 0} where
+  -- the front of two lists that are joined, where the first has one
+  pub drop_front : (xs ys : List X) → is_some (slice_get xs 0) ≡ true → drop 1 (xs ++ ys) ≡ drop 1 xs ++ ys
+  drop_front [] ys h = absurd (cc)
+  drop_front (x ∷ xs) ys h = refl
+
+  -- a list without a front
+  pub no_front : (xs : List X) → is_some (slice_get xs 0) ≡ false → xs ≡ []
+  no_front [] h = refl
+  no_front (x ∷ xs) h = absurd (cc)
+
+  -- a list with a front
+  pub with_front : (xs : List X) (x : X) → slice_get xs 0 ≡ Some x → x ∷ drop 1 xs ≡ xs
+  with_front [] x h = absurd (cc)
+  with_front (y ∷ ys) x h = let e : y ≡ x = cc in ap (λ z. z ∷ ys) (sym e)
+
+  -- the front of a list goes to the end of the one before it
+  pub front_moved : (xs ys : List X) (y : X) → slice_get ys 0 ≡ Some y → (xs ++ y ∷ []) ++ drop 1 ys ≡ xs ++ ys
+  front_moved xs ys y h = append_assoc xs (y ∷ []) (drop 1 ys) ∙ ap (λ zs. xs ++ zs) (with_front ys y h)

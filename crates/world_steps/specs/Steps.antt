@@ -74,9 +74,9 @@ queued notices lane = record lane { queue = lane.queue ++ notices }
 
 -- ---- a decider
 
--- which objects decider d of so many owns
-abbrev pub owner : (deciders d : ℕ) → Owned
-owner deciders d = record { decider = d; deciders = deciders }
+-- which objects decider d owns: those whose number modulo the number of deciders is d
+abbrev pub owner : Settings → (d : ℕ) → Owned
+owner s d = record { decider = d; deciders = s.deciders }
 
 -- the outboxes, each with what this event gains for its lane at the back
 abbrev pub lengthened : Settings → Owned → Event → List Event → List (List Notice) → List (List Notice)
@@ -138,7 +138,7 @@ IsEnabled s w (Drain l) = OfLane w l.0 CanDrain
 -- THE TABLE: what a step does
 abbrev pub after : Settings → WorldState → Step → WorldState
 after s w (Post e) = record w { posted = w.posted ++ e ∷ [] }
-after s w (Decide d) = with_decider w d (decided s (owner (length w.deciders) d) (slice_get w.posted (decider_at w d).decided) (past_of w d))
+after s w (Decide d) = with_decider w d (decided s (owner s d) (slice_get w.posted (decider_at w d).decided) (past_of w d))
 after s w (Put d l) = with_lane (with_decider w d (without_front l.0)) l.0 (queued (take 1 (outbox_at w d l.0)))
 after s w (Pick l) = with_lane w l.0 picked
 after s w (Settle l) = with_lane w l.0 settled

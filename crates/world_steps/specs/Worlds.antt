@@ -27,10 +27,12 @@ pub record WorldState : Type 0 where
   pub deciders : List DeciderState
   pub lanes : List LaneState
 
--- what no step changes: the configuration, the zone, how many notices a queue holds, and how many tries a message has
+-- what no step changes: the configuration, the zone, how many deciders there are, how many notices a queue holds, and how
+-- many tries a message has
 pub record Settings : Type 0 where
   pub config : Config
   pub zone : Zone
+  pub deciders : ℕ
   pub queue : ℕ
   pub tries : ℕ
 

@@ -1,6 +1,8 @@
 //! A lane: its queue, the message in hand, and what its channel has taken or not.
 
+use crate::line::{LineParts, about_in, about_in_hand, about_in_queue};
 use crate::step::StepFault;
+use due_model::config::ObjectId;
 use due_model::notice::Notice;
 use std::alloc::{AllocError, Global};
 use std::collections::VecDeque;
@@ -42,9 +44,10 @@ pub(crate) struct Lane {
 }
 
 impl Lane {
-    ghost use Rattle.std.specs.Prelude.{◌≡◌, ◌↔◌, [], ◌∷◌, length, not, IsTrue, OnOk, OnErr, IsErrOf};
+    ghost use Rattle.std.specs.Prelude.{◌≡◌, ◌↔◌, [], ◌∷◌, length, not, IsTrue, IfOk, OnOk, OnErr, IsErrOf};
     ghost use Rattle.world_steps.specs.Worlds.{empty_lane};
     ghost use Rattle.world_steps.specs.Steps.{CanPick, CanSettle, CanFail, CanAsk, CanClose, CanDrain, picked, settled, failed, asked, closed, drained, queued};
+    ghost use Rattle.world_steps.specs.Lines.{about};
     ghost use Rattle.world_steps.specs.Held.{lane_state, CanDo, done};
 
     /// A lane with nothing in it, which serves or is shut.
@@ -226,5 +229,27 @@ impl Lane {
     {
         self.queue.push_back(notice)?;
         Ok(())
+    }
+
+    /// What it holds of an object, but for the outboxes. A refused growth is the only error.
+    pub(crate) fn about(
+        &self,
+        alloc: Global,
+        object: ObjectId,
+        outbox: Vec<Notice>,
+    ) -> Result<LineParts, AllocError>
+        ensures taken { IfOk result (λ parts. parts.taken.items ≡ about object.0 (lane_state self.now).taken) }
+        ensures hand { IfOk result (λ parts. parts.hand.items ≡ about object.0 (lane_state self.now).hand) }
+        ensures undelivered { IfOk result (λ parts. parts.undelivered.items ≡ about object.0 (lane_state self.now).undelivered) }
+        ensures queue { IfOk result (λ parts. parts.queue.items ≡ about object.0 (lane_state self.now).queue) }
+        ensures outbox { IfOk result (λ parts. parts.outbox.items ≡ outbox.items) }
+    {
+        Ok(LineParts {
+            taken: about_in(alloc, &self.taken, object)?,
+            hand: about_in_hand(alloc, self.hand, object)?,
+            undelivered: about_in(alloc, &self.undelivered, object)?,
+            queue: about_in_queue(alloc, &self.queue, object)?,
+            outbox,
+        })
     }
 }

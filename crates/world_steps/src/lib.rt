@@ -3,7 +3,10 @@
 #![tactic(auto)]
 
 mod lane;
+mod line;
+mod parts;
 mod seat;
 mod step;
 
+pub use line::LineParts;
 pub use step::{Step, StepFault, Stopped};

@@ -1,8 +1,12 @@
 //! A decider, and the notices of it that wait for the queues of their lanes.
 
+ghost use Rattle.std.specs.Prelude.{◌≡◌, [], map, replicate, IfOk};
+ghost use Rattle.world_steps.specs.Held.{front_notices};
+
+use crate::line::about_in_queue;
 use crate::step::StepFault;
 use decider::{DecideFault, Decider, Outbox, Owned};
-use due_model::config::{Config, LaneId};
+use due_model::config::{Config, LaneId, ObjectId};
 use due_model::event::Event;
 use due_model::notice::Notice;
 use due_model::zone::Zone;
@@ -25,6 +29,19 @@ pub(crate) struct Seat<'a> {
     front: Vec<Front>,
     /// For each lane those behind them, where the decider adds its notices.
     back: Outbox,
+}
+
+/// So many empty fronts.
+fn empty_fronts(alloc: Global, lanes: usize) -> Result<Vec<Front>, AllocError>
+    ensures { IfOk result (λ fronts. map front_notices fronts.items ≡ replicate lanes []) }
+{
+    let mut made = Vec::with_capacity(alloc, lanes)?;
+    for _lane in 0..lanes {
+        made.push(Front {
+            notices: VecDeque::new(alloc),
+        })?;
+    }
+    Ok(made)
 }
 
 impl Front {
@@ -55,14 +72,41 @@ impl Front {
 }
 
 impl<'a> Seat<'a> {
-    ghost use Rattle.std.specs.Prelude.{◌≡◌, ◌≢◌, ℕ, ◌<◌, ◌^◌, [], ◌∷◌, ◌++◌, List, Some, length, ◌+◌, drop, replicate, slice_get, IfOk, OnOk, OnErr};
+    ghost use Rattle.std.specs.Prelude.{◌≡◌, ◌≢◌, ℕ, ◌<◌, ◌^◌, [], ◌∷◌, ◌++◌, List, Some, length, ◌+◌, map, drop, replicate, slice_get, IfOk, OnOk, OnErr};
     ghost use Rattle.due_model.specs.declared.event.Event.{Event};
     ghost use Rattle.due_model.specs.Accepted.{IsAccepted, IsProper};
     ghost use Rattle.due_model.specs.Covered.{IsCovered, IsTakenIn};
     ghost use Rattle.decider.specs.Kept.{kept, settings, Fits, IsOwner};
     ghost use Rattle.decider.specs.Gains.{gained};
     ghost use Rattle.decider.specs.Outboxes.{lists, waiting_at};
-    ghost use Rattle.world_steps.specs.Held.{front_at, outbox_of, HasLanes};
+    ghost use Rattle.world_steps.specs.Lines.{about};
+    ghost use Rattle.world_steps.specs.Held.{front_notices, front_at, outbox_of, HasLanes};
+
+    /// A decider of these objects, which has decided no event and for which nothing waits. A refused growth is the
+    /// only error.
+    pub(crate) fn new(
+        alloc: Global,
+        config: &'a Config,
+        zone: &'a Zone,
+        owned: Owned,
+    ) -> Result<Seat<'a>, AllocError>
+        requires accepted { IsAccepted config.now }
+        requires covered { IsCovered config.now }
+        requires owner { IsOwner owned }
+        ensures fits { IfOk result (λ seat. Fits (kept seat.decider) []) }
+        ensures settings { IfOk result (λ seat. settings (kept seat.decider) ≡ (config.now, zone.now, owned)) }
+        ensures decided { IfOk result (λ seat. seat.decided ≡ 0) }
+        ensures front { IfOk result (λ seat. map front_notices seat.front.items ≡ replicate (length config.now.lanes) []) }
+        ensures back { IfOk result (λ seat. lists seat.back ≡ replicate (length config.now.lanes) []) }
+    {
+        let lanes = config.lanes.len();
+        Ok(Seat {
+            decider: Decider::new(alloc, config, zone, owned)?,
+            decided: 0,
+            front: empty_fronts(alloc, lanes)?,
+            back: Outbox::new(alloc, lanes)?,
+        })
+    }
 
     /// How many of the posted events it has decided.
     pub(crate) fn decided(&self) -> usize
@@ -101,6 +145,64 @@ impl<'a> Seat<'a> {
         } else {
             self.back.take_front(lane);
         }
+    }
+
+    /// Moves the notice that is first behind the front of a lane to the end of that front. A refused growth changes
+    /// nothing.
+    fn gather_one(&mut self, lane: LaneId, notice: Notice) -> Result<(), AllocError>
+        requires lane { lane.0 < length self.old.front.items }
+        requires lanes { HasLanes self.old }
+        requires notice { slice_get (waiting_at self.old.back lane.0) 0 ≡ Some notice }
+        ensures outboxes { (l : ℕ) → outbox_of self.new l ≡ outbox_of self.old l }
+        ensures behind { OnOk result (waiting_at self.new.back lane.0 ≡ drop 1 (waiting_at self.old.back lane.0)) }
+        ensures decider { self.new.decider ≡ self.old.decider }
+        ensures decided { self.new.decided ≡ self.old.decided }
+        ensures lanes { HasLanes self.new }
+        ensures length { length self.new.front.items ≡ length self.old.front.items }
+    {
+        let front = &mut self.front[lane.0 as usize];
+        front.push(notice)?;
+        self.back.take_front(lane);
+        Ok(())
+    }
+
+    /// Moves all that waits for a lane to its front, where it can be read. The outboxes are the same.
+    fn gather(&mut self, lane: LaneId) -> Result<(), AllocError>
+        requires lane { lane.0 < length self.old.front.items }
+        requires lanes { HasLanes self.old }
+        ensures outboxes { (l : ℕ) → outbox_of self.new l ≡ outbox_of self.old l }
+        ensures behind { OnOk result (waiting_at self.new.back lane.0 ≡ []) }
+        ensures decider { self.new.decider ≡ self.old.decider }
+        ensures decided { self.new.decided ≡ self.old.decided }
+        ensures lanes { HasLanes self.new }
+        ensures length { length self.new.front.items ≡ length self.old.front.items }
+    {
+        while let Some(notice) = self.back.front(lane) {
+            self.gather_one(lane, notice)?;
+        }
+        Ok(())
+    }
+
+    /// The notices of an object that wait for a lane, the oldest first. The outboxes are the same. A refused growth
+    /// is the only error.
+    pub(crate) fn about(
+        &mut self,
+        alloc: Global,
+        lane: LaneId,
+        object: ObjectId,
+    ) -> Result<Vec<Notice>, AllocError>
+        requires lane { lane.0 < length self.old.front.items }
+        requires lanes { HasLanes self.old }
+        ensures notices { IfOk result (λ notices. notices.items ≡ about object.0 (outbox_of self.old lane.0)) }
+        ensures outboxes { (l : ℕ) → outbox_of self.new l ≡ outbox_of self.old l }
+        ensures decider { self.new.decider ≡ self.old.decider }
+        ensures decided { self.new.decided ≡ self.old.decided }
+        ensures lanes { HasLanes self.new }
+        ensures length { length self.new.front.items ≡ length self.old.front.items }
+    {
+        self.gather(lane)?;
+        let front = &self.front[lane.0 as usize];
+        about_in_queue(alloc, &front.notices, object)
     }
 
     /// Decides this event for the owned objects. `NoMemory`, the only error, changes nothing.
