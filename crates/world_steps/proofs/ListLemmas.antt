@@ -21,6 +21,11 @@ module _ {X Y : Type 0} (f : X → Y) where
   pub read_at : (xs : List X) (i : ℕ) (x : X) (d : Y) → i < length xs → x ≡ get_or xs i x → get_or (map f xs) i d ≡ f x
   read_at xs i x d h e = get_or-map f xs i x d h ∙ ap f (sym e)
 
+  -- an element that f sees changed by g
+  pub map-set_by : (xs : List X) (i : ℕ) (x y : X) (d : Y) (g : Y → Y) → i < length xs → x ≡ get_or xs i x → f y ≡ g (f x)
+      → map f (set xs i y) ≡ set (map f xs) i (g (get_or (map f xs) i d))
+  map-set_by xs i x y d g h e w = map-set f xs i y ∙ ap (λ v. set (map f xs) i v) (w ∙ ap g (sym (read_at xs i x d h e)))
+
   -- an element that f sees unchanged
   pub map-set_kept : (xs : List X) (i : ℕ) (x y : X) → x ≡ get_or xs i x → f y ≡ f x → map f (set xs i y) ≡ map f xs
   map-set_kept xs i x y e w = map-set_same f xs i y x (w ∙ ap f e)
@@ -30,6 +35,11 @@ module _ {X : Type 0} where
   pub drop_front : (xs ys : List X) → is_some (slice_get xs 0) ≡ true → drop 1 (xs ++ ys) ≡ drop 1 xs ++ ys
   drop_front [] ys h = absurd (cc)
   drop_front (x ∷ xs) ys h = refl
+
+  -- whether a list has a front
+  pub some_front : (xs : List X) (b : Bool) → b ≡ is_some (slice_get xs 0) → (b ≡ true → 0 < length xs) × (0 < length xs → b ≡ true)
+  some_front [] b e = (λ t. absurd (cc), λ lt. absurd (omega arith))
+  some_front (x ∷ xs) b e = (λ _. omega arith, λ _. e)
 
   -- a list without a front
   pub no_front : (xs : List X) → is_some (slice_get xs 0) ≡ false → xs ≡ []

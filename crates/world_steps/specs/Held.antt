@@ -89,8 +89,10 @@ pub record Holds (s : Settings) (posted : List Event) (seats : List Seat) : Type
   pub deciders : length seats ≡ s.deciders
   pub each : (d : ℕ) (seat : Seat) → slice_get seats d ≡ Some seat → SeatFits s posted d seat
 
-abbrev pub PartsHold : Parts → Type 0
-PartsHold parts = Holds (parts_settings parts) parts.posted.items parts.seats.items
+-- and all lanes are there
+pub record PartsHold (parts : Parts) : Type 0 where
+  pub seats : Holds (parts_settings parts) parts.posted.items parts.seats.items
+  pub lanes : length parts.lanes.items ≡ length parts.config.now.lanes
 
 -- What holds of a world's state from its beginning on: there are all lanes and deciders, each decider with an outbox for each
 -- lane, in which only objects wait that it owns; a lane that serves has given nothing up; and the lines are due.

@@ -3,3 +3,4 @@ pub mod Steps
 pub mod Lines
 pub mod Runs
 pub mod Held
+pub mod Facts

@@ -4,6 +4,8 @@ use Rattle.std.specs.List.{range_with_len}
 use Rattle.due_model.specs.declared.config.LaneId.{LaneId}
 use Rattle.due_model.specs.declared.event.Event.{Event}
 use Rattle.due_model.specs.declared.notice.Notice.{Notice}
+use Rattle.due_model.specs.declared.config.Config.{Config}
+use Rattle.due_model.specs.Covered.{IsPlainEvent}
 use Rattle.decider.specs.declared.owned.Owned.{Owned}
 use Rattle.decider.specs.Gains.{gained}
 use Rattle.world_steps.specs.declared.step.Step.{Step}
@@ -122,6 +124,18 @@ with_decider w d f = record w { deciders = slice_set w.deciders d (f (decider_at
 -- the events that decider d has decided, the newest first
 abbrev pub past_of : WorldState → ℕ → List Event
 past_of w d = reverse (take (decider_at w d).decided w.posted)
+
+-- a step that posts, if it is one, posts what the feed gives and is taken in so far
+abbrev pub IsPlainStep : Config → Step → Type 0
+IsPlainStep c (Post e) = IsPlainEvent c e
+IsPlainStep c (Decide d) = Unit {0}
+IsPlainStep c (Put d l) = Unit {0}
+IsPlainStep c (Pick l) = Unit {0}
+IsPlainStep c (Settle l) = Unit {0}
+IsPlainStep c (Fail l) = Unit {0}
+IsPlainStep c (Ask l) = Unit {0}
+IsPlainStep c (Close l) = Unit {0}
+IsPlainStep c (Drain l) = Unit {0}
 
 -- THE TABLE: when a step is enabled
 abbrev pub IsEnabled : Settings → WorldState → Step → Type 0

@@ -1,0 +1,86 @@
+-- What is kept in parts, seen as the state of a world.
+use Rattle.std.proofs.Common.{◌≡◌, ◌≢◌, ℕ, ◌+◌, ◌<◌, ◌≤◌, List, [], ◌∷◌, ◌++◌, length, map, set, get_or, take, drop, reverse, slice_get, Some, subst, refl, sym, ap, ◌∙◌, arith, zero-add, length-set, get_or-set_same, get_or-set_other}
+use Rattle.std.specs.List.{range_with_len}
+use Rattle.std.proofs.lemmas.List.{take-append-le, length-append, ext_get_or}
+use Rattle.std.proofs.lemmas.List.FromFn.{length-map-range_with_len, get_or-map-range_with_len, fill_by_all}
+use Rattle.std.proofs.lemmas.Option.{slice_get-get_or, slice_get_within, slice_get_read, get_or_from_slice_get}
+use Rattle.due_model.specs.declared.event.Event.{Event}
+use Rattle.due_model.specs.declared.notice.Notice.{Notice}
+use Rattle.decider.specs.Gains.{gained}
+use Rattle.decider.specs.Kept.{Fits, kept}
+use Rattle.decider.specs.Outboxes.{lists}
+use Rattle.decider.specs.declared.owned.Owned.{Owned}
+use Rattle.world_steps.specs.declared.seat.Seat.{Seat}
+use Rattle.world_steps.specs.Worlds.{DeciderState, Settings, no_decider}
+use Rattle.world_steps.specs.Steps.{decided, without_front, owner}
+use Rattle.world_steps.specs.Held.{outbox_of, seat_state, SeatFits, Holds}
+use Rattle.world_steps.proofs.ListLemmas.{everywhere, read_at}
+
+-- lists made of functions that agree
+pub range_same : {X : Type 0} (f g : ℕ → X) (n : ℕ) (d : X) → ((k : ℕ) → k < n → f k ≡ g k) → map f (range_with_len 0 n) ≡ map g (range_with_len 0 n)
+range_same f g n d h = fill_by_all g (map f (range_with_len 0 n)) n d (length-map-range_with_len f 0 n) (λ k l. get_or-map-range_with_len f 0 n k k d l (zero-add k) ∙ h k l)
+
+-- the outbox of a seat for lane l
+pub outbox_read : (seat : Seat) (l : ℕ) → l < length seat.front.items → get_or (seat_state seat).outboxes l [] ≡ outbox_of seat l
+outbox_read seat l h = get_or-map-range_with_len (outbox_of seat) 0 (length seat.front.items) l l [] h (zero-add l)
+
+-- the same, for seat d among all
+pub outbox_read_at : (seats : List Seat) (d : ℕ) (seat : Seat) (l : ℕ) → d < length seats → seat ≡ get_or seats d seat → l < length seat.front.items
+    → get_or (get_or (map seat_state seats) d no_decider).outboxes l [] ≡ outbox_of seat l
+outbox_read_at seats d seat l within e h =
+    ap (λ (x : DeciderState). get_or x.outboxes l []) (read_at seat_state seats d seat no_decider within e) ∙ outbox_read seat l h
+
+-- seat d among all stands for its events
+pub seat_fits : (s : Settings) (posted : List Event) (seats : List Seat) (d : ℕ) (seat : Seat) → Holds s posted seats → d < length seats → seat ≡ get_or seats d seat → SeatFits s posted d seat
+seat_fits s posted seats d seat holds within e = holds.each d seat (slice_get_read seats (length seats) d seat refl within e)
+
+-- a seat after a step that leaves its outboxes but for the front of one
+pub without_front_law : (x y : Seat) (l : ℕ) → l < length x.front.items → y.decided ≡ x.decided → length y.front.items ≡ length x.front.items
+    → outbox_of y l ≡ drop 1 (outbox_of x l) → ((k : ℕ) → k ≢ l → outbox_of y k ≡ outbox_of x k) → seat_state y ≡ without_front l (seat_state x)
+without_front_law x y l h same long here others =
+    let n = length x.front.items in
+    let old = map (outbox_of x) (range_with_len 0 n) in
+    let new = set old l (drop 1 (get_or old l [])) in
+    let long_old : length old ≡ n = length-map-range_with_len (outbox_of x) 0 n in
+    let long_new : length new ≡ n = length-set old l (drop 1 (get_or old l [])) ∙ long_old in
+    let each : (k : ℕ) → k < n → get_or new k [] ≡ outbox_of y k =
+        everywhere (λ k. k < n → get_or new k [] ≡ outbox_of y k) l
+        (λ _. get_or-set_same old l (drop 1 (get_or old l [])) [] (omega (arith, long_old, h)) ∙ ap (drop 1) (outbox_read x l h) ∙ sym here)
+        (λ k ne lt. get_or-set_other old l k (drop 1 (get_or old l [])) [] ne ∙ outbox_read x k lt ∙ sym (others k ne)) in
+    let e : map (outbox_of y) (range_with_len 0 (length y.front.items)) ≡ new =
+        ap (λ (m : ℕ). map (outbox_of y) (range_with_len 0 m)) long ∙ sym (fill_by_all (outbox_of y) new n [] long_new each) in
+    ap (λ (m : ℕ). record { decided = m; outboxes = map (outbox_of y) (range_with_len 0 (length y.front.items)) }) same
+    ∙ ap (λ (outs : List (List Notice)). record { decided = x.decided; outboxes = outs }) e
+
+-- a seat that has decided one more event
+pub decided_law : (s : Settings) (owned : Owned) (e : Event) (past : List Event) (x y : Seat) → y.decided ≡ x.decided + 1 → length y.front.items ≡ length x.front.items
+    → ((l : ℕ) → l < length x.front.items → outbox_of y l ≡ outbox_of x l ++ gained s.config s.zone owned l e past) → seat_state y ≡ decided s owned (Some e) past (seat_state x)
+decided_law s owned e past x y more long each =
+    let n = length x.front.items in
+    let old = map (outbox_of x) (range_with_len 0 n) in
+    let gain : ℕ → List Notice = λ (l : ℕ). gained s.config s.zone owned l e past in
+    let new : ℕ → List Notice = λ (l : ℕ). get_or old l [] ++ gain l in
+    let outs : map (outbox_of y) (range_with_len 0 (length y.front.items)) ≡ map new (range_with_len 0 (length old)) =
+        ap (λ (m : ℕ). map (outbox_of y) (range_with_len 0 m)) long
+        ∙ range_same (outbox_of y) new n [] (λ l h. each l h ∙ ap (λ (ns : List Notice). ns ++ gain l) (sym (outbox_read x l h)))
+        ∙ ap (λ (m : ℕ). map new (range_with_len 0 m)) (sym (length-map-range_with_len (outbox_of x) 0 n)) in
+    ap (λ (m : ℕ). record { decided = m; outboxes = map (outbox_of y) (range_with_len 0 (length y.front.items)) }) more
+    ∙ ap (λ (os : List (List Notice)). record { decided = x.decided + 1; outboxes = os }) outs
+
+-- what is found at d behind a write at i
+pub set_found : {X : Type 0} (P : ℕ → X → Type 0) (xs : List X) (i : ℕ) (y : X) → ((d : ℕ) (x : X) → slice_get xs d ≡ Some x → P d x) → P i y → (d : ℕ) (x : X) → slice_get (set xs i y) d ≡ Some x → P d x
+set_found P xs i y each new = everywhere (λ d. (x : _) → slice_get (set xs i y) d ≡ Some x → P d x) i
+    (λ x e. let within : i < length xs = omega (arith, length-set xs i y, slice_get_within (set xs i y) i x e) in
+        subst (P i) (sym (get_or-set_same xs i y x within) ∙ get_or_from_slice_get (set xs i y) i x x e) new)
+    (λ d ne x e. let within : d < length xs = omega (arith, length-set xs i y, slice_get_within (set xs i y) d x e) in
+        each d x (slice_get-get_or xs d x within ∙ ap (λ z. Some z) (sym (get_or-set_other xs i d y x ne) ∙ get_or_from_slice_get (set xs i y) d x x e)))
+
+-- a seat stands for the same events once more are posted
+pub fits_more : (s : Settings) (posted : List Event) (d : ℕ) (seat : Seat) (e : Event) → SeatFits s posted d seat → SeatFits s (posted ++ e ∷ []) d seat
+fits_more s posted d seat e was = record {
+  within = omega (arith, was.within, length-append posted (e ∷ []));
+  fits = subst (λ (past : List Event). Fits (kept seat.decider) (reverse past)) (sym (take-append-le seat.decided posted (e ∷ []) was.within)) was.fits;
+  settings = was.settings;
+  front = was.front;
+  back = was.back;
+}
