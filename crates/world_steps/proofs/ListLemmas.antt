@@ -1,8 +1,8 @@
 -- Lists: a write at one place seen through a function of the elements, and the front of two lists that are joined.
-use Rattle.std.proofs.Common.{◌≡◌, ◌≢◌, ℕ, ◌+◌, ◌<◌, ◌≤◌, Bool, true, false, List, [], ◌∷◌, ◌++◌, length, map, set, get_or, drop, slice_get, is_some, Option, Some, None, subst, refl, sym, ap, ◌∙◌, arith, inl, inr, ◌⊎◌, get_or-set_same, get_or-set_other, length-set}
+use Rattle.std.proofs.Common.{◌≡◌, ◌≢◌, ℕ, ◌+◌, ◌<◌, ◌≤◌, Bool, true, false, List, [], ◌∷◌, ◌++◌, length, map, set, get_or, take, drop, reverse, slice_get, is_some, Result, Ok, Err, OnErr, Option, Some, None, subst, refl, sym, ap, ◌∙◌, arith, inl, inr, ◌⊎◌, get_or-set_same, get_or-set_other, length-set}
 use Rattle.std.proofs.Math.Seq.{map-set_same}
 use Rattle.std.proofs.lemmas.Bool.{cases_eq}
-use Rattle.std.proofs.lemmas.List.{map-set, get_or-map, append_assoc}
+use Rattle.std.proofs.lemmas.List.{map-set, get_or-map, append_assoc, take_more, reverse-append}
 
 -- what holds at i and elsewhere holds everywhere
 pub everywhere : (P : ℕ → Type 0) (i : ℕ) → P i → ((k : ℕ) → k ≢ i → P k) → (k : ℕ) → P k
@@ -54,3 +54,19 @@ module _ {X : Type 0} where
   -- the front of a list goes to the end of the one before it
   pub front_moved : (xs ys : List X) (y : X) → slice_get ys 0 ≡ Some y → (xs ++ y ∷ []) ++ drop 1 ys ≡ xs ++ ys
   front_moved xs ys y h = append_assoc xs (y ∷ []) (drop 1 ys) ∙ ap (λ zs. xs ++ zs) (with_front ys y h)
+
+  -- the front alone
+  pub one_front : (xs : List X) (x : X) → slice_get xs 0 ≡ Some x → take 1 xs ≡ x ∷ []
+  one_front [] x h = absurd (cc)
+  one_front (y ∷ ys) x h = let e : y ≡ x = cc in ap (λ z. z ∷ []) e
+
+  -- the first elements in reverse, with one more
+  pub reverse_more : (xs : List X) (n : ℕ) (x : X) → n < length xs → x ≡ get_or xs n x → reverse (take (n + 1) xs) ≡ x ∷ reverse (take n xs)
+  reverse_more xs n x h e =
+      ap reverse (take_more xs n x h ∙ ap (λ y. take n xs ++ y ∷ []) (sym e))
+      ∙ reverse-append (take n xs) (x ∷ [])
+
+-- what holds in any case holds where a call failed
+pub on_err_always : {T E P : Type 0} (r : Result T E) → P → OnErr r P
+on_err_always (Ok x) p = tt
+on_err_always (Err e) p = p

@@ -1,19 +1,22 @@
 -- What is kept in parts, seen as the state of a world.
 use Rattle.std.proofs.Common.{◌≡◌, ◌≢◌, ℕ, ◌+◌, ◌<◌, ◌≤◌, List, [], ◌∷◌, ◌++◌, length, map, set, get_or, take, drop, reverse, slice_get, Some, subst, refl, sym, ap, ◌∙◌, arith, zero-add, length-set, get_or-set_same, get_or-set_other}
 use Rattle.std.specs.List.{range_with_len}
-use Rattle.std.proofs.lemmas.List.{take-append-le, length-append, ext_get_or}
+use Rattle.std.specs.Global.{Vec}
+use Rattle.std.proofs.lemmas.List.{take-append-le, length-append, length-reverse, length-take-le}
 use Rattle.std.proofs.lemmas.List.FromFn.{length-map-range_with_len, get_or-map-range_with_len, fill_by_all}
 use Rattle.std.proofs.lemmas.Option.{slice_get-get_or, slice_get_within, slice_get_read, get_or_from_slice_get}
 use Rattle.due_model.specs.declared.event.Event.{Event}
 use Rattle.due_model.specs.declared.notice.Notice.{Notice}
 use Rattle.decider.specs.Gains.{gained}
-use Rattle.decider.specs.Kept.{Fits, kept}
+use Rattle.decider.specs.Kept.{Kept, Fits, kept, settings}
 use Rattle.decider.specs.Outboxes.{lists}
 use Rattle.decider.specs.declared.owned.Owned.{Owned}
+use Rattle.world_steps.specs.declared.parts.Parts.{Parts}
+use Rattle.world_steps.specs.declared.seat.Front.{Front}
 use Rattle.world_steps.specs.declared.seat.Seat.{Seat}
 use Rattle.world_steps.specs.Worlds.{DeciderState, Settings, no_decider}
 use Rattle.world_steps.specs.Steps.{decided, without_front, owner}
-use Rattle.world_steps.specs.Held.{outbox_of, seat_state, SeatFits, Holds}
+use Rattle.world_steps.specs.Held.{front_notices, outbox_of, seat_state, parts_settings, SeatFits, Holds, PartsHold}
 use Rattle.world_steps.proofs.ListLemmas.{everywhere, read_at}
 
 -- lists made of functions that agree
@@ -74,6 +77,45 @@ set_found P xs i y each new = everywhere (λ d. (x : _) → slice_get (set xs i 
         subst (P i) (sym (get_or-set_same xs i y x within) ∙ get_or_from_slice_get (set xs i y) i x x e) new)
     (λ d ne x e. let within : d < length xs = omega (arith, length-set xs i y, slice_get_within (set xs i y) d x e) in
         each d x (slice_get-get_or xs d x within ∙ ap (λ z. Some z) (sym (get_or-set_other xs i d y x ne) ∙ get_or_from_slice_get (set xs i y) d x x e)))
+
+-- a seat that keeps the same has the same outboxes
+pub same_seat : (x y : Seat) → y.decided ≡ x.decided → y.front ≡ x.front → lists y.back ≡ lists x.back → seat_state y ≡ seat_state x
+same_seat x y count front back =
+    let outs : List (List Notice) → List (List Notice) → List (List Notice) = λ (f b : List (List Notice)). map (λ (l : ℕ). get_or f l [] ++ get_or b l []) (range_with_len 0 (length x.front.items)) in
+    ap (λ (m : ℕ). record { decided = m; outboxes = map (outbox_of y) (range_with_len 0 (length y.front.items)) }) count
+    ∙ ap (λ (os : List (List Notice)). record { decided = x.decided; outboxes = os })
+    (ap (λ (f : Vec Front). map (λ (l : ℕ). get_or (map front_notices f.items) l [] ++ get_or (lists y.back) l []) (range_with_len 0 (length f.items))) front
+    ∙ ap (outs (map front_notices x.front.items)) back)
+
+-- and stands for the same events
+pub kept_fits : (s : Settings) (posted : List Event) (d : ℕ) (x y : Seat) → kept y.decider ≡ kept x.decider → y.decided ≡ x.decided
+    → length y.front.items ≡ length x.front.items → length (lists y.back) ≡ length (lists x.back) → SeatFits s posted d x → SeatFits s posted d y
+kept_fits s posted d x y same count front back was = record {
+  within = omega (arith, count, was.within);
+  fits = subst (λ (k : Kept). Fits k (reverse (take y.decided posted))) (sym same) (subst (λ (n : ℕ). Fits (kept x.decider) (reverse (take n posted))) (sym count) was.fits);
+  settings = ap settings same ∙ was.settings;
+  front = front ∙ was.front;
+  back = back ∙ was.back;
+}
+
+-- one seat is another that fits
+pub holds_set : (s : Settings) (posted : List Event) (seats : List Seat) (d : ℕ) (y : Seat) → Holds s posted seats → SeatFits s posted d y → Holds s posted (set seats d y)
+holds_set s posted seats d y before new = record {
+  accepted = before.accepted;
+  covered = before.covered;
+  plain = before.plain;
+  short = before.short;
+  deciders = length-set seats d y ∙ before.deciders;
+  each = set_found (SeatFits s posted) seats d y before.each new;
+}
+
+-- a lane of the parts has an outbox in each seat
+pub has_outbox : (parts : Parts) (d l : ℕ) (x : Seat) → PartsHold parts → SeatFits (parts_settings parts) parts.posted.items d x → l < length parts.lanes.items → l < length x.front.items
+has_outbox parts d l x holds fits h = omega (arith, fits.front, holds.lanes, h)
+
+-- how many events are decided
+pub past_length : (posted : List Event) (n : ℕ) → n ≤ length posted → length (reverse (take n posted)) ≡ n
+past_length posted n h = length-reverse (take n posted) ∙ length-take-le n posted h
 
 -- a seat stands for the same events once more are posted
 pub fits_more : (s : Settings) (posted : List Event) (d : ℕ) (seat : Seat) (e : Event) → SeatFits s posted d seat → SeatFits s (posted ++ e ∷ []) d seat

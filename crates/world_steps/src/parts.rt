@@ -40,7 +40,7 @@ fn append(posted: &mut Vec<Event>, event: Event) -> Result<(), AllocError>
 }
 
 impl<'a> Parts<'a> {
-    ghost use Rattle.std.specs.Prelude.{◌≡◌, ◌↔◌, ◌<◌, length, IsTrue, OnOk, OnErr, IfErr, IsErrOf};
+    ghost use Rattle.std.specs.Prelude.{◌≡◌, ◌↔◌, ◌<◌, length, IsTrue, OnOk, OnErr, IsErrOf};
     ghost use Rattle.due_model.specs.Covered.{IsPlainEvent};
     ghost use Rattle.world_steps.specs.Worlds.{lane_at, outbox_at};
     ghost use Rattle.world_steps.specs.Steps.{IsEnabled, IsPlainStep, after, OfLane, with_lane, CanDecide, CanPut};
@@ -158,19 +158,19 @@ impl<'a> Parts<'a> {
         seat.decided() < self.posted.len()
     }
 
-    /// Decides the next event of a decider for the objects that it owns. `NoMemory`, the only error, changes nothing.
-    fn decide_next(&mut self, decider: u8) -> Result<(), StepFault>
+    /// Decides the next event of a decider for the objects that it owns. A refused growth changes nothing.
+    fn decide_next(&mut self, decider: u8) -> Result<(), AllocError>
         requires holds { PartsHold self.old }
         requires enabled { CanDecide (parts_state self.old) decider }
         ensures ok { OnOk result (parts_state self.new ≡ after (parts_settings self.old) (parts_state self.old) (Step.Decide decider)) }
         ensures err { OnErr result (parts_state self.new ≡ parts_state self.old) }
-        ensures fault { IfErr result (λ fault. fault ≡ StepFault.NoMemory) }
         ensures settings { parts_settings self.new ≡ parts_settings self.old }
         ensures holds { PartsHold self.new }
     {
         let seat = &mut self.seats[decider as usize];
         let event = self.posted[seat.decided()];
-        seat.decide(event)
+        seat.decide(event)?;
+        Ok(())
     }
 
     /// Decides the next event of a decider for the objects that it owns.
@@ -185,7 +185,8 @@ impl<'a> Parts<'a> {
         if !self.can_decide(decider) {
             return Err(StepFault::NotEnabled);
         }
-        self.decide_next(decider)
+        self.decide_next(decider)?;
+        Ok(())
     }
 
     /// Does a step, where it is enabled.

@@ -4,7 +4,6 @@ ghost use Rattle.std.specs.Prelude.{◌≡◌, [], map, replicate, IfOk};
 ghost use Rattle.world_steps.specs.Held.{front_notices};
 
 use crate::line::about_in_queue;
-use crate::step::StepFault;
 use decider::{DecideFault, Decider, Outbox, Owned};
 use due_model::config::{Config, LaneId, ObjectId};
 use due_model::event::Event;
@@ -205,8 +204,8 @@ impl<'a> Seat<'a> {
         about_in_queue(alloc, &front.notices, object)
     }
 
-    /// Decides this event for the owned objects. `NoMemory`, the only error, changes nothing.
-    pub(crate) fn decide(&mut self, event: Event) -> Result<(), StepFault>
+    /// Decides this event for the owned objects. A refused growth is the only error, and changes nothing.
+    pub(crate) fn decide(&mut self, event: Event) -> Result<(), AllocError>
         requires proper { IsProper (kept self.old.decider).config event }
         requires taken_in { IsTakenIn event.kind }
         requires fits { (past : List Event) × Fits (kept self.old.decider) past × (length past < 2 ^ 32) }
@@ -220,7 +219,6 @@ impl<'a> Seat<'a> {
         ensures back { length (lists self.new.back) ≡ length (lists self.old.back) }
         ensures front { self.new.front ≡ self.old.front }
         ensures err { OnErr result ((kept self.new.decider ≡ kept self.old.decider) × (lists self.new.back ≡ lists self.old.back) × (self.new.decided ≡ self.old.decided)) }
-        ensures fault { OnErr result (result ≡ Err StepFault.NoMemory) }
     {
         match self.decider.decide(event, &mut self.back) {
             Ok(()) => {
@@ -228,7 +226,7 @@ impl<'a> Seat<'a> {
                 self.decided += 1;
                 Ok(())
             }
-            Err(DecideFault::NoMemory) => Err(StepFault::NoMemory),
+            Err(DecideFault::NoMemory) => Err(AllocError),
             Err(DecideFault::Ended) => unreachable!(),
         }
     }
