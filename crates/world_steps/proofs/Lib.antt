@@ -1,2 +1,5 @@
 pub mod ListLemmas
 pub mod PartsLaws
+pub mod Gains
+pub mod Shapes
+pub mod Soundness

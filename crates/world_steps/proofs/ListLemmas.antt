@@ -1,5 +1,5 @@
 -- Lists: a write at one place seen through a function of the elements, and the front of two lists that are joined.
-use Rattle.std.proofs.Common.{◌≡◌, ◌≢◌, ℕ, ◌+◌, ◌<◌, ◌≤◌, Bool, true, false, List, [], ◌∷◌, ◌++◌, length, map, set, get_or, take, drop, reverse, slice_get, is_some, Result, Ok, Err, OnErr, Option, Some, None, subst, refl, sym, ap, ◌∙◌, arith, inl, inr, ◌⊎◌, get_or-set_same, get_or-set_other, length-set}
+use Rattle.std.proofs.Common.{◌≡◌, ◌≢◌, ℕ, zero, suc, ◌+◌, ◌<◌, ◌≤◌, Bool, true, false, List, [], ◌∷◌, ◌++◌, length, map, set, get_or, take, drop, reverse, slice_get, is_some, Result, Ok, Err, OnErr, Option, Some, None, subst, refl, sym, ap, ◌∙◌, arith, inl, inr, ◌⊎◌, get_or-set_same, get_or-set_other, length-set}
 use Rattle.std.proofs.Math.Seq.{map-set_same}
 use Rattle.std.proofs.lemmas.Bool.{cases_eq}
 use Rattle.std.proofs.lemmas.List.{map-set, get_or-map, append_assoc, take_more, reverse-append}
@@ -59,6 +59,12 @@ module _ {X : Type 0} where
   pub one_front : (xs : List X) (x : X) → slice_get xs 0 ≡ Some x → take 1 xs ≡ x ∷ []
   one_front [] x h = absurd (cc)
   one_front (y ∷ ys) x h = let e : y ≡ x = cc in ap (λ z. z ∷ []) e
+
+  -- nothing is found past the end
+  pub none_past : (xs : List X) (n : ℕ) → slice_get xs n ≡ None → length xs ≤ n
+  none_past [] n h = omega arith
+  none_past (x ∷ xs) zero h = absurd (cc)
+  none_past (x ∷ xs) (suc n) h = omega (arith, none_past xs n h)
 
   -- the first elements in reverse, with one more
   pub reverse_more : (xs : List X) (n : ℕ) (x : X) → n < length xs → x ≡ get_or xs n x → reverse (take (n + 1) xs) ≡ x ∷ reverse (take n xs)

@@ -4,3 +4,4 @@ pub mod Lines
 pub mod Runs
 pub mod Held
 pub mod Facts
+pub mod Views

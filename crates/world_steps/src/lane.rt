@@ -212,6 +212,7 @@ impl Lane {
     /// Does a step, where it is enabled. `NotEnabled` and `NoMemory` change nothing.
     pub(crate) fn apply(&mut self, step: LaneStep, tries: u8) -> Result<(), StepFault>
         ensures refused { IsErrOf result StepFault.NotEnabled ↔ ¬ CanDo tries step (lane_state self.old) }
+        ensures enabled { OnOk result (CanDo tries step (lane_state self.old)) }
         ensures ok { OnOk result (lane_state self.new ≡ done step (lane_state self.old)) }
         ensures err { OnErr result (lane_state self.new ≡ lane_state self.old) }
     {

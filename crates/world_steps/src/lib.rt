@@ -7,6 +7,8 @@ mod line;
 mod parts;
 mod seat;
 mod step;
+mod world;
 
 pub use line::LineParts;
 pub use step::{Step, StepFault, Stopped};
+pub use world::World;

@@ -51,6 +51,7 @@ impl<'a> Parts<'a> {
         requires plain { IsPlainEvent self.old.config.now event }
         requires holds { PartsHold self.old }
         ensures refused { IsErrOf result StepFault.NotEnabled ↔ ¬ IsEnabled (parts_settings self.old) (parts_state self.old) (Step.Post event) }
+        ensures enabled { OnOk result (IsEnabled (parts_settings self.old) (parts_state self.old) (Step.Post event)) }
         ensures ok { OnOk result (parts_state self.new ≡ after (parts_settings self.old) (parts_state self.old) (Step.Post event)) }
         ensures err { OnErr result (parts_state self.new ≡ parts_state self.old) }
         ensures settings { parts_settings self.new ≡ parts_settings self.old }
@@ -67,6 +68,7 @@ impl<'a> Parts<'a> {
     fn on_lane(&mut self, lane: LaneId, step: LaneStep) -> Result<(), StepFault>
         requires holds { PartsHold self.old }
         ensures refused { IsErrOf result StepFault.NotEnabled ↔ ¬ OfLane (parts_state self.old) lane.0 (CanDo self.old.tries step) }
+        ensures enabled { OnOk result (OfLane (parts_state self.old) lane.0 (CanDo self.old.tries step)) }
         ensures ok { OnOk result (parts_state self.new ≡ with_lane (parts_state self.old) lane.0 (done step)) }
         ensures err { OnErr result (parts_state self.new ≡ parts_state self.old) }
         ensures settings { parts_settings self.new ≡ parts_settings self.old }
@@ -134,6 +136,7 @@ impl<'a> Parts<'a> {
     fn put(&mut self, decider: u8, lane: LaneId) -> Result<(), StepFault>
         requires holds { PartsHold self.old }
         ensures refused { IsErrOf result StepFault.NotEnabled ↔ ¬ IsEnabled (parts_settings self.old) (parts_state self.old) (Step.Put decider lane) }
+        ensures enabled { OnOk result (IsEnabled (parts_settings self.old) (parts_state self.old) (Step.Put decider lane)) }
         ensures ok { OnOk result (parts_state self.new ≡ after (parts_settings self.old) (parts_state self.old) (Step.Put decider lane)) }
         ensures err { OnErr result (parts_state self.new ≡ parts_state self.old) }
         ensures settings { parts_settings self.new ≡ parts_settings self.old }
@@ -177,6 +180,7 @@ impl<'a> Parts<'a> {
     fn decide(&mut self, decider: u8) -> Result<(), StepFault>
         requires holds { PartsHold self.old }
         ensures refused { IsErrOf result StepFault.NotEnabled ↔ ¬ IsEnabled (parts_settings self.old) (parts_state self.old) (Step.Decide decider) }
+        ensures enabled { OnOk result (IsEnabled (parts_settings self.old) (parts_state self.old) (Step.Decide decider)) }
         ensures ok { OnOk result (parts_state self.new ≡ after (parts_settings self.old) (parts_state self.old) (Step.Decide decider)) }
         ensures err { OnErr result (parts_state self.new ≡ parts_state self.old) }
         ensures settings { parts_settings self.new ≡ parts_settings self.old }
@@ -189,11 +193,12 @@ impl<'a> Parts<'a> {
         Ok(())
     }
 
-    /// Does a step, where it is enabled.
-    fn perform(&mut self, step: Step) -> Result<(), StepFault>
+    /// Does a step, where it is enabled. `NotEnabled` and `NoMemory` change nothing.
+    pub(crate) fn perform(&mut self, step: Step) -> Result<(), StepFault>
         requires plain { IsPlainStep self.old.config.now step }
         requires holds { PartsHold self.old }
         ensures refused { IsErrOf result StepFault.NotEnabled ↔ ¬ IsEnabled (parts_settings self.old) (parts_state self.old) step }
+        ensures enabled { OnOk result (IsEnabled (parts_settings self.old) (parts_state self.old) step) }
         ensures ok { OnOk result (parts_state self.new ≡ after (parts_settings self.old) (parts_state self.old) step) }
         ensures err { OnErr result (parts_state self.new ≡ parts_state self.old) }
         ensures settings { parts_settings self.new ≡ parts_settings self.old }

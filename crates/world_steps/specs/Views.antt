@@ -1,0 +1,10 @@
+-- A world as its state and its settings.
+use Rattle.world_steps.specs.declared.world.World.{World}
+use Rattle.world_steps.specs.Worlds.{WorldState, Settings}
+use Rattle.world_steps.specs.Held.{parts_state, parts_settings}
+
+abbrev pub world_state : World → WorldState
+world_state world = parts_state world.parts
+
+abbrev pub world_settings : World → Settings
+world_settings world = parts_settings world.parts
