@@ -3,3 +3,4 @@ pub mod PartsLaws
 pub mod Gains
 pub mod Shapes
 pub mod Soundness
+pub mod SeatLaws

@@ -1,8 +1,9 @@
 -- What is kept in parts, seen as the state of a world.
-use Rattle.std.proofs.Common.{◌≡◌, ◌≢◌, ℕ, ◌+◌, ◌<◌, ◌≤◌, List, [], ◌∷◌, ◌++◌, length, map, set, get_or, take, drop, reverse, slice_get, Some, subst, refl, sym, ap, ◌∙◌, arith, zero-add, length-set, get_or-set_same, get_or-set_other}
+use Rattle.std.proofs.Common.{◌≡◌, ◌≢◌, ℕ, ◌+◌, ◌%◌, ◌<◌, ◌≤◌, List, [], ◌∷◌, ◌++◌, length, map, set, get_or, take, drop, reverse, slice_get, Some, subst, refl, sym, ap, ◌∙◌, arith, zero-add, length-set, get_or-set_same, get_or-set_other}
 use Rattle.std.specs.List.{range_with_len}
 use Rattle.std.specs.Global.{Vec}
-use Rattle.std.proofs.lemmas.List.{take-append-le, length-append, length-reverse, length-take-le}
+use Rattle.std.proofs.lemmas.List.{take-append-le, length-append, length-reverse, length-take-le, get_or_push, length_push, get_or_append_left}
+use Rattle.std.proofs.Math.Nat.{mod-lt}
 use Rattle.std.proofs.lemmas.List.FromFn.{length-map-range_with_len, get_or-map-range_with_len, fill_by_all}
 use Rattle.std.proofs.lemmas.Option.{slice_get-get_or, slice_get_within, slice_get_read, get_or_from_slice_get}
 use Rattle.due_model.specs.declared.event.Event.{Event}
@@ -16,7 +17,7 @@ use Rattle.world_steps.specs.declared.seat.Front.{Front}
 use Rattle.world_steps.specs.declared.seat.Seat.{Seat}
 use Rattle.world_steps.specs.Worlds.{DeciderState, Settings, no_decider}
 use Rattle.world_steps.specs.Steps.{decided, without_front, owner}
-use Rattle.world_steps.specs.Held.{front_notices, outbox_of, seat_state, parts_settings, SeatFits, Holds, PartsHold}
+use Rattle.world_steps.specs.Held.{front_notices, outbox_of, seat_state, parts_settings, SeatFits, Holds, PartsHold, Stands}
 use Rattle.world_steps.proofs.ListLemmas.{everywhere, read_at}
 
 -- lists made of functions that agree
@@ -36,6 +37,12 @@ outbox_read_at seats d seat l within e h =
 -- seat d among all stands for its events
 pub seat_fits : (s : Settings) (posted : List Event) (seats : List Seat) (d : ℕ) (seat : Seat) → Holds s posted seats → d < length seats → seat ≡ get_or seats d seat → SeatFits s posted d seat
 seat_fits s posted seats d seat holds within e = holds.each d seat (slice_get_read seats (length seats) d seat refl within e)
+
+-- the seat of an object's decider is there
+pub owner_there : (parts : Parts) (o n : ℕ) → n ≡ parts.deciders → Stands parts → o % n < length parts.seats.items
+owner_there parts o n e stands =
+    let some : 0 < n = omega (arith, e, stands.sound.some) in
+    omega (arith, mod-lt o some, e, stands.holds.seats.deciders)
 
 -- a seat after a step that leaves its outboxes but for the front of one
 pub without_front_law : (x y : Seat) (l : ℕ) → l < length x.front.items → y.decided ≡ x.decided → length y.front.items ≡ length x.front.items
@@ -87,6 +94,13 @@ same_seat x y count front back =
     (ap (λ (f : Vec Front). map (λ (l : ℕ). get_or (map front_notices f.items) l [] ++ get_or (lists y.back) l []) (range_with_len 0 (length f.items))) front
     ∙ ap (outs (map front_notices x.front.items)) back)
 
+-- so has one whose outboxes are the same
+pub moved_seat : (x y : Seat) → y.decided ≡ x.decided → length y.front.items ≡ length x.front.items → ((l : ℕ) → outbox_of y l ≡ outbox_of x l) → seat_state y ≡ seat_state x
+moved_seat x y count long same =
+    ap (λ (m : ℕ). record { decided = m; outboxes = map (outbox_of y) (range_with_len 0 (length y.front.items)) }) count
+    ∙ ap (λ (m : ℕ). record { decided = x.decided; outboxes = map (outbox_of y) (range_with_len 0 m) }) long
+    ∙ ap (λ (os : List (List Notice)). record { decided = x.decided; outboxes = os }) (range_same (outbox_of y) (outbox_of x) (length x.front.items) [] (λ l h. same l))
+
 -- and stands for the same events
 pub kept_fits : (s : Settings) (posted : List Event) (d : ℕ) (x y : Seat) → kept y.decider ≡ kept x.decider → y.decided ≡ x.decided
     → length y.front.items ≡ length x.front.items → length (lists y.back) ≡ length (lists x.back) → SeatFits s posted d x → SeatFits s posted d y
@@ -126,3 +140,10 @@ fits_more s posted d seat e was = record {
   front = was.front;
   back = was.back;
 }
+
+-- what is found in a list with one more
+pub push_found : {X : Type 0} (P : ℕ → X → Type 0) (xs : List X) (n : ℕ) (y : X) → length xs ≡ n → ((d : ℕ) (x : X) → slice_get xs d ≡ Some x → P d x) → P n y → (d : ℕ) (x : X) → slice_get (xs ++ y ∷ []) d ≡ Some x → P d x
+push_found P xs n y long each new = everywhere (λ d. (x : _) → slice_get (xs ++ y ∷ []) d ≡ Some x → P d x) n
+    (λ x e. subst (P n) (sym (get_or_push xs y x n long) ∙ get_or_from_slice_get (xs ++ y ∷ []) n x x e) new)
+    (λ d ne x e. let within : d < length xs = omega (arith, long, length_push xs y, slice_get_within (xs ++ y ∷ []) d x e, ne) in
+        each d x (slice_get-get_or xs d x within ∙ ap (λ z. Some z) (sym (get_or_append_left xs (y ∷ []) x d within) ∙ get_or_from_slice_get (xs ++ y ∷ []) d x x e)))

@@ -1,17 +1,17 @@
 -- A new world, and lists of steps.
-use Rattle.std.specs.Prelude.{◌≡◌, ◌↔◌, ℕ, ◌<◌, true, not, Bool, List, [], ◌∷◌, length, map, replicate, take, slice_get, Some}
+use Rattle.std.specs.Prelude.{◌≡◌, ◌↔◌, ℕ, ◌<◌, true, Bool, List, [], ◌∷◌, length, map, replicate, take, slice_get, Some}
 use Rattle.world_steps.specs.declared.step.Step.{Step}
 use Rattle.world_steps.specs.declared.step.StepFault.TheVariants.{NotEnabled}
 use Rattle.world_steps.specs.declared.step.Stopped.{Stopped}
-use Rattle.world_steps.specs.Worlds.{WorldState, Settings, empty_lane, lane_at}
+use Rattle.world_steps.specs.Worlds.{WorldState, Settings, new_decider, new_lane, lane_at}
 use Rattle.world_steps.specs.Steps.{IsEnabled, after}
 
 -- a new world: nothing is posted, decided, held or asked, and exactly the lanes that aren't served are shut
 abbrev pub new_world : Settings → (served : List Bool) → WorldState
 new_world s served = record {
   posted = [];
-  deciders = replicate s.deciders (record { decided = 0; outboxes = replicate (length s.config.lanes) [] });
-  lanes = map (λ serves. record empty_lane { shut = not serves }) served;
+  deciders = replicate s.deciders (new_decider (length s.config.lanes));
+  lanes = map new_lane served;
 }
 
 -- the world after these steps, in order

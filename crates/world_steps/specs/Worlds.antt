@@ -1,5 +1,5 @@
 -- The state of a world, as lists.
-use Rattle.std.specs.Prelude.{ℕ, Bool, false, List, [], slice_index_or}
+use Rattle.std.specs.Prelude.{ℕ, Bool, true, false, not, List, [], replicate, slice_index_or}
 use Rattle.due_model.specs.declared.config.Config.{Config}
 use Rattle.due_model.specs.declared.event.Event.{Event}
 use Rattle.due_model.specs.declared.notice.Notice.{Notice}
@@ -36,13 +36,24 @@ pub record Settings : Type 0 where
   pub queue : ℕ
   pub tries : ℕ
 
+abbrev pub settings_for : Config → Zone → (deciders queue tries : ℕ) → Settings
+settings_for config zone deciders queue tries = record { config = config; zone = zone; deciders = deciders; queue = queue; tries = tries }
+
+-- a decider that has decided nothing, with this many lanes
+abbrev pub new_decider : (lanes : ℕ) → DeciderState
+new_decider lanes = record { decided = 0; outboxes = replicate lanes [] }
+
+-- a lane with nothing in it, which serves or is shut
+abbrev pub new_lane : (serves : Bool) → LaneState
+new_lane serves = record { taken = []; hand = []; undelivered = []; queue = []; failures = 0; asked = false; shut = not serves }
+
 -- a decider that isn't there
 abbrev pub no_decider : DeciderState
 no_decider = record { decided = 0; outboxes = [] }
 
--- a lane with nothing in it
+-- a lane that isn't there
 abbrev pub empty_lane : LaneState
-empty_lane = record { taken = []; hand = []; undelivered = []; queue = []; failures = 0; asked = false; shut = false }
+empty_lane = new_lane true
 
 abbrev pub decider_at : WorldState → ℕ → DeciderState
 decider_at w d = slice_index_or w.deciders d no_decider

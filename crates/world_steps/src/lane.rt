@@ -44,15 +44,15 @@ pub(crate) struct Lane {
 }
 
 impl Lane {
-    ghost use Rattle.std.specs.Prelude.{◌≡◌, ◌↔◌, [], ◌∷◌, length, not, IsTrue, IfOk, OnOk, OnErr, IsErrOf};
-    ghost use Rattle.world_steps.specs.Worlds.{empty_lane};
+    ghost use Rattle.std.specs.Prelude.{◌≡◌, ◌↔◌, [], ◌∷◌, length, IsTrue, IfOk, OnOk, OnErr, IsErrOf};
+    ghost use Rattle.world_steps.specs.Worlds.{new_lane};
     ghost use Rattle.world_steps.specs.Steps.{CanPick, CanSettle, CanFail, CanAsk, CanClose, CanDrain, picked, settled, failed, asked, closed, drained, queued};
     ghost use Rattle.world_steps.specs.Lines.{about};
     ghost use Rattle.world_steps.specs.Held.{lane_state, CanDo, done};
 
     /// A lane with nothing in it, which serves or is shut.
     pub(crate) fn new(alloc: Global, serves: bool) -> Self
-        ensures { lane_state result ≡ record empty_lane { shut = not serves } }
+        ensures { lane_state result ≡ new_lane serves }
     {
         Lane {
             taken: Vec::new(alloc),

@@ -1,15 +1,21 @@
 //! The parts of a world, and each step as a change of one or two of them.
 
-ghost use Rattle.std.specs.Prelude.{◌≡◌, [], ◌∷◌, ◌++◌, OnOk, OnErr};
+ghost use Rattle.std.specs.Prelude.{◌≡◌, ℕ, ◌≤◌, [], ◌∷◌, ◌++◌, Some, length, map, replicate, slice_get, IfOk, OnOk, OnErr};
+ghost use Rattle.due_model.specs.Accepted.{IsAccepted};
+ghost use Rattle.due_model.specs.Covered.{IsCovered};
+ghost use Rattle.world_steps.specs.declared.seat.Seat.{Seat as SeatOf};
+ghost use Rattle.world_steps.specs.Worlds.{new_decider, new_lane, settings_for};
+ghost use Rattle.world_steps.specs.Held.{lane_state, seat_state, SeatFits};
 
 use crate::lane::{Lane, LaneStep};
+use crate::line::LineParts;
 use crate::seat::Seat;
 use crate::step::{Step, StepFault};
-use decider::EVENTS;
-use due_model::config::{Config, LaneId};
+use decider::{EVENTS, Owned};
+use due_model::config::{Config, LaneId, ObjectId};
 use due_model::event::Event;
 use due_model::zone::Zone;
-use std::alloc::AllocError;
+use std::alloc::{AllocError, Global};
 
 /// The parts of a world.
 #[derive(Drop)]
@@ -39,12 +45,103 @@ fn append(posted: &mut Vec<Event>, event: Event) -> Result<(), AllocError>
     Ok(())
 }
 
+/// A lane for each of these, with nothing in it, which serves or is shut. A refused growth is the only error.
+fn all_lanes(alloc: Global, served: &[bool]) -> Result<Vec<Lane>, AllocError>
+    ensures { IfOk result (λ lanes. map lane_state lanes.items ≡ map new_lane served.now) }
+{
+    let mut made = Vec::with_capacity(alloc, served.len())?;
+    for serves in served {
+        made.push(Lane::new(alloc, *serves))?;
+    }
+    Ok(made)
+}
+
+/// So many deciders, which have decided no event. A refused growth is the only error.
+fn all_seats<'a>(
+    alloc: Global,
+    config: &'a Config,
+    zone: &'a Zone,
+    deciders: u8,
+) -> Result<Vec<Seat<'a>>, AllocError>
+    requires accepted { IsAccepted config.now }
+    requires covered { IsCovered config.now }
+    requires deciders { deciders ≤ 8 }
+    ensures states { IfOk result (λ seats. map seat_state seats.items ≡ replicate deciders (new_decider (length config.now.lanes))) }
+    ensures fits { IfOk result (λ seats. (d : ℕ) (seat : SeatOf) → slice_get seats.items d ≡ Some seat → SeatFits (settings_for config.now zone.now deciders 0 0) [] d seat) }
+{
+    let mut made = Vec::with_capacity(alloc, deciders as usize)?;
+    for decider in 0..deciders {
+        let owned = Owned { decider, deciders };
+        made.push(Seat::new(alloc, config, zone, owned)?)?;
+    }
+    Ok(made)
+}
+
 impl<'a> Parts<'a> {
-    ghost use Rattle.std.specs.Prelude.{◌≡◌, ◌↔◌, ◌<◌, length, IsTrue, OnOk, OnErr, IsErrOf};
+    ghost use Rattle.std.specs.Prelude.{◌↔◌, ◌<◌, IsTrue, IsErrOf};
     ghost use Rattle.due_model.specs.Covered.{IsPlainEvent};
     ghost use Rattle.world_steps.specs.Worlds.{lane_at, outbox_at};
+    ghost use Rattle.world_steps.specs.Lines.{about, decider_of};
+    ghost use Rattle.world_steps.specs.Runs.{new_world};
     ghost use Rattle.world_steps.specs.Steps.{IsEnabled, IsPlainStep, after, OfLane, with_lane, CanDecide, CanPut};
-    ghost use Rattle.world_steps.specs.Held.{parts_state, parts_settings, CanDo, done, PartsHold};
+    ghost use Rattle.world_steps.specs.Held.{parts_state, parts_settings, CanDo, done, PartsHold, Stands};
+
+    /// The parts of a new world. A refused growth is the only error.
+    pub(crate) fn new(
+        alloc: Global,
+        config: &'a Config,
+        zone: &'a Zone,
+        deciders: u8,
+        queue: u16,
+        tries: u8,
+        served: &[bool],
+    ) -> Result<Parts<'a>, AllocError>
+        requires accepted { IsAccepted config.now }
+        requires covered { IsCovered config.now }
+        requires some { 0 < deciders }
+        requires deciders { deciders ≤ 8 }
+        requires served { length served.now ≡ length config.now.lanes }
+        ensures settings { IfOk result (λ parts. parts_settings parts ≡ settings_for config.now zone.now deciders queue tries) }
+        ensures state { IfOk result (λ parts. parts_state parts ≡ new_world (settings_for config.now zone.now deciders queue tries) served.now) }
+        ensures stands { IfOk result (λ parts. Stands parts) }
+    {
+        Ok(Parts {
+            config,
+            zone,
+            deciders,
+            queue,
+            tries,
+            posted: Vec::new(alloc),
+            seats: all_seats(alloc, config, zone, deciders)?,
+            lanes: all_lanes(alloc, served)?,
+        })
+    }
+
+    /// What a lane holds of an object, with the outbox of the object's decider. The state is the same. A refused
+    /// growth is the only error.
+    pub(crate) fn about(
+        &mut self,
+        alloc: Global,
+        lane: LaneId,
+        object: ObjectId,
+    ) -> Result<LineParts, AllocError>
+        requires stands { Stands self.old }
+        requires lane { lane.0 < length self.old.config.now.lanes }
+        ensures taken { IfOk result (λ parts. parts.taken.items ≡ about object.0 (lane_at (parts_state self.old) lane.0).taken) }
+        ensures hand { IfOk result (λ parts. parts.hand.items ≡ about object.0 (lane_at (parts_state self.old) lane.0).hand) }
+        ensures undelivered { IfOk result (λ parts. parts.undelivered.items ≡ about object.0 (lane_at (parts_state self.old) lane.0).undelivered) }
+        ensures queue { IfOk result (λ parts. parts.queue.items ≡ about object.0 (lane_at (parts_state self.old) lane.0).queue) }
+        ensures outbox { IfOk result (λ parts. parts.outbox.items ≡ about object.0 (outbox_at (parts_state self.old) (decider_of (parts_settings self.old) object.0) lane.0)) }
+        ensures state { parts_state self.new ≡ parts_state self.old }
+        ensures settings { parts_settings self.new ≡ parts_settings self.old }
+        ensures holds { PartsHold self.new }
+    {
+        let decider = object.0 % u16::from(self.deciders);
+        let seat = &mut self.seats[decider as usize];
+        let outbox = seat.about(alloc, lane, object)?;
+        let lane = &self.lanes[lane.0 as usize];
+        lane.about(alloc, object, outbox)
+    }
 
     /// Appends an event to the posted ones.
     fn post(&mut self, event: Event) -> Result<(), StepFault>

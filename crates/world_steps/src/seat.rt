@@ -78,8 +78,9 @@ impl<'a> Seat<'a> {
     ghost use Rattle.decider.specs.Kept.{kept, settings, Fits, IsOwner};
     ghost use Rattle.decider.specs.Gains.{gained};
     ghost use Rattle.decider.specs.Outboxes.{lists, waiting_at};
+    ghost use Rattle.world_steps.specs.Worlds.{new_decider};
     ghost use Rattle.world_steps.specs.Lines.{about};
-    ghost use Rattle.world_steps.specs.Held.{front_notices, front_at, outbox_of, HasLanes};
+    ghost use Rattle.world_steps.specs.Held.{outbox_of, seat_state, HasLanes};
 
     /// A decider of these objects, which has decided no event and for which nothing waits. A refused growth is the
     /// only error.
@@ -94,9 +95,9 @@ impl<'a> Seat<'a> {
         requires owner { IsOwner owned }
         ensures fits { IfOk result (λ seat. Fits (kept seat.decider) []) }
         ensures settings { IfOk result (λ seat. settings (kept seat.decider) ≡ (config.now, zone.now, owned)) }
-        ensures decided { IfOk result (λ seat. seat.decided ≡ 0) }
-        ensures front { IfOk result (λ seat. map front_notices seat.front.items ≡ replicate (length config.now.lanes) []) }
-        ensures back { IfOk result (λ seat. lists seat.back ≡ replicate (length config.now.lanes) []) }
+        ensures state { IfOk result (λ seat. seat_state seat ≡ new_decider (length config.now.lanes)) }
+        ensures front { IfOk result (λ seat. length seat.front.items ≡ length config.now.lanes) }
+        ensures back { IfOk result (λ seat. length (lists seat.back) ≡ length config.now.lanes) }
     {
         let lanes = config.lanes.len();
         Ok(Seat {
