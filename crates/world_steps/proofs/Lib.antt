@@ -4,3 +4,5 @@ pub mod Gains
 pub mod Shapes
 pub mod Soundness
 pub mod SeatLaws
+pub mod NewWorlds
+pub mod RunLaws

@@ -6,8 +6,10 @@ use Rattle.std.proofs.lemmas.List.{take-append-le, length-append, length-reverse
 use Rattle.std.proofs.Math.Nat.{mod-lt}
 use Rattle.std.proofs.lemmas.List.FromFn.{length-map-range_with_len, get_or-map-range_with_len, fill_by_all}
 use Rattle.std.proofs.lemmas.Option.{slice_get-get_or, slice_get_within, slice_get_read, get_or_from_slice_get}
+use Rattle.due_model.specs.declared.config.Config.{Config}
 use Rattle.due_model.specs.declared.event.Event.{Event}
 use Rattle.due_model.specs.declared.notice.Notice.{Notice}
+use Rattle.due_model.specs.declared.zone.Zone.{Zone}
 use Rattle.decider.specs.Gains.{gained}
 use Rattle.decider.specs.Kept.{Kept, Fits, kept, settings}
 use Rattle.decider.specs.Outboxes.{lists}
@@ -15,7 +17,7 @@ use Rattle.decider.specs.declared.owned.Owned.{Owned}
 use Rattle.world_steps.specs.declared.parts.Parts.{Parts}
 use Rattle.world_steps.specs.declared.seat.Front.{Front}
 use Rattle.world_steps.specs.declared.seat.Seat.{Seat}
-use Rattle.world_steps.specs.Worlds.{DeciderState, Settings, no_decider}
+use Rattle.world_steps.specs.Worlds.{DeciderState, Settings, no_decider, settings_for}
 use Rattle.world_steps.specs.Steps.{decided, without_front, owner}
 use Rattle.world_steps.specs.Held.{front_notices, outbox_of, seat_state, parts_settings, SeatFits, Holds, PartsHold, Stands}
 use Rattle.world_steps.proofs.ListLemmas.{everywhere, read_at}
@@ -147,3 +149,14 @@ push_found P xs n y long each new = everywhere (λ d. (x : _) → slice_get (xs 
     (λ x e. subst (P n) (sym (get_or_push xs y x n long) ∙ get_or_from_slice_get (xs ++ y ∷ []) n x x e) new)
     (λ d ne x e. let within : d < length xs = omega (arith, long, length_push xs y, slice_get_within (xs ++ y ∷ []) d x e, ne) in
         each d x (slice_get-get_or xs d x within ∙ ap (λ z. Some z) (sym (get_or_append_left xs (y ∷ []) x d within) ∙ get_or_from_slice_get (xs ++ y ∷ []) d x x e)))
+
+-- whether a seat fits has nothing to do with queues and tries
+pub fits_under : (config : Config) (zone : Zone) (deciders q t queue tries : ℕ) (posted : List Event) (d : ℕ) (seat : Seat)
+    → SeatFits (settings_for config zone deciders q t) posted d seat → SeatFits (settings_for config zone deciders queue tries) posted d seat
+fits_under config zone deciders q t queue tries posted d seat was = record {
+  within = was.within;
+  fits = was.fits;
+  settings = was.settings;
+  front = was.front;
+  back = was.back;
+}
