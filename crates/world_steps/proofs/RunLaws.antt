@@ -1,7 +1,7 @@
 -- Lists of steps, one more at a time.
-use Rattle.std.proofs.Common.{◌≡◌, ◌≢◌, ℕ, ◌<◌, ◌≤◌, ◌⊎◌, inl, inr, Bool, true, false, List, [], ◌∷◌, ◌++◌, length, take, refl, sym, ap, ◌∙◌, subst, arith, get_or-set_same, get_or-set_other}
+use Rattle.std.proofs.Common.{◌≡◌, ◌≢◌, ℕ, ◌+◌, ◌<◌, ◌≤◌, ◌⊎◌, inl, inr, Bool, true, false, List, [], ◌∷◌, ◌++◌, length, take, get_or, refl, sym, ap, ◌∙◌, subst, arith, get_or-set_same, get_or-set_other}
 use Rattle.std.proofs.lemmas.Bool.{cases_lt}
-use Rattle.std.proofs.lemmas.List.{get_or_past}
+use Rattle.std.proofs.lemmas.List.{get_or_past, take_more}
 use Rattle.world_steps.specs.declared.step.Step.{Step}
 use Rattle.world_steps.specs.declared.step.Step.TheVariants.{Post, Decide, Put, Pick, Settle, Fail, Ask, Close, Drain}
 use Rattle.world_steps.specs.Worlds.{LaneState, WorldState, Settings, lane_at, empty_lane, outbox_at}
@@ -55,3 +55,15 @@ shut_after s w (Drain l) can = shut_kept w l.0 drained (λ h. (h, refl))
 
 pub shut_more : (before then later : WorldState) → ShutTakesNothing before then → ShutTakesNothing then later → ShutTakesNothing before later
 shut_more before then later first next = λ l h. ((next l (first l h).0).0, (next l (first l h).0).1 ∙ (first l h).1)
+
+-- after the next of these steps
+pub leads_next : (s t : Settings) (before then later : WorldState) (steps : List Step) (i : ℕ) (d : Step) → t ≡ s → i < length steps → LeadsTo s before (take i steps) then
+    → IsEnabled t then (get_or steps i d) → later ≡ after t then (get_or steps i d) → LeadsTo s before (take (i + 1) steps) later
+leads_next s t before then later steps i d same within leads can done =
+    let step = get_or steps i d in
+    subst (λ (xs : List Step). LeadsTo s before xs later) (sym (take_more steps i d within))
+    (leads_more s before then later (take i steps) step leads (subst (λ (u : Settings). IsEnabled u then step) same can) (done ∙ ap (λ (u : Settings). after u then step) same))
+
+-- a lane that is shut, over the next
+pub shut_next : (t : Settings) (before then later : WorldState) (step : Step) → ShutTakesNothing before then → IsEnabled t then step → later ≡ after t then step → ShutTakesNothing before later
+shut_next t before then later step first can done = shut_more before then later first (subst (λ (w : WorldState). ShutTakesNothing then w) (sym done) (shut_after t then step can))
