@@ -1,12 +1,12 @@
 -- A new world is one of which all holds.
-use Rattle.std.proofs.Common.{◌≡◌, ℕ, zero, suc, ◌<◌, ◌≤◌, ◌%◌, Bool, true, false, List, [], ◌∷◌, ◌++◌, length, map, get_or, replicate, take, reverse, slice_get, All, Option, Some, None, refl, sym, ap, ◌∙◌, subst, arith, inl, inr, ◌⊎◌}
+use Rattle.std.proofs.Common.{◌≡◌, ℕ, zero, suc, ◌<◌, ◌%◌, Bool, true, List, [], ◌∷◌, ◌++◌, length, map, get_or, replicate, take, reverse, slice_get, Option, Some, None, refl, sym, ap, ◌∙◌, subst, arith, inl, inr}
 use Rattle.std.proofs.lemmas.Bool.{cases_lt}
 use Rattle.std.proofs.lemmas.List.{length-map, length-replicate, get_or-replicate, get_or_past}
 use Rattle.std.proofs.lemmas.List.Elements.{All-nil, All-same}
 use Rattle.due_model.specs.declared.config.Object.{Object}
 use Rattle.due_model.specs.declared.notice.Notice.{Notice}
 use Rattle.due_model.specs.Due.{due, due_for}
-use Rattle.world_steps.specs.Worlds.{DeciderState, LaneState, Settings, no_decider, new_decider, new_lane, empty_lane, decider_at, lane_at, outbox_at}
+use Rattle.world_steps.specs.Worlds.{DeciderState, LaneState, Settings, no_decider, new_decider, new_lane, empty_lane, decider_at, outbox_at}
 use Rattle.world_steps.specs.Steps.{past_of}
 use Rattle.world_steps.specs.Lines.{about, decider_of}
 use Rattle.world_steps.specs.Runs.{new_world}

@@ -18,7 +18,7 @@ use Rattle.world_steps.specs.declared.parts.Parts.{Parts}
 use Rattle.world_steps.specs.declared.seat.Front.{Front}
 use Rattle.world_steps.specs.declared.seat.Seat.{Seat}
 use Rattle.world_steps.specs.Worlds.{DeciderState, Settings, no_decider, settings_for}
-use Rattle.world_steps.specs.Steps.{decided, without_front, owner}
+use Rattle.world_steps.specs.Steps.{decided, without_front}
 use Rattle.world_steps.specs.Held.{front_notices, outbox_of, seat_state, parts_settings, SeatFits, Holds, PartsHold, Stands}
 use Rattle.world_steps.proofs.ListLemmas.{everywhere, read_at}
 
@@ -56,11 +56,11 @@ without_front_law x y l h same long here others =
     let long_old : length old ≡ n = length-map-range_with_len (outbox_of x) 0 n in
     let long_new : length new ≡ n = length-set old l (drop 1 (get_or old l [])) ∙ long_old in
     let each : (k : ℕ) → k < n → get_or new k [] ≡ outbox_of y k =
-        everywhere (λ k. k < n → get_or new k [] ≡ outbox_of y k) l
-        (λ _. get_or-set_same old l (drop 1 (get_or old l [])) [] (omega (arith, long_old, h)) ∙ ap (drop 1) (outbox_read x l h) ∙ sym here)
-        (λ k ne lt. get_or-set_other old l k (drop 1 (get_or old l [])) [] ne ∙ outbox_read x k lt ∙ sym (others k ne)) in
+    everywhere (λ k. k < n → get_or new k [] ≡ outbox_of y k) l
+    (λ _. get_or-set_same old l (drop 1 (get_or old l [])) [] (omega (arith, long_old, h)) ∙ ap (drop 1) (outbox_read x l h) ∙ sym here)
+    (λ k ne lt. get_or-set_other old l k (drop 1 (get_or old l [])) [] ne ∙ outbox_read x k lt ∙ sym (others k ne)) in
     let e : map (outbox_of y) (range_with_len 0 (length y.front.items)) ≡ new =
-        ap (λ (m : ℕ). map (outbox_of y) (range_with_len 0 m)) long ∙ sym (fill_by_all (outbox_of y) new n [] long_new each) in
+    ap (λ (m : ℕ). map (outbox_of y) (range_with_len 0 m)) long ∙ sym (fill_by_all (outbox_of y) new n [] long_new each) in
     ap (λ (m : ℕ). record { decided = m; outboxes = map (outbox_of y) (range_with_len 0 (length y.front.items)) }) same
     ∙ ap (λ (outs : List (List Notice)). record { decided = x.decided; outboxes = outs }) e
 
@@ -73,9 +73,9 @@ decided_law s owned e past x y more long each =
     let gain : ℕ → List Notice = λ (l : ℕ). gained s.config s.zone owned l e past in
     let new : ℕ → List Notice = λ (l : ℕ). get_or old l [] ++ gain l in
     let outs : map (outbox_of y) (range_with_len 0 (length y.front.items)) ≡ map new (range_with_len 0 (length old)) =
-        ap (λ (m : ℕ). map (outbox_of y) (range_with_len 0 m)) long
-        ∙ range_same (outbox_of y) new n [] (λ l h. each l h ∙ ap (λ (ns : List Notice). ns ++ gain l) (sym (outbox_read x l h)))
-        ∙ ap (λ (m : ℕ). map new (range_with_len 0 m)) (sym (length-map-range_with_len (outbox_of x) 0 n)) in
+    ap (λ (m : ℕ). map (outbox_of y) (range_with_len 0 m)) long
+    ∙ range_same (outbox_of y) new n [] (λ l h. each l h ∙ ap (λ (ns : List Notice). ns ++ gain l) (sym (outbox_read x l h)))
+    ∙ ap (λ (m : ℕ). map new (range_with_len 0 m)) (sym (length-map-range_with_len (outbox_of x) 0 n)) in
     ap (λ (m : ℕ). record { decided = m; outboxes = map (outbox_of y) (range_with_len 0 (length y.front.items)) }) more
     ∙ ap (λ (os : List (List Notice)). record { decided = x.decided + 1; outboxes = os }) outs
 
@@ -83,9 +83,9 @@ decided_law s owned e past x y more long each =
 pub set_found : {X : Type 0} (P : ℕ → X → Type 0) (xs : List X) (i : ℕ) (y : X) → ((d : ℕ) (x : X) → slice_get xs d ≡ Some x → P d x) → P i y → (d : ℕ) (x : X) → slice_get (set xs i y) d ≡ Some x → P d x
 set_found P xs i y each new = everywhere (λ d. (x : _) → slice_get (set xs i y) d ≡ Some x → P d x) i
     (λ x e. let within : i < length xs = omega (arith, length-set xs i y, slice_get_within (set xs i y) i x e) in
-        subst (P i) (sym (get_or-set_same xs i y x within) ∙ get_or_from_slice_get (set xs i y) i x x e) new)
+    subst (P i) (sym (get_or-set_same xs i y x within) ∙ get_or_from_slice_get (set xs i y) i x x e) new)
     (λ d ne x e. let within : d < length xs = omega (arith, length-set xs i y, slice_get_within (set xs i y) d x e) in
-        each d x (slice_get-get_or xs d x within ∙ ap (λ z. Some z) (sym (get_or-set_other xs i d y x ne) ∙ get_or_from_slice_get (set xs i y) d x x e)))
+    each d x (slice_get-get_or xs d x within ∙ ap (λ z. Some z) (sym (get_or-set_other xs i d y x ne) ∙ get_or_from_slice_get (set xs i y) d x x e)))
 
 -- a seat that keeps the same has the same outboxes
 pub same_seat : (x y : Seat) → y.decided ≡ x.decided → y.front ≡ x.front → lists y.back ≡ lists x.back → seat_state y ≡ seat_state x
@@ -148,7 +148,7 @@ pub push_found : {X : Type 0} (P : ℕ → X → Type 0) (xs : List X) (n : ℕ)
 push_found P xs n y long each new = everywhere (λ d. (x : _) → slice_get (xs ++ y ∷ []) d ≡ Some x → P d x) n
     (λ x e. subst (P n) (sym (get_or_push xs y x n long) ∙ get_or_from_slice_get (xs ++ y ∷ []) n x x e) new)
     (λ d ne x e. let within : d < length xs = omega (arith, long, length_push xs y, slice_get_within (xs ++ y ∷ []) d x e, ne) in
-        each d x (slice_get-get_or xs d x within ∙ ap (λ z. Some z) (sym (get_or_append_left xs (y ∷ []) x d within) ∙ get_or_from_slice_get (xs ++ y ∷ []) d x x e)))
+    each d x (slice_get-get_or xs d x within ∙ ap (λ z. Some z) (sym (get_or_append_left xs (y ∷ []) x d within) ∙ get_or_from_slice_get (xs ++ y ∷ []) d x x e)))
 
 -- whether a seat fits has nothing to do with queues and tries
 pub fits_under : (config : Config) (zone : Zone) (deciders q t queue tries : ℕ) (posted : List Event) (d : ℕ) (seat : Seat)

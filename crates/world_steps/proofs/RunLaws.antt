@@ -1,5 +1,5 @@
 -- Lists of steps, one more at a time.
-use Rattle.std.proofs.Common.{◌≡◌, ◌≢◌, ℕ, ◌+◌, ◌<◌, ◌≤◌, ◌⊎◌, inl, inr, Bool, true, false, List, [], ◌∷◌, ◌++◌, length, take, get_or, refl, sym, ap, ◌∙◌, subst, arith, get_or-set_same, get_or-set_other}
+use Rattle.std.proofs.Common.{◌≡◌, ℕ, ◌+◌, ◌<◌, ◌≤◌, ◌⊎◌, inl, inr, true, false, List, [], ◌∷◌, ◌++◌, length, take, get_or, refl, sym, ap, ◌∙◌, subst, get_or-set_same, get_or-set_other}
 use Rattle.std.proofs.lemmas.Bool.{cases_lt}
 use Rattle.std.proofs.lemmas.List.{get_or_past, take_more}
 use Rattle.world_steps.specs.declared.step.Step.{Step}
@@ -29,7 +29,7 @@ module _ (w : WorldState) (l : ℕ) (f : LaneState → LaneState) where
   shut_kept : ((lane_at w l).shut ≡ true → ((f (lane_at w l)).shut ≡ true) × ((f (lane_at w l)).taken ≡ (lane_at w l).taken)) → ShutTakesNothing w (with_lane w l f)
   shut_kept here = everywhere (λ k. (lane_at w k).shut ≡ true → ((lane_at (with_lane w l f) k).shut ≡ true) × ((lane_at (with_lane w l f) k).taken ≡ (lane_at w k).taken)) l at_lane
       (λ k ne h. let same : lane_at (with_lane w l f) k ≡ lane_at w k = get_or-set_other w.lanes l k (f (lane_at w l)) empty_lane ne in
-          (ap (λ (lane : LaneState). lane.shut) same ∙ h, ap (λ (lane : LaneState). lane.taken) same))
+      (ap (λ (lane : LaneState). lane.shut) same ∙ h, ap (λ (lane : LaneState). lane.taken) same))
     where
       by_place : (l < length w.lanes) ⊎ (length w.lanes ≤ l) → (lane_at w l).shut ≡ true → ((lane_at (with_lane w l f) l).shut ≡ true) × ((lane_at (with_lane w l f) l).taken ≡ (lane_at w l).taken)
       by_place (inl there) h =
@@ -39,6 +39,7 @@ module _ (w : WorldState) (l : ℕ) (f : LaneState → LaneState) where
           let none : lane_at w l ≡ empty_lane = get_or_past w.lanes l empty_lane beyond in
           let serves : (lane_at w l).shut ≡ false = ap (λ (lane : LaneState). lane.shut) none in
           absurd (cc)
+
       at_lane : (lane_at w l).shut ≡ true → ((lane_at (with_lane w l f) l).shut ≡ true) × ((lane_at (with_lane w l f) l).taken ≡ (lane_at w l).taken)
       at_lane = by_place (cases_lt l (length w.lanes))
 

@@ -1,9 +1,9 @@
 -- What a lane holds, joined, is the same where a notice goes from one part to the next.
-use Rattle.std.proofs.Common.{◌≡◌, List, [], ◌∷◌, ◌++◌, take, drop, refl, sym, ap, ◌∙◌, append_assoc}
+use Rattle.std.proofs.Common.{◌≡◌, List, [], ◌++◌, take, drop, sym, ap, ◌∙◌, append_assoc}
 use Rattle.std.proofs.lemmas.List.{append-nil, take-append-drop}
 use Rattle.due_model.specs.declared.notice.Notice.{Notice}
 use Rattle.world_steps.specs.Worlds.{LaneState}
-use Rattle.world_steps.specs.Steps.{CanPick, picked, settled, failed, asked, closed, drained, queued}
+use Rattle.world_steps.specs.Steps.{CanPick, picked, settled, closed, drained, queued}
 
 -- all that is in a lane, in order
 abbrev pub contents : LaneState → List Notice

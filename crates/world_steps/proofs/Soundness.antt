@@ -1,7 +1,6 @@
 -- What holds of a world's state holds after each step.
-use Rattle.std.proofs.Common.{◌≡◌, ◌≢◌, ℕ, ◌+◌, ◌%◌, ◌<◌, ◌≤◌, Bool, true, false, List, [], ◌∷◌, ◌++◌, length, filter, map, set, get_or, take, drop, reverse, slice_get, All, Option, Some, None, Result, Ok, Err, OnOk, OnErr, refl, sym, ap, ◌∙◌, subst, arith, eq-eqb, inl, inr, ◌⊎◌, length-set, get_or-set_same, get_or-set_other, append_assoc, ◌==◌}
+use Rattle.std.proofs.Common.{◌≡◌, ◌≢◌, ℕ, ◌%◌, ◌<◌, ◌≤◌, true, false, List, [], ◌∷◌, ◌++◌, length, map, get_or, take, drop, reverse, slice_get, All, Option, Some, None, Result, Ok, Err, OnOk, OnErr, refl, sym, ap, ◌∙◌, subst, arith, eq-eqb, inl, inr, length-set, get_or-set_same, get_or-set_other, append_assoc, ◌==◌}
 use Rattle.std.specs.List.{range_with_len}
-use Rattle.std.proofs.Math.Nat.{mod-lt}
 use Rattle.std.proofs.lemmas.Bool.{cases_eq, cases_lt}
 use Rattle.std.proofs.lemmas.List.{append-nil, get_or_past, length-append, take-append-le, take-append-drop}
 use Rattle.std.proofs.lemmas.List.Elements.{All-nil, All-append, All-drop, All-take, All-same, All-weaker, filter-append}
@@ -11,16 +10,16 @@ use Rattle.due_model.specs.declared.event.Event.{Event}
 use Rattle.due_model.specs.declared.notice.Notice.{Notice}
 use Rattle.due_model.specs.Due.{due}
 use Rattle.due_model.specs.Laws.{NoticesTellOfEvents}
-use Rattle.decider.specs.Gains.{gain, gained, is_owned}
+use Rattle.decider.specs.Gains.{gained}
 use Rattle.world_steps.specs.declared.step.Step.{Step}
 use Rattle.world_steps.specs.declared.step.Step.TheVariants.{Post, Decide, Put, Pick, Settle, Fail, Ask, Close, Drain}
 use Rattle.world_steps.specs.declared.step.StepFault.{StepFault}
 use Rattle.world_steps.specs.Worlds.{DeciderState, LaneState, WorldState, Settings, no_decider, empty_lane, decider_at, lane_at, outbox_at}
-use Rattle.world_steps.specs.Steps.{IsEnabled, after, with_lane, with_decider, decided, lengthened, without_front, queued, owner, past_of, picked, settled, failed, asked, closed, drained, OfLane, CanPut, CanDecide}
-use Rattle.world_steps.specs.Lines.{about, line, decider_of, LinesAreDue}
+use Rattle.world_steps.specs.Steps.{IsEnabled, after, with_lane, with_decider, decided, without_front, queued, owner, past_of, picked, settled, failed, asked, closed, drained, CanPut, CanDecide}
+use Rattle.world_steps.specs.Lines.{about, line, decider_of}
 use Rattle.world_steps.specs.Held.{Sound}
 use Rattle.world_steps.proofs.ListLemmas.{everywhere, reverse_more, none_past}
-use Rattle.world_steps.proofs.Gains.{about_none, gained_owned, gained_other, gained_is_owned, due_more}
+use Rattle.world_steps.proofs.Gains.{about_none, gained_owned, gained_is_owned, due_more}
 use Rattle.world_steps.proofs.Shapes.{contents, picked_law, settled_law, closed_law, drained_law, queued_law}
 
 -- those of one object in two lists that are joined
@@ -140,7 +139,7 @@ module _ (s : Settings) (w : WorldState) (sound : Sound s w) where
           ∙ ap (λ (k : ℕ). about o (held ++ outbox_at w k l)) (sym e)
       | inr ne ↦
           let others : All (λ n. n.object.0 ≢ o) front = All-weaker (λ (n : Notice). n.object.0 % s.deciders ≡ d) (λ (n : Notice). n.object.0 ≢ o)
-              (λ n own same. ne (sym of ∙ ap (λ (x : ℕ). x % s.deciders) (sym same) ∙ own)) front front_is_owned in
+          (λ n own same. ne (sym of ∙ ap (λ (x : ℕ). x % s.deciders) (sym same) ∙ own)) front front_is_owned in
           ap (λ (out : List Notice). about o ((held ++ front) ++ out)) (outbox_other d can.decider (without_front l) m l ne)
           ∙ about-append o (held ++ front) (outbox_at w m l)
           ∙ ap (λ (v : List Notice). v ++ about o (outbox_at w m l))
@@ -231,7 +230,7 @@ module _ (s : Settings) (w : WorldState) (sound : Sound s w) where
     decide_line l o m of within known = elim (cases_eq m d) [
       | inl same ↦
           let was : about o (contents (lane_at w l) ++ outbox_at w d l) ≡ due s.config s.zone o l past =
-              subst (λ (k : ℕ). about o (contents (lane_at w l) ++ outbox_at w k l) ≡ due s.config s.zone o l (past_of w k)) (of ∙ same) (sound.due l o within known) in
+          subst (λ (k : ℕ). about o (contents (lane_at w l) ++ outbox_at w k l) ≡ due s.config s.zone o l (past_of w k)) (of ∙ same) (sound.due l o within known) in
           subst (λ (k : ℕ). about o (contents (lane_at w l) ++ outbox_at later k l) ≡ due s.config s.zone o l (past_of later k)) (sym same)
           (ap (λ (out : List Notice). about o (contents (lane_at w l) ++ out)) (gained_here l (omega (arith, within, lanes_long)))
           ∙ ap (about o) (sym (append_assoc (contents (lane_at w l)) (outbox_at w d l) (gain_at l)))
@@ -242,7 +241,7 @@ module _ (s : Settings) (w : WorldState) (sound : Sound s w) where
           ∙ ap (due s.config s.zone o l) (sym decided_past))
       | inr ne ↦
           let was : about o (contents (lane_at w l) ++ outbox_at w m l) ≡ due s.config s.zone o l (past_of w m) =
-              subst (λ (k : ℕ). about o (contents (lane_at w l) ++ outbox_at w k l) ≡ due s.config s.zone o l (past_of w k)) of (sound.due l o within known) in
+          subst (λ (k : ℕ). about o (contents (lane_at w l) ++ outbox_at w k l) ≡ due s.config s.zone o l (past_of w k)) of (sound.due l o within known) in
           ap (λ (out : List Notice). about o (contents (lane_at w l) ++ out)) (outbox_other d can.there change m l ne)
           ∙ was
           ∙ ap (due s.config s.zone o l) (sym (other_past m ne))

@@ -1,5 +1,5 @@
 -- A fact about the parts of a world has at most one proof.
-use Rattle.std.specs.Prelude.{◌≡◌, ℕ, List, Option, Some, None, All, IsTrue, is_some, slice_get}
+use Rattle.std.specs.Prelude.{◌≡◌, ℕ, List, Option, Some, None, IsTrue, is_some, slice_get}
 use mathlib.Core.Path.{sym, ◌∙◌}
 use mathlib.Core.HLevel.{is_prop→PathP}
 use Rattle.std.proofs.Props.{props}
@@ -11,8 +11,8 @@ use Rattle.due_model.specs.declared.event.EventKind.{EventKind}
 use Rattle.due_model.specs.declared.event.EventKind.TheVariants.{Clock, Program, Hard, Downtime, Flapping}
 use Rattle.due_model.specs.declared.notice.Notice.{Notice}
 use Rattle.due_model.specs.declared.zone.Zone.{Zone}
-use Rattle.due_model.specs.Accepted.{IsAccepted, IsHost, IsProper, KindIsProper, is_state_of}
-use Rattle.due_model.specs.Covered.{IsCovered, IsTakenIn, IsPlainEvent}
+use Rattle.due_model.specs.Accepted.{IsAccepted, IsHost, KindIsProper, is_state_of}
+use Rattle.due_model.specs.Covered.{IsTakenIn}
 use Rattle.decider.specs.Kept.{Kept, Fits}
 use Rattle.world_steps.specs.declared.parts.Parts.{Parts}
 use Rattle.world_steps.specs.declared.seat.Seat.{Seat}

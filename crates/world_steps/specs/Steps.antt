@@ -1,7 +1,6 @@
 -- The table of steps: when each is enabled, and what it does. A step is one action of one actor.
 use Rattle.std.specs.Prelude.{◌≡◌, ℕ, ◌+◌, ◌^◌, ◌<◌, ◌⊎◌, true, false, List, [], ◌∷◌, ◌++◌, length, take, drop, map, reverse, slice_get, slice_set, slice_index_or, Option, Some, None}
 use Rattle.std.specs.List.{range_with_len}
-use Rattle.due_model.specs.declared.config.LaneId.{LaneId}
 use Rattle.due_model.specs.declared.event.Event.{Event}
 use Rattle.due_model.specs.declared.notice.Notice.{Notice}
 use Rattle.due_model.specs.declared.config.Config.{Config}

@@ -25,7 +25,11 @@ pub struct LineParts {
 }
 
 /// The notices of an object among these. A refused growth is the only error.
-pub(crate) fn about_in(alloc: Global, notices: &[Notice], object: ObjectId) -> Result<Vec<Notice>, AllocError>
+pub(crate) fn about_in(
+    alloc: Global,
+    notices: &[Notice],
+    object: ObjectId,
+) -> Result<Vec<Notice>, AllocError>
     ensures { IfOk result (λ found. found.items ≡ about object.0 notices.now) }
 {
     notices

@@ -1,6 +1,5 @@
-use Rattle.std.proofs.Common.{◌≡◌, ◌+◌, ℕ, List, [], ◌∷◌, ◌++◌, Some, length, map, replicate, take, reverse, slice_get, sym, ap, ◌∙◌, subst, arith}
+use Rattle.std.proofs.Common.{◌≡◌, ℕ, List, [], ◌∷◌, ◌++◌, Some, length, map, take, reverse, slice_get, sym, ap, ◌∙◌, subst, arith}
 use Rattle.std.proofs.lemmas.List.{length-map, length-replicate, map-append, replicate-append-replicate}
-use Rattle.due_model.specs.declared.event.Event.{Event}
 use Rattle.decider.specs.Kept.{Fits, kept}
 use Rattle.world_steps.specs.declared.seat.Seat.{Seat}
 use Rattle.world_steps.specs.Worlds.{DeciderState, new_decider, settings_for}

@@ -1,12 +1,10 @@
-use Rattle.std.proofs.Common.{◌≡◌, ◌%◌, ◌<◌, ℕ, List, [], length, set, sym, ap, ◌∙◌, subst, arith}
-use Rattle.std.proofs.Math.Nat.{mod-lt}
+use Rattle.std.proofs.Common.{◌≡◌, ◌%◌, ℕ, List, sym, ap, ◌∙◌, arith}
 use Rattle.std.proofs.lemmas.Result.{IfOk-weaker}
-use Rattle.due_model.specs.declared.notice.Notice.{Notice}
 use Rattle.decider.specs.Kept.{kept}
 use Rattle.world_steps.specs.declared.line.LineParts.{LineParts}
-use Rattle.world_steps.specs.Worlds.{DeciderState, no_decider, outbox_at}
+use Rattle.world_steps.specs.Worlds.{DeciderState, outbox_at}
 use Rattle.world_steps.specs.Lines.{about, decider_of}
-use Rattle.world_steps.specs.Held.{parts_settings, parts_state, seat_state, outbox_of}
+use Rattle.world_steps.specs.Held.{parts_settings, parts_state, seat_state}
 use Rattle.world_steps.proofs.ListLemmas.{map-set_kept}
 use Rattle.world_steps.proofs.PartsLaws.{seat_fits, owner_there, has_outbox, moved_seat, kept_fits, holds_set, outbox_read_at}
 use Rattle.world_steps.proofs.parts.Parts.about.Goals as goal
@@ -86,6 +84,6 @@ returns-clause-outbox c =
     let fits = seat_fits s p.posted.items p.seats.items d x holds.seats there c.index_mut-seat.ensures.value in
     let within = has_outbox p d l x holds fits (omega (arith, holds.lanes, c.requires.lane)) in
     IfOk-weaker c.about-2.result (λ (parts : LineParts). parts.outbox.items ≡ c.in_ok-outbox.outbox.items)
-        (λ (parts : LineParts). parts.outbox.items ≡ about o (outbox_at (parts_state p) (decider_of s o) l)) (λ parts e. e ∙ c.in_ok-outbox.ensures.notices
-        ∙ ap (about o) (sym (outbox_read_at p.seats.items d x l there c.index_mut-seat.ensures.value within)
-        ∙ ap (λ (n : ℕ). outbox_at (parts_state p) (o % n) l) c.from.ensures)) c.about-2.ensures.outbox
+    (λ (parts : LineParts). parts.outbox.items ≡ about o (outbox_at (parts_state p) (decider_of s o) l)) (λ parts e. e ∙ c.in_ok-outbox.ensures.notices
+    ∙ ap (about o) (sym (outbox_read_at p.seats.items d x l there c.index_mut-seat.ensures.value within)
+    ∙ ap (λ (n : ℕ). outbox_at (parts_state p) (o % n) l) c.from.ensures)) c.about-2.ensures.outbox

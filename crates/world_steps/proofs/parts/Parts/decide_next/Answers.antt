@@ -1,4 +1,4 @@
-use Rattle.std.proofs.Common.{◌≡◌, ◌+◌, ◌^◌, ◌<◌, ◌≤◌, ℕ, List, ◌∷◌, ◌++◌, Option, Some, length, map, set, get_or, take, reverse, slice_get, refl, sym, ap, ◌∙◌, subst, arith}
+use Rattle.std.proofs.Common.{◌≡◌, ◌<◌, ℕ, List, ◌++◌, Option, Some, length, get_or, take, reverse, slice_get, refl, sym, ap, ◌∙◌, subst, arith}
 use Rattle.std.specs.Global.{Vec}
 use Rattle.std.proofs.lemmas.List.{length-map}
 use Rattle.std.proofs.lemmas.Option.{slice_get_read}
@@ -8,12 +8,11 @@ use Rattle.due_model.specs.declared.notice.Notice.{Notice}
 use Rattle.due_model.specs.declared.zone.Zone.{Zone}
 use Rattle.decider.specs.declared.owned.Owned.{Owned}
 use Rattle.decider.specs.Gains.{gained}
-use Rattle.decider.specs.Kept.{Fits, Kept, kept}
+use Rattle.decider.specs.Kept.{Fits, kept}
 use Rattle.world_steps.specs.declared.seat.Front.{Front}
-use Rattle.world_steps.specs.declared.seat.Seat.{Seat}
 use Rattle.world_steps.specs.Worlds.{DeciderState, no_decider, decider_at}
 use Rattle.world_steps.specs.Steps.{decided, owner, past_of}
-use Rattle.world_steps.specs.Held.{parts_state, parts_settings, seat_state, outbox_of, SeatFits}
+use Rattle.world_steps.specs.Held.{parts_state, parts_settings, seat_state, outbox_of}
 use Rattle.world_steps.proofs.ListLemmas.{read_at, map-set_by, map-set_kept, on_err_always, reverse_more}
 use Rattle.world_steps.proofs.PartsLaws.{seat_fits, decided_law, same_seat, kept_fits, holds_set, past_length}
 use Rattle.world_steps.proofs.parts.Parts.decide_next.Goals as goal
@@ -52,11 +51,11 @@ returns-clause-ok c =
     let read : e ≡ get_or posted x.decided e = subst (λ (n : ℕ). e ≡ get_or posted n e) c.decided.ensures c.index-event.ensures in
     let found : slice_get posted x.decided ≡ Some e = slice_get_read posted (length posted) x.decided e refl left read in
     let law : seat_state y ≡ decided s (owner s d) (Some e) past (seat_state x) =
-        decided_law s (owner s d) e past x y c.in_ok-decide.ensures.decided (ap (λ (f : Vec Front). length f.items) c.in_ok-decide.ensures.front)
-        (λ l h. c.in_ok-decide.ensures.notices past fits.fits l (omega (arith, h, fits.front, fits.back))
-        ∙ ap (λ (t : Config × Zone × Owned). outbox_of x l ++ gained t.0 t.1 t.2 l e past) fits.settings) in
+    decided_law s (owner s d) e past x y c.in_ok-decide.ensures.decided (ap (λ (f : Vec Front). length f.items) c.in_ok-decide.ensures.front)
+    (λ l h. c.in_ok-decide.ensures.notices past fits.fits l (omega (arith, h, fits.front, fits.back))
+    ∙ ap (λ (t : Config × Zone × Owned). outbox_of x l ++ gained t.0 t.1 t.2 l e past) fits.settings) in
     let told : seat_state y ≡ decided s (owner s d) (slice_get posted (decider_at (parts_state p) d).decided) (past_of (parts_state p) d) (seat_state x) =
-        law ∙ sym (ap (λ (n : ℕ). decided s (owner s d) (slice_get posted n) (reverse (take n posted)) (seat_state x)) count ∙ ap (λ (o : Option Event). decided s (owner s d) o past (seat_state x)) found) in
+    law ∙ sym (ap (λ (n : ℕ). decided s (owner s d) (slice_get posted n) (reverse (take n posted)) (seat_state x)) count ∙ ap (λ (o : Option Event). decided s (owner s d) o past (seat_state x)) found) in
     ap (λ (deciders : List DeciderState). record (parts_state p) { deciders = deciders })
     (map-set_by seat_state p.seats.items d x y no_decider
     (decided s (owner s d) (slice_get posted (decider_at (parts_state p) d).decided) (past_of (parts_state p) d)) there c.index_mut-seat.ensures.value told)

@@ -1,12 +1,10 @@
-use Rattle.std.proofs.Common.{◌≡◌, ◌<◌, ℕ, List, [], length, map, replicate, sym, ap, ◌∙◌, subst, arith}
+use Rattle.std.proofs.Common.{◌≡◌, List, [], length, map, replicate, sym, ap, ◌∙◌, subst, arith}
 use Rattle.std.proofs.lemmas.List.{length-map, length-replicate}
-use Rattle.std.proofs.lemmas.List.Elements.{All-nil, All-same}
+use Rattle.std.proofs.lemmas.List.Elements.{All-nil}
 use Rattle.due_model.specs.declared.event.Event.{Event}
 use Rattle.due_model.specs.Covered.{IsPlainEvent}
-use Rattle.world_steps.specs.declared.seat.Seat.{Seat}
-use Rattle.world_steps.specs.Worlds.{DeciderState, LaneState, WorldState, new_decider, new_lane, settings_for}
-use Rattle.world_steps.specs.Runs.{new_world}
-use Rattle.world_steps.specs.Held.{Holds, SeatFits, Sound, lane_state, seat_state}
+use Rattle.world_steps.specs.Worlds.{DeciderState, LaneState, new_decider, new_lane, settings_for}
+use Rattle.world_steps.specs.Held.{Holds, Sound, lane_state, seat_state}
 use Rattle.world_steps.proofs.NewWorlds.{new_sound}
 use Rattle.world_steps.proofs.PartsLaws.{fits_under}
 use Rattle.world_steps.proofs.parts.Parts.new.Goals as goal

@@ -1,4 +1,4 @@
-use Rattle.std.proofs.Common.{◌≡◌, List, map, set, sym, ap, ◌∙◌, arith}
+use Rattle.std.proofs.Common.{List, ap, arith}
 use Rattle.world_steps.specs.Worlds.{LaneState, empty_lane}
 use Rattle.world_steps.specs.Held.{parts_state, lane_state, done}
 use Rattle.world_steps.proofs.ListLemmas.{map-set_by, map-set_kept}

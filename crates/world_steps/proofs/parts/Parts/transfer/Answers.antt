@@ -1,11 +1,10 @@
-use Rattle.std.proofs.Common.{◌≡◌, ◌<◌, ℕ, List, [], ◌∷◌, is_some, true, false, length, map, set, take, refl, sym, ap, ◌∙◌, arith, length-set}
+use Rattle.std.proofs.Common.{◌≡◌, ◌<◌, List, [], ◌∷◌, is_some, true, false, length, map, set, take, refl, sym, ap, ◌∙◌, arith, length-set}
 use Rattle.std.proofs.lemmas.List.{length-map}
 use Rattle.due_model.specs.declared.notice.Notice.{Notice}
 use Rattle.decider.specs.Kept.{kept}
-use Rattle.decider.specs.Outboxes.{lists}
 use Rattle.world_steps.specs.Worlds.{DeciderState, LaneState, empty_lane, no_decider, outbox_at}
 use Rattle.world_steps.specs.Steps.{queued, without_front, with_decider}
-use Rattle.world_steps.specs.Held.{parts_state, parts_settings, lane_state, seat_state, outbox_of, SeatFits}
+use Rattle.world_steps.specs.Held.{parts_state, parts_settings, lane_state, seat_state, outbox_of}
 use Rattle.world_steps.proofs.ListLemmas.{some_front, one_front, map-set_by, map-set_kept, on_err_always}
 use Rattle.world_steps.proofs.PartsLaws.{seat_fits, has_outbox, outbox_read_at, without_front_law, kept_fits, holds_set}
 use Rattle.world_steps.proofs.parts.Parts.transfer.Goals as goal
@@ -53,7 +52,7 @@ returns-in_ok-enqueue-clause-ok c =
     let fits = seat_fits (parts_settings p) p.posted.items p.seats.items d x c.requires.holds.seats there c.index_mut-from.ensures.value in
     let within = has_outbox p d l x c.requires.holds fits lane in
     let front : take 1 (outbox_at (parts_state p) d l) ≡ c.in-Some.notice ∷ [] =
-        ap (take 1) (outbox_read_at p.seats.items d x l there c.index_mut-from.ensures.value within) ∙ one_front (outbox_of x l) c.in-Some.notice (sym c.first.ensures ∙ c.in-Some.is) in
+    ap (take 1) (outbox_read_at p.seats.items d x l there c.index_mut-from.ensures.value within) ∙ one_front (outbox_of x l) c.in-Some.notice (sym c.first.ensures ∙ c.in-Some.is) in
     ap (λ (deciders : List DeciderState). record { posted = p.posted.items; deciders = deciders; lanes = map lane_state (set p.lanes.items l c.enqueue.new.self) })
     (map-set_by seat_state p.seats.items d x c.drop_first.new.self no_decider (without_front l) there c.index_mut-from.ensures.value
     (without_front_law x c.drop_first.new.self l within c.drop_first.ensures.decided c.drop_first.ensures.length c.drop_first.ensures.first c.drop_first.ensures.others))

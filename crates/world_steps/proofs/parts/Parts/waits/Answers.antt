@@ -1,10 +1,9 @@
-use Rattle.std.proofs.Common.{◌≡◌, ◌<◌, List, is_some, slice_get, length, subst, sym, ap, ◌∙◌, arith}
+use Rattle.std.proofs.Common.{◌<◌, List, is_some, slice_get, length, sym, ap, ◌∙◌, arith}
 use Rattle.due_model.specs.declared.notice.Notice.{Notice}
-use Rattle.world_steps.specs.Held.{SeatFits, outbox_of, parts_settings}
+use Rattle.world_steps.specs.Held.{parts_settings}
 use Rattle.world_steps.proofs.ListLemmas.{some_front}
 use Rattle.world_steps.proofs.PartsLaws.{seat_fits, outbox_read_at}
 use Rattle.world_steps.proofs.parts.Parts.waits.Goals as goal
-use Rattle.world_steps.specs.declared.parts.Parts.{Parts}
 
 pub first-requires-clause-lane : goal.first-requires-clause-lane
 first-requires-clause-lane c =
@@ -23,4 +22,4 @@ returns c =
     let fits = seat_fits (parts_settings c.args.self.now) c.args.self.now.posted.items c.args.self.now.seats.items c.args.decider x c.requires.holds.seats c.requires.decider c.index-seat.ensures in
     let within : l < length x.front.items = omega (arith, fits.front, c.requires.holds.lanes, c.requires.lane) in
     some_front _ c.is_some.result (c.is_some.ensures ∙ ap is_some c.first.ensures
-        ∙ ap (λ (ns : List Notice). is_some (slice_get ns 0)) (sym (outbox_read_at c.args.self.now.seats.items c.args.decider x l c.requires.decider c.index-seat.ensures within)))
+    ∙ ap (λ (ns : List Notice). is_some (slice_get ns 0)) (sym (outbox_read_at c.args.self.now.seats.items c.args.decider x l c.requires.decider c.index-seat.ensures within)))

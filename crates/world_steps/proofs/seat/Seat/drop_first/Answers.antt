@@ -1,4 +1,4 @@
-use Rattle.std.proofs.Common.{◌≡◌, ℕ, ◌<◌, [], ◌++◌, List, drop, length, map, set, get_or, is_some, sym, ap, ◌∙◌, arith, get_or-set_same}
+use Rattle.std.proofs.Common.{◌≡◌, [], ◌++◌, List, drop, map, get_or, is_some, sym, ap, ◌∙◌, arith, get_or-set_same}
 use Rattle.due_model.specs.declared.notice.Notice.{Notice}
 use Rattle.decider.specs.Outboxes.{waiting_at}
 use Rattle.world_steps.specs.Held.{front_notices}

@@ -1,4 +1,4 @@
-use Rattle.std.proofs.Common.{◌≡◌, ℕ, ◌<◌, length}
+use Rattle.std.proofs.Common.{◌≡◌, ℕ, length}
 use Rattle.decider.specs.Outboxes.{waiting_at}
 use Rattle.world_steps.specs.Held.{outbox_of, HasLanes}
 use Rattle.world_steps.proofs.seat.Seat.gather.Given as goal

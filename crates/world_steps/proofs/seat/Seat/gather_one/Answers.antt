@@ -1,4 +1,4 @@
-use Rattle.std.proofs.Common.{◌≡◌, ℕ, ◌∷◌, [], ◌++◌, List, drop, map, set, get_or, sym, ap, ◌∙◌, arith, get_or-set_same, get_or-set_other}
+use Rattle.std.proofs.Common.{◌≡◌, ℕ, ◌∷◌, [], ◌++◌, List, map, set, get_or, sym, ap, ◌∙◌, arith, get_or-set_same, get_or-set_other}
 use Rattle.due_model.specs.declared.notice.Notice.{Notice}
 use Rattle.decider.specs.Outboxes.{lists, waiting_at}
 use Rattle.world_steps.specs.Held.{front_notices, outbox_of}
