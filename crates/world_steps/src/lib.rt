@@ -7,6 +7,8 @@ mod line;
 mod parts;
 mod seat;
 mod step;
+#[cfg(test)]
+mod tests;
 mod world;
 
 pub use line::LineParts;
