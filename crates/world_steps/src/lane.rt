@@ -177,8 +177,8 @@ impl Lane {
         ensures ok { OnOk result (lane_state self.new ≡ drained (lane_state self.old)) }
         ensures err { OnErr result (lane_state self.new ≡ lane_state self.old) }
     {
-        if let Some(notice) = self.queue.front().copied() {
-            self.undelivered.push(notice)?;
+        if let Some(first) = self.queue.front().copied() {
+            self.undelivered.push(first)?;
             self.queue.pop_front();
         }
         Ok(())

@@ -1,11 +1,12 @@
 //! Runs of the worked examples.
 
-ghost use Rattle.std.specs.Prelude.{◌≡◌, All, IfOk, IsTrue, codes};
+ghost use Rattle.std.specs.Prelude.{◌≡◌, ◌<◌, All, IfOk, IsTrue, codes, length, replicate};
+ghost use Rattle.due_model.specs.Accepted.{IsAccepted};
+ghost use Rattle.due_model.specs.Covered.{IsCovered, AreFullRights};
 ghost use Rattle.due_model.specs.Rows.{base, web, on_mail, by_mail};
 ghost use Rattle.world_steps.specs.Steps.{IsPlainStep};
 ghost use Rattle.world_steps.specs.Views.{world_settings};
 
-use crate::line::LineParts;
 use crate::step::{Step, StepFault};
 use crate::world::World;
 use due_model::config::{Config, Contact, ContactId, Lane, LaneId, Object, ObjectId, Rights};
@@ -91,6 +92,80 @@ fn base(alloc: Global) -> Result<Config, AllocError>
     })
 }
 
+/// Eight hosts with one contact.
+fn hosts(alloc: Global) -> Result<Vec<Object>, AllocError>
+    ensures { IfOk result (λ hosts. hosts.items ≡ replicate 8 web) }
+{
+    let mut made = Vec::new(alloc);
+    for _host in 0..8 {
+        made.push(web(alloc)?)?;
+    }
+    Ok(made)
+}
+
+/// Sixteen commands.
+fn commands(alloc: Global) -> Result<Vec<Lane>, AllocError>
+    ensures { IfOk result (λ lanes. length lanes.items ≡ 16) }
+{
+    let mut made = Vec::new(alloc);
+    for _lane in 0..16 {
+        made.push(Lane {
+            name: text(alloc, b"mail")?,
+        })?;
+    }
+    Ok(made)
+}
+
+/// The numbers of sixteen lanes.
+fn every_lane(alloc: Global) -> Result<Vec<LaneId>, AllocError>
+    ensures { IfOk result (λ lanes. All (λ lane. lane.0 < 16) lanes.items) }
+{
+    let mut made = Vec::new(alloc);
+    for lane in 0..16 {
+        made.push(LaneId(lane))?;
+    }
+    Ok(made)
+}
+
+/// Notified of everything, on each of sixteen lanes.
+fn on_every_lane(alloc: Global) -> Result<Rights, AllocError>
+    ensures full { IfOk result (λ rights. AreFullRights rights) }
+    ensures lanes { IfOk result (λ rights. All (λ lane. lane.0 < 16) rights.lanes) }
+{
+    Ok(Rights {
+        enabled: true,
+        options: Letters::ALL,
+        period: None,
+        lanes: Sequence::new(every_lane(alloc)?),
+    })
+}
+
+/// Eight hosts, and a contact who is notified of them on each of sixteen lanes.
+fn wide(alloc: Global) -> Result<Config, AllocError>
+    ensures accepted { IfOk result (λ config. IsAccepted config) }
+    ensures covered { IfOk result (λ config. IsCovered config) }
+    ensures lanes { IfOk result (λ config. length config.lanes ≡ 16) }
+    ensures objects { IfOk result (λ config. length config.objects ≡ 8) }
+{
+    let name = text(alloc, b"ann")?;
+    let hosts_rights = on_every_lane(alloc)?;
+    let services_rights = on_every_lane(alloc)?;
+    let mut contacts = Vec::new(alloc);
+    contacts.push(Contact {
+        name,
+        hosts: hosts_rights,
+        services: services_rights,
+    })?;
+    Ok(Config {
+        objects: Objects::new(alloc, hosts(alloc)?)?,
+        contacts: Sequence::new(contacts),
+        lanes: Sequence::new(commands(alloc)?),
+        periods: Sequence::new(Vec::new(alloc)),
+        escalations: Sequence::new(Vec::new(alloc)),
+        dependencies: Sequence::new(Vec::new(alloc)),
+    })
+}
+
 /// Whether the step posts what may be posted, if it posts.
 fn is_plain(config: &Config, step: Step) -> bool
     ensures { IsTrue result → IsPlainStep config.now step }
@@ -99,6 +174,18 @@ fn is_plain(config: &Config, step: Step) -> bool
         Step::Post(event) => proper(config, &event) && event.kind.is_taken_in(),
         _ => true,
     }
+}
+
+/// Whether each step is.
+fn are_plain(config: &Config, steps: &[Step]) -> bool
+    ensures { IsTrue result → All (IsPlainStep config.now) steps.now }
+{
+    for step in steps {
+        if !is_plain(config, *step) {
+            return false;
+        }
+    }
+    true
 }
 
 /// Applies each step, and gives the places of those that aren't enabled, counted from 1.
@@ -124,11 +211,6 @@ fn refused(
     Ok(places)
 }
 
-/// The numbers of the events that these notices tell of.
-fn events(alloc: Global, notices: &[Notice]) -> Result<Vec<u64>, AllocError> {
-    notices.iter().map(|notice| notice.event).collect(alloc)
-}
-
 fn hard(moment: u64, state: State) -> Step {
     Step::Post(Event {
         moment,
@@ -138,13 +220,20 @@ fn hard(moment: u64, state: State) -> Step {
 
 const MAIL: LaneId = LaneId(0);
 
+/// These notices tell of these events.
+fn tell(rt: &impl Abort, alloc: Global, notices: &[Notice], told: &[u64]) -> Result<(), Fail> {
+    let found: Vec<u64> = notices.iter().map(|notice| notice.event).collect(alloc)?;
+    assert_eq!(rt; found.as_slice(), told);
+    Ok(())
+}
+
 /// A world of BASE with one decider refuses these of the steps, and its line is then this, part by part.
 fn plays(
     rt: &impl Abort,
     alloc: Global,
     steps: &[Step],
     places: &[usize],
-    line: [&[u64]; 5],
+    line: [&[u64]; 3],
 ) -> Result<(), Fail> {
     let config = base(alloc)?;
     let zone = Zone::Utc;
@@ -152,12 +241,9 @@ fn plays(
     let found = refused(rt, alloc, &config, &mut world, steps)?;
     assert_eq!(rt; found.as_slice(), places);
     let parts = world.line(alloc, MAIL, ObjectId(0))?;
-    assert_eq!(rt; events(alloc, &parts.taken)?.as_slice(), line[0]);
-    assert_eq!(rt; events(alloc, &parts.hand)?.as_slice(), line[1]);
-    assert_eq!(rt; events(alloc, &parts.undelivered)?.as_slice(), line[2]);
-    assert_eq!(rt; events(alloc, &parts.queue)?.as_slice(), line[3]);
-    assert_eq!(rt; events(alloc, &parts.outbox)?.as_slice(), line[4]);
-    Ok(())
+    tell(rt, alloc, &parts.taken, line[0])?;
+    tell(rt, alloc, &parts.hand, line[1])?;
+    tell(rt, alloc, &parts.undelivered, line[2])
 }
 
 #[test]
@@ -176,5 +262,100 @@ fn ask_and_close(rt: HostRuntime) -> Result<(), Fail> {
         Step::Pick(MAIL),
         Step::Drain(MAIL),
     ];
-    plays(&rt, rt.alloc(), &steps, &[11], [&[0], &[], &[1], &[], &[]])
+    plays(&rt, rt.alloc(), &steps, &[11], [&[0], &[], &[1]])
+}
+
+#[test]
+fn ask_and_close_unsettled(rt: HostRuntime) -> Result<(), Fail> {
+    let steps = [
+        hard(1000, State::Down),
+        Step::Decide(0),
+        Step::Put(0, MAIL),
+        Step::Pick(MAIL),
+        Step::Ask(MAIL),
+        Step::Close(MAIL),
+        hard(1010, State::Up),
+        Step::Decide(0),
+        Step::Put(0, MAIL),
+        Step::Pick(MAIL),
+        Step::Drain(MAIL),
+    ];
+    plays(&rt, rt.alloc(), &steps, &[10], [&[], &[], &[0, 1]])
+}
+
+#[test]
+fn two_tries(rt: HostRuntime) -> Result<(), Fail> {
+    let steps = [
+        hard(1000, State::Down),
+        Step::Decide(0),
+        Step::Put(0, MAIL),
+        Step::Pick(MAIL),
+        Step::Close(MAIL),
+        Step::Fail(MAIL),
+        Step::Fail(MAIL),
+        Step::Fail(MAIL),
+        Step::Close(MAIL),
+    ];
+    plays(&rt, rt.alloc(), &steps, &[5, 8], [&[], &[], &[0]])
+}
+
+/// So many changes of web's state, each decided, put, picked and settled.
+fn changes(alloc: Global, count: u64) -> Result<Vec<Step>, AllocError> {
+    let mut steps = Vec::new(alloc);
+    for event in 0..count {
+        let state = if event % 2 == 0 { State::Down } else { State::Up };
+        steps.push(hard(event, state))?;
+        steps.push(Step::Decide(0))?;
+        steps.push(Step::Put(0, MAIL))?;
+        steps.push(Step::Pick(MAIL))?;
+        steps.push(Step::Settle(MAIL))?;
+    }
+    Ok(steps)
+}
+
+#[test]
+fn ten_thousand_steps(rt: HostRuntime) -> Result<(), Fail> {
+    let alloc = rt.alloc();
+    let config = base(alloc)?;
+    let zone = Zone::Utc;
+    let mut world = World::new(alloc, &config, &zone, 1, 1, 1, &[true])?;
+    let steps = changes(alloc, 2000)?;
+    assert!(&rt; are_plain(&config, steps.as_slice()));
+    assert_eq!(&rt; world.run(steps.as_slice()), Ok(()));
+    let parts = world.line(alloc, MAIL, ObjectId(0))?;
+    assert_eq!(&rt; parts.taken.len(), 2000);
+    Ok(())
+}
+
+/// Each of eight hosts is down, and each decider has decided it; each queue has a notice of the first decider.
+fn crowd(alloc: Global) -> Result<Vec<Step>, AllocError> {
+    let mut steps = Vec::new(alloc);
+    for object in 0..8 {
+        let kind = EventKind::Hard(ObjectId(object), State::Down);
+        steps.push(Step::Post(Event { moment: 0, kind }))?;
+    }
+    for turn in 0..64u8 {
+        steps.push(Step::Decide(turn % 8))?;
+    }
+    for lane in 0..16 {
+        steps.push(Step::Put(0, LaneId(lane)))?;
+    }
+    Ok(steps)
+}
+
+#[test]
+fn at_the_limits(rt: HostRuntime) -> Result<(), Fail> {
+    let alloc = rt.alloc();
+    let config = wide(alloc)?;
+    let zone = Zone::Utc;
+    let mut world = World::new(alloc, &config, &zone, 8, 1, 10, &[true; 16])?;
+    let steps = crowd(alloc)?;
+    assert!(&rt; are_plain(&config, steps.as_slice()));
+    assert_eq!(&rt; world.run(steps.as_slice()), Ok(()));
+    let last = LaneId(15);
+    assert_eq!(&rt; world.apply(Step::Put(7, last)), Err(StepFault::NotEnabled));
+    let first = world.line(alloc, last, ObjectId(0))?;
+    tell(&rt, alloc, &first.queue, &[0])?;
+    let other = world.line(alloc, last, ObjectId(7))?;
+    tell(&rt, alloc, &other.outbox, &[7])
 }
