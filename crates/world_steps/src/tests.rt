@@ -97,7 +97,7 @@ fn hosts(alloc: Global) -> Result<Vec<Object>, AllocError>
     ensures { IfOk result (λ hosts. hosts.items ≡ replicate 8 web) }
 {
     let mut made = Vec::new(alloc);
-    for _host in 0..8 {
+    for _host in 0..8u64 {
         made.push(web(alloc)?)?;
     }
     Ok(made)
@@ -108,7 +108,7 @@ fn commands(alloc: Global) -> Result<Vec<Lane>, AllocError>
     ensures { IfOk result (λ lanes. length lanes.items ≡ 16) }
 {
     let mut made = Vec::new(alloc);
-    for _lane in 0..16 {
+    for _lane in 0..16u64 {
         made.push(Lane {
             name: text(alloc, b"mail")?,
         })?;
@@ -121,7 +121,7 @@ fn every_lane(alloc: Global) -> Result<Vec<LaneId>, AllocError>
     ensures { IfOk result (λ lanes. All (λ lane. lane.0 < 16) lanes.items) }
 {
     let mut made = Vec::new(alloc);
-    for lane in 0..16 {
+    for lane in 0..16u8 {
         made.push(LaneId(lane))?;
     }
     Ok(made)
@@ -330,14 +330,14 @@ fn ten_thousand_steps(rt: HostRuntime) -> Result<(), Fail> {
 /// Each of eight hosts is down, and each decider has decided it; each queue has a notice of the first decider.
 fn crowd(alloc: Global) -> Result<Vec<Step>, AllocError> {
     let mut steps = Vec::new(alloc);
-    for object in 0..8 {
+    for object in 0..8u16 {
         let kind = EventKind::Hard(ObjectId(object), State::Down);
         steps.push(Step::Post(Event { moment: 0, kind }))?;
     }
     for turn in 0..64u8 {
         steps.push(Step::Decide(turn % 8))?;
     }
-    for lane in 0..16 {
+    for lane in 0..16u8 {
         steps.push(Step::Put(0, LaneId(lane)))?;
     }
     Ok(steps)
