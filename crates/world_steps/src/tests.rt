@@ -303,7 +303,11 @@ fn two_tries(rt: HostRuntime) -> Result<(), Fail> {
 fn changes(alloc: Global, count: u64) -> Result<Vec<Step>, AllocError> {
     let mut steps = Vec::new(alloc);
     for event in 0..count {
-        let state = if event % 2 == 0 { State::Down } else { State::Up };
+        let state = if event % 2 == 0 {
+            State::Down
+        } else {
+            State::Up
+        };
         steps.push(hard(event, state))?;
         steps.push(Step::Decide(0))?;
         steps.push(Step::Put(0, MAIL))?;
