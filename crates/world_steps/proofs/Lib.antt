@@ -1,0 +1,8 @@
+pub mod ListLemmas
+pub mod PartsLaws
+pub mod Gains
+pub mod Shapes
+pub mod Soundness
+pub mod SeatLaws
+pub mod NewWorlds
+pub mod RunLaws

@@ -1,0 +1,66 @@
+-- The state of a world, as lists.
+use Rattle.std.specs.Prelude.{ℕ, Bool, true, false, not, List, [], replicate, slice_index_or}
+use Rattle.due_model.specs.declared.config.Config.{Config}
+use Rattle.due_model.specs.declared.event.Event.{Event}
+use Rattle.due_model.specs.declared.notice.Notice.{Notice}
+use Rattle.due_model.specs.declared.zone.Zone.{Zone}
+
+-- a decider: how many of the posted events it has decided, and for each lane the notices that wait for its queue
+pub record DeciderState : Type 0 where
+  pub decided : ℕ
+  pub outboxes : List (List Notice)
+
+-- a lane: what its channel has taken, the message in hand (at most one), what is given up, and what waits; then the tries
+-- that failed for the message in hand, whether it is asked to close, and whether it is shut
+pub record LaneState : Type 0 where
+  pub taken : List Notice
+  pub hand : List Notice
+  pub undelivered : List Notice
+  pub queue : List Notice
+  pub failures : ℕ
+  pub asked : Bool
+  pub shut : Bool
+
+-- a world: the posted events, the deciders and the lanes
+pub record WorldState : Type 0 where
+  pub posted : List Event
+  pub deciders : List DeciderState
+  pub lanes : List LaneState
+
+-- what no step changes: the configuration, the zone, how many deciders there are, how many notices a queue holds, and how
+-- many tries a message has
+pub record Settings : Type 0 where
+  pub config : Config
+  pub zone : Zone
+  pub deciders : ℕ
+  pub queue : ℕ
+  pub tries : ℕ
+
+abbrev pub settings_for : Config → Zone → (deciders queue tries : ℕ) → Settings
+settings_for config zone deciders queue tries = record { config = config; zone = zone; deciders = deciders; queue = queue; tries = tries }
+
+-- a decider that has decided nothing, with this many lanes
+abbrev pub new_decider : (lanes : ℕ) → DeciderState
+new_decider lanes = record { decided = 0; outboxes = replicate lanes [] }
+
+-- a lane with nothing in it, which serves or is shut
+abbrev pub new_lane : (serves : Bool) → LaneState
+new_lane serves = record { taken = []; hand = []; undelivered = []; queue = []; failures = 0; asked = false; shut = not serves }
+
+-- a decider that isn't there
+abbrev pub no_decider : DeciderState
+no_decider = record { decided = 0; outboxes = [] }
+
+-- a lane that isn't there
+abbrev pub empty_lane : LaneState
+empty_lane = new_lane true
+
+abbrev pub decider_at : WorldState → ℕ → DeciderState
+decider_at w d = slice_index_or w.deciders d no_decider
+
+abbrev pub lane_at : WorldState → ℕ → LaneState
+lane_at w l = slice_index_or w.lanes l empty_lane
+
+-- the notices of decider d that wait for the queue of lane l
+abbrev pub outbox_at : WorldState → (d l : ℕ) → List Notice
+outbox_at w d l = slice_index_or (decider_at w d).outboxes l []
