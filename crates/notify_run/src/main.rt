@@ -1,6 +1,8 @@
 //! The program `notify-run`: what the notification rules make due.
 #![tactic(auto)]
 
+#[cfg(test)]
+mod comparison;
 mod configure;
 mod input;
 mod order;
