@@ -138,19 +138,27 @@ impl Read for Pieces<'_> {
     }
 }
 
-/// A writer that takes nothing from the call of this number on.
+/// A writer that takes five bytes at a call, and from the call of this number on fails, or takes nothing.
 #[derive(Drop)]
 struct Stubborn {
     calls: usize,
+    fails: bool,
+    taken: Vec<u8>,
 }
 
 impl Write for Stubborn {
     fn write(&mut self, buf: &[u8]) -> io::Result<usize> {
         if self.calls == 0 {
-            return Ok(0);
+            return if self.fails {
+                Err(io::Error::from(io::ErrorKind::Other))
+            } else {
+                Ok(0)
+            };
         }
         self.calls -= 1;
-        Ok(buf.len().min(5))
+        let count = buf.len().min(5);
+        self.taken.extend_from_slice(&buf[..count])?;
+        Ok(count)
     }
 
     fn flush(&mut self) -> io::Result<()> {
@@ -178,13 +186,38 @@ fn in_pieces(rt: HostRuntime) -> Result<(), Fail> {
     Ok(())
 }
 
+/// Replays one host down into a writer that stops at a call, and compares how it ends and what was written.
+fn stops_at(rt: &impl Abort, alloc: Global, calls: usize, fails: bool) -> Result<(), Fail> {
+    let text = input(alloc, "[1000] HOST_STATE;web;DOWN\n")?;
+    let report = b"N;0;1000;web;PROBLEM;DOWN;1;ann;mail\n".as_slice();
+    let mut writer = Stubborn {
+        calls,
+        fails,
+        taken: Vec::new(alloc),
+    };
+    let ended = replay(alloc, text.as_bytes(), &mut writer);
+    let whole = calls >= 8;
+    let wanted = if whole {
+        Ok(Ending::Whole)
+    } else {
+        Err(ReplayFault::Output)
+    };
+    assert_eq!(rt; ended, wanted, "after {calls} calls");
+    let count = calls.saturating_mul(5).min(report.len());
+    assert_eq!(rt;
+        writer.taken.as_slice(),
+        &report[..count],
+        "after {calls} calls"
+    );
+    Ok(())
+}
+
+/// The line has 37 bytes, so that a writer of five bytes a call takes it in eight.
 #[test]
 fn output_fails(rt: HostRuntime) -> Result<(), Fail> {
-    let text = input(rt.alloc(), "[1000] HOST_STATE;web;DOWN\n")?;
-    for calls in 0..7 {
-        let mut writer = Stubborn { calls };
-        let ended = replay(rt.alloc(), text.as_bytes(), &mut writer);
-        assert_eq!(rt; ended, Err(ReplayFault::Output), "after {calls} calls");
+    for calls in 0..9 {
+        stops_at(&rt, rt.alloc(), calls, false)?;
+        stops_at(&rt, rt.alloc(), calls, true)?;
     }
     Ok(())
 }
