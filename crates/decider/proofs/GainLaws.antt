@@ -23,15 +23,6 @@ use Rattle.decider.specs.Books.{told_outcome}
 use Rattle.decider.proofs.BookLaws.{GoesOutOfHost}
 use Rattle.decider.specs.Gains.{contact_notices, plain_notice_from, plain_notices, plain_suppressions, notices_of_object, object_notices, notice_of, told_notices, told_suppressions}
 
--- flat lists of functions that agree
-flat_alike : {X A : Type 0} (f g : X → List A) → ((x : X) → f x ≡ g x) → (xs : List X) → flat_map f xs ≡ flat_map g xs
-flat_alike f g alike [] = refl
-flat_alike f g alike (x ∷ xs) = ap (λ ys. ys ++ flat_map f xs) (alike x) ∙ ap (λ ys. g x ++ ys) (flat_alike f g alike xs)
-
-flat_nothing : {X A : Type 0} (f : X → List A) → ((x : X) → f x ≡ []) → (xs : List X) → flat_map f xs ≡ []
-flat_nothing f none [] = refl
-flat_nothing f none (x ∷ xs) = ap (λ ys. ys ++ flat_map f xs) (none x) ∙ flat_nothing f none xs
-
 -- what holds of each element holds of one that is looked up
 pub all_at : {X : Type 0} (P : X → Type 0) (xs : List X) (k : ℕ) (x : X) → All P xs → slice_get xs k ≡ Some x → P x
 all_at P xs k x all e = subst P (get_or_from_slice_get xs k x x e) (all k x (slice_get_within xs k x e))

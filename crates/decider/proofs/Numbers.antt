@@ -72,3 +72,13 @@ flat_same {A} f g p (suc n) alike =
 pub flat_flat : {X A B : Type 0} (f : X → List A) (g : A → List B) (xs : List X) → flat_map g (flat_map f xs) ≡ flat_map (λ x. flat_map g (f x)) xs
 flat_flat f g [] = refl
 flat_flat f g (x ∷ xs) = flat_map-append g (f x) (flat_map f xs) ∙ ap (λ ys. flat_map g (f x) ++ ys) (flat_flat f g xs)
+
+-- flat lists of functions that agree
+pub flat_alike : {X A : Type 0} (f g : X → List A) → ((x : X) → f x ≡ g x) → (xs : List X) → flat_map f xs ≡ flat_map g xs
+flat_alike f g alike [] = refl
+flat_alike f g alike (x ∷ xs) = ap (λ ys. ys ++ flat_map f xs) (alike x) ∙ ap (λ ys. g x ++ ys) (flat_alike f g alike xs)
+
+-- and of one that gives nothing
+pub flat_nothing : {X A : Type 0} (f : X → List A) → ((x : X) → f x ≡ []) → (xs : List X) → flat_map f xs ≡ []
+flat_nothing f none [] = refl
+flat_nothing f none (x ∷ xs) = ap (λ ys. ys ++ flat_map f xs) (none x) ∙ flat_nothing f none xs

@@ -42,7 +42,7 @@ AllPairs-append R (x ∷ xs) ys h k across =
     (All-append (R x) xs ys (AllPairs-head R x xs h) (All-head (λ x. All (R x) ys) x xs across))
     (AllPairs-append R xs ys (AllPairs-tail R x xs h) k (All-tail (λ x. All (R x) ys) x xs across))
 
-range_increases : (a n : ℕ) → AllPairs (λ x y. x < y) (range_with_len a n)
+pub range_increases : (a n : ℕ) → AllPairs (λ x y. x < y) (range_with_len a n)
 range_increases a n = λ i j d before within.
     let w : j < n = omega (arith, within, length-range_with_len a n) in
     omega (arith, get_or-range_with_len a n i d (omega arith), get_or-range_with_len a n j d w)
