@@ -1,6 +1,7 @@
 //! The program `notify-run`: what the notification rules make due.
 #![tactic(auto)]
 
+mod command_line;
 #[cfg(test)]
 mod comparison;
 mod configure;
@@ -11,20 +12,15 @@ mod replay;
 mod report;
 #[cfg(test)]
 mod tests;
+mod trace;
 
+use command_line::{Request, command, request_of};
+use clap::error::ErrorKind;
 use replay::{Ending, ReplayFault, replay};
+use std::alloc::AllocError;
 use std::env;
 use std::process::ExitCode;
-
-/// What the program says of itself.
-const USAGE: &str = "\
-notify-run: the notification logic of Nagios Core 4
-
-usage: notify-run replay
-
-replay  reads object text from standard input, a line `%events`, and a feed of events, and writes
-        what would have been sent, and the filter behind each suppression
-";
+use trace::trace;
 
 /// Writes a fault on standard error, and gives the exit status.
 fn told<R: Eprint>(rt: &R, status: u8, text: &str) -> ExitCode {
@@ -32,7 +28,7 @@ fn told<R: Eprint>(rt: &R, status: u8, text: &str) -> ExitCode {
     ExitCode::from(status)
 }
 
-/// The exit status of a replay: 0 where the feed was read to its end, 1 where it ended before, or where the
+/// The exit status of a command: 0 where all was read, 1 where the feed or the steps ended before, or where the
 /// object text or the output failed, 4 for want of memory.
 fn status_of<R: Eprint>(rt: &R, outcome: Result<Ending, ReplayFault>) -> ExitCode {
     match outcome {
@@ -53,24 +49,43 @@ fn status_of<R: Eprint>(rt: &R, outcome: Result<Ending, ReplayFault>) -> ExitCod
     }
 }
 
+/// Writes what `clap` says of a command line that asks for help, or is wrong, and gives the exit status.
+fn shown<R: Print + Eprint>(rt: &R, error: &clap::Error) -> ExitCode {
+    if error.kind() == ErrorKind::OutOfMemory {
+        return told(rt, 4, "memory");
+    }
+    let _ = error.print(rt);
+    if error.use_stderr() {
+        ExitCode::from(2)
+    } else {
+        ExitCode::from(0)
+    }
+}
+
 fn main(rt: HostRuntime) -> ExitCode {
-    let Ok(mut args) = env::args(&rt) else {
+    let alloc = rt.alloc();
+    let Ok(args) = env::args(&rt) else {
         return told(&rt, 4, "memory");
     };
-    let command = args.nth(1);
-    let more = args.next();
-    match (&command, &more) {
-        (Some(command), None) if command.as_str() == "replay" => {
-            let outcome = replay(rt.alloc(), rt.stdin(), &mut rt.stdout());
+    let Ok(words): Result<Vec<String>, AllocError> = args.collect(alloc) else {
+        return told(&rt, 4, "memory");
+    };
+    let Ok(command) = command(alloc) else {
+        return told(&rt, 4, "memory");
+    };
+    let matches = match command.try_get_matches_from(words.as_slice()) {
+        Ok(matches) => matches,
+        Err(error) => return shown(&rt, &error),
+    };
+    match request_of(&matches) {
+        Some(Request::Replay) => {
+            let outcome = replay(alloc, rt.stdin(), &mut rt.stdout());
             status_of(&rt, outcome)
         }
-        (Some(command), None) if command.as_str() == "--help" => {
-            let _ = rt.print(USAGE);
-            ExitCode::from(0)
+        Some(Request::Trace(settings)) => {
+            let outcome = trace(alloc, settings, rt.stdin(), &mut rt.stdout());
+            status_of(&rt, outcome)
         }
-        _ => {
-            let _ = rt.eprint(USAGE);
-            ExitCode::from(2)
-        }
+        None => told(&rt, 2, "usage: notify-run --help"),
     }
 }

@@ -1,0 +1,124 @@
+//! The command line: what `notify-run` can be asked, and what its words ask.
+
+use crate::trace::TraceSettings;
+use clap::{Arg, ArgMatches, Command, value_parser};
+use std::alloc::{AllocError, Global};
+
+/// What `notify-run --help` says behind its commands.
+const STATUSES: &str = "\
+Exit status:
+  0  done
+  1  the object text was refused, the input or the output failed, or the feed broke off
+  2  the command line is wrong
+  4  memory ran out
+
+Faults are told on standard error, those of the object text with the line of it.";
+
+/// What `notify-run replay --help` says.
+const REPLAY: &str = "\
+Reads object text, a line `%events` and a feed of events from standard input, and
+writes to standard output what would have been sent, line by line of the feed:
+
+  N;event;moment;object;kind;state;number;contact;lane     a notice
+  S;event;moment;object;kind;state;filter                  what a filter of the object stopped
+  C;event;moment;object;kind;state;number;contact;filter   a contact that was refused
+  R;line;fault                                             a refused line of the feed
+
+Times are UTC. The feed is read and the report written as it comes.";
+
+/// What `notify-run trace --help` says.
+const TRACE: &str = "\
+Reads object text, a line `%events`, a feed of events, a line `%steps` and steps
+from standard input, one step a line, and does them one by one:
+
+  post            the next event of the feed is posted
+  decide D        decider D, counted from 0, decides the next posted event
+  put D LANE      the front of decider D's outbox goes to the lane's queue
+  pick LANE       the queue's front goes into the lane's hand
+  settle LANE     the lane's channel takes the message in hand
+  fail LANE       the lane's channel doesn't take it
+  ask LANE        the lane is asked to close
+  close LANE      the lane is shut
+  drain LANE      the front of a shut lane's queue is given up
+
+A lane is named by its command: one that a contact lists. Standard output gets
+
+  R;line;fault                                             a refused line of the feed
+  E;line;BadStep                                           a line behind `%steps` that is no step
+  E;line;NotEnabled                                        a step that can't be done
+  L;lane;object;taken;hand;undelivered;queue;outbox        at the end, what the lane holds of the object
+
+where each list is `event:contact`, parted by commas, or `-`.";
+
+/// What the program is asked to do.
+#[derive(Clone, Copy, Debug, PartialEq, Eq)]
+pub enum Request {
+    Replay,
+    Trace(TraceSettings),
+}
+
+/// The command `replay`, which has no options yet.
+fn replay_command<'a>(alloc: Global) -> Command<'a> {
+    Command::new(alloc, "replay")
+        .about("What would have been sent, from object text and a feed of events")
+        .long_about(REPLAY)
+}
+
+/// The command `trace` and its options.
+fn trace_command<'a>(alloc: Global) -> Result<Command<'a>, AllocError> {
+    let deciders = Arg::new(alloc, "deciders")
+        .long("deciders")
+        .value_name("NUMBER")
+        .value_parser(value_parser!(u8).range(1..=8))
+        .default_value("1")
+        .help("How many deciders share the objects, 1 to 8");
+    let queue = Arg::new(alloc, "queue")
+        .long("queue")
+        .value_name("NUMBER")
+        .value_parser(value_parser!(u16).range(1..=1024))
+        .default_value("64")
+        .help("How many notices the queue of a lane holds, 1 to 1024");
+    let tries = Arg::new(alloc, "tries")
+        .long("tries")
+        .value_name("NUMBER")
+        .value_parser(value_parser!(u8).range(1..=10))
+        .default_value("3")
+        .help("How often a message is tried, 1 to 10");
+    Command::new(alloc, "trace")
+        .about("The engine's design, step by step")
+        .long_about(TRACE)
+        .arg(deciders)?
+        .arg(queue)?
+        .arg(tries)
+}
+
+/// The commands of `notify-run`. A refused growth is the only error.
+pub fn command<'a>(alloc: Global) -> Result<Command<'a>, AllocError> {
+    Command::new(alloc, "notify-run")
+        .bin_name("notify-run")?
+        .about("The notification logic of Nagios Core 4")
+        .after_help(STATUSES)
+        .disable_help_subcommand(true)
+        .subcommand_required(true)
+        .arg_required_else_help(true)
+        .subcommand(replay_command(alloc))?
+        .subcommand(trace_command(alloc)?)
+}
+
+/// The settings of a trace. Each option has a default, and its range is that of the settings, so that there are
+/// some behind each command line that was read.
+fn settings_of(options: &ArgMatches<'_>) -> Option<TraceSettings> {
+    let deciders = options.get_one::<u8>("deciders")?;
+    let queue = options.get_one::<u16>("queue")?;
+    let tries = options.get_one::<u8>("tries")?;
+    TraceSettings::new(deciders, queue, tries)
+}
+
+/// What a command line that was read asks.
+pub fn request_of(matches: &ArgMatches<'_>) -> Option<Request> {
+    match matches.subcommand() {
+        Some(("replay", _)) => Some(Request::Replay),
+        Some(("trace", options)) => settings_of(options).map(Request::Trace),
+        _ => None,
+    }
+}
