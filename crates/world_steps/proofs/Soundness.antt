@@ -11,6 +11,7 @@ use Rattle.due_model.specs.declared.event.EventKind.TheVariants.{Clock}
 use Rattle.due_model.specs.declared.notice.Notice.{Notice}
 use Rattle.due_model.specs.Due.{due}
 use Rattle.due_model.specs.Laws.{NoticesTellOfEvents}
+use Rattle.due_model.proofs.Pasts.{past_more}
 use Rattle.decider.specs.Gains.{gained}
 use Rattle.world_steps.specs.declared.step.Step.{Step}
 use Rattle.world_steps.specs.declared.step.Step.TheVariants.{Post, Decide, Put, Pick, Settle, Fail, Ask, Close, Drain}
@@ -19,7 +20,7 @@ use Rattle.world_steps.specs.Worlds.{DeciderState, LaneState, WorldState, Settin
 use Rattle.world_steps.specs.Steps.{IsEnabled, after, with_lane, with_decider, decided, without_front, queued, owner, past_of, picked, settled, failed, asked, closed, drained, CanPut, CanDecide}
 use Rattle.world_steps.specs.Lines.{about, line, decider_of}
 use Rattle.world_steps.specs.Held.{Sound}
-use Rattle.world_steps.proofs.ListLemmas.{everywhere, reverse_more}
+use Rattle.world_steps.proofs.ListLemmas.{everywhere}
 use Rattle.world_steps.proofs.Gains.{about_none, gained_owned, gained_is_owned, due_more}
 use Rattle.world_steps.proofs.Shapes.{contents, picked_law, settled_law, closed_law, drained_law, queued_law}
 
@@ -218,7 +219,7 @@ module _ (s : Settings) (w : WorldState) (sound : Sound s w) where
     decided_past : past_of later d ≡ e ∷ past
     decided_past =
         ap (λ (x : DeciderState). reverse (take x.decided w.posted)) (decider_here d can.there change)
-        ∙ reverse_more w.posted (decider_at w d).decided e can.left (sym (get_or_from_slice_get w.posted (decider_at w d).decided e e found))
+        ∙ past_more w.posted (decider_at w d).decided e can.left ∙ ap (λ (x : Event). x ∷ past) (get_or_from_slice_get w.posted (decider_at w d).decided e e found)
 
     other_past : (k : ℕ) → k ≢ d → past_of later k ≡ past_of w k
     other_past k ne = ap (λ (x : DeciderState). reverse (take x.decided w.posted)) (decider_other d can.there change k ne)

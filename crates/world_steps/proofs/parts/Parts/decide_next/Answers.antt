@@ -1,9 +1,10 @@
-use Rattle.std.proofs.Common.{◌≡◌, ◌<◌, ℕ, List, ◌++◌, Option, Some, length, get_or, take, reverse, slice_get, refl, sym, ap, ◌∙◌, subst, arith}
+use Rattle.std.proofs.Common.{◌≡◌, ◌<◌, ℕ, List, ◌∷◌, ◌++◌, Option, Some, length, get_or, take, reverse, slice_get, refl, sym, ap, ◌∙◌, subst, arith}
 use Rattle.std.proofs.lemmas.List.{length-map}
 use Rattle.std.proofs.lemmas.Option.{slice_get_read}
 use Rattle.due_model.specs.declared.config.Config.{Config}
 use Rattle.due_model.specs.declared.event.Event.{Event}
 use Rattle.due_model.specs.declared.zone.Zone.{Zone}
+use Rattle.due_model.proofs.Pasts.{past_more}
 use Rattle.decider.specs.declared.owned.Owned.{Owned}
 use Rattle.decider.specs.Gains.{gained}
 use Rattle.decider.specs.Kept.{Fits, kept}
@@ -12,7 +13,7 @@ use Rattle.world_steps.specs.Steps.{decided, owner, past_of}
 use Rattle.world_steps.specs.Held.{parts_state, parts_settings, seat_state}
 use Rattle.decider.specs.Outboxes.{waiting_at}
 use Rattle.decider.proofs.ListLemmas.{read_at, map-set_by, map-set_kept}
-use Rattle.world_steps.proofs.ListLemmas.{on_err_always, reverse_more}
+use Rattle.world_steps.proofs.ListLemmas.{on_err_always}
 use Rattle.world_steps.proofs.PartsLaws.{seat_fits, decided_law, kept_fits, holds_set, past_length}
 use Rattle.world_steps.proofs.parts.Parts.decide_next.Goals as goal
 
@@ -77,7 +78,7 @@ returns-clause-holds c =
       seats = holds_set d y c.requires.holds.seats (record {
         within = omega (arith, left, c.in_ok-decide.ensures.decided);
         fits = subst (λ (n : ℕ). Fits (kept y.decider) (reverse (take n posted))) (sym c.in_ok-decide.ensures.decided)
-            (subst (λ (past : List Event). Fits (kept y.decider) past) (sym (reverse_more posted x.decided e left read)) (c.in_ok-decide.ensures.fits (reverse (take x.decided posted)) fits.fits));
+            (subst (λ (past : List Event). Fits (kept y.decider) past) (sym (past_more posted x.decided e left ∙ ap (λ (event : Event). event ∷ reverse (take x.decided posted)) (sym read))) (c.in_ok-decide.ensures.fits (reverse (take x.decided posted)) fits.fits));
         settings = c.in_ok-decide.ensures.settings ∙ fits.settings;
         lanes = c.in_ok-decide.ensures.lanes ∙ fits.lanes;
       });

@@ -7,7 +7,7 @@ use Rattle.world_steps.specs.Steps.{queued, without_front, with_decider}
 use Rattle.world_steps.specs.Held.{parts_state, lane_state, seat_state}
 use Rattle.decider.specs.Outboxes.{lists, waiting_at}
 use Rattle.decider.proofs.ListLemmas.{map-set_by, map-set_kept}
-use Rattle.world_steps.proofs.ListLemmas.{some_front, one_front, on_err_always}
+use Rattle.world_steps.proofs.ListLemmas.{some_front, take_found, on_err_always}
 use Rattle.world_steps.proofs.PartsLaws.{seat_fits, outbox_there, outbox_read, kept_fits, holds_set}
 use Rattle.world_steps.proofs.parts.Parts.transfer.Goals as goal
 
@@ -37,7 +37,7 @@ returns-in_ok-enqueue-clause-ok c =
     let x = c.index_mut-from.result.now in
     let there : d < length p.seats.items = simp length-map at c.requires.enabled.decider in
     let front : take 1 (outbox_at (parts_state p) d l) ≡ c.in-Some.notice ∷ [] =
-    ap (take 1) (outbox_read p.seats.items d x l there c.index_mut-from.ensures.value) ∙ one_front (waiting_at x.outbox l) c.in-Some.notice (sym c.first.ensures ∙ c.in-Some.is) in
+    ap (take 1) (outbox_read p.seats.items d x l there c.index_mut-from.ensures.value) ∙ take_found (waiting_at x.outbox l) 0 c.in-Some.notice (sym c.first.ensures ∙ c.in-Some.is) in
     ap (λ (deciders : List DeciderState). record { posted = p.posted.items; deciders = deciders; lanes = map lane_state (set p.lanes.items l c.enqueue.new.self) })
     (map-set_by seat_state p.seats.items d x c.drop_first.new.self no_decider (without_front l) there c.index_mut-from.ensures.value c.drop_first.ensures.state)
     ∙ ap (λ (lanes : List LaneState). record (with_decider (parts_state p) d (without_front l)) { lanes = lanes })
