@@ -12,12 +12,12 @@ use Rattle.decider.specs.Gains.{gained}
 use Rattle.decider.specs.Kept.{Kept, Fits, kept, settings}
 use Rattle.decider.specs.Outboxes.{lists, waiting_at}
 use Rattle.decider.specs.declared.owned.Owned.{Owned}
+use Rattle.decider.proofs.ListLemmas.{read_at}
 use Rattle.world_steps.specs.declared.parts.Parts.{Parts}
 use Rattle.world_steps.specs.declared.seat.Seat.{Seat}
 use Rattle.world_steps.specs.Worlds.{DeciderState, Settings, no_decider, settings_for}
 use Rattle.world_steps.specs.Steps.{decided}
 use Rattle.world_steps.specs.Held.{seat_state, SeatFits, Holds, PartsHold, Stands}
-use Rattle.decider.proofs.ListLemmas.{read_at}
 use Rattle.world_steps.proofs.ListLemmas.{everywhere}
 
 -- the outbox of seat d among all, for lane l

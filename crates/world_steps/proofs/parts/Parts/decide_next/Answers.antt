@@ -8,11 +8,11 @@ use Rattle.due_model.proofs.Pasts.{past_more}
 use Rattle.decider.specs.declared.owned.Owned.{Owned}
 use Rattle.decider.specs.Gains.{gained}
 use Rattle.decider.specs.Kept.{Fits, kept}
+use Rattle.decider.specs.Outboxes.{waiting_at}
+use Rattle.decider.proofs.ListLemmas.{read_at, map-set_by, map-set_kept}
 use Rattle.world_steps.specs.Worlds.{DeciderState, no_decider, decider_at}
 use Rattle.world_steps.specs.Steps.{decided, owner, past_of}
 use Rattle.world_steps.specs.Held.{parts_state, parts_settings, seat_state}
-use Rattle.decider.specs.Outboxes.{waiting_at}
-use Rattle.decider.proofs.ListLemmas.{read_at, map-set_by, map-set_kept}
 use Rattle.world_steps.proofs.ListLemmas.{on_err_always}
 use Rattle.world_steps.proofs.PartsLaws.{seat_fits, decided_law, kept_fits, holds_set, past_length}
 use Rattle.world_steps.proofs.parts.Parts.decide_next.Goals as goal

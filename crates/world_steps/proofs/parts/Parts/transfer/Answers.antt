@@ -2,11 +2,11 @@ use Rattle.std.proofs.Common.{◌≡◌, ◌<◌, List, [], ◌∷◌, is_some, 
 use Rattle.std.proofs.lemmas.List.{length-map}
 use Rattle.due_model.specs.declared.notice.Notice.{Notice}
 use Rattle.decider.specs.Kept.{kept}
+use Rattle.decider.specs.Outboxes.{lists, waiting_at}
+use Rattle.decider.proofs.ListLemmas.{map-set_by, map-set_kept}
 use Rattle.world_steps.specs.Worlds.{DeciderState, LaneState, empty_lane, no_decider, outbox_at}
 use Rattle.world_steps.specs.Steps.{queued, without_front, with_decider}
 use Rattle.world_steps.specs.Held.{parts_state, lane_state, seat_state}
-use Rattle.decider.specs.Outboxes.{lists, waiting_at}
-use Rattle.decider.proofs.ListLemmas.{map-set_by, map-set_kept}
 use Rattle.world_steps.proofs.ListLemmas.{some_front, take_found, on_err_always}
 use Rattle.world_steps.proofs.PartsLaws.{seat_fits, outbox_there, outbox_read, kept_fits, holds_set}
 use Rattle.world_steps.proofs.parts.Parts.transfer.Goals as goal

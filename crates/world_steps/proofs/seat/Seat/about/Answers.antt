@@ -4,8 +4,8 @@ use Rattle.std.proofs.lemmas.Bool.{eq-eqb, ne_eqb}
 use Rattle.std.proofs.lemmas.List.{append-nil}
 use Rattle.std.proofs.lemmas.List.Elements.{filter-append}
 use Rattle.std.proofs.lemmas.Option.{none-some, slice_get_cases}
-use Rattle.decider.specs.Outboxes.{waiting_at}
 use Rattle.due_model.specs.declared.notice.Notice.{Notice}
+use Rattle.decider.specs.Outboxes.{waiting_at}
 use Rattle.world_steps.specs.Lines.{about}
 use Rattle.world_steps.proofs.ListLemmas.{take_found}
 use Rattle.world_steps.proofs.seat.Seat.about.Goals.{in-Some+then-notice-object+in_ok-push, in-Some+else-notice-object, in_default}
