@@ -1,5 +1,5 @@
 -- What is told gives the notices and the suppressions that the definitions gain.
-use Rattle.std.proofs.Common.{◌≡◌, ℕ, List, [], ◌∷◌, ◌++◌, slice_get, All, flat_map, Option, Some, None, is_some, if◌then◌else◌, refl, sym, ap, ◌∙◌, subst}
+use Rattle.std.proofs.Common.{◌≡◌, ℕ, List, [], ◌∷◌, slice_get, All, flat_map, Option, Some, None, is_some, if◌then◌else◌, refl, sym, ap, ◌∙◌, subst}
 use Rattle.std.specs.Option.{option_map_or}
 use Rattle.std.proofs.lemmas.List.{append-nil}
 use Rattle.std.proofs.lemmas.Option.{get_or_from_slice_get, slice_get_within}
@@ -21,6 +21,7 @@ use Rattle.due_model.proofs.Coverage.{IsOfHost, IsPlainObject, receivers-covered
 use Rattle.decider.specs.declared.book.Book.{Book}
 use Rattle.decider.specs.Books.{told_outcome}
 use Rattle.decider.proofs.BookLaws.{GoesOutOfHost}
+use Rattle.decider.proofs.Numbers.{flat_alike, flat_nothing}
 use Rattle.decider.specs.Gains.{contact_notices, plain_notice_from, plain_notices, plain_suppressions, notices_of_object, object_notices, notice_of, told_notices, told_suppressions}
 
 -- what holds of each element holds of one that is looked up

@@ -28,7 +28,7 @@ pub struct Outbox {
 }
 
 impl LaneOutbox {
-    ghost use Rattle.std.specs.Prelude.{◌≡◌, [], ◌∷◌, ◌++◌, drop, slice_get, OnOk};
+    ghost use Rattle.std.specs.Prelude.{◌≡◌, [], ◌∷◌, ◌++◌, drop, length, slice_get, OnOk};
     ghost use Rattle.decider.specs.Outboxes.{waiting, staged};
 
     /// Nothing waits.
@@ -42,14 +42,21 @@ impl LaneOutbox {
         }
     }
 
-    /// The notice that has waited longest.
-    fn front(&self) -> Option<Notice>
-        ensures { result ≡ slice_get (waiting self.now) 0 }
+    /// How many wait.
+    fn waiting(&self) -> usize
+        ensures { result ≡ length (waiting self.now) }
     {
-        if self.ready == 0 {
+        self.ready
+    }
+
+    /// The notice at this place among those that wait, the oldest at 0.
+    fn get(&self, place: usize) -> Option<Notice>
+        ensures { result ≡ slice_get (waiting self.now) place }
+    {
+        if place >= self.ready {
             return None;
         }
-        self.notices.front().copied()
+        self.notices.get(place).copied()
     }
 
     /// Takes the notice that has waited longest.
@@ -115,12 +122,29 @@ impl Outbox {
         self.lanes.as_slice().len()
     }
 
+    /// How many notices wait for this lane. What is staged doesn't count.
+    pub fn waiting(&self, lane: LaneId) -> usize
+        requires { lane.0 < length (lists self.now) }
+        ensures { result ≡ length (waiting_at self.now lane.0) }
+    {
+        self.lanes[lane.0 as usize].waiting()
+    }
+
+    /// The notice at a place among those that wait for this lane, the one that has waited longest at 0. What is
+    /// staged is not seen. It takes no memory.
+    pub fn get(&self, lane: LaneId, place: usize) -> Option<Notice>
+        requires { lane.0 < length (lists self.now) }
+        ensures { result ≡ slice_get (waiting_at self.now lane.0) place }
+    {
+        self.lanes[lane.0 as usize].get(place)
+    }
+
     /// The notice that has waited longest for this lane. It takes no memory.
     pub fn front(&self, lane: LaneId) -> Option<Notice>
         requires { lane.0 < length (lists self.now) }
         ensures { result ≡ slice_get (waiting_at self.now lane.0) 0 }
     {
-        self.lanes[lane.0 as usize].front()
+        self.get(lane, 0)
     }
 
     /// Takes the notice that has waited longest for this lane. It takes no memory.

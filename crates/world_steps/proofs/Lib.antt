@@ -3,6 +3,5 @@ pub mod PartsLaws
 pub mod Gains
 pub mod Shapes
 pub mod Soundness
-pub mod SeatLaws
 pub mod NewWorlds
 pub mod RunLaws

@@ -5,11 +5,13 @@ use Rattle.std.proofs.lemmas.Bool.{cases_eq, cases_lt}
 use Rattle.std.proofs.lemmas.List.{append-nil, get_or_past, length-append, take-append-le, take-append-drop}
 use Rattle.std.proofs.lemmas.List.Elements.{All-nil, All-append, All-drop, All-take, All-same, All-weaker, filter-append}
 use Rattle.std.proofs.lemmas.List.FromFn.{length-map-range_with_len, get_or-map-range_with_len}
-use Rattle.std.proofs.lemmas.Option.{get_or_from_slice_get}
+use Rattle.std.proofs.lemmas.Option.{get_or_from_slice_get, none-some, slice_get-get_or}
 use Rattle.due_model.specs.declared.event.Event.{Event}
+use Rattle.due_model.specs.declared.event.EventKind.TheVariants.{Clock}
 use Rattle.due_model.specs.declared.notice.Notice.{Notice}
 use Rattle.due_model.specs.Due.{due}
 use Rattle.due_model.specs.Laws.{NoticesTellOfEvents}
+use Rattle.due_model.proofs.Pasts.{past_more}
 use Rattle.decider.specs.Gains.{gained}
 use Rattle.world_steps.specs.declared.step.Step.{Step}
 use Rattle.world_steps.specs.declared.step.Step.TheVariants.{Post, Decide, Put, Pick, Settle, Fail, Ask, Close, Drain}
@@ -18,7 +20,7 @@ use Rattle.world_steps.specs.Worlds.{DeciderState, LaneState, WorldState, Settin
 use Rattle.world_steps.specs.Steps.{IsEnabled, after, with_lane, with_decider, decided, without_front, queued, owner, past_of, picked, settled, failed, asked, closed, drained, CanPut, CanDecide}
 use Rattle.world_steps.specs.Lines.{about, line, decider_of}
 use Rattle.world_steps.specs.Held.{Sound}
-use Rattle.world_steps.proofs.ListLemmas.{everywhere, reverse_more, none_past}
+use Rattle.world_steps.proofs.ListLemmas.{everywhere}
 use Rattle.world_steps.proofs.Gains.{about_none, gained_owned, gained_is_owned, due_more}
 use Rattle.world_steps.proofs.Shapes.{contents, picked_law, settled_law, closed_law, drained_law, queued_law}
 
@@ -217,7 +219,7 @@ module _ (s : Settings) (w : WorldState) (sound : Sound s w) where
     decided_past : past_of later d ≡ e ∷ past
     decided_past =
         ap (λ (x : DeciderState). reverse (take x.decided w.posted)) (decider_here d can.there change)
-        ∙ reverse_more w.posted (decider_at w d).decided e can.left (sym (get_or_from_slice_get w.posted (decider_at w d).decided e e found))
+        ∙ past_more w.posted (decider_at w d).decided e can.left ∙ ap (λ (x : Event). x ∷ past) (get_or_from_slice_get w.posted (decider_at w d).decided e e found)
 
     other_past : (k : ℕ) → k ≢ d → past_of later k ≡ past_of w k
     other_past k ne = ap (λ (x : DeciderState). reverse (take x.decided w.posted)) (decider_other d can.there change k ne)
@@ -285,7 +287,9 @@ module _ (s : Settings) (w : WorldState) (sound : Sound s w) where
 
   decide_any : NoticesTellOfEvents → (d : ℕ) → CanDecide w d → (o : Option Event) → slice_get w.posted (decider_at w d).decided ≡ o
       → Sound s (with_decider w d (decided s (owner s d) o (past_of w d)))
-  decide_any law d can None none = absurd (omega (arith, none_past w.posted (decider_at w d).decided none, can.left))
+  decide_any law d can None none =
+      let e : Event = record { moment = 0; kind = Clock } in
+      absurd (none-some _ (sym none ∙ slice_get-get_or w.posted (decider_at w d).decided e can.left))
   decide_any law d can (Some e) found = decide_sound law d can e found
 
   pub sound_after : NoticesTellOfEvents → (step : Step) → IsEnabled s w step → Sound s (after s w step)

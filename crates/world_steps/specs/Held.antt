@@ -1,17 +1,14 @@
 -- What the code keeps, as the state of a world.
-use Rattle.std.specs.Prelude.{◌≡◌, ℕ, ◌<◌, ◌≤◌, ◌^◌, ◌%◌, false, List, [], ◌++◌, All, length, map, take, reverse, slice_get, slice_index_or, Some}
-use Rattle.std.specs.List.{range_with_len}
+use Rattle.std.specs.Prelude.{◌≡◌, ℕ, ◌<◌, ◌≤◌, ◌^◌, ◌%◌, false, List, [], All, length, map, take, reverse, slice_get, Some}
 use Rattle.std.specs.Option.{option_to_list}
 use Rattle.due_model.specs.declared.event.Event.{Event}
-use Rattle.due_model.specs.declared.notice.Notice.{Notice}
 use Rattle.due_model.specs.Accepted.{IsAccepted}
 use Rattle.due_model.specs.Covered.{IsCovered, IsPlainEvent}
 use Rattle.decider.specs.Kept.{Fits, kept, settings}
-use Rattle.decider.specs.Outboxes.{lists, waiting_at}
+use Rattle.decider.specs.Outboxes.{lists}
 use Rattle.world_steps.specs.declared.lane.Lane.{Lane}
 use Rattle.world_steps.specs.declared.lane.LaneStep.{LaneStep}
 use Rattle.world_steps.specs.declared.lane.LaneStep.TheVariants.{Pick, Settle, Fail, Ask, Close, Drain}
-use Rattle.world_steps.specs.declared.seat.Front.{Front}
 use Rattle.world_steps.specs.declared.seat.Seat.{Seat}
 use Rattle.world_steps.specs.Worlds.{LaneState, DeciderState, WorldState, Settings, decider_at, lane_at, outbox_at}
 use Rattle.world_steps.specs.Steps.{CanPick, CanSettle, CanFail, CanAsk, CanClose, CanDrain, picked, settled, failed, asked, closed, drained, owner}
@@ -47,24 +44,8 @@ done Ask lane = asked lane
 done Close lane = closed lane
 done Drain lane = drained lane
 
--- the notices of a front
-abbrev pub front_notices : Front → List Notice
-front_notices front = front.notices.items
-
--- the notices for lane l that wait longest
-abbrev pub front_at : Seat → ℕ → List Notice
-front_at seat l = slice_index_or (map front_notices seat.front.items) l []
-
--- all that wait for lane l
-abbrev pub outbox_of : Seat → ℕ → List Notice
-outbox_of seat l = front_at seat l ++ waiting_at seat.back l
-
--- the two parts are there for as many lanes
-abbrev pub HasLanes : Seat → Type 0
-HasLanes seat = length (lists seat.back) ≡ length seat.front.items
-
 abbrev pub seat_state : Seat → DeciderState
-seat_state seat = record { decided = seat.decided; outboxes = map (outbox_of seat) (range_with_len 0 (length seat.front.items)) }
+seat_state seat = record { decided = seat.decided; outboxes = lists seat.outbox }
 
 abbrev pub parts_state : Parts → WorldState
 parts_state parts = record { posted = parts.posted.items; deciders = map seat_state parts.seats.items; lanes = map lane_state parts.lanes.items }
@@ -77,8 +58,7 @@ pub record SeatFits (s : Settings) (posted : List Event) (d : ℕ) (seat : Seat)
   pub within : seat.decided ≤ length posted
   pub fits : Fits (kept seat.decider) (reverse (take seat.decided posted))
   pub settings : settings (kept seat.decider) ≡ (s.config, s.zone, owner s d)
-  pub front : length seat.front.items ≡ length s.config.lanes
-  pub back : length (lists seat.back) ≡ length s.config.lanes
+  pub lanes : length (lists seat.outbox) ≡ length s.config.lanes
 
 -- the settings, the posted events and the seats go together
 pub record Holds (s : Settings) (posted : List Event) (seats : List Seat) : Type 0 where

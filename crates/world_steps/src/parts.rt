@@ -117,27 +117,23 @@ impl<'a> Parts<'a> {
         })
     }
 
-    /// What a lane holds of an object, with the outbox of the object's decider. The state is the same. A refused
-    /// growth is the only error.
+    /// What a lane holds of an object, with the outbox of the object's decider. A refused growth is the only error.
     pub(crate) fn about(
-        &mut self,
+        &self,
         alloc: Global,
         lane: LaneId,
         object: ObjectId,
     ) -> Result<LineParts, AllocError>
-        requires stands { Stands self.old }
-        requires lane { lane.0 < length self.old.config.now.lanes }
-        ensures taken { IfOk result (λ parts. parts.taken.items ≡ about object.0 (lane_at (parts_state self.old) lane.0).taken) }
-        ensures hand { IfOk result (λ parts. parts.hand.items ≡ about object.0 (lane_at (parts_state self.old) lane.0).hand) }
-        ensures undelivered { IfOk result (λ parts. parts.undelivered.items ≡ about object.0 (lane_at (parts_state self.old) lane.0).undelivered) }
-        ensures queue { IfOk result (λ parts. parts.queue.items ≡ about object.0 (lane_at (parts_state self.old) lane.0).queue) }
-        ensures outbox { IfOk result (λ parts. parts.outbox.items ≡ about object.0 (outbox_at (parts_state self.old) (decider_of (parts_settings self.old) object.0) lane.0)) }
-        ensures state { parts_state self.new ≡ parts_state self.old }
-        ensures settings { parts_settings self.new ≡ parts_settings self.old }
-        ensures holds { PartsHold self.new }
+        requires stands { Stands self.now }
+        requires lane { lane.0 < length self.now.config.now.lanes }
+        ensures taken { IfOk result (λ parts. parts.taken.items ≡ about object.0 (lane_at (parts_state self.now) lane.0).taken) }
+        ensures hand { IfOk result (λ parts. parts.hand.items ≡ about object.0 (lane_at (parts_state self.now) lane.0).hand) }
+        ensures undelivered { IfOk result (λ parts. parts.undelivered.items ≡ about object.0 (lane_at (parts_state self.now) lane.0).undelivered) }
+        ensures queue { IfOk result (λ parts. parts.queue.items ≡ about object.0 (lane_at (parts_state self.now) lane.0).queue) }
+        ensures outbox { IfOk result (λ parts. parts.outbox.items ≡ about object.0 (outbox_at (parts_state self.now) (decider_of (parts_settings self.now) object.0) lane.0)) }
     {
         let decider = object.0 % u16::from(self.deciders);
-        let seat = &mut self.seats[decider as usize];
+        let seat = &self.seats[decider as usize];
         let outbox = seat.about(alloc, lane, object)?;
         let lane = &self.lanes[lane.0 as usize];
         lane.about(alloc, object, outbox)

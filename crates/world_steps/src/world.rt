@@ -56,26 +56,23 @@ impl<'a> World<'a> {
     }
 
     /// What a lane holds of an object, part by part: joined in the order of the parts they are what is due. It costs
-    /// what is in the lane and in the outbox of the object's decider for it. The state is the same. A refused growth
-    /// is the only error.
+    /// what is in the lane and in the outbox of the object's decider for it. A refused growth is the only error.
     pub fn line(
-        &mut self,
+        &self,
         alloc: Global,
         lane: LaneId,
         object: ObjectId,
     ) -> Result<LineParts, AllocError>
-        requires lane { lane.0 < length (world_settings self.old).config.lanes }
-        requires object { object.0 < length (world_settings self.old).config.objects }
-        ensures taken { IfOk result (λ parts. parts.taken.items ≡ about object.0 (lane_at (world_state self.old) lane.0).taken) }
-        ensures hand { IfOk result (λ parts. parts.hand.items ≡ about object.0 (lane_at (world_state self.old) lane.0).hand) }
-        ensures undelivered { IfOk result (λ parts. parts.undelivered.items ≡ about object.0 (lane_at (world_state self.old) lane.0).undelivered) }
-        ensures queue { IfOk result (λ parts. parts.queue.items ≡ about object.0 (lane_at (world_state self.old) lane.0).queue) }
-        ensures outbox { IfOk result (λ parts. parts.outbox.items ≡ about object.0 (outbox_at (world_state self.old) (decider_of (world_settings self.old) object.0) lane.0)) }
+        requires lane { lane.0 < length (world_settings self.now).config.lanes }
+        requires object { object.0 < length (world_settings self.now).config.objects }
+        ensures taken { IfOk result (λ parts. parts.taken.items ≡ about object.0 (lane_at (world_state self.now) lane.0).taken) }
+        ensures hand { IfOk result (λ parts. parts.hand.items ≡ about object.0 (lane_at (world_state self.now) lane.0).hand) }
+        ensures undelivered { IfOk result (λ parts. parts.undelivered.items ≡ about object.0 (lane_at (world_state self.now) lane.0).undelivered) }
+        ensures queue { IfOk result (λ parts. parts.queue.items ≡ about object.0 (lane_at (world_state self.now) lane.0).queue) }
+        ensures outbox { IfOk result (λ parts. parts.outbox.items ≡ about object.0 (outbox_at (world_state self.now) (decider_of (world_settings self.now) object.0) lane.0)) }
         // Joined they are the line, and so what is due.
-        ensures line { IfOk result (λ parts. joined parts ≡ line (world_settings self.old) (world_state self.old) lane.0 object.0) }
-        ensures due { IfOk result (λ parts. joined parts ≡ due (world_settings self.old).config (world_settings self.old).zone object.0 lane.0 (past_of (world_state self.old) (decider_of (world_settings self.old) object.0))) }
-        ensures state { world_state self.new ≡ world_state self.old }
-        ensures settings { world_settings self.new ≡ world_settings self.old }
+        ensures line { IfOk result (λ parts. joined parts ≡ line (world_settings self.now) (world_state self.now) lane.0 object.0) }
+        ensures due { IfOk result (λ parts. joined parts ≡ due (world_settings self.now).config (world_settings self.now).zone object.0 lane.0 (past_of (world_state self.now) (decider_of (world_settings self.now) object.0))) }
     {
         self.parts.about(alloc, lane, object)
     }

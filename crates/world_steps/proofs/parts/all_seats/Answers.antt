@@ -27,7 +27,6 @@ loop-decider-preserved c =
             within = omega (arith, none);
             fits = subst (λ (n : ℕ). Fits (kept seat.decider) (reverse (take n []))) (sym none) told.fits;
             settings = told.settings;
-            front = told.front;
-            back = told.back;
+            lanes = ap (λ (x : DeciderState). length x.outboxes) told.state ∙ length-replicate (length c.args.config.now.lanes) [];
           }));
     }

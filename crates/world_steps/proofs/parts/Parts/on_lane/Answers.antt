@@ -1,8 +1,8 @@
 use Rattle.std.proofs.Common.{List, ap, arith}
+use Rattle.std.proofs.lemmas.Result.{on_ok_weaker, on_err_weaker}
+use Rattle.decider.proofs.ListLemmas.{map-set_by, map-set_kept}
 use Rattle.world_steps.specs.Worlds.{LaneState, empty_lane}
 use Rattle.world_steps.specs.Held.{parts_state, lane_state, done}
-use Rattle.world_steps.proofs.ListLemmas.{map-set_by, map-set_kept}
-use Rattle.std.proofs.lemmas.Result.{on_ok_weaker, on_err_weaker}
 use Rattle.world_steps.proofs.parts.Parts.on_lane.Goals as goal
 
 pub returns-clause-ok : goal.returns-clause-ok
