@@ -1,7 +1,7 @@
 use Rattle.std.proofs.Common.{◌≡◌, ◌+◌, ◌≤◌, length, take}
 use Rattle.std.specs.List.{suffix_len}
-use Rattle.object_reader.specs.Statements.{is_blank}
-use Rattle.object_reader.proofs.statement.trim_end.Given as goal
+use Rattle.object_reader.specs.Blanks.{is_blank}
+use Rattle.object_reader.proofs.blanks.trim_end.Given as goal
 
 abbrev pub invariant-loop-end : goal.invariant-loop-end
 invariant-loop-end l = (l.end ≤ length l.bytes) × (l.end + suffix_len is_blank l.bytes ≡ length l.bytes + suffix_len is_blank (take l.end l.bytes))
