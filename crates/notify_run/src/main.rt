@@ -3,7 +3,6 @@
 
 #[cfg(test)]
 mod comparison;
-mod configure;
 mod input;
 mod order;
 mod output;
