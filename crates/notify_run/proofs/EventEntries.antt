@@ -23,8 +23,9 @@ use Rattle.due_model.specs.declared.zone.Zone.{Zone}
 use Rattle.due_model.specs.Due.{due_at, notice_to, notices, receivers, refusal_of, rights_for, suppressed_at, suppressions, uses_lane}
 use Rattle.due_model.specs.Histories.{hist, outcome as outcome_of}
 use Rattle.due_model.specs.Rules.{Attempt, contact_failing}
-use Rattle.due_model.proofs.Notices.{All-flat_map, AllPairs-append, AllPairs-head, AllPairs-tail, notice_to_cases, receivers_increase, the_notice}
+use Rattle.due_model.proofs.Notices.{All-flat_map, AllPairs-append, AllPairs-head, AllPairs-tail, notice_to_cases, range_increases, receivers_increase, the_notice}
 use Rattle.decider.specs.Gains.{gain, gained, is_owned, owned_numbers, suppressed_gain, suppressed_gained}
+use Rattle.decider.proofs.Numbers.{flat_flat, flat_alike, flat_nothing}
 use Rattle.notify_run.specs.declared.order.Entry.{Entry}
 use Rattle.notify_run.specs.declared.order.Entry.TheVariants.{Sent, Withheld}
 use Rattle.notify_run.specs.Replays.{sole}
@@ -32,21 +33,9 @@ use Rattle.notify_run.specs.Entries.{HoldEntries, NoticeBefore, StandsBefore, co
 
 -- ---- lists of lists
 
-flat_flat : {X A B : Type 0} (f : X → List A) (g : A → List B) (xs : List X) → flat_map g (flat_map f xs) ≡ flat_map (λ x. flat_map g (f x)) xs
-flat_flat f g [] = refl
-flat_flat f g (x ∷ xs) = flat_map-append g (f x) (flat_map f xs) ∙ ap (λ ys. flat_map g (f x) ++ ys) (flat_flat f g xs)
-
 filter_flat : {X A : Type 0} (p : A → Bool) (f : X → List A) (xs : List X) → filter p (flat_map f xs) ≡ flat_map (λ x. filter p (f x)) xs
 filter_flat p f [] = refl
 filter_flat p f (x ∷ xs) = filter-append p (f x) (flat_map f xs) ∙ ap (λ ys. filter p (f x) ++ ys) (filter_flat p f xs)
-
-flat_alike : {X A : Type 0} (f g : X → List A) (xs : List X) → ((x : X) → f x ≡ g x) → flat_map f xs ≡ flat_map g xs
-flat_alike f g [] h = refl
-flat_alike f g (x ∷ xs) h = ap (λ ys. ys ++ flat_map f xs) (h x) ∙ ap (λ ys. g x ++ ys) (flat_alike f g xs h)
-
-flat_nothing : {X A : Type 0} (f : X → List A) (xs : List X) → ((x : X) → f x ≡ []) → flat_map f xs ≡ []
-flat_nothing f [] h = refl
-flat_nothing f (x ∷ xs) h = ap (λ ys. ys ++ flat_map f xs) (h x) ∙ flat_nothing f xs h
 
 -- one number alone gives something, and stands before all of them, or among them
 flat_none : {A : Type 0} (f : ℕ → List A) (l : ℕ) → ((k : ℕ) → k ≢ l → f k ≡ []) → (a n : ℕ) → l < a → flat_map f (range_with_len a n) ≡ []
@@ -112,7 +101,7 @@ contact_notices c zone o object event number a l k h =
     flat_map-append notice_in (map Withheld refused) (flat_map (λ m. map Sent (told m)) lanes)
     ∙ ap (λ ns. ns ++ notices_in (flat_map (λ m. map Sent (told m)) lanes)) (notices_of_withheld refused)
     ∙ flat_flat (λ m. map Sent (told m)) notice_in lanes
-    ∙ flat_alike (λ m. notices_in (map Sent (told m))) told lanes (λ m. notices_of_sent (told m))
+    ∙ flat_alike (λ m. notices_in (map Sent (told m))) told (λ m. notices_of_sent (told m)) lanes
     in
     ap (filter (is_on l)) among ∙ filter_flat (is_on l) told lanes
     ∙ flat_at (λ m. filter (is_on l) (told m)) l (λ m ne. (on_own_lane c zone o object event number a k l m).1 ne) 0 (length c.lanes) (omega arith) (omega arith)
@@ -126,7 +115,7 @@ outcome_notices c zone o object event l (outcome.Sent k state number moment gap)
     let ks = receivers c zone o object a number in
     let has : ℕ → List Entry = contact_entries c zone o object event number a in
     ap (filter (is_on l)) (flat_flat has notice_in ks) ∙ filter_flat (is_on l) (λ k. notices_in (has k)) ks
-    ∙ flat_alike (λ k. filter (is_on l) (notices_in (has k))) (notice_to c zone o object l event number a) ks (λ k. contact_notices c zone o object event number a l k h)
+    ∙ flat_alike (λ k. filter (is_on l) (notices_in (has k))) (notice_to c zone o object l event number a) (λ k. contact_notices c zone o object event number a l k h) ks
 outcome_notices c zone o object event l (outcome.Suppressed k state number moment why) h = refl
 
 object_notices : (c : Config) (zone : Zone) (e : Event) (past : List Event) (l o : ℕ) → l < length c.lanes
@@ -150,7 +139,7 @@ contact_suppressions c zone o object event number a k =
     flat_map-append suppression_in (map Withheld refused) (flat_map (λ m. map Sent (told m)) lanes)
     ∙ ap (λ ss. ss ++ suppressions_in (flat_map (λ m. map Sent (told m)) lanes)) (suppressions_of_withheld refused)
     ∙ ap (λ ss. refused ++ ss) (flat_flat (λ m. map Sent (told m)) suppression_in lanes
-    ∙ flat_nothing (λ m. suppressions_in (map Sent (told m))) lanes (λ m. suppressions_of_sent (told m)))
+    ∙ flat_nothing (λ m. suppressions_in (map Sent (told m))) (λ m. suppressions_of_sent (told m)) lanes)
     ∙ append-nil refused
 
 outcome_suppressions : (c : Config) (zone : Zone) (o : ℕ) (object : Object) (event : ℕ) (x : Outcome)
@@ -161,7 +150,7 @@ outcome_suppressions c zone o object event (outcome.Sent k state number moment g
     let ks = receivers c zone o object a number in
     let has : ℕ → List Entry = contact_entries c zone o object event number a in
     flat_flat has suppression_in ks
-    ∙ flat_alike (λ k. suppressions_in (has k)) (refusal_of c zone o object event number a) ks (λ k. contact_suppressions c zone o object event number a k)
+    ∙ flat_alike (λ k. suppressions_in (has k)) (refusal_of c zone o object event number a) (λ k. contact_suppressions c zone o object event number a k) ks
 outcome_suppressions c zone o object event (outcome.Suppressed k state number moment why) = refl
 
 object_suppressions : (c : Config) (zone : Zone) (e : Event) (past : List Event) (o : ℕ) → suppressions_in (object_entries c zone e past o) ≡ suppressed_gain c zone e past o
@@ -189,21 +178,16 @@ event_notices c zone e past l h =
     ap (flat_map (gain c zone l e past)) (owns_all (length c.objects))
     ∙ sym (ap (filter (is_on l)) (flat_flat (object_entries c zone e past) notice_in numbers)
     ∙ filter_flat (is_on l) (λ o. notices_in (object_entries c zone e past o)) numbers
-    ∙ flat_alike (λ o. filter (is_on l) (notices_in (object_entries c zone e past o))) (gain c zone l e past) numbers (λ o. object_notices c zone e past l o h))
+    ∙ flat_alike (λ o. filter (is_on l) (notices_in (object_entries c zone e past o))) (gain c zone l e past) (λ o. object_notices c zone e past l o h) numbers)
 
 pub event_suppressions : (c : Config) (zone : Zone) (e : Event) (past : List Event) → suppressed_gained c zone sole e past ≡ suppressions_in (event_entries c zone e past)
 event_suppressions c zone e past =
     let numbers = range_with_len 0 (length c.objects) in
     ap (flat_map (suppressed_gain c zone e past)) (owns_all (length c.objects))
     ∙ sym (flat_flat (object_entries c zone e past) suppression_in numbers
-    ∙ flat_alike (λ o. suppressions_in (object_entries c zone e past o)) (suppressed_gain c zone e past) numbers (λ o. object_suppressions c zone e past o))
+    ∙ flat_alike (λ o. suppressions_in (object_entries c zone e past o)) (suppressed_gain c zone e past) (λ o. object_suppressions c zone e past o) numbers)
 
 -- ---- the order of the entries
-
-range_increases : (a n : ℕ) → AllPairs (λ x y. x < y) (range_with_len a n)
-range_increases a n = λ i j d before within.
-    let w : j < n = omega (arith, within, length-range_with_len a n) in
-    omega (arith, get_or-range_with_len a n i d (omega arith), get_or-range_with_len a n j d w)
 
 abbrev pub object_of : Entry → ℕ
 object_of (Sent n) = n.object.0
@@ -279,7 +263,7 @@ contact_cases c zone o object event number a k P one many = by_contact_found (sl
     by_filter contact None = many (uses_lane (rights_for object contact))
     by_filter contact (Some why) =
         let s : Suppression = record { event = event; moment = a.moment; object = record { 0 = o }; kind = a.kind; state = a.state; number = number; filter = why; contact = Some (record { 0 = k }) } in
-        subst (λ xs. P (Withheld s ∷ xs)) (sym (flat_nothing (λ (l : ℕ). map Sent []) (range_with_len 0 (length c.lanes)) (λ l. refl))) (one s refl refl)
+        subst (λ xs. P (Withheld s ∷ xs)) (sym (flat_nothing (λ (l : ℕ). map Sent []) (λ l. refl) (range_with_len 0 (length c.lanes)))) (one s refl refl)
 
     by_contact_found : (found : Option Contact)
         → P (map Withheld (elim found as (λ _. List Suppression) [

@@ -6,9 +6,3 @@ pub mod Parting
 pub mod Replaying
 pub mod Telling
 pub mod Writing
-pub mod ResolvedAccepted
-pub mod ResolvedFaults
-pub mod ResolvedLimits
-pub mod ResolvedLists
-pub mod ResolvedNames
-pub mod ResolvedNumbers

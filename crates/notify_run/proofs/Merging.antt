@@ -4,6 +4,7 @@ use Rattle.std.specs.List.{AllPairs, sum_by}
 use Rattle.std.proofs.lemmas.Bool.{cases_eq, ne_eqb, eq-eqb}
 use Rattle.std.proofs.lemmas.Bool.Decides.{nat_tests}
 use Rattle.std.proofs.lemmas.List.Sums.{sum_by-set}
+use Rattle.std.proofs.lemmas.Option.{IfSome_then}
 use Rattle.std.proofs.lemmas.List.Elements.{All-head, All-tail}
 use Rattle.due_model.specs.declared.notice.Notice.{Notice}
 use Rattle.due_model.specs.declared.notice.Suppression.{Suppression}
@@ -59,10 +60,6 @@ found_behind n (Some a) (Some b) h k = by_test (comes_before b a)
     by_test true = k
     by_test false = h
 
-for_some : {A : Type 0} (P Q : A → Type 0) (found : Option A) → ((a : A) → P a → Q a) → IfSome found P → IfSome found Q
-for_some P Q None f h = tt
-for_some P Q (Some a) f h = f a h
-
 -- one lane more
 pub found_more : (lane : ℕ) (notices : List Notice) (found front : Option Notice) → AllPairs NoticeBefore notices → front ≡ slice_get (filter (is_on lane) notices) 0
     → FoundBelow lane notices found → FoundBelow (lane + 1) notices (earlier_of found front)
@@ -79,9 +76,9 @@ found_more lane (n ∷ notices) found front order e h = by_lane (cases_eq n.lane
     by_lane (inr other) =
         let first : front ≡ slice_get (filter (is_on lane) notices) 0 = e ∙ ap (λ t. slice_get (cond t (n ∷ filter (is_on lane) notices) (filter (is_on lane) notices)) 0) (ne_eqb n.lane.0 lane other) in
         let passes : IfSome front (λ m. NoticeBefore n m × (m.lane.0 ≡ lane)) = subst (λ f. IfSome f (λ m. NoticeBefore n m × (m.lane.0 ≡ lane))) (sym first) (first_passes lane (NoticeBefore n) notices behind) in (
-          λ less. found_stays n found front (h.0 (omega arith)) (for_some (λ m. NoticeBefore n m × (m.lane.0 ≡ lane)) (λ m. comes_before m n ≡ false) front (λ m at. behind_not_before n m at.0) passes),
+          λ less. found_stays n found front (h.0 (omega arith)) (IfSome_then front passes (λ m at. behind_not_before n m at.0)),
           λ above. found_behind n found front (h.1 (omega arith))
-              (for_some (λ m. NoticeBefore n m × (m.lane.0 ≡ lane)) (λ m. comes_before n m ≡ true) front (λ m at. behind_on_lower n m at.0 (omega (arith, at.1))) passes),
+              (IfSome_then front passes (λ m at. behind_on_lower n m at.0 (omega (arith, at.1)))),
         )
 
 -- all lanes were looked at

@@ -4,6 +4,7 @@ use Rattle.std.specs.Fmt.{option_append}
 use Rattle.std.specs.Option.{option_map}
 use Rattle.std.specs.Io.KnownBytes.{Appends}
 use Rattle.std.proofs.lemmas.List.{append-nil}
+use Rattle.std.proofs.lemmas.Result.{IfOk-weaker}
 use Rattle.due_model.specs.declared.config.Config.{Config}
 use Rattle.due_model.specs.declared.zone.Zone.{Zone}
 use Rattle.event_feed.specs.Feed.{Answer}
@@ -12,7 +13,6 @@ use Rattle.notify_run.specs.declared.replay.ReplayFault.{ReplayFault}
 use Rattle.notify_run.specs.Outputs.{Leaves}
 use Rattle.notify_run.specs.Replayed.{IsTextOf, ReportsParts}
 use Rattle.notify_run.specs.ReportText.{AreToldOf, ending_after, report_text, start_of}
-use Rattle.notify_run.proofs.Writing.{if_ok}
 
 -- nothing is left
 written_whole : (old new : Option (List ℕ)) (all : List ℕ) → Leaves old new all [] → Appends old new all
@@ -28,8 +28,8 @@ pub report_of_parts : (c : Config) (zone : Zone) (text behind : List ℕ) (known
     → IfSome known (λ rest. IfOk r (λ ending. ReportsParts (text, behind ++ rest) zone ending old new))
 report_of_parts c zone text behind None start old new r of e h = tt
 report_of_parts c zone text behind (Some rest) start old new r of e h =
-    if_ok (λ ending. (told : List Answer) × AreToldOf c.objects (start_of start) told × (ending ≡ ending_after [] told) × Leaves old new (report_text c zone told) [])
-    (λ ending. ReportsParts (text, behind ++ rest) zone ending old new) r
+    IfOk-weaker r (λ ending. (told : List Answer) × AreToldOf c.objects (start_of start) told × (ending ≡ ending_after [] told) × Leaves old new (report_text c zone told) [])
+    (λ ending. ReportsParts (text, behind ++ rest) zone ending old new)
     (λ ending all. (c, all.0, of, subst (λ known. AreToldOf c.objects (start_of known) all.0) e all.1, all.2, written_whole old new (report_text c zone all.0) all.3))
     h
 

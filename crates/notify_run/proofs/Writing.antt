@@ -1,5 +1,5 @@
 -- What is left of bytes to be written, as a writer takes them.
-use Rattle.std.proofs.Common.{◌≡◌, ℕ, ◌-◌, List, [], ◌++◌, length, take, drop, Option, None, Some, Result, Ok, Err, IfNone, IfOk, IfSome, OnOk, refl, sym, ap, subst, ◌∙◌, append_assoc}
+use Rattle.std.proofs.Common.{◌≡◌, ℕ, ◌-◌, List, [], ◌++◌, length, take, drop, Option, None, Some, IfNone, refl, sym, ap, subst, ◌∙◌, append_assoc}
 use Rattle.std.proofs.lemmas.List.{append-nil, take_rest, take-append-drop}
 use Rattle.std.specs.Io.KnownBytes.{Appends, Keeps}
 use Rattle.notify_run.specs.Outputs.{Leaves, TakesFront}
@@ -57,11 +57,6 @@ leaves_next old mid new all more left h k = leaves_less old mid new (all ++ more
 pub front_next : (old mid new : Option (List ℕ)) (all more : List ℕ) → Leaves old mid all [] → TakesFront mid new more → TakesFront old new (all ++ more)
 front_next old mid new all more h k = (k.0, leaves_next old mid new all more k.0 h k.1)
 
--- a fact of an answer that is Ok, from another
-pub on_ok : {A E : Type 0} {P Q : Type 0} (r : Result A E) → (P → Q) → OnOk r P → OnOk r Q
-on_ok (Ok a) f h = f h
-on_ok (Err e) f h = tt
-
 -- nothing was taken
 pub front_none : (known : Option (List ℕ)) (all : List ℕ) → TakesFront known known all
 front_none known all = (all, leaves_all known all)
@@ -82,18 +77,10 @@ leaves_same old new held text text' left e h = (h.0, h.1, h.2 ∙ ap (λ xs. hel
 pub front_begun : (old new : Option (List ℕ)) (held text more : List ℕ) → TakesFront old new (held ++ text) → TakesFront old new (held ++ (text ++ more))
 front_begun old new held text more h = subst (λ all. TakesFront old new all) (append_assoc held text more) (front_longer old new (held ++ text) more h)
 
--- a fact of an answer, from another
-pub if_ok : {A E : Type 0} (P Q : A → Type 0) (r : Result A E) → ((a : A) → P a → Q a) → IfOk r P → IfOk r Q
-if_ok P Q (Ok a) f h = f a h
-if_ok P Q (Err e) f h = tt
-
+-- a fact of an answer that has nothing, from another
 pub if_none : {A : Type 0} (P Q : Type 0) (found : Option A) → (P → Q) → IfNone found P → IfNone found Q
 if_none P Q None f h = f h
 if_none P Q (Some a) f h = tt
-
-pub if_some : {A : Type 0} (P Q : A → Type 0) (found : Option A) → ((a : A) → P a → Q a) → IfSome found P → IfSome found Q
-if_some P Q None f h = tt
-if_some P Q (Some a) f h = f a h
 
 -- a front of what is held, under another name, is one of that and more
 pub front_of_held : (old new : Option (List ℕ)) (held held' text : List ℕ) → held ≡ held' → TakesFront old new held → TakesFront old new (held' ++ text)

@@ -5,10 +5,3 @@ pub mod Reports
 pub mod ReportText
 pub mod Replays
 pub mod Replayed
-pub mod Resolved
-pub mod ResolvedFault
-pub mod ResolvedFaults
-pub mod ResolvedLimits
-pub mod ResolvedNames
-pub mod ResolvedTables
-pub mod ResolvedValues

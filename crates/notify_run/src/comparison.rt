@@ -5,7 +5,6 @@ ghost use Rattle.due_model.specs.Accepted.{IsAccepted};
 ghost use Rattle.due_model.specs.Covered.{IsCovered, IsPlainEvent};
 ghost use Rattle.decider.specs.Kept.{IsOwner};
 
-use crate::configure::configure;
 use decider::{Decider, Outbox, Owned};
 use due_model::config::{Config, LaneId, ObjectId};
 use due_model::covered::proper;
@@ -15,6 +14,7 @@ use due_model::slow::{slow_due, slow_sup};
 use due_model::zone::Zone;
 use event_feed::Feeder;
 use object_reader::reading::read;
+use object_resolve::resolve;
 use std::alloc::{AllocError, Global};
 use std::fmt::Write;
 use std::process::Abort;
@@ -152,7 +152,7 @@ fn config_of(alloc: Global, text: &str) -> Result<Config, Fail>
     ensures covered { IfOk result (λ config. IsCovered config) }
 {
     let blocks = read(alloc, text.as_bytes())?;
-    Ok(configure(alloc, blocks.as_slice())?)
+    Ok(resolve(alloc, blocks.as_slice())?)
 }
 
 /// Whether each event is proper and of a kind that is taken in.

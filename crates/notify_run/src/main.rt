@@ -4,7 +4,6 @@
 mod command_line;
 #[cfg(test)]
 mod comparison;
-mod configure;
 mod input;
 mod order;
 mod output;

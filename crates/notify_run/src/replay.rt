@@ -14,7 +14,6 @@ ghost use Rattle.notify_run.specs.Replays.{StandsAfter};
 ghost use Rattle.notify_run.specs.Reports.{refused_line};
 ghost use Rattle.notify_run.specs.ReportText.{AreToldOf, TakesAnswer, answer_text, ending_after, entries_text, entry_line, is_ended, past_after, report_from, report_text, start_of};
 
-use crate::configure::{ResolveFault, configure};
 use crate::input::{InputFault, Parts, take_objects};
 use crate::order::{Entry, next_entry};
 use crate::output::{Buffer, OutputFailed};
@@ -27,6 +26,7 @@ use due_model::zone::Zone;
 use event_feed::{FeedFault, Feeder};
 use object_reader::fault::ReadFault;
 use object_reader::reading::read;
+use object_resolve::{ResolveFault, resolve};
 use std::alloc::{AllocError, Global};
 use std::io::{Cursor, Read, Write};
 use std::marker::Model;
@@ -391,7 +391,7 @@ fn load(alloc: Global, text: &[u8]) -> Result<Config, ReplayFault>
     ensures fault { IfErr result (λ fault. IsTextFault text.now fault) }
 {
     match read(alloc, text) {
-        Ok(blocks) => match configure(alloc, blocks.as_slice()) {
+        Ok(blocks) => match resolve(alloc, blocks.as_slice()) {
             Ok(config) => Ok(config),
             Err(fault) => Err(refused_blocks(fault)),
         },

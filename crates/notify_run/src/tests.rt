@@ -1,8 +1,8 @@
 //! Replays of the worked examples, over readers and writers in memory.
 
-use crate::configure::{BlockFault, ResolveFault};
 use crate::replay::{Ending, ReplayFault, replay};
 use object_reader::fault::{LineFault, ReadFault};
+use object_resolve::{BlockFault, ResolveFault};
 use std::alloc::Global;
 use std::io::{self, Read, Write};
 use std::process::Abort;

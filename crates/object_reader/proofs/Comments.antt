@@ -4,7 +4,8 @@ use Rattle.std.proofs.lemmas.Bool.{and_parts, and_from, false_from_ne_true}
 use Rattle.std.proofs.lemmas.List.{append-nil, take-append-drop, reverse-append, length-reverse}
 use Rattle.std.proofs.Math.Seq.{take-append_seam, take-length, drop-length}
 use Rattle.std.specs.List.{position_or_len, prefix_len, suffix_len, before_first, list_all}
-use Rattle.object_reader.specs.Statements.{is_blank, trim_start, trim_end, starts_comment, statement}
+use Rattle.object_reader.specs.Blanks.{is_blank, trim_start, trim_end}
+use Rattle.object_reader.specs.Statements.{starts_comment, statement}
 use Rattle.object_reader.specs.Spelling.{AreBlanks, IsComment, IsTight, IsKept, Says}
 use Rattle.object_reader.proofs.Spelling.{stops, before_fails, rest_begins, trimmed, blanks_from, blanks_to, not_mark}
 

@@ -1,8 +1,7 @@
 -- The first line of a text, by where its newline stands.
-use Rattle.std.proofs.Common.{◌≡◌, ℕ, zero, suc, ◌-◌, ◌<◌, Bool, true, false, not, eqb, ◌==◌, inl, inr, List, [], ◌∷◌, ◌++◌, length, get_or, take, drop, refl, sym, ap, ◌∙◌, arith, tests}
+use Rattle.std.proofs.Common.{◌≡◌, ℕ, zero, suc, ◌<◌, Bool, true, false, not, eqb, ◌==◌, inl, inr, List, [], ◌∷◌, ◌++◌, length, get_or, take, drop, refl, sym, ap, ◌∙◌, arith, tests}
 use Rattle.std.proofs.lemmas.Bool.{and_parts, and_from}
 use Rattle.std.specs.List.{list_all}
-use Rattle.std.proofs.lemmas.Grind.{common_steps}
 use Rattle.object_reader.specs.Lines.{Line, onto_first_line, lines_of, AreLines}
 
 -- a byte that is no newline
@@ -27,10 +26,6 @@ lines_of-open [] h none = absurd (omega arith)
 lines_of-open (b ∷ []) h none = lines_of-cons b [] (none 0 (omega arith))
 lines_of-open (b ∷ c ∷ bs) h none =
     lines_of-cons b (c ∷ bs) (none 0 (omega arith)) ∙ ap (onto_first_line b) (lines_of-open (c ∷ bs) (omega arith) (λ k below. none (suc k) (omega arith)))
-
--- a slice up to its end
-pub take_rest : (xs : List ℕ) (n : ℕ) → take (length xs - n) (drop n xs) ≡ drop n xs
-take_rest xs n = grind (arith, common_steps)
 
 -- the lines of a text, as they are written
 

@@ -12,7 +12,8 @@ use Rattle.object_reader.specs.declared.block.BlockKind.TheVariants.{Command, Co
 use Rattle.object_reader.specs.declared.block.Directive.{Directive}
 use Rattle.object_reader.specs.declared.fault.LineFault.{LineFault}
 use Rattle.object_reader.specs.declared.fault.LineFault.TheVariants.{NotADefine, NoValue, NotYet, UnknownType}
-use Rattle.object_reader.specs.Statements.{is_blank, trim_start, first_word, after_word, ends_type, kind_of, opened}
+use Rattle.object_reader.specs.Blanks.{is_blank, trim_start}
+use Rattle.object_reader.specs.Statements.{first_word, after_word, ends_type, kind_of, opened}
 use Rattle.object_reader.specs.Blocks.{directive_of}
 use Rattle.object_reader.specs.Spelling.{AreBlanks, IsDefine, IsNameAndValue}
 

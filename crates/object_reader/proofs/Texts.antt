@@ -14,7 +14,8 @@ use Rattle.object_reader.specs.declared.fault.ReadFault.{ReadFault}
 use Rattle.object_reader.specs.Blocks.{Gives, read_text}
 use Rattle.object_reader.proofs.Grammar.{answered_blocks}
 use Rattle.object_reader.specs.Lines.{Line, content}
-use Rattle.object_reader.specs.Statements.{Statement, is_blank, statement, said, matters, statements_from}
+use Rattle.object_reader.specs.Blanks.{is_blank}
+use Rattle.object_reader.specs.Statements.{Statement, statement, said, matters, statements_from}
 use Rattle.object_reader.specs.Spelling.{AreBlanks, IsTight, IsKept, Says, IsNameAndValue}
 use Rattle.object_reader.specs.Grammar.{IsDirective, AreDirectives, AreBlocks, IsObjectText, IsPlain, ArePlain}
 use Rattle.object_reader.proofs.Spelling.{blanks_begin}

@@ -1,5 +1,6 @@
 pub mod Fault
 pub mod Lines
+pub mod Blanks
 pub mod Statements
 pub mod Blocks
 pub mod Spelling

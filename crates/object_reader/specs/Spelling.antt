@@ -2,7 +2,8 @@
 use Rattle.std.specs.Prelude.{◌≡◌, ℕ, ◌<◌, ◌⊎◌, ◌==◌, not, false, IsTrue, List, [], ◌∷◌, ◌++◌, length, codes}
 use Rattle.std.specs.List.{list_all}
 use Rattle.object_reader.specs.declared.block.Directive.{Directive}
-use Rattle.object_reader.specs.Statements.{is_blank, ends_type}
+use Rattle.object_reader.specs.Blanks.{is_blank}
+use Rattle.object_reader.specs.Statements.{ends_type}
 
 -- Each of the bytes is a blank.
 abbrev pub AreBlanks : List ℕ → Type 0

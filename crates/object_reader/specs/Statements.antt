@@ -1,24 +1,13 @@
 -- What the lines of object text say, one by one (chapter "Object Configuration Overview").
-use Rattle.std.specs.Prelude.{ℕ, ◌+◌, ◌-◌, Bool, true, false, ◌&&◌, ◌||◌, not, ◌==◌, nat_lt, List, [], ◌∷◌, length, take, drop, codes, Result, Ok, Err, if◌then◌else◌}
-use Rattle.std.specs.List.{position_or_len, suffix_len, before_first, list_any}
+use Rattle.std.specs.Prelude.{ℕ, ◌+◌, Bool, true, false, ◌&&◌, ◌||◌, not, ◌==◌, nat_lt, List, [], ◌∷◌, length, drop, codes, Result, Ok, Err, if◌then◌else◌}
+use Rattle.std.specs.List.{before_first, list_any}
 use Rattle.std.specs.Str.{bytes_eq, is_utf8}
 use Rattle.object_reader.specs.declared.block.BlockKind.{BlockKind}
 use Rattle.object_reader.specs.declared.block.BlockKind.TheVariants.{Command, Contact, Host}
 use Rattle.object_reader.specs.declared.fault.LineFault.{LineFault}
 use Rattle.object_reader.specs.declared.fault.LineFault.TheVariants.{NotUtf8, NotADefine, UnknownType, LineTooLong, NotYet}
+use Rattle.object_reader.specs.Blanks.{is_blank, trim_start, trimmed}
 use Rattle.object_reader.specs.Lines.{Line, lines_of, content}
-
--- Blanks are spaces and tabs.
-abbrev pub is_blank : ℕ → Bool
-is_blank b = b == 32 || b == 9
-
--- the bytes from the first on that is no blank
-abbrev pub trim_start : List ℕ → List ℕ
-trim_start bs = drop (position_or_len (λ b. not (is_blank b)) bs) bs
-
--- the bytes up to the last that is no blank
-abbrev pub trim_end : List ℕ → List ℕ
-trim_end bs = take (length bs - suffix_len is_blank bs) bs
 
 -- whether the first byte is # or ;
 abbrev pub starts_comment : List ℕ → Bool
@@ -28,7 +17,7 @@ starts_comment (b ∷ bs) = b == 35 || b == 59
 -- What a line says: nothing where its first byte that is no blank is # or ;, and else what stands before
 -- the first ; without the blanks at both ends.
 unfoldable pub statement : List ℕ → List ℕ
-statement bs = if starts_comment (trim_start bs) then [] else trim_end (trim_start (before_first (λ b. b == 59) bs))
+statement bs = if starts_comment (trim_start bs) then [] else trimmed (before_first (λ b. b == 59) bs)
 
 -- A line has at most 4,096 bytes without its newline, is UTF-8 and has no backslash. Then it says what its
 -- content says.

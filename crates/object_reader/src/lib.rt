@@ -2,6 +2,7 @@
 //! Configuration Overview"). What the directives mean is not this crate's matter.
 #![tactic(auto)]
 
+pub mod blanks;
 pub mod block;
 pub mod fault;
 mod line;

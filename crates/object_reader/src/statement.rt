@@ -4,8 +4,10 @@ ghost use Rattle.std.specs.Prelude.{◌≡◌, ℕ, List, ◌==◌, not, [], len
 ghost use Rattle.std.specs.List.{list_any, position};
 ghost use Rattle.std.specs.Str.{bytes_eq, is_utf8};
 ghost use Rattle.object_reader.specs.Spelling.{Says};
-ghost use Rattle.object_reader.specs.Statements.{is_blank, trim_start, trim_end, starts_comment, statement, said, first_word, after_word, is_define, is_close, kind_of, later_types, ends_type, opened};
+ghost use Rattle.object_reader.specs.Blanks.{is_blank, trim_start, trimmed};
+ghost use Rattle.object_reader.specs.Statements.{starts_comment, statement, said, first_word, after_word, is_define, is_close, kind_of, later_types, ends_type, opened};
 
+use crate::blanks::{is_blank, trim, trim_start};
 use crate::block::BlockKind;
 use crate::fault::LineFault;
 use crate::line::{TextLine, content};
@@ -13,25 +15,11 @@ use crate::line::{TextLine, content};
 /// The longest line, in bytes without its newline.
 const LINE_LIMIT: usize = 4096;
 
-/// Whether a byte is a space or a tab.
-fn is_blank(byte: u8) -> bool
-    ensures { result ≡ is_blank byte }
-{
-    byte == b' ' || byte == b'\t'
-}
-
 /// Whether the bytes are those of the text.
 fn is_text(bytes: &[u8], text: &str) -> bool
     ensures { result ≡ bytes_eq bytes.now text.now }
 {
     bytes == text.as_bytes()
-}
-
-/// The place of the first byte that is no blank.
-fn first_mark(bytes: &[u8]) -> Option<usize>
-    ensures { result ≡ position (λ b. not (is_blank b)) bytes.now }
-{
-    bytes.iter().position(|b| !is_blank(*b))
 }
 
 /// The place of the first blank.
@@ -55,25 +43,6 @@ fn type_end(bytes: &[u8]) -> Option<usize>
     bytes.iter().position(|b| is_blank(*b) || *b == b'{')
 }
 
-/// The bytes from the first on that is no blank.
-fn trim_start(bytes: &[u8]) -> &[u8]
-    ensures { result.now ≡ trim_start bytes.now }
-{
-    let start = first_mark(bytes).unwrap_or(bytes.len());
-    &bytes[start..]
-}
-
-/// The bytes up to the last that is no blank.
-fn trim_end(bytes: &[u8]) -> &[u8]
-    ensures { result.now ≡ trim_end bytes.now }
-{
-    let mut end = bytes.len();
-    while end > 0 && is_blank(bytes[end - 1]) {
-        end -= 1;
-    }
-    &bytes[..end]
-}
-
 /// Whether the first byte is `#` or `;`.
 fn starts_comment(bytes: &[u8]) -> bool
     ensures { result ≡ starts_comment bytes.now }
@@ -95,7 +64,7 @@ fn statement(content: &[u8]) -> &[u8]
         return &content[..0];
     }
     let end = first_semicolon(content).unwrap_or(content.len());
-    trim_end(trim_start(&content[..end]))
+    trim(&content[..end])
 }
 
 /// Whether the bytes are UTF-8.

@@ -1,11 +1,13 @@
 use Rattle.std.proofs.Common.{◌≡◌, ◌∷◌, [], cond, Ok, Some, refl, rules, sym, subst, ◌∙◌}
+use Rattle.std.proofs.lemmas.Option.{IfSome_then}
+use Rattle.std.proofs.lemmas.Result.{IfOk-weaker}
 use Rattle.due_model.specs.declared.zone.Zone.TheVariants.{Utc}
 use Rattle.event_feed.specs.Feed.{Answer, AnswersNext}
 use Rattle.notify_run.specs.Reports.{refused_line}
 use Rattle.notify_run.specs.ReportText.{answer_text, is_ended, past_after, report_from}
 use Rattle.notify_run.proofs.Deciding.{text_of_event}
 use Rattle.notify_run.proofs.Telling.{fault_last, fault_told, next_told, none_told, refusal, report_of_end, report_of_refusal, short_at_end, short_at_refusal}
-use Rattle.notify_run.proofs.Writing.{front_begun, front_none, if_none, if_ok, if_some, leaves_nothing, leaves_same}
+use Rattle.notify_run.proofs.Writing.{front_begun, front_none, if_none, leaves_nothing, leaves_same}
 use Rattle.notify_run.proofs.replay.take_line.Goals as goal
 
 pub returns-in-Ok-None-clause-ends : goal.returns-in-Ok-None-clause-ends
@@ -24,7 +26,7 @@ returns-in-Ok-Some-clause-goes_on g c =
     let answer : Answer = record { line = c.line-line.result; given = Ok c.in-Ok-Some.event } in
     let next : AnswersNext c.args.config.now.objects c.args.feeder.now answer c.next.new.self =
     subst (λ line. AnswersNext c.args.config.now.objects c.args.feeder.now (record { line = line; given = Ok c.in-Ok-Some.event }) c.next.new.self) (sym c.line-line.ensures) gives.answers in
-    if_ok _ _ c.decide_event.result
+    IfOk-weaker c.decide_event.result _ _
     (λ ended. if_none _ _ ended (λ on. λ past s.
     let now = on past s in (
       answer,
@@ -41,8 +43,8 @@ returns-in-Ok-Some-clause-ends g c =
     let next : AnswersNext c.args.config.now.objects c.args.feeder.now answer c.next.new.self =
     subst (λ line. AnswersNext c.args.config.now.objects c.args.feeder.now (record { line = line; given = Ok c.in-Ok-Some.event }) c.next.new.self) (sym c.line-line.ensures) gives.answers in
     let told = next_told c.args.config.now.objects c.args.feeder.now c.next.new.self answer next in
-    if_ok _ _ c.decide_event.result
-    (λ ended. if_some _ _ ended (λ ending at. λ past s.
+    IfOk-weaker c.decide_event.result _ _
+    (λ ended found. IfSome_then ended found (λ ending at. λ past s.
     let now = at past s in (
       answer ∷ told.0,
       told.1,

@@ -1,8 +1,9 @@
 use Rattle.std.proofs.Common.{◌+◌, length, add-one, arith}
 use Rattle.std.proofs.lemmas.Bool.{false_from_ne_true}
 use Rattle.std.proofs.Math.Seq.{drop-length}
+use Rattle.std.proofs.lemmas.List.{take_rest}
 use Rattle.object_reader.specs.Lines.{lines_of}
-use Rattle.object_reader.proofs.Lines.{lines_of-ended, lines_of-open, take_rest}
+use Rattle.object_reader.proofs.Lines.{lines_of-ended, lines_of-open}
 use Rattle.object_reader.proofs.line.split_line.Goals as goal
 
 pub returns-in-Some-clause-first : goal.returns-in-Some-clause-first

@@ -18,9 +18,9 @@ returns-then-starts_comment-clause-only c =
 pub returns-clause-written : goal.returns-clause-written
 unfolding statement
 returns-clause-written c =
-    let found : statement c.args.content.now ≡ c.trim_end.result.now = grind (arith, common_steps) in subst (Says c.args.content.now) found (statement_written c.args.content.now)
+    let found : statement c.args.content.now ≡ c.trim.result.now = grind (arith, common_steps) in subst (Says c.args.content.now) found (statement_written c.args.content.now)
 
 pub returns-clause-only : goal.returns-clause-only
 unfolding statement
 returns-clause-only c =
-    let found : statement c.args.content.now ≡ c.trim_end.result.now = grind (arith, common_steps) in λ s says. sym found ∙ statement_found c.args.content.now s says
+    let found : statement c.args.content.now ≡ c.trim.result.now = grind (arith, common_steps) in λ s says. sym found ∙ statement_found c.args.content.now s says

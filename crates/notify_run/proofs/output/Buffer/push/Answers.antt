@@ -1,6 +1,7 @@
 use Rattle.std.proofs.Common.{List, ◌++◌, ℕ, subst, sym}
+use Rattle.std.proofs.lemmas.Result.{on_ok_weaker}
 use Rattle.notify_run.specs.Outputs.{Leaves}
-use Rattle.notify_run.proofs.Writing.{front_longer, front_next, leaves_next, on_ok}
+use Rattle.notify_run.proofs.Writing.{front_longer, front_next, leaves_next}
 use Rattle.notify_run.proofs.output.Buffer.push.Goals as goal
 
 pub returns-in_err-flush-clause-front : goal.returns-in_err-flush-clause-front
@@ -8,7 +9,7 @@ returns-in_err-flush-clause-front g c = front_longer _ _ _ _ c.in_err-flush.ensu
 
 pub returns-then-bytes-gt-ROOM-clause-ok : goal.returns-then-bytes-gt-ROOM-clause-ok
 returns-then-bytes-gt-ROOM-clause-ok g c =
-    on_ok c.write_whole.result
+    on_ok_weaker c.write_whole.result
     (λ written. subst (λ (held : List ℕ). Leaves (g.W.Write.contents c.args.writer.now) (g.W.Write.contents c.write_whole.new.writer) (c.args.self.now ++ c.args.bytes.now) held)
     (sym c.flush.ensures.empty) (leaves_next _ _ _ _ _ _ c.in_ok-flush.ensures.ok written))
     c.write_whole.ensures.ok

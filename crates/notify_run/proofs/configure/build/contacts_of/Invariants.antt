@@ -1,7 +1,0 @@
-use Rattle.std.proofs.Common.{take}
-use Rattle.std.specs.List.{AllZip}
-use Rattle.notify_run.specs.Resolved.{IsContactOf, contacts_in}
-use Rattle.notify_run.proofs.configure.build.contacts_of.Given as goal
-
-abbrev pub invariant-loop-block : goal.invariant-loop-block
-invariant-loop-block l = AllZip (IsContactOf l.lanes) (contacts_in (take l.block-index l.blocks)) l.contacts.items

@@ -1,7 +1,0 @@
-use Rattle.std.proofs.Common.{take}
-use Rattle.std.specs.List.{AllZip}
-use Rattle.notify_run.specs.Resolved.{IsHostOf, hosts_in}
-use Rattle.notify_run.proofs.configure.build.hosts_of.Given as goal
-
-abbrev pub invariant-loop-block : goal.invariant-loop-block
-invariant-loop-block l = AllZip (IsHostOf l.contacts) (hosts_in (take l.block-index l.blocks)) l.hosts.items

@@ -1,9 +1,0 @@
-use Rattle.std.proofs.Common.{◌≡◌, false, not, take}
-use Rattle.std.specs.List.{list_any}
-use Rattle.notify_run.specs.ResolvedNames.{is_known}
-use Rattle.notify_run.specs.ResolvedValues.{texts}
-use Rattle.notify_run.proofs.configure.tables.Known.has_unknown_entry.Given as goal
-
--- the entries so far are known
-abbrev pub invariant-loop-entry : goal.invariant-loop-entry
-invariant-loop-entry l = list_any (λ entry. not (is_known l.self.contacts l.self.commands l.kind entry)) (texts (take l.entry-index l.entries)) ≡ false

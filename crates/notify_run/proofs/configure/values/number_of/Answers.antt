@@ -1,6 +1,0 @@
-use Rattle.std.proofs.Common.{arith}
-use Rattle.notify_run.proofs.ResolvedNumbers.{number_of-more}
-use Rattle.notify_run.proofs.configure.values.number_of.Goals as goal
-
-pub loop-digit-preserved : goal.loop-digit-preserved
-loop-digit-preserved c = rw (number_of-more c.args.digits.now c.loop-digit.digit-index c.loop-digit-test.true) (omega arith)

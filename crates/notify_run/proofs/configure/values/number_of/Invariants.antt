@@ -1,7 +1,0 @@
-use Rattle.std.proofs.Common.{◌≡◌, min, take}
-use Rattle.notify_run.specs.ResolvedValues.{number_of}
-use Rattle.notify_run.proofs.configure.values.number_of.Given as goal
-
--- The number of the digits so far, up to the first number past the range.
-abbrev pub invariant-loop-digit : goal.invariant-loop-digit
-invariant-loop-digit l = l.number ≡ min (number_of (take l.digit-index l.digits)) 1_000_001

@@ -1,0 +1,167 @@
+-- The configuration of blocks within the limits is accepted, and covered.
+use Rattle.std.proofs.Common.{◌≡◌, ℕ, ◌<◌, ◌≤◌, Bool, true, false, not, cond, nat_eq, nat_le, List, [], ◌∷◌, length, map, get_or, All, Contains, Option, Some, None, IfSome, unwrap_or, refl, sym, ap, subst, ◌∙◌, arith}
+use Rattle.std.specs.List.{filter_map, position, list_all, cons_option}
+use Rattle.std.specs.Prelude.{codes, slice_get}
+use Rattle.std.specs.Char.{is_ascii_digit}
+use Rattle.std.specs.Str.{bytes_eq}
+use Rattle.std.proofs.lemmas.Bool.{leb-true}
+use Rattle.std.proofs.lemmas.List.{get_or-map, get_or_default, length-map}
+use Rattle.std.proofs.lemmas.Option.{slice_get_within}
+use Rattle.std.proofs.lemmas.List.Elements.{All-nil, All-cons, All-contains}
+use Rattle.due_model.specs.Accepted.{ContactFits, DependsOn, Excludes, HasNoLoop, DependencyFits, EscalationFits, IsAccepted, ObjectFits, PeriodFits, RightsFit}
+use Rattle.due_model.specs.Covered.{AreFullRights, HasHostLetters, IsCovered, IsPlainHost}
+use Rattle.due_model.specs.declared.config.Config.{Config}
+use Rattle.due_model.specs.declared.config.Contact.{Contact}
+use Rattle.due_model.specs.declared.config.Lane.{Lane}
+use Rattle.due_model.specs.declared.config.Object.{Object}
+use Rattle.due_model.specs.declared.config.Rights.{Rights}
+use Rattle.due_model.specs.declared.letters.Letters.{Letters}
+use Rattle.object_reader.specs.declared.block.Block.{Block}
+use Rattle.object_resolve.specs.Resolved.{AreRightsOf, AreSetOf, IsConfigOf, IsContactOf, IsHostOf, contact_names, contacts_in, contacts_named, every_letter, hosts_in, interval_of, lanes_named}
+use Rattle.object_resolve.specs.Values.{command_name, entries_read, name_of, number_of, value_in}
+use Rattle.object_reader.specs.declared.block.BlockKind.TheVariants.{Host}
+use Rattle.object_resolve.proofs.ListLemmas.{All-paired, length-paired, position-within}
+
+-- ---- numbers within their lists
+
+added-found : (P : ℕ → Type 0) (found : Option ℕ) (others : List ℕ) → IfSome found P → All P others → All P (cons_option found others)
+added-found P None others here each = each
+added-found P (Some k) others here each = All-cons P k others here each
+
+all-found : {X : Type 0} (f : X → Option ℕ) (n : ℕ) → ((x : X) → IfSome (f x) (λ k. k < n)) → (xs : List X) → All (λ k. k < n) (filter_map f xs)
+all-found f n each [] = All-nil (λ k. k < n)
+all-found f n each (x ∷ xs) = added-found (λ k. k < n) (f x) (filter_map f xs) (each x) (all-found f n each xs)
+
+pub contacts-within : (names entries : List (List ℕ)) → All (λ k. k < length names) (contacts_named names entries)
+contacts-within names entries = all-found (λ entry. position (bytes_eq entry) names) (length names) (λ entry. position-within (bytes_eq entry) names) entries
+
+pub lanes-within : (lanes : List Lane) (entries : List (List ℕ)) → All (λ k. k < length lanes) (lanes_named lanes entries)
+lanes-within lanes entries = all-found (λ entry. position (λ lane. bytes_eq (command_name entry) lane.name) lanes) (length lanes)
+    (λ entry. position-within (λ lane. bytes_eq (command_name entry) lane.name) lanes) entries
+
+-- what holds of the numbers of a list holds of their set
+pub set-within : {X : Type 0} (number : X → ℕ) (n : ℕ) (listed : List ℕ) (ids : List X) → All (λ k. k < n) listed → AreSetOf listed (map number ids) → All (λ id. number id < n) ids
+set-within number n listed ids each set = λ k d below.
+    let inside : k < length (map number ids) = rw (length-map ids number) below in
+    let is : get_or (map number ids) k (number (get_or ids k d)) ≡ number (get_or ids k d) =
+    get_or-map number ids k d (number (get_or ids k d)) below in
+    All-contains (λ j. j < n) listed (number (get_or ids k d)) each (set.only (number (get_or ids k d)) (k, inside, is))
+
+-- and of the set itself
+pub all-of_set : (P : ℕ → Type 0) (listed set : List ℕ) → All P listed → AreSetOf listed set → All P set
+all-of_set P listed set each are = λ k d below.
+    All-contains P listed (get_or set k d) each (are.only (get_or set k d) (k, below, get_or_default set k (get_or set k d) d below))
+
+-- ---- the interval
+
+number-few : (b : Bool) (n : ℕ) → nat_le n 1_000_000 ≡ b → unwrap_or (cond b (Some n) None) 30 ≤ 1_000_000
+number-few true n is = leb-true n 1_000_000 is
+number-few false n is = omega arith
+
+value-few : (empty digits : Bool) (n : ℕ) → unwrap_or (cond empty None (cond (not digits) None (cond (nat_le n 1_000_000) (Some n) None))) 30 ≤ 1_000_000
+value-few true digits n = omega arith
+value-few false false n = omega arith
+value-few false true n = number-few (nat_le n 1_000_000) n refl
+
+pub interval-few : (value : Option (List ℕ)) → interval_of value ≤ 1_000_000
+interval-few None = omega arith
+interval-few (Some value) = value-few (nat_eq (length value) 0) (list_all is_ascii_digit value) (number_of value)
+
+-- ---- each object and contact
+
+every-host_letter : (set : Letters) → set ≡ every_letter → HasHostLetters set
+every-host_letter set is = record {
+  down = ap (λ (letters : Letters). letters.down) is;
+  unreachable = ap (λ (letters : Letters). letters.unreachable) is;
+  recovery = ap (λ (letters : Letters). letters.recovery) is;
+  flapping = ap (λ (letters : Letters). letters.flapping) is;
+  downtime = ap (λ (letters : Letters). letters.downtime) is;
+}
+
+none-fits : {X : Type 0} (P : X → Type 0) (x : Option X) → x ≡ None → IfSome x P
+none-fits P x is = subst (λ y. IfSome y P) (sym is) tt
+
+host-fits : (config : Config) (names : List (List ℕ)) → length names ≡ length config.contacts → (block : Block) (object : Object) → IsHostOf names block object → ObjectFits config object
+host-fits config names long block object of = record {
+  host = none-fits _ object.host of.host;
+  period = none-fits _ object.period of.period;
+  interval = rw of.interval (interval-few (value_in block.directives (codes "notification_interval")));
+  delay = rw of.delay (omega arith);
+  contacts = set-within (λ contact. contact.0) (length config.contacts) (contacts_named names (entries_read Host block.directives)) object.contacts
+      (subst (λ n. All (λ k. k < n) (contacts_named names (entries_read Host block.directives))) long (contacts-within names (entries_read Host block.directives))) of.contacts;
+}
+
+host-plain : (names : List (List ℕ)) (block : Block) (object : Object) → IsHostOf names block object → IsPlainHost object
+host-plain names block object of = record {
+  host = of.host;
+  enabled = of.enabled;
+  options = every-host_letter object.options of.options;
+  period = of.period;
+  delay = of.delay;
+}
+
+rights-fit : (config : Config) (entries : List (List ℕ)) (rights : Rights) → AreRightsOf config.lanes entries rights → RightsFit config rights
+rights-fit config entries rights of = record {
+  period = none-fits _ rights.period of.period;
+  lanes = set-within (λ lane. lane.0) (length config.lanes) (lanes_named config.lanes entries) rights.lanes (lanes-within config.lanes entries) of.lanes;
+}
+
+rights-full : (lanes : List Lane) (entries : List (List ℕ)) (rights : Rights) → AreRightsOf lanes entries rights → AreFullRights rights
+rights-full lanes entries rights of = record {
+  enabled = of.enabled;
+  options = every-host_letter rights.options of.options;
+  period = of.period;
+}
+
+contact-fits : (config : Config) (block : Block) (contact : Contact) → IsContactOf config.lanes block contact → ContactFits config contact
+contact-fits config block contact of = record {
+  hosts = rights-fit config _ contact.hosts of.hosts;
+  services = rights-fit config _ contact.services of.services;
+}
+
+-- ---- the whole
+
+no-loop : (Step : ℕ → ℕ → Type 0) → ((p q : ℕ) → Step p q → ⊥) → HasNoLoop Step
+no-loop Step never = λ steps p chain. never p chain.0 chain.1
+
+empty-none : {X : Type 0} (xs : List X) (x : X) (k : ℕ) → xs ≡ [] → slice_get xs k ≡ Some x → ⊥
+empty-none xs x k is found =
+    let inside : k < length xs = slice_get_within xs k x found in let few : length xs ≡ 0 = ap length is in omega arith
+
+empty-all : {X : Type 0} (P : X → Type 0) (xs : List X) → xs ≡ [] → All P xs
+empty-all P xs is = subst (All P) (sym is) (All-nil P)
+
+pub resolved-accepted : (blocks lane_blocks : List Block) (config : Config) → IsConfigOf blocks lane_blocks config
+    → length (hosts_in blocks) ≤ 65535 → length (contacts_in blocks) ≤ 4096 → length lane_blocks ≤ 16 → IsAccepted config
+resolved-accepted blocks lane_blocks config of few_hosts few_contacts few_lanes =
+    let hosts : length config.objects ≡ length (hosts_in blocks) = length-paired _ (hosts_in blocks) config.objects of.objects in
+    let contacts : length config.contacts ≡ length (contacts_in blocks) = length-paired _ (contacts_in blocks) config.contacts of.contacts in
+    let lanes : length config.lanes ≡ length lane_blocks =
+    sym (length-map config.lanes (λ lane. lane.name)) ∙ ap length of.lanes ∙ length-map lane_blocks name_of in
+    let names : length (contact_names blocks) ≡ length config.contacts = length-map (contacts_in blocks) name_of ∙ sym contacts in
+    record {
+      few_objects = omega arith;
+      few_contacts = omega arith;
+      few_lanes = omega arith;
+      few_periods = rw of.no_period (omega arith);
+      few_escalations = rw of.no_escalation (omega arith);
+      few_dependencies = rw of.no_dependency (omega arith);
+      objects = All-paired _ (ObjectFits config) (hosts_in blocks) config.objects (host-fits config (contact_names blocks) names) of.objects;
+      contacts = All-paired _ (ContactFits config) (contacts_in blocks) config.contacts (contact-fits config) of.contacts;
+      periods = empty-all (PeriodFits config) config.periods of.no_period;
+      escalations = empty-all (EscalationFits config) config.escalations of.no_escalation;
+      dependencies = empty-all (DependencyFits config) config.dependencies of.no_dependency;
+      no_period_loop = no-loop (Excludes config) (λ p q step. empty-none config.periods step.0 p of.no_period step.1);
+      no_dependency_loop = no-loop (DependsOn config) (λ p q step. empty-contains config.dependencies step.0 of.no_dependency step.1);
+    }
+  where
+    empty-contains : {X : Type 0} (xs : List X) (x : X) → xs ≡ [] → Contains xs x → ⊥
+    empty-contains xs x is here = let few : length xs ≡ 0 = ap length is in omega (arith, here.1, few)
+
+pub resolved-covered : (blocks lane_blocks : List Block) (config : Config) → IsConfigOf blocks lane_blocks config → IsCovered config
+resolved-covered blocks lane_blocks config of = record {
+  objects = All-paired _ IsPlainHost (hosts_in blocks) config.objects (host-plain (contact_names blocks)) of.objects;
+  contacts = All-paired _ (λ contact. AreFullRights contact.hosts) (contacts_in blocks) config.contacts (λ block contact fits. rights-full config.lanes _ contact.hosts fits.hosts) of.contacts;
+  no_escalation = of.no_escalation;
+  no_dependency = of.no_dependency;
+}

@@ -1,0 +1,6 @@
+pub mod ListLemmas
+pub mod NumberLemmas
+pub mod NameLemmas
+pub mod LimitLemmas
+pub mod Refusals
+pub mod Accepted

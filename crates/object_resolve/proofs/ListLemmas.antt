@@ -1,0 +1,267 @@
+-- Facts about lists: what a test finds among what a function makes of a list, and one more element of a list
+-- that is filtered or whose parts are taken.
+use Rattle.std.proofs.Common.{◌≡◌, ℕ, suc, ◌+◌, ◌-◌, ◌<◌, ◌≤◌, nat_lt, Bool, true, false, not, cond, ◌||◌, List, [], ◌∷◌, ◌++◌, append_assoc, zero, Bor, length, map, filter, take, drop, get_or, Option, Some, None, refl, sym, ap, subst, eqb, Contains, length-append, length-take-le, take_all, ◌∙◌, arith}
+use Rattle.std.specs.List.{All, AllZip, list_any, position, position_or_len, slice_split, before_first}
+use Rattle.std.specs.List.{after_first, cons_option, dedup, filter_map, onto_first}
+use Rattle.std.specs.Option.{IfSome, option_to_list}
+use Rattle.std.proofs.lemmas.Bool.{ltb-true}
+use Rattle.std.proofs.lemmas.Cmp.{nat_list_eq_equiv}
+use Rattle.std.proofs.lemmas.List.Folds.{list_any-append}
+use Rattle.std.proofs.lemmas.Map.Steps.{list_any_congr}
+use Rattle.std.proofs.lemmas.List.Elements.{filter_map-append}
+use Rattle.std.proofs.Math.Seq.{take-length}
+use Rattle.object_reader.specs.Blanks.{trimmed}
+use Rattle.object_resolve.specs.Values.{entries, is_comma, texts}
+use Rattle.std.specs.List.Sorted.{IsPermutation, IsSorted, IsStrictlyIncreasing}
+use Rattle.std.specs.Ordering.{nat_cmp}
+use Rattle.std.proofs.lemmas.List.Kept.{Contains-dedup_nat, Contains-from_dedup}
+use Rattle.std.proofs.lemmas.List.Sorted.{Contains-permutation, IsPermutation-sym}
+use Rattle.std.proofs.lemmas.Map.Keys.{IsStrictlyIncreasing-dedup}
+use Rattle.object_resolve.specs.Resolved.{AreSetOf}
+use Rattle.std.proofs.lemmas.List.{append-nil, take_more, take_rest, map-append}
+use Rattle.std.proofs.lemmas.List.Elements.{filter-append, All-nil, All-cons, All-push, All-same}
+use Rattle.std.specs.Str.{bytes_eq}
+use Rattle.std.proofs.lemmas.List.Splits.{slice_split_first}
+
+pub list_any-of_map : {X Y : Type 0} (p : Y → Bool) (h : X → Y) (xs : List X) → list_any p (map h xs) ≡ list_any (λ x. p (h x)) xs
+list_any-of_map p h [] = refl
+list_any-of_map p h (x ∷ xs) = ap (λ others. p (h x) || others) (list_any-of_map p h xs)
+
+position_or_len-of_map : {X Y : Type 0} (p : Y → Bool) (h : X → Y) (xs : List X) → position_or_len p (map h xs) ≡ position_or_len (λ x. p (h x)) xs
+position_or_len-of_map p h [] = refl
+position_or_len-of_map p h (x ∷ xs) = ap (λ others. cond (not (p (h x))) (1 + others) 0) (position_or_len-of_map p h xs)
+
+length-of_map : {X Y : Type 0} (h : X → Y) (xs : List X) → length (map h xs) ≡ length xs
+length-of_map h [] = refl
+length-of_map h (x ∷ xs) = ap (λ others. suc others) (length-of_map h xs)
+
+pub position-of_map : {X Y : Type 0} (p : Y → Bool) (h : X → Y) (xs : List X) → position p (map h xs) ≡ position (λ x. p (h x)) xs
+position-of_map p h xs = rw (position_or_len-of_map p h xs, length-of_map h xs) refl
+
+-- a name that is added where it isn't there
+names-of_insert : {X Y : Type 0} (h : X → Y) (xs : List X) (x : X) (b : Bool)
+    → map h (cond b xs (xs ++ x ∷ [])) ≡ cond b (map h xs) (map h xs ++ h x ∷ [])
+names-of_insert h xs x b = elim b as (λ c. map h (cond c xs (xs ++ x ∷ [])) ≡ cond c (map h xs) (map h xs ++ h x ∷ [])) [ true ↦ refl | false ↦ map-append h xs (x ∷ []) ]
+
+pub list_any-same : {X : Type 0} (p q : X → Bool) → ((x : X) → p x ≡ q x) → (xs : List X) → list_any p xs ≡ list_any q xs
+list_any-same p q same [] = refl
+list_any-same p q same (x ∷ xs) = ap (λ here. here || list_any p xs) (same x) ∙ ap (λ others. q x || others) (list_any-same p q same xs)
+
+-- whether a key is among others, by the texts that they hold
+pub among_texts : {X : Type 0} (eq : X → X → Bool) (h : X → List ℕ) (keys : List X) (key : X) (texts : List (List ℕ)) (name : List ℕ)
+    → ((a b : X) → eq a b ≡ bytes_eq (h a) (h b)) → h key ≡ name → texts ≡ map h keys → list_any (eq key) keys ≡ list_any (bytes_eq name) texts
+among_texts eq h keys key texts name same is are =
+    list_any-same (eq key) (λ other. bytes_eq name (h other)) (λ other. same key other ∙ ap (λ text. bytes_eq text (h other)) is) keys
+    ∙ sym (list_any-of_map (bytes_eq name) h keys) ∙ ap (list_any (bytes_eq name)) (sym are)
+
+-- the texts of the keys with one more, where it isn't among them
+pub texts-of_insert : {X : Type 0} (eq : X → X → Bool) (h : X → List ℕ) (keys keys' : List X) (key : X) (texts : List (List ℕ)) (name : List ℕ)
+    → ((a b : X) → eq a b ≡ bytes_eq (h a) (h b)) → h key ≡ name → texts ≡ map h keys → keys' ≡ cond (list_any (eq key) keys) keys (keys ++ key ∷ [])
+    → map h keys' ≡ cond (list_any (bytes_eq name) texts) texts (texts ++ name ∷ [])
+texts-of_insert eq h keys keys' key texts name same is are inserted =
+    ap (map h) inserted ∙ names-of_insert h keys key (list_any (eq key) keys)
+    ∙ ap (λ b. cond b (map h keys) (map h keys ++ h key ∷ [])) (among_texts eq h keys key texts name same is are)
+    ∙ ap (λ text. cond (list_any (bytes_eq name) texts) (map h keys) (map h keys ++ text ∷ [])) is
+    ∙ ap (λ old. cond (list_any (bytes_eq name) texts) old (old ++ name ∷ [])) (sym are)
+
+-- one more element of a list that is filtered
+pub filter-more : {X : Type 0} (p : X → Bool) (xs : List X) (i : ℕ) (d : X) → i < length xs
+    → filter p (take (i + 1) xs) ≡ filter p (take i xs) ++ cond (p (get_or xs i d)) (get_or xs i d ∷ []) []
+filter-more p xs i d within = ap (filter p) (take_more xs i d within) ∙ filter-append p (take i xs) (get_or xs i d ∷ [])
+
+-- one more element of lists that go in pairs
+pub paired-push : {X Y : Type 0} (R : X → Y → Type 0) (xs : List X) (ys : List Y) (x : X) (y : Y) → AllZip R xs ys → R x y → AllZip R (xs ++ x ∷ []) (ys ++ y ∷ [])
+paired-push R [] [] x y pairs pair = (pair, tt)
+paired-push R [] (b ∷ ys) x y pairs pair = absurd pairs
+paired-push R (a ∷ xs) [] x y pairs pair = absurd pairs
+paired-push R (a ∷ xs) (b ∷ ys) x y pairs pair = (pairs.0, paired-push R xs ys x y pairs.1 pair)
+
+pub length-paired : {X Y : Type 0} (R : X → Y → Type 0) (xs : List X) (ys : List Y) → AllZip R xs ys → length ys ≡ length xs
+length-paired R [] [] pairs = refl
+length-paired R [] (b ∷ ys) pairs = absurd pairs
+length-paired R (a ∷ xs) [] pairs = absurd pairs
+length-paired R (a ∷ xs) (b ∷ ys) pairs = ap suc (length-paired R xs ys pairs.1)
+
+-- what holds of each pair holds of each second element
+pub All-paired : {X Y : Type 0} (R : X → Y → Type 0) (P : Y → Type 0) (xs : List X) (ys : List Y) → ((x : X) (y : Y) → R x y → P y) → AllZip R xs ys → All P ys
+All-paired R P [] [] each pairs = All-nil P
+All-paired R P [] (b ∷ ys) each pairs = absurd pairs
+All-paired R P (a ∷ xs) [] each pairs = absurd pairs
+All-paired R P (a ∷ xs) (b ∷ ys) each pairs = All-cons P b ys (each a b pairs.0) (All-paired R P xs ys each pairs.1)
+
+-- numbers that are sorted, without those that are equal to the one before
+pub set-from_sorted : (xs ys zs : List ℕ) → IsPermutation xs ys → IsSorted nat_cmp ys → zs ≡ dedup eqb ys → AreSetOf xs zs
+set-from_sorted xs ys zs moved sorted is = record {
+  rising = subst IsStrictlyIncreasing (sym is) (IsStrictlyIncreasing-dedup ys sorted);
+  all = λ k here. subst (λ set. Contains set k) (sym is) (Contains-dedup_nat ys k (Contains-permutation xs ys k moved here));
+  only = λ k here. Contains-permutation ys xs k (IsPermutation-sym xs ys moved) (Contains-from_dedup eqb ys k (subst (λ set. Contains set k) is here));
+}
+
+-- a loop over a list, at an element that passes or doesn't
+pub filter-item : {X : Type 0} (p : X → Bool) (xs : List X) (i : ℕ) (x : X) → i < length xs → x ≡ get_or xs i x → p x ≡ true
+    → filter p (take (i + 1) xs) ≡ filter p (take i xs) ++ x ∷ []
+filter-item p xs i x within is passes =
+    filter-more p xs i x within ∙ rw (← is, passes) refl
+
+pub filter-skip : {X : Type 0} (p : X → Bool) (xs : List X) (i : ℕ) (x : X) → i < length xs → x ≡ get_or xs i x → p x ≡ false
+    → filter p (take (i + 1) xs) ≡ filter p (take i xs)
+filter-skip p xs i x within is fails =
+    filter-more p xs i x within ∙ rw (← is, fails) (append-nil (filter p (take i xs)))
+
+pub length-filter_item : {X : Type 0} (p : X → Bool) (xs : List X) (i : ℕ) (x : X) (n m : ℕ) → i < length xs → x ≡ get_or xs i x
+    → n ≡ length (filter p (take i xs)) → m ≡ n + cond (p x) 1 0 → m ≡ length (filter p (take (i + 1) xs))
+length-filter_item p xs i x n m within is before more =
+    more ∙ one (p x) refl
+  where
+    one : (b : Bool) → p x ≡ b → n + cond b 1 0 ≡ length (filter p (take (i + 1) xs))
+    one true passes = rw (filter-item p xs i x within is passes) (rw length-append (omega arith))
+    one false fails = rw (filter-skip p xs i x within is fails) (omega arith)
+
+pub pairs-item : {X Y : Type 0} (R : X → Y → Type 0) (p : X → Bool) (xs : List X) (ys : List Y) (i : ℕ) (x : X) (y : Y) → i < length xs → x ≡ get_or xs i x → p x ≡ true
+    → AllZip R (filter p (take i xs)) ys → R x y → AllZip R (filter p (take (i + 1) xs)) (ys ++ y ∷ [])
+pairs-item R p xs ys i x y within is passes pairs pair =
+    rw (filter-item p xs i x within is passes) (paired-push R (filter p (take i xs)) ys x y pairs pair)
+
+pub pairs-skip : {X Y : Type 0} (R : X → Y → Type 0) (p : X → Bool) (xs : List X) (ys : List Y) (i : ℕ) (x : X) → i < length xs → x ≡ get_or xs i x → p x ≡ false
+    → AllZip R (filter p (take i xs)) ys → AllZip R (filter p (take (i + 1) xs)) ys
+pairs-skip R p xs ys i x within is fails pairs = rw (filter-skip p xs i x within is fails) pairs
+
+-- ---- where a search ends
+
+found-within : (b : Bool) (a n : ℕ) → nat_lt a n ≡ b → IfSome (cond b (Some a) None) (λ k. k < n)
+found-within true a n is = ltb-true a n is
+found-within false a n is = tt
+
+pub position-within : {X : Type 0} (p : X → Bool) (xs : List X) → IfSome (position p xs) (λ k. k < length xs)
+position-within p xs = found-within _ (position_or_len p xs) (length xs) refl
+
+-- ---- the texts of borrowed entries
+
+pub any-at : (p : List ℕ → Bool) (xs : List (Bor (List ℕ))) (i : ℕ) (d : Bor (List ℕ)) → i < length xs → true ≡ p ((get_or xs i d).now) → true ≡ list_any p (texts xs)
+any-at p [] i d within is = absurd (omega arith)
+any-at p (x ∷ xs) zero d within is = rw (← is) refl
+any-at p (x ∷ xs) (suc i) d within is =
+    elim (p x.now) as (λ b. true ≡ (b || list_any p (texts xs))) [ true ↦ refl | false ↦ any-at p xs i d (omega arith) is ]
+
+texts-more : (xs : List (Bor (List ℕ))) (i : ℕ) (d : Bor (List ℕ)) → i < length xs → texts (take (i + 1) xs) ≡ texts (take i xs) ++ (get_or xs i d).now ∷ []
+texts-more xs i d within = ap texts (take_more xs i d within) ∙ map-append (λ text. text.now) (take i xs) (get_or xs i d ∷ [])
+
+listed-one : (found : Option ℕ) → cons_option found [] ≡ option_to_list found
+listed-one None = refl
+listed-one (Some k) = refl
+
+-- one more entry of those whose numbers are found
+pub found-more : (f : List ℕ → Option ℕ) (xs : List (Bor (List ℕ))) (i : ℕ) (d : Bor (List ℕ)) (old new : List ℕ) (found : Option ℕ) → i < length xs
+    → old ≡ filter_map f (texts (take i xs)) → found ≡ f ((get_or xs i d).now) → new ≡ old ++ option_to_list found → new ≡ filter_map f (texts (take (i + 1) xs))
+found-more f xs i d old new found within before is more =
+    more ∙ ap (λ numbers. numbers ++ option_to_list found) before
+    ∙ ap (λ one. filter_map f (texts (take i xs)) ++ one) (ap option_to_list is ∙ sym (listed-one (f ((get_or xs i d).now))))
+    ∙ sym (filter_map-append f (texts (take i xs)) ((get_or xs i d).now ∷ [])) ∙ ap (filter_map f) (sym (texts-more xs i d within))
+
+-- ---- the entries of a list
+
+position_or_len-le : (bytes : List ℕ) → position_or_len is_comma bytes ≤ length bytes
+position_or_len-le [] = omega arith
+position_or_len-le (x ∷ xs) =
+    elim (is_comma x) as (λ b. cond (not b) (1 + position_or_len is_comma xs) 0 ≤ length (x ∷ xs)) [ true ↦ omega arith | false ↦ let few = position_or_len-le xs in omega (arith, few) ]
+
+split-whole : (value : List ℕ) → position_or_len is_comma value ≡ length value → slice_split is_comma value ≡ value ∷ []
+split-whole [] none = refl
+split-whole (x ∷ xs) none =
+    elim (is_comma x) as (λ b. cond (not b) (1 + position_or_len is_comma xs) 0 ≡ length (x ∷ xs) → cond b ([] ∷ slice_split is_comma xs) (onto_first x (slice_split is_comma xs)) ≡ (x ∷ xs) ∷ []) [
+      | true ↦ λ here. absurd (omega (arith, here))
+      | false ↦ λ further. ap (λ parts. onto_first x parts) (split-whole xs (omega (arith, further)))
+    ] none
+
+one_entry : (part : List ℕ) (others : List (List ℕ))
+    → filter (λ e. not (eqb (length e) 0)) (map trimmed (part ∷ others)) ≡ cond (eqb (length (trimmed part)) 0) [] (trimmed part ∷ []) ++ filter (λ e. not (eqb (length e) 0)) (map trimmed others)
+one_entry part others =
+    elim (eqb (length (trimmed part)) 0) as (λ b. cond (not b) (trimmed part ∷ filter (λ e. not (eqb (length e) 0)) (map trimmed others)) (filter (λ e. not (eqb (length e) 0)) (map trimmed others)) ≡ cond b [] (trimmed part ∷ []) ++ filter (λ e. not (eqb (length e) 0)) (map trimmed others)) [ true ↦ refl | false ↦ refl ]
+
+first_long : (value : List ℕ) → length (before_first is_comma value) ≡ position_or_len is_comma value
+first_long value = let few = position_or_len-le value in length-take-le (position_or_len is_comma value) value few
+
+-- the last part
+pub entries-end : (old new every : List (List ℕ)) (rest part entry : List ℕ) → old ++ entries rest ≡ every → part ≡ before_first is_comma rest → entry ≡ trimmed part
+    → new ≡ old ++ cond (eqb (length entry) 0) [] (entry ∷ []) → length part ≡ length rest → new ≡ every
+entries-end old new every rest part entry before is trim-is more whole =
+    let at_end : position_or_len is_comma rest ≡ length rest = sym (first_long rest) ∙ ap length (sym is) ∙ whole in
+    let all : part ≡ rest = is ∙ ap (λ n. take n rest) at_end ∙ take-length rest in
+    let split : entries rest ≡ cond (eqb (length (trimmed part)) 0) [] (trimmed part ∷ []) =
+    ap (λ parts. filter (λ e. not (eqb (length e) 0)) (map trimmed parts)) (split-whole rest at_end ∙ ap (λ r. r ∷ []) (sym all)) ∙ one_entry part [] ∙ append-nil _ in
+    more ∙ ap (λ e. old ++ cond (eqb (length e) 0) [] (e ∷ [])) trim-is ∙ ap (λ es. old ++ es) (sym split) ∙ before
+
+-- a part that others follow
+pub entries-more : (old new every : List (List ℕ)) (rest part entry : List ℕ) → old ++ entries rest ≡ every → part ≡ before_first is_comma rest → entry ≡ trimmed part
+    → new ≡ old ++ cond (eqb (length entry) 0) [] (entry ∷ []) → (length part ≡ length rest → ⊥)
+    → new ++ entries (take (length rest - (length part + 1)) (drop (length part + 1) rest)) ≡ every
+entries-more old new every rest part entry before is trim-is more inside =
+    let long : length part ≡ position_or_len is_comma rest = ap length is ∙ first_long rest in
+    let within : position_or_len is_comma rest < length rest = let few = position_or_len-le rest in omega (arith, few) in
+    let after : take (length rest - (length part + 1)) (drop (length part + 1) rest) ≡ after_first is_comma rest =
+    take_rest rest (length part + 1) ∙ ap (λ n. drop (n + 1) rest) long in
+    let split : entries rest ≡ cond (eqb (length (trimmed part)) 0) [] (trimmed part ∷ []) ++ entries (after_first is_comma rest) =
+    ap (λ parts. filter (λ e. not (eqb (length e) 0)) (map trimmed parts)) (slice_split_first is_comma rest 0 within ∙ ap (λ p. p ∷ slice_split is_comma (after_first is_comma rest)) (sym is)) ∙ one_entry part (slice_split is_comma (after_first is_comma rest)) in
+    ap (λ es. new ++ entries es) after
+    ∙ ap (λ ns. ns ++ entries (after_first is_comma rest)) (more ∙ ap (λ e. old ++ cond (eqb (length e) 0) [] (e ∷ [])) trim-is)
+    ∙ append_assoc old _ _ ∙ ap (λ es. old ++ es) (sym split) ∙ before
+
+-- ---- sets of numbers
+
+pub moved-set : (listed listed' numbers numbers' : List ℕ) → listed ≡ listed' → numbers ≡ numbers' → AreSetOf listed numbers → AreSetOf listed' numbers'
+moved-set listed listed' numbers numbers' e f set = subst (λ xs. AreSetOf xs numbers') e (subst (λ ys. AreSetOf listed ys) f set)
+
+-- the names of what is made of the blocks so far
+pub names-item : {X Y : Type 0} (h : Y → List ℕ) (n : X → List ℕ) (p : X → Bool) (xs : List X) (ys ys' : List Y) (i : ℕ) (x : X) (y : Y) → i < length xs → x ≡ get_or xs i x → p x ≡ true
+    → map h ys ≡ map n (filter p (take i xs)) → h y ≡ n x → ys' ≡ ys ++ y ∷ [] → map h ys' ≡ map n (filter p (take (i + 1) xs))
+names-item h n p xs ys ys' i x y within is passes before same more =
+    ap (map h) more ∙ map-append h ys (y ∷ []) ∙ ap (λ names. names ++ h y ∷ []) before ∙ ap (λ name. map n (filter p (take i xs)) ++ name ∷ []) same
+    ∙ sym (map-append n (filter p (take i xs)) (x ∷ [])) ∙ ap (map n) (sym (filter-item p xs i x within is passes))
+
+-- ---- names that are added
+
+or-right : (a b : Bool) → (b ≡ true → a ≡ true) → a ≡ (a || b)
+or-right a b both = elim a as (λ x. (b ≡ true → x ≡ true) → x ≡ (x || b)) [ true ↦ λ _. refl | false ↦ λ here. none b here ] both
+  where
+    none : (c : Bool) → (c ≡ true → false ≡ true) → false ≡ c
+    none true here = here refl
+    none false here = refl
+
+or-false : (a b : Bool) → (a || (b || false)) ≡ (a || b)
+or-false a b = elim a as (λ x. (x || (b || false)) ≡ (x || b)) [ true ↦ refl | false ↦ elim b as (λ y. (y || false) ≡ y) [ true ↦ refl | false ↦ refl ] ]
+
+pub or-assoc : (a b c : Bool) → ((a || b) || c) ≡ (a || (b || c))
+or-assoc a b c = elim a as (λ x. ((x || b) || c) ≡ (x || (b || c))) [ true ↦ refl | false ↦ refl ]
+
+-- which names are there once one was added where it wasn't there
+pub has-added : (old new : List (List ℕ)) (added name : List ℕ) → new ≡ cond (list_any (bytes_eq added) old) old (old ++ added ∷ [])
+    → list_any (bytes_eq name) new ≡ (list_any (bytes_eq name) old || bytes_eq name added)
+has-added old new added name is = ap (list_any (bytes_eq name)) is ∙ one (list_any (bytes_eq added) old) refl
+  where
+    one : (b : Bool) → list_any (bytes_eq added) old ≡ b → list_any (bytes_eq name) (cond b old (old ++ added ∷ [])) ≡ (list_any (bytes_eq name) old || bytes_eq name added)
+    one true there = or-right (list_any (bytes_eq name) old) (bytes_eq name added) (λ same. list_any_congr nat_list_eq_equiv name added old same ∙ there)
+    one false there = list_any-append (bytes_eq name) old (added ∷ []) ∙ or-false (list_any (bytes_eq name) old) (bytes_eq name added)
+
+-- one more entry
+pub any-more : (p : List ℕ → Bool) (xs : List (Bor (List ℕ))) (i : ℕ) (d : Bor (List ℕ)) → i < length xs
+    → list_any p (texts (take (i + 1) xs)) ≡ (list_any p (texts (take i xs)) || p ((get_or xs i d).now))
+any-more p xs i d within =
+    ap (list_any p) (texts-more xs i d within) ∙ list_any-append p (texts (take i xs)) ((get_or xs i d).now ∷ []) ∙ or-false (list_any p (texts (take i xs))) (p ((get_or xs i d).now))
+
+-- one more block that passes
+pub any-item : {X : Type 0} (q p : X → Bool) (xs : List X) (i : ℕ) (x : X) → i < length xs → x ≡ get_or xs i x → p x ≡ true
+    → list_any q (filter p (take (i + 1) xs)) ≡ (list_any q (filter p (take i xs)) || q x)
+any-item q p xs i x within is passes =
+    ap (list_any q) (filter-item p xs i x within is passes) ∙ list_any-append q (filter p (take i xs)) (x ∷ []) ∙ or-false (list_any q (filter p (take i xs))) (q x)
+
+pub filter-same : {X : Type 0} (p q : X → Bool) → ((x : X) → p x ≡ q x) → (xs : List X) → filter p xs ≡ filter q xs
+filter-same p q same [] = refl
+filter-same p q same (x ∷ xs) = ap (λ b. cond b (x ∷ filter p xs) (filter p xs)) (same x) ∙ ap (λ others. cond (q x) (x ∷ others) others) (filter-same p q same xs)
+
+-- what holds of each element so far, and of one more
+pub all-item : {X : Type 0} (P : X → Type 0) (xs : List X) (i : ℕ) (x : X) → i < length xs → x ≡ get_or xs i x → All P (take i xs) → P x → All P (take (i + 1) xs)
+all-item P xs i x within is each here =
+    All-same P (take (i + 1) xs) (take i xs ++ x ∷ []) (take_more xs i x within ∙ ap (λ y. take i xs ++ y ∷ []) (sym is)) (All-push P (take i xs) x each here)
+
+pub all-taken : {X : Type 0} (P : X → Type 0) (xs : List X) (i : ℕ) → length xs ≤ i → All P (take i xs) → All P xs
+all-taken P xs i whole each = All-same P xs (take i xs) (sym (take_all i xs whole)) each
