@@ -21,6 +21,7 @@ use Rattle.due_model.proofs.Coverage.{IsOfHost, IsPlainObject, receivers-covered
 use Rattle.decider.specs.declared.book.Book.{Book}
 use Rattle.decider.specs.Books.{told_outcome}
 use Rattle.decider.proofs.BookLaws.{GoesOutOfHost}
+use Rattle.decider.proofs.Numbers.{flat_alike, flat_nothing}
 use Rattle.decider.specs.Gains.{contact_notices, plain_notice_from, plain_notices, plain_suppressions, notices_of_object, object_notices, notice_of, told_notices, told_suppressions}
 
 -- what holds of each element holds of one that is looked up
