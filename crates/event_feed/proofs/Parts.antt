@@ -9,7 +9,7 @@ use Rattle.std.proofs.lemmas.Int.Digits.{number_push}
 use Rattle.memchr.specs.Find.{IsFirstByte, is_byte}
 use Rattle.due_model.specs.declared.event.EventKind.{EventKind}
 use Rattle.event_feed.specs.declared.fault.FeedFault.TheVariants.{BadState}
-use Rattle.event_feed.specs.Line.{fields, fields_after, bare_reading, host_state_reading, stamp_number}
+use Rattle.event_feed.specs.Line.{fields, fields_after, bare_reading, host_state_reading, digits_number}
 use Rattle.due_model.specs.declared.config.Object.{Object}
 
 -- there is a first part
@@ -60,10 +60,10 @@ position-none byte bytes none =
     (λ past. absurd (omega arith)))
 
 -- one more digit
-pub stamp_number-more : (digits : List ℕ) (at : ℕ) → at < length digits
-    → stamp_number (take (at + 1) digits) ≡ stamp_number (take at digits) * 10 + (get_or digits at 0 - 48)
-stamp_number-more digits at within =
-    ap stamp_number (take_more digits at 0 within)
+pub digits_number-more : (digits : List ℕ) (at : ℕ) → at < length digits
+    → digits_number (take (at + 1) digits) ≡ digits_number (take at digits) * 10 + (get_or digits at 0 - 48)
+digits_number-more digits at within =
+    ap digits_number (take_more digits at 0 within)
     ∙ rw (map-append (λ (digit : ℕ). digit - 48) (take at digits) (get_or digits at 0 ∷ [])) (number_push 10 (map (λ digit. digit - 48) (take at digits)) (get_or digits at 0 - 48))
 
 -- the first field ends at the first `;`

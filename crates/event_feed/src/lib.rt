@@ -9,7 +9,7 @@ pub mod source;
 
 pub use fault::{FeedFault, LineFault, Stop};
 pub use feeder::{FEED_LIMIT, Feeder};
-pub use line::read_line;
+pub use line::{find_byte, read_line, read_number};
 pub use source::{Source, Taken};
 
 #[cfg(test)]
