@@ -228,8 +228,8 @@ Known-map (Some x) (Some y) P Q known each = each x y known
 pub GivesEvent-line : (c : Config) (before after : Source) (line last line' : ℕ) (stop : Option Stop) (event given : Event) → is_some stop ≡ false
     → GoesToLine before line Line after line' → CountsLine line Line line' → Ok event ≡ line_reading c.objects after.line → IsProper c event
     → Ok given ≡ raised last (Ok event) → last ≤ last_moment
-    → GivesEvent c (record { bytes = to_come before; line = line; last = last; stop = stop }) given
-    (record { bytes = to_come after; line = line'; last = given.moment; stop = stop })
+    → GivesEvent c (record { bytes = to_come before; text = before.line; line = line; last = last; stop = stop }) given
+    (record { bytes = to_come after; text = after.line; line = line'; last = given.moment; stop = stop })
 GivesEvent-line c before after line last line' (Some stop) event given goes_on goes counts reading proper raise early = absurd (true≢false goes_on)
 GivesEvent-line c before after line last line' None event given goes_on goes counts reading proper raise early =
     let text : text_reading c.objects last after.line ≡ Ok given = ap (λ (r : Result Event FeedFault). raised last r) (sym reading) ∙ sym raise in
@@ -247,14 +247,15 @@ GivesEvent-line c before after line last line' None event given goes_on goes cou
 
 pub GivesFault-line : (objects : List Object) (before after : Source) (line last line' : ℕ) (stop : Option Stop) (fault : FeedFault) → is_some stop ≡ false
     → GoesToLine before line Line after line' → CountsLine line Line line' → Err fault ≡ line_reading objects after.line
-    → GivesFault objects (record { bytes = to_come before; line = line; last = last; stop = stop }) (record { line = line'; fault = fault })
-    (record { bytes = to_come after; line = line'; last = last; stop = stop })
+    → GivesFault objects (record { bytes = to_come before; text = before.line; line = line; last = last; stop = stop }) (record { line = line'; fault = fault })
+    (record { bytes = to_come after; text = after.line; line = line'; last = last; stop = stop })
 GivesFault-line objects before after line last line' (Some stop) fault goes_on goes counts reading = absurd (true≢false goes_on)
 GivesFault-line objects before after line last line' None fault goes_on goes counts reading =
     let text : text_reading objects last after.line ≡ Err fault = ap (λ (r : Result Event FeedFault). raised last r) (sym reading) in
     record {
       answers = Known-map (to_come before) (to_come after) _ _ goes (λ bytes rest answers. answers.0 objects last ∙ rw text refl);
       fits = line_reading-fault objects after.line fault (sym reading);
+      said = λ _ _. sym reading;
       number = refl;
       last = refl;
       line = counts.0;

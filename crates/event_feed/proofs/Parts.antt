@@ -2,15 +2,14 @@
 use Rattle.std.proofs.Common.{◌≡◌, ℕ, ◌+◌, ◌-◌, ◌*◌, ◌<◌, ◌≤◌, Bool, true, false, not, cond, eqb, List, [], ◌∷◌, length, map, take, drop, get_or, Err, Option, Some, None, refl, sym, ap, ◌∙◌, arith}
 use Rattle.std.specs.List.{slice_split, onto_first, position_or_len}
 use Rattle.std.proofs.lemmas.Bool.{false_from_ne_true}
-use Rattle.std.proofs.lemmas.List.{take_more, map-append, length-drop}
+use Rattle.std.proofs.lemmas.List.{take_more, take_rest, map-append}
 use Rattle.std.proofs.lemmas.List.Splits.{slice_split_first}
-use Rattle.std.proofs.Math.Seq.{take-length}
 use Rattle.std.proofs.lemmas.List.Sums.{position_or_len_is}
 use Rattle.std.proofs.lemmas.Int.Digits.{number_push}
 use Rattle.memchr.specs.Find.{IsFirstByte, is_byte}
 use Rattle.due_model.specs.declared.event.EventKind.{EventKind}
 use Rattle.event_feed.specs.declared.fault.FeedFault.TheVariants.{BadState}
-use Rattle.event_feed.specs.Line.{fields, fields_after, bare_reading, host_state_reading, stamp_number}
+use Rattle.event_feed.specs.Line.{fields, fields_after, bare_reading, host_state_reading, digits_number}
 use Rattle.due_model.specs.declared.config.Object.{Object}
 
 -- there is a first part
@@ -61,21 +60,18 @@ position-none byte bytes none =
     (λ past. absurd (omega arith)))
 
 -- one more digit
-pub stamp_number-more : (digits : List ℕ) (at : ℕ) → at < length digits
-    → stamp_number (take (at + 1) digits) ≡ stamp_number (take at digits) * 10 + (get_or digits at 0 - 48)
-stamp_number-more digits at within =
-    ap stamp_number (take_more digits at 0 within)
+pub digits_number-more : (digits : List ℕ) (at : ℕ) → at < length digits
+    → digits_number (take (at + 1) digits) ≡ digits_number (take at digits) * 10 + (get_or digits at 0 - 48)
+digits_number-more digits at within =
+    ap digits_number (take_more digits at 0 within)
     ∙ rw (map-append (λ (digit : ℕ). digit - 48) (take at digits) (get_or digits at 0 ∷ [])) (number_push 10 (map (λ digit. digit - 48) (take at digits)) (get_or digits at 0 - 48))
-
-rest-is : (xs : List ℕ) (k : ℕ) → take (length xs - k) (drop k xs) ≡ drop k xs
-rest-is xs k = rw (← length-drop k xs) (take-length (drop k xs))
 
 -- the first field ends at the first `;`
 pub fields-split : (bytes : List ℕ) (end : ℕ) → end ≡ position_or_len (λ b. eqb b 59) bytes → end ≤ length bytes → (end ≡ length bytes → ⊥)
     → fields bytes ≡ take end bytes ∷ fields (take (length bytes - (end + 1)) (drop (end + 1) bytes))
 fields-split bytes end place within inside =
     let before : position_or_len (λ b. eqb b 59) bytes < length bytes = omega arith in
-    rw rest-is (rw place (slice_split_first (λ b. eqb b 59) bytes 0 before))
+    rw take_rest (rw place (slice_split_first (λ b. eqb b 59) bytes 0 before))
 
 pub too_many : (objects : List Object) (arguments : Option (List ℕ)) (host state more xs rest : List ℕ) (behind : Option (List ℕ)) (behind' : Option (List ℕ))
     → arguments ≡ Some xs → fields xs ≡ host ∷ fields_after behind → behind ≡ Some rest → fields rest ≡ state ∷ fields_after behind' → behind' ≡ Some more

@@ -23,7 +23,7 @@ use Rattle.event_feed.specs.declared.fault.FeedFault.TheVariants.{BadStamp, Unkn
 use Rattle.event_feed.specs.Fault.{is_line_fault}
 use Rattle.event_feed.specs.declared.line.Command.{Command}
 use Rattle.event_feed.specs.declared.line.Command.TheVariants.{TellTime, EnableNotifications, DisableNotifications, HostState}
-use Rattle.event_feed.specs.Line.{line_limit, stamp_of, stamp_number, stamp_digits, command_of, fields, host_state_named, state_reading, bare_reading, host_state_reading, arguments_reading, command_named, command_reading, stamped, stamp_reading, line_reading, is_stamp_shaped}
+use Rattle.event_feed.specs.Line.{line_limit, stamp_of, digits_number, stamp_digits, command_of, fields, host_state_named, state_reading, bare_reading, host_state_reading, arguments_reading, command_named, command_reading, stamped, stamp_reading, line_reading, is_stamp_shaped}
 use Rattle.std.specs.Str.{is_utf8}
 
 err-ok : {A E : Type 0} (e : E) (x : A) → ◌≡◌ {A = Result A E} (Err e) (Ok x) → ⊥
@@ -114,8 +114,8 @@ command-proper c (name ∷ arguments) given is = arguments-proper c (command_nam
 
 pub stamp_of-early : (line : List ℕ) (moment : ℕ) → stamp_of line ≡ Some moment → moment ≤ last_moment
 stamp_of-early line moment is =
-    let parts = cond_some (is_stamp_shaped line && leb (stamp_number (stamp_digits line)) last_moment) (stamp_number (stamp_digits line)) moment is in
-    let within : stamp_number (stamp_digits line) ≤ last_moment = leb-true _ _ (and_parts _ _ parts.0).1 in
+    let parts = cond_some (is_stamp_shaped line && leb (digits_number (stamp_digits line)) last_moment) (digits_number (stamp_digits line)) moment is in
+    let within : digits_number (stamp_digits line) ≤ last_moment = leb-true _ _ (and_parts _ _ parts.0).1 in
     omega (arith, within, parts.1)
 
 -- ---- a fault of a line is one that the feed goes on behind

@@ -7,7 +7,7 @@ use Rattle.std.proofs.lemmas.Option.{none-some, same_Some}
 use Rattle.std.proofs.lemmas.List.Elements.{All-append, All-nil}
 use Rattle.event_feed.specs.Line.{line_limit}
 use Rattle.event_feed.specs.Lines.{is_newline, IsUnbroken, Known}
-use Rattle.event_feed.specs.Source.{Source, to_come, byte_limit, BeginsWithLine, BeginsUnbroken, TakesFrom, Takes, ending, Fills, MakesRoom}
+use Rattle.event_feed.specs.Source.{Source, to_come, byte_limit, BeginsWithLine, BeginsUnbroken, TakesFrom, Takes, cut_text, ending, Fills, MakesRoom}
 use Rattle.event_feed.specs.declared.source.Taken.{Taken}
 use Rattle.event_feed.specs.declared.source.Taken.TheVariants.{Over}
 use Rattle.event_feed.specs.declared.fault.Stop.TheVariants.{InputEnded, CutLine, ReaderFailed}
@@ -198,14 +198,33 @@ Known-end (Some xs) (Some ys) (Some zs) held front P taken kept end each =
     let all : xs ≡ front ++ held = taken ∙ rw (end, append-nil) refl in
     rw last (each xs all)
 
-pub Takes-cut : (old now new : Source) (skipped : ℕ) → OnTheWay old skipped now → IsUnbroken now.held → Fills now Empty new
+-- what was skipped made the line too long
+cut_text-front : (front held : List ℕ) (skipped : ℕ) → length front ≡ skipped → (0 < skipped → line_limit < skipped)
+    → cut_text (skipped + length held) held ≡ cut_text (length (front ++ held)) (front ++ held)
+cut_text-front front held skipped long many =
+    let count : length (front ++ held) ≡ skipped + length held = length-append front held ∙ ap (λ n. n + length held) long in
+    ⊎_elim
+    (λ (over : line_limit < skipped + length held). let yes : ltb line_limit (skipped + length held) ≡ true = lt-ltb line_limit (skipped + length held) over in
+    rw (count, yes) refl)
+    (λ (few : skipped + length held ≤ line_limit).
+    let no : ltb line_limit (skipped + length held) ≡ false = le-ltb line_limit (skipped + length held) few in
+    let none : length front ≡ 0 = ⊎_elim (λ (some : 0 < skipped). absurd (omega (arith, many some))) (λ (no_more : skipped ≤ 0). omega arith) (cases_lt 0 skipped) in
+    let empty : front ≡ [] = nil_from_length front none in
+    rw (count, no, empty) refl)
+    (cases_lt line_limit (skipped + length held))
+
+pub Takes-cut : (old now filled new : Source) (skipped : ℕ) → OnTheWay old skipped now → IsUnbroken now.held → (0 < skipped → line_limit < skipped) → Fills now Empty filled
+    → new.held ≡ filled.held → new.unread ≡ filled.unread → new.line ≡ cut_text (skipped + length filled.held) filled.held
     → 0 < skipped + length now.held → skipped + length now.held ≤ byte_limit → Takes old (Over CutLine) new
-Takes-cut old now new skipped way held filled some few =
-    rw filled.0 (Known-end (to_come old) now.unread new.unread now.held way.front (λ bytes rest. TakesFrom bytes (Over CutLine) new.line rest) way.follows filled.1 filled.2 (λ bytes all.
+Takes-cut old now filled new skipped way held many fills same_held same_unread line some few =
+    let text : new.line ≡ cut_text (length (way.front ++ now.held)) (way.front ++ now.held) =
+    line ∙ ap (λ (h : List ℕ). cut_text (skipped + length h) h) fills.0 ∙ cut_text-front way.front now.held skipped way.long many in
+    rw (same_held, same_unread, fills.0) (Known-end (to_come old) now.unread filled.unread now.held way.front (λ bytes rest. TakesFrom bytes (Over CutLine) new.line rest) way.follows fills.1 fills.2 (λ bytes all.
     rw all (
       All-append (λ byte. is_newline byte ≡ false) way.front now.held way.unbroken held,
       rw length-append (omega (arith, way.long)),
       rw length-append (omega (arith, way.long)),
+      text,
     )))
 
 pub Takes-end : (old now new : Source) (skipped : ℕ) → OnTheWay old skipped now → Fills now Empty new → skipped + length now.held ≡ 0 → Takes old (Over InputEnded) new

@@ -1,5 +1,5 @@
 -- A feed: its lines in order, numbered from 1, and what each answers.
-use Rattle.std.specs.Prelude.{◌≡◌, ℕ, ◌+◌, ◌<◌, ◌≤◌, ◌^◌, max, Bool, ◌||◌, ◌==◌, if◌then◌else◌, nat_lt, nat_le, List, [], ◌∷◌, length, take_while, IsTrue, IsSome, is_some, Option, Some, None, Result, Ok, Err}
+use Rattle.std.specs.Prelude.{◌≡◌, ◌≢◌, ℕ, ◌+◌, ◌<◌, ◌≤◌, ◌^◌, max, Bool, ◌||◌, ◌==◌, if◌then◌else◌, nat_lt, nat_le, List, [], ◌∷◌, length, take_while, IsTrue, IsSome, is_some, Option, Some, None, Result, Ok, Err}
 use Rattle.std.specs.List.{list_any}
 use Rattle.due_model.specs.Accepted.{IsProper}
 use Rattle.due_model.specs.Covered.{IsTakenIn}
@@ -7,7 +7,7 @@ use Rattle.due_model.specs.declared.config.Config.{Config}
 use Rattle.due_model.specs.declared.config.Object.{Object}
 use Rattle.due_model.specs.declared.event.Event.{Event}
 use Rattle.event_feed.specs.declared.fault.FeedFault.{FeedFault}
-use Rattle.event_feed.specs.declared.fault.FeedFault.TheVariants.{Cut, Read}
+use Rattle.event_feed.specs.declared.fault.FeedFault.TheVariants.{Cut, LineTooLong, Read}
 use Rattle.event_feed.specs.declared.fault.LineFault.{LineFault}
 use Rattle.event_feed.specs.declared.fault.Stop.{Stop}
 use Rattle.event_feed.specs.declared.fault.Stop.TheVariants.{InputEnded, CutLine, ReaderFailed, TooManyCalls, TooManyBytes, TooManyLines}
@@ -59,10 +59,11 @@ answers objects taken last (text ∷ next ∷ more) =
     else record { line = taken + 1; given = text_reading objects last text }
     ∷ answers objects (taken + 1) (moment_after last (text_reading objects last text)) (next ∷ more)
 
--- A feed that is being read: the bytes to come, where they are known; the number of the last line taken; the
--- last moment; why it is over, if it is.
+-- A feed that is being read: the bytes to come, where they are known; the text and the number of the last line
+-- taken; the last moment; why it is over, if it is.
 pub record Feed : Type 0 where
   pub bytes : Option (List ℕ)
+  pub text : List ℕ
   pub line : ℕ
   pub last : ℕ
   pub stop : Option Stop
@@ -133,6 +134,8 @@ pub record GivesNone (objects : List Object) (old new : Feed) : Type 0 where
 pub record GivesFault (objects : List Object) (old : Feed) (fault : LineFault) (new : Feed) : Type 0 where
   pub answers : FaultAnswers objects old fault new.stop new
   pub fits : FaultFits fault.fault new.stop
+  -- a line that isn't too long is refused by what it says
+  pub said : new.stop ≡ None → fault.fault ≢ LineTooLong → line_reading objects new.text ≡ Err fault.fault
   pub number : fault.line ≡ new.line
   pub last : new.last ≡ old.last
   pub line : old.line < new.line

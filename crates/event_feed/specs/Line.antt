@@ -40,14 +40,14 @@ is_stamp_shaped line =
     begins_with line (codes "[") && begins_with (after_digits line) (codes "] ") && nat_lt 0 (length (stamp_digits line))
 
 -- the number that the digits write; leading zeros are allowed
-abbrev pub stamp_number : List ℕ → ℕ
-stamp_number digits = number_from_digits 10 (map (λ digit. digit - 48) digits)
+abbrev pub digits_number : List ℕ → ℕ
+digits_number digits = number_from_digits 10 (map (λ digit. digit - 48) digits)
 
 -- the stamp, in seconds since the epoch, where the line begins with one that is in range
 abbrev pub stamp_of : List ℕ → Option ℕ
 stamp_of line =
-    if is_stamp_shaped line && nat_le (stamp_number (stamp_digits line)) last_moment
-    then Some (stamp_number (stamp_digits line)) else None
+    if is_stamp_shaped line && nat_le (digits_number (stamp_digits line)) last_moment
+    then Some (digits_number (stamp_digits line)) else None
 
 -- ---- the command: a name, and its arguments, each behind a `;`
 

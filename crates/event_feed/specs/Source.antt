@@ -35,10 +35,14 @@ pub record BeginsWithLine (bytes text rest : List ℕ) : Type 0 where
 abbrev pub BeginsUnbroken : List ℕ → ℕ → Type 0
 BeginsUnbroken bytes count = (text : List ℕ) × (more : List ℕ) × IsUnbroken text × (bytes ≡ text ++ more) × (count ≤ length text)
 
+-- of a line that the end of the input cut: its text, or nothing where it has too many bytes
+abbrev pub cut_text : (count : ℕ) → List ℕ → List ℕ
+cut_text count text = if nat_lt line_limit count then [] else text
+
 abbrev pub TakesFrom : List ℕ → Taken → List ℕ → List ℕ → Type 0
 TakesFrom bytes Line line rest = BeginsWithLine bytes line rest × (length line ≤ line_limit)
 TakesFrom bytes Long line rest = (text : List ℕ) × BeginsWithLine bytes text rest × (line_limit < length text) × (length text ≤ byte_limit)
-TakesFrom bytes (Over CutLine) line rest = IsUnbroken bytes × (0 < length bytes) × (length bytes ≤ byte_limit)
+TakesFrom bytes (Over CutLine) line rest = IsUnbroken bytes × (0 < length bytes) × (length bytes ≤ byte_limit) × (line ≡ cut_text (length bytes) bytes)
 TakesFrom bytes (Over InputEnded) line rest = (bytes ≡ []) × (rest ≡ [])
 TakesFrom bytes (Over ReaderFailed) line rest = ⊤
 TakesFrom bytes (Over TooManyCalls) line rest = BeginsUnbroken bytes call_limit

@@ -1,8 +1,9 @@
 //! The events of a feed, in order, from any reader.
 
-ghost use Rattle.std.specs.Prelude.{◌≡◌, ◌+◌, ◌≤◌, None, Some, Ok, IfOk, IfErr, IfSome, IfNone, OnSome};
+ghost use Rattle.std.specs.Prelude.{◌≡◌, ◌+◌, ◌≤◌, [], None, Some, Ok, IfOk, IfErr, IfSome, IfNone, OnSome};
 ghost use Rattle.event_feed.specs.Feed.{GivesEvent, GivesFault, GivesNone, feed_limit, raised};
 ghost use Rattle.event_feed.specs.NextLine.{CountsLine, GoesToLine};
+ghost use Rattle.event_feed.specs.Source.{to_come};
 
 use crate::fault::{FeedFault, LineFault, Stop};
 use crate::line::read_line;
@@ -14,9 +15,9 @@ use std::io::Read;
 use std::marker::Model;
 
 /// The most lines of a feed, empty ones counted.
-const FEED_LIMIT: u64 = 8_589_934_592;
+pub const FEED_LIMIT: u64 = 8_589_934_592;
 
-/// A feed that is read from a reader. Contracts see the bytes to come, where the reader tells them; the
+/// A feed that is read from a reader. Contracts see the bytes to come, where the reader tells them; the text and the
 /// number of the last line taken; the greatest moment so far; and why the feed is over, if it is.
 #[derive(Drop)]
 pub struct Feeder<R: Read> {
@@ -34,7 +35,7 @@ impl<R: Read> Model for Feeder<R> {
 
     ghost Value = { Feed };
 
-    ghost view = { λ s. record { bytes = to_come s.source; line = s.line; last = s.last; stop = s.stop } };
+    ghost view = { λ s. record { bytes = to_come s.source; text = s.source.line; line = s.line; last = s.last; stop = s.stop } };
 
     ghost invariant = { λ s. (s.line ≤ feed_limit + (if is_some s.stop then 1 else 0)) × (s.last ≤ last_moment) };
 }
@@ -42,7 +43,7 @@ impl<R: Read> Model for Feeder<R> {
 impl<R: Read + Drop> Feeder<R> {
     /// A feed from its first line on. Its buffer is all the memory that it takes.
     pub fn new(alloc: Global, reader: R) -> Result<Self, AllocError>
-        ensures { IfOk result (λ feed. feed ≡ record { bytes = R.remaining reader; line = 0; last = 0; stop = None }) }
+        ensures { IfOk result (λ feed. feed ≡ record { bytes = R.remaining reader; text = []; line = 0; last = 0; stop = None }) }
     {
         let source = Source::new(alloc, reader)?;
         Ok(Feeder {
@@ -58,6 +59,23 @@ impl<R: Read + Drop> Feeder<R> {
         ensures { result ≡ self.now.line }
     {
         self.line
+    }
+
+    /// The text of the last line taken, without its newline: of the line that gave the last event, or of one that was
+    /// refused by what it says. Of a cut line it is what there is, and nothing where that is over 4,096 bytes.
+    pub fn text(&self) -> &[u8]
+        ensures { result.now ≡ self.now.text }
+    {
+        self.source.line()
+    }
+
+    /// What is behind the last line taken, for a reader of other lines: a feed ends where its reader says, and so
+    /// at a line that is no event.
+    pub fn into_source(self) -> Source<R>
+        ensures { to_come result ≡ self.bytes }
+    {
+        let Feeder { source, .. } = self;
+        source
     }
 
     /// Why the feed is over, if it is.

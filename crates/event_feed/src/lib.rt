@@ -5,11 +5,12 @@
 pub mod fault;
 pub mod feeder;
 pub mod line;
-mod source;
+pub mod source;
 
 pub use fault::{FeedFault, LineFault, Stop};
-pub use feeder::Feeder;
-pub use line::read_line;
+pub use feeder::{FEED_LIMIT, Feeder};
+pub use line::{find_byte, read_line, read_number};
+pub use source::{Source, Taken};
 
 #[cfg(test)]
 mod tests;

@@ -6,7 +6,7 @@ ghost use Rattle.std.specs.List.{position_or_len};
 ghost use Rattle.std.specs.Str.{is_utf8};
 ghost use Rattle.due_model.specs.Accepted.{IsProper, last_moment};
 ghost use Rattle.std.specs.Char.{is_ascii_digit};
-ghost use Rattle.event_feed.specs.Line.{bare_reading, command_named, command_of, command_reading, fields, fields_after, host_state_named, host_state_reading, line_reading, stamp_number, stamp_of, state_reading};
+ghost use Rattle.event_feed.specs.Line.{bare_reading, command_named, command_of, command_reading, fields, fields_after, host_state_named, host_state_reading, line_reading, digits_number, stamp_of, state_reading};
 
 use crate::fault::FeedFault;
 use due_model::config::{Config, ObjectId};
@@ -81,7 +81,7 @@ fn read_stamp<'a>(line: &'a [u8]) -> Option<Stamp<'a>>
     if digits == 0 {
         return None;
     }
-    let moment = read_number(&after[..digits])?;
+    let moment = read_number(&after[..digits], LAST_MOMENT)?;
     Some(Stamp { moment, command })
 }
 
@@ -95,16 +95,18 @@ fn count_digits(bytes: &[u8]) -> usize
         .count()
 }
 
-/// The number that the digits write, where it is in the range of stamps.
-fn read_number(digits: &[u8]) -> Option<u64>
-    ensures { result ≡ (if nat_le (stamp_number digits.now) last_moment then Some (stamp_number digits.now) else None) }
+/// The number that decimal digits write, where it is at most this one; leading zeros are allowed. Whether the bytes
+/// are digits is the caller's to know.
+pub fn read_number(digits: &[u8], most: u64) -> Option<u64>
+    requires { most ≤ last_moment }
+    ensures { result ≡ (if nat_le (digits_number digits.now) most then Some (digits_number digits.now) else None) }
 {
     let mut number = 0;
     for digit in digits {
         let value = u64::from(digit.saturating_sub(b'0'));
-        number = (number * 10 + value).min(LAST_MOMENT + 1);
+        number = (number * 10 + value).min(most + 1);
     }
-    if number > LAST_MOMENT {
+    if number > most {
         None
     } else {
         Some(number)
@@ -138,7 +140,7 @@ fn split_field(bytes: &[u8]) -> (&[u8], Option<&[u8]>)
 }
 
 /// The place of the first such byte, or the length where there is none.
-pub(crate) fn find_byte(byte: u8, bytes: &[u8]) -> usize
+pub fn find_byte(byte: u8, bytes: &[u8]) -> usize
     ensures place { result ≡ position_or_len (λ b. b == byte) bytes.now }
     ensures within { result ≤ length bytes.now }
 {

@@ -1,10 +1,11 @@
-//! Lines from any reader, whatever pieces it gives, through a buffer of their own.
+//! Lines from any reader, whatever pieces it gives, through a buffer of their own. A feed and a list of steps are
+//! read so, with the same limits.
 
 ghost use Rattle.std.specs.Prelude.{◌≡◌, ◌+◌, ◌-◌, ◌<◌, ◌≤◌, [], length, take, drop, slice_index, slice_range, IfOk};
 ghost use Rattle.std.specs.Io.KnownBytes.{ReadConsumes};
 ghost use Rattle.event_feed.specs.Line.{line_limit};
 ghost use Rattle.event_feed.specs.Lines.{IsUnbroken};
-ghost use Rattle.event_feed.specs.Source.{Fills, MakesRoom, Takes, byte_limit, ending};
+ghost use Rattle.event_feed.specs.Source.{Fills, MakesRoom, Takes, byte_limit, cut_text, ending};
 
 use crate::fault::Stop;
 use crate::line::{LINE_LIMIT, find_byte};
@@ -23,12 +24,12 @@ const CALL_LIMIT: usize = 65_536;
 
 /// How the taking of a line went.
 #[derive(Clone, Copy, Debug, PartialEq, Eq)]
-pub(crate) enum Taken {
+pub enum Taken {
     /// The line is there.
     Line,
     /// The line has over 4,096 bytes. It was read over.
     Long,
-    /// There is no line, nor will there be one.
+    /// There is no whole line, nor will there be one.
     Over(Stop),
 }
 
@@ -43,9 +44,10 @@ enum Filled {
     Broken,
 }
 
-/// Lines from a reader.
+/// Lines from a reader, which each end at a newline. Contracts see the line that was taken last, the bytes that were
+/// read and not yet taken, and those that the reader still has, where it tells them.
 #[derive(Drop)]
-pub(crate) struct Source<R: Read> {
+pub struct Source<R: Read> {
     reader: R,
     buffer: Vec<u8>,
     /// Where what was read and not yet taken stands in the buffer.
@@ -73,9 +75,9 @@ impl<R: Read> Model for Source<R> {
 }
 
 impl<R: Read + Drop> Source<R> {
-    /// Nothing is read yet.
-    pub(crate) fn new(alloc: Global, reader: R) -> Result<Self, AllocError>
-        ensures { IfOk result (λ source. (source.held ≡ []) × (source.unread ≡ R.remaining reader)) }
+    /// Nothing is read yet. Its buffer is all the memory that a source takes.
+    pub fn new(alloc: Global, reader: R) -> Result<Self, AllocError>
+        ensures { IfOk result (λ source. source ≡ record { line = []; held = []; unread = R.remaining reader }) }
     {
         let buffer = vec![in alloc; 0; BUFFER]?;
         Ok(Source {
@@ -88,8 +90,11 @@ impl<R: Read + Drop> Source<R> {
         })
     }
 
-    /// Goes over the next line and its newline.
-    pub(crate) fn take_line(&mut self) -> Taken
+    /// Goes over the next line and its newline. A line of over 4,096 bytes is read over, and its text isn't kept. After
+    /// `Over` there is no whole line: the input ended, within a line or behind one, the reader failed, or the line took
+    /// 65,536 calls of the reader or has over 1,048,576 bytes. `TooManyLines` never comes: whoever counts the lines
+    /// finds that. It takes no memory.
+    pub fn take_line(&mut self) -> Taken
         ensures { Takes self.old result self.new }
     {
         let place = self.find_newline();
@@ -100,8 +105,9 @@ impl<R: Read + Drop> Source<R> {
         }
     }
 
-    /// The line that was taken last, without its newline.
-    pub(crate) fn line(&self) -> &[u8]
+    /// The line that was taken last, without its newline: where the input ended within a line, what there is of it,
+    /// and nothing of one that has over 4,096 bytes. After another `Over`, and after `Long`, it says nothing.
+    pub fn line(&self) -> &[u8]
         ensures { result.now ≡ self.now.line }
     {
         &self.buffer[self.line_start..self.line_end]
@@ -122,7 +128,7 @@ impl<R: Read + Drop> Source<R> {
                 Filled::Empty if skipped + self.held_len() == 0 => return Taken::Over(
                     Stop::InputEnded,
                 ),
-                Filled::Empty => return Taken::Over(Stop::CutLine),
+                Filled::Empty => return self.end_cut_line(skipped),
                 Filled::Broken => return Taken::Over(Stop::ReaderFailed),
                 Filled::More => {}
             }
@@ -153,6 +159,20 @@ impl<R: Read + Drop> Source<R> {
         } else {
             Taken::Line
         }
+    }
+
+    /// Ends the line at the end of the input, after so many bytes that were skipped. What is held stays.
+    fn end_cut_line(&mut self, skipped: usize) -> Taken
+        requires skipped { skipped + length self.old.held ≤ byte_limit }
+        ensures line { self.new.line ≡ cut_text (skipped + length self.old.held) self.old.held }
+        ensures held { self.new.held ≡ self.old.held }
+        ensures unread { self.new.unread ≡ self.old.unread }
+        ensures taken { result ≡ Taken.Over Stop.CutLine }
+    {
+        let is_long = skipped + self.held_len() > LINE_LIMIT;
+        self.line_start = self.start;
+        self.line_end = if is_long { self.start } else { self.end };
+        Taken::Over(Stop::CutLine)
     }
 
     /// The place of the first newline in what is held, or the length where there is none.

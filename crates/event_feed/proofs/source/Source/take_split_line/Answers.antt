@@ -19,8 +19,9 @@ pub returns-in-Empty-2 : goal.returns-in-Empty-2
 returns-in-Empty-2 g c =
     let room = OnTheWay-room c.args.self.now c.loop-call.self c.make_room-skipped.new.self c.loop-call.skipped c.make_room-skipped.result
     c.loop-call.invariant.way c.loop-call.invariant.held c.make_room-skipped.ensures in
-    Takes-cut c.args.self.now c.make_room-skipped.new.self c.fill.new.self c.make_room-skipped.result room.way room.held c.in-Empty-2.ensures
-    (omega (arith, ap (λ (held : List ℕ). length held) c.in-Empty-2.ensures.0)) (omega (arith, room.same))
+    rw c.end_cut_line.ensures.taken (Takes-cut c.args.self.now c.make_room-skipped.new.self c.fill.new.self c.end_cut_line.new.self c.make_room-skipped.result room.way room.held
+    (room.many c.loop-call.invariant.many) c.in-Empty-2.ensures c.end_cut_line.ensures.held c.end_cut_line.ensures.unread c.end_cut_line.ensures.line
+    (omega (arith, ap (λ (held : List ℕ). length held) c.in-Empty-2.ensures.0)) (omega (arith, room.same)))
 
 pub returns-in-Broken : goal.returns-in-Broken
 returns-in-Broken g c =
