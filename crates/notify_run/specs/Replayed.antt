@@ -7,10 +7,12 @@ use Rattle.object_reader.specs.declared.block.Block.{Block}
 use Rattle.object_reader.specs.declared.fault.ReadFault.{ReadFault}
 use Rattle.object_reader.specs.declared.fault.ReadFault.TheVariants as read
 use Rattle.object_reader.specs.Grammar.{IsObjectText, IsRefused}
-use Rattle.event_feed.specs.Feed.{Answer, answers}
-use Rattle.event_feed.specs.Lines.{pieces}
 use Rattle.object_resolve.specs.declared.fault.ResolveFault.{ResolveFault}
 use Rattle.object_resolve.specs.declared.fault.ResolveFault.TheVariants as resolve
+use Rattle.object_resolve.specs.Resolved.{IsResolved}
+use Rattle.object_resolve.specs.Refusals.{IsRefusal}
+use Rattle.event_feed.specs.Feed.{Answer, answers}
+use Rattle.event_feed.specs.Lines.{pieces}
 use Rattle.notify_run.specs.declared.input.InputFault.{InputFault}
 use Rattle.notify_run.specs.declared.input.InputFault.TheVariants as input
 use Rattle.notify_run.specs.declared.replay.Ending.{Ending}
@@ -18,8 +20,6 @@ use Rattle.notify_run.specs.declared.replay.ReplayFault.{ReplayFault}
 use Rattle.notify_run.specs.declared.replay.ReplayFault.TheVariants.{Read, Resolve, TooLarge, Unreadable, Output, NoMemory}
 use Rattle.notify_run.specs.Inputs.{parted}
 use Rattle.notify_run.specs.Outputs.{TakesFront}
-use Rattle.object_resolve.specs.Resolved.{IsResolved}
-use Rattle.object_resolve.specs.Refusals.{IsRefusal}
 use Rattle.notify_run.specs.ReportText.{AreTold, ending_after, report_text}
 
 -- ---- faults
