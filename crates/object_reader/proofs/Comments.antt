@@ -7,7 +7,7 @@ use Rattle.std.specs.List.{position_or_len, prefix_len, suffix_len, before_first
 use Rattle.object_reader.specs.Blanks.{is_blank, trim_start, trim_end}
 use Rattle.object_reader.specs.Statements.{starts_comment, statement}
 use Rattle.object_reader.specs.Spelling.{AreBlanks, IsComment, IsTight, IsKept, Says}
-use Rattle.object_reader.proofs.Spelling.{stops, before_fails, rest_begins, trimmed, blanks_from, blanks_to, not_mark}
+use Rattle.object_reader.proofs.Spelling.{stops, before_fails, rest_begins, blanks_dropped, blanks_from, blanks_to, not_mark}
 
 -- the longest front that passes
 
@@ -96,8 +96,8 @@ comment_from bs h = by_rest (trim_start bs) refl where
 comment_to : (bs : List ℕ) → IsComment bs → starts_comment (trim_start bs) ≡ true
 comment_to bs h = by_mark h.marks where
   by_mark : (h.mark ≡ 35) ⊎ (h.mark ≡ 59) → starts_comment (trim_start bs) ≡ true
-  by_mark (inl e) = ap (λ x. starts_comment (trim_start x)) (h.parts ∙ ap (λ m. h.before ++ m ∷ h.others) e) ∙ ap starts_comment (trimmed h.before 35 h.others h.blank refl)
-  by_mark (inr e) = ap (λ x. starts_comment (trim_start x)) (h.parts ∙ ap (λ m. h.before ++ m ∷ h.others) e) ∙ ap starts_comment (trimmed h.before 59 h.others h.blank refl)
+  by_mark (inl e) = ap (λ x. starts_comment (trim_start x)) (h.parts ∙ ap (λ m. h.before ++ m ∷ h.others) e) ∙ ap starts_comment (blanks_dropped h.before 35 h.others h.blank refl)
+  by_mark (inr e) = ap (λ x. starts_comment (trim_start x)) (h.parts ∙ ap (λ m. h.before ++ m ∷ h.others) e) ∙ ap starts_comment (blanks_dropped h.before 59 h.others h.blank refl)
 
 -- what is written is found
 
@@ -121,7 +121,7 @@ core_found before s after b a (inl none) =
     ap (λ x. trim_end (trim_start x)) empty ∙ ap trim_end (all_trimmed (before ++ after) (all_append is_blank before after b a)) ∙ sym none
 core_found before s after b a (inr (begins, ends)) =
     let front : trim_start (before ++ (s ++ after)) ≡ s ++ after =
-    ap (λ x. trim_start (before ++ (x ++ after))) begins.2 ∙ trimmed before begins.0 (begins.1 ++ after) b begins.3 ∙ ap (λ x. x ++ after) (sym begins.2) in
+    ap (λ x. trim_start (before ++ (x ++ after))) begins.2 ∙ blanks_dropped before begins.0 (begins.1 ++ after) b begins.3 ∙ ap (λ x. x ++ after) (sym begins.2) in
     ap trim_end front ∙ trim_tight s after (inr ends) a
 
 pub statement_found : (bs s : List ℕ) → Says bs s → statement bs ≡ s

@@ -72,8 +72,8 @@ blanks_to (x ∷ xs) h =
     rw (blank, blanks_to xs parts.1) refl
 
 -- blanks before a mark are trimmed
-pub trimmed : (blanks : List ℕ) (y : ℕ) (ys : List ℕ) → AreBlanks blanks → is_blank y ≡ false → trim_start (blanks ++ y ∷ ys) ≡ y ∷ ys
-trimmed blanks y ys h e =
+pub blanks_dropped : (blanks : List ℕ) (y : ℕ) (ys : List ℕ) → AreBlanks blanks → is_blank y ≡ false → trim_start (blanks ++ y ∷ ys) ≡ y ∷ ys
+blanks_dropped blanks y ys h e =
     let mark : not (is_blank y) ≡ true = rw e refl in
     rw (stops (λ b. not (is_blank b)) blanks y ys (blanks_to blanks h) mark) (drop-append_seam blanks (y ∷ ys))
 
@@ -92,7 +92,7 @@ after_first_word : (word blanks : List ℕ) (z : ℕ) (zs : List ℕ) → list_a
 after_first_word word blanks z zs h blank some mark =
     let b = blanks_begin blanks blank some in
     let w : first_word (word ++ (blanks ++ z ∷ zs)) ≡ word = ap (λ bs. first_word (word ++ (bs ++ z ∷ zs))) b.is ∙ word_first word b.first (b.others ++ z ∷ zs) h b.passes in
-    (w, ap (λ f. trim_start (drop (length f) (word ++ (blanks ++ z ∷ zs)))) w ∙ ap trim_start (drop-append_seam word (blanks ++ z ∷ zs)) ∙ trimmed blanks z zs blank mark)
+    (w, ap (λ f. trim_start (drop (length f) (word ++ (blanks ++ z ∷ zs)))) w ∙ ap trim_start (drop-append_seam word (blanks ++ z ∷ zs)) ∙ blanks_dropped blanks z zs blank mark)
 
 -- a blank is taken with those before the first mark
 blank_taken : (y : ℕ) (ys : List ℕ) → is_blank y ≡ true → 0 < length (before_first (λ b. not (is_blank b)) (y ∷ ys))
@@ -233,7 +233,7 @@ made_so : (name after : List ℕ) → 0 < length name → AreBlanks after → op
 unfolding opened_made
 made_so name after some blank =
     let e : (length name == 0) ≡ false = grind (arith, tests) in
-    let brace : trim_start (after ++ codes "{") ≡ codes "{" = trimmed after 123 [] blank refl in
+    let brace : trim_start (after ++ codes "{") ≡ codes "{" = blanks_dropped after 123 [] blank refl in
     rw (e, brace) refl
 
 pub opened_spelled : (s name : List ℕ) → IsDefine s name → opened s ≡ kind_of name
