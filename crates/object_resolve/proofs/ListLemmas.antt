@@ -18,7 +18,7 @@ use Rattle.std.proofs.lemmas.List.Kept.{Contains-dedup_nat, Contains-from_dedup}
 use Rattle.std.proofs.lemmas.List.Sorted.{Contains-permutation, IsPermutation-sym}
 use Rattle.std.proofs.lemmas.Map.Keys.{IsStrictlyIncreasing-dedup}
 use Rattle.object_resolve.specs.Resolved.{AreSetOf}
-use Rattle.std.proofs.lemmas.List.{append-nil, take_more, take_rest, map-append}
+use Rattle.std.proofs.lemmas.List.{append-nil, length-map, map-append, take_more, take_rest}
 use Rattle.std.proofs.lemmas.List.Elements.{filter-append, All-nil, All-cons, All-push, All-same}
 use Rattle.std.specs.Str.{bytes_eq}
 use Rattle.std.proofs.lemmas.List.Splits.{slice_split_first}
@@ -31,12 +31,8 @@ position_or_len-of_map : {X Y : Type 0} (p : Y → Bool) (h : X → Y) (xs : Lis
 position_or_len-of_map p h [] = refl
 position_or_len-of_map p h (x ∷ xs) = ap (λ others. cond (not (p (h x))) (1 + others) 0) (position_or_len-of_map p h xs)
 
-length-of_map : {X Y : Type 0} (h : X → Y) (xs : List X) → length (map h xs) ≡ length xs
-length-of_map h [] = refl
-length-of_map h (x ∷ xs) = ap (λ others. suc others) (length-of_map h xs)
-
 pub position-of_map : {X Y : Type 0} (p : Y → Bool) (h : X → Y) (xs : List X) → position p (map h xs) ≡ position (λ x. p (h x)) xs
-position-of_map p h xs = rw (position_or_len-of_map p h xs, length-of_map h xs) refl
+position-of_map p h xs = rw (position_or_len-of_map p h xs, length-map xs) refl
 
 -- a name that is added where it isn't there
 names-of_insert : {X Y : Type 0} (h : X → Y) (xs : List X) (x : X) (b : Bool)
