@@ -12,3 +12,4 @@ pub mod ResolvedLimits
 pub mod ResolvedLists
 pub mod ResolvedNames
 pub mod ResolvedNumbers
+pub mod StepLaws

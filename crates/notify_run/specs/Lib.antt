@@ -12,3 +12,6 @@ pub mod ResolvedLimits
 pub mod ResolvedNames
 pub mod ResolvedTables
 pub mod ResolvedValues
+pub mod StepLines
+pub mod TraceText
+pub mod Traced

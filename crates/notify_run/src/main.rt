@@ -5,12 +5,14 @@
 mod comparison;
 mod configure;
 mod input;
+mod lines;
 mod order;
 mod output;
 mod replay;
 mod report;
 #[cfg(test)]
 mod tests;
+mod trace;
 
 use replay::{Ending, ReplayFault, replay};
 use std::env;
