@@ -6,3 +6,4 @@ pub mod Parting
 pub mod Replaying
 pub mod Telling
 pub mod Writing
+pub mod StepLaws

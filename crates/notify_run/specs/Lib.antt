@@ -5,3 +5,6 @@ pub mod Reports
 pub mod ReportText
 pub mod Replays
 pub mod Replayed
+pub mod StepLines
+pub mod TraceText
+pub mod Traced

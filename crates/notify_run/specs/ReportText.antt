@@ -96,7 +96,7 @@ pub record TakesAnswer (objects : List Object) (past : List Event) (old : Feed) 
 
 -- a feed from its first line on
 abbrev pub start_of : Option (List ℕ) → Feed
-start_of bytes = record { bytes = bytes; line = 0; last = 0; stop = None }
+start_of bytes = record { bytes = bytes; text = []; line = 0; last = 0; stop = None }
 
 -- Of a feed's answers these came first; the past is theirs, the text is what they add to a report, and the feed
 -- goes on behind them.

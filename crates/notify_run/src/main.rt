@@ -5,6 +5,7 @@ mod command_line;
 #[cfg(test)]
 mod comparison;
 mod input;
+mod lines;
 mod order;
 mod output;
 mod replay;
@@ -13,8 +14,8 @@ mod report;
 mod tests;
 mod trace;
 
-use command_line::{Request, command, request_of};
 use clap::error::ErrorKind;
+use command_line::{Request, command, request_of};
 use replay::{Ending, ReplayFault, replay};
 use std::alloc::AllocError;
 use std::env;

@@ -15,9 +15,9 @@ ghost use Rattle.notify_run.specs.Reports.{refused_line};
 ghost use Rattle.notify_run.specs.ReportText.{AreToldOf, TakesAnswer, answer_text, ending_after, entries_text, entry_line, is_ended, past_after, report_from, report_text, start_of};
 
 use crate::input::{InputFault, Parts, take_objects};
-use crate::order::{Entry, next_entry};
-use crate::output::{Buffer, OutputFailed};
-use crate::report::{push_entry, push_refused};
+use crate::lines::Lines;
+use crate::order::next_entry;
+use crate::output::OutputFailed;
 use decider::{DecideFault, Decider, Outbox, Owned};
 use due_model::config::Config;
 use due_model::event::Event;
@@ -29,7 +29,6 @@ use object_reader::reading::read;
 use object_resolve::{ResolveFault, resolve};
 use std::alloc::{AllocError, Global};
 use std::io::{Cursor, Read, Write};
-use std::marker::Model;
 
 /// How the reading of a feed ended.
 #[derive(Clone, Copy, Debug, PartialEq, Eq)]
@@ -74,91 +73,6 @@ impl From<OutputFailed> for ReplayFault {
 
     fn from(_error: OutputFailed) -> ReplayFault {
         ReplayFault::Output
-    }
-}
-
-/// Where the lines of a report are made. Contracts see the bytes that are still to be written.
-#[derive(Drop)]
-struct Lines {
-    buffer: Buffer,
-    /// The line that is being made.
-    line: Vec<u8>,
-}
-
-impl Model for Lines {
-    ghost use Rattle.std.specs.Prelude.{ℕ, List};
-
-    ghost Value = { List ℕ };
-
-    ghost view = { λ s. s.buffer };
-}
-
-impl Lines {
-    /// Nothing is to be written yet.
-    fn new(alloc: Global) -> Result<Lines, AllocError>
-        ensures { IfOk result (λ lines. lines ≡ []) }
-    {
-        Ok(Lines {
-            buffer: Buffer::new(alloc)?,
-            line: Vec::new(alloc),
-        })
-    }
-
-    /// Writes the line of an entry.
-    fn entry<W: Write>(
-        &mut self,
-        writer: &mut W,
-        config: &Config,
-        entry: &Entry,
-    ) -> Result<(), ReplayFault>
-        ensures ok { OnOk result (Leaves (W.contents writer.old) (W.contents writer.new) (self.old ++ entry_line config.now entry.now) self.new) }
-        ensures front { TakesFront (W.contents writer.old) (W.contents writer.new) (self.old ++ entry_line config.now entry.now) }
-        ensures fault { IfErr result (λ fault. IsWriteFault fault) }
-    {
-        self.line.clear();
-        if push_entry(&mut self.line, config, entry).is_err() {
-            return Err(self.out_of_memory(writer));
-        }
-        self.buffer.push(writer, &self.line)?;
-        Ok(())
-    }
-
-    /// Writes the line of a refused line of the feed.
-    fn refused<W: Write>(
-        &mut self,
-        writer: &mut W,
-        line: u64,
-        fault: FeedFault,
-    ) -> Result<(), ReplayFault>
-        ensures ok { OnOk result (Leaves (W.contents writer.old) (W.contents writer.new) (self.old ++ refused_line line fault) self.new) }
-        ensures front { TakesFront (W.contents writer.old) (W.contents writer.new) (self.old ++ refused_line line fault) }
-        ensures fault { IfErr result (λ fault. IsWriteFault fault) }
-    {
-        self.line.clear();
-        if push_refused(&mut self.line, line, fault).is_err() {
-            return Err(self.out_of_memory(writer));
-        }
-        self.buffer.push(writer, &self.line)?;
-        Ok(())
-    }
-
-    /// Writes what is still to be written, since nothing more will come for want of memory.
-    fn out_of_memory<W: Write>(&mut self, writer: &mut W) -> ReplayFault
-        ensures front { TakesFront (W.contents writer.old) (W.contents writer.new) self.old }
-        ensures fault { result ≡ ReplayFault.NoMemory }
-    {
-        let _ = self.buffer.flush(writer);
-        ReplayFault::NoMemory
-    }
-
-    /// Writes all that is still to be written.
-    fn flush<W: Write>(&mut self, writer: &mut W) -> Result<(), ReplayFault>
-        ensures ok { OnOk result (Leaves (W.contents writer.old) (W.contents writer.new) self.old []) }
-        ensures front { TakesFront (W.contents writer.old) (W.contents writer.new) self.old }
-        ensures fault { IfErr result (λ fault. IsWriteFault fault) }
-    {
-        self.buffer.flush(writer)?;
-        Ok(())
     }
 }
 
@@ -354,7 +268,7 @@ fn report_lines<R: Read + Drop, W: Write>(
 }
 
 /// Why an object text can't be taken.
-fn unread(fault: InputFault) -> ReplayFault
+pub(crate) fn unread(fault: InputFault) -> ReplayFault
     ensures { result ≡ unread fault }
 {
     match fault {
@@ -386,7 +300,7 @@ fn refused_blocks(fault: ResolveFault) -> ReplayFault
 }
 
 /// The configuration that an object text gives.
-fn load(alloc: Global, text: &[u8]) -> Result<Config, ReplayFault>
+pub(crate) fn load(alloc: Global, text: &[u8]) -> Result<Config, ReplayFault>
     ensures config { IfOk result (λ config. IsAccepted config × IsCovered config × IsTextOf config text.now) }
     ensures fault { IfErr result (λ fault. IsTextFault text.now fault) }
 {

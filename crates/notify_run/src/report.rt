@@ -65,7 +65,7 @@ fn filter_name(filter: Filter) -> &'static str
 }
 
 /// Adds a field.
-fn push_field(line: &mut Vec<u8>, text: &[u8]) -> Result<(), AllocError>
+pub(crate) fn push_field(line: &mut Vec<u8>, text: &[u8]) -> Result<(), AllocError>
     ensures { OnOk result (line.new.items ≡ line.old.items ++ field text.now) }
 {
     line.push(b';')?;
@@ -73,7 +73,7 @@ fn push_field(line: &mut Vec<u8>, text: &[u8]) -> Result<(), AllocError>
 }
 
 /// Adds a number as a field.
-fn push_number(line: &mut Vec<u8>, number: u64) -> Result<(), AllocError>
+pub(crate) fn push_number(line: &mut Vec<u8>, number: u64) -> Result<(), AllocError>
     ensures { OnOk result (line.new.items ≡ line.old.items ++ field (decimal number)) }
 {
     let mut buffer = Buffer::new();
@@ -126,7 +126,11 @@ fn push_object_text(line: &mut Vec<u8>, config: &Config, object: ObjectId) -> Re
 }
 
 /// Adds an object as a field.
-fn push_object(line: &mut Vec<u8>, config: &Config, object: ObjectId) -> Result<(), AllocError>
+pub(crate) fn push_object(
+    line: &mut Vec<u8>,
+    config: &Config,
+    object: ObjectId,
+) -> Result<(), AllocError>
     ensures { OnOk result (line.new.items ≡ line.old.items ++ field (object_text config.now object.0)) }
 {
     line.push(b';')?;
@@ -143,14 +147,21 @@ fn push_contact(line: &mut Vec<u8>, config: &Config, contact: ContactId) -> Resu
     }
 }
 
-/// Adds a lane as a field.
-fn push_lane(line: &mut Vec<u8>, config: &Config, lane: LaneId) -> Result<(), AllocError>
-    ensures { OnOk result (line.new.items ≡ line.old.items ++ field (lane_text config.now lane.0)) }
+/// The name of a lane.
+pub(crate) fn lane_name(config: &Config, lane: LaneId) -> &[u8]
+    ensures { result.now ≡ lane_text config.now lane.0 }
 {
     match config.lanes.as_slice().get(lane.0 as usize) {
-        Some(lane) => push_field(line, lane.name.as_slice()),
-        None => push_field(line, b""),
+        Some(lane) => lane.name.as_slice(),
+        None => b"",
     }
+}
+
+/// Adds a lane as a field.
+pub(crate) fn push_lane(line: &mut Vec<u8>, config: &Config, lane: LaneId) -> Result<(), AllocError>
+    ensures { OnOk result (line.new.items ≡ line.old.items ++ field (lane_text config.now lane.0)) }
+{
+    push_field(line, lane_name(config, lane))
 }
 
 /// Adds the line of a notice.

@@ -1,6 +1,9 @@
 //! Replays of the worked examples, over readers and writers in memory.
 
+ghost use Rattle.notify_run.specs.Traced.{AreSettings};
+
 use crate::replay::{Ending, ReplayFault, replay};
+use crate::trace::{TraceSettings, trace};
 use object_reader::fault::{LineFault, ReadFault};
 use object_resolve::{BlockFault, ResolveFault};
 use std::alloc::Global;
@@ -220,4 +223,169 @@ fn output_fails(rt: HostRuntime) -> Result<(), Fail> {
         stops_at(&rt, rt.alloc(), calls, true)?;
     }
     Ok(())
+}
+
+/// Settings of a trace with queues of 64.
+fn settings(deciders: u8, tries: u8) -> TraceSettings
+    requires { AreSettings deciders 64 tries }
+{
+    match TraceSettings::new(deciders, 64, tries) {
+        Some(settings) => settings,
+        None => unreachable!(),
+    }
+}
+
+/// Traces BASE with this feed and these steps, and compares what is written and how it ends.
+fn traces(
+    rt: &impl Abort,
+    alloc: Global,
+    settings: TraceSettings,
+    behind: &str,
+    lines: &str,
+    ending: Ending,
+) -> Result<(), Fail> {
+    let text = input(alloc, behind)?;
+    let mut out = Vec::new(alloc);
+    let ended = trace(alloc, settings, text.as_bytes(), &mut out);
+    assert_eq!(rt; ended, Ok(ending), "{behind}");
+    assert_eq!(rt; out.as_slice(), lines.as_bytes(), "{behind}");
+    Ok(())
+}
+
+#[test]
+fn worked_traces(rt: HostRuntime) -> Result<(), Fail> {
+    let traces_of_web = [
+        (
+            3,
+            "[1000] HOST_STATE;web;DOWN\n[1010] HOST_STATE;web;UP\n%steps\npost\ndecide 0\nput 0 mail\npick mail\nask mail\nsettle mail\nclose mail\npost\ndecide 0\nput 0 mail\npick mail\ndrain mail\n",
+            "E;11;NotEnabled\nL;mail;web;0:ann;-;1:ann;-;-\n",
+        ),
+        (
+            3,
+            "[1000] HOST_STATE;web;DOWN\n[1010] HOST_STATE;web;UP\n%steps\npost\ndecide 0\nput 0 mail\npick mail\nask mail\nclose mail\npost\ndecide 0\nput 0 mail\npick mail\ndrain mail\n",
+            "E;10;NotEnabled\nL;mail;web;-;-;0:ann,1:ann;-;-\n",
+        ),
+        (
+            2,
+            "[1000] HOST_STATE;web;DOWN\n%steps\npost\ndecide 0\nput 0 mail\npick mail\nclose mail\nfail mail\nfail mail\nfail mail\nclose mail\n",
+            "E;5;NotEnabled\nE;8;NotEnabled\nL;mail;web;-;-;0:ann;-;-\n",
+        ),
+        (
+            3,
+            "[x] CLOCK\n\n[1] NOPE\n[5] HOST_STATE;web;DOWN\n%steps\n%steps\npost\npost\ndecide 0\nput 0 mail",
+            "R;1;BadStamp\nR;3;UnknownKind\nE;1;BadStep\nE;3;NotEnabled\nL;mail;web;-;-;-;0:ann;-\n",
+        ),
+        (
+            3,
+            "[5] HOST_STATE;web;DOWN\n%steps\npost\ndecide 0000000000000000000000000\n",
+            "L;mail;web;-;-;-;-;0:ann\n",
+        ),
+        (3, "[x] CLOCK\n", "R;1;BadStamp\nL;mail;web;-;-;-;-;-\n"),
+    ];
+    for (tries, behind, lines) in traces_of_web {
+        traces(
+            &rt,
+            rt.alloc(),
+            settings(1, tries),
+            behind,
+            lines,
+            Ending::Whole,
+        )?;
+    }
+    Ok(())
+}
+
+#[test]
+fn bad_steps(rt: HostRuntime) -> Result<(), Fail> {
+    let lines = [
+        "",
+        " post",
+        "post ",
+        "POST",
+        "posts",
+        "decide",
+        "decide ",
+        "decide 2",
+        "decide -1",
+        "decide 0 ",
+        "decide 18446744073709551616",
+        "put 0",
+        "put mail",
+        "put 0  mail",
+        "put 0 pager",
+        "put 2 mail",
+        "put  mail",
+        "pick",
+        "pick ",
+        "pick mail ",
+        "pick  mail",
+        "pick Mail",
+        "settle pager",
+        "fail mail\r",
+        "%steps",
+        "[1] CLOCK",
+    ];
+    for line in lines {
+        let behind = format!(in rt.alloc(); "%steps\npost\n{line}\n")?;
+        traces(
+            &rt,
+            rt.alloc(),
+            settings(2, 3),
+            behind.as_str(),
+            "E;1;NotEnabled\nE;2;BadStep\nL;mail;web;-;-;-;-;-\n",
+            Ending::Whole,
+        )?;
+    }
+    Ok(())
+}
+
+#[test]
+fn long_and_unread_steps(rt: HostRuntime) -> Result<(), Fail> {
+    let rows = [
+        (4_096, "E;1;BadStep\nL;mail;web;-;-;-;-;-\n", Ending::Whole),
+        (
+            1_048_576,
+            "E;1;BadStep\nL;mail;web;-;-;-;-;-\n",
+            Ending::Whole,
+        ),
+        (1_048_577, "", Ending::Short),
+    ];
+    for (count, lines, ending) in rows {
+        let line = "x".repeat(rt.alloc(), count)?;
+        for newline in ["\n", ""] {
+            let behind = format!(in rt.alloc(); "%steps\n{line}{newline}")?;
+            traces(
+                &rt,
+                rt.alloc(),
+                settings(1, 3),
+                behind.as_str(),
+                lines,
+                ending,
+            )?;
+        }
+    }
+    Ok(())
+}
+
+#[test]
+fn feeds_without_steps(rt: HostRuntime) -> Result<(), Fail> {
+    let cut = "[5] HOST_STATE;web;DOWN\n%steps";
+    traces(
+        &rt,
+        rt.alloc(),
+        settings(1, 3),
+        cut,
+        "R;2;Cut\nL;mail;web;-;-;-;-;-\n",
+        Ending::Short,
+    )?;
+    let line = "x".repeat(rt.alloc(), 1_048_577)?;
+    let unread = format!(in rt.alloc(); "{line}\n%steps\npost\n")?;
+    traces(
+        &rt,
+        rt.alloc(),
+        settings(1, 3),
+        unread.as_str(),
+        "R;1;Read\n",
+        Ending::Short,
+    )
 }

@@ -1,17 +1,17 @@
 use Rattle.std.proofs.Common.{◌≡◌, rules}
-use Rattle.notify_run.specs.Reports.{refused_line}
+use Rattle.notify_run.specs.TraceText.{step_line_text}
 use Rattle.notify_run.proofs.Writing.{front_of_held, front_same}
-use Rattle.notify_run.proofs.replay.Lines.refused.Goals as goal
+use Rattle.notify_run.proofs.lines.Lines.refused_step.Goals as goal
 
 pub returns-in_err-push-clause-front : goal.returns-in_err-push-clause-front
 returns-in_err-push-clause-front g c =
-    let text : c.deref.result.now ≡ refused_line c.args.line c.args.fault = search rules in
+    let text : c.deref.result.now ≡ step_line_text c.args.line c.args.refusal = search rules in
     let view : c.self.inside.buffer ≡ c.args.self.now = search rules in
     front_same _ _ c.self.inside.buffer c.args.self.now _ _ view text c.push.ensures.front
 
 pub returns-clause-front : goal.returns-clause-front
 returns-clause-front g c =
-    let text : c.deref.result.now ≡ refused_line c.args.line c.args.fault = search rules in
+    let text : c.deref.result.now ≡ step_line_text c.args.line c.args.refusal = search rules in
     let view : c.self.inside.buffer ≡ c.args.self.now = search rules in
     front_same _ _ c.self.inside.buffer c.args.self.now _ _ view text c.push.ensures.front
 

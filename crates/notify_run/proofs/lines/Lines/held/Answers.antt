@@ -1,17 +1,17 @@
 use Rattle.std.proofs.Common.{◌≡◌, rules}
-use Rattle.notify_run.specs.ReportText.{entry_line}
+use Rattle.notify_run.specs.TraceText.{line_text}
 use Rattle.notify_run.proofs.Writing.{front_of_held, front_same}
-use Rattle.notify_run.proofs.replay.Lines.entry.Goals as goal
+use Rattle.notify_run.proofs.lines.Lines.held.Goals as goal
 
 pub returns-in_err-push-clause-front : goal.returns-in_err-push-clause-front
 returns-in_err-push-clause-front g c =
-    let text : c.deref.result.now ≡ entry_line c.args.config.now c.args.entry.now = search rules in
+    let text : c.deref.result.now ≡ line_text c.args.config.now c.args.lane.0 c.args.object.0 c.args.parts.now.taken.items c.args.parts.now.hand.items c.args.parts.now.undelivered.items c.args.parts.now.queue.items c.args.parts.now.outbox.items = search rules in
     let view : c.self.inside.buffer ≡ c.args.self.now = search rules in
     front_same _ _ c.self.inside.buffer c.args.self.now _ _ view text c.push.ensures.front
 
 pub returns-clause-front : goal.returns-clause-front
 returns-clause-front g c =
-    let text : c.deref.result.now ≡ entry_line c.args.config.now c.args.entry.now = search rules in
+    let text : c.deref.result.now ≡ line_text c.args.config.now c.args.lane.0 c.args.object.0 c.args.parts.now.taken.items c.args.parts.now.hand.items c.args.parts.now.undelivered.items c.args.parts.now.queue.items c.args.parts.now.outbox.items = search rules in
     let view : c.self.inside.buffer ≡ c.args.self.now = search rules in
     front_same _ _ c.self.inside.buffer c.args.self.now _ _ view text c.push.ensures.front
 
