@@ -371,9 +371,9 @@ fn tell_lanes<W: Write>(
     alloc: Global,
     lines: &mut Lines,
     writer: &mut W,
-    run: &mut Run<'_>,
+    run: &Run<'_>,
 ) -> Result<(), ReplayFault>
-    requires stands { RunStands run.old }
+    requires stands { RunStands run.now }
     ensures fault { IfErr result (λ fault. IsWriteFault fault) }
 {
     for lane in 0..run.config.lanes.len() {
@@ -387,13 +387,11 @@ fn tell_lane<W: Write>(
     alloc: Global,
     lines: &mut Lines,
     writer: &mut W,
-    run: &mut Run<'_>,
+    run: &Run<'_>,
     lane: LaneId,
 ) -> Result<(), ReplayFault>
-    requires stands { RunStands run.old }
-    requires lane { lane.0 < length run.old.config.now.lanes }
-    ensures stands { RunStands run.new }
-    ensures config { run.new.config ≡ run.old.config }
+    requires stands { RunStands run.now }
+    requires lane { lane.0 < length run.now.config.now.lanes }
     ensures fault { IfErr result (λ fault. IsWriteFault fault) }
 {
     for object in 0..run.config.objects.len() {
@@ -407,15 +405,13 @@ fn tell_line<W: Write>(
     alloc: Global,
     lines: &mut Lines,
     writer: &mut W,
-    run: &mut Run<'_>,
+    run: &Run<'_>,
     lane: LaneId,
     object: ObjectId,
 ) -> Result<(), ReplayFault>
-    requires stands { RunStands run.old }
-    requires lane { lane.0 < length run.old.config.now.lanes }
-    requires object { object.0 < length run.old.config.now.objects }
-    ensures stands { RunStands run.new }
-    ensures config { run.new.config ≡ run.old.config }
+    requires stands { RunStands run.now }
+    requires lane { lane.0 < length run.now.config.now.lanes }
+    requires object { object.0 < length run.now.config.now.objects }
     ensures fault { IfErr result (λ fault. IsWriteFault fault) }
 {
     match run.world.line(alloc, lane, object) {
