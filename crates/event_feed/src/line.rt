@@ -106,11 +106,7 @@ pub fn read_number(digits: &[u8], most: u64) -> Option<u64>
         let value = u64::from(digit.saturating_sub(b'0'));
         number = (number * 10 + value).min(most + 1);
     }
-    if number > most {
-        None
-    } else {
-        Some(number)
-    }
+    if number > most { None } else { Some(number) }
 }
 
 /// What a command says.
