@@ -7,3 +7,4 @@ pub mod Replaying
 pub mod Telling
 pub mod Writing
 pub mod StepLaws
+pub mod TraceLaws

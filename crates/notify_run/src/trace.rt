@@ -1,6 +1,6 @@
 //! The command `trace`: the steps of a list, done one by one in a world of steps.
 
-ghost use Rattle.std.specs.Prelude.{◌≡◌, ◌+◌, ◌<◌, ◌≤◌, ◌↔◌, true, ◌++◌, length, IfErr, IfNone, IfOk, IfSome, IsSome, None, OnOk};
+ghost use Rattle.std.specs.Prelude.{◌≡◌, ◌+◌, ◌<◌, ◌≤◌, ◌↔◌, ℕ, true, List, ◌++◌, length, IfErr, IfNone, IfOk, IfSome, IsErrOf, IsSome, None, OnErr, OnOk};
 ghost use Rattle.due_model.specs.Accepted.{IsAccepted};
 ghost use Rattle.due_model.specs.Covered.{IsCovered, IsPlainEvent};
 ghost use Rattle.event_feed.specs.Feed.{feed_limit};
@@ -10,8 +10,9 @@ ghost use Rattle.notify_run.specs.Inputs.{parted};
 ghost use Rattle.notify_run.specs.Outputs.{Leaves};
 ghost use Rattle.notify_run.specs.Replayed.{IsTextOf, IsWriteFault};
 ghost use Rattle.notify_run.specs.StepLines.{Spells};
-ghost use Rattle.notify_run.specs.TraceText.{step_line_text};
-ghost use Rattle.notify_run.specs.Traced.{AreSettings, IsMark, IsPlainLine, RunStands, TraceFails};
+ghost use Rattle.notify_run.specs.TraceText.{held_text, lane_lines, step_line_text, world_text};
+ghost use Rattle.world_steps.specs.Views.{world_settings, world_state};
+ghost use Rattle.notify_run.specs.Traced.{AreSettings, Does, IsEnabledIn, IsMark, IsPlainLine, RunStands, TakesLine, TraceFails};
 
 mod step_line;
 pub(crate) mod text;
@@ -335,7 +336,11 @@ fn do_line<W: Write>(
     requires number { number ≤ feed_limit }
     ensures stands { RunStands run.new }
     ensures fault { IfErr result (λ fault. IsWriteFault fault) }
-    ensures bad_step { ((said : StepLine) → ¬ Spells run.old.config.now run.old.deciders said line.now) → OnOk result (Leaves (W.contents writer.old) (W.contents writer.new) (lines.old ++ step_line_text number StepRefusal.BadStep) lines.new) }
+    // What the line says is done, or its refusal is written, and nothing else.
+    ensures ok { OnOk result ((text : List ℕ) × TakesLine run.old number line.now run.new text × Leaves (W.contents writer.old) (W.contents writer.new) (lines.old ++ text) lines.new) }
+    ensures config { run.new.config ≡ run.old.config }
+    ensures deciders { run.new.deciders ≡ run.old.deciders }
+    ensures events { run.new.events ≡ run.old.events }
 {
     let Some(said) = read_step(run.config, run.deciders, line) else {
         return lines.refused_step(writer, number, StepRefusal::BadStep);
@@ -352,15 +357,27 @@ fn do_step(run: &mut Run<'_>, said: StepLine) -> Result<(), StepFault>
     requires stands { RunStands run.old }
     requires plain { IsPlainLine run.old.config.now said }
     ensures stands { RunStands run.new }
+    ensures refused { IsErrOf result StepFault.NotEnabled ↔ ¬ IsEnabledIn run.old said }
+    ensures ok { OnOk result (Does run.old said run.new) }
+    ensures err { OnErr result (world_state run.new.world ≡ world_state run.old.world) }
+    ensures posted { OnErr result (run.new.posted ≡ run.old.posted) }
+    ensures settings { world_settings run.new.world ≡ world_settings run.old.world }
+    ensures config { run.new.config ≡ run.old.config }
+    ensures deciders { run.new.deciders ≡ run.old.deciders }
+    ensures events { run.new.events ≡ run.old.events }
 {
     match said {
         StepLine::PostNext => {
             let Some(event) = run.events.get(run.posted) else {
                 return Err(StepFault::NotEnabled);
             };
-            run.world.apply(Step::Post(*event))?;
-            run.posted += 1;
-            Ok(())
+            match run.world.apply(Step::Post(*event)) {
+                Ok(()) => {
+                    run.posted += 1;
+                    Ok(())
+                }
+                Err(fault) => Err(fault),
+            }
         }
         StepLine::Do(step) => run.world.apply(step),
     }
@@ -374,6 +391,7 @@ fn tell_lanes<W: Write>(
     run: &Run<'_>,
 ) -> Result<(), ReplayFault>
     requires stands { RunStands run.now }
+    ensures told { OnOk result (Leaves (W.contents writer.old) (W.contents writer.new) (lines.old ++ world_text (world_settings run.now.world) (world_state run.now.world)) lines.new) }
     ensures fault { IfErr result (λ fault. IsWriteFault fault) }
 {
     for lane in 0..run.config.lanes.len() {
@@ -392,6 +410,7 @@ fn tell_lane<W: Write>(
 ) -> Result<(), ReplayFault>
     requires stands { RunStands run.now }
     requires lane { lane.0 < length run.now.config.now.lanes }
+    ensures told { OnOk result (Leaves (W.contents writer.old) (W.contents writer.new) (lines.old ++ lane_lines (world_settings run.now.world) (world_state run.now.world) lane.0) lines.new) }
     ensures fault { IfErr result (λ fault. IsWriteFault fault) }
 {
     for object in 0..run.config.objects.len() {
@@ -412,6 +431,7 @@ fn tell_line<W: Write>(
     requires stands { RunStands run.now }
     requires lane { lane.0 < length run.now.config.now.lanes }
     requires object { object.0 < length run.now.config.now.objects }
+    ensures told { OnOk result (Leaves (W.contents writer.old) (W.contents writer.new) (lines.old ++ held_text (world_settings run.now.world) (world_state run.now.world) lane.0 object.0) lines.new) }
     ensures fault { IfErr result (λ fault. IsWriteFault fault) }
 {
     match run.world.line(alloc, lane, object) {
