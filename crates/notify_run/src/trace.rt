@@ -93,8 +93,8 @@ struct Run<'a> {
 /// Reads object text up to a line `%events`, a feed up to a line `%steps`, and step lines, and does the steps in a
 /// world in which all lanes serve. It writes the refused lines of the feed, then those of the steps, and then what
 /// each lane holds of each object. A feed ends as a replay's does, and where it or the step lines can't be read to
-/// their end, what the lanes hold isn't written. Where the object text is refused nothing is written; where the output
-/// fails or memory runs out, a front of the lines was.
+/// their end, what the lanes hold isn't written. Where the object text is refused nothing is written. Where the output
+/// fails or memory runs out, some of the lines were: which, the contract doesn't say.
 pub fn trace<R: Read + Drop, W: Write>(
     alloc: Global,
     settings: TraceSettings,
