@@ -1,4 +1,4 @@
--- The book after an event is the book before it, told what became of the event.
+-- The book after an event is the book before it, with what became of the event.
 use Rattle.std.proofs.Common.{◌≡◌, ℕ, ◌+◌, ◌*◌, Bool, true, false, not, ◌&&◌, ◌==◌, List, [], ◌∷◌, Option, Some, None, if◌then◌else◌, is_some, refl, sym, ap, ◌∙◌, subst, cond, add_comm}
 use Rattle.std.proofs.lemmas.List.Sums.{sum_by-cons}
 use Rattle.std.proofs.lemmas.List.Elements.{All-tail}
@@ -12,17 +12,17 @@ use Rattle.due_model.specs.declared.notice.Kind.TheVariants as kind
 use Rattle.due_model.specs.declared.notice.Filter.TheVariants as filter
 use Rattle.due_model.specs.declared.notice.Outcome.{Outcome}
 use Rattle.due_model.specs.declared.notice.Outcome.TheVariants.{Nothing, Sent, Suppressed}
-use Rattle.due_model.specs.declared.rules.Standing.{Standing}
+use Rattle.due_model.specs.declared.rules.ObjectStatus.{ObjectStatus}
 use Rattle.due_model.specs.declared.state.State.{State}
 use Rattle.due_model.specs.declared.zone.Zone.{Zone}
 use Rattle.due_model.specs.Covered.{IsCovered}
 use Rattle.due_model.specs.Readings.{is_ok_state, is_problem_state, is_problem_of, moment, program_on, hard, begins, began, flapping}
 use Rattle.due_model.specs.Rules.{attempted, first_failing, next_notice, is_problem, is_recovery, is_too_soon}
-use Rattle.due_model.specs.Histories.{hist, notice_of, before, notices_sent, last_notice, ready, standing, number_after, outcome}
-use Rattle.due_model.proofs.Coverage.{IsPlainEvent, IsPlainPast, IsPlainObject, IsOfHost, IsOfHost-hard, depth-covered, flapping-covered, plain_outcome_of, outcome-covered}
+use Rattle.due_model.specs.Histories.{hist, notice_of, before, notices_sent, last_notice, ready, status_after, number_after, outcome}
+use Rattle.lemmas.proofs.Coverage.{IsPlainEvent, IsPlainPast, IsPlainObject, IsOfHost, IsOfHost-hard, depth-covered, flapping-covered, plain_outcome_of, outcome-covered}
 use Rattle.decider.specs.declared.book.Book.{Book}
-use Rattle.decider.specs.declared.book.Now.{Now}
-use Rattle.decider.specs.Books.{empty_book, book_after, judged_by_book, told_of, told_kind, told_by_book, problem, book_by, book_of, told_outcome, told_at}
+use Rattle.decider.specs.declared.book.EventContext.{EventContext}
+use Rattle.decider.specs.Book.{empty_book, book_after, judged_by_book, decision_of, decide_kind, decide_by_book, problem, book_by, book_of, decision_with, decision_at}
 
 -- what becomes of an attempt, by the tests that can stop it
 abbrev by_tests : Kind → State → (number t gap : ℕ) → (program no_problem interval : Bool) → Outcome
@@ -83,14 +83,14 @@ module _ (c : Config) (zone : Zone) (object : Object) (began : ℕ) (outcomes : 
   after_interval kind.DowntimeEnd s number t = refl
   after_interval kind.DowntimeCancelled s number t = refl
 
-  -- what is told of an attempt that these tests judge
-  told_judged : (o : ℕ) (k : Kind) (s : State) (number t gap : ℕ) (program no_problem interval : Bool)
-      → (λ (x : Outcome). told_of o (book_by c zone object began outcomes) x) (by_tests k s number t gap program no_problem interval)
-      ≡ told_outcome o (by_tests k s number t gap program no_problem interval) (book_by c zone object began (by_tests k s number t gap program no_problem interval ∷ outcomes))
-  told_judged o k s number t gap true no_problem interval = ap (λ book. record { object = record { 0 = o }; outcome = Suppressed k s number t filter.Program; book = book } ∷ []) (after_program k s number t)
-  told_judged o k s number t gap false true interval = ap (λ book. record { object = record { 0 = o }; outcome = Suppressed k s number t filter.NoProblem; book = book } ∷ []) (after_no_problem k s number t)
-  told_judged o k s number t gap false false true = ap (λ book. record { object = record { 0 = o }; outcome = Suppressed k s number t filter.Interval; book = book } ∷ []) (after_interval k s number t)
-  told_judged o k s number t gap false false false = ap (λ book. record { object = record { 0 = o }; outcome = Sent k s number t gap; book = book } ∷ []) (after_sent k s number t gap)
+  -- what is decided of an attempt that these tests judge
+  decision_judged : (o : ℕ) (k : Kind) (s : State) (number t gap : ℕ) (program no_problem interval : Bool)
+      → (λ (x : Outcome). decision_of o (book_by c zone object began outcomes) x) (by_tests k s number t gap program no_problem interval)
+      ≡ decision_with o (by_tests k s number t gap program no_problem interval) (book_by c zone object began (by_tests k s number t gap program no_problem interval ∷ outcomes))
+  decision_judged o k s number t gap true no_problem interval = ap (λ book. record { object = record { 0 = o }; outcome = Suppressed k s number t filter.Program; book = book } ∷ []) (after_program k s number t)
+  decision_judged o k s number t gap false true interval = ap (λ book. record { object = record { 0 = o }; outcome = Suppressed k s number t filter.NoProblem; book = book } ∷ []) (after_no_problem k s number t)
+  decision_judged o k s number t gap false false true = ap (λ book. record { object = record { 0 = o }; outcome = Suppressed k s number t filter.Interval; book = book } ∷ []) (after_interval k s number t)
+  decision_judged o k s number t gap false false false = ap (λ book. record { object = record { 0 = o }; outcome = Sent k s number t gap; book = book } ∷ []) (after_sent k s number t gap)
 
 -- the book with which an event begins, by the definitions
 begun_law : (c : Config) (zone : Zone) (o : ℕ) (object : Object) (b : Bool) (m was : ℕ) (outcomes : List Outcome)
@@ -105,7 +105,7 @@ problem_attempted true false rest h = refl
 problem_attempted false q rest h = refl
 
 -- so where an event attempts nothing, no problem begins
-begins_none : (o : ℕ) (k : EventKind) (old : Standing) (ready : Option ℕ) (t : ℕ) → attempted o k old ready t ≡ None → (is_problem_of o k && not (is_problem_state old.state)) ≡ false
+begins_none : (o : ℕ) (k : EventKind) (old : ObjectStatus) (ready : Option ℕ) (t : ℕ) → attempted o k old ready t ≡ None → (is_problem_of o k && not (is_problem_state old.state)) ≡ false
 begins_none o event.Clock old ready t h = refl
 begins_none o (event.Program on) old ready t h = refl
 begins_none o (event.Hard p s) old ready t h =
@@ -115,8 +115,8 @@ begins_none o (event.Flapping p starts) old ready t h = refl
 
 module _ (c : Config) (zone : Zone) (o : ℕ) (object : Object) (e : Event) (past : List Event) where
   -- what an event finds
-  abbrev pub now_at : Now
-  now_at = record { kind = e.kind; moment = moment (e ∷ past); program = program_on (e ∷ past) }
+  abbrev pub context_at : EventContext
+  context_at = record { kind = e.kind; moment = moment (e ∷ past); program = program_on (e ∷ past) }
 
   -- the outcomes of the problem from before the event
   abbrev earlier : List Outcome
@@ -126,14 +126,14 @@ module _ (c : Config) (zone : Zone) (o : ℕ) (object : Object) (e : Event) (pas
   abbrev becomes : Option Kind → Outcome
   becomes attempt = plain_outcome_of object (program_on (e ∷ past)) (notices_sent earlier) (last_notice earlier) (hard o (e ∷ past)) (moment (e ∷ past)) attempt
 
-  told_kind_law : (attempt : Option Kind)
-      → told_kind o object.interval now_at (hard o past) (book_of c zone o object past) attempt
-      ≡ told_outcome o (becomes attempt) (book_by c zone object (began o (e ∷ past)) (becomes attempt ∷ earlier))
-  told_kind_law None = refl
-  told_kind_law (Some k) =
-      ap (λ (begun : Book). told_of o begun (judged_by_book object.interval (program_on (e ∷ past)) begun k (hard o (e ∷ past)) (moment (e ∷ past))))
+  decide_kind_law : (attempt : Option Kind)
+      → decide_kind o object.interval context_at (hard o past) (book_of c zone o object past) attempt
+      ≡ decision_with o (becomes attempt) (book_by c zone object (began o (e ∷ past)) (becomes attempt ∷ earlier))
+  decide_kind_law None = refl
+  decide_kind_law (Some k) =
+      ap (λ (begun : Book). decision_of o begun (judged_by_book object.interval (program_on (e ∷ past)) begun k (hard o (e ∷ past)) (moment (e ∷ past))))
       (begun_law c zone o object (begins o e past) (moment (e ∷ past)) (began o past) (problem c zone o object past))
-      ∙ told_judged c zone object (began o (e ∷ past)) earlier o k (hard o (e ∷ past)) (number_after (notices_sent earlier) k) (moment (e ∷ past))
+      ∙ decision_judged c zone object (began o (e ∷ past)) earlier o k (hard o (e ∷ past)) (number_after (notices_sent earlier) k) (moment (e ∷ past))
       (if is_problem k then 60 * object.interval else 0)
       (not (program_on (e ∷ past))) (is_recovery k && notices_sent earlier == 0) (is_problem k && is_too_soon (last_notice earlier) (hard o (e ∷ past)) (moment (e ∷ past)))
 
@@ -143,39 +143,39 @@ module _ (c : Config) (zone : Zone) (o : ℕ) (object : Object) (e : Event) (pas
   book_step = refl
 
   module _ (covered : IsCovered c) (known : IsPlainObject c o object) (plain : IsPlainPast c (e ∷ past)) where
-    standing_law : record { state = hard o past; depth = 0; flapping = false } ≡ standing o past
-    standing_law =
+    status_law : record { state = hard o past; depth = 0; flapping = false } ≡ status_after o past
+    status_law =
         let before : IsPlainPast c past = All-tail (IsPlainEvent c) e past plain in
-        sym (ap (λ (d : ℕ). let stands : Standing = record { state = hard o past; depth = d; flapping = flapping o past } in stands) (depth-covered c o past before)
-        ∙ ap (λ (f : Bool). let stands : Standing = record { state = hard o past; depth = 0; flapping = f } in stands) (flapping-covered c o past before))
+        sym (ap (λ (d : ℕ). let status : ObjectStatus = record { state = hard o past; depth = d; flapping = flapping o past } in status) (depth-covered c o past before)
+        ∙ ap (λ (f : Bool). let status : ObjectStatus = record { state = hard o past; depth = 0; flapping = f } in status) (flapping-covered c o past before))
 
-    -- what an event tells by the book is what it tells by the definitions
-    pub told_law : told_by_book o object.interval now_at (hard o past) (book_of c zone o object past) ≡ told_at c zone o object e past
-    told_law =
-        ap (λ (stands : Standing). told_kind o object.interval now_at (hard o past) (book_of c zone o object past)
-        (attempted o e.kind stands (ready c zone object (began o past) (problem c zone o object past)) (moment (e ∷ past)))) standing_law
-        ∙ told_kind_law (attempted o e.kind (standing o past) (ready c zone object (began o past) (problem c zone o object past)) (moment (e ∷ past)))
-        ∙ sym (ap (λ x. told_outcome o x (book_by c zone object (began o (e ∷ past)) (x ∷ earlier))) (outcome-covered c zone o object e past (hist c zone o object past) covered known plain))
-        ∙ sym (ap (told_outcome o (outcome c zone o object e past (hist c zone o object past))) book_step)
+    -- what an event decides by the book is what it decides by the definitions
+    pub decision_law : decide_by_book o object.interval context_at (hard o past) (book_of c zone o object past) ≡ decision_at c zone o object e past
+    decision_law =
+        ap (λ (status : ObjectStatus). decide_kind o object.interval context_at (hard o past) (book_of c zone o object past)
+        (attempted o e.kind status (ready c zone object (began o past) (problem c zone o object past)) (moment (e ∷ past)))) status_law
+        ∙ decide_kind_law (attempted o e.kind (status_after o past) (ready c zone object (began o past) (problem c zone o object past)) (moment (e ∷ past)))
+        ∙ sym (ap (λ x. decision_with o x (book_by c zone object (began o (e ∷ past)) (x ∷ earlier))) (outcome-covered c zone o object e past (hist c zone o object past) covered known plain))
+        ∙ sym (ap (decision_with o (outcome c zone o object e past (hist c zone o object past))) book_step)
 
-    -- an attempt that is told of is no nothing
-    by_tests_told : (k : Kind) (s : State) (number t gap : ℕ) (program no_problem interval : Bool) → by_tests k s number t gap program no_problem interval ≡ Nothing → ⊥
-    by_tests_told k s number t gap true no_problem interval h = cc
-    by_tests_told k s number t gap false true interval h = cc
-    by_tests_told k s number t gap false false true h = cc
-    by_tests_told k s number t gap false false false h = cc
+    -- an attempt becomes something
+    by_tests_attempted : (k : Kind) (s : State) (number t gap : ℕ) (program no_problem interval : Bool) → by_tests k s number t gap program no_problem interval ≡ Nothing → ⊥
+    by_tests_attempted k s number t gap true no_problem interval h = cc
+    by_tests_attempted k s number t gap false true interval h = cc
+    by_tests_attempted k s number t gap false false true h = cc
+    by_tests_attempted k s number t gap false false false h = cc
 
     becomes_none : (attempt : Option Kind) → becomes attempt ≡ Nothing → attempt ≡ None
     becomes_none None h = refl
-    becomes_none (Some k) h = absurd (by_tests_told k (hard o (e ∷ past)) (number_after (notices_sent earlier) k) (moment (e ∷ past)) (if is_problem k then 60 * object.interval else 0)
+    becomes_none (Some k) h = absurd (by_tests_attempted k (hard o (e ∷ past)) (number_after (notices_sent earlier) k) (moment (e ∷ past)) (if is_problem k then 60 * object.interval else 0)
         (not (program_on (e ∷ past))) (is_recovery k && notices_sent earlier == 0) (is_problem k && is_too_soon (last_notice earlier) (hard o (e ∷ past)) (moment (e ∷ past))) h)
 
-    -- where nothing is told the book stays
+    -- where nothing is decided the book stays
     pub quiet_law : outcome c zone o object e past (hist c zone o object past) ≡ Nothing → book_of c zone o object (e ∷ past) ≡ book_of c zone o object past
     quiet_law quiet =
         let became = sym (outcome-covered c zone o object e past (hist c zone o object past) covered known plain) ∙ quiet in
-        let none = becomes_none (attempted o e.kind (standing o past) (ready c zone object (began o past) (problem c zone o object past)) (moment (e ∷ past))) became in
-        let goes_on : begins o e past ≡ false = begins_none o e.kind (standing o past) (ready c zone object (began o past) (problem c zone o object past)) (moment (e ∷ past)) none in
+        let none = becomes_none (attempted o e.kind (status_after o past) (ready c zone object (began o past) (problem c zone o object past)) (moment (e ∷ past))) became in
+        let goes_on : begins o e past ≡ false = begins_none o e.kind (status_after o past) (ready c zone object (began o past) (problem c zone o object past)) (moment (e ∷ past)) none in
         book_step ∙ ap (λ x. book_by c zone object (began o (e ∷ past)) (x ∷ earlier)) quiet
         ∙ ap (λ b. book_by c zone object (if b then moment (e ∷ past) else began o past) (if b then [] else problem c zone o object past)) goes_on
 
@@ -195,4 +195,4 @@ module _ (c : Config) (zone : Zone) (o : ℕ) (object : Object) (e : Event) (pas
     pub goes_out : GoesOutOfHost (outcome c zone o object e past (hist c zone o object past))
     goes_out =
         subst GoesOutOfHost (sym (outcome-covered c zone o object e past (hist c zone o object past) covered known plain))
-        (becomes_of_host (attempted o e.kind (standing o past) (ready c zone object (began o past) (problem c zone o object past)) (moment (e ∷ past))))
+        (becomes_of_host (attempted o e.kind (status_after o past) (ready c zone object (began o past) (problem c zone o object past)) (moment (e ∷ past))))

@@ -1,7 +1,7 @@
-pub mod ListLemmas
+pub mod OutboxLaws
 pub mod BookLaws
-pub mod Numbers
-pub mod TellLaws
+pub mod DecisionLaws
 pub mod SettleLaws
-pub mod GainLaws
+pub mod EntryLaws
 pub mod FitLaws
+pub mod LaneLaws

@@ -1,5 +1,8 @@
-pub mod Outboxes
-pub mod Books
-pub mod Gains
-pub mod Logs
-pub mod Kept
+pub mod Share
+pub mod Book
+pub mod Entries
+pub mod Decisions
+pub mod Log
+pub mod Outbox
+pub mod Decider
+pub mod Fits

@@ -6,7 +6,7 @@ ghost use Rattle.due_model.specs.Rules.{is_problem};
 use due_model::config::ObjectId;
 use due_model::event::EventKind;
 use due_model::notice::{Filter, Kind, Outcome};
-use due_model::rules::{Last, Standing, attempted, is_too_soon, next_notice};
+use due_model::rules::{Last, ObjectStatus, attempted, is_too_soon, next_notice};
 use due_model::state::State;
 
 /// What is kept of an object's last problem.
@@ -20,9 +20,9 @@ pub(crate) struct Book {
     pub(crate) ready: Option<u64>,
 }
 
-/// What an event makes of an object: an outcome that tells something, and the book after it.
+/// What is decided of an object at an event: what becomes of an attempt, and the book after it.
 #[derive(Clone, Copy)]
-pub(crate) struct Told {
+pub(crate) struct Decision {
     pub(crate) object: ObjectId,
     pub(crate) outcome: Outcome,
     pub(crate) book: Book,
@@ -30,7 +30,7 @@ pub(crate) struct Told {
 
 /// What an event finds.
 #[derive(Clone, Copy)]
-pub(crate) struct Now {
+pub(crate) struct EventContext {
     pub(crate) kind: EventKind,
     /// The moment, the greatest stamp up to this event.
     pub(crate) moment: u64,
@@ -39,7 +39,7 @@ pub(crate) struct Now {
 }
 
 impl Book {
-    ghost use Rattle.decider.specs.Books.{empty_book, book_after, IsBounded};
+    ghost use Rattle.decider.specs.Book.{empty_book, book_after, IsBounded};
 
     /// Of a problem that has just begun.
     pub(crate) const EMPTY: Book = Book {
@@ -81,7 +81,7 @@ impl Book {
 
 impl Book {
     ghost use Rattle.std.specs.Option.{option_to_list};
-    ghost use Rattle.decider.specs.Books.{retry, IsBounded, LastIsBounded, book_at, stopped_by, judged_by_book, told_by_book, told_kind};
+    ghost use Rattle.decider.specs.Book.{retry, IsBounded, LastIsBounded, book_at, stopped_by, judged_by_book, decide_by_book, decide_kind};
 
     /// When the problem is attempted again after an attempt that this filter stopped.
     fn retry(self, moment: u64, filter: Filter) -> Option<u64>
@@ -96,8 +96,8 @@ impl Book {
         Some(moment + 60)
     }
 
-    /// The book with which an event begins, before which the object was in this state: an empty one where
-    /// a problem begins.
+    /// The book with which an event begins, before which the object was in this state: an empty one
+    /// where a problem begins.
     fn at(self, object: ObjectId, event: EventKind, state: State) -> Book
         ensures { result ≡ book_at object.0 event state self }
     {
@@ -109,69 +109,77 @@ impl Book {
     }
 
     /// The first filter that stops an attempt of a plain host.
-    fn stopped_by(self, now: Now, kind: Kind, state: State) -> Option<Filter>
+    fn stopped_by(self, context: EventContext, kind: Kind, state: State) -> Option<Filter>
         requires { LastIsBounded self.last }
-        ensures { result ≡ stopped_by now.program self kind state now.moment }
+        ensures { result ≡ stopped_by context.program self kind state context.moment }
     {
-        if !now.program {
+        if !context.program {
             return Some(Filter::Program);
         }
         match kind {
             Kind::Recovery if self.sent == 0 => Some(Filter::NoProblem),
-            Kind::Problem if is_too_soon(self.last, state, now.moment) => Some(Filter::Interval),
+            Kind::Problem if is_too_soon(self.last, state, context.moment) => Some(
+                Filter::Interval,
+            ),
             _ => None,
         }
     }
 
     /// What becomes of an attempt of a plain host with this interval.
-    fn judged(self, interval: u32, now: Now, kind: Kind, state: State) -> Outcome
+    fn judged(self, interval: u32, context: EventContext, kind: Kind, state: State) -> Outcome
         requires last { LastIsBounded self.last }
         requires sent { self.sent + 1 < 2 ^ 64 }
-        requires moment { now.moment + 60 * interval + 60 < 2 ^ 64 }
-        ensures outcome { result ≡ judged_by_book interval now.program self kind state now.moment }
+        requires moment { context.moment + 60 * interval + 60 < 2 ^ 64 }
+        ensures outcome { result
+            ≡ judged_by_book interval context.program self kind state context.moment }
         ensures bounded { IsBounded self result }
     {
         let number = kind.number_after(self.sent);
-        match self.stopped_by(now, kind, state) {
+        match self.stopped_by(context, kind, state) {
             None => Outcome::Sent {
                 kind,
                 state,
                 number,
-                moment: now.moment,
+                moment: context.moment,
                 gap: gap_of(interval, kind),
             },
             Some(filter) => Outcome::Suppressed {
                 kind,
                 state,
                 number,
-                moment: now.moment,
+                moment: context.moment,
                 filter,
             },
         }
     }
 
-    /// What an event tells of an object, in this state and with this book before it.
-    pub(crate) fn told(
+    /// What is decided of an object at an event, in this state and with this book before it.
+    pub(crate) fn decide(
         self,
         object: ObjectId,
         interval: u32,
-        now: Now,
+        context: EventContext,
         state: State,
-    ) -> Option<Told>
+    ) -> Option<Decision>
         requires last { LastIsBounded self.last }
         requires sent { self.sent + 1 < 2 ^ 64 }
-        requires moment { now.moment + 60 * interval + 60 < 2 ^ 64 }
-        ensures { option_to_list result ≡ told_by_book object.0 interval now state self }
+        requires moment { context.moment + 60 * interval + 60 < 2 ^ 64 }
+        ensures { option_to_list result ≡ decide_by_book object.0 interval context state self }
     {
-        let standing = Standing {
+        let status = ObjectStatus {
             state,
             depth: 0,
             flapping: false,
         };
-        let kind = attempted(object, now.kind, standing, self.ready, now.moment)?;
-        let begun = self.at(object, now.kind, state);
-        let outcome = begun.judged(interval, now, kind, now.kind.hard_after(object, state));
-        Some(Told {
+        let kind = attempted(object, context.kind, status, self.ready, context.moment)?;
+        let begun = self.at(object, context.kind, state);
+        let outcome = begun.judged(
+            interval,
+            context,
+            kind,
+            context.kind.hard_after(object, state),
+        );
+        Some(Decision {
             object,
             outcome,
             book: begun.after(outcome),

@@ -1,15 +1,18 @@
-//! A decider: it takes in the events one by one, and says of the objects that it owns which notices are
+//! A decider: it decides the events one by one, and says of the objects of its share which notices are
 //! due and which were suppressed.
 #![tactic(auto)]
 
 mod book;
 mod decider;
+mod decisions;
+mod entries;
+mod event_decider;
 mod log;
-mod notices;
 mod outbox;
-mod owned;
-mod stage;
+mod share;
 
-pub use decider::{DecideFault, Decider, EVENTS};
+pub use decider::Decider;
+pub use entries::Entry;
+pub use event_decider::{DecideFault, EventDecider};
 pub use outbox::Outbox;
-pub use owned::Owned;
+pub use share::Share;

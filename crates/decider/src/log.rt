@@ -1,34 +1,26 @@
 //! The suppressions that a decider has noted.
-//!
-//! As in an outbox, an event first adds its suppressions out of sight, and they count once it is decided.
 
-ghost use Rattle.std.specs.Prelude.{◌≤◌, vec_len};
+ghost use Rattle.std.specs.Prelude.{◌≡◌, ◌+◌, ◌≤◌, [], ◌∷◌, ◌++◌, length, filter, OnOk, vec_len, vec_capacity};
+ghost use Rattle.decider.specs.Entries.{suppression_in, suppressions_in};
+ghost use Rattle.decider.specs.Log.{noted, HasRoomFor};
 
+use crate::entries::{Entry, suppressions};
 use due_model::notice::Suppression;
 use std::alloc::{AllocError, Global};
 
 /// Suppressions in the order in which they were noted.
 #[derive(Drop)]
 pub(crate) struct Log {
-    /// Those that count, and behind them those that are staged.
     lines: Vec<Suppression>,
-    /// How many count.
-    ready: usize,
-    ghost within: { ready ≤ vec_len lines },
 }
 
 impl Log {
-    ghost use Rattle.std.specs.Prelude.{◌≡◌, [], ◌∷◌, ◌++◌, OnOk};
-    ghost use Rattle.decider.specs.Logs.{noted, staged};
-
     /// Nothing is noted.
     pub(crate) fn new(alloc: Global) -> Self
-        ensures noted { noted result ≡ [] }
-        ensures staged { staged result ≡ [] }
+        ensures { noted result ≡ [] }
     {
         Log {
             lines: Vec::new(alloc),
-            ready: 0,
         }
     }
 
@@ -36,40 +28,43 @@ impl Log {
     pub(crate) fn lines(&self) -> &[Suppression]
         ensures { result.now ≡ noted self.now }
     {
-        &self.lines[..self.ready]
+        self.lines.as_slice()
     }
 
-    /// Stages a suppression. A refused growth changes nothing.
-    pub(crate) fn stage(&mut self, line: Suppression) -> Result<(), AllocError>
+    /// Makes room for the suppressions among these entries. A refused growth changes nothing.
+    pub(crate) fn reserve(&mut self, entries: &[Entry]) -> Result<(), AllocError>
         ensures noted { noted self.new ≡ noted self.old }
-        ensures ok { OnOk result (staged self.new ≡ staged self.old ++ line ∷ []) }
+        ensures room { OnOk result (HasRoomFor self.new entries.now) }
     {
-        self.lines.push(line)?;
-        Ok(())
+        let more = suppressions(entries);
+        self.lines.reserve(more)
     }
 
-    /// Drops what is staged.
-    pub(crate) fn discard(&mut self)
-        ensures noted { noted self.new ≡ noted self.old }
-        ensures staged { staged self.new ≡ [] }
+    /// Notes the suppressions among these entries, in their order.
+    pub(crate) fn note(&mut self, entries: &[Entry])
+        requires { HasRoomFor self.old entries.now }
+        ensures { noted self.new ≡ noted self.old ++ suppressions_in entries.now }
     {
-        self.lines.truncate(self.ready);
+        for entry in entries {
+            self.note_one(entry);
+        }
+    }
+
+    /// Notes the suppression that an entry is, if it is one.
+    fn note_one(&mut self, entry: &Entry)
+        requires { HasRoomFor self.old (entry.now ∷ []) }
+        ensures noted { noted self.new ≡ noted self.old ++ suppression_in entry.now }
+        ensures room { vec_capacity self.new.lines ≡ vec_capacity self.old.lines }
+    {
+        if let Entry::Withheld(suppression) = entry {
+            self.lines.push_reserved(*suppression);
+        }
     }
 
     /// Forgets all of it, and keeps the room.
     pub(crate) fn clear(&mut self)
-        ensures noted { noted self.new ≡ [] }
-        ensures staged { staged self.new ≡ [] }
+        ensures { noted self.new ≡ [] }
     {
-        self.ready = 0;
         self.lines.clear();
-    }
-
-    /// What is staged counts from now on.
-    pub(crate) fn commit(&mut self)
-        ensures noted { noted self.new ≡ noted self.old ++ staged self.old }
-        ensures staged { staged self.new ≡ [] }
-    {
-        self.ready = self.lines.len();
     }
 }

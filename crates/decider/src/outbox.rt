@@ -1,108 +1,22 @@
 //! The notices of one decider that wait for the queues of their lanes.
-//!
-//! An event first adds its notices behind those that wait, out of sight. They wait too once the whole
-//! event is decided, and are dropped where it isn't.
 
-ghost use Rattle.std.specs.Prelude.{◌≤◌};
-ghost use Rattle.std.specs.VecDeque.{deque_len};
-
+use crate::entries::{Entry, notices_for};
 use due_model::config::LaneId;
 use due_model::notice::Notice;
 use std::alloc::{AllocError, Global};
 use std::collections::VecDeque;
 
-/// The notices for one lane.
-#[derive(Drop)]
-pub(crate) struct LaneOutbox {
-    /// Those that wait, the oldest first, and behind them those that are staged.
-    notices: VecDeque<Notice>,
-    /// How many wait.
-    ready: usize,
-    ghost within: { ready ≤ deque_len notices },
-}
-
 /// The notices of one decider that wait for the queues of their lanes: a list for each lane.
 #[derive(Drop)]
 pub struct Outbox {
-    pub(crate) lanes: Vec<LaneOutbox>,
-}
-
-impl LaneOutbox {
-    ghost use Rattle.std.specs.Prelude.{◌≡◌, [], ◌∷◌, ◌++◌, drop, length, slice_get, OnOk};
-    ghost use Rattle.decider.specs.Outboxes.{waiting, staged};
-
-    /// Nothing waits.
-    fn new(alloc: Global) -> Self
-        ensures waiting { waiting result ≡ [] }
-        ensures staged { staged result ≡ [] }
-    {
-        LaneOutbox {
-            notices: VecDeque::new(alloc),
-            ready: 0,
-        }
-    }
-
-    /// How many wait.
-    fn waiting(&self) -> usize
-        ensures { result ≡ length (waiting self.now) }
-    {
-        self.ready
-    }
-
-    /// The notice at this place among those that wait, the oldest at 0.
-    fn get(&self, place: usize) -> Option<Notice>
-        ensures { result ≡ slice_get (waiting self.now) place }
-    {
-        if place >= self.ready {
-            return None;
-        }
-        self.notices.get(place).copied()
-    }
-
-    /// Takes the notice that has waited longest.
-    fn take_front(&mut self) -> Option<Notice>
-        ensures first { result ≡ slice_get (waiting self.old) 0 }
-        ensures rest { waiting self.new ≡ drop 1 (waiting self.old) }
-    {
-        if self.ready == 0 {
-            return None;
-        }
-        let first = self.notices.pop_front();
-        if first.is_some() {
-            self.ready -= 1;
-        }
-        first
-    }
-
-    /// Stages a notice. A refused growth changes nothing.
-    fn stage(&mut self, notice: Notice) -> Result<(), AllocError>
-        ensures waiting { waiting self.new ≡ waiting self.old }
-        ensures ok { OnOk result (staged self.new ≡ staged self.old ++ notice ∷ []) }
-    {
-        self.notices.push_back(notice)?;
-        Ok(())
-    }
-
-    /// Drops what is staged.
-    fn discard(&mut self)
-        ensures waiting { waiting self.new ≡ waiting self.old }
-        ensures staged { staged self.new ≡ [] }
-    {
-        self.notices.truncate(self.ready);
-    }
-
-    /// What is staged waits from now on.
-    fn commit(&mut self)
-        ensures waiting { waiting self.new ≡ waiting self.old ++ staged self.old }
-        ensures staged { staged self.new ≡ [] }
-    {
-        self.ready = self.notices.len();
-    }
+    /// Those for each lane, the oldest first.
+    pub(crate) lanes: Vec<VecDeque<Notice>>,
 }
 
 impl Outbox {
-    ghost use Rattle.std.specs.Prelude.{◌≡◌, ℕ, ◌<◌, [], ◌++◌, drop, length, replicate, slice_get, slice_set, IfOk, OnOk};
-    ghost use Rattle.decider.specs.Outboxes.{lists, waiting_at, staged_at, notice_on};
+    ghost use Rattle.std.specs.Prelude.{◌≡◌, ◌≢◌, ℕ, ◌<◌, ◌≤◌, ◌+◌, ◌++◌, [], ◌∷◌, drop, length, replicate, slice_get, slice_set, IfOk, OnOk};
+    ghost use Rattle.decider.specs.Entries.{notices_on};
+    ghost use Rattle.decider.specs.Outbox.{lists, spare_at, waiting_at, count_for, HasRoomFor};
 
     /// An outbox for so many lanes, in which nothing waits.
     pub fn new(alloc: Global, lanes: usize) -> Result<Outbox, AllocError>
@@ -110,7 +24,7 @@ impl Outbox {
     {
         let mut made = Vec::with_capacity(alloc, lanes)?;
         for _lane in 0..lanes {
-            made.push(LaneOutbox::new(alloc))?;
+            made.push(VecDeque::new(alloc))?;
         }
         Ok(Outbox { lanes: made })
     }
@@ -122,21 +36,21 @@ impl Outbox {
         self.lanes.as_slice().len()
     }
 
-    /// How many notices wait for this lane. What is staged doesn't count.
+    /// How many notices wait for this lane.
     pub fn waiting(&self, lane: LaneId) -> usize
         requires { lane.0 < length (lists self.now) }
         ensures { result ≡ length (waiting_at self.now lane.0) }
     {
-        self.lanes[lane.0 as usize].waiting()
+        self.lanes[lane.0 as usize].len()
     }
 
-    /// The notice at a place among those that wait for this lane, the one that has waited longest at 0. What is
-    /// staged is not seen. It takes no memory.
+    /// The notice at a place among those that wait for this lane, the one that has waited longest at 0.
+    /// It takes no memory.
     pub fn get(&self, lane: LaneId, place: usize) -> Option<Notice>
         requires { lane.0 < length (lists self.now) }
         ensures { result ≡ slice_get (waiting_at self.now lane.0) place }
     {
-        self.lanes[lane.0 as usize].get(place)
+        self.lanes[lane.0 as usize].get(place).copied()
     }
 
     /// The notice that has waited longest for this lane. It takes no memory.
@@ -151,41 +65,64 @@ impl Outbox {
     pub fn take_front(&mut self, lane: LaneId) -> Option<Notice>
         requires { lane.0 < length (lists self.old) }
         ensures first { result ≡ slice_get (waiting_at self.old lane.0) 0 }
-        ensures rest { lists self.new ≡ slice_set (lists self.old) lane.0 (drop 1 (waiting_at self.old lane.0)) }
+        ensures rest { lists self.new
+            ≡ slice_set (lists self.old) lane.0 (drop 1 (waiting_at self.old lane.0)) }
     {
-        let outbox = &mut self.lanes[lane.0 as usize];
-        outbox.take_front()
+        let queue = &mut self.lanes[lane.0 as usize];
+        queue.pop_front()
     }
 
-    /// Stages a notice for its lane. A refused growth leaves what waits.
-    pub(crate) fn stage(&mut self, notice: Notice) -> Result<(), AllocError>
-        requires { notice.lane.0 < length (lists self.old) }
+    /// Makes room in each lane for as many notices as these entries have for it. A refused growth leaves
+    /// what waits.
+    pub(crate) fn reserve(&mut self, entries: &[Entry]) -> Result<(), AllocError>
         ensures waiting { lists self.new ≡ lists self.old }
-        ensures ok { OnOk result ((l : ℕ) → staged_at self.new l ≡ staged_at self.old l ++ notice_on l notice) }
-    {
-        let outbox = &mut self.lanes[notice.lane.0 as usize];
-        outbox.stage(notice)
-    }
-
-    /// Drops what is staged.
-    pub(crate) fn discard(&mut self)
-        ensures waiting { lists self.new ≡ lists self.old }
-        ensures staged { (l : ℕ) → staged_at self.new l ≡ [] }
+        ensures room { OnOk result (HasRoomFor self.new entries.now) }
     {
         for lane in 0..self.lanes.len() {
-            let outbox = &mut self.lanes[lane];
-            outbox.discard();
+            self.reserve_lane(lane, entries)?;
+        }
+        Ok(())
+    }
+
+    /// Makes room in one lane for as many notices as these entries have for it.
+    fn reserve_lane(&mut self, lane: usize, entries: &[Entry]) -> Result<(), AllocError>
+        requires { lane < length (lists self.old) }
+        ensures waiting { lists self.new ≡ lists self.old }
+        ensures room { OnOk result (count_for lane entries.now ≤ spare_at self.new lane) }
+        ensures others { (l : ℕ) → l ≢ lane → spare_at self.new l ≡ spare_at self.old l }
+    {
+        let more = notices_for(entries, lane);
+        let queue = &mut self.lanes[lane];
+        queue.reserve(more)
+    }
+
+    /// Adds to each lane the notices that these entries have for it, in their order.
+    pub(crate) fn deliver(&mut self, entries: &[Entry])
+        requires { HasRoomFor self.old entries.now }
+        ensures lanes { length (lists self.new) ≡ length (lists self.old) }
+        ensures waiting { (l : ℕ) → l < length (lists self.old)
+            → waiting_at self.new l ≡ waiting_at self.old l ++ notices_on l entries.now }
+    {
+        for entry in entries {
+            self.deliver_one(entry);
         }
     }
 
-    /// What is staged waits from now on.
-    pub(crate) fn commit(&mut self)
+    /// Adds the notice that an entry is, if it is one, to its lane.
+    fn deliver_one(&mut self, entry: &Entry)
+        requires { HasRoomFor self.old (entry.now ∷ []) }
         ensures lanes { length (lists self.new) ≡ length (lists self.old) }
-        ensures waiting { (l : ℕ) → waiting_at self.new l ≡ waiting_at self.old l ++ staged_at self.old l }
+        ensures spare { (l : ℕ) → l < length (lists self.old)
+            → spare_at self.old l ≡ count_for l (entry.now ∷ []) + spare_at self.new l }
+        ensures waiting { (l : ℕ) → l < length (lists self.old)
+            → waiting_at self.new l ≡ waiting_at self.old l ++ notices_on l (entry.now ∷ []) }
     {
-        for lane in 0..self.lanes.len() {
-            let outbox = &mut self.lanes[lane];
-            outbox.commit();
+        if let Entry::Sent(notice) = entry {
+            let lane = notice.lane.0 as usize;
+            if lane < self.len() {
+                let queue = &mut self.lanes[lane];
+                queue.push_back_reserved(*notice);
+            }
         }
     }
 }

@@ -1,12 +1,1 @@
-pub mod Answered
-pub mod Begins
-pub mod Coverage
 pub mod ObjectIndex
-pub mod EachNotice
-pub mod Growth
-pub mod Notices
-pub mod Pasts
-pub mod Problems
-pub mod ReadingLaws
-pub mod SlowLemmas
-pub mod Verdicts

@@ -6,11 +6,11 @@ use Rattle.due_model.specs.declared.config.Rights.{Rights}
 use Rattle.due_model.specs.declared.event.Event.{Event}
 use Rattle.due_model.specs.declared.event.EventKind.{EventKind}
 use Rattle.due_model.specs.declared.event.EventKind.TheVariants.{Clock, Program, Hard, Downtime, Flapping}
-use Rattle.due_model.specs.declared.letters.Letters.{Letters}
-use Rattle.due_model.specs.Accepted.{IsProper}
+use Rattle.due_model.specs.declared.options.OptionLetters.{OptionLetters}
+use Rattle.due_model.specs.Proper.{IsProper}
 
 -- every letter of a host
-pub record HasHostLetters (set : Letters) : Type 0 where
+pub record HasHostLetters (set : OptionLetters) : Type 0 where
   pub down : set.down ≡ true
   pub unreachable : set.unreachable ≡ true
   pub recovery : set.recovery ≡ true
@@ -38,18 +38,18 @@ pub record IsCovered (c : Config) : Type 0 where
   pub no_escalation : c.escalations ≡ []
   pub no_dependency : c.dependencies ≡ []
 
--- the kinds of event that are taken in so far
-abbrev pub IsTakenIn : EventKind → Type 0
-IsTakenIn Clock = Unit {0}
-IsTakenIn (Program on) = Unit {0}
-IsTakenIn (Hard o state) = Unit {0}
-IsTakenIn (Downtime o change) = ⊥
-IsTakenIn (Flapping o starts) = ⊥
+-- the kinds of event that are supported so far
+abbrev pub IsSupported : EventKind → Type 0
+IsSupported Clock = Unit {0}
+IsSupported (Program on) = Unit {0}
+IsSupported (Hard o state) = Unit {0}
+IsSupported (Downtime o change) = ⊥
+IsSupported (Flapping o starts) = ⊥
 
--- an event that is proper and of a kind that is taken in
+-- an event that is proper and of a supported kind
 pub record IsPlainEvent (c : Config) (e : Event) : Type 0 where
   pub proper : IsProper c e
-  pub taken_in : IsTakenIn e.kind
+  pub supported : IsSupported e.kind
 
 -- object o of the configuration is a plain host
 pub record IsPlainObject (c : Config) (o : ℕ) (object : Object) : Type 0 where

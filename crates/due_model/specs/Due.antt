@@ -6,7 +6,7 @@ use Rattle.due_model.specs.declared.config.Contact.{Contact}
 use Rattle.due_model.specs.declared.config.Object.{Object}
 use Rattle.due_model.specs.declared.config.Rights.{Rights}
 use Rattle.due_model.specs.declared.event.Event.{Event}
-use Rattle.due_model.specs.declared.letters.Letter.TheVariants as letter
+use Rattle.due_model.specs.declared.options.OptionLetter.TheVariants as letter
 use Rattle.due_model.specs.declared.notice.Kind.{Kind}
 use Rattle.due_model.specs.declared.notice.Kind.TheVariants as kind
 use Rattle.due_model.specs.declared.notice.Notice.{Notice}
@@ -14,7 +14,8 @@ use Rattle.due_model.specs.declared.notice.Outcome.{Outcome}
 use Rattle.due_model.specs.declared.notice.Outcome.TheVariants.{Nothing, Sent, Suppressed}
 use Rattle.due_model.specs.declared.notice.Suppression.{Suppression}
 use Rattle.due_model.specs.declared.zone.Zone.{Zone}
-use Rattle.due_model.specs.Rules.{Attempt, contact_failing, letter_of}
+use Rattle.due_model.specs.declared.rules.Attempt.{Attempt}
+use Rattle.due_model.specs.Rules.{contact_failing, letter_of}
 use Rattle.due_model.specs.Escalations.{reach, contacts_with, has_contact}
 use Rattle.due_model.specs.Histories.{hist, outcome}
 

@@ -13,8 +13,10 @@ use Rattle.due_model.specs.declared.zone.Zone.{Zone}
 use Rattle.due_model.specs.Periods.{next_in}
 use Rattle.due_model.specs.Readings.{moment, program_on, hard, depth, down, flapping, begins, began}
 use Rattle.due_model.specs.declared.rules.Last.{Last}
-use Rattle.due_model.specs.declared.rules.Standing.{Standing}
-use Rattle.due_model.specs.Rules.{Attempt, View, attempted, failing, is_problem, letter_of, next_notice}
+use Rattle.due_model.specs.declared.rules.ObjectStatus.{ObjectStatus}
+use Rattle.due_model.specs.declared.rules.Attempt.{Attempt}
+use Rattle.due_model.specs.declared.rules.View.{View}
+use Rattle.due_model.specs.Rules.{attempted, failing, is_problem, letter_of, next_notice}
 use Rattle.due_model.specs.Escalations.{gap}
 use Rattle.due_model.specs.Dependencies.{dependency_fails}
 
@@ -74,9 +76,9 @@ ready c zone object began (Sent k state number moment gap ∷ history) =
 ready c zone object began (Suppressed k state number moment why ∷ history) =
     if is_problem k then retry_after c zone object began (last_notice history) moment why else ready c zone object began history
 
--- how the object stands after the past
-abbrev pub standing : ℕ → List Event → Standing
-standing o past = record { state = hard o past; depth = depth o past; flapping = flapping o past }
+-- the status of the object after the past
+abbrev pub status_after : ℕ → List Event → ObjectStatus
+status_after o past = record { state = hard o past; depth = depth o past; flapping = flapping o past }
 
 -- whether the object, or a service's host, is in downtime
 abbrev pub down_with_host : ℕ → Object → List Event → Bool
@@ -129,7 +131,7 @@ outcome_of c zone o object e past earlier (Some k) =
 abbrev pub outcome : Config → Zone → ℕ → Object → Event → List Event → List Outcome → Outcome
 outcome c zone o object e past history =
     outcome_of c zone o object e past (before o e past history)
-    (attempted o e.kind (standing o past) (ready c zone object (began o past) (of_problem o past history)) (moment (e ∷ past)))
+    (attempted o e.kind (status_after o past) (ready c zone object (began o past) (of_problem o past history)) (moment (e ∷ past)))
 
 -- the history with the outcome of one more event
 abbrev pub longer : Config → Zone → ℕ → Object → Event → List Event → List Outcome → List Outcome

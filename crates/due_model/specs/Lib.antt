@@ -1,3 +1,5 @@
+pub mod Limits
+pub mod Options
 pub mod Local
 pub mod Periods
 pub mod Readings
@@ -7,11 +9,6 @@ pub mod Dependencies
 pub mod Histories
 pub mod Due
 pub mod Accepted
+pub mod Proper
 pub mod Covered
-pub mod Laws
-pub mod LawsOfAttempts
-pub mod LawsOfReadings
-pub mod Rows
 pub mod Objects
-pub mod Slow
-pub mod SlowViews

@@ -6,18 +6,19 @@ use Rattle.due_model.specs.declared.event.DowntimeChange.{DowntimeChange}
 use Rattle.due_model.specs.declared.event.DowntimeChange.TheVariants as change
 use Rattle.due_model.specs.declared.state.State.{State}
 use Rattle.due_model.specs.declared.state.State.TheVariants as state
-use Rattle.due_model.specs.declared.letters.Letter.{Letter}
-use Rattle.due_model.specs.declared.letters.Letter.TheVariants as letter
-use Rattle.due_model.specs.declared.letters.Letters.{Letters}
+use Rattle.due_model.specs.declared.options.OptionLetter.{OptionLetter}
+use Rattle.due_model.specs.declared.options.OptionLetter.TheVariants as letter
+use Rattle.due_model.specs.declared.options.OptionLetters.{OptionLetters}
 use Rattle.due_model.specs.declared.notice.Kind.{Kind}
 use Rattle.due_model.specs.declared.notice.Kind.TheVariants as kind
 use Rattle.due_model.specs.declared.notice.Filter.{Filter}
 use Rattle.due_model.specs.declared.notice.Filter.TheVariants as filter
 use Rattle.due_model.specs.declared.config.Config.{Config}
-use Rattle.due_model.specs.declared.config.PeriodId.{PeriodId}
 use Rattle.due_model.specs.declared.config.Rights.{Rights}
-pub use Rattle.due_model.specs.declared.rules.Last.{Last}
-use Rattle.due_model.specs.declared.rules.Standing.{Standing}
+use Rattle.due_model.specs.declared.rules.Attempt.{Attempt}
+use Rattle.due_model.specs.declared.rules.Last.{Last}
+use Rattle.due_model.specs.declared.rules.ObjectStatus.{ObjectStatus}
+use Rattle.due_model.specs.declared.rules.View.{View}
 use Rattle.due_model.specs.declared.zone.Zone.{Zone}
 use Rattle.due_model.specs.Periods.{in_period}
 use Rattle.due_model.specs.Readings.{is_ok_state, is_problem_state, depth_changed}
@@ -27,7 +28,7 @@ abbrev pub has_come : Option ℕ → ℕ → Bool
 has_come None t = false
 has_come (Some ready) t = nat_le ready t
 
--- the kind of notification that tells of a change
+-- the kind of notification about a change
 abbrev pub downtime_kind : DowntimeChange → Kind
 downtime_kind change.Start = kind.DowntimeStart
 downtime_kind change.End = kind.DowntimeEnd
@@ -39,22 +40,22 @@ attempted_by_state old now =
     if is_problem_state now then Some kind.Problem
     else (if is_ok_state now && is_problem_state old then Some kind.Recovery else None)
 
--- downtime is told of where it begins to be in downtime, or ceases to be, with so many downtimes running before
+-- a downtime is notified of where the object comes into downtime or out of it, with so many downtimes running before
 abbrev pub attempted_by_downtime : (depth : ℕ) → DowntimeChange → Option Kind
 attempted_by_downtime depth change =
     if nat_lt 0 depth
     then (if nat_lt 0 (depth_changed change depth) then None else Some (downtime_kind change))
     else (if nat_lt 0 (depth_changed change depth) then Some (downtime_kind change) else None)
 
--- flapping is told of where it starts or stops
+-- flapping is notified of where it starts or stops
 abbrev pub attempted_by_flapping : (flapping starts : Bool) → Option Kind
 attempted_by_flapping flapping true = if flapping then None else Some kind.FlappingStart
 attempted_by_flapping flapping false = if flapping then Some kind.FlappingStop else None
 
--- What an event attempts on object o, which stood so before it and whose ready moment is that, at moment t
+-- What an event attempts on object o, of which this was the status before it, and that the ready moment, at moment t
 -- (chapter "Notifications", "When Do Notifications Occur?"). The clock attempts a problem again once its ready
 -- moment has come.
-abbrev pub attempted : ℕ → EventKind → Standing → Option ℕ → ℕ → Option Kind
+abbrev pub attempted : ℕ → EventKind → ObjectStatus → Option ℕ → ℕ → Option Kind
 attempted o event.Clock old ready t = if is_problem_state old.state && has_come ready t then Some kind.Problem else None
 attempted o (event.Program on) old ready t = None
 attempted o (event.Hard p now) old ready t = if p.0 == o then attempted_by_state old.state now else None
@@ -62,7 +63,7 @@ attempted o (event.Downtime p change) old ready t = if p.0 == o then attempted_b
 attempted o (event.Flapping p starts) old ready t = if p.0 == o then attempted_by_flapping old.flapping starts else None
 
 -- the letter of a state (chapter "Object Definitions", `notification_options`)
-abbrev pub state_letter : State → Letter
+abbrev pub state_letter : State → OptionLetter
 state_letter state.Pending = letter.Recovery
 state_letter state.Up = letter.Recovery
 state_letter state.Down = letter.Down
@@ -73,7 +74,7 @@ state_letter state.Unknown = letter.Unknown
 state_letter state.Critical = letter.Critical
 
 -- the letter of a notification: that of the state for a problem, else that of its kind
-abbrev pub letter_of : Kind → State → Letter
+abbrev pub letter_of : Kind → State → OptionLetter
 letter_of kind.Problem s = state_letter s
 letter_of kind.Recovery s = letter.Recovery
 letter_of kind.FlappingStart s = letter.Flapping
@@ -83,7 +84,7 @@ letter_of kind.DowntimeEnd s = letter.Downtime
 letter_of kind.DowntimeCancelled s = letter.Downtime
 
 -- whether a letter is in a set
-abbrev pub has_letter : Letters → Letter → Bool
+abbrev pub has_letter : OptionLetters → OptionLetter → Bool
 has_letter set letter.Down = set.down
 has_letter set letter.Unreachable = set.unreachable
 has_letter set letter.Warning = set.warning
@@ -107,32 +108,6 @@ state_number state.Critical = 7
 -- whether two states are one
 abbrev pub same_state : State → State → Bool
 same_state s t = state_number s == state_number t
-
--- a notification that is attempted
-pub record Attempt : Type 0 where
-  pub kind : Kind
-  pub state : State
-  pub moment : ℕ
-
--- what the filters of an object read
-pub record View : Type 0 where
-  -- the program switch is on
-  pub program : Bool
-  pub enabled : Bool
-  -- the object, or a service's host, is in downtime
-  pub down : Bool
-  pub flapping : Bool
-  pub options : Letters
-  -- how many problem notices of this problem went out
-  pub sent : ℕ
-  pub period : Option PeriodId
-  -- a notification dependency fails
-  pub depends : Bool
-  -- when this problem began
-  pub began : ℕ
-  -- `first_notification_delay`, in units of 60 seconds
-  pub delay : ℕ
-  pub last : Option Last
 
 -- the kinds of which a filter speaks
 abbrev pub is_problem : Kind → Bool

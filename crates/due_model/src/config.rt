@@ -4,8 +4,8 @@ ghost use Rattle.std.specs.Prelude.{◌≡◌};
 ghost use Rattle.due_model.specs.Due.{uses_lane};
 ghost use Rattle.due_model.specs.Escalations.{has_contact};
 
-use crate::letters::Letters;
 use crate::objects::Objects;
+use crate::options::OptionLetters;
 use crate::sequence::{Sequence, Text};
 use crate::state::StateSet;
 
@@ -35,7 +35,7 @@ pub struct Object {
     /// `notifications_enabled`.
     pub enabled: bool,
     /// `notification_options`.
-    pub options: Letters,
+    pub options: OptionLetters,
     /// `notification_period`; none is always.
     pub period: Option<PeriodId>,
     /// `notification_interval`, in units of 60 seconds: 0 to 1,000,000, and 0 is "never again".
@@ -74,7 +74,7 @@ pub struct Rights {
     /// `host_notifications_enabled` or `service_notifications_enabled`.
     pub enabled: bool,
     /// `host_notification_options` or `service_notification_options`.
-    pub options: Letters,
+    pub options: OptionLetters,
     /// `host_notification_period` or `service_notification_period`; none is always.
     pub period: Option<PeriodId>,
     /// `host_notification_commands` or `service_notification_commands`.
@@ -127,7 +127,7 @@ pub struct Escalation {
     /// `escalation_period`; none is always.
     pub period: Option<PeriodId>,
     /// `escalation_options`.
-    pub options: Letters,
+    pub options: OptionLetters,
     pub contacts: Sequence<ContactId>,
 }
 

@@ -1,19 +1,14 @@
-//! What the bodies can do so far, and which events are proper for a configuration.
+//! What the bodies can do so far. All of this goes once they can do everything.
 
-ghost use Rattle.std.specs.Prelude.{◌≡◌, ◌↔◌, IsTrue, is_some, ◌<◌, length, All};
-ghost use Rattle.due_model.specs.Accepted.{is_state_of, IsProper, KindIsProper, HasObject};
-ghost use Rattle.due_model.specs.Covered.{HasHostLetters, IsPlainHost, AreFullRights, IsCovered, IsTakenIn};
+ghost use Rattle.std.specs.Prelude.{◌≡◌, ◌↔◌, IsTrue, All};
+ghost use Rattle.due_model.specs.Covered.{HasHostLetters, IsPlainHost, AreFullRights, IsCovered, IsSupported};
 
-use crate::config::{Config, Contact, Object, ObjectId, Rights};
-use crate::event::{Event, EventKind};
-use crate::letters::Letters;
-use crate::state::State;
-
-/// The greatest stamp of an event, in seconds since the epoch: the end of the year 2999 in UTC.
-pub const LAST_MOMENT: u64 = 32_503_679_999;
+use crate::config::{Config, Contact, Object, Rights};
+use crate::event::EventKind;
+use crate::options::OptionLetters;
 
 /// Whether a set has every letter of a host.
-pub fn has_host_letters(set: &Letters) -> bool
+pub fn has_host_letters(set: &OptionLetters) -> bool
     ensures { IsTrue result ↔ HasHostLetters set.now }
 {
     set.down && set.unreachable && set.recovery && set.flapping && set.downtime
@@ -55,7 +50,7 @@ fn are_full_contacts(contacts: &[Contact]) -> bool
 
 /// Whether the bodies can do this configuration so far: plain hosts, contacts that restrict nothing of
 /// them, no escalation and no dependency. It takes no memory.
-pub fn covered(config: &Config) -> bool
+pub fn is_covered(config: &Config) -> bool
     ensures { IsTrue result ↔ IsCovered config.now }
 {
     are_plain_hosts(config.objects.as_slice())
@@ -65,60 +60,13 @@ pub fn covered(config: &Config) -> bool
 }
 
 impl EventKind {
-    /// Whether events of this kind are taken in so far.
-    pub fn is_taken_in(self) -> bool
-        ensures { IsTrue result ↔ IsTakenIn self }
+    /// Whether events of this kind are supported so far.
+    pub fn is_supported(self) -> bool
+        ensures { IsTrue result ↔ IsSupported self }
     {
         matches!(
             self,
             EventKind::Clock | EventKind::Program(_) | EventKind::Hard(_, _)
         )
     }
-}
-
-impl State {
-    /// Whether this is a hard state of a service, or of a host (chapter "State Types").
-    pub fn is_state_of(self, service: bool) -> bool
-        ensures { result ≡ is_state_of service self }
-    {
-        match self {
-            State::Pending => false,
-            State::Up | State::Down | State::Unreachable => !service,
-            State::Fine | State::Warning | State::Unknown | State::Critical => service,
-        }
-    }
-}
-
-/// Whether an object of this number is in the configuration.
-pub fn has_object(config: &Config, object: ObjectId) -> bool
-    ensures { IsTrue result ↔ HasObject config.now object.0 }
-{
-    (object.0 as usize) < config.objects.len()
-}
-
-/// Whether an event names an object of the configuration, if it names one, and a hard state is one of
-/// that object's kind.
-fn kind_is_proper(config: &Config, kind: EventKind) -> bool
-    ensures { IsTrue result ↔ KindIsProper config.now kind }
-{
-    match kind {
-        EventKind::Clock | EventKind::Program(_) => true,
-        EventKind::Hard(object, state) => {
-            match config.objects.as_slice().get(object.0 as usize) {
-                Some(object) => state.is_state_of(object.host.is_some()),
-                None => false,
-            }
-        }
-        EventKind::Downtime(object, _) | EventKind::Flapping(object, _) => has_object(
-            config, object,
-        ),
-    }
-}
-
-/// Whether the event is one that the feed gives: a stamp up to the end of the year 2999, and an object of
-/// the configuration with a hard state of its kind. It takes no memory.
-pub fn proper(config: &Config, event: &Event) -> bool
-    ensures { IsTrue result ↔ IsProper config.now event.now }
-{
-    event.moment <= LAST_MOMENT && kind_is_proper(config, event.kind)
 }

@@ -6,7 +6,7 @@ use crate::state::State;
 /// One event of the feed. Events are numbered from 0.
 #[derive(Clone, Copy, Debug, PartialEq, Eq)]
 pub struct Event {
-    /// The stamp, in seconds since the epoch: 0 to 32,503,679,999.
+    /// The stamp, in seconds since the epoch: 0 to `LAST_MOMENT`.
     pub moment: u64,
     pub kind: EventKind,
 }

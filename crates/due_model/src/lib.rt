@@ -5,13 +5,12 @@
 pub mod config;
 pub mod covered;
 pub mod event;
-pub mod laws;
-pub mod letters;
+pub mod limits;
 pub mod notice;
 pub mod objects;
-pub mod rows;
+pub mod options;
+pub mod proper;
 pub mod rules;
 pub mod sequence;
-pub mod slow;
 pub mod state;
 pub mod zone;

@@ -1,4 +1,4 @@
-//! What the rules make of an event: notices, and suppressions with the filter behind each.
+//! What the rules make of an event: notices, and suppressions, each with the filter that caused it.
 
 use crate::config::{ContactId, LaneId, ObjectId};
 use crate::state::State;
@@ -84,7 +84,7 @@ pub struct Suppression {
 /// What becomes of one object at one event.
 #[derive(Clone, Copy, Debug, PartialEq, Eq)]
 pub enum Outcome {
-    /// Nobody is to be told anything.
+    /// Nobody is to be notified.
     Nothing,
     /// A notice goes out. The gap is that of a problem notice to the next of the same state, in seconds,
     /// and 0 is "never again"; other kinds have the gap 0.

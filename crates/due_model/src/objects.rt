@@ -2,6 +2,7 @@
 
 ghost use Rattle.std.specs.Prelude.{◌≡◌, ◌+◌, ◌%◌, ◌++◌, ◌∷◌, [], ◌<◌, ◌≤◌, length, map, find, replicate, slice_index, slice_index_or, slice_range, slice_set, IfOk, OnOk, vec_len};
 ghost use Rattle.std.specs.Option.{option_copied};
+ghost use Rattle.due_model.specs.Limits.{max_objects};
 ghost use Rattle.due_model.specs.Objects.{IsIndexUpTo, has_hash_at, has_name_at, hash_of, is_hashed_name, is_named_at, name_hash, object_hash, object_named};
 
 use crate::config::{Object, ObjectId};
@@ -32,10 +33,10 @@ impl Model for Objects {
         × IsIndexUpTo s.items.items (length s.items.items) s.buckets };
 }
 
-/// Lists of objects, kept one behind the other. Contracts see the list of the lists.
+/// Lists of objects, kept one after the other. Contracts see the list of the lists.
 #[derive(Drop)]
 struct Buckets {
-    /// Where each list begins in `ids`, and behind the last one the length of `ids`.
+    /// Where each list begins in `ids`, and after the last one the length of `ids`.
     starts: Vec<usize>,
     ids: Vec<ObjectId>,
 }
@@ -88,7 +89,9 @@ fn part_at<'a>(starts: &[usize], ids: &'a [ObjectId], number: usize) -> &'a [Obj
     requires within { number + 1 < length starts.now }
     requires ordered { slice_index starts.now number ≤ slice_index starts.now (number + 1) }
     requires inside { slice_index starts.now (number + 1) ≤ length ids.now }
-    ensures { result.now ≡ slice_range ids.now (slice_index starts.now number) (slice_index starts.now (number + 1)) }
+    ensures { result.now
+        ≡ slice_range ids.now
+        (slice_index starts.now number) (slice_index starts.now (number + 1)) }
 {
     &ids[starts[number]..starts[number + 1]]
 }
@@ -97,7 +100,7 @@ impl Objects {
     /// Numbers the objects by their place and makes the index. The work grows with the objects and the
     /// bytes of their names. A refused growth drops the objects.
     pub fn new(alloc: Global, items: Vec<Object>) -> Result<Self, AllocError>
-        requires { vec_len items ≤ 65535 }
+        requires { vec_len items ≤ max_objects }
         ensures { IfOk result (λ objects. objects ≡ items.items) }
     {
         let hashes = hashes_of(alloc, items.as_slice())?;
@@ -160,9 +163,11 @@ fn index_of(
     objects: &[Object],
     hashes: &[u64],
 ) -> Result<Vec<Vec<ObjectId>>, AllocError>
-    requires few { length objects.now ≤ 65535 }
+    requires few { length objects.now ≤ max_objects }
     requires hashes { hashes.now ≡ map (object_hash objects.now) objects.now }
-    ensures { IfOk result (λ buckets. IsIndexUpTo objects.now (length objects.now) (map (λ bucket. bucket.items) buckets.items)) }
+    ensures { IfOk result
+        (λ buckets. IsIndexUpTo objects.now (length objects.now)
+        (map (λ bucket. bucket.items) buckets.items)) }
 {
     let mut buckets = empty_buckets(alloc, objects.len().max(1))?;
     for number in 0..objects.len() {
@@ -174,7 +179,8 @@ fn index_of(
 
 /// So many empty buckets.
 fn empty_buckets(alloc: Global, count: usize) -> Result<Vec<Vec<ObjectId>>, AllocError>
-    ensures { IfOk result (λ buckets. map (λ bucket. bucket.items) buckets.items ≡ replicate count []) }
+    ensures { IfOk result
+        (λ buckets. map (λ bucket. bucket.items) buckets.items ≡ replicate count []) }
 {
     let mut buckets = Vec::with_capacity(alloc, count)?;
     for _made in 0..count {
@@ -237,7 +243,10 @@ fn first_named(
     host: &[u8],
     service: Option<&[u8]>,
 ) -> Option<ObjectId>
-    ensures { result ≡ find (is_hashed_name objects.now hashes.now hash host.now (option_copied service.entry)) ids.now }
+    ensures { result
+        ≡ find
+        (is_hashed_name objects.now hashes.now hash host.now (option_copied service.entry))
+        ids.now }
 {
     ids.iter().copied().find(|id| is_hashed_name(objects, hashes, *id, hash, host, service))
 }
@@ -251,7 +260,8 @@ fn is_hashed_name(
     host: &[u8],
     service: Option<&[u8]>,
 ) -> bool
-    ensures { result ≡ is_hashed_name objects.now hashes.now hash host.now (option_copied service.entry) id }
+    ensures { result
+        ≡ is_hashed_name objects.now hashes.now hash host.now (option_copied service.entry) id }
 {
     has_hash(hashes, id, hash) && is_named_at(objects, id, host, service)
 }
@@ -289,70 +299,5 @@ fn has_name(objects: &[Object], id: ObjectId, name: &[u8]) -> bool
     match objects.get(id.0 as usize) {
         None => false,
         Some(object) => object.name.as_slice() == name,
-    }
-}
-
-#[cfg(test)]
-mod tests {
-    use super::*;
-    use crate::letters::Letters;
-    use crate::sequence::{Sequence, Text};
-    use std::test::Fail;
-
-    fn text(alloc: Global, name: &str) -> Result<Text, AllocError> {
-        Ok(Sequence::new(name.as_bytes().to_vec(alloc)?))
-    }
-
-    fn object(alloc: Global, name: &str, host: Option<ObjectId>) -> Result<Object, AllocError> {
-        Ok(Object {
-            name: text(alloc, name)?,
-            host,
-            enabled: true,
-            options: Letters::ALL,
-            period: None,
-            interval: 60,
-            delay: 0,
-            contacts: Sequence::new(Vec::new(alloc)),
-        })
-    }
-
-    #[test]
-    fn finds_by_name(rt: HostRuntime) -> Result<(), Fail> {
-        let alloc = rt.alloc();
-        let objects = vec![in alloc;
-            object(alloc, "web", None)?,
-            object(alloc, "db", None)?,
-            object(alloc, "disk", Some(ObjectId(1)))?,
-            object(alloc, "disk", Some(ObjectId(0)))?,
-            object(alloc, "web", None)?,
-            object(alloc, "ping", Some(ObjectId(9)))?,
-        ]?;
-        let objects = Objects::new(alloc, objects)?;
-        assert_eq!(rt; objects.len(), 6);
-        assert_eq!(rt;
-            objects.find(b"web", None),
-            Some(ObjectId(0)),
-            "the first of two"
-        );
-        assert_eq!(rt; objects.find(b"db", None), Some(ObjectId(1)));
-        assert_eq!(rt; objects.find(b"disk", None), None, "a service is no host");
-        assert_eq!(rt; objects.find(b"db", Some(b"disk")), Some(ObjectId(2)));
-        assert_eq!(rt; objects.find(b"web", Some(b"disk")), Some(ObjectId(3)));
-        assert_eq!(rt; objects.find(b"web", Some(b"")), None);
-        assert_eq!(rt;
-            objects.find(b"", Some(b"ping")),
-            None,
-            "its host isn't in the list"
-        );
-        assert_eq!(rt; objects.find(b"we", None), None);
-        Ok(())
-    }
-
-    #[test]
-    fn finds_nothing_in_an_empty_list(rt: HostRuntime) -> Result<(), Fail> {
-        let objects = Objects::new(rt.alloc(), Vec::new(rt.alloc()))?;
-        assert_eq!(rt; objects.find(b"web", None), None);
-        assert_eq!(rt; objects.as_slice().len(), 0);
-        Ok(())
     }
 }

@@ -1,4 +1,4 @@
-//! The rules that tell, from values already read, what an event changes and what it attempts.
+//! The rules of what an event changes and what it attempts, over values already read.
 
 ghost use Rattle.std.specs.Prelude.{◌≡◌, ◌+◌, ◌^◌, ◌<◌, Some, IfSome};
 ghost use Rattle.due_model.specs.Readings.{is_ok_state, is_problem_state, switch_after, hard_after, depth_changed, is_problem_of};
@@ -6,10 +6,10 @@ ghost use Rattle.due_model.specs.Rules.{attempted, attempted_by_state, attempted
 ghost use Rattle.due_model.specs.Dependencies.{has_state};
 ghost use Rattle.due_model.specs.Histories.{number_after};
 
-use crate::config::ObjectId;
+use crate::config::{ObjectId, PeriodId};
 use crate::event::{DowntimeChange, EventKind};
-use crate::letters::{Letter, Letters};
 use crate::notice::Kind;
+use crate::options::{OptionLetter, OptionLetters};
 use crate::state::{State, StateSet};
 
 impl State {
@@ -28,16 +28,16 @@ impl State {
     }
 
     /// The letter of a problem state; an OK or a pending state has that of a recovery.
-    pub fn letter(self) -> Letter
+    pub fn letter(self) -> OptionLetter
         ensures { result ≡ state_letter self }
     {
         match self {
-            State::Pending | State::Up | State::Fine => Letter::Recovery,
-            State::Down => Letter::Down,
-            State::Unreachable => Letter::Unreachable,
-            State::Warning => Letter::Warning,
-            State::Unknown => Letter::Unknown,
-            State::Critical => Letter::Critical,
+            State::Pending | State::Up | State::Fine => OptionLetter::Recovery,
+            State::Down => OptionLetter::Down,
+            State::Unreachable => OptionLetter::Unreachable,
+            State::Warning => OptionLetter::Warning,
+            State::Unknown => OptionLetter::Unknown,
+            State::Critical => OptionLetter::Critical,
         }
     }
 }
@@ -60,20 +60,20 @@ impl StateSet {
     }
 }
 
-impl Letters {
+impl OptionLetters {
     /// Whether the letter is in the set.
-    pub fn contains(&self, letter: Letter) -> bool
+    pub fn contains(&self, letter: OptionLetter) -> bool
         ensures { result ≡ has_letter self.now letter }
     {
         match letter {
-            Letter::Down => self.down,
-            Letter::Unreachable => self.unreachable,
-            Letter::Warning => self.warning,
-            Letter::Unknown => self.unknown,
-            Letter::Critical => self.critical,
-            Letter::Recovery => self.recovery,
-            Letter::Flapping => self.flapping,
-            Letter::Downtime => self.downtime,
+            OptionLetter::Down => self.down,
+            OptionLetter::Unreachable => self.unreachable,
+            OptionLetter::Warning => self.warning,
+            OptionLetter::Unknown => self.unknown,
+            OptionLetter::Critical => self.critical,
+            OptionLetter::Recovery => self.recovery,
+            OptionLetter::Flapping => self.flapping,
+            OptionLetter::Downtime => self.downtime,
         }
     }
 }
@@ -81,14 +81,15 @@ impl Letters {
 impl Kind {
     /// The letter of a notification of this kind, about an object in this state (chapter "Object
     /// Definitions", `notification_options`).
-    pub fn letter(self, state: State) -> Letter
+    pub fn letter(self, state: State) -> OptionLetter
         ensures { result ≡ letter_of self state }
     {
         match self {
             Kind::Problem => state.letter(),
-            Kind::Recovery => Letter::Recovery,
-            Kind::FlappingStart | Kind::FlappingStop => Letter::Flapping,
-            Kind::DowntimeStart | Kind::DowntimeEnd | Kind::DowntimeCancelled => Letter::Downtime,
+            Kind::Recovery => OptionLetter::Recovery,
+            Kind::FlappingStart | Kind::FlappingStop => OptionLetter::Flapping,
+            Kind::DowntimeStart | Kind::DowntimeEnd | Kind::DowntimeCancelled =>
+                OptionLetter::Downtime,
         }
     }
 
@@ -150,7 +151,7 @@ impl DowntimeChange {
         }
     }
 
-    /// The kind of notification that tells of this change.
+    /// The kind of notification about this change.
     pub fn kind(self) -> Kind
         ensures { result ≡ downtime_kind self }
     {
@@ -162,9 +163,9 @@ impl DowntimeChange {
     }
 }
 
-/// How an object stands, apart from its notices.
+/// The status of an object: what is known of it, apart from its notices.
 #[derive(Clone, Copy, Debug, PartialEq, Eq)]
-pub struct Standing {
+pub struct ObjectStatus {
     /// The last hard state.
     pub state: State,
     /// How many downtimes run.
@@ -212,12 +213,12 @@ pub fn attempted_by_flapping(flapping: bool, starts: bool) -> Option<Kind>
     }
 }
 
-/// What an event attempts on an object, which stood so before it and whose ready moment is that, at moment
-/// `t` (chapter "Notifications", "When Do Notifications Occur?"). None is "nothing".
+/// What an event attempts on an object, of which `old` was the status before it and `ready` the ready moment,
+/// at moment `t` (chapter "Notifications", "When Do Notifications Occur?"). None is "nothing".
 pub fn attempted(
     object: ObjectId,
     event: EventKind,
-    old: Standing,
+    old: ObjectStatus,
     ready: Option<u64>,
     t: u64,
 ) -> Option<Kind>
@@ -266,6 +267,42 @@ pub struct Last {
     pub moment: u64,
     /// How long the next of the same state has to wait, in seconds; 0 is for ever.
     pub gap: u64,
+}
+
+/// A notification that is attempted.
+#[derive(Clone, Copy, Debug, PartialEq, Eq)]
+pub struct Attempt {
+    pub kind: Kind,
+    /// The object's last hard state, the event's own counted.
+    pub state: State,
+    /// In seconds since the epoch.
+    pub moment: u64,
+}
+
+/// What the filters of an object read at an event, the event itself counted.
+#[derive(Clone, Copy, Debug, PartialEq, Eq)]
+pub struct View {
+    /// Whether the program switch is on.
+    pub program: bool,
+    /// `notifications_enabled`.
+    pub enabled: bool,
+    /// Whether the object, or a service's host, is in downtime.
+    pub down: bool,
+    pub flapping: bool,
+    /// `notification_options`.
+    pub options: OptionLetters,
+    /// How many problem notices of this problem went out.
+    pub sent: u64,
+    /// `notification_period`; none is always.
+    pub period: Option<PeriodId>,
+    /// Whether a notification dependency fails.
+    pub depends: bool,
+    /// When this problem began, in seconds since the epoch.
+    pub began: u64,
+    /// `first_notification_delay`, in units of 60 seconds.
+    pub delay: u32,
+    /// The last problem notice of this problem.
+    pub last: Option<Last>,
 }
 
 /// Whether a problem notice of this state comes too soon at moment `t`: the last one reported the same

@@ -9,7 +9,7 @@ pub enum State {
     Up,
     /// A host that is down.
     Down,
-    /// A host behind a host that is down.
+    /// A host that is reached only by way of a host that is down.
     Unreachable,
     /// A service that is OK.
     Fine,

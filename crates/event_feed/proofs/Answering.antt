@@ -1,28 +1,32 @@
--- What the taking of lines makes of the answers to come.
-use Rattle.std.proofs.Common.{◌≡◌, ℕ, suc, ◌+◌, ◌<◌, ◌≤◌, max, true, false, cond, ltb, leb, eqb, List, [], ◌∷◌, ◌++◌, length, Option, Some, None, Result, Ok, Err, refl, sym, ap, subst, ◌∙◌, arith}
-use Rattle.std.specs.Prelude.{is_some}
+-- What the reading of lines makes of the answers to come.
+use Rattle.std.proofs.Common.{◌≡◌, ℕ, suc, ◌+◌, ◌<◌, ◌≤◌, max, true, false, cond, ltb, leb, eqb, List, [], ◌∷◌, ◌++◌, append_assoc, length, take, drop, replicate, Option, Some, None, Result, Ok, Err, refl, sym, ap, subst, ◌∙◌, arith, one-add}
+use Rattle.std.specs.Prelude.{is_some, IsTrue, take_while}
+use Rattle.std.specs.List.{list_any}
+use Rattle.std.proofs.lemmas.List.Folds.{list_any-append}
+use Rattle.std.proofs.lemmas.List.{take-append-drop}
 use Rattle.std.proofs.lemmas.Bool.{lt-ltb, le-ltb, lt-leb, le-leb, or_right, or_left, ne_eqb, eq-eqb, cond_both, true≢false}
-use Rattle.std.proofs.lemmas.List.{length-append}
+use Rattle.std.proofs.lemmas.List.{length-append, nil_from_length, replicate-append-replicate}
 use Rattle.std.proofs.lemmas.List.Splits.{slice_split_at, slice_split_none}
-use Rattle.due_model.specs.Accepted.{IsProper, last_moment}
+use Rattle.due_model.specs.Proper.{IsProper}
+use Rattle.due_model.specs.Limits.{last_moment}
 use Rattle.due_model.specs.declared.config.Config.{Config}
 use Rattle.due_model.specs.declared.config.Object.{Object}
 use Rattle.due_model.specs.declared.event.Event.{Event}
 use Rattle.event_feed.specs.declared.fault.FeedFault.{FeedFault}
 use Rattle.event_feed.specs.declared.fault.FeedFault.TheVariants.{LineTooLong, Cut, Read}
-use Rattle.event_feed.specs.declared.fault.Stop.{Stop}
-use Rattle.event_feed.specs.declared.fault.Stop.TheVariants.{InputEnded, CutLine, ReaderFailed, TooManyCalls, TooManyBytes, TooManyLines}
-use Rattle.event_feed.specs.declared.source.Taken.{Taken}
-use Rattle.event_feed.specs.declared.source.Taken.TheVariants.{Line, Long, Over}
-use Rattle.event_feed.specs.Line.{line_limit, line_reading}
-use Rattle.event_feed.specs.Lines.{is_newline, IsUnbroken, pieces, Known}
-use Rattle.event_feed.specs.Source.{Source, to_come, byte_limit, call_limit, BeginsWithLine, TakesFrom, Takes}
-use Rattle.event_feed.specs.Feed.{Answer, answers, feed_limit, is_stopped, text_reading, moment_after, AreFromLine, HasLine, GivesEvent, GivesFault, raised}
-use Rattle.event_feed.specs.NextLine.{LineAnswers, CallsFit, GoesToLine, CountsLine}
-use Rattle.event_feed.proofs.Parts.{HasFirst, slice_split-first}
+use Rattle.text_lines.specs.declared.line_reader.Stop.{Stop}
+use Rattle.text_lines.specs.declared.line_reader.Stop.TheVariants.{InputEnded, CutLine, ReaderFailed, TooManyCalls, TooManyBytes, TooManyLines}
+use Rattle.text_lines.specs.declared.line_reader.NextLine.{NextLine}
+use Rattle.text_lines.specs.declared.line_reader.NextLine.TheVariants.{Line, Long, Over}
+use Rattle.event_feed.specs.Line.{line_reading}
+use Rattle.text_lines.specs.Lines.{is_newline, IsUnbroken, BeginsWithLine, pieces, Known, has_newline, has_line}
+use Rattle.text_lines.specs.LineReader.{Reading, to_come, line_limit, byte_limit, call_limit, cut_text, BeginsUnbroken, ReadsFrom, ReadsLine, ReadsHeld, TextFits}
+use Rattle.event_feed.specs.Feed.{Answer, answers, feed_limit, is_stopped, text_reading, moment_after, AreFromLine, ComesNext, ComesLong, ComesTo, RefusesLine, FeedComesTo, GivesEvent, GivesFault, feed_of, raised}
+use Rattle.event_feed.specs.Feeder.{LineAnswers, GoesToLine, CountsLine, begun_lines}
+use Rattle.lemmas.proofs.Lists.{HasFirst, slice_split-first}
 use Rattle.event_feed.proofs.ProperLines.{line_reading-fault}
-use Rattle.event_feed.proofs.TakenLines.{taken_in_line}
-use Rattle.due_model.specs.Covered.{IsTakenIn}
+use Rattle.event_feed.proofs.SupportedLines.{supported_line}
+use Rattle.due_model.specs.Covered.{IsSupported}
 
 -- ---- pieces
 
@@ -44,123 +48,156 @@ pieces-unbroken (byte ∷ text) more unbroken =
 
 -- ---- the answers at the first piece
 
-not_stopped : (taken : ℕ) (text : List ℕ) → taken < feed_limit → length text ≤ byte_limit → is_stopped taken text ≡ false
-not_stopped taken text few short = let early : leb feed_limit taken ≡ false = lt-leb feed_limit taken few in rw early (le-ltb byte_limit (length text) short)
+not_stopped : (from : ℕ) (text : List ℕ) → from < feed_limit → length text ≤ byte_limit → is_stopped from text ≡ false
+not_stopped from text few short = let early : leb feed_limit from ≡ false = lt-leb feed_limit from few in rw early (le-ltb byte_limit (length text) short)
 
-answers-stopped : (objects : List Object) (taken last : ℕ) (text : List ℕ) (others : List (List ℕ)) → is_stopped taken text ≡ true
-    → answers objects taken last (text ∷ others) ≡ record { line = taken + 1; given = Err Read } ∷ []
-answers-stopped objects taken last text [] stopped = rw stopped refl
-answers-stopped objects taken last text (next ∷ more) stopped = rw stopped refl
+answers-stopped : (objects : List Object) (from last : ℕ) (text : List ℕ) (others : List (List ℕ)) → is_stopped from text ≡ true
+    → answers objects from last (text ∷ others) ≡ record { line = from + 1; given = Err Read } ∷ []
+answers-stopped objects from last text [] stopped = rw stopped refl
+answers-stopped objects from last text (next ∷ more) stopped = rw stopped refl
 
-answers-empty : (objects : List Object) (taken last : ℕ) (text : List ℕ) (others : List (List ℕ)) → HasFirst others → is_stopped taken text ≡ false → length text ≡ 0
-    → answers objects taken last (text ∷ others) ≡ answers objects (taken + 1) last others
-answers-empty objects taken last text others first on none = let nothing : eqb (length text) 0 ≡ true = eq-eqb (length text) 0 none in rw first.are (rw (on, nothing) refl)
+answers-empty : (objects : List Object) (from last : ℕ) (text : List ℕ) (others : List (List ℕ)) → HasFirst others → is_stopped from text ≡ false → length text ≡ 0
+    → answers objects from last (text ∷ others) ≡ answers objects (from + 1) last others
+answers-empty objects from last text others first on none = let nothing : eqb (length text) 0 ≡ true = eq-eqb (length text) 0 none in rw first.are (rw (on, nothing) refl)
 
-answers-text : (objects : List Object) (taken last : ℕ) (text : List ℕ) (others : List (List ℕ)) → HasFirst others → is_stopped taken text ≡ false → 0 < length text
-    → answers objects taken last (text ∷ others)
-    ≡ record { line = taken + 1; given = text_reading objects last text }
-    ∷ answers objects (taken + 1) (moment_after last (text_reading objects last text)) others
-answers-text objects taken last text others first on some =
+answers-text : (objects : List Object) (from last : ℕ) (text : List ℕ) (others : List (List ℕ)) → HasFirst others → is_stopped from text ≡ false → 0 < length text
+    → answers objects from last (text ∷ others)
+    ≡ record { line = from + 1; given = text_reading objects last text }
+    ∷ answers objects (from + 1) (moment_after last (text_reading objects last text)) others
+answers-text objects from last text others first on some =
     let something : eqb (length text) 0 ≡ false = ne_eqb (length text) 0 (λ none. absurd (omega (arith, none))) in rw first.are (rw (on, something) refl)
 
 from_head : (line : ℕ) (answer : Answer) (others : List Answer) → line ≤ answer.line → AreFromLine line (answer ∷ others)
 from_head line answer others late = let no : ltb answer.line line ≡ false = le-ltb answer.line line late in rw no refl
 
--- no answer is of a line that was taken
-pub answers-from : (objects : List Object) (taken last : ℕ) (texts : List (List ℕ)) (line : ℕ) → line ≤ taken + 1 → AreFromLine line (answers objects taken last texts)
-answers-from objects taken last [] line early = refl
-answers-from objects taken last (text ∷ []) line early =
-    cond_both (is_stopped taken text) (record { line = taken + 1; given = Err Read } ∷ []) (cond (eqb (length text) 0) [] (record { line = taken + 1; given = Err Cut } ∷ [])) (AreFromLine line)
-    (λ _. from_head line (record { line = taken + 1; given = Err Read }) [] early)
-    (λ _. cond_both (eqb (length text) 0) [] (record { line = taken + 1; given = Err Cut } ∷ []) (AreFromLine line) (λ _. refl)
-    (λ _. from_head line (record { line = taken + 1; given = Err Cut }) [] early))
-answers-from objects taken last (text ∷ next ∷ more) line early =
-    let skipped : List Answer = answers objects (taken + 1) last (next ∷ more) in
-    let said : List Answer = record { line = taken + 1; given = text_reading objects last text }
-    ∷ answers objects (taken + 1) (moment_after last (text_reading objects last text)) (next ∷ more) in
-    cond_both (is_stopped taken text) (record { line = taken + 1; given = Err Read } ∷ []) (cond (eqb (length text) 0) skipped said) (AreFromLine line)
-    (λ _. from_head line (record { line = taken + 1; given = Err Read }) [] early)
+-- no answer is of a line that was read
+pub answers-from : (objects : List Object) (from last : ℕ) (texts : List (List ℕ)) (line : ℕ) → line ≤ from + 1 → AreFromLine line (answers objects from last texts)
+answers-from objects from last [] line early = refl
+answers-from objects from last (text ∷ []) line early =
+    cond_both (is_stopped from text) (record { line = from + 1; given = Err Read } ∷ []) (cond (eqb (length text) 0) [] (record { line = from + 1; given = Err Cut } ∷ [])) (AreFromLine line)
+    (λ _. from_head line (record { line = from + 1; given = Err Read }) [] early)
+    (λ _. cond_both (eqb (length text) 0) [] (record { line = from + 1; given = Err Cut } ∷ []) (AreFromLine line) (λ _. refl)
+    (λ _. from_head line (record { line = from + 1; given = Err Cut }) [] early))
+answers-from objects from last (text ∷ next ∷ more) line early =
+    let skipped : List Answer = answers objects (from + 1) last (next ∷ more) in
+    let said : List Answer = record { line = from + 1; given = text_reading objects last text }
+    ∷ answers objects (from + 1) (moment_after last (text_reading objects last text)) (next ∷ more) in
+    cond_both (is_stopped from text) (record { line = from + 1; given = Err Read } ∷ []) (cond (eqb (length text) 0) skipped said) (AreFromLine line)
+    (λ _. from_head line (record { line = from + 1; given = Err Read }) [] early)
     (λ _. cond_both (eqb (length text) 0) skipped said (AreFromLine line)
-    (λ _. answers-from objects (taken + 1) last (next ∷ more) line (omega arith))
-    (λ _. from_head line (record { line = taken + 1; given = text_reading objects last text })
-    (answers objects (taken + 1) (moment_after last (text_reading objects last text)) (next ∷ more)) early))
+    (λ _. answers-from objects (from + 1) last (next ∷ more) line (omega arith))
+    (λ _. from_head line (record { line = from + 1; given = text_reading objects last text })
+    (answers objects (from + 1) (moment_after last (text_reading objects last text)) (next ∷ more)) early))
 
--- ---- one line taken
+-- ---- one line read
 
-pub LineAnswers-taken : (objects : List Object) (last from : ℕ) (bytes : List ℕ) (taken : Taken) (text rest : List ℕ) → from < feed_limit
-    → TakesFrom bytes taken text rest → (taken ≡ Line → 0 < length text)
-    → LineAnswers objects last taken text (from + 1) rest (answers objects from last (pieces bytes))
-LineAnswers-taken objects last from bytes Line text rest few takes full =
-    ap (λ (texts : List (List ℕ)). answers objects from last texts) (pieces-line bytes text rest takes.0)
-    ∙ answers-text objects from last text (pieces rest) (slice_split-first is_newline rest) (not_stopped from text few (omega (arith, takes.1))) (full refl)
-LineAnswers-taken objects last from bytes Long text rest few takes full =
-    let over : ltb line_limit (length takes.0) ≡ true = lt-ltb line_limit (length takes.0) takes.2 in
-    let reading : text_reading objects last takes.0 ≡ Err LineTooLong = rw over refl in
-    ap (λ (texts : List (List ℕ)). answers objects from last texts) (pieces-line bytes takes.0 rest takes.1)
-    ∙ answers-text objects from last takes.0 (pieces rest) (slice_split-first is_newline rest) (not_stopped from takes.0 few takes.3) (omega (arith, takes.2))
+pub LineAnswers-read : (objects : List Object) (last from : ℕ) (bytes : List ℕ) (how : NextLine) (text rest : List ℕ) → from < feed_limit
+    → ReadsFrom bytes how text rest → (how ≡ Line → 0 < length text)
+    → LineAnswers objects last how text (from + 1) rest (answers objects from last (pieces bytes))
+LineAnswers-read objects last from bytes Line text rest few reads full =
+    ap (λ (texts : List (List ℕ)). answers objects from last texts) (pieces-line bytes text rest reads.0)
+    ∙ answers-text objects from last text (pieces rest) (slice_split-first is_newline rest) (not_stopped from text few (omega (arith, reads.1))) (full refl)
+LineAnswers-read objects last from bytes Long text rest few reads full =
+    let over : ltb line_limit (length reads.0) ≡ true = lt-ltb line_limit (length reads.0) reads.2 in
+    let reading : text_reading objects last reads.0 ≡ Err LineTooLong = rw over refl in
+    ap (λ (texts : List (List ℕ)). answers objects from last texts) (pieces-line bytes reads.0 rest reads.1)
+    ∙ answers-text objects from last reads.0 (pieces rest) (slice_split-first is_newline rest) (not_stopped from reads.0 few reads.3) (omega (arith, reads.2))
     ∙ rw reading refl
-LineAnswers-taken objects last from bytes (Over InputEnded) text rest few takes full =
+LineAnswers-read objects last from bytes (Over InputEnded) text rest few reads full =
     let on : is_stopped from [] ≡ false = not_stopped from [] few (omega arith) in
-    ap (λ (all : List ℕ). answers objects from last (pieces all)) takes.0 ∙ rw on refl
-LineAnswers-taken objects last from bytes (Over CutLine) text rest few takes full =
-    let on : is_stopped from bytes ≡ false = not_stopped from bytes few takes.2 in
-    let some : eqb (length bytes) 0 ≡ false = ne_eqb (length bytes) 0 (λ none. absurd (omega (arith, none, takes.1))) in
-    ap (λ (texts : List (List ℕ)). answers objects from last texts) (slice_split_none is_newline bytes takes.0) ∙ rw (on, some) refl
-LineAnswers-taken objects last from bytes (Over ReaderFailed) text rest few takes full = answers-from objects from last (pieces bytes) (from + 1) (omega arith)
-LineAnswers-taken objects last from bytes (Over TooManyCalls) text rest few takes full = answers-from objects from last (pieces bytes) (from + 1) (omega arith)
-LineAnswers-taken objects last from bytes (Over TooManyBytes) text rest few takes full =
-    let fronted = pieces-unbroken takes.0 takes.1 takes.2 in
-    let long : ltb byte_limit (length (takes.0 ++ fronted.first)) ≡ true = lt-ltb byte_limit _ (rw length-append (omega (arith, takes.4))) in
-    ap (λ (all : List ℕ). answers objects from last (pieces all)) takes.3
+    ap (λ (all : List ℕ). answers objects from last (pieces all)) reads.0 ∙ rw on refl
+LineAnswers-read objects last from bytes (Over CutLine) text rest few reads full =
+    let on : is_stopped from bytes ≡ false = not_stopped from bytes few reads.2 in
+    let some : eqb (length bytes) 0 ≡ false = ne_eqb (length bytes) 0 (λ none. absurd (omega (arith, none, reads.1))) in
+    ap (λ (texts : List (List ℕ)). answers objects from last texts) (slice_split_none is_newline bytes reads.0) ∙ rw (on, some) refl
+LineAnswers-read objects last from bytes (Over ReaderFailed) text rest few reads full = answers-from objects from last (pieces bytes) (from + 1) (omega arith)
+LineAnswers-read objects last from bytes (Over TooManyCalls) text rest few reads full = answers-from objects from last (pieces bytes) (from + 1) (omega arith)
+LineAnswers-read objects last from bytes (Over TooManyBytes) text rest few reads full =
+    let fronted = pieces-unbroken reads.0 reads.1 reads.2 in
+    let long : ltb byte_limit (length (reads.0 ++ fronted.first)) ≡ true = lt-ltb byte_limit _ (rw length-append (omega (arith, reads.4))) in
+    ap (λ (all : List ℕ). answers objects from last (pieces all)) reads.3
     ∙ ap (λ (texts : List (List ℕ)). answers objects from last texts) fronted.are
-    ∙ answers-stopped objects from last (takes.0 ++ fronted.first) fronted.others (or_right _ _ long)
-LineAnswers-taken objects last from bytes (Over TooManyLines) text rest few takes full = absurd takes
-
-pub CallsFit-taken : (bytes : List ℕ) (taken : Taken) (text rest : List ℕ) → TakesFrom bytes taken text rest → CallsFit taken bytes
-CallsFit-taken bytes Line text rest takes = tt
-CallsFit-taken bytes Long text rest takes = tt
-CallsFit-taken bytes (Over InputEnded) text rest takes = tt
-CallsFit-taken bytes (Over CutLine) text rest takes = tt
-CallsFit-taken bytes (Over ReaderFailed) text rest takes = tt
-CallsFit-taken bytes (Over TooManyCalls) text rest takes =
-    let fronted = pieces-unbroken takes.0 takes.1 takes.2 in
-    let all : pieces bytes ≡ (takes.0 ++ fronted.first) ∷ fronted.others = ap (λ (b : List ℕ). pieces b) takes.3 ∙ fronted.are in
-    let many : call_limit ≤ length (takes.0 ++ fronted.first) = rw length-append (omega (arith, takes.4)) in
-    rw all (or_left _ _ (le-leb call_limit (length (takes.0 ++ fronted.first)) many))
-CallsFit-taken bytes (Over TooManyBytes) text rest takes = tt
-CallsFit-taken bytes (Over TooManyLines) text rest takes = tt
-
-CallsFit-kept : (taken : Taken) (bytes now : List ℕ) → (HasLine call_limit (pieces now) → HasLine call_limit (pieces bytes)) → CallsFit taken now → CallsFit taken bytes
-CallsFit-kept Line bytes now kept fits = tt
-CallsFit-kept Long bytes now kept fits = tt
-CallsFit-kept (Over InputEnded) bytes now kept fits = tt
-CallsFit-kept (Over CutLine) bytes now kept fits = tt
-CallsFit-kept (Over ReaderFailed) bytes now kept fits = tt
-CallsFit-kept (Over TooManyCalls) bytes now kept fits = kept fits
-CallsFit-kept (Over TooManyBytes) bytes now kept fits = tt
-CallsFit-kept (Over TooManyLines) bytes now kept fits = tt
+    ∙ answers-stopped objects from last (reads.0 ++ fronted.first) fronted.others (or_right _ _ long)
+LineAnswers-read objects last from bytes (Over TooManyLines) text rest few reads full = absurd reads
 
 -- an empty line answers nothing
-pub answers-skipped : (objects : List Object) (last from : ℕ) (bytes text rest : List ℕ) → from < feed_limit → TakesFrom bytes Line text rest → length text ≡ 0
+pub answers-skipped : (objects : List Object) (last from : ℕ) (bytes text rest : List ℕ) → from < feed_limit → ReadsFrom bytes Line text rest → length text ≡ 0
     → answers objects from last (pieces bytes) ≡ answers objects (from + 1) last (pieces rest)
-answers-skipped objects last from bytes text rest few takes none =
-    ap (λ (texts : List (List ℕ)). answers objects from last texts) (pieces-line bytes text rest takes.0)
-    ∙ answers-empty objects from last text (pieces rest) (slice_split-first is_newline rest) (not_stopped from text few (omega (arith, takes.1))) none
+answers-skipped objects last from bytes text rest few reads none =
+    ap (λ (texts : List (List ℕ)). answers objects from last texts) (pieces-line bytes text rest reads.0)
+    ∙ answers-empty objects from last text (pieces rest) (slice_split-first is_newline rest) (not_stopped from text few (omega (arith, reads.1))) none
+
+-- ---- where a line stands
+
+-- the pieces begin with so many empty lines, and then come these
+pub record Goes (from to : ℕ) (texts others : List (List ℕ)) : Type 0 where
+  pub empty : ℕ
+  pub number : to ≡ from + empty
+  pub are : texts ≡ replicate empty [] ++ others
+
+goes-none : (from : ℕ) (texts : List (List ℕ)) → Goes from from texts texts
+goes-none from texts = record { empty = 0; number = omega arith; are = refl }
+
+-- one more empty line
+goes-more : (from to : ℕ) (texts : List (List ℕ)) (others : List (List ℕ)) → Goes from to texts ([] ∷ others) → Goes from (to + 1) texts others
+goes-more from to texts others goes =
+    record {
+      empty = goes.empty + 1;
+      number = omega (arith, goes.number);
+      are = goes.are ∙ sym (append_assoc (replicate goes.empty []) ([] ∷ []) others)
+          ∙ ap (λ (front : List (List ℕ)). front ++ others) (replicate-append-replicate goes.empty 1 []);
+    }
+
+comes : (from to : ℕ) (texts : List (List ℕ)) (text : List ℕ) (others : List (List ℕ)) → Goes from to texts (text ∷ others) → ComesNext from texts (to + 1) text others
+comes from to texts text others goes = record { empty = goes.empty; number = omega (arith, goes.number); are = goes.are }
+
+comes-long : (from to count : ℕ) (texts : List (List ℕ)) (now front more : List ℕ) → Goes from to texts (pieces now) → IsUnbroken front → now ≡ front ++ more → count ≤ length front
+    → ComesLong from texts (to + 1) count
+comes-long from to count texts now front more goes unbroken whole many =
+    let fronted = pieces-unbroken front more unbroken in (
+      front ++ fronted.first,
+      fronted.others,
+      comes from to texts (front ++ fronted.first) fronted.others (subst (λ (others : List (List ℕ)). Goes from to texts others) (ap pieces whole ∙ fronted.are) goes),
+      rw length-append (omega (arith, many)),
+    )
+
+comes-to : (from to : ℕ) (bytes now : List ℕ) (how : NextLine) (text rest : List ℕ) → Goes from to (pieces bytes) (pieces now) → ReadsFrom now how text rest → (how ≡ Line → 0 < length text)
+    → (how ≡ Over InputEnded → ⊥) → ComesTo how from bytes (to + 1) text rest
+comes-to from to bytes now Line text rest goes reads full other = (
+  comes from to (pieces bytes) text (pieces rest) (subst (λ (others : List (List ℕ)). Goes from to (pieces bytes) others) (pieces-line now text rest reads.0) goes),
+  full refl,
+)
+comes-to from to bytes now Long text rest goes reads full other = (
+  reads.0,
+  comes from to (pieces bytes) reads.0 (pieces rest) (subst (λ (others : List (List ℕ)). Goes from to (pieces bytes) others) (pieces-line now reads.0 rest reads.1) goes),
+  reads.2,
+)
+comes-to from to bytes now (Over InputEnded) text rest goes reads full other = absurd (other refl)
+comes-to from to bytes now (Over CutLine) text rest goes reads full other = (
+  now,
+  comes from to (pieces bytes) now [] (subst (λ (others : List (List ℕ)). Goes from to (pieces bytes) others) (slice_split_none is_newline now reads.0) goes),
+  reads.1,
+  reads.3,
+)
+comes-to from to bytes now (Over ReaderFailed) text rest goes reads full other = comes-long from to 0 (pieces bytes) now reads.0 rest goes reads.1 reads.2 (omega arith)
+comes-to from to bytes now (Over TooManyCalls) text rest goes reads full other = comes-long from to call_limit (pieces bytes) now reads.0 reads.1 goes reads.2 reads.3 reads.4
+comes-to from to bytes now (Over TooManyBytes) text rest goes reads full other = comes-long from to (byte_limit + 1) (pieces bytes) now reads.0 reads.1 goes reads.2 reads.3 reads.4
+comes-to from to bytes now (Over TooManyLines) text rest goes reads full other = absurd reads
 
 -- ---- several
 
--- empty lines were taken
-pub record Skips (old : Source) (from : ℕ) (now : Source) (taken : ℕ) : Type 0 where
+-- empty lines were read
+pub record Skips (old : Reading) (from : ℕ) (now : Reading) (read : ℕ) : Type 0 where
   pub answering : Known (to_come old) (to_come now) (λ bytes rest.
-      ((objects : List Object) (last : ℕ) → answers objects from last (pieces bytes) ≡ answers objects taken last (pieces rest))
-      × (HasLine call_limit (pieces rest) → HasLine call_limit (pieces bytes)))
+      ((objects : List Object) (last : ℕ) → answers objects from last (pieces bytes) ≡ answers objects read last (pieces rest))
+      × Goes from read (pieces bytes) (pieces rest))
 
 Known-same : (a : Option (List ℕ)) (P : List ℕ → List ℕ → Type 0) → ((x : List ℕ) → P x x) → Known a a P
 Known-same None P each = tt
 Known-same (Some x) P each = each x
 
-pub Skips-none : (old : Source) (from : ℕ) → Skips old from old from
-Skips-none old from = record { answering = Known-same (to_come old) _ (λ bytes. (λ objects last. refl, λ has. has)) }
+pub Skips-none : (old : Reading) (from : ℕ) → Skips old from old from
+Skips-none old from = record { answering = Known-same (to_come old) _ (λ bytes. (λ objects last. refl, goes-none from (pieces bytes))) }
 
 pub Known-then : (a b c : Option (List ℕ)) (P Q S : List ℕ → List ℕ → Type 0) → Known a b P → Known b c Q
     → ((x y z : List ℕ) → P x y → Q y z → S x z) → Known a c S
@@ -169,54 +206,71 @@ Known-then (Some x) None c P Q S first second both = absurd first
 Known-then (Some x) (Some y) None P Q S first second both = absurd second
 Known-then (Some x) (Some y) (Some z) P Q S first second both = both x y z first second
 
-pub Skips-more : (old now new : Source) (from taken : ℕ) → Skips old from now taken → taken < feed_limit → Takes now Line new → length new.line ≡ 0
-    → Skips old from new (taken + 1)
-Skips-more old now new from taken skips few takes none =
+pub Skips-more : (old now new : Reading) (from read : ℕ) → Skips old from now read → read < feed_limit → ReadsLine now Line new → length new.line ≡ 0
+    → Skips old from new (read + 1)
+Skips-more old now new from read skips few reads none =
     record {
-      answering = Known-then (to_come old) (to_come now) (to_come new) _ _ _ skips.answering takes (λ bytes between rest first line. (
-        λ objects last. first.0 objects last ∙ answers-skipped objects last taken between new.line rest few line none,
-        λ has. first.1 (rw (pieces-line between new.line rest line.0) (or_right _ _ has)),
+      answering = Known-then (to_come old) (to_come now) (to_come new) _ _ _ skips.answering reads (λ bytes between rest first line. (
+        λ objects last. first.0 objects last ∙ answers-skipped objects last read between new.line rest few line none,
+        goes-more from read (pieces bytes) (pieces rest)
+            (subst (λ (others : List (List ℕ)). Goes from read (pieces bytes) others) (pieces-line between new.line rest line.0 ∙ ap (λ (text : List ℕ). text ∷ pieces rest) (nil_from_length new.line none)) first.1),
       ));
     }
 
-pub GoesToLine-from : (old now new : Source) (from taken : ℕ) (how : Taken) → Skips old from now taken → taken < feed_limit → Takes now how new
-    → (how ≡ Line → 0 < length new.line) → GoesToLine old from how new (taken + 1)
-GoesToLine-from old now new from taken how skips few takes full =
-    Known-then (to_come old) (to_come now) (to_come new) _ _ _ skips.answering takes (λ bytes between rest first line. (
-      λ objects last. subst (λ (all : List Answer). LineAnswers objects last how new.line (taken + 1) rest all) (sym (first.0 objects last))
-          (LineAnswers-taken objects last taken between how new.line rest few line full),
-      CallsFit-kept how bytes between first.1 (CallsFit-taken between how new.line rest line),
+pub GoesToLine-from : (old now new : Reading) (from read : ℕ) (how : NextLine) → Skips old from now read → read < feed_limit → ReadsLine now how new
+    → (how ≡ Line → 0 < length new.line) → (how ≡ Over InputEnded → ⊥) → GoesToLine old from how new (read + 1)
+GoesToLine-from old now new from read how skips few reads full other =
+    Known-then (to_come old) (to_come now) (to_come new) _ _ _ skips.answering reads (λ bytes between rest first line. (
+      λ objects last. subst (λ (all : List Answer). LineAnswers objects last how new.line (read + 1) rest all) (sym (first.0 objects last))
+          (LineAnswers-read objects last read between how new.line rest few line full),
+      comes-to from read bytes between how new.line rest first.1 line full other,
     ))
 
-pub GoesToLine-end : (old now new : Source) (from taken : ℕ) → Skips old from now taken → taken < feed_limit → Takes now (Over InputEnded) new
-    → GoesToLine old from (Over InputEnded) new taken
-GoesToLine-end old now new from taken skips few takes = GoesToLine-from old now new from taken (Over InputEnded) skips few takes (λ is. absurd (cc))
+pub GoesToLine-end : (old now new : Reading) (from read : ℕ) → Skips old from now read → read < feed_limit → ReadsLine now (Over InputEnded) new
+    → GoesToLine old from (Over InputEnded) new read
+GoesToLine-end old now new from read skips few reads =
+    Known-then (to_come old) (to_come now) (to_come new) _ _ _ skips.answering reads (λ bytes between rest first line. (
+      λ objects last. first.0 objects last ∙ LineAnswers-read objects last read between (Over InputEnded) new.line rest few line (λ is. absurd (cc)),
+      (
+        comes from read (pieces bytes) [] [] (subst (λ (now : List ℕ). Goes from read (pieces bytes) (pieces now)) line.0 first.1),
+        line.1,
+      ),
+    ))
 
-pub GoesToLine-many : (old now : Source) (from : ℕ) (taken : ℕ) → Skips old from now taken → taken ≡ feed_limit → GoesToLine old from (Over TooManyLines) now (taken + 1)
-GoesToLine-many old now from taken skips all =
-    Known-then (to_come old) (to_come now) (to_come now) _ (λ _ _. Unit {0}) _ skips.answering (Known-same (to_come now) (λ _ _. Unit {0}) (λ _. tt)) (λ bytes between rest first _. (
+pub GoesToLine-many : (old now : Reading) (from : ℕ) (read : ℕ) → Skips old from now read → read ≡ feed_limit → GoesToLine old from (Over TooManyLines) now (read + 1)
+GoesToLine-many old now from read skips all =
+    Known-then (to_come old) (to_come now) (to_come now) _ (λ _ _. Unit {0}) _ skips.answering (Known-same (to_come now) (λ _ _. Unit {0}) (λ _. tt)) (λ bytes between rest first _.
+    let split = slice_split-first is_newline between in (
       λ objects last.
-          let split = slice_split-first is_newline between in
           first.0 objects last
-          ∙ ap (λ (texts : List (List ℕ)). answers objects taken last texts) split.are
-          ∙ answers-stopped objects taken last split.first split.others (or_left _ _ (le-leb feed_limit taken (omega (arith, all)))),
-      tt,
+          ∙ ap (λ (texts : List (List ℕ)). answers objects read last texts) split.are
+          ∙ answers-stopped objects read last split.first split.others (or_left _ _ (le-leb feed_limit read (omega (arith, all)))),
+      (
+        (split.first, split.others, comes from read (pieces bytes) split.first split.others (subst (λ (others : List (List ℕ)). Goes from read (pieces bytes) others) split.are first.1), omega arith),
+        omega (arith, all),
+      ),
     ))
 
-pub CountsLine-over : (from line : ℕ) (stop : Stop) → from < line → line ≤ feed_limit → CountsLine from (Over stop) line
-CountsLine-over from line InputEnded more few = (omega arith, few)
-CountsLine-over from line CutLine more few = (more, omega arith)
-CountsLine-over from line ReaderFailed more few = (more, omega arith)
-CountsLine-over from line TooManyCalls more few = (more, omega arith)
-CountsLine-over from line TooManyBytes more few = (more, omega arith)
-CountsLine-over from line TooManyLines more few = (more, omega arith)
+pub GoesToLine-long : (old now new : Reading) (from read : ℕ) → Skips old from now read → read < feed_limit → ReadsLine now Long new → GoesToLine old from Long new (read + 1)
+GoesToLine-long old now new from read skips few reads = GoesToLine-from old now new from read Long skips few reads (λ is. absurd (cc)) (λ is. absurd (cc))
 
-pub GoesToLine-long : (old now new : Source) (from taken : ℕ) → Skips old from now taken → taken < feed_limit → Takes now Long new → GoesToLine old from Long new (taken + 1)
-GoesToLine-long old now new from taken skips few takes = GoesToLine-from old now new from taken Long skips few takes (λ is. absurd (cc))
+pub GoesToLine-over : (old now new : Reading) (from read : ℕ) (stop : Stop) → Skips old from now read → read < feed_limit → ReadsLine now (Over stop) new
+    → GoesToLine old from (Over stop) new (read + begun_lines stop)
+GoesToLine-over old now new from read InputEnded skips few reads =
+    let none : read + 0 ≡ read = omega arith in rw none (GoesToLine-end old now new from read skips few reads)
+GoesToLine-over old now new from read CutLine skips few reads = GoesToLine-from old now new from read (Over CutLine) skips few reads (λ is. absurd (cc)) (λ is. absurd (cc))
+GoesToLine-over old now new from read ReaderFailed skips few reads = GoesToLine-from old now new from read (Over ReaderFailed) skips few reads (λ is. absurd (cc)) (λ is. absurd (cc))
+GoesToLine-over old now new from read TooManyCalls skips few reads = GoesToLine-from old now new from read (Over TooManyCalls) skips few reads (λ is. absurd (cc)) (λ is. absurd (cc))
+GoesToLine-over old now new from read TooManyBytes skips few reads = GoesToLine-from old now new from read (Over TooManyBytes) skips few reads (λ is. absurd (cc)) (λ is. absurd (cc))
+GoesToLine-over old now new from read TooManyLines skips few reads = GoesToLine-from old now new from read (Over TooManyLines) skips few reads (λ is. absurd (cc)) (λ is. absurd (cc))
 
-pub GoesToLine-over : (old now new : Source) (from taken : ℕ) (stop : Stop) → Skips old from now taken → taken < feed_limit → Takes now (Over stop) new
-    → GoesToLine old from (Over stop) new (taken + 1)
-GoesToLine-over old now new from taken stop skips few takes = GoesToLine-from old now new from taken (Over stop) skips few takes (λ is. absurd (cc))
+pub CountsLine-over : (from read : ℕ) (stop : Stop) → from ≤ read → read < feed_limit → CountsLine from (Over stop) (read + begun_lines stop)
+CountsLine-over from read InputEnded more few = (omega arith, omega arith)
+CountsLine-over from read CutLine more few = (omega arith, omega arith)
+CountsLine-over from read ReaderFailed more few = (omega arith, omega arith)
+CountsLine-over from read TooManyCalls more few = (omega arith, omega arith)
+CountsLine-over from read TooManyBytes more few = (omega arith, omega arith)
+CountsLine-over from read TooManyLines more few = (omega arith, omega arith)
 
 -- ---- what a call of `next` gives
 
@@ -225,11 +279,10 @@ Known-map None b P Q known each = tt
 Known-map (Some x) None P Q known each = known
 Known-map (Some x) (Some y) P Q known each = each x y known
 
-pub GivesEvent-line : (c : Config) (before after : Source) (line last line' : ℕ) (stop : Option Stop) (event given : Event) → is_some stop ≡ false
+pub GivesEvent-line : (c : Config) (before after : Reading) (line last line' : ℕ) (stop : Option Stop) (event given : Event) → is_some stop ≡ false
     → GoesToLine before line Line after line' → CountsLine line Line line' → Ok event ≡ line_reading c.objects after.line → IsProper c event
     → Ok given ≡ raised last (Ok event) → last ≤ last_moment
-    → GivesEvent c (record { bytes = to_come before; text = before.line; line = line; last = last; stop = stop }) given
-    (record { bytes = to_come after; text = after.line; line = line'; last = given.moment; stop = stop })
+    → GivesEvent c (feed_of before line last stop) given (feed_of after line' given.moment stop)
 GivesEvent-line c before after line last line' (Some stop) event given goes_on goes counts reading proper raise early = absurd (true≢false goes_on)
 GivesEvent-line c before after line last line' None event given goes_on goes counts reading proper raise early =
     let text : text_reading c.objects last after.line ≡ Ok given = ap (λ (r : Result Event FeedFault). raised last r) (sym reading) ∙ sym raise in
@@ -237,26 +290,91 @@ GivesEvent-line c before after line last line' None event given goes_on goes cou
     record {
       answers = Known-map (to_come before) (to_come after) _ _ goes (λ bytes rest answers.
           answers.0 c.objects last ∙ rw text refl);
+      place = Known-map (to_come before) (to_come after) _ _ goes (λ bytes rest answers. answers.1);
+      said = text;
       proper = subst (IsProper c) (sym same) (record { stamp = omega (arith, proper.stamp); kind = proper.kind });
-      taken_in = subst (λ (e : Event). IsTakenIn e.kind) (sym same) (taken_in_line c.objects after.line event reading);
+      supported = subst (λ (e : Event). IsSupported e.kind) (sym same) (supported_line c.objects after.line event reading);
       later = rw same (omega arith);
       last = refl;
       line = counts.0;
       goes_on = refl;
     }
 
-pub GivesFault-line : (objects : List Object) (before after : Source) (line last line' : ℕ) (stop : Option Stop) (fault : FeedFault) → is_some stop ≡ false
+pub GivesFault-line : (objects : List Object) (before after : Reading) (line last line' : ℕ) (stop : Option Stop) (fault : FeedFault) → is_some stop ≡ false
     → GoesToLine before line Line after line' → CountsLine line Line line' → Err fault ≡ line_reading objects after.line
-    → GivesFault objects (record { bytes = to_come before; text = before.line; line = line; last = last; stop = stop }) (record { line = line'; fault = fault })
-    (record { bytes = to_come after; text = after.line; line = line'; last = last; stop = stop })
+    → GivesFault objects (feed_of before line last stop) (record { line = line'; fault = fault }) (feed_of after line' last stop)
 GivesFault-line objects before after line last line' (Some stop) fault goes_on goes counts reading = absurd (true≢false goes_on)
 GivesFault-line objects before after line last line' None fault goes_on goes counts reading =
     let text : text_reading objects last after.line ≡ Err fault = ap (λ (r : Result Event FeedFault). raised last r) (sym reading) in
     record {
       answers = Known-map (to_come before) (to_come after) _ _ goes (λ bytes rest answers. answers.0 objects last ∙ rw text refl);
+      place = Known-map (to_come before) (to_come after) _ _ goes (λ bytes rest answers. record {
+        text = after.line;
+        next = answers.1.0;
+        some = answers.1.1;
+        reading = sym reading;
+        stays = λ _. refl;
+      });
       fits = line_reading-fault objects after.line fault (sym reading);
       said = λ _ _. sym reading;
       number = refl;
       last = refl;
       line = counts.0;
     }
+
+pub GivesFault-long : (objects : List Object) (before after : Reading) (line last line' : ℕ) (stop : Option Stop) → is_some stop ≡ false
+    → GoesToLine before line Long after line' → CountsLine line Long line'
+    → GivesFault objects (feed_of before line last stop) (record { line = line'; fault = LineTooLong }) (feed_of after line' last stop)
+GivesFault-long objects before after line last line' (Some stop) goes_on goes counts = absurd (true≢false goes_on)
+GivesFault-long objects before after line last line' None goes_on goes counts =
+    record {
+      answers = Known-map (to_come before) (to_come after) _ _ goes (λ bytes rest answers. answers.0 objects last);
+      place = Known-map (to_come before) (to_come after) _ _ goes (λ bytes rest answers.
+          let over : ltb line_limit (length answers.1.0) ≡ true = lt-ltb line_limit (length answers.1.0) answers.1.2 in
+          record {
+            text = answers.1.0;
+            next = answers.1.1;
+            some = omega (arith, answers.1.2);
+            reading = rw over refl;
+            stays = λ short. absurd (short refl);
+          });
+      fits = refl;
+      said = λ _ short. absurd (short refl);
+      number = refl;
+      last = refl;
+      line = counts.0;
+    }
+
+-- ---- a line that is held
+
+has_line-next : (rest : List ℕ) → has_line (10 ∷ rest) ≡ has_line rest
+has_line-next rest = rw one-add refl
+
+has_line-newline : (held : List ℕ) → IsTrue (has_line held) → IsTrue (has_newline held)
+has_line-newline held is =
+    let empty = length (take_while is_newline held) in
+    ap (λ (bytes : List ℕ). list_any is_newline bytes) (sym (take-append-drop empty held))
+    ∙ list_any-append is_newline (take empty held) (drop empty held)
+    ∙ or_right (list_any is_newline (take empty held)) (list_any is_newline (drop empty held)) is
+
+-- where a line was held, it still is, and the reader wasn't called
+abbrev pub StaysHeld : Reading → Reading → Type 0
+StaysHeld old now = IsTrue (has_line old.held) → (now.calls ≡ old.calls) × IsTrue (has_line now.held)
+
+pub held-none : (old : Reading) → StaysHeld old old
+held-none old = λ is. (refl, is)
+
+pub held-calls : (old now new : Reading) (how : NextLine) → StaysHeld old now → (IsTrue (has_newline now.held) → ReadsHeld now how new)
+    → IsTrue (has_line old.held) → new.calls ≡ old.calls
+held-calls old now new how stays reads is =
+    let held = stays is in (reads (has_line-newline now.held held.1)).calls ∙ held.0
+
+pub held-more : (old now new : Reading) → StaysHeld old now → (IsTrue (has_newline now.held) → ReadsHeld now Line new) → length new.line ≡ 0 → StaysHeld old new
+held-more old now new stays reads none = λ is.
+    let held = stays is in
+    let line = reads (has_line-newline now.held held.1) in
+    let empty : line.text ≡ [] = sym line.fits ∙ nil_from_length new.line none in
+    let whole : now.held ≡ 10 ∷ new.held = line.begins.whole ∙ ap (λ (text : List ℕ). text ++ 10 ∷ new.held) empty in (
+      line.calls ∙ held.0,
+      sym (ap has_line whole ∙ has_line-next new.held) ∙ held.1,
+    )

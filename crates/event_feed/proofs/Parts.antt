@@ -6,28 +6,11 @@ use Rattle.std.proofs.lemmas.List.{take_more, take_rest, map-append}
 use Rattle.std.proofs.lemmas.List.Splits.{slice_split_first}
 use Rattle.std.proofs.lemmas.List.Sums.{position_or_len_is}
 use Rattle.std.proofs.lemmas.Int.Digits.{number_push}
-use Rattle.memchr.specs.Find.{IsFirstByte, is_byte}
+use Rattle.lemmas.proofs.Lists.{HasFirst, slice_split-first}
 use Rattle.due_model.specs.declared.event.EventKind.{EventKind}
 use Rattle.event_feed.specs.declared.fault.FeedFault.TheVariants.{BadState}
 use Rattle.event_feed.specs.Line.{fields, fields_after, bare_reading, host_state_reading, digits_number}
 use Rattle.due_model.specs.declared.config.Object.{Object}
-
--- there is a first part
-pub record HasFirst {X : Type 0} (parts : List (List X)) : Type 0 where
-  pub first : List X
-  pub others : List (List X)
-  pub are : parts ≡ first ∷ others
-
-onto_first-first : {X : Type 0} (x : X) (parts : List (List X)) → HasFirst (onto_first x parts)
-onto_first-first x [] = record { first = x ∷ []; others = []; are = refl }
-onto_first-first x (part ∷ parts) = record { first = x ∷ part; others = parts; are = refl }
-
-pub slice_split-first : {X : Type 0} (p : X → Bool) (xs : List X) → HasFirst (slice_split p xs)
-slice_split-first p [] = record { first = []; others = []; are = refl }
-slice_split-first p (x ∷ xs) = elim (p x) as (λ b. HasFirst (cond b ([] ∷ slice_split p xs) (onto_first x (slice_split p xs)))) [
-  | true ↦ record { first = []; others = slice_split p xs; are = refl }
-  | false ↦ onto_first-first x (slice_split p xs)
-]
 
 -- where nothing passes, the list is the one part
 pub slice_split-whole : {X : Type 0} (p : X → Bool) (xs : List X) → position_or_len p xs ≡ length xs → slice_split p xs ≡ xs ∷ []
@@ -44,21 +27,6 @@ bare_reading-fields kind rest = let split = slice_split-first (λ byte. eqb byte
 pub host_state_reading-many : (objects : List Object) (host state more : List ℕ) → host_state_reading objects (host ∷ state ∷ fields more) ≡ Err BadState
 host_state_reading-many objects host state more = let split = slice_split-first (λ byte. eqb byte 59) more in rw split.are refl
 
--- what a search for a byte finds
-pub position-found : (byte : ℕ) (bytes : List ℕ) (place : ℕ) → IsFirstByte (is_byte byte) bytes (Some place) → (place ≡ position_or_len (λ b. eqb b byte) bytes) × (place ≤ length bytes)
-position-found byte bytes place found = (
-  sym (position_or_len_is (λ b. eqb b byte) bytes place 0 (omega arith)
-      (λ k before. false_from_ne_true _ (found.0.before k (omega arith) before))
-      (λ _. found.1)),
-  omega arith,
-)
-
-pub position-none : (byte : ℕ) (bytes : List ℕ) → IsFirstByte (is_byte byte) bytes None → length bytes ≡ position_or_len (λ b. eqb b byte) bytes
-position-none byte bytes none =
-    sym (position_or_len_is (λ b. eqb b byte) bytes (length bytes) 0 (omega arith)
-    (λ k before. false_from_ne_true _ (none k (omega arith) before))
-    (λ past. absurd (omega arith)))
-
 -- one more digit
 pub digits_number-more : (digits : List ℕ) (at : ℕ) → at < length digits
     → digits_number (take (at + 1) digits) ≡ digits_number (take at digits) * 10 + (get_or digits at 0 - 48)
@@ -73,8 +41,8 @@ fields-split bytes end place within inside =
     let before : position_or_len (λ b. eqb b 59) bytes < length bytes = omega arith in
     rw take_rest (rw place (slice_split_first (λ b. eqb b 59) bytes 0 before))
 
-pub too_many : (objects : List Object) (arguments : Option (List ℕ)) (host state more xs rest : List ℕ) (behind : Option (List ℕ)) (behind' : Option (List ℕ))
-    → arguments ≡ Some xs → fields xs ≡ host ∷ fields_after behind → behind ≡ Some rest → fields rest ≡ state ∷ fields_after behind' → behind' ≡ Some more
+pub too_many : (objects : List Object) (arguments : Option (List ℕ)) (host state more xs rest : List ℕ) (after : Option (List ℕ)) (after' : Option (List ℕ))
+    → arguments ≡ Some xs → fields xs ≡ host ∷ fields_after after → after ≡ Some rest → fields rest ≡ state ∷ fields_after after' → after' ≡ Some more
     → Err BadState ≡ host_state_reading objects (fields_after arguments)
-too_many objects arguments host state more xs rest behind behind' is first is' second is'' =
+too_many objects arguments host state more xs rest after after' is first is' second is'' =
     rw (is, first, is', second, is'') (sym (host_state_reading-many objects host state more))

@@ -8,7 +8,8 @@ use Rattle.std.proofs.lemmas.Bool.{and_parts, leb-true, ltb-true, false≢true, 
 use Rattle.std.specs.Result.{is_ok}
 use Rattle.std.proofs.lemmas.Option.{cond_some, none-some, same_Some, slice_get_cases}
 use Rattle.std.proofs.lemmas.List.Quantifiers.{position-Some}
-use Rattle.due_model.specs.Accepted.{KindIsProper, is_state_of, last_moment}
+use Rattle.due_model.specs.Proper.{KindIsProper, is_state_of}
+use Rattle.due_model.specs.Limits.{last_moment}
 use Rattle.due_model.specs.Objects.{object_id, is_called, is_named, object_named}
 use Rattle.due_model.specs.declared.config.Config.{Config}
 use Rattle.due_model.specs.declared.config.Object.{Object}
@@ -23,7 +24,8 @@ use Rattle.event_feed.specs.declared.fault.FeedFault.TheVariants.{BadStamp, Unkn
 use Rattle.event_feed.specs.Fault.{is_line_fault}
 use Rattle.event_feed.specs.declared.line.Command.{Command}
 use Rattle.event_feed.specs.declared.line.Command.TheVariants.{TellTime, EnableNotifications, DisableNotifications, HostState}
-use Rattle.event_feed.specs.Line.{line_limit, stamp_of, digits_number, stamp_digits, command_of, fields, host_state_named, state_reading, bare_reading, host_state_reading, arguments_reading, command_named, command_reading, stamped, stamp_reading, line_reading, is_stamp_shaped}
+use Rattle.text_lines.specs.LineReader.{line_limit}
+use Rattle.event_feed.specs.Line.{stamp_of, digits_number, stamp_digits, command_of, fields, host_state_named, state_reading, bare_reading, host_state_reading, arguments_reading, command_named, command_reading, stamped, stamp_reading, line_reading, is_stamp_shaped}
 use Rattle.std.specs.Str.{is_utf8}
 
 err-ok : {A E : Type 0} (e : E) (x : A) → ◌≡◌ {A = Result A E} (Err e) (Ok x) → ⊥

@@ -1,8 +1,8 @@
 -- The faults of a feed.
 use Rattle.std.specs.Prelude.{ℕ, Bool, true, false, List, codes, Option, None, Some}
 use Rattle.event_feed.specs.declared.fault.FeedFault.{FeedFault}
-use Rattle.event_feed.specs.declared.fault.Stop.{Stop}
-use Rattle.event_feed.specs.declared.fault.Stop.TheVariants.{InputEnded, CutLine, ReaderFailed, TooManyCalls, TooManyBytes, TooManyLines}
+use Rattle.text_lines.specs.declared.line_reader.Stop.{Stop}
+use Rattle.text_lines.specs.declared.line_reader.Stop.TheVariants.{InputEnded, CutLine, ReaderFailed, TooManyCalls, TooManyBytes, TooManyLines}
 use Rattle.event_feed.specs.declared.fault.FeedFault.TheVariants.{BadStamp, UnknownKind, UnknownObject, BadState, LineTooLong, NotUtf8, Cut, Read, NoMemory, Ended}
 
 -- the name, as reports print it

@@ -1,20 +1,21 @@
 -- A feed: its lines in order, numbered from 1, and what each answers.
-use Rattle.std.specs.Prelude.{◌≡◌, ◌≢◌, ℕ, ◌+◌, ◌<◌, ◌≤◌, ◌^◌, max, Bool, ◌||◌, ◌==◌, if◌then◌else◌, nat_lt, nat_le, List, [], ◌∷◌, length, take_while, IsTrue, IsSome, is_some, Option, Some, None, Result, Ok, Err}
-use Rattle.std.specs.List.{list_any}
-use Rattle.due_model.specs.Accepted.{IsProper}
-use Rattle.due_model.specs.Covered.{IsTakenIn}
+use Rattle.std.specs.Prelude.{◌≡◌, ◌≢◌, ℕ, ◌+◌, ◌<◌, ◌≤◌, ◌^◌, max, Bool, ◌||◌, ◌==◌, if◌then◌else◌, nat_lt, nat_le, List, [], ◌∷◌, ◌++◌, length, replicate, take_while, IsTrue, IsSome, is_some, Option, Some, None, Result, Ok, Err}
+use Rattle.due_model.specs.Proper.{IsProper}
+use Rattle.due_model.specs.Covered.{IsSupported}
 use Rattle.due_model.specs.declared.config.Config.{Config}
 use Rattle.due_model.specs.declared.config.Object.{Object}
 use Rattle.due_model.specs.declared.event.Event.{Event}
 use Rattle.event_feed.specs.declared.fault.FeedFault.{FeedFault}
 use Rattle.event_feed.specs.declared.fault.FeedFault.TheVariants.{Cut, LineTooLong, Read}
 use Rattle.event_feed.specs.declared.fault.LineFault.{LineFault}
-use Rattle.event_feed.specs.declared.fault.Stop.{Stop}
-use Rattle.event_feed.specs.declared.fault.Stop.TheVariants.{InputEnded, CutLine, ReaderFailed, TooManyCalls, TooManyBytes, TooManyLines}
 use Rattle.event_feed.specs.Fault.{is_line_fault, stop_fault}
 use Rattle.event_feed.specs.Line.{line_reading}
-use Rattle.event_feed.specs.Lines.{pieces, Known}
-use Rattle.event_feed.specs.Source.{byte_limit, call_limit}
+use Rattle.text_lines.specs.LineReader.{Reading, byte_limit, call_limit, cut_text, line_limit, to_come}
+use Rattle.text_lines.specs.Lines.{Known, pieces}
+use Rattle.text_lines.specs.declared.line_reader.NextLine.{NextLine}
+use Rattle.text_lines.specs.declared.line_reader.NextLine.TheVariants.{Line, Long, Over}
+use Rattle.text_lines.specs.declared.line_reader.Stop.{Stop}
+use Rattle.text_lines.specs.declared.line_reader.Stop.TheVariants.{InputEnded, CutLine, ReaderFailed, TooManyCalls, TooManyBytes, TooManyLines}
 
 -- what one line answers: its number, and an event or a fault
 pub record Answer : Type 0 where
@@ -39,40 +40,56 @@ moment_after last (Err fault) = last
 abbrev pub text_reading : List Object → ℕ → List ℕ → Result Event FeedFault
 text_reading objects last text = raised last (line_reading objects text)
 
--- the reading stops at a line: as many lines were taken as a feed may have, or the line is too long to be
+-- the reading stops at a line: as many lines were read as a feed may have, or the line is too long to be
 -- read over
 abbrev pub is_stopped : ℕ → List ℕ → Bool
-is_stopped taken text = nat_le feed_limit taken || nat_lt byte_limit (length text)
+is_stopped from text = nat_le feed_limit from || nat_lt byte_limit (length text)
 
--- What a feed answers, given the lines taken so far, the last moment and the pieces of the bytes to come:
--- each line that isn't empty answers its event or its fault, in order; the last piece has no newline behind
--- it, and if it isn't empty the feed was cut.
+-- What a feed answers, given the lines read so far, the last moment and the pieces of the bytes to come:
+-- each line that isn't empty answers its event or its fault, in order; no newline follows the last piece,
+-- and if it isn't empty the feed was cut.
 abbrev pub answers : List Object → ℕ → ℕ → List (List ℕ) → List Answer
-answers objects taken last [] = []
-answers objects taken last (text ∷ []) =
-    if is_stopped taken text then record { line = taken + 1; given = Err Read } ∷ []
+answers objects from last [] = []
+answers objects from last (text ∷ []) =
+    if is_stopped from text then record { line = from + 1; given = Err Read } ∷ []
     else if length text == 0 then []
-    else record { line = taken + 1; given = Err Cut } ∷ []
-answers objects taken last (text ∷ next ∷ more) =
-    if is_stopped taken text then record { line = taken + 1; given = Err Read } ∷ []
-    else if length text == 0 then answers objects (taken + 1) last (next ∷ more)
-    else record { line = taken + 1; given = text_reading objects last text }
-    ∷ answers objects (taken + 1) (moment_after last (text_reading objects last text)) (next ∷ more)
+    else record { line = from + 1; given = Err Cut } ∷ []
+answers objects from last (text ∷ next ∷ more) =
+    if is_stopped from text then record { line = from + 1; given = Err Read } ∷ []
+    else if length text == 0 then answers objects (from + 1) last (next ∷ more)
+    else record { line = from + 1; given = text_reading objects last text }
+    ∷ answers objects (from + 1) (moment_after last (text_reading objects last text)) (next ∷ more)
 
--- A feed that is being read: the bytes to come, where they are known; the text and the number of the last line
--- taken; the last moment; why it is over, if it is.
+-- A feed that is being read: the bytes to come, where they are known; those of them that are held, so that no call of
+-- the reader is needed for them; the text and the number of the last line read; the calls of the reader; the last
+-- moment; why the feed is over, if it is.
 pub record Feed : Type 0 where
   pub bytes : Option (List ℕ)
+  pub held : List ℕ
   pub text : List ℕ
+  pub calls : ℕ
   pub line : ℕ
   pub last : ℕ
   pub stop : Option Stop
 
+-- a feed whose lines are read so
+abbrev pub feed_of : Reading → (line last : ℕ) → Option Stop → Feed
+feed_of reading line last stop = record {
+  bytes = to_come reading;
+  held = reading.held;
+  text = reading.line;
+  calls = reading.calls;
+  line = line;
+  last = last;
+  stop = stop;
+}
+
 -- what the feed answers from here on, given the bytes to come
 abbrev pub answers_from : List Object → Feed → List ℕ → List Answer
-answers_from objects feed bytes = if is_some feed.stop then [] else answers objects feed.line feed.last (pieces bytes)
+answers_from objects feed bytes =
+    if is_some feed.stop then [] else answers objects feed.line feed.last (pieces bytes)
 
--- where the bytes are known, the answer is the next, and the feed goes on behind it
+-- where the bytes are known, the answer is the next, and the feed goes on after it
 abbrev pub AnswersNext : List Object → Feed → Answer → Feed → Type 0
 AnswersNext objects old answer new =
     Known old.bytes new.bytes (λ bytes rest. answers_from objects old bytes ≡ answer ∷ answers_from objects new rest)
@@ -87,25 +104,72 @@ AreFromLine line given = take_while (λ answer. nat_lt answer.line line) given �
 
 -- where the bytes are known, no answer to come is of a line before this one
 abbrev pub AnswersLater : List Object → Feed → ℕ → Feed → Type 0
-AnswersLater objects old line new = Known old.bytes new.bytes (λ bytes rest. AreFromLine line (answers_from objects old bytes))
+AnswersLater objects old line new =
+    Known old.bytes new.bytes (λ bytes rest. AreFromLine line (answers_from objects old bytes))
 
--- a piece of so many bytes is among these
-abbrev pub HasLine : ℕ → List (List ℕ) → Type 0
-HasLine count texts = IsTrue (list_any (λ text. nat_le count (length text)) texts)
+-- `from` lines come before these pieces. The first of them are empty lines, then comes the line of this number, with
+-- this text, and then the others.
+pub record ComesNext (from : ℕ) (texts : List (List ℕ)) (line : ℕ) (text : List ℕ) (others : List (List ℕ)) : Type 0 where
+  pub empty : ℕ
+  pub number : line ≡ from + empty + 1
+  pub are : texts ≡ replicate empty [] ++ text ∷ others
+
+-- the line of this number comes next, and its text has so many bytes
+abbrev pub ComesLong : ℕ → List (List ℕ) → ℕ → (count : ℕ) → Type 0
+ComesLong from texts line count =
+    (text : List ℕ) × (others : List (List ℕ)) × ComesNext from texts line text others × (count ≤ length text)
+
+-- The line that a reading came to: its number, its text where it is there, and the bytes after it. At the end of the
+-- input the number is that of the last line, which an empty piece follows.
+abbrev pub ComesTo : NextLine → (from : ℕ) → List ℕ → ℕ → List ℕ → List ℕ → Type 0
+ComesTo Line from bytes line text rest =
+    ComesNext from (pieces bytes) line text (pieces rest) × (0 < length text)
+ComesTo Long from bytes line text rest =
+    (long : List ℕ) × ComesNext from (pieces bytes) line long (pieces rest) × (line_limit < length long)
+ComesTo (Over InputEnded) from bytes line text rest =
+    ComesNext from (pieces bytes) (line + 1) [] [] × (rest ≡ [])
+ComesTo (Over CutLine) from bytes line text rest =
+    (cut : List ℕ) × ComesNext from (pieces bytes) line cut [] × (0 < length cut) × (text ≡ cut_text (length cut) cut)
+ComesTo (Over ReaderFailed) from bytes line text rest = ComesLong from (pieces bytes) line 0
+ComesTo (Over TooManyCalls) from bytes line text rest = ComesLong from (pieces bytes) line call_limit
+ComesTo (Over TooManyBytes) from bytes line text rest = ComesLong from (pieces bytes) line (byte_limit + 1)
+ComesTo (Over TooManyLines) from bytes line text rest =
+    ComesLong from (pieces bytes) line 0 × (line ≡ feed_limit + 1)
+
+-- the same of a feed whose bytes are known
+abbrev pub FeedComesTo : NextLine → Feed → Feed → Type 0
+FeedComesTo how old new =
+    Known old.bytes new.bytes (λ bytes rest. ComesTo how old.line bytes new.line new.text rest)
+
+-- the next line that isn't empty is refused by what it says, and its text stays unless it is too long
+pub record RefusesLine (objects : List Object) (from : ℕ) (bytes : List ℕ) (fault : LineFault) (kept rest : List ℕ) : Type 0 where
+  pub text : List ℕ
+  pub next : ComesNext from (pieces bytes) fault.line text (pieces rest)
+  pub some : 0 < length text
+  pub reading : line_reading objects text ≡ Err fault.fault
+  pub stays : fault.fault ≢ LineTooLong → kept ≡ text
+
+-- where the line of a fault stands in the bytes, where they are known
+abbrev pub FaultComesTo : List Object → Feed → LineFault → Option Stop → Feed → Type 0
+FaultComesTo objects old fault None new =
+    Known old.bytes new.bytes (λ bytes rest. RefusesLine objects old.line bytes fault new.text rest)
+FaultComesTo objects old fault (Some stop) new = FeedComesTo (Over stop) old new
 
 -- What a fault says of a feed whose bytes are known. A line that is read over, a cut and a limit on bytes or
 -- lines are the next answer of the feed. Where the reader failed or took too many calls, which the bytes
--- don't tell, the feed ends before the answers of that line; too many calls come only in a line of as many
--- bytes.
+-- don't tell, the feed ends before the answers of that line.
 abbrev pub FaultAnswers : List Object → Feed → LineFault → Option Stop → Feed → Type 0
-FaultAnswers objects old fault None new = AnswersNext objects old (record { line = fault.line; given = Err fault.fault }) new
+FaultAnswers objects old fault None new =
+    AnswersNext objects old (record { line = fault.line; given = Err fault.fault }) new
 FaultAnswers objects old fault (Some InputEnded) new = ⊥
-FaultAnswers objects old fault (Some CutLine) new = AnswersNext objects old (record { line = fault.line; given = Err fault.fault }) new
+FaultAnswers objects old fault (Some CutLine) new =
+    AnswersNext objects old (record { line = fault.line; given = Err fault.fault }) new
 FaultAnswers objects old fault (Some ReaderFailed) new = AnswersLater objects old fault.line new
-FaultAnswers objects old fault (Some TooManyCalls) new =
-    AnswersLater objects old fault.line new × Known old.bytes new.bytes (λ bytes rest. HasLine call_limit (pieces bytes))
-FaultAnswers objects old fault (Some TooManyBytes) new = AnswersNext objects old (record { line = fault.line; given = Err fault.fault }) new
-FaultAnswers objects old fault (Some TooManyLines) new = AnswersNext objects old (record { line = fault.line; given = Err fault.fault }) new
+FaultAnswers objects old fault (Some TooManyCalls) new = AnswersLater objects old fault.line new
+FaultAnswers objects old fault (Some TooManyBytes) new =
+    AnswersNext objects old (record { line = fault.line; given = Err fault.fault }) new
+FaultAnswers objects old fault (Some TooManyLines) new =
+    AnswersNext objects old (record { line = fault.line; given = Err fault.fault }) new
 
 -- which faults come with which stop: Cut and Read with theirs, the faults of a line with none, and want of
 -- memory and the end of the numbers never
@@ -113,11 +177,14 @@ abbrev pub FaultFits : FeedFault → Option Stop → Type 0
 FaultFits fault None = IsTrue (is_line_fault fault)
 FaultFits fault (Some stop) = stop_fault stop ≡ Some fault
 
--- the feed gives an event: proper, of a kind that is taken in, its moment no earlier than the last
+-- the feed gives an event: proper, of a supported kind, its moment no earlier than the last; it is what the text of the
+-- last line read says, and that is the next line that isn't empty
 pub record GivesEvent (c : Config) (old : Feed) (event : Event) (new : Feed) : Type 0 where
   pub answers : AnswersNext c.objects old (record { line = new.line; given = Ok event }) new
+  pub place : FeedComesTo Line old new
+  pub said : text_reading c.objects old.last new.text ≡ Ok event
   pub proper : IsProper c event
-  pub taken_in : IsTakenIn event.kind
+  pub supported : IsSupported event.kind
   pub later : old.last ≤ event.moment
   pub last : new.last ≡ event.moment
   pub line : old.line < new.line
@@ -130,9 +197,15 @@ pub record GivesNone (objects : List Object) (old new : Feed) : Type 0 where
   pub line : old.line ≤ new.line
   pub over : IsSome new.stop
 
--- a line, the last one taken, gives no event
+-- the input ended after whole lines, all of them empty, and they are counted
+pub record ComesToEnd (old new : Feed) : Type 0 where
+  pub stop : new.stop ≡ Some InputEnded
+  pub place : FeedComesTo (Over InputEnded) old new
+
+-- a line, the last one read, gives no event
 pub record GivesFault (objects : List Object) (old : Feed) (fault : LineFault) (new : Feed) : Type 0 where
   pub answers : FaultAnswers objects old fault new.stop new
+  pub place : FaultComesTo objects old fault new.stop new
   pub fits : FaultFits fault.fault new.stop
   -- a line that isn't too long is refused by what it says
   pub said : new.stop ≡ None → fault.fault ≢ LineTooLong → line_reading objects new.text ≡ Err fault.fault

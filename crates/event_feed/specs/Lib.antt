@@ -1,6 +1,4 @@
 pub mod Fault
 pub mod Line
-pub mod Lines
-pub mod Source
 pub mod Feed
-pub mod NextLine
+pub mod Feeder

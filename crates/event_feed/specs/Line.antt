@@ -4,7 +4,7 @@ use Rattle.std.specs.Char.{is_ascii_digit}
 use Rattle.std.specs.Int.Digits.{number_from_digits}
 use Rattle.std.specs.List.{slice_split}
 use Rattle.std.specs.Str.{bytes_eq, is_utf8}
-use Rattle.due_model.specs.Accepted.{last_moment}
+use Rattle.due_model.specs.Limits.{last_moment}
 use Rattle.due_model.specs.Objects.{object_named}
 use Rattle.due_model.specs.declared.config.Object.{Object}
 use Rattle.due_model.specs.declared.config.ObjectId.{ObjectId}
@@ -13,14 +13,11 @@ use Rattle.due_model.specs.declared.event.EventKind.{EventKind}
 use Rattle.due_model.specs.declared.event.EventKind.TheVariants.{Clock, Program, Hard}
 use Rattle.due_model.specs.declared.state.State.{State}
 use Rattle.due_model.specs.declared.state.State.TheVariants.{Up, Down, Unreachable}
+use Rattle.text_lines.specs.LineReader.{line_limit}
 use Rattle.event_feed.specs.declared.fault.FeedFault.{FeedFault}
 use Rattle.event_feed.specs.declared.fault.FeedFault.TheVariants.{BadStamp, UnknownKind, UnknownObject, BadState, LineTooLong, NotUtf8}
 use Rattle.event_feed.specs.declared.line.Command.{Command}
 use Rattle.event_feed.specs.declared.line.Command.TheVariants.{TellTime, EnableNotifications, DisableNotifications, HostState}
-
--- the most bytes of a line, without its newline
-abbrev pub line_limit : ℕ
-line_limit = 4096
 
 abbrev pub begins_with : List ℕ → List ℕ → Bool
 begins_with bytes front = bytes_eq (take (length front) bytes) front
@@ -49,7 +46,7 @@ stamp_of line =
     if is_stamp_shaped line && nat_le (digits_number (stamp_digits line)) last_moment
     then Some (digits_number (stamp_digits line)) else None
 
--- ---- the command: a name, and its arguments, each behind a `;`
+-- ---- the command: a name, and its arguments, each after a `;`
 
 abbrev pub command_of : List ℕ → List ℕ
 command_of line = drop 2 (after_digits line)
@@ -58,7 +55,7 @@ command_of line = drop 2 (after_digits line)
 abbrev pub fields : List ℕ → List (List ℕ)
 fields command = slice_split (λ byte. byte == 59) command
 
--- the fields behind the first, given what follows its `;`, if there is one
+-- the fields after the first, given what follows its `;`, if there is one
 abbrev pub fields_after : Option (List ℕ) → List (List ℕ)
 fields_after None = []
 fields_after (Some rest) = fields rest

@@ -4,6 +4,7 @@ ghost use Rattle.std.specs.Prelude.{◌≡◌, Some};
 ghost use Rattle.event_feed.specs.Fault.{fault_name, stop_fault};
 
 use std::fmt;
+use text_lines::Stop;
 
 /// Why a line of the feed gives no event, in the order in which the faults of one line are looked for.
 /// The name of each is what a report prints.
@@ -66,33 +67,15 @@ pub struct LineFault {
     pub fault: FeedFault,
 }
 
-/// Why a feed is over.
-#[derive(Clone, Copy, Debug, PartialEq, Eq)]
-pub enum Stop {
-    /// The input ended behind a whole line.
-    InputEnded,
-    /// The input ended within a line.
-    CutLine,
-    /// The reader failed.
-    ReaderFailed,
-    /// A line took 65,536 calls of the reader and wasn't at its end.
-    TooManyCalls,
-    /// A line has over 1,048,576 bytes.
-    TooManyBytes,
-    /// 2^33 lines were taken.
-    TooManyLines,
-}
-
-impl Stop {
-    /// The fault that a report notes: none where the input ended behind a whole line.
-    pub fn fault(self) -> Option<FeedFault>
-        ensures { result ≡ stop_fault self }
-    {
-        match self {
-            Stop::InputEnded => None,
-            Stop::CutLine => Some(FeedFault::Cut),
-            Stop::ReaderFailed | Stop::TooManyCalls | Stop::TooManyBytes | Stop::TooManyLines =>
-                Some(FeedFault::Read),
-        }
+/// The fault that a report notes of why a feed is over: none where the input ended after a whole line.
+pub fn stop_fault(stop: Stop) -> Option<FeedFault>
+    ensures { result ≡ stop_fault stop }
+{
+    match stop {
+        Stop::InputEnded => None,
+        Stop::CutLine => Some(FeedFault::Cut),
+        Stop::ReaderFailed | Stop::TooManyCalls | Stop::TooManyBytes | Stop::TooManyLines => Some(
+            FeedFault::Read,
+        ),
     }
 }

@@ -1,21 +1,19 @@
 //! One line of the feed.
 
-ghost use Rattle.std.specs.Prelude.{◌≡◌, ◌≤◌, ◌∷◌, ◌==◌, Some, None, IfOk, IfSome, nat_le, length, take_while, if◌then◌else◌};
+ghost use Rattle.std.specs.Prelude.{◌≡◌, ◌≤◌, ◌∷◌, Some, None, IfOk, IfSome, nat_le, length, take_while, if◌then◌else◌};
 ghost use Rattle.std.specs.Option.{option_copied, option_map};
-ghost use Rattle.std.specs.List.{position_or_len};
 ghost use Rattle.std.specs.Str.{is_utf8};
-ghost use Rattle.due_model.specs.Accepted.{IsProper, last_moment};
+ghost use Rattle.due_model.specs.Proper.{IsProper};
+ghost use Rattle.due_model.specs.Limits.{last_moment};
 ghost use Rattle.std.specs.Char.{is_ascii_digit};
 ghost use Rattle.event_feed.specs.Line.{bare_reading, command_named, command_of, command_reading, fields, fields_after, host_state_named, host_state_reading, line_reading, digits_number, stamp_of, state_reading};
 
 use crate::fault::FeedFault;
 use due_model::config::{Config, ObjectId};
-use due_model::covered::LAST_MOMENT;
 use due_model::event::{Event, EventKind};
+use due_model::limits::LAST_MOMENT;
 use due_model::state::State;
-
-/// The most bytes of a line, without its newline.
-pub const LINE_LIMIT: usize = 4096;
+use text_lines::{LINE_LIMIT, find_byte};
 
 /// What the name of a line says that happened.
 #[derive(Clone, Copy, Debug, PartialEq, Eq)]
@@ -99,7 +97,8 @@ fn count_digits(bytes: &[u8]) -> usize
 /// are digits is the caller's to know.
 pub fn read_number(digits: &[u8], most: u64) -> Option<u64>
     requires { most ≤ last_moment }
-    ensures { result ≡ (if nat_le (digits_number digits.now) most then Some (digits_number digits.now) else None) }
+    ensures { result ≡ (if nat_le (digits_number digits.now) most
+        then Some (digits_number digits.now) else None) }
 {
     let mut number = 0;
     for digit in digits {
@@ -135,17 +134,6 @@ fn split_field(bytes: &[u8]) -> (&[u8], Option<&[u8]>)
     }
 }
 
-/// The place of the first such byte, or the length where there is none.
-pub fn find_byte(byte: u8, bytes: &[u8]) -> usize
-    ensures place { result ≡ position_or_len (λ b. b == byte) bytes.now }
-    ensures within { result ≤ length bytes.now }
-{
-    match memchr::memchr(byte, bytes) {
-        Some(place) => place,
-        None => bytes.len(),
-    }
-}
-
 /// The command of that name.
 fn find_command(name: &[u8]) -> Option<Command>
     ensures { result ≡ command_named name.now }
@@ -175,7 +163,8 @@ fn read_bare(kind: EventKind, arguments: Option<&[u8]>) -> Result<EventKind, Fee
 
 /// `HOST_STATE`, from its arguments.
 fn read_host_state(config: &Config, arguments: Option<&[u8]>) -> Result<EventKind, FeedFault>
-    ensures { result ≡ host_state_reading config.now.objects (fields_after (option_copied arguments.entry)) }
+    ensures { result ≡ host_state_reading config.now.objects
+        (fields_after (option_copied arguments.entry)) }
 {
     let Some(arguments) = arguments else {
         return Err(FeedFault::BadState);

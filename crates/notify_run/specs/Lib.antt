@@ -1,10 +1,1 @@
-pub mod Entries
-pub mod Inputs
-pub mod Outputs
-pub mod Reports
-pub mod ReportText
-pub mod Replays
-pub mod Replayed
-pub mod StepLines
-pub mod TraceText
-pub mod Traced
+pub mod CommandLine

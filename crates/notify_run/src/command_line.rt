@@ -1,18 +1,25 @@
 //! The command line: what `notify-run` can be asked, and what its words ask.
 
-use crate::trace::TraceSettings;
+ghost use Rattle.std.specs.Prelude.{◌≡◌, codes, IfSome, Some};
+ghost use Rattle.clap.specs.Matches.{subcommand_name_of};
+ghost use Rattle.notify_run.specs.CommandLine.{request_name};
+
 use clap::{Arg, ArgMatches, Command, value_parser};
 use std::alloc::{AllocError, Global};
+use world_steps::Settings;
 
-/// What `notify-run --help` says behind its commands.
+/// What `notify-run --version` says after the name.
+const VERSION: &str = "0.2.0";
+
+/// What `notify-run --help` says after its commands.
 const STATUSES: &str = "\
 Exit status:
   0  done
-  1  the object text was refused, the input or the output failed, or the feed broke off
+  1  the object text was refused, the input or the output failed, or the feed ended early
   2  the command line is wrong
   4  memory ran out
 
-Faults are told on standard error, those of the object text with the line of it.";
+Faults are named on standard error, those of the object text with their line.";
 
 /// What `notify-run replay --help` says.
 const REPLAY: &str = "\
@@ -24,10 +31,16 @@ writes to standard output what would have been sent, line by line of the feed:
   C;event;moment;object;kind;state;number;contact;filter   a contact that was refused
   R;line;fault                                             a refused line of the feed
 
-Times are UTC. The feed is read and the report written as it comes.";
+Times are UTC. The feed is read as it comes, and what an event adds is written before
+more input is waited for, so that `tail -f feed | notify-run replay` follows a feed.";
 
 /// What `notify-run trace --help` says.
 const TRACE: &str = "\
+Shows the design of the notification engine at work: deciders, queues and channels as
+one state, in which you choose which part acts next. Whatever the order, each channel
+takes what `replay` reports for its lane, in the order of the events; use it to see how
+a notice gets there, or where it stands when a lane fails or closes.
+
 Reads object text, a line `%events`, a feed of events, a line `%steps` and steps
 from standard input, one step a line, and does them one by one:
 
@@ -44,17 +57,17 @@ from standard input, one step a line, and does them one by one:
 A lane is named by its command: one that a contact lists. Standard output gets
 
   R;line;fault                                             a refused line of the feed
-  E;line;BadStep                                           a line behind `%steps` that is no step
+  E;line;BadStep                                           a line after `%steps` that is no step
   E;line;NotEnabled                                        a step that can't be done
   L;lane;object;taken;hand;undelivered;queue;outbox        at the end, what the lane holds of the object
 
-where each list is `event:contact`, parted by commas, or `-`.";
+where each list is `event:contact`, separated by commas, or `-`.";
 
 /// What the program is asked to do.
 #[derive(Clone, Copy, Debug, PartialEq, Eq)]
 pub enum Request {
     Replay,
-    Trace(TraceSettings),
+    Trace(Settings),
 }
 
 /// The command `replay`, which has no options yet.
@@ -85,7 +98,7 @@ fn trace_command<'a>(alloc: Global) -> Result<Command<'a>, AllocError> {
         .default_value("3")
         .help("How often a message is tried, 1 to 10");
     Command::new(alloc, "trace")
-        .about("The engine's design, step by step")
+        .about("The engine's design at work, step by step, in an order that you choose")
         .long_about(TRACE)
         .arg(deciders)?
         .arg(queue)?
@@ -97,6 +110,7 @@ pub fn command<'a>(alloc: Global) -> Result<Command<'a>, AllocError> {
     Command::new(alloc, "notify-run")
         .bin_name("notify-run")?
         .about("The notification logic of Nagios Core 4")
+        .version(VERSION)
         .after_help(STATUSES)
         .disable_help_subcommand(true)
         .subcommand_required(true)
@@ -107,15 +121,20 @@ pub fn command<'a>(alloc: Global) -> Result<Command<'a>, AllocError> {
 
 /// The settings of a trace. Each option has a default, and its range is that of the settings, so that there are
 /// some behind each command line that was read.
-fn settings_of(options: &ArgMatches<'_>) -> Option<TraceSettings> {
+fn settings_of(options: &ArgMatches<'_>) -> Option<Settings> {
     let deciders = options.get_one::<u8>("deciders")?;
     let queue = options.get_one::<u16>("queue")?;
     let tries = options.get_one::<u8>("tries")?;
-    TraceSettings::new(deciders, queue, tries)
+    Settings::new(deciders, queue, tries)
 }
 
 /// What a command line that was read asks.
-pub fn request_of(matches: &ArgMatches<'_>) -> Option<Request> {
+pub fn request_of(matches: &ArgMatches<'_>) -> Option<Request>
+    ensures named { IfSome result (λ request.
+        subcommand_name_of matches.now ≡ Some (request_name request)) }
+    ensures replay { subcommand_name_of matches.now ≡ Some (codes "replay")
+        → result ≡ Some Request.Replay }
+{
     match matches.subcommand() {
         Some(("replay", _)) => Some(Request::Replay),
         Some(("trace", options)) => settings_of(options).map(Request::Trace),

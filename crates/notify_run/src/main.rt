@@ -1,58 +1,42 @@
-//! The program `notify-run`: what the notification rules make due.
+//! The program `notify-run`: its command line, and how each command ends.
 #![tactic(auto)]
 
+ghost use Rattle.std.specs.Prelude.{◌≡◌};
+ghost use Rattle.std.specs.Process.{exit_status};
+ghost use Rattle.command_output.specs.Outcome.{outcome_status};
+
 mod command_line;
-#[cfg(test)]
-mod comparison;
-mod input;
-mod lines;
-mod order;
-mod output;
-mod replay;
-mod report;
-#[cfg(test)]
-mod tests;
-mod trace;
 
 use clap::error::ErrorKind;
 use command_line::{Request, command, request_of};
-use replay::{Ending, ReplayFault, replay};
+use command_output::{CommandFault, Ending, exit_status};
+use replay::replay;
 use std::alloc::AllocError;
 use std::env;
 use std::process::ExitCode;
 use trace::trace;
 
-/// Writes a fault on standard error, and gives the exit status.
-fn told<R: Eprint>(rt: &R, status: u8, text: &str) -> ExitCode {
-    let _ = rt.eprintln(text);
-    ExitCode::from(status)
-}
-
-/// The exit status of a command: 0 where all was read, 1 where the feed or the steps ended before, or where the
-/// object text or the output failed, 4 for want of memory.
-fn status_of<R: Eprint>(rt: &R, outcome: Result<Ending, ReplayFault>) -> ExitCode {
-    match outcome {
-        Ok(Ending::Whole) => ExitCode::from(0),
-        Ok(Ending::Short) => ExitCode::from(1),
-        Err(ReplayFault::Read(fault)) => {
-            let _ = rt.eprintln(format_args!("objects: {fault}"));
-            ExitCode::from(1)
-        }
-        Err(ReplayFault::Resolve(fault)) => {
-            let _ = rt.eprintln(format_args!("objects: {fault}"));
-            ExitCode::from(1)
-        }
-        Err(ReplayFault::TooLarge) => told(rt, 1, "objects: TooLarge"),
-        Err(ReplayFault::Unreadable) => told(rt, 1, "objects: unreadable"),
-        Err(ReplayFault::Output) => told(rt, 1, "output: failed"),
-        Err(ReplayFault::NoMemory) => told(rt, 4, "memory"),
+/// Says on standard error what a command failed with, if it did, and gives its exit status.
+fn status_of<R: Eprint>(rt: &R, outcome: Result<Ending, CommandFault>) -> ExitCode
+    ensures { exit_status result ≡ outcome_status outcome }
+{
+    if let Err(fault) = outcome {
+        let _ = rt.eprintln(format_args!("{fault}"));
     }
+    ExitCode::from(exit_status(outcome))
 }
 
-/// Writes what `clap` says of a command line that asks for help, or is wrong, and gives the exit status.
-fn shown<R: Print + Eprint>(rt: &R, error: &clap::Error) -> ExitCode {
+/// Memory ran out before a command was known.
+fn out_of_memory<R: Eprint>(rt: &R) -> ExitCode
+    ensures { exit_status result ≡ 4 }
+{
+    status_of(rt, Err(CommandFault::NoMemory))
+}
+
+/// Writes what `clap` says of a command line that asks for help or the version, or is wrong, and gives the exit status.
+fn status_of_refusal<R: Print + Eprint>(rt: &R, error: &clap::Error) -> ExitCode {
     if error.kind() == ErrorKind::OutOfMemory {
-        return told(rt, 4, "memory");
+        return out_of_memory(rt);
     }
     let _ = error.print(rt);
     if error.use_stderr() {
@@ -65,17 +49,17 @@ fn shown<R: Print + Eprint>(rt: &R, error: &clap::Error) -> ExitCode {
 fn main(rt: HostRuntime) -> ExitCode {
     let alloc = rt.alloc();
     let Ok(args) = env::args(&rt) else {
-        return told(&rt, 4, "memory");
+        return out_of_memory(&rt);
     };
     let Ok(words): Result<Vec<String>, AllocError> = args.collect(alloc) else {
-        return told(&rt, 4, "memory");
+        return out_of_memory(&rt);
     };
     let Ok(command) = command(alloc) else {
-        return told(&rt, 4, "memory");
+        return out_of_memory(&rt);
     };
     let matches = match command.try_get_matches_from(words.as_slice()) {
         Ok(matches) => matches,
-        Err(error) => return shown(&rt, &error),
+        Err(error) => return status_of_refusal(&rt, &error),
     };
     match request_of(&matches) {
         Some(Request::Replay) => {
@@ -86,6 +70,9 @@ fn main(rt: HostRuntime) -> ExitCode {
             let outcome = trace(alloc, settings, rt.stdin(), &mut rt.stdout());
             status_of(&rt, outcome)
         }
-        None => told(&rt, 2, "usage: notify-run --help"),
+        None => {
+            let _ = rt.eprintln("usage: notify-run --help");
+            ExitCode::from(2)
+        }
     }
 }

@@ -9,11 +9,10 @@ use Rattle.object_reader.specs.declared.fault.LineFault.{LineFault}
 use Rattle.object_reader.specs.declared.fault.LineFault.TheVariants.{NoValue, Unclosed}
 use Rattle.object_reader.specs.declared.fault.ReadFault.{ReadFault}
 use Rattle.object_reader.specs.declared.fault.ReadFault.TheVariants.{AtLine, NoMemory, TooLarge}
-use Rattle.object_reader.specs.Statements.{Statement, statements_from, statements_of, opened, is_close, is_define}
+use Rattle.object_reader.specs.Statements.{Statement, statements_of, opened, is_close, is_define}
 use Rattle.object_reader.specs.Blocks.{◌>>=◌, at_line, directive_of, with_blocks, with_directives, before_blocks, blocks_of, block_of, read_text, Gives}
 use Rattle.object_reader.specs.Grammar.{Opens, IsDirective, Closes, AreDirectives, IsBlock, AreBlocks, IsObjectText, IsBeginning, IsFaulty, OpensNone, IsFirstFault, IsRefused}
-use Rattle.object_reader.specs.Lines.{lines_of}
-use Rattle.object_reader.proofs.Lines.{lines_read, lines_are}
+use Rattle.object_reader.proofs.Statements.{text_statements, has_statements}
 use Rattle.object_reader.proofs.Spelling.{opened_spelled, opened_taken, opened_refused, no_define, directive_spelled, directive_taken, directive_refused, no_directive}
 use Rattle.object_reader.proofs.Blocks.{block_of-close, block_of-directive, block_of-define, with_directives-close, with_directives-push, blocks_of-block, blocks_of-not_opened, blocks_of-opened, block_and, with_blocks-push, read_text-blocks, read_text-large}
 
@@ -43,27 +42,28 @@ with_blocks-none : (read : Result (List Block) ReadFault) → with_blocks [] rea
 with_blocks-none (Ok others) = refl
 with_blocks-none (Err fault) = refl
 
-directives_read : (define : ℕ) (body rest : List Statement) (ds : List Directive) → AreDirectives body ds → block_of define (body ++ rest) ≡ with_directives ds (block_of define rest)
-directives_read define [] rest [] h = sym (with_directives-none (block_of define rest))
-directives_read define [] rest (d ∷ ds) h = absurd h
-directives_read define (s ∷ body) rest [] h = absurd h
-directives_read define (s ∷ body) rest (d ∷ ds) h =
-    ap (λ first. block_of define (first ∷ (body ++ rest))) (said_so s h.0.text h.0.says)
-    ∙ block_of-directive define s.line h.0.text (body ++ rest) h.0.no_close h.0.no_define
-    ∙ ap (λ r. at_line s.line r >>= λ x. with_directives (x ∷ []) (block_of define (body ++ rest))) (directive_spelled h.0.text d h.0.value)
-    ∙ ap (with_directives (d ∷ [])) (directives_read define body rest ds h.1)
-    ∙ with_directives-push (d ∷ []) ds (block_of define rest)
+directives_read : (kind : BlockKind) (define : ℕ) (body rest : List Statement) (ds : List Directive) → AreDirectives kind body ds
+    → block_of kind define (body ++ rest) ≡ with_directives ds (block_of kind define rest)
+directives_read kind define [] rest [] h = sym (with_directives-none (block_of kind define rest))
+directives_read kind define [] rest (d ∷ ds) h = absurd h
+directives_read kind define (s ∷ body) rest [] h = absurd h
+directives_read kind define (s ∷ body) rest (d ∷ ds) h =
+    ap (λ first. block_of kind define (first ∷ (body ++ rest))) (said_so s h.0.text h.0.says)
+    ∙ block_of-directive kind define s.line h.0.text (body ++ rest) h.0.no_close h.0.no_define
+    ∙ ap (λ r. at_line s.line r >>= λ x. with_directives (x ∷ []) (block_of kind define (body ++ rest))) (directive_spelled kind h.0.text d h.0.value)
+    ∙ ap (with_directives (d ∷ [])) (directives_read kind define body rest ds h.1)
+    ∙ with_directives-push (d ∷ []) ds (block_of kind define rest)
 
-close_read : (define : ℕ) (close : Statement) (rest : List Statement) → Closes close → block_of define (close ∷ rest) ≡ before_blocks [] (blocks_of rest)
-close_read define close rest h =
-    ap (λ first. block_of define (first ∷ rest)) (said_so close h.text h.says) ∙ block_of-close define close.line h.text rest h.closes
+close_read : (kind : BlockKind) (define : ℕ) (close : Statement) (rest : List Statement) → Closes close → block_of kind define (close ∷ rest) ≡ before_blocks [] (blocks_of rest)
+close_read kind define close rest h =
+    ap (λ first. block_of kind define (first ∷ rest)) (said_so close h.text h.says) ∙ block_of-close kind define close.line h.text rest h.closes
 
 block_read : (first rest : List Statement) (b : Block) → IsBlock first b → blocks_of (first ++ rest) ≡ with_blocks (b ∷ []) (blocks_of rest)
 block_read first rest b h =
     let parts : first ++ rest ≡ h.head ∷ (h.body ++ h.close ∷ rest) = ap (λ ss. ss ++ rest) h.parts ∙ ap (λ ss. h.head ∷ ss) (append_assoc h.body (h.close ∷ []) rest) in
-    let inside : block_of b.line (h.body ++ h.close ∷ rest) ≡ before_blocks b.directives (blocks_of rest) =
-    directives_read b.line h.body (h.close ∷ rest) b.directives h.directives
-    ∙ ap (with_directives b.directives) (close_read b.line h.close rest h.closes)
+    let inside : block_of b.kind b.line (h.body ++ h.close ∷ rest) ≡ before_blocks b.directives (blocks_of rest) =
+    directives_read b.kind b.line h.body (h.close ∷ rest) b.directives h.directives
+    ∙ ap (with_directives b.directives) (close_read b.kind b.line h.close rest h.closes)
     ∙ with_directives-close b.directives (blocks_of rest) in
     ap blocks_of parts
     ∙ ap (λ head. blocks_of (head ∷ (h.body ++ h.close ∷ rest))) h.opens.says
@@ -81,33 +81,31 @@ blocks_read ss rest (b ∷ bs) h =
 pub object_text_read : (text : List ℕ) (bs : List Block) → IsObjectText text bs → read_text text ≡ Ok bs
 unfolding blocks_of
 object_text_read text bs h =
-    let ss = statements_from 1 h.lines in
-    let same : statements_of text ≡ ss = ap (statements_from 1) (lines_read text h.lines h.split) in
-    read_text-blocks text h.fits ∙ ap blocks_of (same ∙ sym (append-nil ss)) ∙ blocks_read ss [] bs h.parts ∙ ap Ok (append-nil bs)
+    read_text-blocks text h.fits ∙ ap blocks_of (text_statements text h.statements h.has ∙ sym (append-nil h.statements)) ∙ blocks_read h.statements [] bs h.parts ∙ ap Ok (append-nil bs)
 
 -- What is read is written so, and a fault is the first.
 
 -- in a block that a line opened: its directives, its close, and the blocks after it
-record IsRest (ss : List Statement) (ds : List Directive) (bs : List Block) : Type 0 where
+record IsRest (kind : BlockKind) (ss : List Statement) (ds : List Directive) (bs : List Block) : Type 0 where
   body : List Statement
   close : Statement
   others : List Statement
   parts : ss ≡ body ++ close ∷ others
-  directives : AreDirectives body ds
+  directives : AreDirectives kind body ds
   closes : Closes close
   blocks : AreBlocks others bs
 
 -- the first fault in a block, or after it
 abbrev IsFaultIn : Block → List Statement → ReadFault → Type 0
 IsFaultIn b ss fault =
-    ((body : List Statement) × (ds : List Directive) × (s : Statement) × (after : List Statement) × (ss ≡ body ++ s ∷ after) × AreDirectives body ds
+    ((body : List Statement) × (ds : List Directive) × (s : Statement) × (after : List Statement) × (ss ≡ body ++ s ∷ after) × AreDirectives b.kind body ds
     × IsFaulty (Some (record b { directives = ds })) s fault)
-    ⊎ (((ds : List Directive) × AreDirectives ss ds × (fault ≡ AtLine b.line Unclosed))
+    ⊎ (((ds : List Directive) × AreDirectives b.kind ss ds × (fault ≡ AtLine b.line Unclosed))
     ⊎ ((body : List Statement) × (ds : List Directive) × (close : Statement) × (others : List Statement) × (ss ≡ body ++ close ∷ others)
-    × AreDirectives body ds × Closes close × IsFirstFault others fault))
+    × AreDirectives b.kind body ds × Closes close × IsFirstFault others fault))
 
 abbrev IsRightIn : Block → List Statement → Result (List Directive × List Block) ReadFault → Type 0
-IsRightIn b ss (Ok inside) = IsRest ss inside.0 inside.1
+IsRightIn b ss (Ok inside) = IsRest b.kind ss inside.0 inside.1
 IsRightIn b ss (Err fault) = IsFaultIn b ss fault
 
 abbrev IsRight : List Statement → Result (List Block) ReadFault → Type 0
@@ -115,7 +113,7 @@ IsRight ss (Ok bs) = AreBlocks ss bs
 IsRight ss (Err fault) = IsFirstFault ss fault
 
 -- one more directive before the rest of a block
-directive_before : (b : Block) (s : Statement) (d : Directive) (ss : List Statement) (r : Result (List Directive × List Block) ReadFault) → IsDirective s d
+directive_before : (b : Block) (s : Statement) (d : Directive) (ss : List Statement) (r : Result (List Directive × List Block) ReadFault) → IsDirective b.kind s d
     → IsRightIn b ss r → IsRightIn b (s ∷ ss) (with_directives (d ∷ []) r)
 directive_before b s d ss (Ok inside) is h = record {
   body = s ∷ h.body;
@@ -136,7 +134,7 @@ close_before b s ss (Ok others) is h = record { body = []; close = s; others = s
 close_before b s ss (Err fault) is h = inr (inr ([], [], s, ss, refl, tt, is, h))
 
 -- the statements of a block, by its parts
-block_of_parts : (b : Block) (s : Statement) (body : List Statement) (close : Statement) → Opens s b → AreDirectives body b.directives → Closes close → IsBlock (s ∷ (body ++ close ∷ [])) b
+block_of_parts : (b : Block) (s : Statement) (body : List Statement) (close : Statement) → Opens s b → AreDirectives b.kind body b.directives → Closes close → IsBlock (s ∷ (body ++ close ∷ [])) b
 block_of_parts b s body close opens directives closes = record { head = s; body = body; close = close; parts = refl; opens = opens; directives = directives; closes = closes }
 
 beginning_after : (first ss : List Statement) (b : Block) (within : Option Block) → IsBlock first b → IsBeginning ss within → IsBeginning (first ++ ss) within
@@ -182,11 +180,11 @@ block_right b s ss text says opens (Err fault) (inr (inr h)) =
     (block_of_parts (record b { directives = h.1 }) s h.0 h.2 (opens_from s b text h.1 says opens) h.5 h.6) h.7)
 
 -- a statement outside a block
-module _ (s : Statement) (ss : List Statement) (inside : (b : Block) → IsRightIn b ss (block_of b.line ss)) where
+module _ (s : Statement) (ss : List Statement) (inside : (b : Block) → IsRightIn b ss (block_of b.kind b.line ss)) where
   outside_opened : (text : List ℕ) → s.text ≡ Ok text → (r : Result BlockKind LineFault) → opened text ≡ r → IsRight (s ∷ ss) (blocks_of ((record { line = s.line; text = Ok text }) ∷ ss))
   outside_opened text says (Ok kind) e =
       let b : Block = record { kind = kind; line = s.line; directives = [] } in
-      subst (λ r. IsRight (s ∷ ss) r) (sym (blocks_of-opened s.line text ss kind e)) (block_right b s ss text (said_so s text says) e (block_of s.line ss) (inside b))
+      subst (λ r. IsRight (s ∷ ss) r) (sym (blocks_of-opened s.line text ss kind e)) (block_right b s ss text (said_so s text says) e (block_of kind s.line ss) (inside b))
   outside_opened text says (Err f) e =
       subst (λ r. IsRight (s ∷ ss) r) (sym (blocks_of-not_opened s.line text ss f e)) (inl ([], s, ss, None, refl, ([], refl), (f, refl, inr (text, says, opened_refused text f e))))
 
@@ -196,32 +194,32 @@ module _ (s : Statement) (ss : List Statement) (inside : (b : Block) → IsRight
   outside_said (Err f) e = inl ([], s, ss, None, refl, ([], refl), (f, refl, inl e))
 
 -- a statement in a block
-module _ (b : Block) (s : Statement) (ss : List Statement) (outside : IsRight ss (blocks_of ss)) (inside : IsRightIn b ss (block_of b.line ss)) where
-  inside_directive : (text : List ℕ) → s.text ≡ Ok text → is_close text ≡ false → is_define text ≡ false → (r : Result Directive LineFault) → directive_of text ≡ r
-      → IsRightIn b (s ∷ ss) (at_line s.line r >>= λ directive. with_directives (directive ∷ []) (block_of b.line ss))
+module _ (b : Block) (s : Statement) (ss : List Statement) (outside : IsRight ss (blocks_of ss)) (inside : IsRightIn b ss (block_of b.kind b.line ss)) where
+  inside_directive : (text : List ℕ) → s.text ≡ Ok text → is_close text ≡ false → is_define text ≡ false → (r : Result Directive LineFault) → directive_of b.kind text ≡ r
+      → IsRightIn b (s ∷ ss) (at_line s.line r >>= λ directive. with_directives (directive ∷ []) (block_of b.kind b.line ss))
   inside_directive text says c d (Ok directive) e =
-      directive_before b s directive ss (block_of b.line ss) (record { text = text; says = says; no_close = c; no_define = d; value = directive_taken text directive e }) inside
+      directive_before b s directive ss (block_of b.kind b.line ss) (record { text = text; says = says; no_close = c; no_define = d; value = directive_taken b.kind text directive e }) inside
   inside_directive text says c d (Err f) e =
-      let h = directive_refused text f e in inl ([], [], s, ss, refl, tt, inr (inr (text, says, c, d, h.1, ap (λ g. AtLine s.line g) h.0)))
+      let h = directive_refused b.kind text f e in inl ([], [], s, ss, refl, tt, inr (inr (text, says, c, d, h.1, ap (λ g. AtLine s.line g) h.0)))
 
-  inside_define : (text : List ℕ) → s.text ≡ Ok text → is_close text ≡ false → (d : Bool) → is_define text ≡ d → IsRightIn b (s ∷ ss) (block_of b.line ((record { line = s.line; text = Ok text }) ∷ ss))
+  inside_define : (text : List ℕ) → s.text ≡ Ok text → is_close text ≡ false → (d : Bool) → is_define text ≡ d → IsRightIn b (s ∷ ss) (block_of b.kind b.line ((record { line = s.line; text = Ok text }) ∷ ss))
   inside_define text says c true e =
-      subst (λ r. IsRightIn b (s ∷ ss) r) (sym (block_of-define b.line s.line text ss c e)) (inl ([], [], s, ss, refl, tt, inr (inl (text, says, c, e, refl))))
+      subst (λ r. IsRightIn b (s ∷ ss) r) (sym (block_of-define b.kind b.line s.line text ss c e)) (inl ([], [], s, ss, refl, tt, inr (inl (text, says, c, e, refl))))
   inside_define text says c false e =
-      subst (λ r. IsRightIn b (s ∷ ss) r) (sym (block_of-directive b.line s.line text ss c e)) (inside_directive text says c e (directive_of text) refl)
+      subst (λ r. IsRightIn b (s ∷ ss) r) (sym (block_of-directive b.kind b.line s.line text ss c e)) (inside_directive text says c e (directive_of b.kind text) refl)
 
-  inside_close : (text : List ℕ) → s.text ≡ Ok text → (c : Bool) → is_close text ≡ c → IsRightIn b (s ∷ ss) (block_of b.line ((record { line = s.line; text = Ok text }) ∷ ss))
+  inside_close : (text : List ℕ) → s.text ≡ Ok text → (c : Bool) → is_close text ≡ c → IsRightIn b (s ∷ ss) (block_of b.kind b.line ((record { line = s.line; text = Ok text }) ∷ ss))
   inside_close text says true e =
-      subst (λ r. IsRightIn b (s ∷ ss) r) (sym (block_of-close b.line s.line text ss e)) (close_before b s ss (blocks_of ss) (record { text = text; says = says; closes = e }) outside)
+      subst (λ r. IsRightIn b (s ∷ ss) r) (sym (block_of-close b.kind b.line s.line text ss e)) (close_before b s ss (blocks_of ss) (record { text = text; says = says; closes = e }) outside)
   inside_close text says false e = inside_define text says e (is_define text) refl
 
-  inside_said : (r : Result (List ℕ) LineFault) → s.text ≡ r → IsRightIn b (s ∷ ss) (block_of b.line ((record { line = s.line; text = r }) ∷ ss))
+  inside_said : (r : Result (List ℕ) LineFault) → s.text ≡ r → IsRightIn b (s ∷ ss) (block_of b.kind b.line ((record { line = s.line; text = r }) ∷ ss))
   unfolding block_of
   inside_said (Ok text) e = inside_close text e (is_close text) refl
   inside_said (Err f) e = inl ([], [], s, ss, refl, tt, inl (f, refl, e))
 
 -- whatever the statements are, what is read of them is right
-right : (ss : List Statement) → IsRight ss (blocks_of ss) × ((b : Block) → IsRightIn b ss (block_of b.line ss))
+right : (ss : List Statement) → IsRight ss (blocks_of ss) × ((b : Block) → IsRightIn b ss (block_of b.kind b.line ss))
 unfolding blocks_of block_of
 right [] = (refl, λ b. inr (inl ([], tt, refl)))
 right (s ∷ ss) = let h = right ss in (outside_said s ss h.1 s.text refl, λ b. inside_said b s ss h.0 (h.1 b) s.text refl)
@@ -237,19 +235,19 @@ faulty_outside s after fault (f, e, inl says) = ap (λ x. blocks_of (x ∷ after
 faulty_outside s after fault (f, e, inr (text, says, opens)) =
     ap (λ x. blocks_of (x ∷ after)) (said_so s text says) ∙ blocks_of-not_opened s.line text after f (opens_none text f opens) ∙ ap Err (sym e)
 
-faulty_inside : (b : Block) (s : Statement) (after : List Statement) (fault : ReadFault) → IsFaulty (Some b) s fault → block_of b.line (s ∷ after) ≡ Err fault
+faulty_inside : (b : Block) (s : Statement) (after : List Statement) (fault : ReadFault) → IsFaulty (Some b) s fault → block_of b.kind b.line (s ∷ after) ≡ Err fault
 unfolding block_of
-faulty_inside b s after fault (inl (f, e, says)) = ap (λ x. block_of b.line (x ∷ after)) (fault_line s f says) ∙ ap Err (sym e)
+faulty_inside b s after fault (inl (f, e, says)) = ap (λ x. block_of b.kind b.line (x ∷ after)) (fault_line s f says) ∙ ap Err (sym e)
 faulty_inside b s after fault (inr (inl (text, says, c, d, e))) =
-    ap (λ x. block_of b.line (x ∷ after)) (said_so s text says) ∙ block_of-define b.line s.line text after c d ∙ ap Err (sym e)
+    ap (λ x. block_of b.kind b.line (x ∷ after)) (said_so s text says) ∙ block_of-define b.kind b.line s.line text after c d ∙ ap Err (sym e)
 faulty_inside b s after fault (inr (inr (text, says, c, d, none, e))) =
-    ap (λ x. block_of b.line (x ∷ after)) (said_so s text says) ∙ block_of-directive b.line s.line text after c d
-    ∙ ap (λ r. at_line s.line r >>= λ x. with_directives (x ∷ []) (block_of b.line after)) (no_directive text none) ∙ ap Err (sym e)
+    ap (λ x. block_of b.kind b.line (x ∷ after)) (said_so s text says) ∙ block_of-directive b.kind b.line s.line text after c d
+    ∙ ap (λ r. at_line s.line r >>= λ x. with_directives (x ∷ []) (block_of b.kind b.line after)) (no_directive b.kind text none) ∙ ap Err (sym e)
 
 -- a fault in a block that has begun
-begun_fails : (ss rest : List Statement) (b : Block) (fault : ReadFault) → IsBeginning ss (Some b) → block_of b.line rest ≡ Err fault → blocks_of (ss ++ rest) ≡ Err fault
+begun_fails : (ss rest : List Statement) (b : Block) (fault : ReadFault) → IsBeginning ss (Some b) → block_of b.kind b.line rest ≡ Err fault → blocks_of (ss ++ rest) ≡ Err fault
 begun_fails ss rest b fault h fails =
-    let inside : block_of b.line (h.3 ++ rest) ≡ Err fault = directives_read b.line h.3 rest b.directives h.7 ∙ ap (with_directives b.directives) fails in
+    let inside : block_of b.kind b.line (h.3 ++ rest) ≡ Err fault = directives_read b.kind b.line h.3 rest b.directives h.7 ∙ ap (with_directives b.directives) fails in
     ap (λ x. blocks_of (x ++ rest)) h.4
     ∙ ap blocks_of (append_assoc h.0 (h.2 ∷ h.3) rest)
     ∙ blocks_read h.0 (h.2 ∷ (h.3 ++ rest)) h.1 h.5
@@ -269,7 +267,7 @@ first_fault_read ss fault (inr h) = ap blocks_of (sym (append-nil ss)) ∙ begun
 pub refusal_read : (text : List ℕ) (fault : ReadFault) → IsRefused text fault → read_text text ≡ Err fault
 refusal_read text TooLarge h = read_text-large text h
 refusal_read text (AtLine n fault) h =
-    read_text-blocks text h.1 ∙ ap (λ ls. blocks_of (statements_from 1 ls)) (lines_read text h.0 h.2) ∙ first_fault_read (statements_from 1 h.0) (AtLine n fault) h.3
+    read_text-blocks text h.1 ∙ ap blocks_of (text_statements text h.0 h.2) ∙ first_fault_read h.0 (AtLine n fault) h.3
 refusal_read text NoMemory h = absurd h
 
 -- each first fault has a line
@@ -293,12 +291,12 @@ read_written : (text : List ℕ) (r : Result (List Block) ReadFault) → (167772
     → MatchResult r (IsObjectText text) (IsRefused text)
 read_written text (Ok bs) (inl large) e = let n = read_text-large text large in cc
 read_written text (Ok bs) (inr fits) e =
-    record { lines = lines_of text; fits = fits; split = lines_are text; parts = subst (IsRight (statements_of text)) (sym (read_text-blocks text fits) ∙ e) ((right (statements_of text)).0) }
+    record { statements = statements_of text; fits = fits; has = has_statements text; parts = subst (IsRight (statements_of text)) (sym (read_text-blocks text fits) ∙ e) ((right (statements_of text)).0) }
 read_written text (Err TooLarge) (inl large) e = large
 read_written text (Err TooLarge) (inr fits) e =
     let l = fault_has_line (statements_of text) TooLarge (subst (IsRight (statements_of text)) (sym (read_text-blocks text fits) ∙ e) ((right (statements_of text)).0)) in let e = l.is in cc
 read_written text (Err (AtLine n fault)) (inl large) e = let m = read_text-large text large in cc
-read_written text (Err (AtLine n fault)) (inr fits) e = (lines_of text, fits, lines_are text, subst (IsRight (statements_of text)) (sym (read_text-blocks text fits) ∙ e) ((right (statements_of text)).0))
+read_written text (Err (AtLine n fault)) (inr fits) e = (statements_of text, fits, has_statements text, subst (IsRight (statements_of text)) (sym (read_text-blocks text fits) ∙ e) ((right (statements_of text)).0))
 read_written text (Err NoMemory) (inl large) e = let m = read_text-large text large in cc
 read_written text (Err NoMemory) (inr fits) e =
     let l = fault_has_line (statements_of text) NoMemory (subst (IsRight (statements_of text)) (sym (read_text-blocks text fits) ∙ e) ((right (statements_of text)).0)) in let e = l.is in cc

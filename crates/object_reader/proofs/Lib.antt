@@ -1,8 +1,12 @@
+pub mod Trimming
 pub mod Lines
 pub mod Utf8
-pub mod Statements
-pub mod Blocks
-pub mod Spelling
+pub mod Joining
+pub mod Escapes
 pub mod Comments
+pub mod Statements
+pub mod DayLines
+pub mod Spelling
+pub mod Blocks
 pub mod Grammar
 pub mod Texts

@@ -1,6 +1,6 @@
 -- How statements are spelled, and how they are taken apart.
-use Rattle.std.proofs.Common.{◌≡◌, ℕ, suc, ◌<◌, Bool, true, false, not, ◌&&◌, ◌||◌, ◌==◌, if◌then◌else◌, ◌⊎◌, inl, inr, tests, length-append, List, [], ◌∷◌, ◌++◌, length, take, drop, codes, Result, Ok, Err, refl, sym, ap, subst, ◌∙◌, arith, one-add}
-use Rattle.std.proofs.lemmas.Bool.{and_parts, and_from}
+use Rattle.std.proofs.Common.{◌≡◌, ℕ, ◌<◌, Bool, true, false, not, ◌&&◌, ◌||◌, ◌==◌, if◌then◌else◌, ◌⊎◌, inl, inr, tests, length-append, List, [], ◌∷◌, ◌++◌, length, take, drop, codes, Result, Ok, Err, refl, sym, ap, subst, ◌∙◌, arith, one-add}
+use Rattle.std.proofs.lemmas.Bool.{and_parts}
 use Rattle.std.proofs.lemmas.List.{take-append-drop}
 use Rattle.std.proofs.lemmas.List.Folds.{length-prefix_len}
 use Rattle.std.proofs.lemmas.Slice.Eq.{bytes_eq-Decides}
@@ -8,74 +8,21 @@ use Rattle.std.proofs.Math.Seq.{drop-append_seam, take-append_seam}
 use Rattle.std.specs.List.{position_or_len, before_first, list_all}
 use Rattle.std.specs.Str.{bytes_eq}
 use Rattle.object_reader.specs.declared.block.BlockKind.{BlockKind}
-use Rattle.object_reader.specs.declared.block.BlockKind.TheVariants.{Command, Contact, Host}
+use Rattle.object_reader.specs.declared.block.BlockKind.TheVariants.{TimePeriod}
 use Rattle.object_reader.specs.declared.block.Directive.{Directive}
 use Rattle.object_reader.specs.declared.fault.LineFault.{LineFault}
-use Rattle.object_reader.specs.declared.fault.LineFault.TheVariants.{NotADefine, NoValue, NotYet, UnknownType}
-use Rattle.object_reader.specs.Blanks.{is_blank, trim_start}
-use Rattle.object_reader.specs.Statements.{first_word, after_word, ends_type, kind_of, opened}
-use Rattle.object_reader.specs.Blocks.{directive_of}
-use Rattle.object_reader.specs.Spelling.{AreBlanks, IsDefine, IsNameAndValue}
-
--- a list up to the first element that passes, and from it on
-
-pub stops : (p : ℕ → Bool) (xs : List ℕ) (y : ℕ) (ys : List ℕ) → list_all (λ b. not (p b)) xs ≡ true → p y ≡ true → position_or_len p (xs ++ y ∷ ys) ≡ length xs
-stops p [] y ys h e = rw e refl
-stops p (x ∷ xs) y ys h e =
-    let parts = and_parts (not (p x)) (list_all (λ b. not (p b)) xs) h in
-    let none : not (p x) ≡ true = parts.0 in
-    let more : position_or_len p (xs ++ y ∷ ys) ≡ length xs = stops p xs y ys parts.1 e in
-    rw (none, one-add) (ap suc more)
-
--- what stands before it doesn't pass
-pub before_fails : (p : ℕ → Bool) (xs : List ℕ) → list_all (λ b. not (p b)) (before_first p xs) ≡ true
-before_fails p [] = refl
-before_fails p (x ∷ xs) = at_head (before_fails p xs) (p x) refl where
-  at_head : list_all (λ b. not (p b)) (before_first p xs) ≡ true → (t : Bool) → p x ≡ t → list_all (λ b. not (p b)) (before_first p (x ∷ xs)) ≡ true
-  at_head h true e = rw e refl
-  at_head h false e = rw (e, one-add) (rw e h)
-
--- the rest begins with an element that passes
-pub record BeginsWith (p : ℕ → Bool) (xs : List ℕ) : Type 0 where
-  pub first : ℕ
-  pub others : List ℕ
-  pub is : xs ≡ first ∷ others
-  pub passes : p first ≡ true
-
-pub rest_begins : (p : ℕ → Bool) (xs : List ℕ) → 0 < length (drop (position_or_len p xs) xs) → BeginsWith p (drop (position_or_len p xs) xs)
-rest_begins p [] h = absurd (omega arith)
-rest_begins p (x ∷ xs) h = at_head (rest_begins p xs) (p x) refl where
-  at_head : (0 < length (drop (position_or_len p xs) xs) → BeginsWith p (drop (position_or_len p xs) xs)) → (t : Bool) → p x ≡ t
-      → BeginsWith p (drop (position_or_len p (x ∷ xs)) (x ∷ xs))
-  at_head later true e = rw e (record { first = x; others = xs; is = refl; passes = e })
-  at_head later false e = rw (e, one-add) (later (rw (e, one-add) at h))
+use Rattle.object_reader.specs.declared.fault.LineFault.TheVariants.{NotADefine, NoValue}
+use Rattle.object_reader.specs.Blanks.{is_blank, trim_start, AreBlanks}
+use Rattle.object_reader.specs.Statements.{first_word, after_word, ends_type, types, kind_among, kind_of, opened}
+use Rattle.object_reader.specs.DayLines.{day_front, day_line}
+use Rattle.object_reader.specs.Blocks.{name_and_value, day_or_value, is_period, directive_of}
+use Rattle.object_reader.specs.Spelling.{IsDefine, IsNameAndValue, IsDay, IsSpelled}
+use Rattle.object_reader.proofs.Trimming.{stops, before_fails, BeginsWith, rest_begins, blanks_from, blanks_dropped, not_mark, none_or_some}
+use Rattle.object_reader.proofs.DayLines.{day_some, day_found, day_written}
 
 -- the part before the first element that passes, and the rest
 front_and_rest : (p : ℕ → Bool) (xs : List ℕ) → xs ≡ before_first p xs ++ drop (length (before_first p xs)) xs
 front_and_rest p xs = rw (length-prefix_len (λ b. not (p b)) xs) (sym (take-append-drop (position_or_len p xs) xs))
-
--- bytes of which none is a mark are blanks
-pub blanks_from : (xs : List ℕ) → list_all (λ b. not (not (is_blank b))) xs ≡ true → AreBlanks xs
-blanks_from [] h = refl
-blanks_from (x ∷ xs) h =
-    let parts = and_parts (not (not (is_blank x))) (list_all (λ b. not (not (is_blank b))) xs) h in
-    and_from (is_blank x) (list_all is_blank xs) (double (is_blank x) parts.0) (blanks_from xs parts.1) where
-      double : (t : Bool) → not (not t) ≡ true → t ≡ true
-      double true e = refl
-      double false e = e
-
-pub blanks_to : (xs : List ℕ) → AreBlanks xs → list_all (λ b. not (not (is_blank b))) xs ≡ true
-blanks_to [] h = refl
-blanks_to (x ∷ xs) h =
-    let parts = and_parts (is_blank x) (list_all is_blank xs) h in
-    let blank : is_blank x ≡ true = parts.0 in
-    rw (blank, blanks_to xs parts.1) refl
-
--- blanks before a mark are trimmed
-pub blanks_dropped : (blanks : List ℕ) (y : ℕ) (ys : List ℕ) → AreBlanks blanks → is_blank y ≡ false → trim_start (blanks ++ y ∷ ys) ≡ y ∷ ys
-blanks_dropped blanks y ys h e =
-    let mark : not (is_blank y) ≡ true = rw e refl in
-    rw (stops (λ b. not (is_blank b)) blanks y ys (blanks_to blanks h) mark) (drop-append_seam blanks (y ∷ ys))
 
 -- a word, and blanks after it
 word_first : (word : List ℕ) (y : ℕ) (ys : List ℕ) → list_all (λ b. not (is_blank b)) word ≡ true → is_blank y ≡ true → first_word (word ++ y ∷ ys) ≡ word
@@ -97,10 +44,6 @@ after_first_word word blanks z zs h blank some mark =
 -- a blank is taken with those before the first mark
 blank_taken : (y : ℕ) (ys : List ℕ) → is_blank y ≡ true → 0 < length (before_first (λ b. not (is_blank b)) (y ∷ ys))
 blank_taken y ys e = rw (e, one-add) (omega arith)
-
-pub not_mark : (t : Bool) → not t ≡ true → t ≡ false
-not_mark true e = sym e
-not_mark false e = refl
 
 -- a statement with something after its first word: the word, blanks, and what begins with a mark
 record IsApart (s : List ℕ) : Type 0 where
@@ -143,9 +86,9 @@ some_value : (name : List ℕ) (first : ℕ) (others : List ℕ) → directive_m
 unfolding directive_made
 some_value name first others = let e : (length (first ∷ others) == 0) ≡ false = grind (arith, tests) in rw e refl
 
-pub directive_spelled : (s : List ℕ) (d : Directive) → IsNameAndValue s d → directive_of s ≡ Ok d
-unfolding directive_of directive_made
-directive_spelled s d h =
+value_spelled : (s : List ℕ) (d : Directive) → IsNameAndValue s d → name_and_value s ≡ Ok d
+unfolding name_and_value directive_made
+value_spelled s d h =
     let spelled : s ≡ d.name ++ (h.between ++ h.first ∷ h.others) = h.parts ∙ ap (λ v. d.name ++ (h.between ++ v)) h.value in
     let taken = after_first_word d.name h.between h.first h.others h.word h.blank h.some_blank h.begins in
     let w : first_word s ≡ d.name = ap first_word spelled ∙ taken.0 in
@@ -153,10 +96,10 @@ directive_spelled s d h =
     ap (λ n. directive_made n (after_word s)) w ∙ ap (directive_made d.name) v ∙ some_value d.name h.first h.others
     ∙ ap (λ (value : List ℕ). Ok (let made : Directive = record { name = d.name; value = value } in made)) (sym h.value)
 
-directive_cases : (s : List ℕ) (t : Bool) → (length (after_word s) == 0) ≡ t → ((d : Directive) × (directive_of s ≡ Ok d) × IsNameAndValue s d) ⊎ (directive_of s ≡ Err NoValue)
-unfolding directive_of
-directive_cases s true e = inr (rw e refl)
-directive_cases s false e =
+value_cases : (s : List ℕ) (t : Bool) → (length (after_word s) == 0) ≡ t → ((d : Directive) × (name_and_value s ≡ Ok d) × IsNameAndValue s d) ⊎ (name_and_value s ≡ Err NoValue)
+unfolding name_and_value
+value_cases s true e = inr (rw e refl)
+value_cases s false e =
     let some : 0 < length (after_word s) = grind (arith, tests) in
     let h = apart s some in
     inl (
@@ -176,25 +119,85 @@ directive_cases s false e =
     )
 
 -- what is taken for a directive is spelled so
-pub directive_taken : (s : List ℕ) (d : Directive) → directive_of s ≡ Ok d → IsNameAndValue s d
-directive_taken s d e = from (directive_cases s (length (after_word s) == 0) refl) where
-  from : ((x : Directive) × (directive_of s ≡ Ok x) × IsNameAndValue s x) ⊎ (directive_of s ≡ Err NoValue) → IsNameAndValue s d
+value_taken : (s : List ℕ) (d : Directive) → name_and_value s ≡ Ok d → IsNameAndValue s d
+value_taken s d e = from (value_cases s (length (after_word s) == 0) refl) where
+  from : ((x : Directive) × (name_and_value s ≡ Ok x) × IsNameAndValue s x) ⊎ (name_and_value s ≡ Err NoValue) → IsNameAndValue s d
   from (inl h) = let made = h.1 in let same : h.0 ≡ d = cc in subst (λ x. IsNameAndValue s x) same h.2
   from (inr h) = let no : ⊥ = cc in absurd no
 
 -- and what isn't has no value
-pub directive_refused : (s : List ℕ) (f : LineFault) → directive_of s ≡ Err f → (f ≡ NoValue) × ((d : Directive) → IsNameAndValue s d → ⊥)
-directive_refused s f e = (from (directive_cases s (length (after_word s) == 0) refl), λ d h. let is = directive_spelled s d h in cc) where
-  from : ((x : Directive) × (directive_of s ≡ Ok x) × IsNameAndValue s x) ⊎ (directive_of s ≡ Err NoValue) → f ≡ NoValue
+value_refused : (s : List ℕ) (f : LineFault) → name_and_value s ≡ Err f → (f ≡ NoValue) × ((d : Directive) → IsNameAndValue s d → ⊥)
+value_refused s f e = (from (value_cases s (length (after_word s) == 0) refl), λ d h. let is = value_spelled s d h in cc) where
+  from : ((x : Directive) × (name_and_value s ≡ Ok x) × IsNameAndValue s x) ⊎ (name_and_value s ≡ Err NoValue) → f ≡ NoValue
   from (inl h) = let made = h.1 in cc
   from (inr h) = cc
 
 -- what is spelled as no directive has no value
-pub no_directive : (s : List ℕ) → ((d : Directive) → IsNameAndValue s d → ⊥) → directive_of s ≡ Err NoValue
-no_directive s none = from (directive_cases s (length (after_word s) == 0) refl) where
-  from : ((x : Directive) × (directive_of s ≡ Ok x) × IsNameAndValue s x) ⊎ (directive_of s ≡ Err NoValue) → directive_of s ≡ Err NoValue
+no_value : (s : List ℕ) → ((d : Directive) → IsNameAndValue s d → ⊥) → name_and_value s ≡ Err NoValue
+no_value s none = from (value_cases s (length (after_word s) == 0) refl) where
+  from : ((x : Directive) × (name_and_value s ≡ Ok x) × IsNameAndValue s x) ⊎ (name_and_value s ≡ Err NoValue) → name_and_value s ≡ Err NoValue
   from (inl h) = absurd (none h.0 h.2)
   from (inr h) = h
+
+-- a directive in a block of a kind
+
+period_is : (kind : BlockKind) → is_period kind ≡ true → kind ≡ TimePeriod
+period_is TimePeriod e = refl
+period_is kind e = let never : ⊥ = cc in absurd never
+
+abbrev DayOrNot : BlockKind → List ℕ → Type 0
+DayOrNot kind s = (IsDay kind s (day_line s (day_front s)) × (directive_of kind s ≡ Ok (day_line s (day_front s))))
+    ⊎ (((x : Directive) → IsDay kind s x → ⊥) × (directive_of kind s ≡ name_and_value s))
+
+in_period : (kind : BlockKind) (s : List ℕ) → is_period kind ≡ true → directive_of kind s ≡ day_or_value s (day_front s)
+unfolding directive_of
+in_period kind s e = rw e refl
+
+in_other : (kind : BlockKind) (s : List ℕ) → is_period kind ≡ false → directive_of kind s ≡ name_and_value s
+unfolding directive_of
+in_other kind s e = rw e refl
+
+day_taken : (s front : List ℕ) → 0 < length front → day_or_value s front ≡ Ok (day_line s front)
+day_taken s [] some = absurd (omega arith)
+day_taken s (b ∷ bs) some = refl
+
+day_or_not : (kind : BlockKind) (s : List ℕ) → DayOrNot kind s
+day_or_not kind s = by_kind (is_period kind) refl where
+  by_kind : (t : Bool) → is_period kind ≡ t → DayOrNot kind s
+  by_kind false e = inr (λ x is. let period : is_period kind ≡ true = ap is_period is.0 in let never : ⊥ = cc in never, in_other kind s e)
+  by_kind true e = by_front (none_or_some (day_front s)) where
+    by_front : (day_front s ≡ []) ⊎ (0 < length (day_front s)) → DayOrNot kind s
+    by_front (inl none) = inr (λ x is. let some = day_some s x is.1 in omega (arith, some, ap length none), in_period kind s e ∙ ap (day_or_value s) none)
+    by_front (inr some) = inl ((period_is kind e, day_written s some), in_period kind s e ∙ day_taken s (day_front s) some)
+
+pub directive_spelled : (kind : BlockKind) (s : List ℕ) (d : Directive) → IsSpelled kind s d → directive_of kind s ≡ Ok d
+directive_spelled kind s d (inl (period, is)) =
+    in_period kind s (ap is_period period) ∙ day_taken s (day_front s) (day_some s d is) ∙ ap Ok (day_found s d is)
+directive_spelled kind s d (inr (none, value)) = by_day (day_or_not kind s) where
+  by_day : DayOrNot kind s → directive_of kind s ≡ Ok d
+  by_day (inl h) = absurd (none (day_line s (day_front s)) h.0)
+  by_day (inr h) = h.1 ∙ value_spelled s d value
+
+-- what is taken for a directive is spelled so
+pub directive_taken : (kind : BlockKind) (s : List ℕ) (d : Directive) → directive_of kind s ≡ Ok d → IsSpelled kind s d
+directive_taken kind s d e = by_day (day_or_not kind s) where
+  by_day : DayOrNot kind s → IsSpelled kind s d
+  by_day (inl h) = let made = h.1 in let same : day_line s (day_front s) ≡ d = cc in inl (subst (IsDay kind s) same h.0)
+  by_day (inr h) = inr (h.0, value_taken s d (sym h.1 ∙ e))
+
+-- and what isn't has no value
+pub directive_refused : (kind : BlockKind) (s : List ℕ) (f : LineFault) → directive_of kind s ≡ Err f → (f ≡ NoValue) × ((d : Directive) → IsSpelled kind s d → ⊥)
+directive_refused kind s f e = (from (day_or_not kind s), λ d h. let is = directive_spelled kind s d h in cc) where
+  from : DayOrNot kind s → f ≡ NoValue
+  from (inl h) = let made = h.1 in cc
+  from (inr h) = (value_refused s f (sym h.1 ∙ e)).0
+
+-- what is spelled as no directive has no value
+pub no_directive : (kind : BlockKind) (s : List ℕ) → ((d : Directive) → IsSpelled kind s d → ⊥) → directive_of kind s ≡ Err NoValue
+no_directive kind s none = by_day (day_or_not kind s) where
+  by_day : DayOrNot kind s → directive_of kind s ≡ Err NoValue
+  by_day (inl h) = absurd (none (day_line s (day_front s)) (inl h.0))
+  by_day (inr h) = h.1 ∙ no_value s (λ d v. none d (inr (h.0, v)))
 
 -- the opening of a block is spelled so
 
@@ -257,16 +260,16 @@ opened_spelled s name h =
     ∙ made_so name h.after h.some_type h.after_blank
 
 -- no type means that a line opens nothing
-no_such_kind : (a b c d : Bool) → (if a then Ok Command else if b then Ok Contact else if c then Ok Host else if d then Err NotYet else Err UnknownType) ≡ Err NotADefine → ⊥
-no_such_kind true b c d e = cc
-no_such_kind false true c d e = cc
-no_such_kind false false true d e = cc
-no_such_kind false false false true e = cc
-no_such_kind false false false false e = cc
+among_never : (ts : List (List ℕ × BlockKind)) (name : List ℕ) → kind_among ts name ≡ Err NotADefine → ⊥
+among_never [] name e = cc
+among_never (t ∷ ts) name e = by_name (among_never ts name) (bytes_eq name t.0) refl where
+  by_name : (kind_among ts name ≡ Err NotADefine → ⊥) → (b : Bool) → bytes_eq name t.0 ≡ b → ⊥
+  by_name later true d = let is : Ok t.1 ≡ Err NotADefine = rw d at e in cc
+  by_name later false d = later (rw d at e)
 
 kind_of-never : (name : List ℕ) → kind_of name ≡ Err NotADefine → ⊥
 unfolding kind_of
-kind_of-never name e = no_such_kind _ _ _ _ e
+kind_of-never name e = among_never types name e
 
 define_parts : (s word between rest name tail after : List ℕ) → s ≡ word ++ (between ++ rest) → word ≡ codes "define" → rest ≡ name ++ tail → tail ≡ after ++ codes "{"
     → s ≡ codes "define" ++ (between ++ (name ++ (after ++ codes "{")))

@@ -2,7 +2,7 @@
 use Rattle.std.specs.Prelude.{ℕ, List, ◌++◌, codes}
 use Rattle.std.specs.Fmt.{decimal}
 use Rattle.object_reader.specs.declared.fault.LineFault.{LineFault}
-use Rattle.object_reader.specs.declared.fault.LineFault.TheVariants.{NotUtf8, NotADefine, UnknownType, NoValue, Unclosed, LineTooLong, NotYet}
+use Rattle.object_reader.specs.declared.fault.LineFault.TheVariants.{NotUtf8, NotADefine, UnknownType, NoValue, Unclosed, LineTooLong}
 use Rattle.object_reader.specs.declared.fault.ReadFault.{ReadFault}
 use Rattle.object_reader.specs.declared.fault.ReadFault.TheVariants.{AtLine, NoMemory, TooLarge}
 
@@ -14,7 +14,6 @@ fault_name UnknownType = codes "UnknownType"
 fault_name NoValue = codes "NoValue"
 fault_name Unclosed = codes "Unclosed"
 fault_name LineTooLong = codes "LineTooLong"
-fault_name NotYet = codes "NotYet"
 
 -- the fault with its line, where it has one
 abbrev pub fault_text : ReadFault → List ℕ

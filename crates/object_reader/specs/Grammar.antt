@@ -2,6 +2,7 @@
 use Rattle.std.specs.Prelude.{◌≡◌, ℕ, ◌<◌, ◌≤◌, ◌⊎◌, false, true, List, [], ◌∷◌, ◌++◌, length, Option, None, Some, Ok, Err}
 use Rattle.std.specs.List.{All}
 use Rattle.std.specs.Str.{IsUtf8}
+use Rattle.object_reader.specs.declared.block.BlockKind.{BlockKind}
 use Rattle.object_reader.specs.declared.block.Directive.{Directive}
 use Rattle.object_reader.specs.declared.block.Block.{Block}
 use Rattle.object_reader.specs.declared.fault.LineFault.{LineFault}
@@ -9,8 +10,19 @@ use Rattle.object_reader.specs.declared.fault.LineFault.TheVariants.{NotADefine,
 use Rattle.object_reader.specs.declared.fault.ReadFault.{ReadFault}
 use Rattle.object_reader.specs.declared.fault.ReadFault.TheVariants.{AtLine, NoMemory, TooLarge}
 use Rattle.object_reader.specs.Lines.{Line, AreLines}
-use Rattle.object_reader.specs.Statements.{Statement, statements_from, kind_of, is_close, is_define}
-use Rattle.object_reader.specs.Spelling.{IsDefine, IsNameAndValue}
+use Rattle.object_reader.specs.Joined.{JoinedLine, AreJoined}
+use Rattle.object_reader.specs.Statements.{Statement, kind_of, is_close, is_define}
+use Rattle.object_reader.specs.Spelling.{Says, IsDefine, IsSpelled}
+
+-- The statements are what the joined lines say, in order: one that is at fault is kept with its fault, and one that says
+-- nothing is left out.
+abbrev pub AreStatements : List JoinedLine → List Statement → Type 0
+AreStatements [] ss = ss ≡ []
+AreStatements (j ∷ js) ss =
+    ((f : LineFault) × (others : List Statement) × (j.text ≡ Err f) × (ss ≡ (record { line = j.line; text = Err f }) ∷ others) × AreStatements js others)
+    ⊎ (((bytes : List ℕ) × (j.text ≡ Ok bytes) × Says bytes [] × AreStatements js ss)
+    ⊎ ((bytes : List ℕ) × (text : List ℕ) × (others : List Statement) × (j.text ≡ Ok bytes) × Says bytes text × (0 < length text)
+    × (ss ≡ (record { line = j.line; text = Ok text }) ∷ others) × AreStatements js others))
 
 -- The statement opens the block: it stands at the block's line, and is a define with the type of its kind.
 pub record Opens (s : Statement) (b : Block) : Type 0 where
@@ -20,13 +32,13 @@ pub record Opens (s : Statement) (b : Block) : Type 0 where
   pub define : IsDefine text name
   pub kind : kind_of name ≡ Ok b.kind
 
--- The statement is the directive: it neither closes a block nor begins the next.
-pub record IsDirective (s : Statement) (d : Directive) : Type 0 where
+-- The statement is the directive, in a block of the kind: it neither closes a block nor begins the next.
+pub record IsDirective (kind : BlockKind) (s : Statement) (d : Directive) : Type 0 where
   pub text : List ℕ
   pub says : s.text ≡ Ok text
   pub no_close : is_close text ≡ false
   pub no_define : is_define text ≡ false
-  pub value : IsNameAndValue text d
+  pub value : IsSpelled kind text d
 
 -- The statement closes a block.
 pub record Closes (s : Statement) : Type 0 where
@@ -34,12 +46,12 @@ pub record Closes (s : Statement) : Type 0 where
   pub says : s.text ≡ Ok text
   pub closes : is_close text ≡ true
 
--- The statements are the directives, in order.
-abbrev pub AreDirectives : List Statement → List Directive → Type 0
-AreDirectives [] [] = Unit {0}
-AreDirectives [] (d ∷ ds) = ⊥
-AreDirectives (s ∷ ss) [] = ⊥
-AreDirectives (s ∷ ss) (d ∷ ds) = IsDirective s d × AreDirectives ss ds
+-- The statements are the directives of a block of the kind, in order.
+abbrev pub AreDirectives : BlockKind → List Statement → List Directive → Type 0
+AreDirectives kind [] [] = Unit {0}
+AreDirectives kind [] (d ∷ ds) = ⊥
+AreDirectives kind (s ∷ ss) [] = ⊥
+AreDirectives kind (s ∷ ss) (d ∷ ds) = IsDirective kind s d × AreDirectives kind ss ds
 
 -- The statements of a block: one that opens it, its directives, and one that closes it.
 pub record IsBlock (ss : List Statement) (b : Block) : Type 0 where
@@ -48,7 +60,7 @@ pub record IsBlock (ss : List Statement) (b : Block) : Type 0 where
   pub close : Statement
   pub parts : ss ≡ head ∷ (body ++ close ∷ [])
   pub opens : Opens head b
-  pub directives : AreDirectives body b.directives
+  pub directives : AreDirectives b.kind body b.directives
   pub closes : Closes close
 
 -- The statements are those of the blocks, one block after the other, and no others.
@@ -66,22 +78,30 @@ pub record IsPlain (d : Directive) : Type 0 where
 abbrev pub ArePlain : List Block → Type 0
 ArePlain bs = All (λ b. All IsPlain b.directives) bs
 
--- The text is that of the blocks: at most 16,777,216 bytes, newlines counted, and the statements of its lines, of which
--- the first has the number 1, are the blocks.
-pub record IsObjectText (text : List ℕ) (blocks : List Block) : Type 0 where
+-- The text says these statements: its lines, of which the first has the number 1, make joined lines, and what these say
+-- are the statements.
+pub record HasStatements (text : List ℕ) (statements : List Statement) : Type 0 where
   pub lines : List Line
-  pub fits : length text ≤ 16777216
+  pub joined : List JoinedLine
   pub split : AreLines text lines
-  pub parts : AreBlocks (statements_from 1 lines) blocks
+  pub joins : AreJoined 1 lines joined
+  pub says : AreStatements joined statements
+
+-- The text is that of the blocks: at most 16,777,216 bytes, newlines counted, and its statements are the blocks.
+pub record IsObjectText (text : List ℕ) (blocks : List Block) : Type 0 where
+  pub statements : List Statement
+  pub fits : length text ≤ 16777216
+  pub has : HasStatements text statements
+  pub parts : AreBlocks statements blocks
 
 -- The statements up to a fault: whole blocks, and of a block that is still open, if there is one, the first
 -- statement and some directives.
 abbrev pub IsBeginning : List Statement → Option Block → Type 0
 IsBeginning ss None = (whole : List Block) × AreBlocks ss whole
 IsBeginning ss (Some b) = (before : List Statement) × (whole : List Block) × (head : Statement) × (body : List Statement)
-    × (ss ≡ before ++ head ∷ body) × AreBlocks before whole × Opens head b × AreDirectives body b.directives
+    × (ss ≡ before ++ head ∷ body) × AreBlocks before whole × Opens head b × AreDirectives b.kind body b.directives
 
--- The statement opens no block that is read: its type isn't one that is read, or it is no define.
+-- The statement opens no block: its type is none of the types, or it is no define.
 abbrev pub OpensNone : List ℕ → LineFault → Type 0
 OpensNone text f = ((name : List ℕ) × IsDefine text name × (kind_of name ≡ Err f)) ⊎ (((name : List ℕ) → IsDefine text name → ⊥) × (f ≡ NotADefine))
 
@@ -92,7 +112,7 @@ IsFaulty None s fault = (f : LineFault) × (fault ≡ AtLine s.line f) × ((s.te
 IsFaulty (Some b) s fault = ((f : LineFault) × (fault ≡ AtLine s.line f) × (s.text ≡ Err f))
     ⊎ (((text : List ℕ) × (s.text ≡ Ok text) × (is_close text ≡ false) × (is_define text ≡ true) × (fault ≡ AtLine b.line Unclosed))
     ⊎ ((text : List ℕ) × (s.text ≡ Ok text) × (is_close text ≡ false) × (is_define text ≡ false)
-    × ((d : Directive) → IsNameAndValue text d → ⊥) × (fault ≡ AtLine s.line NoValue)))
+    × ((d : Directive) → IsSpelled b.kind text d → ⊥) × (fault ≡ AtLine s.line NoValue)))
 
 -- The first fault of the statements: everything before it is in order, and either the next statement is at fault,
 -- or a block is open at the end.
@@ -104,5 +124,5 @@ IsFirstFault ss fault = ((before : List Statement) × (s : Statement) × (after 
 -- The text is refused with this fault: it is too large, or it isn't and this is its first fault.
 abbrev pub IsRefused : List ℕ → ReadFault → Type 0
 IsRefused text TooLarge = 16777216 < length text
-IsRefused text (AtLine n fault) = (lines : List Line) × (length text ≤ 16777216) × AreLines text lines × IsFirstFault (statements_from 1 lines) (AtLine n fault)
+IsRefused text (AtLine n fault) = (statements : List Statement) × (length text ≤ 16777216) × HasStatements text statements × IsFirstFault statements (AtLine n fault)
 IsRefused text NoMemory = ⊥

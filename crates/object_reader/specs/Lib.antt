@@ -1,7 +1,9 @@
 pub mod Fault
 pub mod Lines
 pub mod Blanks
+pub mod Joined
 pub mod Statements
+pub mod DayLines
 pub mod Blocks
 pub mod Spelling
 pub mod Grammar

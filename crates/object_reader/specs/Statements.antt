@@ -1,31 +1,43 @@
--- What the lines of object text say, one by one (chapter "Object Configuration Overview").
-use Rattle.std.specs.Prelude.{ℕ, ◌+◌, Bool, true, false, ◌&&◌, ◌||◌, not, ◌==◌, nat_lt, List, [], ◌∷◌, length, drop, codes, Result, Ok, Err, if◌then◌else◌}
-use Rattle.std.specs.List.{before_first, list_any}
-use Rattle.std.specs.Str.{bytes_eq, is_utf8}
+-- What the joined lines of object text say, one by one (chapter "Object Configuration Overview").
+use Rattle.std.specs.Prelude.{ℕ, Bool, true, false, ◌&&◌, ◌||◌, not, ◌==◌, List, [], ◌∷◌, length, drop, codes, Result, Ok, Err, if◌then◌else◌}
+use Rattle.std.specs.List.{before_first}
+use Rattle.std.specs.Str.{bytes_eq}
 use Rattle.object_reader.specs.declared.block.BlockKind.{BlockKind}
-use Rattle.object_reader.specs.declared.block.BlockKind.TheVariants.{Command, Contact, Host}
+use Rattle.object_reader.specs.declared.block.BlockKind.TheVariants.{Host, HostGroup, Service, ServiceGroup, Contact, ContactGroup, TimePeriod, Command, HostEscalation, ServiceEscalation, HostDependency, ServiceDependency, HostExtInfo, ServiceExtInfo}
 use Rattle.object_reader.specs.declared.fault.LineFault.{LineFault}
-use Rattle.object_reader.specs.declared.fault.LineFault.TheVariants.{NotUtf8, NotADefine, UnknownType, LineTooLong, NotYet}
+use Rattle.object_reader.specs.declared.fault.LineFault.TheVariants.{NotADefine, UnknownType}
 use Rattle.object_reader.specs.Blanks.{is_blank, trim_start, trimmed}
-use Rattle.object_reader.specs.Lines.{Line, lines_of, content}
+use Rattle.object_reader.specs.Lines.{lines_of}
+use Rattle.object_reader.specs.Joined.{JoinedLine, joined_from}
 
 -- whether the first byte is # or ;
 abbrev pub starts_comment : List ℕ → Bool
 starts_comment [] = false
 starts_comment (b ∷ bs) = b == 35 || b == 59
 
--- What a line says: nothing where its first byte that is no blank is # or ;, and else what stands before
--- the first ; without the blanks at both ends.
-unfoldable pub statement : List ℕ → List ℕ
-statement bs = if starts_comment (trim_start bs) then [] else trimmed (before_first (λ b. b == 59) bs)
+-- whether the first byte is ;
+abbrev pub starts_semicolon : List ℕ → Bool
+starts_semicolon [] = false
+starts_semicolon (b ∷ bs) = b == 59
 
--- A line has at most 4,096 bytes without its newline, is UTF-8 and has no backslash. Then it says what its
--- content says.
-unfoldable pub said : Line → Result (List ℕ) LineFault
-said l = if nat_lt 4096 (length l.bytes) then Err LineTooLong
-    else if not (is_utf8 l.bytes) then Err NotUtf8
-    else if list_any (λ b. b == 92) l.bytes then Err NotYet
-    else Ok (statement (content l))
+-- whether a byte begins a comment: it is ; and the byte before it is no backslash
+abbrev pub is_bare : ℕ → ℕ → Bool
+is_bare last b = b == 59 && not (last == 92)
+
+-- the bytes before the first ; that has no backslash before it, where the byte before them all is `last`
+unfoldable pub bare_from : ℕ → List ℕ → List ℕ
+bare_from last [] = []
+bare_from last (b ∷ bs) = if is_bare last b then [] else b ∷ bare_from b bs
+
+-- the bytes with ; for each \;
+unfoldable pub unescaped : List ℕ → List ℕ
+unescaped [] = []
+unescaped (b ∷ bs) = if b == 92 && starts_semicolon bs then unescaped bs else b ∷ unescaped bs
+
+-- What a joined line says: nothing where its first byte that is no blank is # or ;, and else what stands before
+-- the first ; without a backslash before it, without the blanks at both ends, and with ; for each \;.
+unfoldable pub statement : List ℕ → List ℕ
+statement bs = if starts_comment (trim_start bs) then [] else unescaped (trimmed (bare_from 0 bs))
 
 -- the first word of a statement
 abbrev pub first_word : List ℕ → List ℕ
@@ -35,19 +47,22 @@ first_word s = before_first is_blank s
 abbrev pub after_word : List ℕ → List ℕ
 after_word s = trim_start (drop (length (first_word s)) s)
 
--- the types of object text that aren't read yet (chapter "Object Definitions")
-abbrev pub later_types : List (List ℕ)
-later_types = codes "hostgroup" ∷ codes "service" ∷ codes "servicegroup" ∷ codes "contactgroup" ∷ codes "timeperiod"
-    ∷ codes "hostescalation" ∷ codes "serviceescalation" ∷ codes "hostdependency" ∷ codes "servicedependency"
-    ∷ codes "hostextinfo" ∷ codes "serviceextinfo" ∷ []
+-- the types of object text, and the kinds that they mean (chapter "Object Definitions")
+abbrev pub types : List (List ℕ × BlockKind)
+types = (codes "host", Host) ∷ (codes "hostgroup", HostGroup) ∷ (codes "service", Service) ∷ (codes "servicegroup", ServiceGroup)
+    ∷ (codes "contact", Contact) ∷ (codes "contactgroup", ContactGroup) ∷ (codes "timeperiod", TimePeriod) ∷ (codes "command", Command)
+    ∷ (codes "hostescalation", HostEscalation) ∷ (codes "serviceescalation", ServiceEscalation)
+    ∷ (codes "hostdependency", HostDependency) ∷ (codes "servicedependency", ServiceDependency)
+    ∷ (codes "hostextinfo", HostExtInfo) ∷ (codes "serviceextinfo", ServiceExtInfo) ∷ []
+
+-- the kind that a type means among these
+abbrev pub kind_among : List (List ℕ × BlockKind) → List ℕ → Result BlockKind LineFault
+kind_among [] name = Err UnknownType
+kind_among (t ∷ ts) name = if bytes_eq name t.0 then Ok t.1 else kind_among ts name
 
 -- The kind of block that a type means.
 unfoldable pub kind_of : List ℕ → Result BlockKind LineFault
-kind_of name = if bytes_eq name (codes "command") then Ok Command
-    else if bytes_eq name (codes "contact") then Ok Contact
-    else if bytes_eq name (codes "host") then Ok Host
-    else if list_any (bytes_eq name) later_types then Err NotYet
-    else Err UnknownType
+kind_of name = kind_among types name
 
 -- whether a byte ends a type: a blank or {
 abbrev pub ends_type : ℕ → Bool
@@ -72,18 +87,21 @@ pub record Statement : Type 0 where
   pub line : ℕ
   pub text : Result (List ℕ) LineFault
 
--- whether a line says something, or is at fault
-abbrev pub matters : Result (List ℕ) LineFault → Bool
-matters (Ok []) = false
-matters (Ok (b ∷ bs)) = true
-matters (Err fault) = true
+-- the statement of a line before the others, where it isn't empty
+abbrev pub before_others : ℕ → List ℕ → List Statement → List Statement
+before_others n [] ss = ss
+before_others n (b ∷ bs) ss = (record { line = n; text = Ok (b ∷ bs) }) ∷ ss
 
--- The statements of the lines, of which the first has the number n. Lines that say nothing are skipped.
-unfoldable pub statements_from : ℕ → List Line → List Statement
-statements_from n [] = []
-statements_from n (l ∷ ls) = if matters (said l) then (record { line = n; text = said l }) ∷ statements_from (n + 1) ls
-    else statements_from (n + 1) ls
+-- what a joined line says before the others
+abbrev pub said_before : ℕ → Result (List ℕ) LineFault → List Statement → List Statement
+said_before n (Err fault) ss = (record { line = n; text = Err fault }) ∷ ss
+said_before n (Ok bytes) ss = before_others n (statement bytes) ss
+
+-- The statements of joined lines. Lines that say nothing are skipped.
+unfoldable pub statements_in : List JoinedLine → List Statement
+statements_in [] = []
+statements_in (j ∷ js) = said_before j.line j.text (statements_in js)
 
 -- the statements of a text, whose first line has the number 1
 abbrev pub statements_of : List ℕ → List Statement
-statements_of text = statements_from 1 (lines_of text)
+statements_of text = statements_in (joined_from 1 (lines_of text))

@@ -1,4 +1,5 @@
-//! Bytes without the blanks at their ends. Blanks are spaces and tabs (chapter "Object Configuration Overview").
+//! Bytes without the blanks at their ends. Blanks are spaces and tabs (chapter "Object Configuration
+//! Overview").
 
 ghost use Rattle.std.specs.Prelude.{◌≡◌, not, ◌≤◌};
 ghost use Rattle.std.specs.List.{position};

@@ -2,20 +2,43 @@
 
 use due_model::sequence::{Sequence, Text};
 
-/// The types of block that are read (chapter "Object Definitions").
+/// The types of block (chapter "Object Definitions").
 #[derive(Clone, Copy, Debug, PartialEq, Eq)]
 pub enum BlockKind {
-    /// `define command`.
-    Command,
-    /// `define contact`.
-    Contact,
     /// `define host`.
     Host,
+    /// `define hostgroup`.
+    HostGroup,
+    /// `define service`.
+    Service,
+    /// `define servicegroup`.
+    ServiceGroup,
+    /// `define contact`.
+    Contact,
+    /// `define contactgroup`.
+    ContactGroup,
+    /// `define timeperiod`.
+    TimePeriod,
+    /// `define command`.
+    Command,
+    /// `define hostescalation`.
+    HostEscalation,
+    /// `define serviceescalation`.
+    ServiceEscalation,
+    /// `define hostdependency`.
+    HostDependency,
+    /// `define servicedependency`.
+    ServiceDependency,
+    /// `define hostextinfo`, which says nothing of notifications.
+    HostExtInfo,
+    /// `define serviceextinfo`, which says nothing of notifications.
+    ServiceExtInfo,
 }
 
 /// A line of a block: a name, and the value that stands after it (chapter "Object Configuration
-/// Overview"). Both are UTF-8 and not empty. The name has no space and no tab, and the value doesn't
-/// begin with one.
+/// Overview"). Both are UTF-8 and not empty. The value doesn't begin with a space or a tab, and the
+/// name has none, but for a day line of a time period: its name is words with one space between each
+/// two, and its value has no space and no tab.
 #[derive(Drop)]
 pub struct Directive {
     /// The name as it is written, upper and lower case kept apart.
@@ -28,9 +51,9 @@ pub struct Directive {
 #[derive(Drop)]
 pub struct Block {
     pub kind: BlockKind,
-    /// The number of the line with the block's `define`, from 1.
+    /// The number of the line with the block's `define`, from 1; the first where lines are joined.
     pub line: u64,
-    /// The directives in the order of the text. One that is given twice stands here twice, and it is
-    /// for the reader of the block to let the last count.
+    /// The directives in the order of the text. One that is given twice stands here twice, and it
+    /// is for the reader of the block to let the last count.
     pub directives: Sequence<Directive>,
 }

@@ -11,7 +11,7 @@ use std::fmt;
 /// What is wrong with one line of object text.
 #[derive(Clone, Copy, Debug, PartialEq, Eq)]
 pub enum LineFault {
-    /// The line isn't UTF-8.
+    /// The line, or one that is joined to it, isn't UTF-8.
     NotUtf8,
     /// Outside a block, the line isn't `define`, blanks, a type, blanks or none, and `{`.
     NotADefine,
@@ -19,18 +19,19 @@ pub enum LineFault {
     UnknownType,
     /// A directive has a name and no value.
     NoValue,
-    /// The block of this `define` is still open where the next `define` stands, or where the text ends.
+    /// The block of this `define` is still open where the next `define` stands, or at the end of the
+    /// text.
     Unclosed,
-    /// The line has more than 4,096 bytes without its newline; a carriage return counts.
+    /// The line, or one that is joined to it, has more than 4,096 bytes without its newline; a
+    /// carriage return counts.
     LineTooLong,
-    /// The line has a backslash, or it is the `define` of a type that isn't read yet.
-    NotYet,
 }
 
 /// Why object text could not be read. Nothing of the text is given beside it.
 #[derive(Clone, Copy, Debug, PartialEq, Eq)]
 pub enum ReadFault {
-    /// The fault of a line, the first in the text. Lines are numbered from 1.
+    /// The fault of a line, the first in the text. Lines are numbered from 1, and joined lines have
+    /// the number of the first of them.
     AtLine { line: u64, fault: LineFault },
     /// Memory ran out. It says nothing of the text.
     NoMemory,
@@ -50,7 +51,6 @@ impl LineFault {
             LineFault::NoValue => "NoValue",
             LineFault::Unclosed => "Unclosed",
             LineFault::LineTooLong => "LineTooLong",
-            LineFault::NotYet => "NotYet",
         }
     }
 }

@@ -4,9 +4,10 @@
 
 pub mod blanks;
 pub mod block;
+mod day_line;
 pub mod fault;
+mod joined;
 mod line;
 pub mod reading;
 mod statement;
-#[cfg(test)]
-mod tests;
+mod text;

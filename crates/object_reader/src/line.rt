@@ -40,7 +40,8 @@ pub(crate) fn split_line(text: &[u8]) -> (TextLine<'_>, &[u8])
 /// What a line holds: its bytes, without a carriage return before the newline.
 #[tactic(auto, unfolding(crate::specs::Lines::content))]
 pub(crate) fn content(line: TextLine<'_>) -> &[u8]
-    ensures { result.now ≡ content (record { bytes = line.entry.bytes.now; ended = line.entry.ended }) }
+    ensures { result.now
+        ≡ content (record { bytes = line.entry.bytes.now; ended = line.entry.ended }) }
 {
     let bytes = line.bytes;
     let end = bytes.len();

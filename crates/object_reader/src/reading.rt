@@ -1,89 +1,60 @@
 //! Object text, read in one pass over its bytes.
 
-ghost use Rattle.std.specs.Prelude.{◌≡◌, ◌⊎◌, List, ◌+◌, ◌<◌, ◌^◌, ◌∷◌, [], Ok, Err, length, ◌≤◌, IfOk, IfErr, OnOk, MatchResult, MatchOption};
-ghost use Rattle.object_reader.specs.Statements.{Statement};
+ghost use Rattle.std.specs.Prelude.{◌≡◌, ◌⊎◌, List, ◌∷◌, [], Ok, Err, length, ◌≤◌, IfOk, IfErr, OnOk, MatchResult, MatchOption};
+ghost use Rattle.std.specs.Cow.{cow_slice_items};
+ghost use Rattle.object_reader.specs.Statements.{Statement, statements_in};
 ghost use Rattle.object_reader.specs.declared.block.Block.{Block};
 ghost use Rattle.object_reader.specs.declared.fault.ReadFault.{ReadFault};
 ghost use Rattle.object_reader.specs.declared.fault.ReadFault.TheVariants.{NoMemory};
 ghost use Rattle.object_reader.specs.Grammar.{ArePlain, IsObjectText, IsRefused};
-ghost use Rattle.object_reader.specs.Blocks.{Gives, FailsFirst, before_blocks, at_line, directive_of, block_of, blocks_of, read_text};
+ghost use Rattle.object_reader.specs.Blocks.{Gives, FailsFirst, before_blocks, at_line, is_period, name_and_value, directive_of, block_of, blocks_of, read_text};
+ghost use Rattle.object_reader.specs.DayLines.{day_line};
 
-use crate::block::{Block, Directive};
+use crate::block::{Block, BlockKind, Directive};
+use crate::day_line::{day_front, spaced, without_blanks};
 use crate::fault::{LineFault, ReadFault};
-use crate::line::split_line;
-use crate::statement::{after_word, first_word, is_close, is_define, opened, said};
+use crate::joined::JoinedReader;
+use crate::statement::{after_word, first_word, is_close, is_define, opened, statement};
+use crate::text::LineText;
 use due_model::sequence::Sequence;
-use std::alloc::Global;
-use std::marker::Model;
+use std::alloc::{AllocError, Global};
 
 /// The longest text, in bytes, newlines counted.
 pub const TEXT_LIMIT: usize = 16_777_216;
 
-/// What a line says, and the number of that line.
-#[derive(Clone, Copy)]
-struct LineText<'a> {
-    line: u64,
-    text: &'a [u8],
-}
-
-/// The statements of a text that are left.
-#[derive(Drop)]
-struct StatementReader<'a> {
-    /// The number of the next line.
-    line: u64,
-    /// The text from that line on.
-    rest: &'a [u8],
-}
-
-impl<'a> Model for StatementReader<'a> {
-    ghost use Rattle.std.specs.Prelude.{List, ◌+◌, ◌<◌, ◌^◌, length};
-    ghost use Rattle.object_reader.specs.Lines.{lines_of};
-    ghost use Rattle.object_reader.specs.Statements.{Statement, statements_from};
-
-    ghost Value = { List Statement };
-
-    ghost view = { λ s. statements_from s.line (lines_of s.rest.now) };
-
-    ghost invariant = { λ s. s.line + length s.rest.now < 2 ^ 64 };
-}
-
-impl<'a> StatementReader<'a> {
-    /// The next statement. Lines that say nothing are skipped.
-    fn next(&mut self) -> Result<Option<LineText<'a>>, ReadFault>
-        ensures { MatchResult result
-            (λ found. MatchOption found (self.old ≡ []) (λ s. self.old ≡ (record { line = s.line; text = Ok s.text.now }) ∷ self.new))
-            (λ fault. FailsFirst fault self.old) }
-    {
-        while !self.rest.is_empty() {
-            let number = self.line;
-            let (line, rest) = split_line(self.rest);
-            self.rest = rest;
-            self.line += 1;
-            match said(line) {
-                Err(fault) => {
-                    return Err(ReadFault::AtLine {
-                        line: number,
-                        fault,
-                    });
-                }
-                Ok([]) => {}
-                Ok(text) => return Ok(Some(LineText { line: number, text })),
-            }
-        }
-        Ok(None)
-    }
-}
-
-/// The directive that a statement is.
-#[tactic(auto, unfolding(crate::specs::Blocks::directive_of))]
-fn directive(alloc: Global, statement: LineText<'_>) -> Result<Directive, ReadFault>
-    ensures { Gives result (at_line statement.entry.line (directive_of statement.entry.text.now)) }
+/// The next statement of the lines. Lines that say nothing are skipped.
+fn next_statement<'a>(
+    alloc: Global,
+    lines: &mut JoinedReader<'a>,
+) -> Result<Option<LineText<'a>>, ReadFault>
+    ensures { MatchResult result
+        (λ found. MatchOption found (statements_in lines.old ≡ [])
+        (λ s. statements_in lines.old
+        ≡ (record { line = s.line; text = Ok (cow_slice_items s.text) }) ∷ statements_in lines.new))
+        (λ fault. FailsFirst fault (statements_in lines.old)) }
 {
-    let name = first_word(statement.text);
-    let value = after_word(statement.text);
+    while let Some(joined) = lines.next(alloc)? {
+        let text = statement(alloc, joined.text)?;
+        if text.len() > 0 {
+            return Ok(Some(LineText {
+                line: joined.line,
+                text,
+            }));
+        }
+    }
+    Ok(None)
+}
+
+/// The directive with the first word of a statement as its name.
+#[tactic(auto, unfolding(crate::specs::Blocks::name_and_value))]
+fn name_and_value(alloc: Global, line: u64, text: &[u8]) -> Result<Directive, ReadFault>
+    ensures { Gives result (at_line line (name_and_value text.now)) }
+{
+    let name = first_word(text);
+    let value = after_word(text);
     if value.is_empty() {
         return Err(ReadFault::AtLine {
-            line: statement.line,
+            line,
             fault: LineFault::NoValue,
         });
     }
@@ -92,26 +63,61 @@ fn directive(alloc: Global, statement: LineText<'_>) -> Result<Directive, ReadFa
     Ok(Directive { name, value })
 }
 
-/// The directives of the block that the line `define` opened, up to its end.
+/// The directive that a day line is, of which these words stand before the first with a colon.
+fn day_line(alloc: Global, text: &[u8], front: &[u8]) -> Result<Directive, AllocError>
+    requires { length front.now ≤ length text.now }
+    ensures { IfOk result (λ d. d ≡ day_line text.now front.now) }
+{
+    let name = Sequence::new(spaced(alloc, front)?);
+    let value = Sequence::new(without_blanks(alloc, &text[front.len()..])?);
+    Ok(Directive { name, value })
+}
+
+/// Whether blocks of a kind are time periods.
+fn is_period(kind: BlockKind) -> bool
+    ensures { result ≡ is_period kind }
+{
+    matches!(kind, BlockKind::TimePeriod)
+}
+
+/// The directive that a statement is, in a block of the kind.
+#[tactic(auto, unfolding(crate::specs::Blocks::directive_of))]
+fn directive(alloc: Global, kind: BlockKind, line: u64, text: &[u8]) -> Result<Directive, ReadFault>
+    ensures { Gives result (at_line line (directive_of kind text.now)) }
+{
+    if is_period(kind) {
+        let front = day_front(text);
+        if !front.is_empty() {
+            return Ok(day_line(alloc, text, front)?);
+        }
+    }
+    name_and_value(alloc, line, text)
+}
+
+/// The directives of the block of the kind that the line `define` opened, up to its end.
 fn directives(
     alloc: Global,
+    kind: BlockKind,
     define: u64,
-    statements: &mut StatementReader<'_>,
+    lines: &mut JoinedReader<'_>,
 ) -> Result<Sequence<Directive>, ReadFault>
-    ensures ok { IfOk result (λ directives. block_of define statements.old
-        ≡ before_blocks directives (blocks_of statements.new)) }
-    ensures fault { IfErr result (λ fault. Gives (Err fault) (block_of define statements.old)) }
-    ensures fewer { OnOk result (length statements.new ≤ length statements.old) }
+    ensures ok { IfOk result (λ directives. block_of kind define (statements_in lines.old)
+        ≡ before_blocks directives (blocks_of (statements_in lines.new))) }
+    ensures fault { IfErr result (λ fault.
+        Gives (Err fault) (block_of kind define (statements_in lines.old))) }
+    ensures fewer { OnOk result
+        (length (statements_in lines.new) ≤ length (statements_in lines.old)) }
 {
     let mut directives = Vec::new(alloc);
-    while let Some(statement) = statements.next()? {
-        if is_close(statement.text) {
+    while let Some(statement) = next_statement(alloc, lines)? {
+        let text = statement.text.as_slice();
+        if is_close(text) {
             return Ok(Sequence::new(directives));
         }
-        if is_define(statement.text) {
+        if is_define(text) {
             break;
         }
-        directives.push(directive(alloc, statement)?)?;
+        directives.push(directive(alloc, kind, statement.line, text)?)?;
     }
     Err(ReadFault::AtLine {
         line: define,
@@ -126,18 +132,15 @@ fn read_text(alloc: Global, bytes: &[u8]) -> Result<Sequence<Block>, ReadFault>
     if bytes.len() > TEXT_LIMIT {
         return Err(ReadFault::TooLarge);
     }
-    let mut statements = StatementReader {
-        line: 1,
-        rest: bytes,
-    };
+    let mut lines = JoinedReader::new(bytes);
     let mut found = Vec::new(alloc);
-    while let Some(statement) = statements.next()? {
+    while let Some(statement) = next_statement(alloc, &mut lines)? {
         let line = statement.line;
-        let kind = match opened(statement.text) {
+        let kind = match opened(statement.text.as_slice()) {
             Ok(kind) => kind,
             Err(fault) => return Err(ReadFault::AtLine { line, fault }),
         };
-        let directives = directives(alloc, line, &mut statements)?;
+        let directives = directives(alloc, kind, line, &mut lines)?;
         found.push(Block {
             kind,
             line,
@@ -149,20 +152,21 @@ fn read_text(alloc: Global, bytes: &[u8]) -> Result<Sequence<Block>, ReadFault>
 
 /// The blocks of an object text, in its order (chapter "Object Configuration Overview").
 ///
-/// The text has at most 16,777,216 bytes, newlines counted, and its lines have at most 4,096 bytes each
-/// without their newline. Lines aren't joined: one with a backslash is refused, and so is the `define` of
-/// a type other than `command`, `contact` and `host`.
+/// The text has at most 16,777,216 bytes, newlines counted, and its lines have at most 4,096 bytes
+/// each without their newline, before they are joined. Blocks of all types are read alike, but for
+/// the day lines of a time period.
 ///
 /// It reads each byte a fixed number of times, and takes memory in proportion to the text. A refusal
-/// gives nothing beside the fault, which is the first in the text, and `NoMemory` says nothing of the
-/// text.
+/// gives nothing beside the fault, which is the first in the text, and `NoMemory` says nothing of
+/// the text.
 pub fn read(alloc: Global, bytes: &[u8]) -> Result<Sequence<Block>, ReadFault>
     // What is read is the text's blocks.
     ensures blocks { IfOk result (λ blocks. IsObjectText bytes.now blocks) }
     // Names and values are UTF-8, and names aren't empty.
     ensures texts { IfOk result (λ blocks. ArePlain blocks) }
     // A text of blocks is read, unless memory runs out.
-    ensures only { (blocks : List Block) → IsObjectText bytes.now blocks → Gives result (Ok blocks) }
+    ensures only { (blocks : List Block)
+        → IsObjectText bytes.now blocks → Gives result (Ok blocks) }
     // What is refused has this fault as its first.
     ensures fault { IfErr result (λ fault. (fault ≡ NoMemory) ⊎ IsRefused bytes.now fault) }
     // A text with a first fault is refused with it, unless memory runs out.

@@ -1,25 +1,23 @@
-//! What the lines of object text say (chapter "Object Configuration Overview").
+//! What the joined lines of object text say (chapter "Object Configuration Overview").
 
-ghost use Rattle.std.specs.Prelude.{◌≡◌, ℕ, List, ◌==◌, not, [], length, Ok, Err, MatchResult, ◌≤◌};
-ghost use Rattle.std.specs.List.{list_any, position};
-ghost use Rattle.std.specs.Str.{bytes_eq, is_utf8};
-ghost use Rattle.object_reader.specs.Spelling.{Says};
-ghost use Rattle.object_reader.specs.Blanks.{is_blank, trim_start, trimmed};
-ghost use Rattle.object_reader.specs.Statements.{starts_comment, statement, said, first_word, after_word, is_define, is_close, kind_of, later_types, ends_type, opened};
+ghost use Rattle.std.specs.Prelude.{◌≡◌, ◌&&◌, ◌==◌, IfOk};
+ghost use Rattle.std.specs.Cow.{cow_slice_items};
+ghost use Rattle.std.specs.List.{position, list_any};
+ghost use Rattle.std.specs.Str.{bytes_eq};
+ghost use Rattle.object_reader.specs.Blanks.{is_blank};
+ghost use Rattle.object_reader.specs.Statements.{starts_comment, starts_semicolon, bare_from, unescaped, statement, first_word, after_word, is_define, is_close, kind_of, ends_type, opened};
 
 use crate::blanks::{is_blank, trim, trim_start};
 use crate::block::BlockKind;
 use crate::fault::LineFault;
-use crate::line::{TextLine, content};
+use std::alloc::{AllocError, Global};
+use std::borrow::CowSlice;
 
-/// The longest line, in bytes without its newline.
-const LINE_LIMIT: usize = 4096;
-
-/// Whether the bytes are those of the text.
-fn is_text(bytes: &[u8], text: &str) -> bool
-    ensures { result ≡ bytes_eq bytes.now text.now }
+/// Whether the bytes are those of the word.
+fn is_word(bytes: &[u8], word: &str) -> bool
+    ensures { result ≡ bytes_eq bytes.now word.now }
 {
-    bytes == text.as_bytes()
+    bytes == word.as_bytes()
 }
 
 /// The place of the first blank.
@@ -27,13 +25,6 @@ fn first_blank(bytes: &[u8]) -> Option<usize>
     ensures { result ≡ position is_blank bytes.now }
 {
     bytes.iter().position(|b| is_blank(*b))
-}
-
-/// The place of the first `;`.
-fn first_semicolon(bytes: &[u8]) -> Option<usize>
-    ensures { result ≡ position (λ b. b == 59) bytes.now }
-{
-    bytes.iter().position(|b| *b == b';')
 }
 
 /// The place of the first byte that ends a type.
@@ -53,43 +44,90 @@ fn starts_comment(bytes: &[u8]) -> bool
     }
 }
 
-/// What a line says, without its comment and the blanks at both ends.
-#[tactic(auto, unfolding(crate::specs::Statements::statement))]
-fn statement(content: &[u8]) -> &[u8]
-    ensures found { result.now ≡ statement content.now }
-    ensures written { Says content.now result.now }
-    ensures only { (s : List ℕ) → Says content.now s → result.now ≡ s }
+/// The bytes before the first `;` that has no backslash before it.
+fn before_comment(bytes: &[u8]) -> &[u8]
+    ensures { result.now ≡ bare_from 0 bytes.now }
 {
-    if starts_comment(trim_start(content)) {
-        return &content[..0];
+    let mut last = 0;
+    for (i, byte) in bytes.iter().enumerate() {
+        if *byte == b';' && last != b'\\' {
+            return &bytes[..i];
+        }
+        last = *byte;
     }
-    let end = first_semicolon(content).unwrap_or(content.len());
-    trim(&content[..end])
+    bytes
 }
 
-/// Whether the bytes are UTF-8.
-fn is_utf8(bytes: &[u8]) -> bool
-    ensures { result ≡ is_utf8 bytes.now }
+/// What a joined line says, without its comment and the blanks at both ends, and its escapes as
+/// written.
+#[tactic(auto, unfolding(crate::specs::Statements::statement, crate::specs::Statements::unescaped))]
+fn core(bytes: &[u8]) -> &[u8]
+    ensures { statement bytes.now ≡ unescaped result.now }
 {
-    str::from_utf8(bytes).is_ok()
+    if starts_comment(trim_start(bytes)) {
+        return &bytes[..0];
+    }
+    trim(before_comment(bytes))
 }
 
-/// What a line says, or the fault of the line as such.
-#[tactic(auto, unfolding(crate::specs::Statements::said))]
-pub(crate) fn said(line: TextLine<'_>) -> Result<&[u8], LineFault>
-    ensures { let spelled = said (record { bytes = line.entry.bytes.now; ended = line.entry.ended }) in
-        MatchResult result (λ text. spelled ≡ Ok text.now) (λ fault. spelled ≡ Err fault) }
+/// Whether the first byte is `;`.
+fn starts_semicolon(bytes: &[u8]) -> bool
+    ensures { result ≡ starts_semicolon bytes.now }
 {
-    if line.bytes.len() > LINE_LIMIT {
-        return Err(LineFault::LineTooLong);
+    match bytes {
+        [] => false,
+        [first, ..] => *first == b';',
     }
-    if !is_utf8(line.bytes) {
-        return Err(LineFault::NotUtf8);
+}
+
+/// Whether a byte is a backslash before a `;`.
+fn is_escape(byte: u8, rest: &[u8]) -> bool
+    ensures { result ≡ ((byte == 92) && starts_semicolon rest.now) }
+{
+    byte == b'\\' && starts_semicolon(rest)
+}
+
+/// The bytes with `;` for each `\;`.
+fn unescape(alloc: Global, bytes: &[u8]) -> Result<Vec<u8>, AllocError>
+    ensures { IfOk result (λ meant. meant.items ≡ unescaped bytes.now) }
+{
+    let mut meant = Vec::new(alloc);
+    let mut left = bytes;
+    while let [byte, rest @ ..] = left {
+        if !is_escape(*byte, rest) {
+            meant.push(*byte)?;
+        }
+        left = rest;
     }
-    if line.bytes.contains(&b'\\') {
-        return Err(LineFault::NotYet);
+    Ok(meant)
+}
+
+/// Whether there is a `;`.
+fn has_semicolon(bytes: &[u8]) -> bool
+    ensures { result ≡ list_any (λ b. b == 59) bytes.now }
+{
+    bytes.contains(&b';')
+}
+
+/// What a joined line says. It is a part of the line where that is a part of the text and no `;` of
+/// it is escaped.
+pub(crate) fn statement<'a>(
+    alloc: Global,
+    line: CowSlice<'a, u8>,
+) -> Result<CowSlice<'a, u8>, AllocError>
+    ensures { IfOk result (λ said. cow_slice_items said ≡ statement (cow_slice_items line.entry)) }
+{
+    match line {
+        CowSlice::Borrowed(bytes) => {
+            let core = core(bytes);
+            if has_semicolon(core) {
+                Ok(CowSlice::Owned(unescape(alloc, core)?))
+            } else {
+                Ok(CowSlice::Borrowed(core))
+            }
+        }
+        CowSlice::Owned(bytes) => Ok(CowSlice::Owned(unescape(alloc, core(bytes.as_slice()))?)),
     }
-    Ok(statement(content(line)))
 }
 
 /// The first word of a statement.
@@ -111,31 +149,14 @@ pub(crate) fn after_word(statement: &[u8]) -> &[u8]
 pub(crate) fn is_close(statement: &[u8]) -> bool
     ensures { result ≡ is_close statement.now }
 {
-    is_text(statement, "}")
+    is_word(statement, "}")
 }
 
 /// Whether a statement begins as the opening of a block does.
 pub(crate) fn is_define(statement: &[u8]) -> bool
     ensures { result ≡ is_define statement.now }
 {
-    is_text(first_word(statement), "define")
-}
-
-/// The types of object text that aren't read yet.
-fn is_later_type(name: &[u8]) -> bool
-    ensures { result ≡ list_any (bytes_eq name.now) later_types }
-{
-    is_text(name, "hostgroup")
-        || is_text(name, "service")
-        || is_text(name, "servicegroup")
-        || is_text(name, "contactgroup")
-        || is_text(name, "timeperiod")
-        || is_text(name, "hostescalation")
-        || is_text(name, "serviceescalation")
-        || is_text(name, "hostdependency")
-        || is_text(name, "servicedependency")
-        || is_text(name, "hostextinfo")
-        || is_text(name, "serviceextinfo")
+    is_word(first_word(statement), "define")
 }
 
 /// The kind of block that a type means.
@@ -143,14 +164,34 @@ fn is_later_type(name: &[u8]) -> bool
 fn kind_of(name: &[u8]) -> Result<BlockKind, LineFault>
     ensures { result ≡ kind_of name.now }
 {
-    if is_text(name, "command") {
-        Ok(BlockKind::Command)
-    } else if is_text(name, "contact") {
-        Ok(BlockKind::Contact)
-    } else if is_text(name, "host") {
+    if is_word(name, "host") {
         Ok(BlockKind::Host)
-    } else if is_later_type(name) {
-        Err(LineFault::NotYet)
+    } else if is_word(name, "hostgroup") {
+        Ok(BlockKind::HostGroup)
+    } else if is_word(name, "service") {
+        Ok(BlockKind::Service)
+    } else if is_word(name, "servicegroup") {
+        Ok(BlockKind::ServiceGroup)
+    } else if is_word(name, "contact") {
+        Ok(BlockKind::Contact)
+    } else if is_word(name, "contactgroup") {
+        Ok(BlockKind::ContactGroup)
+    } else if is_word(name, "timeperiod") {
+        Ok(BlockKind::TimePeriod)
+    } else if is_word(name, "command") {
+        Ok(BlockKind::Command)
+    } else if is_word(name, "hostescalation") {
+        Ok(BlockKind::HostEscalation)
+    } else if is_word(name, "serviceescalation") {
+        Ok(BlockKind::ServiceEscalation)
+    } else if is_word(name, "hostdependency") {
+        Ok(BlockKind::HostDependency)
+    } else if is_word(name, "servicedependency") {
+        Ok(BlockKind::ServiceDependency)
+    } else if is_word(name, "hostextinfo") {
+        Ok(BlockKind::HostExtInfo)
+    } else if is_word(name, "serviceextinfo") {
+        Ok(BlockKind::ServiceExtInfo)
     } else {
         Err(LineFault::UnknownType)
     }
@@ -163,7 +204,7 @@ pub(crate) fn opened(statement: &[u8]) -> Result<BlockKind, LineFault>
 {
     let rest = after_word(statement);
     let end = type_end(rest).unwrap_or(rest.len());
-    if is_define(statement) && end > 0 && is_text(trim_start(&rest[end..]), "{") {
+    if is_define(statement) && end > 0 && is_word(trim_start(&rest[end..]), "{") {
         kind_of(&rest[..end])
     } else {
         Err(LineFault::NotADefine)

@@ -1,12 +1,12 @@
--- The configuration of blocks within the limits is accepted, and covered.
-use Rattle.std.proofs.Common.{◌≡◌, ℕ, ◌<◌, ◌≤◌, Bool, true, false, not, cond, nat_eq, nat_le, List, [], ◌∷◌, length, map, get_or, All, Contains, Option, Some, None, IfSome, unwrap_or, refl, sym, ap, subst, ◌∙◌, arith}
+-- The configuration that blocks give is accepted, and covered, and blocks with a fault give none.
+use Rattle.std.proofs.Common.{◌≡◌, inl, inr, ℕ, ◌<◌, ◌≤◌, Bool, true, false, not, cond, nat_eq, nat_le, List, [], ◌∷◌, length, map, get_or, All, Contains, Option, Some, None, IfSome, refl, sym, ap, subst, ◌∙◌, arith}
 use Rattle.std.specs.List.{filter_map, position, list_all, cons_option}
 use Rattle.std.specs.Prelude.{codes, slice_get}
 use Rattle.std.specs.Char.{is_ascii_digit}
 use Rattle.std.specs.Str.{bytes_eq}
 use Rattle.std.proofs.lemmas.Bool.{leb-true}
 use Rattle.std.proofs.lemmas.List.{get_or-map, get_or_default, length-map}
-use Rattle.std.proofs.lemmas.Option.{slice_get_within}
+use Rattle.std.proofs.lemmas.Option.{none-some, same_Some, slice_get_within}
 use Rattle.std.proofs.lemmas.List.Elements.{All-nil, All-cons, All-contains}
 use Rattle.due_model.specs.Accepted.{ContactFits, DependsOn, Excludes, HasNoLoop, DependencyFits, EscalationFits, IsAccepted, ObjectFits, PeriodFits, RightsFit}
 use Rattle.due_model.specs.Covered.{AreFullRights, HasHostLetters, IsCovered, IsPlainHost}
@@ -15,11 +15,19 @@ use Rattle.due_model.specs.declared.config.Contact.{Contact}
 use Rattle.due_model.specs.declared.config.Lane.{Lane}
 use Rattle.due_model.specs.declared.config.Object.{Object}
 use Rattle.due_model.specs.declared.config.Rights.{Rights}
-use Rattle.due_model.specs.declared.letters.Letters.{Letters}
+use Rattle.due_model.specs.Limits.{max_contacts, max_lanes, max_number, max_objects}
+use Rattle.due_model.specs.Options.{every_letter}
+use Rattle.due_model.specs.declared.options.OptionLetters.{OptionLetters}
 use Rattle.object_reader.specs.declared.block.Block.{Block}
-use Rattle.object_resolve.specs.Resolved.{AreRightsOf, AreSetOf, IsConfigOf, IsContactOf, IsHostOf, contact_names, contacts_in, contacts_named, every_letter, hosts_in, interval_of, lanes_named}
-use Rattle.object_resolve.specs.Values.{command_name, entries_read, name_of, number_of, value_in}
+use Rattle.object_resolve.specs.Blocks.{contact_names, contacts_in, entries_read, hosts_in, interval_of, name_of}
+use Rattle.object_resolve.specs.Build.{AreRightsOf, AreSetOf, IsConfigOf, IsContactOf, IsHostOf, contacts_named, lanes_named}
+use Rattle.object_resolve.specs.Values.{command_name, number_of, value_in}
 use Rattle.object_reader.specs.declared.block.BlockKind.TheVariants.{Host}
+use Rattle.object_resolve.specs.declared.fault.BlockFault.{BlockFault}
+use Rattle.object_resolve.specs.Limits.{is_lane, lanes_in}
+use Rattle.object_resolve.specs.Resolve.{IsRefusal, IsResolved}
+use Rattle.object_resolve.proofs.FaultLemmas.{none-refused}
+use Rattle.object_resolve.proofs.LimitLemmas.{within-unrefused}
 use Rattle.object_resolve.proofs.ListLemmas.{All-paired, length-paired, position-within}
 
 -- ---- numbers within their lists
@@ -54,28 +62,30 @@ all-of_set P listed set each are = λ k d below.
 
 -- ---- the interval
 
-number-few : (b : Bool) (n : ℕ) → nat_le n 1_000_000 ≡ b → unwrap_or (cond b (Some n) None) 30 ≤ 1_000_000
-number-few true n is = leb-true n 1_000_000 is
-number-few false n is = omega arith
+number-few : (b : Bool) (m n : ℕ) → nat_le m max_number ≡ b → cond b (Some m) None ≡ Some n → n ≤ max_number
+number-few true m n is found = subst (λ k. k ≤ max_number) (same_Some m n found) (leb-true m max_number is)
+number-few false m n is found = absurd (none-some n found)
 
-value-few : (empty digits : Bool) (n : ℕ) → unwrap_or (cond empty None (cond (not digits) None (cond (nat_le n 1_000_000) (Some n) None))) 30 ≤ 1_000_000
-value-few true digits n = omega arith
-value-few false false n = omega arith
-value-few false true n = number-few (nat_le n 1_000_000) n refl
+value-few : (empty digits : Bool) (m n : ℕ)
+    → cond empty None (cond (not digits) None (cond (nat_le m max_number) (Some m) None)) ≡ Some n → n ≤ max_number
+value-few true digits m n found = absurd (none-some n found)
+value-few false false m n found = absurd (none-some n found)
+value-few false true m n found = number-few (nat_le m max_number) m n refl found
 
-pub interval-few : (value : Option (List ℕ)) → interval_of value ≤ 1_000_000
-interval-few None = omega arith
-interval-few (Some value) = value-few (nat_eq (length value) 0) (list_all is_ascii_digit value) (number_of value)
+pub interval-few : (value : Option (List ℕ)) (n : ℕ) → interval_of value ≡ Some n → n ≤ max_number
+interval-few None n found = subst (λ k. k ≤ max_number) (same_Some 30 n found) (omega arith)
+interval-few (Some value) n found =
+    value-few (nat_eq (length value) 0) (list_all is_ascii_digit value) (number_of value) n found
 
 -- ---- each object and contact
 
-every-host_letter : (set : Letters) → set ≡ every_letter → HasHostLetters set
+every-host_letter : (set : OptionLetters) → set ≡ every_letter → HasHostLetters set
 every-host_letter set is = record {
-  down = ap (λ (letters : Letters). letters.down) is;
-  unreachable = ap (λ (letters : Letters). letters.unreachable) is;
-  recovery = ap (λ (letters : Letters). letters.recovery) is;
-  flapping = ap (λ (letters : Letters). letters.flapping) is;
-  downtime = ap (λ (letters : Letters). letters.downtime) is;
+  down = ap (λ (letters : OptionLetters). letters.down) is;
+  unreachable = ap (λ (letters : OptionLetters). letters.unreachable) is;
+  recovery = ap (λ (letters : OptionLetters). letters.recovery) is;
+  flapping = ap (λ (letters : OptionLetters). letters.flapping) is;
+  downtime = ap (λ (letters : OptionLetters). letters.downtime) is;
 }
 
 none-fits : {X : Type 0} (P : X → Type 0) (x : Option X) → x ≡ None → IfSome x P
@@ -85,7 +95,7 @@ host-fits : (config : Config) (names : List (List ℕ)) → length names ≡ len
 host-fits config names long block object of = record {
   host = none-fits _ object.host of.host;
   period = none-fits _ object.period of.period;
-  interval = rw of.interval (interval-few (value_in block.directives (codes "notification_interval")));
+  interval = interval-few (value_in block.directives (codes "notification_interval")) object.interval of.interval;
   delay = rw of.delay (omega arith);
   contacts = set-within (λ contact. contact.0) (length config.contacts) (contacts_named names (entries_read Host block.directives)) object.contacts
       (subst (λ n. All (λ k. k < n) (contacts_named names (entries_read Host block.directives))) long (contacts-within names (entries_read Host block.directives))) of.contacts;
@@ -131,9 +141,9 @@ empty-none xs x k is found =
 empty-all : {X : Type 0} (P : X → Type 0) (xs : List X) → xs ≡ [] → All P xs
 empty-all P xs is = subst (All P) (sym is) (All-nil P)
 
-pub resolved-accepted : (blocks lane_blocks : List Block) (config : Config) → IsConfigOf blocks lane_blocks config
-    → length (hosts_in blocks) ≤ 65535 → length (contacts_in blocks) ≤ 4096 → length lane_blocks ≤ 16 → IsAccepted config
-resolved-accepted blocks lane_blocks config of few_hosts few_contacts few_lanes =
+config-accepted : (blocks lane_blocks : List Block) (config : Config) → IsConfigOf blocks lane_blocks config
+    → length (hosts_in blocks) ≤ max_objects → length (contacts_in blocks) ≤ max_contacts → length lane_blocks ≤ max_lanes → IsAccepted config
+config-accepted blocks lane_blocks config of few_hosts few_contacts few_lanes =
     let hosts : length config.objects ≡ length (hosts_in blocks) = length-paired _ (hosts_in blocks) config.objects of.objects in
     let contacts : length config.contacts ≡ length (contacts_in blocks) = length-paired _ (contacts_in blocks) config.contacts of.contacts in
     let lanes : length config.lanes ≡ length lane_blocks =
@@ -158,10 +168,25 @@ resolved-accepted blocks lane_blocks config of few_hosts few_contacts few_lanes 
     empty-contains : {X : Type 0} (xs : List X) (x : X) → xs ≡ [] → Contains xs x → ⊥
     empty-contains xs x is here = let few : length xs ≡ 0 = ap length is in omega (arith, here.1, few)
 
-pub resolved-covered : (blocks lane_blocks : List Block) (config : Config) → IsConfigOf blocks lane_blocks config → IsCovered config
-resolved-covered blocks lane_blocks config of = record {
+config-covered : (blocks lane_blocks : List Block) (config : Config) → IsConfigOf blocks lane_blocks config → IsCovered config
+config-covered blocks lane_blocks config of = record {
   objects = All-paired _ IsPlainHost (hosts_in blocks) config.objects (host-plain (contact_names blocks)) of.objects;
   contacts = All-paired _ (λ contact. AreFullRights contact.hosts) (contacts_in blocks) config.contacts (λ block contact fits. rights-full config.lanes _ contact.hosts fits.hosts) of.contacts;
   no_escalation = of.no_escalation;
   no_dependency = of.no_dependency;
 }
+
+pub resolved-accepted : (blocks : List Block) (config : Config) → IsResolved blocks config → IsAccepted config
+resolved-accepted blocks config of =
+    config-accepted blocks (lanes_in blocks) config of.gives of.limits.hosts of.limits.contacts of.limits.lanes
+
+pub resolved-covered : (blocks : List Block) (config : Config) → IsResolved blocks config → IsCovered config
+resolved-covered blocks config of = config-covered blocks (lanes_in blocks) config of.gives
+
+-- blocks that are refused give none
+pub resolved-unrefused : (blocks : List Block) (config : Config) (line : ℕ) (fault : BlockFault)
+    → IsResolved blocks config → IsRefusal blocks line fault → ⊥
+resolved-unrefused blocks config line fault of (inl unread) = none-refused _ blocks line fault of.read unread
+resolved-unrefused blocks config line fault of (inr (read, inl misvalued)) = none-refused _ blocks line fault of.values misvalued
+resolved-unrefused blocks config line fault of (inr (read, inr (values, inl misnamed))) = none-refused _ blocks line fault of.names misnamed
+resolved-unrefused blocks config line fault of (inr (read, inr (values, inr (names, over)))) = within-unrefused (is_lane blocks) blocks line fault of.limits over

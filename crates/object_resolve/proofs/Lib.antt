@@ -1,6 +1,7 @@
 pub mod ListLemmas
 pub mod NumberLemmas
 pub mod NameLemmas
+pub mod FaultLemmas
 pub mod LimitLemmas
-pub mod Refusals
 pub mod Accepted
+pub mod TextLemmas

@@ -11,13 +11,13 @@ use Rattle.std.proofs.lemmas.Map.Steps.{list_any_congr}
 use Rattle.std.proofs.lemmas.List.Elements.{filter_map-append}
 use Rattle.std.proofs.Math.Seq.{take-length}
 use Rattle.object_reader.specs.Blanks.{trimmed}
+use Rattle.object_resolve.specs.Build.{AreSetOf}
 use Rattle.object_resolve.specs.Values.{entries, is_comma, texts}
 use Rattle.std.specs.List.Sorted.{IsPermutation, IsSorted, IsStrictlyIncreasing}
 use Rattle.std.specs.Ordering.{nat_cmp}
 use Rattle.std.proofs.lemmas.List.Kept.{Contains-dedup_nat, Contains-from_dedup}
 use Rattle.std.proofs.lemmas.List.Sorted.{Contains-permutation, IsPermutation-sym}
 use Rattle.std.proofs.lemmas.Map.Keys.{IsStrictlyIncreasing-dedup}
-use Rattle.object_resolve.specs.Resolved.{AreSetOf}
 use Rattle.std.proofs.lemmas.List.{append-nil, length-map, map-append, take_more, take_rest}
 use Rattle.std.proofs.lemmas.List.Elements.{filter-append, All-nil, All-cons, All-push, All-same}
 use Rattle.std.specs.Str.{bytes_eq}

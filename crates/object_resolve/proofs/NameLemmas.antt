@@ -6,9 +6,9 @@ use Rattle.std.proofs.lemmas.List.{map-append}
 use Rattle.object_reader.specs.declared.block.Block.{Block}
 use Rattle.object_reader.specs.declared.block.BlockKind.{BlockKind}
 use Rattle.object_reader.specs.declared.block.BlockKind.TheVariants.{Command, Contact, Host}
-use Rattle.object_resolve.specs.Names.{fault_by, has_unknown, is_doubled, is_known, is_of, name_fault, names_in}
-use Rattle.object_resolve.specs.Tables.{AreSameNames, table_of, with_name}
-use Rattle.object_resolve.specs.Values.{command_name, entries_read, name_of}
+use Rattle.object_resolve.specs.Blocks.{entries_read, is_of, name_of}
+use Rattle.object_resolve.specs.Tables.{AreSameNames, fault_by, has_unknown, is_doubled, is_known, name_fault, names_in, table_of, with_name}
+use Rattle.object_resolve.specs.Values.{command_name}
 use Rattle.object_resolve.proofs.ListLemmas.{any-item, filter-item, filter-skip, list_any-of_map, list_any-same}
 
 -- the names of a type, with one more block
@@ -31,19 +31,25 @@ any-names_item kind blocks i x name within is passes =
     ∙ any-item (λ block. bytes_eq name (name_of block)) (is_of kind) blocks i x within is passes
     ∙ ap (λ b. b || bytes_eq name (name_of x)) (sym (list_any-of_map (bytes_eq name) name_of (filter (is_of kind) (take i blocks))))
 
+-- no block is of a type that has no table
+filter-none : (part : List Block) → filter (λ (block : Block). false) part ≡ []
+filter-none [] = refl
+filter-none (block ∷ part) = filter-none part
+
 -- the table of a type
 pub table-is : (kind : BlockKind) (part : List Block) (commands contacts hosts : List (List ℕ)) → commands ≡ names_in Command part → contacts ≡ names_in Contact part → hosts ≡ names_in Host part
     → table_of kind commands contacts hosts ≡ names_in kind part
 table-is Command part commands contacts hosts commands-are contacts-are hosts-are = commands-are
 table-is Contact part commands contacts hosts commands-are contacts-are hosts-are = contacts-are
 table-is Host part commands contacts hosts commands-are contacts-are hosts-are = hosts-are
+table-is kind part commands contacts hosts commands-are contacts-are hosts-are = ap (map name_of) (sym (filter-none part))
 
 known-same : (contacts contacts' commands commands' : List (List ℕ)) → ((name : List ℕ) → list_any (bytes_eq name) contacts ≡ list_any (bytes_eq name) contacts')
     → ((name : List ℕ) → list_any (bytes_eq name) commands ≡ list_any (bytes_eq name) commands') → (kind : BlockKind) (entry : List ℕ)
     → not (is_known contacts commands kind entry) ≡ not (is_known contacts' commands' kind entry)
-known-same contacts contacts' commands commands' same-contacts same-commands Command entry = refl
 known-same contacts contacts' commands commands' same-contacts same-commands Contact entry = ap not (same-commands (command_name entry))
 known-same contacts contacts' commands commands' same-contacts same-commands Host entry = ap not (same-contacts entry)
+known-same contacts contacts' commands commands' same-contacts same-commands kind entry = refl
 
 -- which entries are unknown depends on which names are there alone
 pub unknown-same : (contacts contacts' commands commands' : List (List ℕ)) (block : Block) → ((name : List ℕ) → list_any (bytes_eq name) contacts ≡ list_any (bytes_eq name) contacts')

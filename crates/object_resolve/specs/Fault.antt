@@ -1,10 +1,46 @@
--- The faults of a configuration, as a program prints them.
-use Rattle.std.specs.Prelude.{ℕ, List, ◌++◌, codes}
+-- The faults of object text: which block has the first, and how a program prints them.
+use Rattle.std.specs.Prelude.{◌≡◌, ℕ, ◌<◌, List, ◌++◌, codes, Option, Some, None, slice_get, take}
 use Rattle.std.specs.Fmt.{decimal}
+use Rattle.object_reader.specs.declared.block.Block.{Block}
+use Rattle.object_reader.specs.Fault as reader
+use Rattle.object_reader.specs.declared.fault.ReadFault.{ReadFault}
+use Rattle.object_reader.specs.declared.fault.ReadFault.TheVariants as read
 use Rattle.object_resolve.specs.declared.fault.BlockFault.{BlockFault}
 use Rattle.object_resolve.specs.declared.fault.BlockFault.TheVariants.{MissingDirective, UnknownName, Doubled, BadNumber, TooMany, NotYet}
+use Rattle.object_resolve.specs.declared.fault.LoadFault.{LoadFault}
+use Rattle.object_resolve.specs.declared.fault.LoadFault.TheVariants as load
 use Rattle.object_resolve.specs.declared.fault.ResolveFault.{ResolveFault}
 use Rattle.object_resolve.specs.declared.fault.ResolveFault.TheVariants.{AtLine, NoMemory}
+
+-- ---- the first block with a fault
+
+-- No block before the place has a fault, where `fault_of earlier block` is that of a block after
+-- the earlier ones.
+abbrev pub HaveNone : (List Block → Block → Option BlockFault) → List Block → ℕ → Type 0
+HaveNone fault_of blocks place = (k : ℕ) (block : Block)
+    → k < place → slice_get blocks k ≡ Some block → fault_of (take k blocks) block ≡ None
+
+-- the line is that of the first block with a fault, and the fault is that block's
+pub record IsFirstOf (fault_of : List Block → Block → Option BlockFault) (blocks : List Block)
+    (line : ℕ) (fault : BlockFault) : Type 0 where
+  pub place : ℕ
+  pub block : Block
+  pub here : slice_get blocks place ≡ Some block
+  pub at : block.line ≡ line
+  pub refused : fault_of (take place blocks) block ≡ Some fault
+  pub before : HaveNone fault_of blocks place
+
+-- the line and the fault are such as these
+abbrev pub IsAt : (ℕ → BlockFault → Type 0) → ResolveFault → Type 0
+IsAt Refuses (AtLine line fault) = Refuses line fault
+IsAt Refuses NoMemory = ⊥
+
+-- the same, or memory ran out
+abbrev pub IsAmong : (ℕ → BlockFault → Type 0) → ResolveFault → Type 0
+IsAmong Refuses (AtLine line fault) = Refuses line fault
+IsAmong Refuses NoMemory = Unit {0}
+
+-- ---- texts
 
 -- the name of a block's fault
 abbrev pub fault_name : BlockFault → List ℕ
@@ -15,7 +51,26 @@ fault_name BadNumber = codes "BadNumber"
 fault_name TooMany = codes "TooMany"
 fault_name NotYet = codes "NotYet"
 
+-- a fault after its line
+abbrev pub at_line : ℕ → List ℕ → List ℕ
+at_line line name = codes "line " ++ decimal line ++ codes ": " ++ name
+
 -- the fault with its line, where it has one
-abbrev pub fault_text : ResolveFault → List ℕ
-fault_text (AtLine line fault) = codes "line " ++ decimal line ++ codes ": " ++ fault_name fault
-fault_text NoMemory = codes "NoMemory"
+abbrev pub fault_text : LoadFault → List ℕ
+fault_text (load.Line line fault) = at_line line (reader.fault_name fault)
+fault_text (load.Block line fault) = at_line line (fault_name fault)
+fault_text load.TooLarge = codes "TooLarge"
+fault_text load.NoMemory = codes "NoMemory"
+
+-- ---- of one another
+
+-- the fault of a text that isn't blocks
+abbrev pub of_read : ReadFault → LoadFault
+of_read (read.AtLine line fault) = load.Line line fault
+of_read read.TooLarge = load.TooLarge
+of_read read.NoMemory = load.NoMemory
+
+-- the fault of blocks
+abbrev pub of_blocks : ResolveFault → LoadFault
+of_blocks (AtLine line fault) = load.Block line fault
+of_blocks NoMemory = load.NoMemory

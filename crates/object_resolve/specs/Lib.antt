@@ -1,7 +1,8 @@
 pub mod Values
-pub mod Resolved
 pub mod Fault
+pub mod Blocks
 pub mod Limits
-pub mod Names
 pub mod Tables
-pub mod Refusals
+pub mod Build
+pub mod Resolve
+pub mod Text

@@ -3,13 +3,11 @@
 ghost use Rattle.std.specs.Prelude.{◌≡◌, ◌++◌, codes, IfOk};
 ghost use Rattle.std.specs.List.{list_any};
 ghost use Rattle.std.specs.Str.{bytes_eq};
-ghost use Rattle.object_resolve.specs.Values.{entries_read, name_of, naming, texts, value_in};
-ghost use Rattle.object_resolve.specs.Resolved.{interval_of, is_command_kind, is_contact, is_host};
-ghost use Rattle.object_resolve.specs.Names.{is_of};
-ghost use Rattle.object_resolve.specs.Refusals.{has_bad_interval, has_later_parts, is_bad_number, is_later_entry, later_names, value_fault};
+ghost use Rattle.object_resolve.specs.Blocks.{entries_read, has_bad_interval, has_later_parts, interval_in, is_command, is_contact, is_host, is_later_entry, is_later_kind, is_of, later_names, means_nothing, name_of, name_directive, value_fault};
+ghost use Rattle.object_resolve.specs.Values.{texts};
 
 use crate::fault::BlockFault;
-use crate::values::{entries_in, is_text, number_in, value_in};
+use crate::values::{entries_in, equals, number_in, value_in};
 use object_reader::block::{Block, BlockKind, Directive};
 use std::alloc::{AllocError, Global};
 
@@ -17,30 +15,21 @@ use std::alloc::{AllocError, Global};
 pub(crate) fn is_host(block: &Block) -> bool
     ensures { result ≡ is_host block.now }
 {
-    match block.kind {
-        BlockKind::Command | BlockKind::Contact => false,
-        BlockKind::Host => true,
-    }
+    matches!(block.kind, BlockKind::Host)
 }
 
 /// Whether a block is a contact's.
 pub(crate) fn is_contact(block: &Block) -> bool
     ensures { result ≡ is_contact block.now }
 {
-    match block.kind {
-        BlockKind::Command | BlockKind::Host => false,
-        BlockKind::Contact => true,
-    }
+    matches!(block.kind, BlockKind::Contact)
 }
 
 /// Whether a block is a command's.
-fn is_command(block: &Block) -> bool
-    ensures { result ≡ is_command_kind block.now.kind }
+pub(crate) fn is_command(block: &Block) -> bool
+    ensures { result ≡ is_command block.now }
 {
-    match block.kind {
-        BlockKind::Command => true,
-        BlockKind::Contact | BlockKind::Host => false,
-    }
+    matches!(block.kind, BlockKind::Command)
 }
 
 /// Whether a block is of that type.
@@ -51,17 +40,40 @@ pub(crate) fn is_of(kind: BlockKind, block: &Block) -> bool
         BlockKind::Command => is_command(block),
         BlockKind::Contact => is_contact(block),
         BlockKind::Host => is_host(block),
+        _ => false,
     }
 }
 
-/// The directive that names the object of a block of that type.
-fn naming(kind: BlockKind) -> &'static str
-    ensures { result.now ≡ naming kind }
+/// Whether blocks of a type say nothing of notifications. They are passed over.
+fn means_nothing(kind: BlockKind) -> bool
+    ensures { result ≡ means_nothing kind }
+{
+    matches!(kind, BlockKind::HostExtInfo | BlockKind::ServiceExtInfo)
+}
+
+/// Whether blocks of a type aren't resolved yet.
+fn is_later_kind(kind: BlockKind) -> bool
+    ensures { result ≡ is_later_kind kind }
+{
+    match kind {
+        BlockKind::Command
+        | BlockKind::Contact
+        | BlockKind::Host
+        | BlockKind::HostExtInfo
+        | BlockKind::ServiceExtInfo => false,
+        _ => true,
+    }
+}
+
+/// The directive that names the object of a block of that type, where the type is resolved.
+fn name_directive(kind: BlockKind) -> &'static str
+    ensures { result.now ≡ name_directive kind }
 {
     match kind {
         BlockKind::Command => "command_name",
         BlockKind::Contact => "contact_name",
         BlockKind::Host => "host_name",
+        _ => "",
     }
 }
 
@@ -69,7 +81,7 @@ fn naming(kind: BlockKind) -> &'static str
 pub(crate) fn name_of(block: &Block) -> &[u8]
     ensures { result.now ≡ name_of block.now }
 {
-    match value_in(block.directives.as_slice(), naming(block.kind)) {
+    match value_in(block.directives.as_slice(), name_directive(block.kind)) {
         None => &[],
         Some(name) => name,
     }
@@ -80,7 +92,8 @@ pub(crate) fn command_entries(
     alloc: Global,
     directives: &[Directive],
 ) -> Result<Vec<&[u8]>, AllocError>
-    ensures { IfOk result (λ list. texts list.items ≡ entries_read BlockKind.Contact directives.now) }
+    ensures { IfOk result (λ list.
+        texts list.items ≡ entries_read BlockKind.Contact directives.now) }
 {
     let mut list = entries_in(alloc, directives, "host_notification_commands")?;
     let others = entries_in(alloc, directives, "service_notification_commands")?;
@@ -90,12 +103,13 @@ pub(crate) fn command_entries(
 
 /// The entries of the lists that are read, by the type of the block.
 pub(crate) fn entries_read(alloc: Global, block: &Block) -> Result<Vec<&[u8]>, AllocError>
-    ensures { IfOk result (λ list. texts list.items ≡ entries_read block.now.kind block.now.directives) }
+    ensures { IfOk result (λ list.
+        texts list.items ≡ entries_read block.now.kind block.now.directives) }
 {
     match block.kind {
-        BlockKind::Command => Ok(Vec::new(alloc)),
         BlockKind::Contact => command_entries(alloc, block.directives.as_slice()),
         BlockKind::Host => entries_in(alloc, block.directives.as_slice(), "contacts"),
+        _ => Ok(Vec::new(alloc)),
     }
 }
 
@@ -104,12 +118,12 @@ fn is_later_of_host(name: &[u8]) -> bool
     ensures { result ≡ list_any (bytes_eq name.now) (later_names BlockKind.Host) }
 {
     is_later_of_all(name)
-        || is_text(name, "hostgroups")
-        || is_text(name, "contact_groups")
-        || is_text(name, "notification_period")
-        || is_text(name, "notification_options")
-        || is_text(name, "notifications_enabled")
-        || is_text(name, "first_notification_delay")
+        || equals(name, "hostgroups")
+        || equals(name, "contact_groups")
+        || equals(name, "notification_period")
+        || equals(name, "notification_options")
+        || equals(name, "notifications_enabled")
+        || equals(name, "first_notification_delay")
 }
 
 /// Whether a directive of a contact isn't read yet.
@@ -117,20 +131,20 @@ fn is_later_of_contact(name: &[u8]) -> bool
     ensures { result ≡ list_any (bytes_eq name.now) (later_names BlockKind.Contact) }
 {
     is_later_of_all(name)
-        || is_text(name, "contactgroups")
-        || is_text(name, "host_notifications_enabled")
-        || is_text(name, "host_notification_period")
-        || is_text(name, "host_notification_options")
-        || is_text(name, "service_notifications_enabled")
-        || is_text(name, "service_notification_period")
-        || is_text(name, "service_notification_options")
+        || equals(name, "contactgroups")
+        || equals(name, "host_notifications_enabled")
+        || equals(name, "host_notification_period")
+        || equals(name, "host_notification_options")
+        || equals(name, "service_notifications_enabled")
+        || equals(name, "service_notification_period")
+        || equals(name, "service_notification_options")
 }
 
 /// Whether a directive that each type has isn't read yet.
 fn is_later_of_all(name: &[u8]) -> bool
     ensures { result ≡ list_any (bytes_eq name.now) (later_names BlockKind.Command) }
 {
-    is_text(name, "name") || is_text(name, "use") || is_text(name, "register")
+    equals(name, "name") || equals(name, "use") || equals(name, "register")
 }
 
 /// Whether a directive of a block of that type isn't read yet.
@@ -138,9 +152,10 @@ fn is_later_name(kind: BlockKind, name: &[u8]) -> bool
     ensures { result ≡ list_any (bytes_eq name.now) (later_names kind) }
 {
     match kind {
-        BlockKind::Command => is_later_of_all(name),
         BlockKind::Contact => is_later_of_contact(name),
         BlockKind::Host => is_later_of_host(name),
+        BlockKind::HostExtInfo | BlockKind::ServiceExtInfo => false,
+        _ => is_later_of_all(name),
     }
 }
 
@@ -151,14 +166,15 @@ fn is_later_entry(entry: &[u8]) -> bool
     match entry {
         [] => false,
         [first, ..] => {
-            *first == b'!' || *first == b'*' || *first == b'+' || is_text(entry, "null")
+            *first == b'!' || *first == b'*' || *first == b'+' || equals(entry, "null")
         }
     }
 }
 
 /// Whether a block has a directive that isn't read yet.
 fn has_later_name(kind: BlockKind, directives: &[Directive]) -> bool
-    ensures { result ≡ list_any (λ d. list_any (bytes_eq d.name) (later_names kind)) directives.now }
+    ensures { result
+        ≡ list_any (λ d. list_any (bytes_eq d.name) (later_names kind)) directives.now }
 {
     directives
         .iter()
@@ -177,55 +193,50 @@ fn has_later_entry(entries: &[&[u8]]) -> bool
     false
 }
 
-/// Whether a block has a directive or an entry of a list that isn't read yet.
+/// Whether a block is of a type that isn't resolved yet, or has a directive or an entry of a list that
+/// isn't read yet.
 pub(crate) fn has_later_parts(alloc: Global, block: &Block) -> Result<bool, AllocError>
     ensures { IfOk result (λ later. later ≡ has_later_parts block.now) }
 {
+    if is_later_kind(block.kind) {
+        return Ok(true);
+    }
     let entries = entries_read(alloc, block)?;
     let in_entries = has_later_entry(entries.as_slice());
     Ok(has_later_name(block.kind, block.directives.as_slice()) || in_entries)
 }
 
 /// Whether a block of that type is a host's with an interval that isn't a number.
-fn has_bad_number(kind: BlockKind, directives: &[Directive]) -> bool
+fn has_bad_interval(kind: BlockKind, directives: &[Directive]) -> bool
     ensures { result ≡ has_bad_interval kind directives.now }
 {
-    match kind {
-        BlockKind::Command | BlockKind::Contact => false,
-        BlockKind::Host => has_bad_interval(directives),
-    }
-}
-
-/// Whether the interval of a host, where it gives one, isn't a number.
-fn has_bad_interval(directives: &[Directive]) -> bool
-    ensures { result ≡ is_bad_number (value_in directives.now (codes "notification_interval")) }
-{
-    match value_in(directives, "notification_interval") {
-        None => false,
-        Some(value) => number_in(value).is_none(),
-    }
+    matches!(kind, BlockKind::Host) && interval_in(directives).is_none()
 }
 
 /// The first fault of a block's own values: it lacks its name, or its interval isn't a number.
 pub(crate) fn value_fault(block: &Block) -> Option<BlockFault>
     ensures { result ≡ value_fault block.now }
 {
+    if means_nothing(block.kind) {
+        return None;
+    }
     let directives = block.directives.as_slice();
-    if value_in(directives, naming(block.kind)).is_none() {
+    if value_in(directives, name_directive(block.kind)).is_none() {
         return Some(BlockFault::MissingDirective);
     }
-    if has_bad_number(block.kind, directives) {
+    if has_bad_interval(block.kind, directives) {
         return Some(BlockFault::BadNumber);
     }
     None
 }
 
-/// The interval of a host: the number that it gives, and else 30.
-pub(crate) fn interval_of(directives: &[Directive]) -> u32
-    ensures { result ≡ interval_of (value_in directives.now (codes "notification_interval")) }
+/// The interval of a host: the number that it gives, and 30 where it gives none. `None` where what it gives
+/// isn't a number.
+pub(crate) fn interval_in(directives: &[Directive]) -> Option<u32>
+    ensures { result ≡ interval_in directives.now }
 {
     match value_in(directives, "notification_interval") {
-        None => 30,
-        Some(value) => number_in(value).unwrap_or(30),
+        None => Some(30),
+        Some(value) => number_in(value),
     }
 }

@@ -1,19 +1,22 @@
 //! The hosts, contacts and lanes of blocks that have no fault.
 
-ghost use Rattle.std.specs.Prelude.{◌≡◌, ◌≤◌, ◌<◌, ◌++◌, All, IfSome, OnOk, codes, length, map, filter, position, vec_len, IfOk};
+ghost use Rattle.std.specs.Prelude.{◌≡◌, ◌≤◌, ◌<◌, ◌++◌, All, IfSome, OnOk, length, map, filter, position, vec_len, IfOk, IsTrue, is_some};
 ghost use Rattle.std.specs.List.{AllZip, filter_map};
 ghost use Rattle.std.specs.Option.{option_to_list};
 ghost use Rattle.std.specs.Str.{bytes_eq};
-ghost use Rattle.object_resolve.specs.Resolved.{AreRightsOf, AreSetOf, IsContactOf, IsHostOf, contacts_in, contacts_named, hosts_in, lanes_named};
+ghost use Rattle.due_model.specs.Limits.{max_contacts, max_lanes};
+ghost use Rattle.object_resolve.specs.Blocks.{contacts_in, hosts_in, interval_in, name_of};
+ghost use Rattle.object_resolve.specs.Build.{AreRightsOf, AreSetOf, IsContactOf, IsHostOf, contacts_named, lane_named, lanes_named};
 ghost use Rattle.object_resolve.specs.Limits.{is_used};
-ghost use Rattle.object_resolve.specs.Values.{command_name, entries_of, name_of, texts, value_in};
+ghost use Rattle.object_resolve.specs.Resolve.{HaveValues};
+ghost use Rattle.object_resolve.specs.Values.{entries_of, texts, value_in};
 
-use crate::blocks::{interval_of, is_contact, is_host, name_of};
+use crate::blocks::{interval_in, is_contact, is_host, name_of};
 use crate::limits::is_lane;
 use crate::names::Names;
 use crate::values::{command_name, entries_in};
 use due_model::config::{Contact, ContactId, Lane, LaneId, Object, Rights};
-use due_model::letters::Letters;
+use due_model::options::OptionLetters;
 use due_model::sequence::{Sequence, Text};
 use object_reader::block::{Block, Directive};
 use std::alloc::{AllocError, Global};
@@ -42,8 +45,9 @@ fn contact_numbers(
     entries: &[&[u8]],
     contacts: &Names,
 ) -> Result<Vec<u16>, AllocError>
-    requires { length contacts.now ≤ 4096 }
-    ensures { IfOk result (λ numbers. numbers.items ≡ contacts_named contacts.now (texts entries.now)) }
+    requires { length contacts.now ≤ max_contacts }
+    ensures { IfOk result (λ numbers.
+        numbers.items ≡ contacts_named contacts.now (texts entries.now)) }
 {
     let mut numbers = Vec::new(alloc);
     for entry in entries {
@@ -79,8 +83,9 @@ fn contacts_listed(
     entries: &[&[u8]],
     contacts: &Names,
 ) -> Result<Vec<ContactId>, AllocError>
-    requires { length contacts.now ≤ 4096 }
-    ensures { IfOk result (λ ids. AreSetOf (contacts_named contacts.now (texts entries.now)) (map (λ id. id.0) ids.items)) }
+    requires { length contacts.now ≤ max_contacts }
+    ensures { IfOk result (λ ids.
+        AreSetOf (contacts_named contacts.now (texts entries.now)) (map (λ id. id.0) ids.items)) }
 {
     let numbers = set_of(contact_numbers(alloc, entries, contacts)?)?;
     contact_ids(alloc, numbers.as_slice())
@@ -88,19 +93,23 @@ fn contacts_listed(
 
 /// The host of a block.
 fn host_of(alloc: Global, block: &Block, contacts: &Names) -> Result<Object, AllocError>
-    requires { length contacts.now ≤ 4096 }
+    requires few { length contacts.now ≤ max_contacts }
+    requires interval { IsTrue (is_some (interval_in block.now.directives)) }
     ensures { IfOk result (λ host. IsHostOf contacts.now block.now host) }
 {
     let directives = block.directives.as_slice();
     let entries = entries_in(alloc, directives, "contacts")?;
     let listed = contacts_listed(alloc, entries.as_slice(), contacts)?;
+    let Some(interval) = interval_in(directives) else {
+        unreachable!()
+    };
     Ok(Object {
         name: text_of(alloc, block)?,
         host: None,
         enabled: true,
-        options: Letters::ALL,
+        options: OptionLetters::ALL,
         period: None,
-        interval: interval_of(directives),
+        interval,
         delay: 0,
         contacts: Sequence::new(listed),
     })
@@ -112,8 +121,10 @@ pub(crate) fn hosts_of(
     blocks: &[Block],
     contacts: &Names,
 ) -> Result<Vec<Object>, AllocError>
-    requires { length contacts.now ≤ 4096 }
-    ensures { IfOk result (λ hosts. AllZip (IsHostOf contacts.now) (hosts_in blocks.now) hosts.items) }
+    requires few { length contacts.now ≤ max_contacts }
+    requires values { HaveValues blocks.now }
+    ensures { IfOk result (λ hosts.
+        AllZip (IsHostOf contacts.now) (hosts_in blocks.now) hosts.items) }
 {
     let mut hosts = Vec::new(alloc);
     for block in blocks {
@@ -131,7 +142,8 @@ pub(crate) fn lanes_of(
     blocks: &[Block],
     used: &Names,
 ) -> Result<Vec<Lane>, AllocError>
-    ensures { IfOk result (λ lanes. map (λ lane. lane.name) lanes.items ≡ map name_of (filter (is_used used.now) blocks.now)) }
+    ensures { IfOk result (λ lanes.
+        map (λ lane. lane.name) lanes.items ≡ map name_of (filter (is_used used.now) blocks.now)) }
 {
     let mut lanes = Vec::new(alloc);
     for block in blocks {
@@ -147,7 +159,7 @@ pub(crate) fn lanes_of(
 
 /// The number of the lane of a command.
 fn find_lane(lanes: &[Lane], command: &[u8]) -> Option<usize>
-    ensures place { result ≡ position (λ lane. bytes_eq command.now lane.name) lanes.now }
+    ensures place { result ≡ lane_named lanes.now command.now }
     ensures within { IfSome result (λ number. number < length lanes.now) }
 {
     lanes
@@ -157,7 +169,7 @@ fn find_lane(lanes: &[Lane], command: &[u8]) -> Option<usize>
 
 /// The numbers of the lanes that the entries name, in the order of the entries.
 fn lane_numbers(alloc: Global, entries: &[&[u8]], lanes: &[Lane]) -> Result<Vec<u16>, AllocError>
-    requires { length lanes.now ≤ 16 }
+    requires { length lanes.now ≤ max_lanes }
     ensures { IfOk result (λ numbers. numbers.items ≡ lanes_named lanes.now (texts entries.now)) }
 {
     let mut numbers = Vec::new(alloc);
@@ -169,7 +181,7 @@ fn lane_numbers(alloc: Global, entries: &[&[u8]], lanes: &[Lane]) -> Result<Vec<
 
 /// The lanes of these numbers.
 fn lane_ids(alloc: Global, numbers: &[u16]) -> Result<Vec<LaneId>, AllocError>
-    requires { All (λ number. number < 16) numbers.now }
+    requires { All (λ number. number < max_lanes) numbers.now }
     ensures { IfOk result (λ ids. map (λ id. id.0) ids.items ≡ numbers.now) }
 {
     let mut ids = Vec::new(alloc);
@@ -181,8 +193,9 @@ fn lane_ids(alloc: Global, numbers: &[u16]) -> Result<Vec<LaneId>, AllocError>
 
 /// The lanes that the entries name, each once and in number order.
 fn lanes_listed(alloc: Global, entries: &[&[u8]], lanes: &[Lane]) -> Result<Vec<LaneId>, AllocError>
-    requires { length lanes.now ≤ 16 }
-    ensures { IfOk result (λ ids. AreSetOf (lanes_named lanes.now (texts entries.now)) (map (λ id. id.0) ids.items)) }
+    requires { length lanes.now ≤ max_lanes }
+    ensures { IfOk result (λ ids.
+        AreSetOf (lanes_named lanes.now (texts entries.now)) (map (λ id. id.0) ids.items)) }
 {
     let numbers = set_of(lane_numbers(alloc, entries, lanes)?)?;
     lane_ids(alloc, numbers.as_slice())
@@ -195,14 +208,15 @@ fn rights_of(
     name: &str,
     lanes: &[Lane],
 ) -> Result<Rights, AllocError>
-    requires { length lanes.now ≤ 16 }
-    ensures { IfOk result (λ rights. AreRightsOf lanes.now (entries_of (value_in directives.now name.now)) rights) }
+    requires { length lanes.now ≤ max_lanes }
+    ensures { IfOk result (λ rights.
+        AreRightsOf lanes.now (entries_of (value_in directives.now name.now)) rights) }
 {
     let entries = entries_in(alloc, directives, name)?;
     let listed = lanes_listed(alloc, entries.as_slice(), lanes)?;
     Ok(Rights {
         enabled: true,
-        options: Letters::ALL,
+        options: OptionLetters::ALL,
         period: None,
         lanes: Sequence::new(listed),
     })
@@ -210,7 +224,7 @@ fn rights_of(
 
 /// The contact of a block.
 fn contact_of(alloc: Global, block: &Block, lanes: &[Lane]) -> Result<Contact, AllocError>
-    requires { length lanes.now ≤ 16 }
+    requires { length lanes.now ≤ max_lanes }
     ensures { IfOk result (λ contact. IsContactOf lanes.now block.now contact) }
 {
     let directives = block.directives.as_slice();
@@ -227,8 +241,9 @@ pub(crate) fn contacts_of(
     blocks: &[Block],
     lanes: &[Lane],
 ) -> Result<Vec<Contact>, AllocError>
-    requires { length lanes.now ≤ 16 }
-    ensures { IfOk result (λ contacts. AllZip (IsContactOf lanes.now) (contacts_in blocks.now) contacts.items) }
+    requires { length lanes.now ≤ max_lanes }
+    ensures { IfOk result (λ contacts.
+        AllZip (IsContactOf lanes.now) (contacts_in blocks.now) contacts.items) }
 {
     let mut contacts = Vec::new(alloc);
     for block in blocks {

@@ -1,9 +1,10 @@
-//! Why blocks of object text give no configuration.
+//! Why object text gives no configuration.
 
 ghost use Rattle.std.specs.Prelude.{◌≡◌, Some};
-ghost use Rattle.object_resolve.specs.Fault.{fault_name, fault_text};
+ghost use Rattle.object_resolve.specs.Fault.{fault_name, fault_text, of_blocks, of_read};
 ghost use Rattle.object_resolve.specs.declared.fault.ResolveFault.TheVariants.{NoMemory};
 
+use object_reader::fault::{LineFault, ReadFault};
 use std::alloc::{AllocError, AllocFailed};
 use std::error::Error;
 use std::fmt;
@@ -21,13 +22,27 @@ pub enum BlockFault {
     BadNumber,
     /// With this block there are over 65,535 hosts, 4,096 contacts or 16 lanes.
     TooMany,
-    /// The block has a directive, or an entry of a list, that isn't read yet.
+    /// The block is of a type that isn't resolved yet, or it has a directive, or an entry of a list,
+    /// that isn't read yet.
     NotYet,
 }
 
-/// Why blocks could not be made a configuration. Nothing of them is given beside it.
+/// Why object text gives no configuration. Nothing is given beside it.
 #[derive(Clone, Copy, Debug, PartialEq, Eq)]
-pub enum ResolveFault {
+pub enum LoadFault {
+    /// The text isn't blocks: the first fault of a line, and the line's number, from 1.
+    Line { line: u64, fault: LineFault },
+    /// The first fault of a block, and the number of the line of its `define`.
+    Block { line: u64, fault: BlockFault },
+    /// The text has more than 16,777,216 bytes, newlines counted.
+    TooLarge,
+    /// Memory ran out. It says nothing of the text.
+    NoMemory,
+}
+
+/// Why blocks could not be made a configuration.
+#[derive(Clone, Copy, Debug, PartialEq, Eq)]
+pub(crate) enum ResolveFault {
     /// The fault of a block, with the line of its `define`.
     AtLine { line: u64, fault: BlockFault },
     /// Memory ran out. It says nothing of the blocks.
@@ -50,30 +65,50 @@ impl BlockFault {
     }
 }
 
-/// The name of the fault.
-impl fmt::Display for BlockFault {
-    ghost output = { λ fault. Some (fault_name fault) };
-
-    fn fmt<W: fmt::Write>(&self, f: &mut fmt::Formatter<W>) -> fmt::Result {
-        f.write_str(self.name())
-    }
-}
-
-/// `line N: NAME` for the fault of a block, and else the name alone.
-impl fmt::Display for ResolveFault {
+/// `line N: NAME` for the fault of a line or of a block, and else the name alone.
+impl fmt::Display for LoadFault {
     ghost output = { λ fault. Some (fault_text fault) };
 
     fn fmt<W: fmt::Write>(&self, f: &mut fmt::Formatter<W>) -> fmt::Result {
         match self {
-            ResolveFault::AtLine { line, fault } => write!(f, "line {line}: {fault}"),
-            ResolveFault::NoMemory => write!(f, "NoMemory"),
+            LoadFault::Line { line, fault } => {
+                let name = fault.name();
+                write!(f, "line {line}: {name}")
+            }
+            LoadFault::Block { line, fault } => {
+                let name = fault.name();
+                write!(f, "line {line}: {name}")
+            }
+            LoadFault::TooLarge => write!(f, "TooLarge"),
+            LoadFault::NoMemory => write!(f, "NoMemory"),
         }
     }
 }
 
-impl Error for BlockFault {}
+impl Error for LoadFault {}
 
-impl Error for ResolveFault {}
+impl From<ReadFault> for LoadFault {
+    ghost from_gives = { λ fault given. given ≡ of_read fault };
+
+    fn from(fault: ReadFault) -> LoadFault {
+        match fault {
+            ReadFault::AtLine { line, fault } => LoadFault::Line { line, fault },
+            ReadFault::TooLarge => LoadFault::TooLarge,
+            ReadFault::NoMemory => LoadFault::NoMemory,
+        }
+    }
+}
+
+impl From<ResolveFault> for LoadFault {
+    ghost from_gives = { λ fault given. given ≡ of_blocks fault };
+
+    fn from(fault: ResolveFault) -> LoadFault {
+        match fault {
+            ResolveFault::AtLine { line, fault } => LoadFault::Block { line, fault },
+            ResolveFault::NoMemory => LoadFault::NoMemory,
+        }
+    }
+}
 
 impl From<AllocError> for ResolveFault {
     ghost from_gives = { λ _ fault. fault ≡ NoMemory };

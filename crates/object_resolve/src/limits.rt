@@ -3,28 +3,22 @@
 ghost use Rattle.std.specs.Prelude.{◌≡◌, ℕ, List, ◌||◌, ◌+◌, ◌≤◌, ◌<◌, length, filter, is_some, IfErr, IfOk, IfSome, OnOk, if◌then◌else◌};
 ghost use Rattle.std.specs.List.{list_any};
 ghost use Rattle.std.specs.Str.{bytes_eq};
-ghost use Rattle.object_resolve.specs.Resolved.{contacts_in, hosts_in, is_contact, is_contact_kind, is_host, is_host_kind, is_used_command, uses};
-ghost use Rattle.object_resolve.specs.Refusals.{IsOver};
-ghost use Rattle.object_resolve.specs.Limits.{IsWithinLimits, is_over, is_used};
-ghost use Rattle.object_resolve.specs.Values.{name_of};
+ghost use Rattle.object_resolve.specs.Blocks.{is_contact, is_host};
+ghost use Rattle.object_resolve.specs.Fault.{IsAmong, IsAt, IsFirstOf};
+ghost use Rattle.object_resolve.specs.Limits.{AreFew, AreUsed, AreWithin, IsWithinLimits, is_over, is_used, limit_fault, uses};
+ghost use Rattle.object_resolve.specs.Resolve.{IsOver};
 
-use crate::blocks::{command_entries, is_contact, name_of};
+use crate::blocks::{command_entries, is_command, is_contact, is_host, name_of};
 use crate::fault::{BlockFault, ResolveFault};
 use crate::names::Names;
 use crate::values::command_name;
-use object_reader::block::{Block, BlockKind};
+use due_model::limits::{MAX_CONTACTS, MAX_LANES, MAX_OBJECTS};
+use object_reader::block::Block;
 use std::alloc::{AllocError, Global};
 
-/// The most hosts.
-const MOST_HOSTS: usize = 65_535;
-/// The most contacts.
-const MOST_CONTACTS: usize = 4_096;
-/// The most lanes.
-const MOST_LANES: usize = 16;
-
 /// The names of the commands that some contact uses.
-pub(crate) fn used_commands(alloc: Global, blocks: &[Block]) -> Result<Names, AllocError>
-    ensures { IfOk result (λ used. (name : List ℕ) → list_any (bytes_eq name) used ≡ list_any (uses name) (contacts_in blocks.now)) }
+fn used_commands(alloc: Global, blocks: &[Block]) -> Result<Names, AllocError>
+    ensures { IfOk result (λ used. AreUsed used blocks.now) }
 {
     let mut used = Names::new(alloc);
     for block in blocks {
@@ -38,7 +32,9 @@ pub(crate) fn used_commands(alloc: Global, blocks: &[Block]) -> Result<Names, Al
 
 /// Adds the names of the commands that a contact uses.
 fn add_commands(alloc: Global, used: &mut Names, block: &Block) -> Result<(), AllocError>
-    ensures { OnOk result ((name : List ℕ) → list_any (bytes_eq name) used.new ≡ (list_any (bytes_eq name) used.old || uses name block.now)) }
+    ensures { OnOk result ((name : List ℕ)
+        → list_any (bytes_eq name) used.new
+        ≡ (list_any (bytes_eq name) used.old || uses name block.now)) }
 {
     let entries = command_entries(alloc, block.directives.as_slice())?;
     for entry in entries.as_slice() {
@@ -51,10 +47,7 @@ fn add_commands(alloc: Global, used: &mut Names, block: &Block) -> Result<(), Al
 pub(crate) fn is_lane(block: &Block, used: &Names) -> bool
     ensures { result ≡ is_used used.now block.now }
 {
-    match block.kind {
-        BlockKind::Command => used.has(name_of(block)),
-        BlockKind::Contact | BlockKind::Host => false,
-    }
+    is_command(block) && used.has(name_of(block))
 }
 
 /// How many of each there are.
@@ -66,23 +59,21 @@ struct Counts {
 }
 
 /// The counts with one more block.
-fn counted(counts: Counts, block: &Block, used: &Names) -> Counts
-    requires hosts { counts.hosts ≤ 65535 }
-    requires contacts { counts.contacts ≤ 4096 }
-    requires lanes { counts.lanes ≤ 16 }
+fn count_block(counts: Counts, block: &Block, used: &Names) -> Counts
+    requires { AreFew counts }
     ensures hosts { result.hosts ≡ counts.hosts + (if is_host block.now then 1 else 0) }
     ensures contacts { result.contacts ≡ counts.contacts + (if is_contact block.now then 1 else 0) }
     ensures lanes { result.lanes ≡ counts.lanes + (if is_used used.now block.now then 1 else 0) }
 {
     let mut more = counts;
-    match block.kind {
-        BlockKind::Host => more.hosts += 1,
-        BlockKind::Contact => more.contacts += 1,
-        BlockKind::Command => {
-            if is_lane(block, used) {
-                more.lanes += 1;
-            }
-        }
+    if is_host(block) {
+        more.hosts += 1;
+    }
+    if is_contact(block) {
+        more.contacts += 1;
+    }
+    if is_lane(block, used) {
+        more.lanes += 1;
     }
     more
 }
@@ -91,13 +82,15 @@ fn counted(counts: Counts, block: &Block, used: &Names) -> Counts
 fn is_over(counts: Counts) -> bool
     ensures { result ≡ is_over counts.hosts counts.contacts counts.lanes }
 {
-    counts.hosts > MOST_HOSTS || counts.contacts > MOST_CONTACTS || counts.lanes > MOST_LANES
+    counts.hosts > MAX_OBJECTS || counts.contacts > MAX_CONTACTS || counts.lanes > MAX_LANES
 }
 
-/// Finds the first block with which there are too many hosts, contacts or lanes.
-pub(crate) fn check_limits(blocks: &[Block], used: &Names) -> Result<(), ResolveFault>
+/// Finds the first block with which there are too many hosts, contacts or lanes, where `used` are the names of
+/// the commands that are lanes.
+fn check_counts(blocks: &[Block], used: &Names) -> Result<(), ResolveFault>
     ensures limits { OnOk result (IsWithinLimits (is_used used.now) blocks.now) }
-    ensures fault { IfErr result (λ fault. IsOver (is_used used.now) blocks.now fault) }
+    ensures fault { IfErr result (λ fault.
+        IsAt (IsFirstOf (limit_fault (is_used used.now)) blocks.now) fault) }
 {
     let mut counts = Counts {
         hosts: 0,
@@ -105,7 +98,7 @@ pub(crate) fn check_limits(blocks: &[Block], used: &Names) -> Result<(), Resolve
         lanes: 0,
     };
     for block in blocks {
-        let more = counted(counts, block, used);
+        let more = count_block(counts, block, used);
         if is_over(more) {
             return Err(ResolveFault::AtLine {
                 line: block.line,
@@ -115,4 +108,16 @@ pub(crate) fn check_limits(blocks: &[Block], used: &Names) -> Result<(), Resolve
         counts = more;
     }
     Ok(())
+}
+
+/// The names of the commands that are lanes, or the first block with which there are too many hosts, contacts
+/// or lanes.
+pub(crate) fn check_limits(alloc: Global, blocks: &[Block]) -> Result<Names, ResolveFault>
+    ensures used { IfOk result (λ used. AreUsed used blocks.now) }
+    ensures limits { OnOk result (AreWithin blocks.now) }
+    ensures fault { IfErr result (λ fault. IsAmong (IsOver blocks.now) fault) }
+{
+    let used = used_commands(alloc, blocks)?;
+    check_counts(blocks, &used)?;
+    Ok(used)
 }

@@ -42,7 +42,9 @@ impl Names {
     /// Adds a name where it isn't there, and says whether it added it.
     pub(crate) fn add(&mut self, alloc: Global, name: &[u8]) -> Result<bool, AllocError>
         ensures added { IfOk result (λ added. added ≡ not (list_any (bytes_eq name.now) self.old)) }
-        ensures names { OnOk result (self.new ≡ (if list_any (bytes_eq name.now) self.old then self.old else self.old ++ name.now ∷ [])) }
+        ensures names { OnOk result (self.new
+            ≡ (if list_any (bytes_eq name.now) self.old then self.old
+            else self.old ++ name.now ∷ [])) }
     {
         let added = self.set.insert(Vec::from_slice(alloc, name)?)?;
         Ok(added)

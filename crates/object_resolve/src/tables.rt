@@ -3,11 +3,11 @@
 ghost use Rattle.std.specs.Prelude.{◌≡◌, [], None, true, not, IfErr, IfOk, OnOk};
 ghost use Rattle.std.specs.List.{list_any};
 ghost use Rattle.std.specs.Str.{bytes_eq};
-ghost use Rattle.object_resolve.specs.Resolved.{contact_names};
-ghost use Rattle.object_resolve.specs.Refusals.{AreNamed, IsMisnamed};
-ghost use Rattle.object_resolve.specs.Names.{fault_by, has_unknown, is_known, is_of, names_in};
-ghost use Rattle.object_resolve.specs.Tables.{AreSameNames, table_of, with_name};
-ghost use Rattle.object_resolve.specs.Values.{name_of, texts};
+ghost use Rattle.object_resolve.specs.Blocks.{contact_names, is_of, name_of};
+ghost use Rattle.object_resolve.specs.Fault.{IsAmong};
+ghost use Rattle.object_resolve.specs.Resolve.{IsMisnamed};
+ghost use Rattle.object_resolve.specs.Tables.{AreNamed, AreSameNames, fault_by, has_name, has_unknown, is_known, names_in, with_block};
+ghost use Rattle.object_resolve.specs.Values.{texts};
 
 use crate::blocks::{entries_read, is_of, name_of};
 use crate::fault::{BlockFault, ResolveFault};
@@ -30,22 +30,24 @@ fn names_of(alloc: Global, kind: BlockKind, blocks: &[Block]) -> Result<Names, A
     Ok(names)
 }
 
-/// The names that lists may name.
+/// The names of contacts and of commands, which lists of other blocks may give.
 #[derive(Drop)]
-struct Known {
+struct ListableNames {
     contacts: Names,
     commands: Names,
 }
 
-impl Known {
+impl ListableNames {
     /// The names of the blocks.
     fn of_blocks(alloc: Global, blocks: &[Block]) -> Result<Self, AllocError>
-        ensures contacts { IfOk result (λ known. AreSameNames known.contacts (names_in BlockKind.Contact blocks.now)) }
-        ensures commands { IfOk result (λ known. AreSameNames known.commands (names_in BlockKind.Command blocks.now)) }
+        ensures contacts { IfOk result (λ names.
+            AreSameNames names.contacts (names_in BlockKind.Contact blocks.now)) }
+        ensures commands { IfOk result (λ names.
+            AreSameNames names.commands (names_in BlockKind.Command blocks.now)) }
     {
         let contacts = names_of(alloc, BlockKind::Contact, blocks)?;
         let commands = names_of(alloc, BlockKind::Command, blocks)?;
-        Ok(Known { contacts, commands })
+        Ok(ListableNames { contacts, commands })
     }
 
     /// Whether an entry of a list of a block of that type names a block.
@@ -53,15 +55,17 @@ impl Known {
         ensures { result ≡ is_known self.now.contacts self.now.commands kind entry.now }
     {
         match kind {
-            BlockKind::Command => true,
             BlockKind::Contact => self.commands.has(command_name(entry)),
             BlockKind::Host => self.contacts.has(entry),
+            _ => true,
         }
     }
 
     /// Whether one of the entries of a block of that type names no block.
     fn has_unknown_entry(&self, kind: BlockKind, entries: &[&[u8]]) -> bool
-        ensures { result ≡ list_any (λ entry. not (is_known self.now.contacts self.now.commands kind entry)) (texts entries.now) }
+        ensures { result
+            ≡ list_any (λ entry. not (is_known self.now.contacts self.now.commands kind entry))
+            (texts entries.now) }
     {
         for entry in entries {
             if !self.is_known(kind, *entry) {
@@ -73,7 +77,8 @@ impl Known {
 
     /// Whether a list of a block has an entry that names no block.
     fn has_unknown(&self, alloc: Global, block: &Block) -> Result<bool, AllocError>
-        ensures { IfOk result (λ unknown. unknown ≡ has_unknown self.now.contacts self.now.commands block.now) }
+        ensures { IfOk result (λ unknown.
+            unknown ≡ has_unknown self.now.contacts self.now.commands block.now) }
     {
         let entries = entries_read(alloc, block)?;
         Ok(self.has_unknown_entry(block.kind, entries.as_slice()))
@@ -104,31 +109,42 @@ impl Tables {
 
     /// Adds the name of a block where no block of its type has it, and says whether it added it.
     fn add(&mut self, alloc: Global, block: &Block) -> Result<bool, AllocError>
-        ensures added { IfOk result (λ added. added ≡ not (list_any (bytes_eq (name_of block.now)) (table_of block.now.kind self.old.commands self.old.contacts self.old.hosts))) }
-        ensures commands { IfOk result (λ added. added ≡ true → self.new.commands ≡ with_name (is_of BlockKind.Command block.now) (name_of block.now) self.old.commands) }
-        ensures contacts { IfOk result (λ added. added ≡ true → self.new.contacts ≡ with_name (is_of BlockKind.Contact block.now) (name_of block.now) self.old.contacts) }
-        ensures hosts { IfOk result (λ added. added ≡ true → self.new.hosts ≡ with_name (is_of BlockKind.Host block.now) (name_of block.now) self.old.hosts) }
+        ensures added { IfOk result (λ added.
+            added ≡ not (has_name block.now self.old.commands self.old.contacts self.old.hosts)) }
+        ensures commands { IfOk result (λ added. added ≡ true
+            → self.new.commands ≡ with_block BlockKind.Command block.now self.old.commands) }
+        ensures contacts { IfOk result (λ added. added ≡ true
+            → self.new.contacts ≡ with_block BlockKind.Contact block.now self.old.contacts) }
+        ensures hosts { IfOk result (λ added. added ≡ true
+            → self.new.hosts ≡ with_block BlockKind.Host block.now self.old.hosts) }
     {
         match block.kind {
             BlockKind::Command => self.commands.add(alloc, name_of(block)),
             BlockKind::Contact => self.contacts.add(alloc, name_of(block)),
             BlockKind::Host => self.hosts.add(alloc, name_of(block)),
+            _ => Ok(true),
         }
     }
 
-    /// The fault of names of a block behind those whose names are there. The name of a block without one is added.
-    fn add_known(
+    /// The fault of names of a block after those whose names are there. The name of a block without
+    /// one is added.
+    fn add_listed(
         &mut self,
         alloc: Global,
         block: &Block,
-        known: &Known,
+        listable: &ListableNames,
     ) -> Result<Option<BlockFault>, AllocError>
-        ensures fault { IfOk result (λ fault. fault ≡ fault_by (has_unknown known.now.contacts known.now.commands block.now) (list_any (bytes_eq (name_of block.now)) (table_of block.now.kind self.old.commands self.old.contacts self.old.hosts))) }
-        ensures commands { IfOk result (λ fault. fault ≡ None → self.new.commands ≡ with_name (is_of BlockKind.Command block.now) (name_of block.now) self.old.commands) }
-        ensures contacts { IfOk result (λ fault. fault ≡ None → self.new.contacts ≡ with_name (is_of BlockKind.Contact block.now) (name_of block.now) self.old.contacts) }
-        ensures hosts { IfOk result (λ fault. fault ≡ None → self.new.hosts ≡ with_name (is_of BlockKind.Host block.now) (name_of block.now) self.old.hosts) }
+        ensures fault { IfOk result (λ fault. fault
+            ≡ fault_by (has_unknown listable.now.contacts listable.now.commands block.now)
+            (has_name block.now self.old.commands self.old.contacts self.old.hosts)) }
+        ensures commands { IfOk result (λ fault. fault ≡ None
+            → self.new.commands ≡ with_block BlockKind.Command block.now self.old.commands) }
+        ensures contacts { IfOk result (λ fault. fault ≡ None
+            → self.new.contacts ≡ with_block BlockKind.Contact block.now self.old.contacts) }
+        ensures hosts { IfOk result (λ fault. fault ≡ None
+            → self.new.hosts ≡ with_block BlockKind.Host block.now self.old.hosts) }
     {
-        if known.has_unknown(alloc, block)? {
+        if listable.has_unknown(alloc, block)? {
             return Ok(Some(BlockFault::UnknownName));
         }
         if !self.add(alloc, block)? {
@@ -137,25 +153,27 @@ impl Tables {
         Ok(None)
     }
 
-    /// Adds the names of the blocks, or finds the first block with an entry that names no block or with a
-    /// doubled name.
+    /// Adds the names of the blocks, or finds the first block with an entry that names no block or with
+    /// a doubled name.
     fn add_all(
         &mut self,
         alloc: Global,
         blocks: &[Block],
-        known: &Known,
+        listable: &ListableNames,
     ) -> Result<(), ResolveFault>
         requires commands { self.old.commands ≡ [] }
         requires contacts { self.old.contacts ≡ [] }
         requires hosts { self.old.hosts ≡ [] }
-        requires known_contacts { AreSameNames known.now.contacts (names_in BlockKind.Contact blocks.now) }
-        requires known_commands { AreSameNames known.now.commands (names_in BlockKind.Command blocks.now) }
+        requires known_contacts { AreSameNames listable.now.contacts
+            (names_in BlockKind.Contact blocks.now) }
+        requires known_commands { AreSameNames listable.now.commands
+            (names_in BlockKind.Command blocks.now) }
         ensures contacts { OnOk result (self.new.contacts ≡ contact_names blocks.now) }
         ensures names { OnOk result (AreNamed blocks.now) }
-        ensures fault { IfErr result (λ fault. IsMisnamed blocks.now fault) }
+        ensures fault { IfErr result (λ fault. IsAmong (IsMisnamed blocks.now) fault) }
     {
         for block in blocks {
-            match self.add_known(alloc, block, known)? {
+            match self.add_listed(alloc, block, listable)? {
                 None => {}
                 Some(fault) => {
                     return Err(ResolveFault::AtLine {
@@ -180,10 +198,10 @@ impl Tables {
 pub(crate) fn check_names(alloc: Global, blocks: &[Block]) -> Result<Tables, ResolveFault>
     ensures contacts { IfOk result (λ tables. tables.contacts ≡ contact_names blocks.now) }
     ensures names { OnOk result (AreNamed blocks.now) }
-    ensures fault { IfErr result (λ fault. IsMisnamed blocks.now fault) }
+    ensures fault { IfErr result (λ fault. IsAmong (IsMisnamed blocks.now) fault) }
 {
-    let known = Known::of_blocks(alloc, blocks)?;
+    let listable = ListableNames::of_blocks(alloc, blocks)?;
     let mut tables = Tables::new(alloc);
-    tables.add_all(alloc, blocks, &known)?;
+    tables.add_all(alloc, blocks, &listable)?;
     Ok(tables)
 }

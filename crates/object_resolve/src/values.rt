@@ -1,21 +1,20 @@
 //! What the directives of a block say (chapter "Object Definitions").
 
-ghost use Rattle.std.specs.Prelude.{◌≡◌, ◌++◌, ◌∷◌, [], OnOk, ◌≤◌, ◌==◌, ◌&&◌, not, min, length, map, take_while, IfOk, if◌then◌else◌};
+ghost use Rattle.std.specs.Prelude.{◌≡◌, ◌++◌, ◌+◌, ◌∷◌, [], OnOk, ◌≤◌, ◌==◌, ◌&&◌, not, min, length, map, take_while, IfOk, if◌then◌else◌};
 ghost use Rattle.std.specs.Char.{is_ascii_digit};
 ghost use Rattle.std.specs.List.{before_first, list_all, list_any, position};
 ghost use Rattle.std.specs.Option.{option_copied};
 ghost use Rattle.std.specs.Str.{bytes_eq};
+ghost use Rattle.due_model.specs.Limits.{max_number};
 ghost use Rattle.object_resolve.specs.Values.{command_name, entries, entries_of, is_comma, texts, number_in, number_of, value_in};
 
+use due_model::limits::MAX_NUMBER;
 use object_reader::blanks::trim;
 use object_reader::block::Directive;
 use std::alloc::{AllocError, Global};
 
-/// The greatest number of a directive.
-const MOST: u32 = 1_000_000;
-
 /// Whether the bytes are those of the text.
-pub(crate) fn is_text(bytes: &[u8], text: &str) -> bool
+pub(crate) fn equals(bytes: &[u8], text: &str) -> bool
     ensures { result ≡ bytes_eq bytes.now text.now }
 {
     bytes == text.as_bytes()
@@ -28,7 +27,7 @@ pub(crate) fn value_in<'a>(directives: &'a [Directive], name: &str) -> Option<&'
     let found = directives
         .iter()
         .rev()
-        .find(|directive| is_text(directive.name.as_slice(), name));
+        .find(|directive| equals(directive.name.as_slice(), name));
     match found {
         None => None,
         Some(directive) => Some(directive.value.as_slice()),
@@ -52,7 +51,9 @@ fn first_part(list: &[u8]) -> &[u8]
 
 /// Adds an entry to a list, where it isn't empty.
 fn push_entry<'a>(list: &mut Vec<&'a [u8]>, entry: &'a [u8]) -> Result<(), AllocError>
-    ensures { OnOk result (texts list.new.items ≡ texts list.old.items ++ (if length entry.entry.now == 0 then [] else entry.entry.now ∷ [])) }
+    ensures { OnOk result (texts list.new.items
+        ≡ texts list.old.items
+        ++ (if length entry.entry.now == 0 then [] else entry.entry.now ∷ [])) }
 {
     if !entry.is_empty() {
         list.push(entry)?;
@@ -82,7 +83,8 @@ pub(crate) fn entries_in<'a>(
     directives: &'a [Directive],
     name: &str,
 ) -> Result<Vec<&'a [u8]>, AllocError>
-    ensures { IfOk result (λ list. texts list.items ≡ entries_of (value_in directives.now name.now)) }
+    ensures { IfOk result (λ list.
+        texts list.items ≡ entries_of (value_in directives.now name.now)) }
 {
     match value_in(directives, name) {
         None => Ok(Vec::new(alloc)),
@@ -112,14 +114,14 @@ fn are_digits(bytes: &[u8]) -> bool
     bytes.iter().all(|byte| byte.is_ascii_digit())
 }
 
-/// The number that digits write, and past 1,000,000 some number past it.
+/// The number that digits write, and past the greatest number of a directive the next after that.
 fn number_of(digits: &[u8]) -> u32
-    ensures { result ≡ min (number_of digits.now) 1_000_001 }
+    ensures { result ≡ min (number_of digits.now) (max_number + 1) }
 {
     let mut number: u32 = 0;
     for digit in digits {
         let value = u32::from(digit.saturating_sub(b'0'));
-        number = (number * 10 + value).min(MOST + 1);
+        number = (number * 10 + value).min(MAX_NUMBER + 1);
     }
     number
 }
@@ -135,5 +137,9 @@ pub(crate) fn number_in(value: &[u8]) -> Option<u32>
         return None;
     }
     let number = number_of(value);
-    if number <= MOST { Some(number) } else { None }
+    if number <= MAX_NUMBER {
+        Some(number)
+    } else {
+        None
+    }
 }

@@ -11,9 +11,10 @@ use Rattle.due_model.specs.declared.event.Event.{Event}
 use Rattle.due_model.specs.declared.notice.Notice.{Notice}
 use Rattle.due_model.specs.declared.zone.Zone.{Zone}
 use Rattle.due_model.specs.Due.{due, due_for, due_at}
-use Rattle.due_model.specs.Laws.{NoticesTellOfEvents, TellsOfEvent}
-use Rattle.decider.specs.declared.owned.Owned.{Owned}
-use Rattle.decider.specs.Gains.{gain, gained, is_owned, owned_numbers}
+use Rattle.due_laws.specs.Laws.{NoticesTellOfEvents, TellsOfEvent}
+use Rattle.decider.specs.declared.share.Share.{Share}
+use Rattle.decider.specs.Decider.{gain, gained}
+use Rattle.decider.specs.Share.{is_owned, owned_numbers}
 use Rattle.world_steps.specs.Lines.{about}
 
 -- all of these are notices of object k
@@ -87,30 +88,30 @@ gain_is_about law c zone l e past k = by_object (slice_get c.objects k) (law c z
         (All-same (TellsOfEvent (e ∷ past) k l) new (drop (length before) (before ++ new)) (sym (drop_at before new (length before) refl))
         (All-drop (TellsOfEvent (e ∷ past) k l) (length before) (before ++ new) h))
 
--- what is gained of an owned object
-pub gained_owned : NoticesTellOfEvents → (c : Config) (zone : Zone) (owned : Owned) (l : ℕ) (e : Event) (past : List Event) (o : ℕ)
-    → is_owned owned o ≡ true → o < length c.objects → about o (gained c zone owned l e past) ≡ gain c zone l e past o
-gained_owned law c zone owned l e past o mine h =
-    one_owned (gain c zone l e past) (gain_is_about law c zone l e past) (is_owned owned) o mine 0 (length c.objects) (omega arith) (omega (arith, h))
+-- what is gained of an share object
+pub gained_owned : NoticesTellOfEvents → (c : Config) (zone : Zone) (share : Share) (l : ℕ) (e : Event) (past : List Event) (o : ℕ)
+    → is_owned share o ≡ true → o < length c.objects → about o (gained c zone share l e past) ≡ gain c zone l e past o
+gained_owned law c zone share l e past o mine h =
+    one_owned (gain c zone l e past) (gain_is_about law c zone l e past) (is_owned share) o mine 0 (length c.objects) (omega arith) (omega (arith, h))
 
 -- and of one that isn't
-pub gained_other : NoticesTellOfEvents → (c : Config) (zone : Zone) (owned : Owned) (l : ℕ) (e : Event) (past : List Event) (o : ℕ)
-    → is_owned owned o ≡ false → about o (gained c zone owned l e past) ≡ []
-gained_other law c zone owned l e past o foreign =
-    none_owned (gain c zone l e past) (gain_is_about law c zone l e past) (is_owned owned) o foreign (range_with_len 0 (length c.objects))
+pub gained_other : NoticesTellOfEvents → (c : Config) (zone : Zone) (share : Share) (l : ℕ) (e : Event) (past : List Event) (o : ℕ)
+    → is_owned share o ≡ false → about o (gained c zone share l e past) ≡ []
+gained_other law c zone share l e past o foreign =
+    none_owned (gain c zone l e past) (gain_is_about law c zone l e past) (is_owned share) o foreign (range_with_len 0 (length c.objects))
 
 All-flat : {X A : Type 0} (Q : A → Type 0) (f : X → List A) (P : X → Type 0) → ((x : X) → P x → All Q (f x)) → (xs : List X) → All P xs → All Q (flat_map f xs)
 All-flat Q f P give [] h = All-nil Q
 All-flat Q f P give (x ∷ xs) h = All-append Q (f x) (flat_map f xs) (give x (All-head P x xs h)) (All-flat Q f P give xs (All-tail P x xs h))
 
--- each gained notice is of an object that is owned
-pub gained_is_owned : NoticesTellOfEvents → (c : Config) (zone : Zone) (owned : Owned) (l : ℕ) (e : Event) (past : List Event)
-    → All (λ n. n.object.0 % owned.deciders ≡ owned.decider) (gained c zone owned l e past)
-gained_is_owned law c zone owned l e past =
-    All-flat (λ (n : Notice). n.object.0 % owned.deciders ≡ owned.decider) (gain c zone l e past) (λ k. is_owned owned k ≡ true)
-    (λ k mine. All-weaker (λ (n : Notice). n.object.0 ≡ k) (λ (n : Notice). n.object.0 % owned.deciders ≡ owned.decider)
-    (λ n same. ap (λ (m : ℕ). m % owned.deciders) same ∙ eqb-true (k % owned.deciders) owned.decider mine) (gain c zone l e past k) (gain_is_about law c zone l e past k))
-    (owned_numbers owned (length c.objects)) (filter_passes (is_owned owned) (range_with_len 0 (length c.objects)))
+-- each gained notice is of an object that is share
+pub gained_is_owned : NoticesTellOfEvents → (c : Config) (zone : Zone) (share : Share) (l : ℕ) (e : Event) (past : List Event)
+    → All (λ n. n.object.0 % share.deciders ≡ share.decider) (gained c zone share l e past)
+gained_is_owned law c zone share l e past =
+    All-flat (λ (n : Notice). n.object.0 % share.deciders ≡ share.decider) (gain c zone l e past) (λ k. is_owned share k ≡ true)
+    (λ k mine. All-weaker (λ (n : Notice). n.object.0 ≡ k) (λ (n : Notice). n.object.0 % share.deciders ≡ share.decider)
+    (λ n same. ap (λ (m : ℕ). m % share.deciders) same ∙ eqb-true (k % share.deciders) share.decider mine) (gain c zone l e past k) (gain_is_about law c zone l e past k))
+    (owned_numbers share (length c.objects)) (filter_passes (is_owned share) (range_with_len 0 (length c.objects)))
 
 -- what is due after one more event
 pub due_more : (c : Config) (zone : Zone) (o l : ℕ) (e : Event) (past : List Event) → due c zone o l (e ∷ past) ≡ due c zone o l past ++ gain c zone l e past o

@@ -1,7 +1,8 @@
 pub mod ListLemmas
-pub mod PartsLaws
+pub mod FitLaws
 pub mod Gains
 pub mod Shapes
-pub mod Soundness
+pub mod StateLaws
 pub mod NewWorlds
 pub mod RunLaws
+pub mod StepLaws

@@ -1,5 +1,5 @@
 -- Lists: a fact at one place and elsewhere, and what stands at the front or next.
-use Rattle.std.proofs.Common.{◌≡◌, ◌≢◌, ℕ, ◌+◌, ◌<◌, Bool, true, List, [], ◌∷◌, ◌++◌, length, take, slice_get, is_some, Result, Ok, Err, OnErr, Some, subst, sym, ap, ◌∙◌, arith, inl, inr}
+use Rattle.std.proofs.Common.{◌≡◌, ◌≢◌, ℕ, ◌+◌, ◌<◌, Bool, true, List, [], ◌∷◌, ◌++◌, length, take, slice_get, is_some, Result, Ok, Err, OnOk, OnErr, Some, subst, sym, ap, ◌∙◌, arith, inl, inr}
 use Rattle.std.proofs.lemmas.Bool.{cases_eq}
 use Rattle.std.proofs.lemmas.List.{take_more}
 use Rattle.std.proofs.lemmas.Option.{get_or_from_slice_get, slice_get_within}
@@ -22,3 +22,8 @@ module _ {X : Type 0} where
 pub on_err_always : {T E P : Type 0} (r : Result T E) → P → OnErr r P
 on_err_always (Ok x) p = tt
 on_err_always (Err e) p = p
+
+-- what follows from each outcome of a call
+pub on_either : {T E P1 P2 Q1 Q2 R : Type 0} (r : Result T E) → (P1 → P2 → R) → (Q1 → Q2 → R) → OnOk r P1 → OnOk r P2 → OnErr r Q1 → OnErr r Q2 → R
+on_either (Ok x) done left p1 p2 q1 q2 = done p1 p2
+on_either (Err e) done left p1 p2 q1 q2 = left q1 q2

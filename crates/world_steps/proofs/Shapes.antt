@@ -3,11 +3,8 @@ use Rattle.std.proofs.Common.{◌≡◌, List, [], ◌++◌, take, drop, sym, ap
 use Rattle.std.proofs.lemmas.List.{append-nil, take-append-drop}
 use Rattle.due_model.specs.declared.notice.Notice.{Notice}
 use Rattle.world_steps.specs.Worlds.{LaneState}
+use Rattle.world_steps.specs.Lines.{contents}
 use Rattle.world_steps.specs.Steps.{CanPick, picked, settled, closed, drained, queued}
-
--- all that is in a lane, in order
-abbrev pub contents : LaneState → List Notice
-contents lane = lane.taken ++ lane.hand ++ lane.undelivered ++ lane.queue
 
 module _ {X : Type 0} where
   split_front : (xs ys : List X) → (xs ++ take 1 ys) ++ drop 1 ys ≡ xs ++ ys

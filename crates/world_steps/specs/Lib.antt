@@ -1,7 +1,7 @@
+pub mod Settings
 pub mod Worlds
 pub mod Steps
 pub mod Lines
 pub mod Runs
-pub mod Held
-pub mod Facts
+pub mod Fits
 pub mod Views

@@ -2,7 +2,7 @@
 use Rattle.std.specs.Prelude.{◌≡◌, ◌≢◌, ℕ, ◌%◌, ◌<◌, ◌==◌, List, ◌++◌, length, filter, AllPairs}
 use Rattle.due_model.specs.declared.notice.Notice.{Notice}
 use Rattle.due_model.specs.Due.{due}
-use Rattle.world_steps.specs.Worlds.{WorldState, Settings, lane_at, outbox_at}
+use Rattle.world_steps.specs.Worlds.{LaneState, WorldState, Setup, lane_at, outbox_at}
 use Rattle.world_steps.specs.Steps.{past_of}
 
 -- the notices of object o
@@ -10,20 +10,24 @@ abbrev pub about : (o : ℕ) → List Notice → List Notice
 about o notices = filter (λ n. n.object.0 == o) notices
 
 -- the number of the decider that owns object o
-abbrev pub decider_of : Settings → (o : ℕ) → ℕ
-decider_of s o = o % s.deciders
+abbrev pub decider_of : Setup → (o : ℕ) → ℕ
+decider_of s o = o % s.settings.deciders
 
--- Line: what lane l's channel has taken, its message in hand, its undelivered list, its queue, and the outbox of the object's
--- decider, joined in this order and restricted to the object
-abbrev pub line : Settings → WorldState → (l o : ℕ) → List Notice
-line s w l o =
-    about o ((lane_at w l).taken ++ (lane_at w l).hand ++ (lane_at w l).undelivered ++ (lane_at w l).queue ++ outbox_at w (decider_of s o) l)
+-- all that is in a lane, in order: what its channel has taken, its message in hand, its undelivered list, its queue
+abbrev pub contents : LaneState → List Notice
+contents lane = lane.taken ++ lane.hand ++ lane.undelivered ++ lane.queue
 
--- The headline: for each lane and object, Line is what the rules make due from the events that the object's decider has decided.
-abbrev pub LinesAreDue : Settings → WorldState → Type 0
+-- Line: what is in lane l and then what is in the outbox of the object's decider, restricted to the object
+abbrev pub line : Setup → WorldState → (l o : ℕ) → List Notice
+line s w l o = about o (contents (lane_at w l) ++ outbox_at w (decider_of s o) l)
+
+-- The headline: for each lane and object, Line is what the rules make due from the events that the object's
+-- decider has decided.
+abbrev pub LinesAreDue : Setup → WorldState → Type 0
 LinesAreDue s w = (l o : ℕ) → l < length s.config.lanes → o < length s.config.objects
     → line s w l o ≡ due s.config s.zone o l (past_of w (decider_of s o))
 
 -- Each notice stands there once.
-abbrev pub NoticesStandOnce : Settings → WorldState → Type 0
-NoticesStandOnce s w = (l o : ℕ) → l < length s.config.lanes → o < length s.config.objects → AllPairs (λ a b. a ≢ b) (line s w l o)
+abbrev pub NoticesStandOnce : Setup → WorldState → Type 0
+NoticesStandOnce s w = (l o : ℕ) → l < length s.config.lanes → o < length s.config.objects
+    → AllPairs (λ a b. a ≢ b) (line s w l o)

@@ -1,41 +1,46 @@
 -- A new world, and lists of steps.
-use Rattle.std.specs.Prelude.{◌≡◌, ◌↔◌, ℕ, ◌<◌, true, Bool, List, [], ◌∷◌, length, map, replicate, take, slice_get, Some}
+use Rattle.std.specs.Prelude.{◌≡◌, ◌↔◌, ℕ, ◌<◌, true, Bool, List, [], ◌∷◌, length, map, replicate, take}
+use Rattle.std.specs.Prelude.{slice_get, Some}
 use Rattle.world_steps.specs.declared.step.Step.{Step}
 use Rattle.world_steps.specs.declared.step.StepFault.TheVariants.{NotEnabled}
 use Rattle.world_steps.specs.declared.step.Stopped.{Stopped}
-use Rattle.world_steps.specs.Worlds.{WorldState, Settings, new_decider, new_lane, lane_at}
+use Rattle.world_steps.specs.Worlds.{WorldState, Setup, new_decider, new_lane, lane_at}
 use Rattle.world_steps.specs.Steps.{IsEnabled, after}
 
 -- a new world: nothing is posted, decided, held or asked, and exactly the lanes that aren't served are shut
-abbrev pub new_world : Settings → (served : List Bool) → WorldState
+abbrev pub new_world : Setup → (served : List Bool) → WorldState
 new_world s served = record {
   posted = [];
-  deciders = replicate s.deciders (new_decider (length s.config.lanes));
+  deciders = replicate s.settings.deciders (new_decider (length s.config.lanes));
   lanes = map new_lane served;
 }
 
 -- the world after these steps, in order
-abbrev pub after_all : Settings → WorldState → List Step → WorldState
+abbrev pub after_all : Setup → WorldState → List Step → WorldState
 after_all s w [] = w
 after_all s w (step ∷ steps) = after_all s (after s w step) steps
 
 -- each of these steps is enabled where its turn comes
-abbrev pub AreEnabled : Settings → WorldState → List Step → Type 0
+abbrev pub AreEnabled : Setup → WorldState → List Step → Type 0
 AreEnabled s w [] = Unit {0}
 AreEnabled s w (step ∷ steps) = IsEnabled s w step × AreEnabled s (after s w step) steps
 
 -- these steps, each enabled in its turn, lead from one state to another
-pub record LeadsTo (s : Settings) (before : WorldState) (steps : List Step) (then : WorldState) : Type 0 where
+pub record LeadsTo (s : Setup) (before : WorldState) (steps : List Step)
+    (then : WorldState) : Type 0 where
   pub state : then ≡ after_all s before steps
   pub enabled : AreEnabled s before steps
 
--- the steps before the place at which a run stopped lead to this state, and the step there is refused: as not enabled exactly
--- where the table says so
-pub record StopsAt (s : Settings) (before : WorldState) (steps : List Step) (then : WorldState) (stopped : Stopped) : Type 0 where
+-- the steps before the place at which a run stopped lead to this state, and the step there is refused: as not
+-- enabled exactly where the table says so
+pub record StopsAt (s : Setup) (before : WorldState) (steps : List Step) (then : WorldState)
+    (stopped : Stopped) : Type 0 where
   pub within : stopped.step < length steps
   pub done : LeadsTo s before (take stopped.step steps) then
-  pub refused : (step : Step) → slice_get steps stopped.step ≡ Some step → stopped.fault ≡ NotEnabled ↔ ¬ IsEnabled s then step
+  pub refused : (step : Step) → slice_get steps stopped.step ≡ Some step
+      → stopped.fault ≡ NotEnabled ↔ ¬ IsEnabled s then step
 
 -- a lane that was shut before is still shut, and its channel has taken nothing
 abbrev pub ShutTakesNothing : WorldState → WorldState → Type 0
-ShutTakesNothing before then = (l : ℕ) → (lane_at before l).shut ≡ true → ((lane_at then l).shut ≡ true) × ((lane_at then l).taken ≡ (lane_at before l).taken)
+ShutTakesNothing before then = (l : ℕ) → (lane_at before l).shut ≡ true
+    → ((lane_at then l).shut ≡ true) × ((lane_at then l).taken ≡ (lane_at before l).taken)

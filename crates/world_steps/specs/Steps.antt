@@ -1,15 +1,19 @@
 -- The table of steps: when each is enabled, and what it does. A step is one action of one actor.
-use Rattle.std.specs.Prelude.{◌≡◌, ℕ, ◌+◌, ◌^◌, ◌<◌, ◌⊎◌, true, false, List, [], ◌∷◌, ◌++◌, length, take, drop, map, reverse, slice_get, slice_set, slice_index_or, Option, Some, None}
+use Rattle.std.specs.Prelude.{◌≡◌, ℕ, ◌+◌, ◌<◌, ◌⊎◌, true, false, List, [], ◌∷◌, ◌++◌}
+use Rattle.std.specs.Prelude.{length, take, drop, map, reverse, slice_get, slice_set, slice_index_or, Option, Some, None}
 use Rattle.std.specs.List.{range_with_len}
 use Rattle.due_model.specs.declared.event.Event.{Event}
 use Rattle.due_model.specs.declared.notice.Notice.{Notice}
 use Rattle.due_model.specs.declared.config.Config.{Config}
+use Rattle.due_model.specs.Limits.{max_events}
 use Rattle.due_model.specs.Covered.{IsPlainEvent}
-use Rattle.decider.specs.declared.owned.Owned.{Owned}
-use Rattle.decider.specs.Gains.{gained}
+use Rattle.decider.specs.declared.share.Share.{Share}
+use Rattle.decider.specs.Decider.{gained}
 use Rattle.world_steps.specs.declared.step.Step.{Step}
-use Rattle.world_steps.specs.declared.step.Step.TheVariants.{Post, Decide, Put, Pick, Settle, Fail, Ask, Close, Drain}
-use Rattle.world_steps.specs.Worlds.{WorldState, DeciderState, LaneState, Settings, decider_at, lane_at, outbox_at}
+use Rattle.world_steps.specs.declared.step.Step.TheVariants.{Post, Decide, Put, Lane}
+use Rattle.world_steps.specs.declared.step.LaneStep.{LaneStep}
+use Rattle.world_steps.specs.declared.step.LaneStep.TheVariants.{Pick, Settle, Fail, Ask, Close, Drain}
+use Rattle.world_steps.specs.Worlds.{WorldState, DeciderState, LaneState, Setup, decider_at, lane_at, outbox_at}
 
 -- ---- a lane
 
@@ -67,7 +71,28 @@ closed lane = record lane { undelivered = lane.undelivered ++ lane.hand; hand = 
 
 -- the queue's front is given up
 abbrev pub drained : LaneState → LaneState
-drained lane = record lane { undelivered = lane.undelivered ++ take 1 lane.queue; queue = drop 1 lane.queue }
+drained lane = record lane {
+  undelivered = lane.undelivered ++ take 1 lane.queue;
+  queue = drop 1 lane.queue;
+}
+
+-- THE TABLE OF LANES: when a step of a lane that has so many tries is enabled
+abbrev pub Can : (tries : ℕ) → LaneStep → LaneState → Type 0
+Can tries Pick lane = CanPick lane
+Can tries Settle lane = CanSettle lane
+Can tries Fail lane = CanFail tries lane
+Can tries Ask lane = CanAsk lane
+Can tries Close lane = CanClose tries lane
+Can tries Drain lane = CanDrain lane
+
+-- THE TABLE OF LANES: what a step does
+abbrev pub does : LaneStep → LaneState → LaneState
+does Pick lane = picked lane
+does Settle lane = settled lane
+does Fail lane = failed lane
+does Ask lane = asked lane
+does Close lane = closed lane
+does Drain lane = drained lane
 
 -- these notices come to the back of the queue
 abbrev pub queued : List Notice → LaneState → LaneState
@@ -76,22 +101,28 @@ queued notices lane = record lane { queue = lane.queue ++ notices }
 -- ---- a decider
 
 -- which objects decider d owns: those whose number modulo the number of deciders is d
-abbrev pub owner : Settings → (d : ℕ) → Owned
-owner s d = record { decider = d; deciders = s.deciders }
+abbrev pub owner : Setup → (d : ℕ) → Share
+owner s d = record { decider = d; deciders = s.settings.deciders }
 
 -- the outboxes, each with what this event gains for its lane at the back
-abbrev pub lengthened : Settings → Owned → Event → List Event → List (List Notice) → List (List Notice)
-lengthened s owned e past outboxes =
-    map (λ l. slice_index_or outboxes l [] ++ gained s.config s.zone owned l e past) (range_with_len 0 (length outboxes))
+abbrev pub lengthened : Setup → Share → Event → List Event → List (List Notice) → List (List Notice)
+lengthened s share e past outboxes =
+    map (λ l. slice_index_or outboxes l [] ++ gained s.config s.zone share l e past)
+    (range_with_len 0 (length outboxes))
 
 -- one more event is decided, after this past
-abbrev pub decided : Settings → Owned → Option Event → List Event → DeciderState → DeciderState
-decided s owned None past decider = decider
-decided s owned (Some e) past decider = record { decided = decider.decided + 1; outboxes = lengthened s owned e past decider.outboxes }
+abbrev pub decided : Setup → Share → Option Event → List Event → DeciderState → DeciderState
+decided s share None past decider = decider
+decided s share (Some e) past decider = record {
+  decided = decider.decided + 1;
+  outboxes = lengthened s share e past decider.outboxes;
+}
 
 -- the front of the outbox for lane l is gone
 abbrev pub without_front : ℕ → DeciderState → DeciderState
-without_front l decider = record decider { outboxes = slice_set decider.outboxes l (drop 1 (slice_index_or decider.outboxes l [])) }
+without_front l decider = record decider {
+  outboxes = slice_set decider.outboxes l (drop 1 (slice_index_or decider.outboxes l []));
+}
 
 -- ---- the world
 
@@ -101,11 +132,11 @@ pub record CanDecide (w : WorldState) (d : ℕ) : Type 0 where
   pub left : (decider_at w d).decided < length w.posted
 
 -- something of decider d waits for lane l, whose queue has room
-pub record CanPut (s : Settings) (w : WorldState) (d l : ℕ) : Type 0 where
+pub record CanPut (s : Setup) (w : WorldState) (d l : ℕ) : Type 0 where
   pub decider : d < length w.deciders
   pub lane : l < length w.lanes
   pub outbox : 0 < length (outbox_at w d l)
-  pub queue : length (lane_at w l).queue < s.queue
+  pub queue : length (lane_at w l).queue < s.settings.queue
 
 -- lane l is there, and this holds of it
 pub record OfLane (w : WorldState) (l : ℕ) (P : LaneState → Type 0) : Type 0 where
@@ -124,38 +155,28 @@ with_decider w d f = record w { deciders = slice_set w.deciders d (f (decider_at
 abbrev pub past_of : WorldState → ℕ → List Event
 past_of w d = reverse (take (decider_at w d).decided w.posted)
 
--- a step that posts, if it is one, posts what the feed gives and is taken in so far
+-- a step that posts, if it is one, posts what the feed gives and is supported so far
 abbrev pub IsPlainStep : Config → Step → Type 0
 IsPlainStep c (Post e) = IsPlainEvent c e
 IsPlainStep c (Decide d) = Unit {0}
 IsPlainStep c (Put d l) = Unit {0}
-IsPlainStep c (Pick l) = Unit {0}
-IsPlainStep c (Settle l) = Unit {0}
-IsPlainStep c (Fail l) = Unit {0}
-IsPlainStep c (Ask l) = Unit {0}
-IsPlainStep c (Close l) = Unit {0}
-IsPlainStep c (Drain l) = Unit {0}
+IsPlainStep c (Lane l step) = Unit {0}
 
 -- THE TABLE: when a step is enabled
-abbrev pub IsEnabled : Settings → WorldState → Step → Type 0
-IsEnabled s w (Post e) = length w.posted < 2 ^ 32
+abbrev pub IsEnabled : Setup → WorldState → Step → Type 0
+IsEnabled s w (Post e) = length w.posted < max_events
 IsEnabled s w (Decide d) = CanDecide w d
 IsEnabled s w (Put d l) = CanPut s w d l.0
-IsEnabled s w (Pick l) = OfLane w l.0 CanPick
-IsEnabled s w (Settle l) = OfLane w l.0 CanSettle
-IsEnabled s w (Fail l) = OfLane w l.0 (CanFail s.tries)
-IsEnabled s w (Ask l) = OfLane w l.0 CanAsk
-IsEnabled s w (Close l) = OfLane w l.0 (CanClose s.tries)
-IsEnabled s w (Drain l) = OfLane w l.0 CanDrain
+IsEnabled s w (Lane l step) = OfLane w l.0 (Can s.settings.tries step)
+
+-- what decider d decides next
+abbrev pub next_of : WorldState → (d : ℕ) → Option Event
+next_of w d = slice_get w.posted (decider_at w d).decided
 
 -- THE TABLE: what a step does
-abbrev pub after : Settings → WorldState → Step → WorldState
+abbrev pub after : Setup → WorldState → Step → WorldState
 after s w (Post e) = record w { posted = w.posted ++ e ∷ [] }
-after s w (Decide d) = with_decider w d (decided s (owner s d) (slice_get w.posted (decider_at w d).decided) (past_of w d))
-after s w (Put d l) = with_lane (with_decider w d (without_front l.0)) l.0 (queued (take 1 (outbox_at w d l.0)))
-after s w (Pick l) = with_lane w l.0 picked
-after s w (Settle l) = with_lane w l.0 settled
-after s w (Fail l) = with_lane w l.0 failed
-after s w (Ask l) = with_lane w l.0 asked
-after s w (Close l) = with_lane w l.0 closed
-after s w (Drain l) = with_lane w l.0 drained
+after s w (Decide d) = with_decider w d (decided s (owner s d) (next_of w d) (past_of w d))
+after s w (Put d l) =
+    with_lane (with_decider w d (without_front l.0)) l.0 (queued (take 1 (outbox_at w d l.0)))
+after s w (Lane l step) = with_lane w l.0 (does step)

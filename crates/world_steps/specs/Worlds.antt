@@ -4,14 +4,15 @@ use Rattle.due_model.specs.declared.config.Config.{Config}
 use Rattle.due_model.specs.declared.event.Event.{Event}
 use Rattle.due_model.specs.declared.notice.Notice.{Notice}
 use Rattle.due_model.specs.declared.zone.Zone.{Zone}
+use Rattle.world_steps.specs.declared.settings.Settings.{Settings}
 
 -- a decider: how many of the posted events it has decided, and for each lane the notices that wait for its queue
 pub record DeciderState : Type 0 where
   pub decided : ℕ
   pub outboxes : List (List Notice)
 
--- a lane: what its channel has taken, the message in hand (at most one), what is given up, and what waits; then the tries
--- that failed for the message in hand, whether it is asked to close, and whether it is shut
+-- a lane: what its channel has taken, the message in hand (at most one), what is given up, and what waits; then
+-- the tries that failed for the message in hand, whether it is asked to close, and whether it is shut
 pub record LaneState : Type 0 where
   pub taken : List Notice
   pub hand : List Notice
@@ -27,17 +28,14 @@ pub record WorldState : Type 0 where
   pub deciders : List DeciderState
   pub lanes : List LaneState
 
--- what no step changes: the configuration, the zone, how many deciders there are, how many notices a queue holds, and how
--- many tries a message has
-pub record Settings : Type 0 where
+-- what no step changes: the configuration, the zone, and the settings of the world
+pub record Setup : Type 0 where
   pub config : Config
   pub zone : Zone
-  pub deciders : ℕ
-  pub queue : ℕ
-  pub tries : ℕ
+  pub settings : Settings
 
-abbrev pub settings_for : Config → Zone → (deciders queue tries : ℕ) → Settings
-settings_for config zone deciders queue tries = record { config = config; zone = zone; deciders = deciders; queue = queue; tries = tries }
+abbrev pub setup_for : Config → Zone → Settings → Setup
+setup_for config zone settings = record { config = config; zone = zone; settings = settings }
 
 -- a decider that has decided nothing, with this many lanes
 abbrev pub new_decider : (lanes : ℕ) → DeciderState
@@ -45,7 +43,15 @@ new_decider lanes = record { decided = 0; outboxes = replicate lanes [] }
 
 -- a lane with nothing in it, which serves or is shut
 abbrev pub new_lane : (serves : Bool) → LaneState
-new_lane serves = record { taken = []; hand = []; undelivered = []; queue = []; failures = 0; asked = false; shut = not serves }
+new_lane serves = record {
+  taken = [];
+  hand = [];
+  undelivered = [];
+  queue = [];
+  failures = 0;
+  asked = false;
+  shut = not serves;
+}
 
 -- a decider that isn't there
 abbrev pub no_decider : DeciderState

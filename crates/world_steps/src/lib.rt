@@ -2,15 +2,14 @@
 //! action of one actor. Whatever the order of the steps, what each channel holds is what the rules make due.
 #![tactic(auto)]
 
+mod deciders;
 mod lane;
 mod line;
-mod parts;
-mod seat;
+mod settings;
 mod step;
-#[cfg(test)]
-mod tests;
 mod world;
 
 pub use line::LineParts;
-pub use step::{Step, StepFault, Stopped};
+pub use settings::Settings;
+pub use step::{LaneStep, Step, StepFault, Stopped};
 pub use world::World;

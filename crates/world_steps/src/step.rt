@@ -17,21 +17,28 @@ pub enum Step {
     /// The front of a decider's outbox for a lane goes to the back of the lane's queue. Enabled where the
     /// outbox isn't empty and the queue isn't full.
     Put(u8, LaneId),
-    /// The front of a lane's queue goes into the lane's hand. Enabled where the lane is serving and not asked to
-    /// close, its hand is empty and its queue isn't.
-    Pick(LaneId),
+    /// A step of a lane alone. Enabled as its kind says, where the lane is there.
+    Lane(LaneId, LaneStep),
+}
+
+/// What is done to a lane alone.
+#[derive(Clone, Copy, Debug, PartialEq, Eq)]
+pub enum LaneStep {
+    /// The front of the queue goes into the hand. Enabled where the lane is serving and not asked to close, its
+    /// hand is empty and its queue isn't.
+    Pick,
     /// The channel takes the message in hand. Enabled where the lane is serving, with a message in hand.
-    Settle(LaneId),
+    Settle,
     /// The channel doesn't take the message in hand. Enabled where the lane is serving, with a message in hand
     /// and fewer failures than tries.
-    Fail(LaneId),
-    /// A lane is asked to close. Enabled where it is serving and wasn't asked.
-    Ask(LaneId),
-    /// A lane is shut, and a message in hand is given up. Enabled where the lane is serving, and asked or with as
+    Fail,
+    /// The lane is asked to close. Enabled where it is serving and wasn't asked.
+    Ask,
+    /// The lane is shut, and a message in hand is given up. Enabled where it is serving, and asked or with as
     /// many failures as tries.
-    Close(LaneId),
-    /// The front of a shut lane's queue is given up. Enabled where the lane is shut and its queue isn't empty.
-    Drain(LaneId),
+    Close,
+    /// The front of the queue is given up. Enabled where the lane is shut and its queue isn't empty.
+    Drain,
 }
 
 /// Why a step isn't done. Both leave the world unchanged.

@@ -1,11 +1,12 @@
 use Rattle.std.proofs.Common.{◌≡◌, ◌≤◌}
-use Rattle.event_feed.proofs.Answering.{Skips}
+use Rattle.event_feed.proofs.Answering.{Skips, StaysHeld}
 use Rattle.event_feed.proofs.feeder.next_line.Given as goal
 
--- So far there were empty lines, which answer nothing.
-abbrev pub invariant-loop-taken : goal.invariant-loop-taken
-invariant-loop-taken g l = record {
-  skips : Skips l.initial.source l.initial.line l.source l.taken;
-  same : l.line ≡ l.taken;
-  later : l.initial.line ≤ l.taken;
+-- So far there were empty lines, which answer nothing, and where a line was held, they were held too.
+abbrev pub invariant-loop-read : goal.invariant-loop-read
+invariant-loop-read g l = record {
+  skips : Skips l.initial.lines l.initial.line l.lines l.read;
+  same : l.line ≡ l.read;
+  later : l.initial.line ≤ l.read;
+  held : StaysHeld l.initial.lines l.lines;
 }

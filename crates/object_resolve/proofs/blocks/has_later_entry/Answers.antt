@@ -1,4 +1,4 @@
-use Rattle.object_resolve.specs.Refusals.{is_later_entry}
+use Rattle.object_resolve.specs.Blocks.{is_later_entry}
 use Rattle.object_resolve.proofs.ListLemmas.{any-at}
 use Rattle.object_resolve.proofs.blocks.has_later_entry.Goals as goal
 

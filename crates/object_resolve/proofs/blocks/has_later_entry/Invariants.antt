@@ -1,6 +1,6 @@
 use Rattle.std.proofs.Common.{◌≡◌, false, take}
 use Rattle.std.specs.List.{list_any}
-use Rattle.object_resolve.specs.Refusals.{is_later_entry}
+use Rattle.object_resolve.specs.Blocks.{is_later_entry}
 use Rattle.object_resolve.specs.Values.{texts}
 use Rattle.object_resolve.proofs.blocks.has_later_entry.Given as goal
 

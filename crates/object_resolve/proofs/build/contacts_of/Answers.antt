@@ -1,6 +1,7 @@
 use Rattle.std.proofs.Common.{◌∙◌, subst, sym}
 use Rattle.std.specs.List.{AllZip}
-use Rattle.object_resolve.specs.Resolved.{IsContactOf, is_contact}
+use Rattle.object_resolve.specs.Blocks.{is_contact}
+use Rattle.object_resolve.specs.Build.{IsContactOf}
 use Rattle.object_resolve.proofs.ListLemmas.{pairs-item}
 use Rattle.object_resolve.proofs.build.contacts_of.Goals as goal
 

@@ -1,5 +1,6 @@
 use Rattle.std.proofs.Common.{◌≡◌, ◌∙◌, ap, codes, map, refl, sym}
-use Rattle.object_resolve.specs.Resolved.{contacts_named, interval_of}
+use Rattle.object_resolve.specs.Blocks.{interval_in}
+use Rattle.object_resolve.specs.Build.{contacts_named}
 use Rattle.object_resolve.specs.Values.{entries_of, texts, value_in}
 use Rattle.object_resolve.proofs.ListLemmas.{moved-set}
 use Rattle.object_resolve.proofs.build.host_of.Goals as goal
@@ -14,7 +15,7 @@ returns c =
       enabled = refl;
       options = refl;
       period = refl;
-      interval = c.interval_of.ensures ∙ ap (λ directives. interval_of (value_in directives (codes "notification_interval"))) c.as_slice-directives.ensures;
+      interval = sym (ap interval_in c.as_slice-directives.ensures) ∙ sym c.interval_in.ensures ∙ c.in-Some.is;
       delay = refl;
       contacts = moved-set _ _ _ _ (ap (λ entries. contacts_named c.args.contacts.now entries) listed) (ap (λ ids. map (λ id. id.0) ids) (sym c.new.ensures)) c.in_ok-listed.ensures;
     }

@@ -1,5 +1,5 @@
 use Rattle.std.proofs.Common.{◌≡◌, take}
-use Rattle.object_resolve.specs.Resolved.{lanes_named}
+use Rattle.object_resolve.specs.Build.{lanes_named}
 use Rattle.object_resolve.specs.Values.{texts}
 use Rattle.object_resolve.proofs.build.lane_numbers.Given as goal
 

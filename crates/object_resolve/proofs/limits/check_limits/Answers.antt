@@ -1,47 +1,20 @@
-use Rattle.std.proofs.Common.{◌≡◌, ◌+◌, ◌∙◌, None, filter, length, sym, take}
-use Rattle.object_resolve.specs.Resolved.{contacts_in, hosts_in, is_contact, is_host}
-use Rattle.object_resolve.specs.Limits.{is_used, limit_fault}
-use Rattle.object_resolve.specs.declared.fault.BlockFault.TheVariants.{TooMany}
-use Rattle.object_resolve.proofs.Refusals.{fault-none, fault-some, first-item, none-item}
-use Rattle.object_resolve.proofs.LimitLemmas.{few, over-item}
-use Rattle.object_resolve.proofs.ListLemmas.{length-filter_item}
+use Rattle.std.proofs.lemmas.Result.{err_from_is_err_and}
+use Rattle.object_resolve.specs.Limits.{is_lane, is_used, limit_fault}
+use Rattle.object_resolve.proofs.FaultLemmas.{at-among, first-same}
+use Rattle.object_resolve.proofs.LimitLemmas.{limit-same, used-lanes, within-same}
 use Rattle.object_resolve.proofs.limits.check_limits.Goals as goal
 
-pub loop-block-preserved : goal.loop-block-preserved
-loop-block-preserved c =
+pub returns-clause-limits : goal.returns-clause-limits
+returns-clause-limits c =
     let blocks = c.args.blocks.now in
-    let i = c.loop-block.block-index in
-    let x = c.block-item.result in
-    let lane = is_used c.args.used.now in
-    let hosts : c.counted-more.result.hosts ≡ length (hosts_in (take (i + 1) blocks)) =
-    length-filter_item is_host blocks i x c.loop-block.counts.hosts _ c.loop-block-test.true c.block-item.is c.loop-block.invariant.hosts c.counted-more.ensures.hosts in
-    let contacts : c.counted-more.result.contacts ≡ length (contacts_in (take (i + 1) blocks)) =
-    length-filter_item is_contact blocks i x c.loop-block.counts.contacts _ c.loop-block-test.true c.block-item.is c.loop-block.invariant.contacts c.counted-more.ensures.contacts in
-    let lanes : c.counted-more.result.lanes ≡ length (filter lane (take (i + 1) blocks)) =
-    length-filter_item lane blocks i x c.loop-block.counts.lanes _ c.loop-block-test.true c.block-item.is c.loop-block.invariant.lanes c.counted-more.ensures.lanes in
-    let below = few c.counted-more.result.hosts c.counted-more.result.contacts c.counted-more.result.lanes (sym c.is_over.ensures ∙ c.if-is_over.false) in
-    record {
-      hosts = hosts;
-      contacts = contacts;
-      lanes = lanes;
-      few_hosts = below.0;
-      few_contacts = below.1;
-      few_lanes = below.2;
-      none = none-item (limit_fault lane) blocks i x c.loop-block-test.true c.block-item.is c.loop-block.invariant.none
-          (fault-none _ TooMany None (over-item lane blocks i x _ _ _ c.loop-block-test.true c.block-item.is hosts contacts lanes ∙ sym c.is_over.ensures ∙ c.if-is_over.false));
-    }
+    let used = c.in_ok-used.used in
+    within-same (is_used used) (is_lane blocks) (used-lanes used blocks c.in_ok-used.ensures) blocks c.in_ok-check_counts.ensures.limits
 
-pub returns-then-is_over-clause-fault : goal.returns-then-is_over-clause-fault
-returns-then-is_over-clause-fault c =
+pub returns-in_err-check_counts-clause-fault : goal.returns-in_err-check_counts-clause-fault
+returns-in_err-check_counts-clause-fault c =
     let blocks = c.args.blocks.now in
-    let i = c.loop-block.block-index in
-    let x = c.block-item.result in
-    let lane = is_used c.args.used.now in
-    let hosts : c.counted-more.result.hosts ≡ length (hosts_in (take (i + 1) blocks)) =
-    length-filter_item is_host blocks i x c.loop-block.counts.hosts _ c.loop-block-test.true c.block-item.is c.loop-block.invariant.hosts c.counted-more.ensures.hosts in
-    let contacts : c.counted-more.result.contacts ≡ length (contacts_in (take (i + 1) blocks)) =
-    length-filter_item is_contact blocks i x c.loop-block.counts.contacts _ c.loop-block-test.true c.block-item.is c.loop-block.invariant.contacts c.counted-more.ensures.contacts in
-    let lanes : c.counted-more.result.lanes ≡ length (filter lane (take (i + 1) blocks)) =
-    length-filter_item lane blocks i x c.loop-block.counts.lanes _ c.loop-block-test.true c.block-item.is c.loop-block.invariant.lanes c.counted-more.ensures.lanes in
-    first-item (limit_fault lane) blocks i x TooMany c.loop-block-test.true c.block-item.is c.loop-block.invariant.none
-    (fault-some _ TooMany None (over-item lane blocks i x _ _ _ c.loop-block-test.true c.block-item.is hosts contacts lanes ∙ sym c.is_over.ensures ∙ c.if-is_over.true))
+    let used = c.in_ok-used.used in
+    let p = err_from_is_err_and c.from_residual-in_err-check_counts.result c.from_residual-in_err-check_counts.ensures.1 in
+    let same = limit-same (is_used used) (is_lane blocks) (used-lanes used blocks c.in_ok-used.ensures) in
+    rw (p.1, p.2) (at-among _ _ (λ line fault. first-same (limit_fault (is_used used)) (limit_fault (is_lane blocks)) blocks line fault same)
+    c.in_err-check_counts.field-0.0 c.in_err-check_counts.ensures.fault)

@@ -1,6 +1,7 @@
 use Rattle.std.proofs.Common.{◌∙◌, ◌||◌, ap, sym}
 use Rattle.std.specs.List.{list_any}
-use Rattle.object_resolve.specs.Resolved.{is_contact, uses}
+use Rattle.object_resolve.specs.Blocks.{is_contact}
+use Rattle.object_resolve.specs.Limits.{uses}
 use Rattle.object_resolve.proofs.ListLemmas.{any-item, filter-skip}
 use Rattle.object_resolve.proofs.limits.used_commands.Goals as goal
 

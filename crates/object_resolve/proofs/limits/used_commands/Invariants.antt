@@ -1,7 +1,8 @@
 use Rattle.std.proofs.Common.{◌≡◌, ℕ, List, take}
 use Rattle.std.specs.List.{list_any}
 use Rattle.std.specs.Str.{bytes_eq}
-use Rattle.object_resolve.specs.Resolved.{contacts_in, uses}
+use Rattle.object_resolve.specs.Blocks.{contacts_in}
+use Rattle.object_resolve.specs.Limits.{uses}
 use Rattle.object_resolve.proofs.limits.used_commands.Given as goal
 
 -- the commands of the contacts so far

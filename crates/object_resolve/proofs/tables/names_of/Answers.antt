@@ -1,8 +1,8 @@
 use Rattle.std.proofs.Common.{◌∙◌, ◌||◌, ap, map, sym, take}
 use Rattle.std.specs.List.{list_any}
 use Rattle.std.specs.Str.{bytes_eq}
-use Rattle.object_resolve.specs.Names.{is_of, names_in}
-use Rattle.object_resolve.specs.Values.{name_of}
+use Rattle.object_resolve.specs.Blocks.{is_of, name_of}
+use Rattle.object_resolve.specs.Tables.{names_in}
 use Rattle.object_resolve.proofs.ListLemmas.{filter-skip, has-added}
 use Rattle.object_resolve.proofs.NameLemmas.{any-names_item}
 use Rattle.object_resolve.proofs.tables.names_of.Goals as goal

@@ -1,7 +1,7 @@
 use Rattle.std.proofs.Common.{◌≡◌, ℕ, List, take}
 use Rattle.std.specs.List.{list_any}
 use Rattle.std.specs.Str.{bytes_eq}
-use Rattle.object_resolve.specs.Names.{names_in}
+use Rattle.object_resolve.specs.Tables.{names_in}
 use Rattle.object_resolve.proofs.tables.names_of.Given as goal
 
 -- the names of the blocks so far

@@ -1,7 +1,8 @@
-use Rattle.std.proofs.Common.{◌≡◌, min, take}
+use Rattle.std.proofs.Common.{◌≡◌, ◌+◌, min, take}
+use Rattle.due_model.specs.Limits.{max_number}
 use Rattle.object_resolve.specs.Values.{number_of}
 use Rattle.object_resolve.proofs.values.number_of.Given as goal
 
 -- The number of the digits so far, up to the first number past the range.
 abbrev pub invariant-loop-digit : goal.invariant-loop-digit
-invariant-loop-digit l = l.number ≡ min (number_of (take l.digit-index l.digits)) 1_000_001
+invariant-loop-digit l = l.number ≡ min (number_of (take l.digit-index l.digits)) (max_number + 1)

@@ -1,5 +1,5 @@
-use Rattle.decider.specs.Kept.{kept}
-use Rattle.decider.specs.Logs.{noted}
+use Rattle.decider.specs.Fits.{kept}
+use Rattle.decider.specs.Log.{noted}
 use Rattle.decider.proofs.FitLaws.{fits_with_log}
 use Rattle.decider.proofs.decider.Decider.clear_log.Goals as goal
 

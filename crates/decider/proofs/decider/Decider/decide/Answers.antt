@@ -1,44 +1,50 @@
-use Rattle.std.proofs.Common.{◌^◌, ◌<◌, List, [], ◌∷◌, ◌++◌, length, flat_map, slice_index_or, subst, sym, ap, ◌∙◌, arith}
+use Rattle.std.proofs.Common.{◌<◌, List, [], ◌∷◌, ◌++◌, length, slice_index_or, subst, sym, ap, ◌∙◌, arith}
 use Rattle.due_model.specs.declared.notice.Notice.{Notice}
 use Rattle.due_model.specs.declared.notice.Suppression.{Suppression}
-use Rattle.decider.specs.declared.book.Told.{Told}
-use Rattle.decider.specs.Gains.{told_notices, told_suppressions}
-use Rattle.decider.specs.Kept.{Kept, Fits, kept, kept_after}
-use Rattle.decider.specs.Logs.{staged}
-use Rattle.decider.specs.Outboxes.{waiting_at, staged_at}
-use Rattle.decider.proofs.FitLaws.{can_tell, fits_after, notices_law, suppressions_law}
+use Rattle.decider.specs.declared.book.Decision.{Decision}
+use Rattle.decider.specs.declared.entries.Entry.{Entry}
+use Rattle.decider.specs.Entries.{notices_on, suppressions_in}
+use Rattle.decider.specs.Fits.{Kept, Fits, core_kept, kept, kept_after}
+use Rattle.decider.specs.Log.{noted}
+use Rattle.decider.specs.Outbox.{lists, waiting_at}
+use Rattle.decider.proofs.FitLaws.{can_decide, entries_law, fits_after, fits_with_log}
+use Rattle.decider.proofs.LaneLaws.{share_notices, share_suppressions}
 use Rattle.decider.proofs.decider.Decider.decide.Goals as goal
 
-pub stage-requires-clause-can : goal.stage-requires-clause-can
-stage-requires-clause-can c = can_tell (kept c.args.self.now) c.args.event c.requires.fits.0 c.requires.fits.1 c.requires.proper c.requires.taken_in
+pub stage-requires : goal.stage-requires
+stage-requires c = record {
+  can = can_decide (core_kept c.args.self.now.core) c.args.event c.requires.fits.0 (fits_with_log (kept c.args.self.now) [] c.requires.fits.0 c.requires.fits.1)
+      c.requires.proper c.requires.supported;
+}
 
 pub returns-clause-fits : goal.returns-clause-fits
 returns-clause-fits c = λ past fits.
+    let k = core_kept c.args.self.now.core in
     let e = c.args.event in
-    let staged_self = c.stage.new.self in
-    let room : length past < 2 ^ 32 = omega (arith, fits.count, c.if-self-ge-EVENTS.false) in
-    subst (λ (k : Kept). Fits k (e ∷ past))
+    fits_with_log (core_kept c.commit.new.self) (noted c.note.new.self) (e ∷ past)
+    (subst (λ (k : Kept). Fits k (e ∷ past))
     (sym (c.commit.ensures.kept
-    ∙ ap (λ (k : Kept). kept_after k e staged_self.told.items (staged staged_self.log)) c.in_ok-stage.ensures.kept
-    ∙ ap (λ (told : List Told). kept_after (kept c.args.self.now) e told (staged staged_self.log)) c.in_ok-stage.ensures.told))
-    (fits_after (kept c.args.self.now) e past fits c.requires.proper c.requires.taken_in (staged staged_self.log) room)
+    ∙ ap (λ (k : Kept). kept_after k e c.stage.new.self.decisions.items) c.in_ok-stage.ensures.kept
+    ∙ ap (λ (decisions : List Decision). kept_after k e decisions) c.in_ok-stage.ensures.decisions))
+    (fits_after k e past (fits_with_log (kept c.args.self.now) [] past fits) c.requires.proper c.requires.supported (omega (arith, fits.count, c.in_ok-stage.ensures.number))))
 
 pub returns-clause-notices : goal.returns-clause-notices
 returns-clause-notices c = λ past fits l h.
-    let k = kept c.args.self.now in
-    c.commit.ensures.waiting l
-    ∙ ap (λ (lists : List (List Notice)). slice_index_or lists l [] ++ staged_at c.stage.new.outbox l) c.in_ok-stage.ensures.waiting
-    ∙ ap (λ (more : List Notice). waiting_at c.args.outbox.now l ++ more)
-    (c.in_ok-stage.ensures.notices l h
-    ∙ ap (flat_map (told_notices k.config l k.count)) c.in_ok-stage.ensures.told
-    ∙ notices_law k c.args.event past fits c.requires.proper c.requires.taken_in l)
+    let k = core_kept c.args.self.now.core in
+    let there : l < length (lists c.reserve.new.self) = subst (λ (now : List (List Notice)). l < length now) (sym c.in_ok-reserve.ensures.waiting) h in
+    c.deliver.ensures.waiting l there
+    ∙ ap (λ (now : List (List Notice)). slice_index_or now l [] ++ notices_on l c.entries.result.now) c.in_ok-reserve.ensures.waiting
+    ∙ ap (λ (entries : List Entry). waiting_at c.args.outbox.now l ++ notices_on l entries)
+    (c.entries.ensures ∙ c.commit.ensures.entries ∙ c.in_ok-stage.ensures.staged
+    ∙ entries_law k c.args.event past (fits_with_log (kept c.args.self.now) [] past fits) c.requires.proper c.requires.supported)
+    ∙ ap (λ (more : List Notice). waiting_at c.args.outbox.now l ++ more) (share_notices k.config k.zone k.share c.args.event past l (omega (arith, c.requires.lanes, h)))
 
 pub returns-clause-suppressions : goal.returns-clause-suppressions
 returns-clause-suppressions c = λ past fits.
-    let k = kept c.args.self.now in
-    ap (λ (k : Kept). k.log) c.commit.ensures.kept
-    ∙ ap (λ (k : Kept). k.log ++ staged c.stage.new.self.log) c.in_ok-stage.ensures.kept
-    ∙ ap (λ (more : List Suppression). k.log ++ more)
-    (c.in_ok-stage.ensures.suppressions
-    ∙ ap (flat_map (told_suppressions k.count)) c.in_ok-stage.ensures.told
-    ∙ suppressions_law k c.args.event past fits c.requires.proper c.requires.taken_in)
+    let k = core_kept c.args.self.now.core in
+    c.note.ensures
+    ∙ ap (λ (lines : List Suppression). lines ++ suppressions_in c.entries-2.result.now) c.in_ok-reserve-2.ensures.noted
+    ∙ ap (λ (entries : List Entry). noted c.args.self.now.log ++ suppressions_in entries)
+    (c.entries-2.ensures ∙ c.commit.ensures.entries ∙ c.in_ok-stage.ensures.staged
+    ∙ entries_law k c.args.event past (fits_with_log (kept c.args.self.now) [] past fits) c.requires.proper c.requires.supported)
+    ∙ ap (λ (more : List Suppression). noted c.args.self.now.log ++ more) (share_suppressions k.config k.zone k.share c.args.event past)

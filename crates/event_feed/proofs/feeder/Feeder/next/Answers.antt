@@ -1,15 +1,20 @@
 use Rattle.std.proofs.Common.{◌∙◌, arith, sym}
-use Rattle.event_feed.proofs.Answering.{GivesEvent-line, GivesFault-line}
+use Rattle.event_feed.proofs.Answering.{GivesEvent-line, GivesFault-line, GivesFault-long}
 use Rattle.event_feed.proofs.feeder.Feeder.next.Goals as goal
 
 pub returns-in-Ok-clause-event : goal.returns-in-Ok-clause-event
 returns-in-Ok-clause-event g c =
-    rw (← c.self.view_is) (GivesEvent-line c.args.config.now c.self.inside.source c.next_line-taken.new.source c.self.inside.line c.self.inside.last c.next_line-taken.new.line
+    rw (← c.self.view_is) (GivesEvent-line c.args.config.now c.self.inside.lines c.next_line-how.new.lines c.self.inside.line c.self.inside.last c.next_line-how.new.line
     c.self.inside.stop c.in-Ok.event c.raise-event.result (sym c.is_some.ensures ∙ c.if-is_some.false) c.in-Line.ensures.goes c.in-Line.ensures.counts
     (rw (← c.line.ensures) c.in-Ok.ensures.reading) c.in-Ok.ensures.proper c.raise-event.ensures (omega arith))
 
 pub returns-in-Err-clause-fault : goal.returns-in-Err-clause-fault
 returns-in-Err-clause-fault g c =
-    rw (← c.self.view_is) (GivesFault-line c.args.config.now.objects c.self.inside.source c.next_line-taken.new.source c.self.inside.line c.self.inside.last c.next_line-taken.new.line
+    rw (← c.self.view_is) (GivesFault-line c.args.config.now.objects c.self.inside.lines c.next_line-how.new.lines c.self.inside.line c.self.inside.last c.next_line-how.new.line
     c.self.inside.stop c.in-Err.fault (sym c.is_some.ensures ∙ c.if-is_some.false) c.in-Line.ensures.goes c.in-Line.ensures.counts
     (rw (← c.line.ensures) c.in-Err.ensures.reading))
+
+pub returns-in-Long-clause-fault : goal.returns-in-Long-clause-fault
+returns-in-Long-clause-fault g c =
+    rw (← c.self.view_is) (GivesFault-long c.args.config.now.objects c.self.inside.lines c.next_line-how.new.lines c.self.inside.line c.self.inside.last c.next_line-how.new.line
+    c.self.inside.stop (sym c.is_some.ensures ∙ c.if-is_some.false) c.in-Long.ensures.goes c.in-Long.ensures.counts)

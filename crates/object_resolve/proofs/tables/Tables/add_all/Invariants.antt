@@ -1,7 +1,7 @@
 use Rattle.std.proofs.Common.{◌≡◌, take}
 use Rattle.object_reader.specs.declared.block.BlockKind.TheVariants.{Command, Contact, Host}
-use Rattle.object_resolve.specs.Refusals.{HaveNone}
-use Rattle.object_resolve.specs.Names.{name_fault, names_in}
+use Rattle.object_resolve.specs.Fault.{HaveNone}
+use Rattle.object_resolve.specs.Tables.{name_fault, names_in}
 use Rattle.object_resolve.proofs.tables.Tables.add_all.Given as goal
 
 -- the names of the blocks so far, which have no fault of names

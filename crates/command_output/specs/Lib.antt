@@ -1,0 +1,8 @@
+pub mod Fields
+pub mod Names
+pub mod Outcome
+pub mod Output
+pub mod OutputLaws
+pub mod OutputLine
+pub mod ReportLine
+pub mod TraceLine

@@ -1,0 +1,13 @@
+pub mod Answered
+pub mod Begins
+pub mod DependencyLaws
+pub mod EachNotice
+pub mod Growth
+pub mod LastEvent
+pub mod NextMoments
+pub mod NoticeOrder
+pub mod PeriodLaws
+pub mod Problems
+pub mod ReadingLaws
+pub mod ShortChains
+pub mod Verdicts

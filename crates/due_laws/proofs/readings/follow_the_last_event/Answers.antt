@@ -1,0 +1,11 @@
+use Rattle.due_laws.proofs.LastEvent.{hard_of_last, flapping_of_last, switch_of_last}
+use Rattle.due_laws.proofs.readings.follow_the_last_event.Goals as goal
+
+pub returns-clause-hard : goal.returns-clause-hard
+returns-clause-hard x o feed = hard_of_last o feed
+
+pub returns-clause-flapping : goal.returns-clause-flapping
+returns-clause-flapping x o feed = flapping_of_last o feed
+
+pub returns-clause-switch : goal.returns-clause-switch
+returns-clause-switch x feed = switch_of_last feed

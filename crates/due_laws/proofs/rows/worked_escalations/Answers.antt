@@ -1,0 +1,16 @@
+-- The definitions compute.
+use Rattle.std.proofs.Common.{refl}
+use Rattle.due_model.specs.Histories.{hist}
+use Rattle.due_laws.proofs.rows.worked_escalations.Goals as goal
+
+pub returns-clause-escalation_and_recovery : goal.returns-clause-escalation_and_recovery
+unfolding hist
+returns-clause-escalation_and_recovery c = record { due = refl; suppressed = refl }
+
+pub returns-clause-overlapping : goal.returns-clause-overlapping
+unfolding hist
+returns-clause-overlapping c = record { due = refl; suppressed = refl }
+
+pub returns-clause-interval_zero : goal.returns-clause-interval_zero
+unfolding hist
+returns-clause-interval_zero c = record { due = refl; suppressed = refl }

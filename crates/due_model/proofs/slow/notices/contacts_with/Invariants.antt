@@ -1,8 +1,0 @@
-use Rattle.std.proofs.Common.{◌≡◌, map, filter}
-use Rattle.std.specs.List.{range_with_len}
-use Rattle.due_model.specs.Escalations.{has_contact}
-use Rattle.due_model.specs.SlowViews.{number_of_contact}
-use Rattle.due_model.proofs.slow.notices.contacts_with.Given as goal
-
-abbrev pub invariant-loop-number : goal.invariant-loop-number
-invariant-loop-number l = map number_of_contact l.found.items ≡ filter (has_contact l.settings.contacts) (range_with_len 0 l.number)

@@ -1,6 +1,0 @@
-use Rattle.std.proofs.Common.{◌≡◌, take, reverse}
-use Rattle.due_model.specs.Readings.{moment}
-use Rattle.due_model.proofs.slow.readings.moment.Given as goal
-
-abbrev pub invariant-loop-event : goal.invariant-loop-event
-invariant-loop-event l = l.greatest ≡ moment (reverse (take l.event-index l.events))

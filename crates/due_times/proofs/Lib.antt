@@ -1,0 +1,4 @@
+mod Moments
+mod Climbing
+mod Mending
+mod Tops

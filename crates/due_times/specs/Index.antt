@@ -1,0 +1,44 @@
+-- An index of moments by object number.
+use Rattle.std.specs.Prelude.{◌≡◌, ◌≢◌, ℕ, ◌<◌, ◌≤◌, Bool, true, false, List, slice_index_or, nat_lt, Option, Some, None, if◌then◌else◌}
+
+-- the moments by object number, and how many entries were handed out, modulo 2^64
+pub record Due : Type 0 where
+  pub moments : List (Option ℕ)
+  pub examined : ℕ
+
+-- the moment of an object; none beyond the last
+abbrev pub at : List (Option ℕ) → ℕ → Option ℕ
+at moments place = slice_index_or moments place None
+
+-- whether one moment comes before another; none comes after every moment
+abbrev pub is_earlier : Option ℕ → Option ℕ → Bool
+is_earlier None b = false
+is_earlier (Some a) None = true
+is_earlier (Some a) (Some b) = nat_lt a b
+
+-- the earlier of two moments; the first, where none is
+abbrev pub earlier : Option ℕ → Option ℕ → Option ℕ
+earlier a b = if is_earlier b a then b else a
+
+-- the entry of object o is the least: none has an earlier moment, and of those with the same moment it has the least number
+pub record IsFirst (moments : List (Option ℕ)) (o m : ℕ) : Type 0 where
+  pub entry : at moments o ≡ Some m
+  pub before : (p : ℕ) → p < o → is_earlier (Some m) (at moments p) ≡ true
+  pub after : (p : ℕ) → o ≤ p → is_earlier (at moments p) (Some m) ≡ false
+
+-- the entry of object o is the least, and its moment has come at t
+abbrev pub IsFirstDue : List (Option ℕ) → (t o : ℕ) → Type 0
+IsFirstDue moments t o = (m : ℕ) × IsFirst moments o m × (m ≤ t)
+
+-- no entry's moment has come at t
+abbrev pub NothingIsDue : List (Option ℕ) → (t : ℕ) → Type 0
+NothingIsDue moments t = (o m : ℕ) → at moments o ≡ Some m → t < m
+
+-- the entry of object o was set, and no other changed
+pub record Sets (old new : List (Option ℕ)) (o : ℕ) (moment : Option ℕ) : Type 0 where
+  pub set : at new o ≡ moment
+  pub others : (p : ℕ) → p ≢ o → at new p ≡ at old p
+
+-- the same entries
+abbrev pub SameEntries : (old new : List (Option ℕ)) → Type 0
+SameEntries old new = (p : ℕ) → at new p ≡ at old p

@@ -1,9 +1,0 @@
-use Rattle.std.proofs.Common.{arith}
-use Rattle.event_feed.proofs.Parts.{position-found, position-none}
-use Rattle.event_feed.proofs.line.find_byte.Goals as goal
-
-pub returns-in-Some : goal.returns-in-Some
-returns-in-Some c = let found = position-found c.args.byte c.args.bytes.now c.in-Some.place c.in-Some.ensures in record { place = found.0; within = found.1 }
-
-pub returns-in-None : goal.returns-in-None
-returns-in-None c = record { place = position-none c.args.byte c.args.bytes.now c.in-None.ensures; within = omega arith }

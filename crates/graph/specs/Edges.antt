@@ -1,0 +1,41 @@
+-- A graph is the list of each node's ends: the nodes that its edges lead to. A node is a place in that list.
+use Rattle.std.specs.Prelude.{◌≡◌, ℕ, ◌+◌, ◌^◌, ◌<◌, ◌≤◌, ◌==◌, List, [], ◌∷◌, length, map, filter, All, Contains, slice_index_or, slice_range}
+use Rattle.graph.specs.declared.edges.Edge.{Edge}
+
+-- an edge leads from p to q
+abbrev pub Leads : List (List ℕ) → ℕ → ℕ → Type 0
+Leads graph p q = Contains (slice_index_or graph p []) q
+
+-- where the edges from p lead, in the edges' order
+abbrev pub ends_of : List Edge → ℕ → List ℕ
+ends_of edges p = map (λ edge. edge.to) (filter (λ edge. edge.from == p) edges)
+
+-- both ends are nodes
+pub record IsWithin (nodes : ℕ) (edge : Edge) : Type 0 where
+  pub from : edge.from < nodes
+  pub to : edge.to < nodes
+
+-- these are all the nodes, each with the ends of its edges
+pub record HasEdges (nodes : ℕ) (edges : List Edge) (graph : List (List ℕ)) : Type 0 where
+  pub count : length graph ≡ nodes
+  pub ends : (p : ℕ) → p < nodes → slice_index_or graph p [] ≡ ends_of edges p
+
+-- ---- how a graph is kept
+
+-- the parts of a list that begin at these places, each up to the next
+abbrev pub parts : {X : Type 0} → List ℕ → List X → List (List X)
+parts [] xs = []
+parts (start ∷ []) xs = []
+parts (start ∷ end ∷ more) xs = slice_range xs start end ∷ parts (end ∷ more) xs
+
+-- the places rise up to the length, which is the last of them
+abbrev pub AreStarts : List ℕ → ℕ → Type 0
+AreStarts [] len = ⊥
+AreStarts (start ∷ []) len = start ≡ len
+AreStarts (start ∷ end ∷ more) len = (start ≤ end) × (end ≤ len) × AreStarts (end ∷ more) len
+
+-- the places where each node's ends begin, and the ends of all nodes, each a node
+pub record AreParts (starts targets : List ℕ) : Type 0 where
+  pub rising : AreStarts starts (length targets)
+  pub few : length starts ≤ 2 ^ 32
+  pub within : All (λ q. q + 1 < length starts) targets

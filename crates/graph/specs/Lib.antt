@@ -1,0 +1,5 @@
+pub mod Chains
+pub mod Edges
+pub mod Reach
+pub mod Order
+pub mod Loops

@@ -1,0 +1,5 @@
+pub mod Lists
+pub mod Writes
+pub mod Numbers
+pub mod Notices
+pub mod Coverage

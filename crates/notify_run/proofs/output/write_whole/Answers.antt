@@ -1,5 +1,0 @@
-use Rattle.notify_run.proofs.Writing.{leaves_rest}
-use Rattle.notify_run.proofs.output.write_whole.Goals as goal
-
-pub loop-rest-preserved : goal.loop-rest-preserved
-loop-rest-preserved g c = leaves_rest _ _ _ _ _ _ c.loop-rest.invariant c.in-Ok.ensures.bytes

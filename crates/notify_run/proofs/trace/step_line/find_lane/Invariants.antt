@@ -1,7 +1,0 @@
-use Rattle.std.proofs.Common.{◌≢◌, ℕ, ◌<◌}
-use Rattle.notify_run.specs.Reports.{lane_text}
-use Rattle.notify_run.proofs.trace.step_line.find_lane.Given as goal
-
--- No lane so far has the name.
-abbrev pub invariant-loop-number : goal.invariant-loop-number
-invariant-loop-number l = (k : ℕ) → k < l.number → lane_text l.config k ≢ l.name

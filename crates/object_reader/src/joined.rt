@@ -1,0 +1,178 @@
+//! The joined lines of a text: a line that ends in a backslash goes on in the next (chapter "Object
+//! Configuration Overview").
+
+ghost use Rattle.std.specs.Prelude.{◌≡◌, ◌∷◌, [], length, ◌≤◌, Ok, Err, MatchResult, MatchOption};
+ghost use Rattle.std.specs.Cow.{cow_slice_items};
+ghost use Rattle.std.specs.Str.{is_utf8};
+ghost use Rattle.object_reader.specs.Blocks.{BreaksFirst};
+ghost use Rattle.object_reader.specs.Joined.{JoinedLine, Piece, ends_in_backslash, piece_of, line_piece, onto_first, joined_from};
+ghost use Rattle.object_reader.specs.Lines.{Line, lines_of};
+
+use crate::blanks::trim_start;
+use crate::fault::{LineFault, ReadFault};
+use crate::line::{TextLine, content, split_line};
+use crate::text::LineText;
+use std::alloc::Global;
+use std::borrow::CowSlice;
+use std::marker::Model;
+
+/// The longest physical line, in bytes without its newline.
+const LINE_LIMIT: usize = 4096;
+
+/// What a physical line gives to its joined line, and whether that goes on in the next line.
+#[derive(Clone, Copy)]
+struct LinePiece<'a> {
+    bytes: &'a [u8],
+    goes_on: bool,
+}
+
+/// Whether the last byte is a backslash.
+fn ends_in_backslash(bytes: &[u8]) -> bool
+    ensures { result ≡ ends_in_backslash bytes.now }
+{
+    let end = bytes.len();
+    end > 0 && bytes[end - 1] == b'\\'
+}
+
+/// What the content of a physical line gives. Of two backslashes at its end the last goes.
+#[tactic(auto, unfolding(crate::specs::Joined::piece_of))]
+fn piece_of(content: &[u8]) -> LinePiece<'_>
+    ensures { piece_of content.now
+        ≡ (record { bytes = result.bytes.now; goes_on = result.goes_on }) }
+{
+    let end = content.len();
+    if end == 0 || content[end - 1] != b'\\' {
+        return LinePiece {
+            bytes: content,
+            goes_on: false,
+        };
+    }
+    let bytes = &content[..end - 1];
+    LinePiece {
+        bytes,
+        goes_on: !ends_in_backslash(bytes),
+    }
+}
+
+/// Whether the bytes are UTF-8.
+fn is_utf8(bytes: &[u8]) -> bool
+    ensures { result ≡ is_utf8 bytes.now }
+{
+    str::from_utf8(bytes).is_ok()
+}
+
+/// What a physical line gives, or its fault as such.
+#[tactic(auto, unfolding(crate::specs::Joined::line_piece))]
+fn line_piece(line: TextLine<'_>) -> Result<LinePiece<'_>, LineFault>
+    ensures { let spelled = line_piece
+        (record { bytes = line.entry.bytes.now; ended = line.entry.ended }) in
+        MatchResult result
+        (λ piece. spelled ≡ Ok (record { bytes = piece.bytes.now; goes_on = piece.goes_on }))
+        (λ fault. spelled ≡ Err fault) }
+{
+    if line.bytes.len() > LINE_LIMIT {
+        return Err(LineFault::LineTooLong);
+    }
+    if !is_utf8(line.bytes) {
+        return Err(LineFault::NotUtf8);
+    }
+    Ok(piece_of(content(line)))
+}
+
+/// The joined lines of a text that are left.
+#[derive(Drop)]
+pub(crate) struct JoinedReader<'a> {
+    /// The number of the next physical line.
+    line: u64,
+    /// The text from that line on.
+    rest: &'a [u8],
+}
+
+impl<'a> Model for JoinedReader<'a> {
+    ghost use Rattle.std.specs.Prelude.{List, ◌+◌, ◌<◌, ◌^◌, length};
+    ghost use Rattle.object_reader.specs.Lines.{lines_of};
+    ghost use Rattle.object_reader.specs.Joined.{JoinedLine, joined_from};
+
+    ghost Value = { List JoinedLine };
+
+    ghost view = { λ s. joined_from s.line (lines_of s.rest.now) };
+
+    ghost invariant = { λ s. s.line + length s.rest.now < 2 ^ 64 };
+}
+
+impl<'a> JoinedReader<'a> {
+    /// All joined lines of a text.
+    pub(crate) fn new(text: &'a [u8]) -> JoinedReader<'a>
+        requires { length text.now ≤ 16777216 }
+        ensures { result ≡ joined_from 1 (lines_of text.now) }
+    {
+        JoinedReader {
+            line: 1,
+            rest: text,
+        }
+    }
+
+    /// The joined line that begins with this piece, at the line of this number, and goes on in the
+    /// next physical line. Each line's bytes are copied once.
+    fn join(&mut self, alloc: Global, number: u64, first: &[u8]) -> Result<Vec<u8>, ReadFault>
+        ensures { MatchResult result
+            (λ joined. onto_first number first.now self.old
+            ≡ (record { line = number; text = Ok joined.items }) ∷ self.new)
+            (λ fault. BreaksFirst fault (onto_first number first.now self.old)) }
+    {
+        let mut joined = Vec::from_slice(alloc, first)?;
+        let mut goes_on = true;
+        while goes_on && !self.rest.is_empty() {
+            let (line, rest) = split_line(self.rest);
+            self.rest = rest;
+            self.line += 1;
+            match line_piece(line) {
+                Err(fault) => {
+                    return Err(ReadFault::AtLine {
+                        line: number,
+                        fault,
+                    });
+                }
+                Ok(piece) => {
+                    joined.extend_from_slice(trim_start(piece.bytes))?;
+                    goes_on = piece.goes_on;
+                }
+            }
+        }
+        Ok(joined)
+    }
+
+    /// The next joined line. It is a part of the text where it is one physical line.
+    pub(crate) fn next(&mut self, alloc: Global) -> Result<Option<LineText<'a>>, ReadFault>
+        ensures { MatchResult result
+            (λ found. MatchOption found (self.old ≡ [])
+            (λ j. self.old
+            ≡ (record { line = j.line; text = Ok (cow_slice_items j.text) }) ∷ self.new))
+            (λ fault. BreaksFirst fault self.old) }
+    {
+        if self.rest.is_empty() {
+            return Ok(None);
+        }
+        let number = self.line;
+        let (line, rest) = split_line(self.rest);
+        self.rest = rest;
+        self.line += 1;
+        match line_piece(line) {
+            Err(fault) => Err(ReadFault::AtLine {
+                line: number,
+                fault,
+            }),
+            Ok(piece) if piece.goes_on => {
+                let joined = self.join(alloc, number, piece.bytes)?;
+                Ok(Some(LineText {
+                    line: number,
+                    text: CowSlice::Owned(joined),
+                }))
+            }
+            Ok(piece) => Ok(Some(LineText {
+                line: number,
+                text: CowSlice::Borrowed(piece.bytes),
+            })),
+        }
+    }
+}

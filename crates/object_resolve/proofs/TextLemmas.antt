@@ -1,0 +1,76 @@
+-- The configuration of a text, or its fault, from those of its blocks.
+use Rattle.std.proofs.Common.{◌≡◌, ◌⊎◌, inl, inr, ℕ, List, Result, Ok, Err, is_ok, refl, sym, ap, subst}
+use Rattle.std.proofs.lemmas.Bool.{true≢false}
+use Rattle.due_model.specs.declared.config.Config.{Config}
+use Rattle.object_reader.specs.declared.block.Block.{Block}
+use Rattle.object_reader.specs.declared.fault.ReadFault.{ReadFault}
+use Rattle.object_reader.specs.declared.fault.ReadFault.TheVariants as read
+use Rattle.object_reader.specs.Blocks.{Gives}
+use Rattle.object_reader.specs.Grammar.{IsObjectText, IsRefused}
+use Rattle.object_resolve.specs.declared.fault.LoadFault.{LoadFault}
+use Rattle.object_resolve.specs.declared.fault.LoadFault.TheVariants as load
+use Rattle.object_resolve.specs.declared.fault.ResolveFault.{ResolveFault}
+use Rattle.object_resolve.specs.declared.fault.ResolveFault.TheVariants.{AtLine, NoMemory}
+use Rattle.object_resolve.specs.Fault.{IsAmong, of_blocks, of_read}
+use Rattle.object_resolve.specs.Resolve.{IsRefusal, IsResolved}
+use Rattle.object_resolve.specs.Text.{IsTextFault}
+use Rattle.object_resolve.proofs.Accepted.{resolved-unrefused}
+
+-- ---- what the reading of a text says of others
+
+-- blocks that a text gives are those that were read
+pub read-same : (r : Result (List Block) ReadFault) (blocks others : List Block) → r ≡ Ok blocks → Gives r (Ok others) → others ≡ blocks
+read-same r blocks others is gives = ap blocks_in (subst (λ given. Gives given (Ok others)) is gives)
+  where
+    blocks_in : Result (List Block) ReadFault → List Block
+    blocks_in (Ok bs) = bs
+    blocks_in (Err fault) = others
+
+-- a text that was read isn't refused
+pub read-unrefused : (r : Result (List Block) ReadFault) (blocks : List Block) (fault : ReadFault) → r ≡ Ok blocks → Gives r (Err fault) → ⊥
+read-unrefused r blocks fault is gives = true≢false (sym (ap is_ok (subst (λ given. Gives given (Err fault)) is gives)))
+
+only-memory : (fault : ReadFault) (others : List Block) → Gives (Err fault) (Ok others) → of_read fault ≡ load.NoMemory
+only-memory (read.AtLine n f) others gives = absurd (true≢false (ap is_ok gives))
+only-memory read.TooLarge others gives = absurd (true≢false (ap is_ok gives))
+only-memory read.NoMemory others gives = refl
+
+-- a text of blocks is refused for want of memory alone
+pub read-only : (r : Result (List Block) ReadFault) (fault : ReadFault) (others : List Block) → r ≡ Err fault → Gives r (Ok others)
+    → of_read fault ≡ load.NoMemory
+read-only r fault others is gives = only-memory fault others (subst (λ given. Gives given (Ok others)) is gives)
+
+-- ---- faults
+
+refused-text : (text : List ℕ) (fault : ReadFault) → IsRefused text fault → IsTextFault text (of_read fault)
+refused-text text (read.AtLine line fault) refused = refused
+refused-text text read.TooLarge refused = refused
+refused-text text read.NoMemory refused = refused
+
+pub read-fault : (text : List ℕ) (fault : ReadFault) → (fault ≡ read.NoMemory) ⊎ IsRefused text fault
+    → (of_read fault ≡ load.NoMemory) ⊎ IsTextFault text (of_read fault)
+read-fault text fault (inl is) = inl (ap of_read is)
+read-fault text fault (inr refused) = inr (refused-text text fault refused)
+
+pub blocks-fault : (text : List ℕ) (blocks slice : List Block) (fault : ResolveFault) → slice ≡ blocks → IsObjectText text blocks
+    → IsAmong (IsRefusal slice) fault → (of_blocks fault ≡ load.NoMemory) ⊎ IsTextFault text (of_blocks fault)
+blocks-fault text blocks slice (AtLine line fault) same whole refused = inr (blocks, whole, subst (λ bs. IsRefusal bs line fault) same refused)
+blocks-fault text blocks slice NoMemory same whole refused = inl refl
+
+-- blocks that give a configuration are refused for want of memory alone
+pub blocks-only : (blocks : List Block) (config : Config) (fault : ResolveFault) → IsResolved blocks config
+    → IsAmong (IsRefusal blocks) fault → of_blocks fault ≡ load.NoMemory
+blocks-only blocks config (AtLine line fault) of refused = absurd (resolved-unrefused blocks config line fault of refused)
+blocks-only blocks config NoMemory of refused = refl
+
+-- ---- configurations
+
+-- a text whose blocks give a configuration has no fault
+pub text-unrefused : (text : List ℕ) (blocks : List Block) (config : Config) → IsResolved blocks config
+    → ((others : List Block) → IsObjectText text others → others ≡ blocks) → ((fault : ReadFault) → IsRefused text fault → ⊥)
+    → (fault : LoadFault) → IsTextFault text fault → ⊥
+text-unrefused text blocks config of same unrefused (load.Line line fault) refused = unrefused (read.AtLine line fault) refused
+text-unrefused text blocks config of same unrefused (load.Block line fault) (others, whole, refused) =
+    resolved-unrefused blocks config line fault of (subst (λ bs. IsRefusal bs line fault) (same others whole) refused)
+text-unrefused text blocks config of same unrefused load.TooLarge refused = unrefused read.TooLarge refused
+text-unrefused text blocks config of same unrefused load.NoMemory refused = refused

@@ -1,0 +1,23 @@
+//! Laws of resolved blocks, over every configuration. Each is the contract of a function with nothing to do.
+
+ghost use Rattle.std.specs.Prelude.{ℕ, List};
+ghost use Rattle.due_model.specs.Accepted.{IsAccepted};
+ghost use Rattle.due_model.specs.Covered.{IsCovered};
+ghost use Rattle.due_model.specs.declared.config.Config.{Config};
+ghost use Rattle.object_reader.specs.declared.block.Block.{Block};
+ghost use Rattle.object_resolve.specs.Resolve.{IsRefusal, IsResolved};
+ghost use Rattle.object_resolve.specs.declared.fault.BlockFault.{BlockFault};
+
+/// A configuration that blocks give is accepted, and so far covered.
+pub fn accept_resolved()
+    ensures accepted { (blocks : List Block) (config : Config)
+        → IsResolved blocks config → IsAccepted config }
+    ensures covered { (blocks : List Block) (config : Config)
+        → IsResolved blocks config → IsCovered config }
+{}
+
+/// Blocks with a fault give no configuration.
+pub fn resolve_no_refused()
+    ensures { (blocks : List Block) (config : Config) (line : ℕ) (fault : BlockFault)
+        → IsResolved blocks config → IsRefusal blocks line fault → ⊥ }
+{}

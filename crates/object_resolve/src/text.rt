@@ -1,0 +1,37 @@
+//! Object text, from its bytes to its configuration.
+
+ghost use Rattle.std.specs.Prelude.{◌≡◌, ◌⊎◌, IfErr, IfOk, OnOk};
+ghost use Rattle.due_model.specs.Accepted.{IsAccepted};
+ghost use Rattle.due_model.specs.Covered.{IsCovered};
+ghost use Rattle.due_model.specs.declared.config.Config.{Config};
+ghost use Rattle.object_resolve.specs.Text.{IsTextFault, IsTextOf};
+ghost use Rattle.object_resolve.specs.declared.fault.LoadFault.{LoadFault};
+ghost use Rattle.object_resolve.specs.declared.fault.LoadFault.TheVariants.{NoMemory};
+
+use crate::fault::LoadFault;
+use crate::resolve::resolve;
+use due_model::config::Config;
+use object_reader::reading::read;
+use std::alloc::Global;
+
+/// The configuration that object text gives, or the fault of the text: that of its first line with a fault,
+/// and where it is blocks, that of the first block with a fault: first of types that aren't resolved
+/// yet, directives and entries that aren't read yet, then of the values of each block, then of names, then
+/// of limits, each over all blocks in file order. Blocks of `hostextinfo` and `serviceextinfo` say nothing
+/// of notifications and are passed over. The work and the memory grow with the bytes.
+pub fn load(alloc: Global, text: &[u8]) -> Result<Config, LoadFault>
+    // What it gives is the text's configuration, which is accepted and covered.
+    ensures config { IfOk result (λ config. IsTextOf config text.now) }
+    ensures accepted { IfOk result (λ config. IsAccepted config) }
+    ensures covered { IfOk result (λ config. IsCovered config) }
+    // A fault is the text's, or memory ran out.
+    ensures fault { IfErr result (λ fault. (fault ≡ NoMemory) ⊎ IsTextFault text.now fault) }
+    // A text with a configuration is refused for want of memory alone.
+    ensures only { (config : Config) → IsTextOf config text.now
+        → IfErr result (λ fault. fault ≡ NoMemory) }
+    // A text with a fault gives no configuration.
+    ensures refused { (fault : LoadFault) → IsTextFault text.now fault → OnOk result ⊥ }
+{
+    let blocks = read(alloc, text)?;
+    Ok(resolve(alloc, blocks.as_slice())?)
+}

@@ -1,0 +1,482 @@
+-- What the answers of a feeder say of the lines of its feed.
+use Rattle.std.proofs.Common.{◌≡◌, ℕ, suc, ◌+◌, ◌<◌, ◌≤◌, true, false, not, cond, ◌||◌, All, List, [], ◌∷◌, ◌++◌, length, take, drop, get_or, replicate, Option, None, Some, is_some, IfSome, IsErrOf, IsTrue, Ok, Err, refl, sym, ap, subst, ◌∙◌, inl, inr, arith, append_assoc, length-append}
+use Rattle.std.proofs.lemmas.List.{append-nil, length-replicate, take_more, take-append-drop}
+use Rattle.std.proofs.lemmas.List.Elements.{All-nil, All-append, All-push, All-weaker}
+use Rattle.due_model.specs.declared.config.Config.{Config}
+use Rattle.due_model.specs.declared.config.Object.{Object}
+use Rattle.due_model.specs.declared.event.Event.{Event}
+use Rattle.due_model.specs.declared.zone.Zone.{Zone}
+use Rattle.event_feed.specs.declared.fault.FeedFault.{FeedFault}
+use Rattle.event_feed.specs.declared.fault.FeedFault.TheVariants.{Cut, Ended, Read}
+use Rattle.event_feed.specs.declared.fault.LineFault.{LineFault}
+use Rattle.text_lines.specs.declared.line_reader.Stop.{Stop}
+use Rattle.text_lines.specs.declared.line_reader.Stop.TheVariants.{InputEnded, CutLine, ReaderFailed, TooManyCalls, TooManyBytes, TooManyLines}
+use Rattle.event_feed.specs.Fault.{is_line_fault, stop_fault}
+use Rattle.event_feed.specs.Feed.{Answer, AnswersNext, AnswersNone, AreFromLine, ComesLong, ComesNext, FaultAnswers, FaultComesTo, FaultFits, Feed, GivesEvent, GivesFault, answers_from}
+use Rattle.text_lines.specs.Lines.{Known, pieces}
+use Rattle.command_output.specs.declared.outcome.Ending.TheVariants.{Short, Whole}
+use Rattle.command_output.specs.ReportLine.{refused_line}
+use Rattle.replay.specs.Report.{AreGiven, AreGivenBy, BreaksOff, CountsLines, Ends, Follows, GoesOn, TakesAnswer, WritesReport, WritesReportFront, answer_text, ending_after, ends_short, entries_text, entry_text, given_text, is_ended, is_short, line_of, past_after, report_from, report_text}
+use Rattle.std.proofs.lemmas.Grind.{flat_map-append}
+use Rattle.decider.specs.declared.entries.Entry.{Entry}
+use Rattle.decider.specs.Entries.{event_entries}
+use Rattle.decider.specs.Fits.{Fits, Kept}
+use Rattle.command_output.specs.declared.outcome.Ending.{Ending}
+use Rattle.command_output.specs.declared.output_line.OutputLine.{OutputLine}
+use Rattle.command_output.specs.Output.{Leaves, Writes, WritesFront}
+use Rattle.command_output.specs.OutputLine.{line_text}
+use Rattle.command_output.specs.OutputLaws.{front_begun, front_less, front_longer, front_on, leaves_all, leaves_less, leaves_on}
+
+-- ---- facts of known bytes
+
+known_same : (bytes : Option (List ℕ)) (P : List ℕ → List ℕ → Type 0) → ((xs : List ℕ) → P xs xs) → Known bytes bytes P
+known_same None P h = tt
+known_same (Some bytes) P h = h bytes
+
+known_weaker : (a b : Option (List ℕ)) (P Q : List ℕ → List ℕ → Type 0) → Known a b P → ((xs ys : List ℕ) → P xs ys → Q xs ys) → Known a b Q
+known_weaker None b P Q p f = tt
+known_weaker (Some xs) None P Q p f = absurd p
+known_weaker (Some xs) (Some ys) P Q p f = f xs ys p
+
+known_then : (a b d : Option (List ℕ)) (P Q R : List ℕ → List ℕ → Type 0) → Known a b P → Known b d Q → ((xs ys zs : List ℕ) → P xs ys → Q ys zs → R xs zs) → Known a d R
+known_then None b d P Q R p q f = tt
+known_then (Some xs) None d P Q R p q f = absurd p
+known_then (Some xs) (Some ys) None P Q R p q f = q
+known_then (Some xs) (Some ys) (Some zs) P Q R p q f = f xs ys zs p q
+
+-- ---- lines that were read
+
+-- as many pieces are left as were not read
+pieces_left : (from : ℕ) (texts : List (List ℕ)) (line : ℕ) (text : List ℕ) (others : List (List ℕ)) → ComesNext from texts line text others
+    → from + length texts ≡ line + length others
+pieces_left from texts line text others next =
+    let long : length texts ≡ next.empty + suc (length others) =
+    ap length next.are ∙ length-append (replicate next.empty []) (text ∷ others) ∙ ap (λ n. n + suc (length others)) (length-replicate next.empty []) in
+    let number : line ≡ from + next.empty + 1 = next.number in
+    omega arith
+
+-- the line that comes is one of the feed
+line_within : (from : ℕ) (texts : List (List ℕ)) (line count : ℕ) → ComesLong from texts line count → line ≤ from + length texts
+line_within from texts line count long =
+    let left : from + length texts ≡ line + length long.1 = pieces_left from texts line long.0 long.1 long.2 in
+    omega arith
+
+pub event_counts : (c : Config) (old : Feed) (event : Event) (new : Feed) → GivesEvent c old event new → CountsLines old new
+event_counts c old event new gives =
+    known_weaker old.bytes new.bytes _ _ gives.place (λ xs ys h. pieces_left old.line (pieces xs) new.line new.text (pieces ys) h.0)
+
+pub fault_counts : (objects : List Object) (old : Feed) (fault : LineFault) (new : Feed) → new.stop ≡ None → GivesFault objects old fault new → CountsLines old new
+fault_counts objects old fault new e gives =
+    let place : FaultComesTo objects old fault None new = subst (λ s. FaultComesTo objects old fault s new) e gives.place in
+    known_weaker old.bytes new.bytes _ _ place
+    (λ xs ys h. pieces_left old.line (pieces xs) fault.line h.text (pieces ys) h.next ∙ ap (λ n. n + length (pieces ys)) gives.number)
+
+-- ---- what is given of a feed
+
+-- one answer, and those after it
+next_by : (objects : List Object) (old new : Feed) (answer : Answer) (bytes rest : Option (List ℕ))
+    → Known bytes rest (λ before after. answers_from objects old before ≡ answer ∷ answers_from objects new after)
+    → (more : List Answer) × IfSome bytes (λ before. AreGiven (answer ∷ more) (answers_from objects old before) old.line (old.line + length (pieces before)))
+next_by objects old new answer None rest h = ([], tt)
+next_by objects old new answer (Some before) None h = absurd h
+next_by objects old new answer (Some before) (Some after) h = (answers_from objects new after, inl (sym h))
+
+pub next_given : (objects : List Object) (old new : Feed) (answer : Answer) → AnswersNext objects old answer new → (more : List Answer) × AreGivenBy objects old (answer ∷ more)
+next_given objects old new answer h = next_by objects old new answer old.bytes new.bytes h
+
+-- an answer after which the feed is over
+last_by : (objects : List Object) (old new : Feed) (answer : Answer) (bytes rest : Option (List ℕ)) → is_some new.stop ≡ true
+    → Known bytes rest (λ before after. answers_from objects old before ≡ answer ∷ answers_from objects new after)
+    → IfSome bytes (λ before. AreGiven (answer ∷ []) (answers_from objects old before) old.line (old.line + length (pieces before)))
+last_by objects old new answer None rest over h = tt
+last_by objects old new answer (Some before) None over h = absurd h
+last_by objects old new answer (Some before) (Some after) over h =
+    let none : answers_from objects new after ≡ [] = rw over refl in
+    inl (sym (h ∙ ap (λ more. answer ∷ more) none))
+
+-- no answer
+none_by : (objects : List Object) (old : Feed) (bytes rest : Option (List ℕ)) → Known bytes rest (λ before after. answers_from objects old before ≡ [])
+    → IfSome bytes (λ before. AreGiven [] (answers_from objects old before) old.line (old.line + length (pieces before)))
+none_by objects old None rest h = tt
+none_by objects old (Some before) None h = absurd h
+none_by objects old (Some before) (Some after) h = inl (sym h)
+
+pub none_given : (objects : List Object) (old new : Feed) → AnswersNone objects old new → AreGivenBy objects old []
+none_given objects old new h = none_by objects old old.bytes new.bytes h
+
+-- the reader failed
+fails_by : (objects : List Object) (old : Feed) (line count : ℕ) (bytes rest : Option (List ℕ)) → old.line < line
+    → Known bytes rest (λ before after. AreFromLine line (answers_from objects old before))
+    → Known bytes rest (λ before after. ComesLong old.line (pieces before) line count)
+    → IfSome bytes (λ before. AreGiven (record { line = line; given = Err Read } ∷ []) (answers_from objects old before) old.line (old.line + length (pieces before)))
+fails_by objects old line count None rest first h k = tt
+fails_by objects old line count (Some before) None first h k = absurd h
+fails_by objects old line count (Some before) (Some after) first h k = inr (record {
+  front = [];
+  line = line;
+  others = answers_from objects old before;
+  begins = refl;
+  first = first;
+  earlier = All-nil (λ answer. answer.line < line);
+  later = h;
+  within = line_within old.line (pieces before) line count k;
+  whole = refl;
+})
+
+-- the refusal of a line that ends the feed
+abbrev pub refusal : LineFault → Answer
+refusal fault = record { line = fault.line; given = Err fault.fault }
+
+last_is_read : (objects : List Object) (old : Feed) (fault : LineFault) → Some Read ≡ Some fault.fault → AreGivenBy objects old (record { line = fault.line; given = Err Read } ∷ [])
+    → AreGivenBy objects old (refusal fault ∷ []) × (is_short (Err fault.fault) ≡ true)
+last_is_read objects old fault e given =
+    let same : Read ≡ fault.fault = cc in
+    (subst (λ (f : FeedFault). AreGivenBy objects old (record { line = fault.line; given = Err f } ∷ [])) same given, ap (λ f. not (is_line_fault f)) (sym same))
+
+last_is_known : (objects : List Object) (old new : Feed) (fault : LineFault) (f : FeedFault) → Some f ≡ Some fault.fault → is_line_fault f ≡ false → is_some new.stop ≡ true
+    → AnswersNext objects old (refusal fault) new → AreGivenBy objects old (refusal fault ∷ []) × (is_short (Err fault.fault) ≡ true)
+last_is_known objects old new fault f e ends over h =
+    let same : f ≡ fault.fault = cc in
+    (last_by objects old new (refusal fault) old.bytes new.bytes over h, ap (λ g. not (is_line_fault g)) (sym same) ∙ ap not ends)
+
+-- the line of a failed reader, by the fault's number
+fails_at : (objects : List Object) (old new : Feed) (fault : LineFault) (count : ℕ) → old.line < new.line → fault.line ≡ new.line
+    → Known old.bytes new.bytes (λ before after. AreFromLine fault.line (answers_from objects old before))
+    → Known old.bytes new.bytes (λ before after. ComesLong old.line (pieces before) new.line count)
+    → AreGivenBy objects old (record { line = fault.line; given = Err Read } ∷ [])
+fails_at objects old new fault count first e h k =
+    fails_by objects old fault.line count old.bytes new.bytes (subst (λ n. old.line < n) (sym e) first) h
+    (subst (λ n. Known old.bytes new.bytes (λ before after. ComesLong old.line (pieces before) n count)) (sym e) k)
+
+last_by_stop : (objects : List Object) (old new : Feed) (fault : LineFault) (stop : Stop) → is_some new.stop ≡ true → old.line < new.line → fault.line ≡ new.line → stop_fault stop ≡ Some fault.fault
+    → FaultAnswers objects old fault (Some stop) new → FaultComesTo objects old fault (Some stop) new → AreGivenBy objects old (refusal fault ∷ []) × (is_short (Err fault.fault) ≡ true)
+last_by_stop objects old new fault InputEnded over first n e h k = absurd h
+last_by_stop objects old new fault CutLine over first n e h k = last_is_known objects old new fault Cut e refl over h
+last_by_stop objects old new fault ReaderFailed over first n e h k = last_is_read objects old fault e (fails_at objects old new fault _ first n h k)
+last_by_stop objects old new fault TooManyCalls over first n e h k = last_is_read objects old fault e (fails_at objects old new fault _ first n h k)
+last_by_stop objects old new fault TooManyBytes over first n e h k = last_is_known objects old new fault Read e refl over h
+last_by_stop objects old new fault TooManyLines over first n e h k = last_is_known objects old new fault Read e refl over h
+
+pub fault_last : (objects : List Object) (old new : Feed) (fault : LineFault) (stop : Stop) → new.stop ≡ Some stop → GivesFault objects old fault new
+    → AreGivenBy objects old (refusal fault ∷ []) × (is_short (Err fault.fault) ≡ true)
+fault_last objects old new fault stop e h =
+    last_by_stop objects old new fault stop (ap is_some e) h.line h.number
+    (subst (λ s. FaultFits fault.fault s) e h.fits) (subst (λ s. FaultAnswers objects old fault s new) e h.answers)
+    (subst (λ s. FaultComesTo objects old fault s new) e h.place)
+
+-- a line that is read over
+pub fault_next : (objects : List Object) (old new : Feed) (fault : LineFault) → new.stop ≡ None → GivesFault objects old fault new
+    → AnswersNext objects old (refusal fault) new × (is_short (Err fault.fault) ≡ false)
+fault_next objects old new fault e h =
+    (subst (λ s. FaultAnswers objects old fault s new) e h.answers, ap not (line_fault (subst (λ s. FaultFits fault.fault s) e h.fits)))
+  where
+    line_fault : IsTrue (is_line_fault fault.fault) → is_line_fault fault.fault ≡ true
+    line_fault h = h
+
+-- either way it is the next that is given
+pub fault_given : (objects : List Object) (old new : Feed) (fault : LineFault) → GivesFault objects old fault new → (more : List Answer) × AreGivenBy objects old (refusal fault ∷ more)
+fault_given objects old new fault h = by_stop new.stop refl
+  where
+    by_stop : (stop : Option Stop) → new.stop ≡ stop → (more : List Answer) × AreGivenBy objects old (refusal fault ∷ more)
+    by_stop None e = next_given objects old new (refusal fault) (fault_next objects old new fault e h).0
+    by_stop (Some stop) e = ([], (fault_last objects old new fault stop e h).0)
+
+-- a line of the feed whose refusal is an answer, and the feed goes on
+pub fault_taken : (objects : List Object) (past : List Event) (old new : Feed) (fault : LineFault) → new.stop ≡ None → GivesFault objects old fault new
+    → TakesAnswer objects past old (refusal fault) new
+fault_taken objects past old new fault e h = record {
+  next = (fault_next objects old new fault e h).0;
+  line = h.line;
+  number = h.number;
+  lines = fault_counts objects old fault new e h;
+  numbered = refl;
+  read_on = (fault_next objects old new fault e h).1;
+  goes_on = e;
+}
+
+-- an event is an answer
+pub event_answers : (c : Config) (old new : Feed) (event : Event) (line : ℕ) → line ≡ new.line → GivesEvent c old event new
+    → AnswersNext c.objects old (record { line = line; given = Ok event }) new
+event_answers c old new event line e gives = subst (λ n. AnswersNext c.objects old (record { line = n; given = Ok event }) new) (sym e) gives.answers
+
+-- and the feed goes on
+pub event_taken : (c : Config) (past : List Event) (old new : Feed) (event : Event) (line : ℕ) → line ≡ new.line → is_ended past (Ok event) ≡ false → GivesEvent c old event new
+    → TakesAnswer c.objects past old (record { line = line; given = Ok event }) new
+event_taken c past old new event line e numbered gives = record {
+  next = event_answers c old new event line e gives;
+  line = gives.line;
+  number = e;
+  lines = event_counts c old event new gives;
+  numbered = numbered;
+  read_on = refl;
+  goes_on = gives.goes_on;
+}
+
+-- the report of an event that can't be numbered ends with it
+pub report_of_end : (c : Config) (zone : Zone) (past : List Event) (answer : Answer) (more : List Answer) → is_ended past answer.given ≡ true
+    → refused_line answer.line Ended ≡ report_from c zone past (answer ∷ more)
+report_of_end c zone past answer more h =
+    sym (ap (λ b. cond b (refused_line answer.line Ended) (given_text c zone past answer.line answer.given)
+    ++ cond b [] (report_from c zone (past_after past answer.given) more)) h ∙ append-nil (refused_line answer.line Ended))
+
+pub short_at_end : (past : List Event) (answer : Answer) (more : List Answer) → is_ended past answer.given ≡ true → Short ≡ ending_after past (answer ∷ more)
+short_at_end past answer more h =
+    sym (ap (λ b. cond (b || is_short answer.given || ends_short (past_after past answer.given) more) Short Whole) h)
+
+pub short_at_refusal : (past : List Event) (fault : LineFault) → is_short (Err fault.fault) ≡ true → Short ≡ ending_after past (refusal fault ∷ [])
+short_at_refusal past fault h = sym (ap (λ b. cond (false || b || false) Short Whole) h)
+
+pub report_of_refusal : (c : Config) (zone : Zone) (past : List Event) (fault : LineFault) → refused_line fault.line fault.fault ≡ report_from c zone past (refusal fault ∷ [])
+report_of_refusal c zone past fault = sym (append-nil (refused_line fault.line fault.fault))
+
+-- ---- from line to line
+
+-- at first nothing was given
+pub follows_start : (c : Config) (zone : Zone) (start : Feed) → start.stop ≡ None → Follows c zone start [] [] [] start
+follows_start c zone start runs = record {
+  answers = known_same start.bytes (λ bytes rest. answers_from c.objects start bytes ≡ [] ++ answers_from c.objects start rest) (λ bytes. refl);
+  line = omega arith;
+  earlier = All-nil (λ answer. answer.line ≤ start.line);
+  lines = known_same start.bytes (λ bytes rest. start.line + length (pieces bytes) ≡ start.line + length (pieces rest)) (λ bytes. refl);
+  report = λ others. refl;
+  ending = λ others. refl;
+  goes_on = runs;
+}
+
+earlier_more : (given : List Answer) (answer : Answer) (line line' : ℕ) → line ≤ line' → answer.line ≤ line' → All (λ a. a.line ≤ line) given → All (λ a. a.line ≤ line') (given ++ answer ∷ [])
+earlier_more given answer line line' le at h =
+    All-push (λ a. a.line ≤ line') given answer (All-weaker (λ a. a.line ≤ line) (λ a. a.line ≤ line') (λ a k. omega (arith, k, le)) given h) at
+
+-- one answer more
+pub follows_more : (c : Config) (zone : Zone) (start : Feed) (given : List Answer) (text : List ℕ) (past : List Event) (now : Feed) (answer : Answer) (new : Feed)
+    → Follows c zone start given text past now → TakesAnswer c.objects past now answer new
+    → Follows c zone start (given ++ answer ∷ []) (text ++ answer_text c zone past answer) (past_after past answer.given) new
+follows_more c zone start given text past now answer new f takes = record {
+  answers = known_then start.bytes now.bytes new.bytes
+      (λ bytes rest. answers_from c.objects start bytes ≡ given ++ answers_from c.objects now rest)
+      (λ bytes rest. answers_from c.objects now bytes ≡ answer ∷ answers_from c.objects new rest)
+      (λ bytes rest. answers_from c.objects start bytes ≡ (given ++ answer ∷ []) ++ answers_from c.objects new rest)
+      f.answers takes.next
+      (λ xs ys zs p q. p ∙ ap (λ more. given ++ more) q ∙ sym (append_assoc given (answer ∷ []) (answers_from c.objects new zs)));
+  line = omega (arith, f.line, takes.line);
+  earlier = earlier_more given answer now.line new.line (omega (arith, takes.line)) (omega (arith, takes.number)) f.earlier;
+  lines = known_then start.bytes now.bytes new.bytes
+      (λ bytes rest. start.line + length (pieces bytes) ≡ now.line + length (pieces rest))
+      (λ bytes rest. now.line + length (pieces bytes) ≡ new.line + length (pieces rest))
+      (λ bytes rest. start.line + length (pieces bytes) ≡ new.line + length (pieces rest))
+      f.lines takes.lines (λ xs ys zs p q. p ∙ q);
+  report = λ others.
+      ap (λ all. report_text c zone all) (append_assoc given (answer ∷ []) others) ∙ f.report (answer ∷ others)
+      ∙ ap (λ b. text ++ (answer_text c zone past answer ++ cond b [] (report_from c zone (past_after past answer.given) others))) takes.numbered
+      ∙ sym (append_assoc text (answer_text c zone past answer) (report_from c zone (past_after past answer.given) others));
+  ending = λ others.
+      ap (λ all. ending_after [] all) (append_assoc given (answer ∷ []) others) ∙ f.ending (answer ∷ others)
+      ∙ ap (λ b. cond (b || is_short answer.given || ends_short (past_after past answer.given) others) Short Whole) takes.numbered
+      ∙ ap (λ b. cond (false || b || ends_short (past_after past answer.given) others) Short Whole) takes.read_on;
+  goes_on = takes.goes_on;
+}
+
+-- all lines up to one are before a later one
+earlier_below : (given front : List Answer) (line later : ℕ) → line < later → All (λ a. a.line ≤ line) given → All (λ a. a.line < later) front → All (λ a. a.line < later) (given ++ front)
+earlier_below given front line later below h k =
+    All-append (λ a. a.line < later) given front (All-weaker (λ a. a.line ≤ line) (λ a. a.line < later) (λ a le. omega (arith, le, below)) given h) k
+
+then_by : (c : Config) (start now : Feed) (given others : List Answer) (bytes rest : Option (List ℕ)) → start.line ≤ now.line → All (λ a. a.line ≤ now.line) given
+    → Known bytes rest (λ before after. answers_from c.objects start before ≡ given ++ answers_from c.objects now after)
+    → Known bytes rest (λ before after. start.line + length (pieces before) ≡ now.line + length (pieces after))
+    → IfSome rest (λ after. AreGiven others (answers_from c.objects now after) now.line (now.line + length (pieces after)))
+    → IfSome bytes (λ before. AreGiven (given ++ others) (answers_from c.objects start before) start.line (start.line + length (pieces before)))
+then_by c start now given others None rest line earlier f l h = tt
+then_by c start now given others (Some before) None line earlier f l h = absurd f
+then_by c start now given others (Some before) (Some after) line earlier f l (inl same) = inl (ap (λ more. given ++ more) same ∙ sym f)
+then_by c start now given others (Some before) (Some after) line earlier f l (inr fails) =
+    let first : now.line < fails.line = fails.first in
+    let within : fails.line ≤ now.line + length (pieces after) = fails.within in
+    inr (record {
+      front = given ++ fails.front;
+      line = fails.line;
+      others = fails.others;
+      begins = f ∙ ap (λ more. given ++ more) fails.begins ∙ sym (append_assoc given fails.front fails.others);
+      first = omega (arith, line);
+      earlier = earlier_below given fails.front now.line fails.line first earlier fails.earlier;
+      later = fails.later;
+      within = omega (arith, l);
+      whole = ap (λ more. given ++ more) fails.whole ∙ sym (append_assoc given fails.front (record { line = fails.line; given = Err Read } ∷ []));
+    })
+
+-- what was given, and what is given of the feed after it
+pub given_then : (c : Config) (zone : Zone) (start : Feed) (given : List Answer) (text : List ℕ) (past : List Event) (now : Feed) (others : List Answer)
+    → Follows c zone start given text past now → AreGivenBy c.objects now others → AreGivenBy c.objects start (given ++ others)
+given_then c zone start given text past now others f h = then_by c start now given others start.bytes now.bytes f.line f.earlier f.answers f.lines h
+
+-- some answers are given of a feed
+some_by : (objects : List Object) (feed : Feed) (bytes : Option (List ℕ)) → (given : List Answer) × IfSome bytes (λ before. AreGiven given (answers_from objects feed before) feed.line (feed.line + length (pieces before)))
+some_by objects feed None = ([], tt)
+some_by objects feed (Some bytes) = (answers_from objects feed bytes, inl refl)
+
+pub some_given : (objects : List Object) (feed : Feed) → (given : List Answer) × AreGivenBy objects feed given
+some_given objects feed = some_by objects feed feed.bytes
+
+-- ---- the text of an event
+
+-- that is decided, and that can't be numbered
+pub text_of_event : (c : Config) (zone : Zone) (past : List Event) (line : ℕ) (e : Event) → is_ended past (Ok e) ≡ false
+    → entries_text c (event_entries c zone e past) ≡ answer_text c zone past (record { line = line; given = Ok e })
+text_of_event c zone past line e h = sym (ap (λ b. cond b (refused_line line Ended) (entries_text c (event_entries c zone e past))) h)
+
+pub text_of_end : (c : Config) (zone : Zone) (past : List Event) (line : ℕ) (e : Event) → is_ended past (Ok e) ≡ true
+    → refused_line line Ended ≡ answer_text c zone past (record { line = line; given = Ok e })
+text_of_end c zone past line e h = sym (ap (λ b. cond b (refused_line line Ended) (entries_text c (event_entries c zone e past))) h)
+
+pub event_text : (c : Config) (zone : Zone) (past : List Event) (line : ℕ) (e : Event) (entries : List Entry) → entries ≡ event_entries c zone e past → is_ended past (Ok e) ≡ false
+    → entries_text c entries ≡ answer_text c zone past (record { line = line; given = Ok e })
+event_text c zone past line e entries are h = ap (entries_text c) are ∙ text_of_event c zone past line e h
+
+-- one entry more
+entries_more : (c : Config) (entries : List Entry) (i : ℕ) (line : OutputLine) (d : Entry) → i < length entries → line ≡ line_of (get_or entries i d)
+    → entries_text c (take (i + 1) entries) ≡ entries_text c (take i entries) ++ line_text c line
+entries_more c entries i line d h e =
+    ap (entries_text c) (take_more entries i d h)
+    ∙ flat_map-append (entry_text c) (take i entries) (get_or entries i d ∷ [])
+    ∙ ap (λ text. entries_text c (take i entries) ++ text) (append-nil (entry_text c (get_or entries i d)) ∙ ap (line_text c) (sym e))
+
+pub entry_written : (c : Config) (old mid new : Option (List ℕ)) (held now held' : List ℕ) (entries : List Entry) (i : ℕ) (line : OutputLine) (d : Entry) → i < length entries
+    → line ≡ line_of (get_or entries i d)
+    → Leaves old mid (held ++ entries_text c (take i entries)) now → Leaves mid new (now ++ line_text c line) held'
+    → Leaves old new (held ++ entries_text c (take (i + 1) entries)) held'
+entry_written c old mid new held now held' entries i line d h e before step =
+    subst (λ all. Leaves old new all held')
+    (append_assoc held (entries_text c (take i entries)) (line_text c line) ∙ ap (λ text. held ++ text) (sym (entries_more c entries i line d h e)))
+    (leaves_on old mid new (held ++ entries_text c (take i entries)) now (line_text c line) held' before step)
+
+pub entry_cut : (c : Config) (old mid new : Option (List ℕ)) (held now : List ℕ) (entries : List Entry) (i : ℕ) (line : OutputLine) (d : Entry) → i < length entries
+    → line ≡ line_of (get_or entries i d)
+    → Leaves old mid (held ++ entries_text c (take i entries)) now → WritesFront mid new (now ++ line_text c line)
+    → WritesFront old new (held ++ entries_text c entries)
+entry_cut c old mid new held now entries i line d h e before step =
+    let more : entries_text c entries ≡ entries_text c (take (i + 1) entries) ++ entries_text c (drop (i + 1) entries) =
+    ap (entries_text c) (sym (take-append-drop (i + 1) entries)) ∙ flat_map-append (entry_text c) (take (i + 1) entries) (drop (i + 1) entries) in
+    let all : WritesFront old new ((held ++ entries_text c (take i entries)) ++ line_text c line) =
+    front_on old mid new (held ++ entries_text c (take i entries)) now (line_text c line) before step in
+    let here : (held ++ entries_text c (take i entries)) ++ line_text c line ≡ held ++ entries_text c (take (i + 1) entries) =
+    append_assoc held (entries_text c (take i entries)) (line_text c line) ∙ ap (λ text. held ++ text) (sym (entries_more c entries i line d h e)) in
+    subst (λ all. WritesFront old new all) (ap (λ text. held ++ text) (sym more))
+    (front_begun old new held (entries_text c (take (i + 1) entries)) (entries_text c (drop (i + 1) entries)) (subst (λ all. WritesFront old new all) here all))
+
+-- ---- from one configuration to an equal one
+
+pub goes_on_of : (c c' : Config) (zone zone' : Zone) (old : Kept) (feed : Feed) (before : Option (List ℕ)) (held : List ℕ) (new : Kept) (feed' : Feed) (after : Option (List ℕ)) (held' : List ℕ)
+    → c ≡ c' → zone ≡ zone' → GoesOn c zone old feed before held new feed' after held' → GoesOn c' zone' old feed before held new feed' after held'
+goes_on_of c c' zone zone' old feed before held new feed' after held' e f h =
+    subst (λ (t : Config × Zone). GoesOn t.0 t.1 old feed before held new feed' after held') (ap (λ (x : Config). (x, zone)) e ∙ ap (λ (z : Zone). (c', z)) f) h
+
+pub ends_of : (c c' : Config) (zone zone' : Zone) (old : Kept) (feed : Feed) (before : Option (List ℕ)) (held : List ℕ) (ending : Ending) (after : Option (List ℕ)) (held' : List ℕ)
+    → c ≡ c' → zone ≡ zone' → Ends c zone old feed before held ending after held' → Ends c' zone' old feed before held ending after held'
+ends_of c c' zone zone' old feed before held ending after held' e f h =
+    subst (λ (t : Config × Zone). Ends t.0 t.1 old feed before held ending after held') (ap (λ (x : Config). (x, zone)) e ∙ ap (λ (z : Zone). (c', z)) f) h
+
+pub breaks_off_of : (c c' : Config) (zone zone' : Zone) (old : Kept) (feed : Feed) (before : Option (List ℕ)) (held : List ℕ) (after : Option (List ℕ))
+    → c ≡ c' → zone ≡ zone' → BreaksOff c zone old feed before held after → BreaksOff c' zone' old feed before held after
+breaks_off_of c c' zone zone' old feed before held after e f h =
+    subst (λ (t : Config × Zone). BreaksOff t.0 t.1 old feed before held after) (ap (λ (x : Config). (x, zone)) e ∙ ap (λ (z : Zone). (c', z)) f) h
+
+-- ---- how far a report has come
+
+-- after these answers, which are those of the decider's past, their lines were made
+pub record HasWritten (c : Config) (zone : Zone) (start : Feed) (before : Option (List ℕ)) (kept : Kept) (now : Feed) (after : Option (List ℕ)) (held : List ℕ) : Type 0 where
+  pub given : List Answer
+  pub text : List ℕ
+  pub past : List Event
+  pub follows : Follows c zone start given text past now
+  pub fits : Fits kept past
+  pub leaves : Leaves before after text held
+
+pub written_start : (c : Config) (zone : Zone) (start : Feed) (before : Option (List ℕ)) (kept : Kept) (held : List ℕ) → start.stop ≡ None → Fits kept [] → held ≡ []
+    → HasWritten c zone start before kept start before held
+written_start c zone start before kept held runs fits none = record {
+  given = [];
+  text = [];
+  past = [];
+  follows = follows_start c zone start runs;
+  fits = fits;
+  leaves = subst (λ held. Leaves before before [] held) (sym none) (leaves_all before []);
+}
+
+-- what was held back was written
+pub written_held : (c : Config) (zone : Zone) (start : Feed) (before : Option (List ℕ)) (kept : Kept) (now : Feed) (mid after : Option (List ℕ)) (held held' : List ℕ)
+    → HasWritten c zone start before kept now mid held → Leaves mid after held held' → HasWritten c zone start before kept now after held'
+written_held c zone start before kept now mid after held held' h k = record {
+  given = h.given;
+  text = h.text;
+  past = h.past;
+  follows = h.follows;
+  fits = h.fits;
+  leaves = leaves_less before mid after h.text held held' h.leaves k;
+}
+
+pub written_more : (c : Config) (zone : Zone) (start : Feed) (before : Option (List ℕ)) (kept kept' : Kept) (now new : Feed) (mid after : Option (List ℕ)) (held held' : List ℕ)
+    → HasWritten c zone start before kept now mid held → GoesOn c zone kept now mid held kept' new after held' → HasWritten c zone start before kept' new after held'
+written_more c zone start before kept kept' now new mid after held held' h on =
+    let next = on.each h.past h.fits in record {
+      given = h.given ++ next.0 ∷ [];
+      text = h.text ++ answer_text c zone h.past next.0;
+      past = past_after h.past next.0.given;
+      follows = follows_more c zone start h.given h.text h.past now next.0 new h.follows next.1;
+      fits = next.2;
+      leaves = leaves_on before mid after h.text held (answer_text c zone h.past next.0) held' h.leaves next.3;
+    }
+
+-- the feed ended, and all was written
+pub written_whole : (c : Config) (zone : Zone) (start : Feed) (before : Option (List ℕ)) (kept : Kept) (now : Feed) (mid after end : Option (List ℕ)) (held held' : List ℕ) (ending : Ending)
+    → HasWritten c zone start before kept now mid held → Ends c zone kept now mid held ending after held' → Leaves after end held' []
+    → WritesReport c zone start ending before end
+written_whole c zone start before kept now mid after end held held' ending h ends last =
+    let more = ends.each h.past h.fits in
+    let text : Leaves before after (h.text ++ report_from c zone h.past more.0) held' = leaves_on before mid after h.text held (report_from c zone h.past more.0) held' h.leaves more.3 in
+    let all : Leaves before end (h.text ++ report_from c zone h.past more.0) [] = leaves_less before after end (h.text ++ report_from c zone h.past more.0) held' [] text last in (
+      h.given ++ more.0,
+      given_then c zone start h.given h.text h.past now more.0 h.follows more.1,
+      more.2 ∙ sym (h.follows.ending more.0),
+      subst (λ bytes. Writes before end bytes) (sym (append-nil all.0) ∙ all.2 ∙ sym (h.follows.report more.0)) all.1,
+    )
+
+-- the feed ended, and a front was written
+pub written_cut : (c : Config) (zone : Zone) (start : Feed) (before : Option (List ℕ)) (kept : Kept) (now : Feed) (mid after end : Option (List ℕ)) (held held' : List ℕ) (ending : Ending)
+    → HasWritten c zone start before kept now mid held → Ends c zone kept now mid held ending after held' → WritesFront after end held'
+    → WritesReportFront c zone start before end
+written_cut c zone start before kept now mid after end held held' ending h ends last =
+    let more = ends.each h.past h.fits in
+    let text : Leaves before after (h.text ++ report_from c zone h.past more.0) held' = leaves_on before mid after h.text held (report_from c zone h.past more.0) held' h.leaves more.3 in (
+      h.given ++ more.0,
+      given_then c zone start h.given h.text h.past now more.0 h.follows more.1,
+      subst (λ all. WritesFront before end all) (sym (h.follows.report more.0)) (front_less before after end (h.text ++ report_from c zone h.past more.0) held' text last),
+    )
+
+-- a line broke off
+pub written_front : (c : Config) (zone : Zone) (start : Feed) (before : Option (List ℕ)) (kept : Kept) (now : Feed) (mid after : Option (List ℕ)) (held : List ℕ)
+    → HasWritten c zone start before kept now mid held → BreaksOff c zone kept now mid held after → WritesReportFront c zone start before after
+written_front c zone start before kept now mid after held h breaks =
+    let more = breaks.each h.past h.fits in (
+      h.given ++ more.0,
+      given_then c zone start h.given h.text h.past now more.0 h.follows more.1,
+      subst (λ all. WritesFront before after all) (sym (h.follows.report more.0)) (front_on before mid after h.text held (report_from c zone h.past more.0) h.leaves more.2),
+    )
+
+-- what was held back broke off
+pub written_less : (c : Config) (zone : Zone) (start : Feed) (before : Option (List ℕ)) (kept : Kept) (now : Feed) (mid after : Option (List ℕ)) (held : List ℕ)
+    → HasWritten c zone start before kept now mid held → WritesFront mid after held → WritesReportFront c zone start before after
+written_less c zone start before kept now mid after held h front =
+    let more = some_given c.objects now in (
+      h.given ++ more.0,
+      given_then c zone start h.given h.text h.past now more.0 h.follows more.1,
+      subst (λ all. WritesFront before after all) (sym (h.follows.report more.0))
+          (front_longer before after h.text (report_from c zone h.past more.0) (front_less before mid after h.text held h.leaves front)),
+    )
+
+-- an answer that is Ok is no fault
+pub ok_is_no_fault : {T E : Type 0} (x : T) (fault : E) → IsErrOf (Ok x) fault → ⊥
+ok_is_no_fault x fault h = cc
+
+-- the same of an equal feed
+pub taken_same : (objects : List Object) (past : List Event) (old : Feed) (answer : Answer) (new new' : Feed) → new' ≡ new → TakesAnswer objects past old answer new → TakesAnswer objects past old answer new'
+taken_same objects past old answer new new' e h = subst (λ (f : Feed). TakesAnswer objects past old answer f) (sym e) h

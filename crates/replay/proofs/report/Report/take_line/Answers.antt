@@ -1,0 +1,142 @@
+use Rattle.std.proofs.Common.{◌≡◌, ◌∷◌, [], cond, None, Ok, Some, refl, rules, ◌∙◌}
+use Rattle.std.proofs.lemmas.Option.{IfSome_then}
+use Rattle.std.proofs.lemmas.Result.{IfOk-weaker}
+use Rattle.event_feed.specs.Feed.{Answer}
+use Rattle.command_output.specs.OutputLaws.{front_begun, front_none, if_none, leaves_nothing, leaves_same}
+use Rattle.command_output.specs.ReportLine.{refused_line}
+use Rattle.replay.specs.Report.{answer_text, is_ended, past_after, report_from}
+use Rattle.replay.proofs.ReportLaws.{event_answers, event_taken, fault_given, fault_last, fault_taken, next_given, none_given, refusal, report_of_end, report_of_refusal, short_at_end, short_at_refusal, taken_same, text_of_event}
+use Rattle.replay.proofs.report.Report.take_line.Goals as goal
+
+pub returns-in-Ok-None-clause-ends : goal.returns-in-Ok-None-clause-ends
+returns-in-Ok-None-clause-ends g c =
+    let gives = rw c.in-Ok-None.field-0-is at c.in-Ok-None.ensures.none in
+    record { each = λ past s. ([], none_given c.args.self.now.config.now.objects c.args.self.now.feeder c.next.new.self gives.answers, refl, leaves_nothing _ _) }
+
+pub returns-in-Ok-None-clause-front : goal.returns-in-Ok-None-clause-front
+returns-in-Ok-None-clause-front g c =
+    let gives = rw c.in-Ok-None.field-0-is at c.in-Ok-None.ensures.none in
+    record { each = λ past s. ([], none_given c.args.self.now.config.now.objects c.args.self.now.feeder c.next.new.self gives.answers, front_none _ _) }
+
+pub returns-in-Ok-Some-clause-goes_on : goal.returns-in-Ok-Some-clause-goes_on
+returns-in-Ok-Some-clause-goes_on g c =
+    let gives = rw c.in-Ok-Some.field-0-is at c.in-Ok-Some.ensures.event in
+    let event = c.in-Ok-Some.event in
+    let config = c.args.self.now.config.now in
+    let line = c.line-line.result in
+    let answer : Answer = record { line = line; given = Ok event } in
+    IfOk-weaker c.decide_event.result _ _
+    (λ ended. if_none _ _ ended (λ on. record {
+      each = λ past s.
+          let now = on past s in (
+            answer,
+            taken_same config.objects past c.args.self.now.feeder answer c.next.new.self c.decide_event.new.self.feeder c.decide_event.ensures.feed
+                (event_taken config past c.args.self.now.feeder c.next.new.self event line c.line-line.ensures now.0 gives),
+            now.1,
+            leaves_same _ _ c.args.self.now.lines _ _ _ (text_of_event config c.args.self.now.zone.now past line event now.0) now.2,
+          );
+    }))
+    (rw c.in-Ok-Some.field-0-is at c.decide_event.ensures.goes_on)
+
+pub returns-in-Ok-Some-clause-ends : goal.returns-in-Ok-Some-clause-ends
+returns-in-Ok-Some-clause-ends g c =
+    let gives = rw c.in-Ok-Some.field-0-is at c.in-Ok-Some.ensures.event in
+    let config = c.args.self.now.config.now in
+    let answer : Answer = record { line = c.line-line.result; given = Ok c.in-Ok-Some.event } in
+    let more = next_given config.objects c.args.self.now.feeder c.next.new.self answer
+    (event_answers config c.args.self.now.feeder c.next.new.self c.in-Ok-Some.event c.line-line.result c.line-line.ensures gives) in
+    IfOk-weaker c.decide_event.result _ _
+    (λ ended found. IfSome_then ended found (λ ending at. record {
+      each = λ past s.
+          let now = at past s in (
+            answer ∷ more.0,
+            more.1,
+            now.1 ∙ short_at_end past answer more.0 now.0,
+            leaves_same _ _ c.args.self.now.lines _ _ _ (report_of_end config c.args.self.now.zone.now past answer more.0 now.0) now.2,
+          );
+    }))
+    c.decide_event.ensures.ends
+
+pub returns-in-Ok-Some-clause-front : goal.returns-in-Ok-Some-clause-front
+returns-in-Ok-Some-clause-front g c =
+    let gives = rw c.in-Ok-Some.field-0-is at c.in-Ok-Some.ensures.event in
+    let config = c.args.self.now.config.now in
+    let zone = c.args.self.now.zone.now in
+    let answer : Answer = record { line = c.line-line.result; given = Ok c.in-Ok-Some.event } in
+    let more = next_given config.objects c.args.self.now.feeder c.next.new.self answer
+    (event_answers config c.args.self.now.feeder c.next.new.self c.in-Ok-Some.event c.line-line.result c.line-line.ensures gives) in
+    let front = rw c.in-Ok-Some.field-0-is at c.decide_event.ensures.front in
+    record {
+      each = λ past s. (
+        answer ∷ more.0,
+        more.1,
+        front_begun _ _ c.args.self.now.lines (answer_text config zone past answer)
+            (cond (is_ended past answer.given) [] (report_from config zone (past_after past answer.given) more.0)) (front past s),
+      );
+    }
+
+pub returns-in_err-write-in-Err-clause-front : goal.returns-in_err-write-in-Err-clause-front
+returns-in_err-write-in-Err-clause-front g c =
+    let fault = c.in-Err.refusal in
+    let config = c.args.self.now.config.now in
+    let more = fault_given config.objects c.args.self.now.feeder c.next.new.self fault c.in-Err.ensures.fault in
+    record {
+      each = λ past s. (
+        refusal fault ∷ more.0,
+        more.1,
+        front_begun _ _ c.args.self.now.lines (refused_line fault.line fault.fault) (report_from config c.args.self.now.zone.now past more.0) c.in_err-write-in-Err.ensures.front,
+      );
+    }
+
+pub returns-in-None-clause-goes_on : goal.returns-in-None-clause-goes_on
+returns-in-None-clause-goes_on g c =
+    let fault = c.in-Err.refusal in
+    let stopped : c.next.new.self.stop ≡ None = search rules in
+    record {
+      each = λ past s. (
+        refusal fault,
+        fault_taken c.args.self.now.config.now.objects past c.args.self.now.feeder c.next.new.self fault stopped c.in-Err.ensures.fault,
+        s,
+        c.in_ok-write-in-Err.ensures.ok,
+      );
+    }
+
+pub returns-in-None-clause-front : goal.returns-in-None-clause-front
+returns-in-None-clause-front g c =
+    let fault = c.in-Err.refusal in
+    let config = c.args.self.now.config.now in
+    let more = fault_given config.objects c.args.self.now.feeder c.next.new.self fault c.in-Err.ensures.fault in
+    record {
+      each = λ past s. (
+        refusal fault ∷ more.0,
+        more.1,
+        front_begun _ _ c.args.self.now.lines (refused_line fault.line fault.fault) (report_from config c.args.self.now.zone.now past more.0) c.in_ok-write-in-Err.ensures.front,
+      );
+    }
+
+pub returns-in-Some-clause-ends : goal.returns-in-Some-clause-ends
+returns-in-Some-clause-ends g c =
+    let fault = c.in-Err.refusal in
+    let stopped : c.next.new.self.stop ≡ Some c.in-Some.field-0 = search rules in
+    let last = fault_last c.args.self.now.config.now.objects c.args.self.now.feeder c.next.new.self fault c.in-Some.field-0 stopped c.in-Err.ensures.fault in
+    record {
+      each = λ past s. (
+        refusal fault ∷ [],
+        last.0,
+        short_at_refusal past fault last.1,
+        leaves_same _ _ c.args.self.now.lines _ _ _ (report_of_refusal c.args.self.now.config.now c.args.self.now.zone.now past fault) c.in_ok-write-in-Err.ensures.ok,
+      );
+    }
+
+pub returns-in-Some-clause-front : goal.returns-in-Some-clause-front
+returns-in-Some-clause-front g c =
+    let fault = c.in-Err.refusal in
+    let config = c.args.self.now.config.now in
+    let more = fault_given config.objects c.args.self.now.feeder c.next.new.self fault c.in-Err.ensures.fault in
+    record {
+      each = λ past s. (
+        refusal fault ∷ more.0,
+        more.1,
+        front_begun _ _ c.args.self.now.lines (refused_line fault.line fault.fault) (report_from config c.args.self.now.zone.now past more.0) c.in_ok-write-in-Err.ensures.front,
+      );
+    }

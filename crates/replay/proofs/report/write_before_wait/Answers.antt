@@ -1,0 +1,5 @@
+use Rattle.command_output.specs.OutputLaws.{front_none}
+use Rattle.replay.proofs.report.write_before_wait.Goals as goal
+
+pub returns-then-has_line-clause-front : goal.returns-then-has_line-clause-front
+returns-then-has_line-clause-front g c = front_none _ _

@@ -1,0 +1,173 @@
+-- The report of a feed: for each of its lines the refusal, or what the event adds.
+use Rattle.std.specs.Prelude.{◌≡◌, ℕ, ◌+◌, ◌<◌, ◌≤◌, Bool, false, not, ◌||◌, ◌==◌, All, List, [], ◌∷◌, ◌++◌, length, flat_map, ◌⊎◌, IfSome, Option, None, Result, Ok, Err, if◌then◌else◌}
+use Rattle.due_model.specs.declared.config.Config.{Config}
+use Rattle.due_model.specs.declared.config.Object.{Object}
+use Rattle.due_model.specs.declared.event.Event.{Event}
+use Rattle.due_model.specs.declared.zone.Zone.{Zone}
+use Rattle.due_model.specs.Limits.{max_events}
+use Rattle.decider.specs.declared.entries.Entry.{Entry}
+use Rattle.decider.specs.declared.entries.Entry.TheVariants.{Sent, Withheld}
+use Rattle.decider.specs.declared.share.Share.{Share}
+use Rattle.decider.specs.Entries.{event_entries}
+use Rattle.decider.specs.Fits.{Fits, Kept}
+use Rattle.event_feed.specs.declared.fault.FeedFault.{FeedFault}
+use Rattle.event_feed.specs.declared.fault.FeedFault.TheVariants.{Ended, Read}
+use Rattle.event_feed.specs.Fault.{is_line_fault}
+use Rattle.event_feed.specs.Feed.{Answer, AnswersNext, AreFromLine, Feed, answers_from}
+use Rattle.text_lines.specs.Lines.{Known, pieces}
+use Rattle.command_output.specs.declared.outcome.Ending.{Ending}
+use Rattle.command_output.specs.declared.outcome.Ending.TheVariants.{Short, Whole}
+use Rattle.command_output.specs.declared.output_line.OutputLine.{OutputLine}
+use Rattle.command_output.specs.declared.output_line.OutputLine.TheVariants as line
+use Rattle.command_output.specs.Output.{Leaves, Writes, WritesFront}
+use Rattle.command_output.specs.OutputLine.{line_text}
+use Rattle.command_output.specs.ReportLine.{refused_line}
+
+-- the share of the one decider of a replay: all objects
+abbrev pub whole_share : Share
+whole_share = record { decider = 0; deciders = 1 }
+
+-- ---- the text
+
+-- the line of an entry
+abbrev pub line_of : Entry → OutputLine
+line_of (Sent n) = line.Notice n
+line_of (Withheld s) = line.Suppression s
+
+abbrev pub entry_text : Config → Entry → List ℕ
+entry_text c entry = line_text c (line_of entry)
+
+-- the lines of entries
+abbrev pub entries_text : Config → List Entry → List ℕ
+entries_text c entries = flat_map (entry_text c) entries
+
+-- what a line of the feed adds after a past: the lines of its event, or of its refusal
+abbrev pub given_text : Config → Zone → List Event → (line : ℕ) → Result Event FeedFault → List ℕ
+given_text c zone past line (Ok e) = entries_text c (event_entries c zone e past)
+given_text c zone past line (Err fault) = refused_line line fault
+
+-- the past after it, the newest event first
+abbrev pub past_after : List Event → Result Event FeedFault → List Event
+past_after past (Ok e) = e ∷ past
+past_after past (Err fault) = past
+
+-- an event after as many as can be numbered ends the report
+abbrev pub is_ended : List Event → Result Event FeedFault → Bool
+is_ended past (Ok e) = length past == max_events
+is_ended past (Err fault) = false
+
+-- Cut and Read end a feed before its input ends
+abbrev pub is_short : Result Event FeedFault → Bool
+is_short (Ok e) = false
+is_short (Err fault) = not (is_line_fault fault)
+
+-- what one answer of a feed adds to a report
+abbrev pub answer_text : Config → Zone → List Event → Answer → List ℕ
+answer_text c zone past answer =
+    if is_ended past answer.given then refused_line answer.line Ended
+    else given_text c zone past answer.line answer.given
+
+-- the report of what a feed answers, after a past
+abbrev pub report_from : Config → Zone → List Event → List Answer → List ℕ
+report_from c zone past [] = []
+report_from c zone past (answer ∷ answers) =
+    answer_text c zone past answer
+    ++ (if is_ended past answer.given then [] else report_from c zone (past_after past answer.given) answers)
+
+-- the report of a feed from its beginning
+abbrev pub report_text : Config → Zone → List Answer → List ℕ
+report_text c zone answers = report_from c zone [] answers
+
+-- ---- how it ends
+
+-- whether the feed ended before its input
+abbrev pub ends_short : List Event → List Answer → Bool
+ends_short past [] = false
+ends_short past (answer ∷ answers) =
+    is_ended past answer.given || is_short answer.given || ends_short (past_after past answer.given) answers
+
+-- how the reading of a feed ends, after a past
+abbrev pub ending_after : List Event → List Answer → Ending
+ending_after past answers = if ends_short past answers then Short else Whole
+
+-- ---- what a feed gives
+
+-- The reader failed at a line of the feed: the first of its answers were given, and then the refusal of that line. It is
+-- after the lines of those answers, not after the line of the next, and no later than the last line of the feed; `from`
+-- lines come before the feed, and with its own there are `last`. (Too many calls of a reader count as its failure.)
+pub record FailsBefore (given all : List Answer) (from last : ℕ) : Type 0 where
+  pub front : List Answer
+  pub line : ℕ
+  pub others : List Answer
+  pub begins : all ≡ front ++ others
+  pub first : from < line
+  pub earlier : All (λ answer. answer.line < line) front
+  pub later : AreFromLine line others
+  pub within : line ≤ last
+  pub whole : given ≡ front ++ record { line = line; given = Err Read } ∷ []
+
+-- all the answers of a feed were given, or the reader failed
+abbrev pub AreGiven : (given all : List Answer) → (from last : ℕ) → Type 0
+AreGiven given all from last = (given ≡ all) ⊎ FailsBefore given all from last
+
+-- the same of a feed whose bytes are known
+abbrev pub AreGivenBy : List Object → Feed → List Answer → Type 0
+AreGivenBy objects feed given = IfSome feed.bytes (λ bytes.
+    AreGiven given (answers_from objects feed bytes) feed.line (feed.line + length (pieces bytes)))
+
+-- as many lines of the bytes are left as were not read
+abbrev pub CountsLines : Feed → Feed → Type 0
+CountsLines old new = Known old.bytes new.bytes (λ bytes rest.
+    old.line + length (pieces bytes) ≡ new.line + length (pieces rest))
+
+-- A line of the feed was read whose answer doesn't end the report, and the feed goes on after it.
+pub record TakesAnswer (objects : List Object) (past : List Event) (old : Feed) (answer : Answer) (new : Feed) : Type 0 where
+  pub next : AnswersNext objects old answer new
+  pub line : old.line < new.line
+  pub number : answer.line ≡ new.line
+  pub lines : CountsLines old new
+  pub numbered : is_ended past answer.given ≡ false
+  pub read_on : is_short answer.given ≡ false
+  pub goes_on : new.stop ≡ None
+
+-- Of a feed's answers these came first; the past is theirs, the text is what they add to a report, and the feed goes on
+-- after them.
+pub record Follows (c : Config) (zone : Zone) (start : Feed) (given : List Answer) (text : List ℕ) (past : List Event) (now : Feed) : Type 0 where
+  pub answers : Known start.bytes now.bytes (λ bytes rest. answers_from c.objects start bytes ≡ given ++ answers_from c.objects now rest)
+  pub line : start.line ≤ now.line
+  pub earlier : All (λ answer. answer.line ≤ now.line) given
+  pub lines : CountsLines start now
+  pub report : (others : List Answer) → report_text c zone (given ++ others) ≡ text ++ report_from c zone past others
+  pub ending : (others : List Answer) → ending_after [] (given ++ others) ≡ ending_after past others
+  pub goes_on : now.stop ≡ None
+
+-- ---- what the making of a report does
+
+-- For a decider that fits a past: the next line of the feed was read, and the lines of its answer were made.
+pub record GoesOn (c : Config) (zone : Zone) (old : Kept) (feed : Feed) (before : Option (List ℕ)) (held : List ℕ)
+    (new : Kept) (feed' : Feed) (after : Option (List ℕ)) (held' : List ℕ) : Type 0 where
+  pub each : (past : List Event) → Fits old past → (answer : Answer) × TakesAnswer c.objects past feed answer feed'
+      × Fits new (past_after past answer.given)
+      × Leaves before after (held ++ answer_text c zone past answer) held'
+
+-- the feed ended, and the lines of its last answer, if it had one, were made
+pub record Ends (c : Config) (zone : Zone) (old : Kept) (feed : Feed) (before : Option (List ℕ)) (held : List ℕ)
+    (ending : Ending) (after : Option (List ℕ)) (held' : List ℕ) : Type 0 where
+  pub each : (past : List Event) → Fits old past → (given : List Answer) × AreGivenBy c.objects feed given
+      × (ending ≡ ending_after past given) × Leaves before after (held ++ report_from c zone past given) held'
+
+-- a front of the lines of the next answer was written
+pub record BreaksOff (c : Config) (zone : Zone) (old : Kept) (feed : Feed) (before : Option (List ℕ)) (held : List ℕ)
+    (after : Option (List ℕ)) : Type 0 where
+  pub each : (past : List Event) → Fits old past → (given : List Answer) × AreGivenBy c.objects feed given
+      × WritesFront before after (held ++ report_from c zone past given)
+
+-- the report of a feed was written, and it ended so
+abbrev pub WritesReport : Config → Zone → Feed → Ending → (before after : Option (List ℕ)) → Type 0
+WritesReport c zone feed ending before after = (given : List Answer) × AreGivenBy c.objects feed given
+    × (ending ≡ ending_after [] given) × Writes before after (report_text c zone given)
+
+-- a front of it was written
+abbrev pub WritesReportFront : Config → Zone → Feed → (before after : Option (List ℕ)) → Type 0
+WritesReportFront c zone feed before after = (given : List Answer) × AreGivenBy c.objects feed given
+    × WritesFront before after (report_text c zone given)

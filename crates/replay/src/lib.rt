@@ -1,0 +1,54 @@
+//! The command `replay`: object text and a feed of events, and of each event what the rules make due.
+#![tactic(auto)]
+
+ghost use Rattle.std.specs.Prelude.{◌≡◌, IfErr, IfOk, IfSome};
+ghost use Rattle.replay.specs.Replay.{FailsWith, Reports};
+ghost use Rattle.due_model.specs.declared.zone.Zone.{Zone};
+
+mod report;
+
+use command_input::read_objects;
+use command_output::{CommandFault, Ending};
+use due_model::zone::Zone;
+use report::Report;
+use std::alloc::Global;
+use std::io::{Read, Write};
+use text_lines::LineReader;
+
+/// Reads object text up to a line `%events`, and then a feed, and writes the report of the feed. The feed is read and
+/// the report written as it comes: what an event adds is written before the reader is called for more, and memory grows
+/// with the configuration alone. Where the object text is refused nothing is written; where the output fails or memory
+/// runs out, a front of the report was.
+pub fn replay<R: Read + Drop, W: Write>(
+    alloc: Global,
+    reader: R,
+    writer: &mut W,
+) -> Result<Ending, CommandFault>
+    // What is written is the report of the bytes read, and nothing else.
+    ensures report { IfSome (R.remaining reader) (λ bytes. IfOk result (λ ending.
+        Reports bytes Zone.Utc ending (W.contents writer.old) (W.contents writer.new))) }
+    // A fault says what was wrong, and what was written.
+    ensures fault { IfSome (R.remaining reader) (λ bytes. IfErr result (λ fault.
+        FailsWith bytes Zone.Utc fault (W.contents writer.old) (W.contents writer.new))) }
+{
+    let zone = Zone::Utc;
+    replay_in(alloc, &zone, reader, writer)
+}
+
+/// The same, for local times of a zone.
+pub fn replay_in<R: Read + Drop, W: Write>(
+    alloc: Global,
+    zone: &Zone,
+    reader: R,
+    writer: &mut W,
+) -> Result<Ending, CommandFault>
+    ensures report { IfSome (R.remaining reader) (λ bytes. IfOk result (λ ending.
+        Reports bytes zone.now ending (W.contents writer.old) (W.contents writer.new))) }
+    ensures fault { IfSome (R.remaining reader) (λ bytes. IfErr result (λ fault.
+        FailsWith bytes zone.now fault (W.contents writer.old) (W.contents writer.new))) }
+{
+    let mut lines = LineReader::new(alloc, reader)?;
+    let config = read_objects(alloc, &mut lines)?;
+    let mut report = Report::new(alloc, &config, zone, lines)?;
+    report.write(writer)
+}

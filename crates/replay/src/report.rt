@@ -1,0 +1,231 @@
+//! The report of a feed, line by line as it comes.
+
+ghost use Rattle.std.specs.Prelude.{◌≡◌, ◌+◌, ◌<◌, ◌≤◌, ◌∷◌, ◌++◌, [], List, false, true, IfErr, IfNone, IfOk, IfSome, None, Ok, OnOk};
+ghost use Rattle.command_output.specs.Outcome.{IsWriteFault};
+ghost use Rattle.command_output.specs.Output.{Leaves, WritesFront};
+ghost use Rattle.command_output.specs.ReportLine.{refused_line};
+ghost use Rattle.decider.specs.Entries.{event_entries};
+ghost use Rattle.decider.specs.Fits.{Fits, core_kept, last_entries, settings};
+ghost use Rattle.due_model.specs.Accepted.{IsAccepted};
+ghost use Rattle.due_model.specs.Covered.{IsCovered, IsSupported};
+ghost use Rattle.due_model.specs.Proper.{IsProper};
+ghost use Rattle.due_model.specs.declared.event.Event.{Event};
+ghost use Rattle.event_feed.specs.Feed.{feed_limit, feed_of};
+ghost use Rattle.replay.specs.Report.{BreaksOff, Ends, GoesOn, WritesReport, WritesReportFront, answer_text, entries_text, is_ended, line_of, whole_share};
+ghost use Rattle.text_lines.specs.Lines.{has_line};
+
+use command_output::{CommandFault, Ending, Lines, OutputLine};
+use decider::{DecideFault, Entry, EventDecider, Share};
+use due_model::config::Config;
+use due_model::event::Event;
+use due_model::zone::Zone;
+use event_feed::{FeedFault, Feeder};
+use std::alloc::{AllocError, Global};
+use std::io::{Read, Write};
+use text_lines::LineReader;
+
+/// The share of the one decider of a replay: all objects.
+const WHOLE: Share = Share {
+    decider: 0,
+    deciders: 1,
+};
+
+/// A report under way: the feed that is read, the decider of its events, and the lines on their way to the writer.
+#[derive(Drop)]
+pub(crate) struct Report<'a, R: Read> {
+    config: &'a Config,
+    zone: &'a Zone,
+    feeder: Feeder<R>,
+    decider: EventDecider<'a>,
+    lines: Lines,
+    ghost settings: { settings (core_kept decider) ≡ (config.now, zone.now, whole_share) },
+}
+
+impl<'a, R: Read + Drop> Report<'a, R> {
+    /// A report of which nothing is made yet. A refused growth is the only error.
+    pub(crate) fn new(
+        alloc: Global,
+        config: &'a Config,
+        zone: &'a Zone,
+        lines: LineReader<R>,
+    ) -> Result<Self, AllocError>
+        requires accepted { IsAccepted config.now }
+        requires covered { IsCovered config.now }
+        ensures config { IfOk result (λ report. report.config.now ≡ config.now) }
+        ensures zone { IfOk result (λ report. report.zone.now ≡ zone.now) }
+        ensures feed { IfOk result (λ report. report.feeder ≡ feed_of lines 0 0 None) }
+        ensures fits { IfOk result (λ report. Fits (core_kept report.decider) []) }
+        ensures held { IfOk result (λ report. report.lines ≡ []) }
+    {
+        Ok(Report {
+            config,
+            zone,
+            feeder: Feeder::new(lines),
+            decider: EventDecider::new(alloc, config, zone, WHOLE)?,
+            lines: Lines::new(alloc)?,
+        })
+    }
+
+    /// Writes the report of the feed from its beginning.
+    pub(crate) fn write<W: Write>(&mut self, writer: &mut W) -> Result<Ending, CommandFault>
+        requires goes_on { self.old.feeder.stop ≡ None }
+        requires fits { Fits (core_kept self.old.decider) [] }
+        requires held { self.old.lines ≡ [] }
+        ensures ok { IfOk result (λ ending. WritesReport self.old.config.now self.old.zone.now
+            self.old.feeder ending (W.contents writer.old) (W.contents writer.new)) }
+        ensures front { WritesReportFront self.old.config.now self.old.zone.now
+            self.old.feeder (W.contents writer.old) (W.contents writer.new) }
+        ensures fault { IfErr result (λ fault. IsWriteFault fault) }
+    {
+        loop {
+            write_before_wait(&mut self.lines, &self.feeder, writer)?;
+            match self.take_line(writer)? {
+                None => {}
+                Some(ending) => {
+                    self.lines.flush(writer)?;
+                    return Ok(ending);
+                }
+            }
+        }
+    }
+
+    /// Reads the next line of the feed that says something, and makes the lines of what it gives. The answer says
+    /// how the feed ended, once it has.
+    fn take_line<W: Write>(&mut self, writer: &mut W) -> Result<Option<Ending>, CommandFault>
+        requires goes_on { self.old.feeder.stop ≡ None }
+        requires fits { (past : List Event) × Fits (core_kept self.old.decider) past }
+        ensures config { self.new.config.now ≡ self.old.config.now }
+        ensures zone { self.new.zone.now ≡ self.old.zone.now }
+        ensures goes_on { IfOk result (λ ended. IfNone ended (GoesOn
+            self.old.config.now self.old.zone.now (core_kept self.old.decider) self.old.feeder
+            (W.contents writer.old) self.old.lines
+            (core_kept self.new.decider) self.new.feeder (W.contents writer.new) self.new.lines)) }
+        ensures ends { IfOk result (λ ended. IfSome ended (λ ending. Ends
+            self.old.config.now self.old.zone.now (core_kept self.old.decider) self.old.feeder
+            (W.contents writer.old) self.old.lines ending (W.contents writer.new) self.new.lines)) }
+        ensures front { BreaksOff
+            self.old.config.now self.old.zone.now (core_kept self.old.decider) self.old.feeder
+            (W.contents writer.old) self.old.lines (W.contents writer.new) }
+        ensures limit { self.new.feeder.line ≤ feed_limit + 1 }
+        ensures fault { IfErr result (λ fault. IsWriteFault fault) }
+    {
+        match self.feeder.next(self.config) {
+            Ok(None) => Ok(Some(Ending::Whole)),
+            Ok(Some(event)) => {
+                let line = self.feeder.line();
+                self.decide_event(writer, event, line)
+            }
+            Err(refusal) => {
+                let refused = OutputLine::Refused {
+                    line: refusal.line,
+                    fault: refusal.fault,
+                };
+                self.lines.write(writer, self.config, &refused)?;
+                match self.feeder.stop() {
+                    None => Ok(None),
+                    Some(_) => Ok(Some(Ending::Short)),
+                }
+            }
+        }
+    }
+
+    /// Decides the event of this line, and makes its lines. An event that would have the number 2^32 is
+    /// refused, and the answer is `Short`.
+    fn decide_event<W: Write>(
+        &mut self,
+        writer: &mut W,
+        event: Event,
+        line: u64,
+    ) -> Result<Option<Ending>, CommandFault>
+        requires proper { IsProper self.old.config.now event }
+        requires supported { IsSupported event.kind }
+        requires fits { (past : List Event) × Fits (core_kept self.old.decider) past }
+        ensures config { self.new.config.now ≡ self.old.config.now }
+        ensures zone { self.new.zone.now ≡ self.old.zone.now }
+        ensures feed { self.new.feeder ≡ self.old.feeder }
+        ensures goes_on { IfOk result (λ ended. IfNone ended ((past : List Event)
+            → Fits (core_kept self.old.decider) past
+            → (is_ended past (Ok event) ≡ false)
+            × Fits (core_kept self.new.decider) (event ∷ past)
+            × Leaves (W.contents writer.old) (W.contents writer.new)
+            (self.old.lines ++ entries_text self.old.config.now
+            (event_entries self.old.config.now self.old.zone.now event past))
+            self.new.lines)) }
+        ensures ends { IfOk result (λ ended. IfSome ended (λ ending. (past : List Event)
+            → Fits (core_kept self.old.decider) past
+            → (is_ended past (Ok event) ≡ true) × (ending ≡ Ending.Short)
+            × Leaves (W.contents writer.old) (W.contents writer.new)
+            (self.old.lines ++ refused_line line FeedFault.Ended)
+            self.new.lines)) }
+        ensures front { (past : List Event) → Fits (core_kept self.old.decider) past
+            → WritesFront (W.contents writer.old) (W.contents writer.new)
+            (self.old.lines ++ answer_text self.old.config.now self.old.zone.now past
+            (record { line = line; given = Ok event })) }
+        ensures fault { IfErr result (λ fault. IsWriteFault fault) }
+    {
+        match self.decider.decide(event) {
+            Ok(()) => {
+                let entries = self.decider.entries();
+                write_entries(&mut self.lines, writer, self.config, entries)?;
+                Ok(None)
+            }
+            Err(DecideFault::Ended) => {
+                let refused = OutputLine::Refused {
+                    line,
+                    fault: FeedFault::Ended,
+                };
+                self.lines.write(writer, self.config, &refused)?;
+                Ok(Some(Ending::Short))
+            }
+            Err(DecideFault::NoMemory) => Err(self.lines.out_of_memory(writer)),
+        }
+    }
+}
+
+/// Writes all lines, unless a line of the feed is there to be read: else the next call of the reader may wait.
+fn write_before_wait<R: Read + Drop, W: Write>(
+    lines: &mut Lines,
+    feeder: &Feeder<R>,
+    writer: &mut W,
+) -> Result<(), CommandFault>
+    ensures ok { OnOk result
+        (Leaves (W.contents writer.old) (W.contents writer.new) lines.old lines.new) }
+    ensures all { OnOk result (has_line feeder.now.held ≡ false → lines.new ≡ []) }
+    ensures front { WritesFront (W.contents writer.old) (W.contents writer.new) lines.old }
+    ensures fault { IfErr result (λ fault. IsWriteFault fault) }
+{
+    if feeder.has_line() {
+        Ok(())
+    } else {
+        lines.flush(writer)
+    }
+}
+
+/// Makes the lines of entries, in order.
+fn write_entries<W: Write>(
+    lines: &mut Lines,
+    writer: &mut W,
+    config: &Config,
+    entries: &[Entry],
+) -> Result<(), CommandFault>
+    ensures ok { OnOk result (Leaves (W.contents writer.old) (W.contents writer.new)
+        (lines.old ++ entries_text config.now entries.now) lines.new) }
+    ensures front { WritesFront (W.contents writer.old) (W.contents writer.new)
+        (lines.old ++ entries_text config.now entries.now) }
+    ensures fault { IfErr result (λ fault. IsWriteFault fault) }
+{
+    for entry in entries {
+        lines.write(writer, config, &line_of(entry))?;
+    }
+    Ok(())
+}
+
+/// The line of an entry.
+fn line_of(entry: &Entry) -> OutputLine<'static>
+    ensures { result ≡ line_of entry.now }
+{
+    match entry {
+        Entry::Sent(notice) => OutputLine::Notice(*notice),
+        Entry::Withheld(suppression) => OutputLine::Suppression(*suppression),
+    }
+}

@@ -1,0 +1,14 @@
+use Rattle.std.proofs.Common.{◌≡◌, reverse, take, All, vec_len}
+use Rattle.due_model.specs.Due.{due_for, suppressed_for}
+use Rattle.due_model.specs.Histories.{hist}
+use Rattle.slow_rules.specs.Histories.{IsInRange}
+use Rattle.slow_rules.proofs.slow.find_answers.Given as goal
+
+abbrev pub invariant-loop-index : goal.invariant-loop-index
+invariant-loop-index l = record {
+  due : l.due.items ≡ due_for l.config l.zone l.object.0 l.settings l.lane.0 (reverse (take l.index l.events));
+  suppressed : l.suppressed.items ≡ suppressed_for l.config l.zone l.object.0 l.settings (reverse (take l.index l.events));
+  history : reverse l.history.items ≡ hist l.config l.zone l.object.0 l.settings (reverse (take l.index l.events));
+  length : vec_len l.history ≡ l.index;
+  in_range : All IsInRange l.history.items;
+}

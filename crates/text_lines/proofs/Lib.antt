@@ -1,0 +1,4 @@
+pub mod Marks
+pub mod Pieces
+pub mod Ranges
+pub mod ReadLines

@@ -1,0 +1,4 @@
+pub mod Lines
+pub mod CountedReader
+pub mod LineReader
+pub mod Text

@@ -1,0 +1,217 @@
+-- Step lines, one after another: what was read, and what becomes of it.
+use Rattle.std.proofs.Common.{◌≡◌, ◌<◌, ◌≤◌, ℕ, ◌+◌, Bool, true, false, cond, eqb, nat_lt, List, [], ◌∷◌, ◌++◌, length, flat_map, Option, None, Some, IfNone, IfSome, inl, inr, refl, sym, ap, subst, ◌∙◌, append_assoc, arith, codes}
+use Rattle.std.proofs.lemmas.Bool.{cases_lt, ne_eqb}
+use Rattle.std.proofs.lemmas.Grind.{flat_map-append}
+use Rattle.std.proofs.lemmas.List.{append-nil, length-append}
+use Rattle.std.proofs.lemmas.Option.{same_Some}
+use Rattle.std.proofs.lemmas.List.Elements.{All-nil, All-push}
+use Rattle.due_model.specs.declared.config.Config.{Config}
+use Rattle.command_output.specs.TraceLine.{refused_step_line}
+use Rattle.command_output.specs.declared.trace_line.StepRefusal.TheVariants.{BadStep}
+use Rattle.command_output.specs.Output.{Leaves}
+use Rattle.command_output.specs.OutputLaws.{leaves_on, leaves_nothing}
+use Rattle.text_lines.specs.LineReader.{line_limit, cut_text}
+use Rattle.text_lines.specs.Lines.{BeginsWithLine, IsUnbroken, Known}
+use Rattle.world_steps.specs.declared.step.Step.TheVariants.{Post, Decide, Put, Lane}
+use Rattle.world_steps.specs.declared.step.LaneStep.TheVariants.{Pick, Settle, Fail, Ask, Close, Drain}
+use Rattle.world_steps.specs.Worlds.{Setup}
+use Rattle.trace.specs.declared.step_line.StepLine.{StepLine}
+use Rattle.trace.specs.declared.step_line.StepLine.TheVariants.{PostNext, Do}
+use Rattle.trace.specs.StepLine.{Spells}
+use Rattle.trace.specs.Run.{RunState, DoesLine, DoesSaid, Says}
+use Rattle.trace.specs.Steps.{AreLines, DoesLast, DoesLines, DoesNext, DoesSoFar, WritesSteps, last_line, with_newline}
+
+-- ---- bytes that are known
+
+pub known_weaker : (a b : Option (List ℕ)) (P Q : List ℕ → List ℕ → Type 0) → ((x y : List ℕ) → P x y → Q x y) → Known a b P → Known a b Q
+known_weaker None b P Q f h = h
+known_weaker (Some x) None P Q f h = h
+known_weaker (Some x) (Some y) P Q f h = f x y h
+
+pub known_first : (a b : Option (List ℕ)) (P : List ℕ → List ℕ → Type 0) (Q : List ℕ → Type 0) → ((x y : List ℕ) → P x y → Q x) → Known a b P → IfSome a Q
+known_first None b P Q f h = tt
+known_first (Some x) None P Q f h = absurd h
+known_first (Some x) (Some y) P Q f h = f x y h
+
+pub known_self : (a : Option (List ℕ)) (P : List ℕ → List ℕ → Type 0) → ((x : List ℕ) → P x x) → Known a a P
+known_self None P f = tt
+known_self (Some x) P f = f x
+
+pub known_join : (a b c : Option (List ℕ)) (P Q R : List ℕ → List ℕ → Type 0) → ((x y z : List ℕ) → P x y → Q y z → R x z) → Known a b P → Known b c Q → Known a c R
+known_join None b c P Q R f h k = tt
+known_join (Some x) None c P Q R f h k = absurd h
+known_join (Some x) (Some y) None P Q R f h k = k
+known_join (Some x) (Some y) (Some z) P Q R f h k = f x y z h k
+
+pub known_last : (a b : Option (List ℕ)) (P : List ℕ → List ℕ → Type 0) (Q R : List ℕ → Type 0) → ((x y : List ℕ) → P x y → Q y → R x) → Known a b P → IfSome b Q → IfSome a R
+known_last None b P Q R f h k = tt
+known_last (Some x) None P Q R f h k = absurd h
+known_last (Some x) (Some y) P Q R f h k = f x y h k
+
+-- ---- one line
+
+-- what a line says is said in other words
+pub does_said : (s : Setup) (n : ℕ) (P Q : StepLine → Type 0) (old new : RunState) (text : List ℕ) → ((said : StepLine) → P said → Q said) → ((said : StepLine) → Q said → P said)
+    → DoesSaid s n P old new text → DoesSaid s n Q old new text
+does_said s n P Q old new text f g (inl h) = inl ((λ said q. h.0 said (g said q)), h.1, h.2)
+does_said s n P Q old new text f g (inr h) = inr (h.0, f h.0 h.1, h.2)
+
+module _ (c : Config) (d : ℕ) (s : Setup) (n : ℕ) (old new : RunState) (text : List ℕ) where
+  pub does_short : (line : List ℕ) → length line ≤ line_limit → DoesSaid s n (λ said. Spells c d said line) old new text → DoesLine c d s n line old new text
+  does_short line short h = does_said s n (λ said. Spells c d said line) (Says c d line) old new text (λ said p. (p, short)) (λ said q. q.0) h
+
+-- a line that is too long says nothing
+pub does_long : (c : Config) (d : ℕ) (s : Setup) (n : ℕ) (old : RunState) (line : List ℕ) → line_limit < length line → DoesLine c d s n line old old (refused_step_line n BadStep)
+does_long c d s n old line long = inl ((λ said says. absurd (omega (arith, long, says.1))), refl, refl)
+
+-- the empty line says nothing
+says_nothing : (c : Config) (d : ℕ) (said : StepLine) → Spells c d said [] → ⊥
+says_nothing c d PostNext spelled = let e : 0 ≡ 4 = ap length spelled in absurd (omega (arith, e))
+says_nothing c d (Do (Post event)) spelled = spelled
+says_nothing c d (Do (Decide k)) spelled = let e : 0 ≡ length (codes "decide " ++ spelled.0) = ap length spelled.1 in absurd (omega (arith, e, length-append (codes "decide ") spelled.0))
+says_nothing c d (Do (Put k lane)) spelled = let e : 0 ≡ length (codes "put " ++ (spelled.0 ++ 32 ∷ spelled.1)) = ap length spelled.2 in absurd (omega (arith, e, length-append (codes "put ") (spelled.0 ++ 32 ∷ spelled.1)))
+says_nothing c d (Do (Lane lane Pick)) spelled = let e : 0 ≡ length (codes "pick " ++ spelled.0) = ap length spelled.1 in absurd (omega (arith, e, length-append (codes "pick ") spelled.0))
+says_nothing c d (Do (Lane lane Settle)) spelled = let e : 0 ≡ length (codes "settle " ++ spelled.0) = ap length spelled.1 in absurd (omega (arith, e, length-append (codes "settle ") spelled.0))
+says_nothing c d (Do (Lane lane Fail)) spelled = let e : 0 ≡ length (codes "fail " ++ spelled.0) = ap length spelled.1 in absurd (omega (arith, e, length-append (codes "fail ") spelled.0))
+says_nothing c d (Do (Lane lane Ask)) spelled = let e : 0 ≡ length (codes "ask " ++ spelled.0) = ap length spelled.1 in absurd (omega (arith, e, length-append (codes "ask ") spelled.0))
+says_nothing c d (Do (Lane lane Close)) spelled = let e : 0 ≡ length (codes "close " ++ spelled.0) = ap length spelled.1 in absurd (omega (arith, e, length-append (codes "close ") spelled.0))
+says_nothing c d (Do (Lane lane Drain)) spelled = let e : 0 ≡ length (codes "drain " ++ spelled.0) = ap length spelled.1 in absurd (omega (arith, e, length-append (codes "drain ") spelled.0))
+
+-- the text that is kept of a line that the end of the input cut
+pub does_cut : (c : Config) (d : ℕ) (s : Setup) (n : ℕ) (old new : RunState) (text bytes line : List ℕ) → line ≡ cut_text (length bytes) bytes
+    → DoesSaid s n (λ said. Spells c d said line) old new text → DoesLine c d s n bytes old new text
+does_cut c d s n old new text bytes line is h = elim (cases_lt line_limit (length bytes)) [
+  | inl long ↦ does_said s n (λ said. Spells c d said line) (Says c d bytes) old new text
+      (λ said p. absurd (says_nothing c d said (subst (λ (l : List ℕ). Spells c d said l) (is ∙ by_test (nat_lt line_limit (length bytes)) (grind (arith, long))) p)))
+      (λ said q. absurd (omega (arith, long, q.1))) h
+  | inr short ↦ does_short c d s n old new text bytes short
+      (subst (λ (l : List ℕ). DoesSaid s n (λ said. Spells c d said l) old new text) (is ∙ by_none (nat_lt line_limit (length bytes)) (grind (arith, short))) h)
+]
+  where
+    by_test : (b : Bool) → b ≡ true → cond b [] bytes ≡ []
+    by_test true e = refl
+    by_test false e = absurd (cc)
+
+    by_none : (b : Bool) → b ≡ false → cond b [] bytes ≡ bytes
+    by_none false e = refl
+    by_none true e = absurd (cc)
+
+-- ---- lines in order
+
+module _ (c : Config) (d : ℕ) (s : Setup) where
+  pub does_more : (n : ℕ) (lines : List (List ℕ)) (line : List ℕ) (old mid new : RunState) (first next : List ℕ) → DoesLines c d s n lines old mid first
+      → DoesLine c d s (n + length lines) line mid new next → DoesLines c d s n (lines ++ line ∷ []) old new (first ++ next)
+  does_more n [] line old mid new first next h k =
+      (new, next, [], subst (λ (w : RunState). DoesLine c d s n line w new next) h.0 (subst (λ (m : ℕ). DoesLine c d s m line mid new next) (omega arith) k), (refl, refl), ap (λ (t : List ℕ). t ++ next) h.1 ∙ sym (append-nil next))
+  does_more n (x ∷ lines) line old mid new first next h k =
+      let others = does_more (n + 1) lines line h.0 mid new h.2 next h.4 (subst (λ (m : ℕ). DoesLine c d s m line mid new next) (omega arith) k) in
+      (h.0, h.1, h.2 ++ next, h.3, others, ap (λ (t : List ℕ). t ++ next) h.5 ∙ append_assoc h.1 h.2 next)
+
+  -- a last line that may be none
+  pub does_end : (n : ℕ) (lines ends : List (List ℕ)) (old mid new : RunState) (first next : List ℕ) → DoesLines c d s n lines old mid first
+      → DoesLines c d s (n + length lines) ends mid new next → DoesLines c d s n (lines ++ ends) old new (first ++ next)
+  does_end n [] ends old mid new first next h k =
+      subst (λ (t : List ℕ). DoesLines c d s n ends old new t) (ap (λ (t : List ℕ). t ++ next) (sym h.1)) (subst (λ (w : RunState). DoesLines c d s n ends w new next) h.0
+      (subst (λ (m : ℕ). DoesLines c d s m ends mid new next) (omega arith) k))
+  does_end n (x ∷ lines) ends old mid new first next h k = (
+    h.0,
+    h.1,
+    h.2 ++ next,
+    h.3,
+    does_end (n + 1) lines ends h.0 mid new h.2 next h.4 (subst (λ (m : ℕ). DoesLines c d s m ends mid new next) (omega arith) k),
+    ap (λ (t : List ℕ). t ++ next) h.5 ∙ append_assoc h.1 h.2 next,
+  )
+
+-- one line more of the bytes
+pub lines_read : (bytes mid rest line : List ℕ) (lines : List (List ℕ)) → AreLines bytes lines mid → BeginsWithLine mid line rest → AreLines bytes (lines ++ line ∷ []) rest
+lines_read bytes mid rest line lines are begins = record {
+  whole = are.whole ∙ ap (λ (r : List ℕ). flat_map with_newline lines ++ r) begins.whole
+      ∙ ap (λ (r : List ℕ). flat_map with_newline lines ++ r) (sym (append_assoc line (10 ∷ []) rest))
+      ∙ sym (append_assoc (flat_map with_newline lines) (line ++ 10 ∷ []) rest)
+      ∙ ap (λ (f : List ℕ). f ++ rest) (sym (flat_map-append with_newline lines (line ∷ []) ∙ ap (λ (t : List ℕ). flat_map with_newline lines ++ t) (append-nil (line ++ 10 ∷ []))));
+  unbroken = All-push IsUnbroken lines line are.unbroken begins.unbroken;
+}
+
+-- ---- the loop
+
+pub so_far_none : (c : Config) (d : ℕ) (s : Setup) (bytes : List ℕ) (old : RunState) (known : Option (List ℕ)) (held : List ℕ)
+    → DoesSoFar c d s 0 bytes bytes old old known known held held
+so_far_none c d s bytes old known held = ([], [], record { whole = refl; unbroken = All-nil IsUnbroken }, refl, (refl, refl), leaves_nothing known held)
+
+pub so_far_more : (c : Config) (d : ℕ) (s : Setup) (n : ℕ) (bytes mid rest : List ℕ) (old run new : RunState) (before between after : Option (List ℕ)) (held held' held'' : List ℕ)
+    → DoesSoFar c d s n bytes mid old run before between held held' → DoesNext c d s (n + 1) mid rest run new between after held' held''
+    → DoesSoFar c d s (n + 1) bytes rest old new before after held held''
+so_far_more c d s n bytes mid rest old run new before between after held held' held'' h k = (
+  h.0 ++ k.0 ∷ [],
+  h.1 ++ k.1,
+  lines_read bytes mid rest k.0 h.0 h.2 k.2,
+  omega (arith, length-append h.0 (k.0 ∷ []), h.3),
+  does_more c d s 1 h.0 k.0 old run new h.1 k.1 h.4 (subst (λ (m : ℕ). DoesLine c d s m k.0 run new k.1) (omega (arith, h.3)) k.3),
+  subst (λ (all : List ℕ). Leaves before after all held'') (append_assoc held h.1 k.1) (leaves_on before between after (held ++ h.1) held' k.1 held'' h.5 k.4),
+)
+
+pub so_far_last : (c : Config) (d : ℕ) (s : Setup) (n : ℕ) (bytes rest : List ℕ) (all : Bool) (old run new : RunState) (before between after : Option (List ℕ)) (held held' held'' : List ℕ)
+    → DoesSoFar c d s n bytes rest old run before between held held' → DoesLast c d s (n + 1) rest all run new between after held' held''
+    → WritesSteps c d s bytes all old new before after held held''
+so_far_last c d s n bytes rest true old run new before between after held held' held'' h k = (
+  h.1 ++ k.0,
+  (
+    h.0,
+    rest,
+    h.2,
+    k.1,
+    does_end c d s 1 h.0 (last_line rest) old run new h.1 k.0 h.4
+        (subst (λ (m : ℕ). DoesLines c d s m (last_line rest) run new k.0) (omega (arith, h.3)) k.2),
+  ),
+  subst (λ (text : List ℕ). Leaves before after text held'') (append_assoc held h.1 k.0) (leaves_on before between after (held ++ h.1) held' k.0 held'' h.5 k.3),
+)
+so_far_last c d s n bytes rest false old run new before between after held held' held'' h k = (
+  h.1,
+  (h.0, rest, h.2, subst (λ (w : RunState). DoesLines c d s 1 h.0 old w h.1) (sym k.0) h.4),
+  subst (λ (text : List ℕ). Leaves before after text held'') (append-nil (held ++ h.1)) (leaves_on before between after (held ++ h.1) held' [] held'' h.5
+      (subst (λ (text : List ℕ). Leaves between after text held'') (sym (append-nil held')) k.1)),
+)
+
+pub so_far_short : (c : Config) (d : ℕ) (s : Setup) (n : ℕ) (bytes rest : List ℕ) (old new : RunState) (before after : Option (List ℕ)) (held held' : List ℕ)
+    → DoesSoFar c d s n bytes rest old new before after held held' → WritesSteps c d s bytes false old new before after held held'
+so_far_short c d s n bytes rest old new before after held held' h = (h.1, (h.0, rest, h.2, h.4), h.5)
+
+-- ---- the end of the lines
+
+pub ends_here : (c : Config) (d : ℕ) (s : Setup) (n : ℕ) (bytes : List ℕ) (old : RunState) (known : Option (List ℕ)) (held : List ℕ) → bytes ≡ []
+    → DoesLast c d s n bytes true old old known known held held
+ends_here c d s n bytes old known held none =
+    subst (λ (b : List ℕ). DoesLast c d s n b true old old known known held held) (sym none) ([], All-nil (λ byte. eqb byte 10 ≡ false), (refl, refl), leaves_nothing known held)
+
+pub ends_cut : (c : Config) (d : ℕ) (s : Setup) (n : ℕ) (bytes : List ℕ) (old new : RunState) (before after : Option (List ℕ)) (held held' text : List ℕ) → IsUnbroken bytes → 0 < length bytes
+    → DoesLine c d s n bytes old new text → Leaves before after (held ++ text) held' → DoesLast c d s n bytes true old new before after held held'
+ends_cut c d s n bytes old new before after held held' text unbroken some does leaves =
+    (text, unbroken, subst (λ (lines : List (List ℕ)). DoesLines c d s n lines old new text) (sym (by_test bytes some)) (new, text, [], does, (refl, refl), sym (append-nil text)), leaves)
+  where
+    by_test : (bs : List ℕ) → 0 < length bs → last_line bs ≡ bs ∷ []
+    by_test bs h = ap (λ (b : Bool). cond b [] (bs ∷ [])) (ne_eqb (length bs) 0 (λ e. absurd (omega (arith, h, e))))
+
+-- ---- the same in the words of another run of the same world
+
+module _ (c c' : Config) (d d' : ℕ) (s s' : Setup) (same : c' ≡ c) (as_many : d' ≡ d) (one : s' ≡ s) (n : ℕ) (old new : RunState) (before after : Option (List ℕ)) (held held' : List ℕ) where
+  pub next_under : (bytes rest : List ℕ) → DoesNext c' d' s' n bytes rest old new before after held held' → DoesNext c d s n bytes rest old new before after held held'
+  next_under bytes rest h =
+      subst (λ (x : Config). DoesNext x d s n bytes rest old new before after held held') same
+      (subst (λ (x : ℕ). DoesNext c' x s n bytes rest old new before after held held') as_many
+      (subst (λ (x : Setup). DoesNext c' d' x n bytes rest old new before after held held') one h))
+
+  pub last_under : (bytes : List ℕ) (all : Bool) → DoesLast c' d' s' n bytes all old new before after held held' → DoesLast c d s n bytes all old new before after held held'
+  last_under bytes all h =
+      subst (λ (x : Config). DoesLast x d s n bytes all old new before after held held') same
+      (subst (λ (x : ℕ). DoesLast c' x s n bytes all old new before after held held') as_many
+      (subst (λ (x : Setup). DoesLast c' d' x n bytes all old new before after held held') one h))
+
+-- ---- answers of a call
+
+pub if_none_is : {A X : Type 0} (o : Option A) → o ≡ None → IfNone o X → X
+if_none_is None e h = h
+if_none_is (Some a) e h = absurd (cc)
+
+pub if_some_is : {A : Type 0} (X : A → Type 0) (o : Option A) (a : A) → o ≡ Some a → IfSome o X → X a
+if_some_is X None a e h = absurd (cc)
+if_some_is X (Some b) a e h = subst X (same_Some b a e) h

@@ -1,0 +1,31 @@
+use Rattle.std.proofs.Common.{◌≡◌, ◌++◌, Bool, true, sym, ap, subst, ◌∙◌}
+use Rattle.command_output.specs.Output.{Leaves}
+use Rattle.command_output.specs.declared.outcome.Ending.{Ending}
+use Rattle.text_lines.specs.LineReader.{to_come}
+use Rattle.world_steps.specs.Views.{world_setup, world_state}
+use Rattle.world_steps.specs.Worlds.{Setup}
+use Rattle.trace.specs.declared.feed.AfterFeed.TheVariants.{Steps}
+use Rattle.trace.specs.LaneLines.{world_text}
+use Rattle.trace.specs.Run.{run_state}
+use Rattle.trace.specs.Steps.{WritesSteps}
+use Rattle.trace.specs.Trace.{WritesEnd, ending_of}
+use Rattle.trace.proofs.EndLaws.{some_weaker, end_whole}
+use Rattle.trace.proofs.ending.write_steps.Goals as goal
+
+pub returns-clause-ok : goal.returns-clause-ok
+returns-clause-ok g c =
+    let run = c.args.run.now in
+    let new = c.do_steps.new in
+    let last = c.write_lanes.new in
+    let s = world_setup run.world in
+    let w0 = g.W.Write.contents c.args.writer.now in
+    let w1 = g.W.Write.contents new.writer in
+    let w2 = g.W.Write.contents last.writer in
+    let all : c.in_ok-do_steps.field-0 ≡ true = c.if-not-branch.false in
+    let lanes = subst (λ (x : Setup). Leaves w1 w2 (new.lines ++ world_text x (world_state new.run.world)) last.lines) c.do_steps.ensures.setup c.in_ok-write_lanes.ensures.ok in
+    some_weaker (to_come c.args.source.now) (λ rest. WritesSteps run.config.now run.deciders s rest c.in_ok-do_steps.field-0 (run_state run) (run_state new.run) w0 w1 c.args.lines.now new.lines) _
+    (λ rest h. subst (λ (e : Ending). WritesEnd run.config.now run.deciders s (run_state run) run.is_over Steps rest e w0 w2 c.args.lines.now last.lines)
+    (sym (c.ending_of.ensures ∙ ap ending_of c.do_steps.ensures.over))
+    (end_whole run.config.now run.deciders s (run_state run) (run_state new.run) run.is_over rest w0 w1 w2 c.args.lines.now new.lines last.lines
+    (subst (λ (b : Bool). WritesSteps run.config.now run.deciders s rest b (run_state run) (run_state new.run) w0 w1 c.args.lines.now new.lines) all h) lanes))
+    c.in_ok-do_steps.ensures.steps

@@ -1,0 +1,10 @@
+use Rattle.world_steps.specs.Views.{world_setup, world_state}
+use Rattle.trace.specs.LaneLines.{held_text}
+use Rattle.trace.proofs.LaneLaws.{lines_more}
+use Rattle.trace.proofs.lanes.write_lane.Goals as goal
+
+pub loop-object-preserved : goal.loop-object-preserved
+loop-object-preserved g c =
+    lines_more (held_text (world_setup c.args.run.now.world) (world_state c.args.run.now.world) c.args.lane.0) c.loop-object.object (g.W.Write.contents c.args.writer.now)
+    (g.W.Write.contents c.loop-object.writer) (g.W.Write.contents c.write_object.new.writer) c.args.lines.now c.loop-object.lines c.write_object.new.lines
+    c.loop-object.invariant c.in_ok-write_object.ensures.ok

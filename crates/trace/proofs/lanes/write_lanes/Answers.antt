@@ -1,0 +1,10 @@
+use Rattle.world_steps.specs.Views.{world_setup, world_state}
+use Rattle.trace.specs.LaneLines.{lane_lines}
+use Rattle.trace.proofs.LaneLaws.{lines_more}
+use Rattle.trace.proofs.lanes.write_lanes.Goals as goal
+
+pub loop-lane-preserved : goal.loop-lane-preserved
+loop-lane-preserved g c =
+    lines_more (lane_lines (world_setup c.args.run.now.world) (world_state c.args.run.now.world)) c.loop-lane.lane (g.W.Write.contents c.args.writer.now)
+    (g.W.Write.contents c.loop-lane.writer) (g.W.Write.contents c.write_lane.new.writer) c.args.lines.now c.loop-lane.lines c.write_lane.new.lines
+    c.loop-lane.invariant c.in_ok-write_lane.ensures.ok

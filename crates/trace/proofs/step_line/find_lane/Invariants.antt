@@ -1,0 +1,7 @@
+use Rattle.std.proofs.Common.{◌≢◌, ℕ, ◌<◌}
+use Rattle.command_output.specs.Fields.{lane_text}
+use Rattle.trace.proofs.step_line.find_lane.Given as goal
+
+-- No lane so far has the name.
+abbrev pub invariant-loop-number : goal.invariant-loop-number
+invariant-loop-number l = (k : ℕ) → k < l.number → lane_text l.config k ≢ l.name

@@ -1,0 +1,44 @@
+use Rattle.std.proofs.Common.{List, ℕ, sym, subst, ap, ◌∙◌}
+use Rattle.text_lines.specs.LineReader.{ReadsLine, ReadsFrom, to_come}
+use Rattle.text_lines.specs.declared.line_reader.NextLine.{NextLine}
+use Rattle.text_lines.specs.declared.line_reader.NextLine.TheVariants.{Line, Over}
+use Rattle.text_lines.specs.declared.line_reader.Stop.TheVariants.{InputEnded, CutLine}
+use Rattle.world_steps.specs.Views.{world_setup}
+use Rattle.trace.specs.Run.{run_state}
+use Rattle.trace.proofs.StepsLaws.{known_weaker, known_first, does_short, does_cut, ends_here, ends_cut}
+use Rattle.trace.proofs.steps.do_next_line.Goals as goal
+
+pub returns-in_ok-do_line-in-Line-clause-next : goal.returns-in_ok-do_line-in-Line-clause-next
+returns-in_ok-do_line-in-Line-clause-next g c =
+    let run = c.args.run.now in
+    let line = c.line.result.now in
+    let done = c.in_ok-do_line-in-Line.ensures.ok in
+    let read = subst (λ (how : NextLine). ReadsLine c.args.source.now how c.next_line.new.self) c.in-Line.is c.next_line.ensures.line in
+    known_weaker (to_come c.args.source.now) (to_come c.next_line.new.self) (λ bytes rest. ReadsFrom bytes Line c.next_line.new.self.line rest) _
+    (λ bytes rest r.
+    let here = subst (λ (l : List ℕ). ReadsFrom bytes Line l rest) (sym c.line.ensures) r in (
+      line,
+      done.0,
+      here.0,
+      does_short run.config.now run.deciders (world_setup run.world) c.args.number (run_state run) (run_state c.do_line.new.run) done.0 line here.1 done.1,
+      done.2,
+    )) read
+
+pub returns-in-Over-InputEnded-clause-last : goal.returns-in-Over-InputEnded-clause-last
+returns-in-Over-InputEnded-clause-last g c =
+    let run = c.args.run.now in
+    let read = subst (λ (how : NextLine). ReadsLine c.args.source.now how c.next_line.new.self) (c.in-Over-InputEnded.is ∙ ap Over c.in-Over-InputEnded.field-0-is) c.next_line.ensures.line in
+    known_first (to_come c.args.source.now) (to_come c.next_line.new.self) (λ bytes rest. ReadsFrom bytes (Over InputEnded) c.next_line.new.self.line rest) _
+    (λ bytes rest r. ends_here run.config.now run.deciders (world_setup run.world) c.args.number bytes (run_state run) (g.W.Write.contents c.args.writer.now) c.args.lines.now r.0) read
+
+pub returns-in_ok-do_line-in-Over-CutLine-clause-last : goal.returns-in_ok-do_line-in-Over-CutLine-clause-last
+returns-in_ok-do_line-in-Over-CutLine-clause-last g c =
+    let run = c.args.run.now in
+    let line = c.line-in-Over-CutLine.result.now in
+    let new = c.do_line-in-Over-CutLine.new in
+    let done = c.in_ok-do_line-in-Over-CutLine.ensures.ok in
+    let read = subst (λ (how : NextLine). ReadsLine c.args.source.now how c.next_line.new.self) (c.in-Over-CutLine.is ∙ ap Over c.in-Over-CutLine.field-0-is) c.next_line.ensures.line in
+    known_first (to_come c.args.source.now) (to_come c.next_line.new.self) (λ bytes rest. ReadsFrom bytes (Over CutLine) c.next_line.new.self.line rest) _
+    (λ bytes rest r. ends_cut run.config.now run.deciders (world_setup run.world) c.args.number bytes (run_state run) (run_state new.run)
+    (g.W.Write.contents c.args.writer.now) (g.W.Write.contents new.writer) c.args.lines.now new.lines done.0 r.0 r.1
+    (does_cut run.config.now run.deciders (world_setup run.world) c.args.number (run_state run) (run_state new.run) done.0 bytes line (c.line-in-Over-CutLine.ensures ∙ r.3) done.1) done.2) read

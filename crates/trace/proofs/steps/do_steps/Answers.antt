@@ -1,0 +1,44 @@
+use Rattle.std.proofs.Common.{◌+◌, ap, ◌∙◌}
+use Rattle.text_lines.specs.LineReader.{to_come}
+use Rattle.world_steps.specs.Views.{world_setup}
+use Rattle.trace.specs.Run.{run_state}
+use Rattle.trace.proofs.StepsLaws.{known_join, known_last, so_far_more, so_far_last, next_under, last_under, if_none_is, if_some_is}
+use Rattle.trace.proofs.steps.do_steps.Goals as goal
+
+pub loop-before-preserved : goal.loop-before-preserved
+loop-before-preserved g c =
+    let run = c.args.run.now in
+    let mid = c.loop-before.run in
+    let new = c.do_next_line.new in
+    let inv = c.loop-before.invariant in
+    let done = c.in_ok-all.ensures in
+    let n = c.loop-before.before in
+    record {
+      fits = done.fits;
+      setup = done.setup ∙ inv.setup;
+      config = done.config ∙ inv.config;
+      deciders = done.deciders ∙ inv.deciders;
+      over = done.over ∙ inv.over;
+      so_far = known_join (to_come c.args.source.now) (to_come c.loop-before.source) (to_come new.source) _ _ _
+          (λ x y z h k. so_far_more run.config.now run.deciders (world_setup run.world) n x y z (run_state run) (run_state mid) (run_state new.run)
+          (g.W.Write.contents c.args.writer.now) (g.W.Write.contents c.loop-before.writer) (g.W.Write.contents new.writer) c.args.lines.now c.loop-before.lines new.lines h
+          (next_under run.config.now mid.config.now run.deciders mid.deciders (world_setup run.world) (world_setup mid.world)
+          (ap (λ r. r.now) inv.config) inv.deciders inv.setup (n + 1) (run_state mid) (run_state new.run)
+          (g.W.Write.contents c.loop-before.writer) (g.W.Write.contents new.writer) c.loop-before.lines new.lines y z k))
+          inv.so_far (if_none_is c.in_ok-all.field-0 c.in_default.is done.next);
+    }
+
+pub returns-in-Some-clause-steps : goal.returns-in-Some-clause-steps
+returns-in-Some-clause-steps g c =
+    let run = c.args.run.now in
+    let mid = c.loop-before.run in
+    let new = c.do_next_line.new in
+    let inv = c.loop-before.invariant in
+    let n = c.loop-before.before in
+    known_last (to_come c.args.source.now) (to_come c.loop-before.source) _ _ _
+    (λ x y h k. so_far_last run.config.now run.deciders (world_setup run.world) n x y c.in-Some.all (run_state run) (run_state mid) (run_state new.run)
+    (g.W.Write.contents c.args.writer.now) (g.W.Write.contents c.loop-before.writer) (g.W.Write.contents new.writer) c.args.lines.now c.loop-before.lines new.lines h
+    (last_under run.config.now mid.config.now run.deciders mid.deciders (world_setup run.world) (world_setup mid.world)
+    (ap (λ r. r.now) inv.config) inv.deciders inv.setup (n + 1) (run_state mid) (run_state new.run)
+    (g.W.Write.contents c.loop-before.writer) (g.W.Write.contents new.writer) c.loop-before.lines new.lines y c.in-Some.all k))
+    inv.so_far (if_some_is _ c.in_ok-all.field-0 c.in-Some.all c.in-Some.is c.in_ok-all.ensures.last)

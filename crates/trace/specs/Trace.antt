@@ -1,0 +1,101 @@
+-- What a trace does: it writes what its steps lead to, or fails.
+use Rattle.std.specs.Prelude.{◌≡◌, ℕ, Bool, true, false, List, [], ◌++◌, length, replicate, ◌⊎◌, Option}
+use Rattle.std.specs.Io.KnownBytes.{Keeps}
+use Rattle.due_model.specs.declared.config.Config.{Config}
+use Rattle.due_model.specs.declared.zone.Zone.TheVariants.{Utc}
+use Rattle.event_feed.specs.Feed.{Answer, answers}
+use Rattle.object_resolve.specs.Text.{IsTextFault, IsTextOf}
+use Rattle.text_lines.specs.Lines.{pieces}
+use Rattle.world_steps.specs.declared.settings.Settings.{Settings}
+use Rattle.world_steps.specs.Runs.{new_world}
+use Rattle.world_steps.specs.Worlds.{Setup, setup_for}
+use Rattle.command_output.specs.declared.outcome.CommandFault.{CommandFault}
+use Rattle.command_output.specs.declared.outcome.CommandFault.TheVariants.{Objects, Unreadable, Output, NoMemory}
+use Rattle.command_output.specs.declared.outcome.Ending.{Ending}
+use Rattle.command_output.specs.declared.outcome.Ending.TheVariants.{Short, Whole}
+use Rattle.command_output.specs.Output.{Leaves, Writes}
+use Rattle.trace.specs.declared.feed.AfterFeed.{AfterFeed}
+use Rattle.trace.specs.declared.feed.AfterFeed.TheVariants as feed
+use Rattle.trace.specs.Feed.{FeedEnds, FeedState, after_answers}
+use Rattle.trace.specs.LaneLines.{world_text}
+use Rattle.command_input.specs.Objects.{feed_in, objects_in}
+use Rattle.trace.specs.Run.{RunState}
+use Rattle.trace.specs.Steps.{DoesSteps}
+
+-- how a trace ends whose steps were read to their end
+abbrev pub ending_of : (over : Bool) → Ending
+ending_of true = Short
+ending_of false = Whole
+
+-- once the steps were read: the lines of the lanes, where all of them were read
+abbrev pub lines_after : (all : Bool) → Setup → RunState → List ℕ
+lines_after true s run = world_text s run.world
+lines_after false s run = []
+
+abbrev pub ending_after : (all over : Bool) → Ending
+ending_after true over = ending_of over
+ending_after false over = Short
+
+-- what is written after the feed, and how the trace ends
+abbrev pub EndsTrace : Config → (deciders : ℕ) → Setup → (start : RunState) → (over : Bool)
+    → AfterFeed → (rest : List ℕ)
+    → Ending → (text : List ℕ) → Type 0
+EndsTrace c deciders s start over feed.Steps rest ending text =
+    (all : Bool) × (new : RunState) × (steps : List ℕ)
+    × DoesSteps c deciders s rest all start new steps
+    × (text ≡ steps ++ lines_after all s new) × (ending ≡ ending_after all over)
+EndsTrace c deciders s start over feed.Nothing rest ending text =
+    (text ≡ world_text s start.world) × (ending ≡ ending_of over)
+EndsTrace c deciders s start over feed.Cut rest ending text =
+    (text ≡ world_text s start.world) × (ending ≡ Short)
+EndsTrace c deciders s start over feed.Unread rest ending text = (text ≡ []) × (ending ≡ Short)
+
+-- the same, on its way to the writer
+abbrev pub WritesEnd : Config → (deciders : ℕ) → Setup → (start : RunState) → (over : Bool)
+    → AfterFeed → (rest : List ℕ)
+    → Ending → (before after : Option (List ℕ)) → (held held' : List ℕ) → Type 0
+WritesEnd c deciders s start over end rest ending before after held held' =
+    (text : List ℕ) × EndsTrace c deciders s start over end rest ending text
+    × Leaves before after (held ++ text) held'
+
+-- the world in which a trace begins: all its lanes serve
+abbrev pub trace_setup : Config → Settings → Setup
+trace_setup c settings = setup_for c Utc settings
+
+abbrev pub start_with : Config → Settings → FeedState → RunState
+start_with c settings f = record {
+  events = f.events;
+  posted = 0;
+  world = new_world (trace_setup c settings) (replicate (length c.lanes) true);
+}
+
+-- nothing of a feed yet
+abbrev pub no_feed : FeedState
+no_feed = record { events = []; over = false; text = [] }
+
+-- What is written of a feed and the steps after it: the refused lines of the feed in order, then those of the step lines in
+-- order, and then the lines of what the lanes hold in the world that the steps lead to.
+abbrev pub TracesFeed : Config → Settings → (bytes : List ℕ) → Ending → (old new : Option (List ℕ))
+    → Type 0
+TracesFeed c settings bytes ending old new =
+    (end : AfterFeed) × (given : List Answer) × (rest : List ℕ) × (text : List ℕ)
+    × FeedEnds (answers c.objects 0 0 (pieces bytes)) 0 bytes end given rest
+    × EndsTrace c settings.deciders (trace_setup c settings)
+    (start_with c settings (after_answers no_feed given))
+    (after_answers no_feed given).over end rest ending text
+    × Writes old new ((after_answers no_feed given).text ++ text)
+
+-- the same of the bytes of an input, whose object text was accepted
+abbrev pub Traces : Settings → (bytes : List ℕ) → Ending → (old new : Option (List ℕ)) → Type 0
+Traces settings bytes ending old new =
+    (config : Config) × IsTextOf config (objects_in bytes)
+    × TracesFeed config settings (feed_in bytes) ending old new
+
+-- What a fault says. Where the object text is refused or can't be read nothing was written; where the output failed it was
+-- accepted; and where memory ran out it was accepted, or nothing was written.
+abbrev pub FailsWith : (bytes : List ℕ) → CommandFault → (old new : Option (List ℕ)) → Type 0
+FailsWith bytes (Objects fault) old new = IsTextFault (objects_in bytes) fault × Keeps old new
+FailsWith bytes Unreadable old new = Keeps old new
+FailsWith bytes Output old new = (config : Config) × IsTextOf config (objects_in bytes)
+FailsWith bytes NoMemory old new =
+    Keeps old new ⊎ ((config : Config) × IsTextOf config (objects_in bytes))

@@ -1,0 +1,88 @@
+//! What the lanes of a world hold, line by line.
+
+ghost use Rattle.std.specs.Prelude.{◌++◌, ◌<◌, length, IfErr, OnOk};
+ghost use Rattle.command_output.specs.Outcome.{IsWriteFault};
+ghost use Rattle.command_output.specs.Output.{Leaves};
+ghost use Rattle.world_steps.specs.Views.{world_setup, world_state};
+ghost use Rattle.trace.specs.LaneLines.{held_text, lane_lines, world_text};
+ghost use Rattle.trace.specs.Run.{Fits};
+
+use crate::run::Run;
+use command_output::{CommandFault, LaneLine, Lines, OutputLine};
+use due_model::config::{LaneId, ObjectId};
+use std::alloc::Global;
+use std::io::Write;
+
+/// Writes what each lane holds of each object, lane by lane.
+pub(crate) fn write_lanes<W: Write>(
+    alloc: Global,
+    lines: &mut Lines,
+    writer: &mut W,
+    run: &Run<'_>,
+) -> Result<(), CommandFault>
+    requires fits { Fits run.now }
+    ensures ok { OnOk result (Leaves (W.contents writer.old) (W.contents writer.new)
+        (lines.old ++ world_text (world_setup run.now.world) (world_state run.now.world))
+        lines.new) }
+    ensures fault { IfErr result (λ fault. IsWriteFault fault) }
+{
+    for lane in 0..run.config.lanes.len() {
+        write_lane(alloc, lines, writer, run, LaneId(lane as u8))?;
+    }
+    Ok(())
+}
+
+/// Writes what a lane holds of each object, in order.
+fn write_lane<W: Write>(
+    alloc: Global,
+    lines: &mut Lines,
+    writer: &mut W,
+    run: &Run<'_>,
+    lane: LaneId,
+) -> Result<(), CommandFault>
+    requires fits { Fits run.now }
+    requires lane { lane.0 < length run.now.config.now.lanes }
+    ensures ok { OnOk result (Leaves (W.contents writer.old) (W.contents writer.new)
+        (lines.old ++ lane_lines (world_setup run.now.world) (world_state run.now.world) lane.0)
+        lines.new) }
+    ensures fault { IfErr result (λ fault. IsWriteFault fault) }
+{
+    for object in 0..run.config.objects.len() {
+        write_object(alloc, lines, writer, run, lane, ObjectId(object as u16))?;
+    }
+    Ok(())
+}
+
+/// Writes what a lane holds of an object.
+fn write_object<W: Write>(
+    alloc: Global,
+    lines: &mut Lines,
+    writer: &mut W,
+    run: &Run<'_>,
+    lane: LaneId,
+    object: ObjectId,
+) -> Result<(), CommandFault>
+    requires fits { Fits run.now }
+    requires lane { lane.0 < length run.now.config.now.lanes }
+    requires object { object.0 < length run.now.config.now.objects }
+    ensures ok { OnOk result (Leaves (W.contents writer.old) (W.contents writer.new)
+        (lines.old ++ held_text (world_setup run.now.world) (world_state run.now.world)
+        lane.0 object.0) lines.new) }
+    ensures fault { IfErr result (λ fault. IsWriteFault fault) }
+{
+    match run.world.line(alloc, lane, object) {
+        Ok(parts) => {
+            let line = OutputLine::Held(LaneLine {
+                lane,
+                object,
+                taken: &parts.taken,
+                hand: &parts.hand,
+                undelivered: &parts.undelivered,
+                queue: &parts.queue,
+                outbox: &parts.outbox,
+            });
+            lines.write(writer, run.config, &line)
+        }
+        Err(_) => Err(lines.out_of_memory(writer)),
+    }
+}

@@ -1,0 +1,86 @@
+//! The command `trace`: the steps of a list, done one by one in a world of steps.
+#![tactic(auto)]
+
+ghost use Rattle.std.specs.Prelude.{IfErr, IfOk, IfSome};
+ghost use Rattle.due_model.specs.Accepted.{IsAccepted};
+ghost use Rattle.due_model.specs.Covered.{IsCovered};
+ghost use Rattle.command_output.specs.Outcome.{IsWriteFault};
+ghost use Rattle.text_lines.specs.LineReader.{to_come};
+ghost use Rattle.trace.specs.Trace.{FailsWith, Traces, TracesFeed};
+
+mod ending;
+mod feed;
+mod lanes;
+mod refusal;
+mod run;
+mod step_line;
+mod steps;
+
+use command_input::read_objects;
+use command_output::{CommandFault, Ending, Lines};
+use due_model::config::Config;
+use due_model::zone::Zone;
+use ending::write_end;
+use event_feed::Feeder;
+use feed::read_feed;
+use run::Run;
+use std::alloc::Global;
+use std::io::{Read, Write};
+use text_lines::LineReader;
+use world_steps::{Settings, World};
+
+/// Reads object text up to a line `%events`, a feed up to a line `%steps`, and step lines, and does the steps in a
+/// world in which all lanes serve. It writes the refused lines of the feed, then those of the steps, and then what
+/// each lane holds of each object. A feed ends as a replay's does, and where it or the step lines can't be read to
+/// their end, what the lanes hold isn't written. Where the object text is refused nothing is written.
+pub fn trace<R: Read + Drop, W: Write>(
+    alloc: Global,
+    settings: Settings,
+    reader: R,
+    writer: &mut W,
+) -> Result<Ending, CommandFault>
+    // What is written is what the input makes of the steps, and nothing else.
+    ensures traces { IfSome (R.remaining reader) (λ bytes. IfOk result (λ ending.
+        Traces settings bytes ending (W.contents writer.old) (W.contents writer.new))) }
+    // A fault says what was wrong.
+    ensures fault { IfSome (R.remaining reader) (λ bytes. IfErr result (λ fault.
+        FailsWith bytes fault (W.contents writer.old) (W.contents writer.new))) }
+{
+    let mut lines = LineReader::new(alloc, reader)?;
+    let config = read_objects(alloc, &mut lines)?;
+    trace_feed(alloc, settings, &config, lines, writer)
+}
+
+/// Traces a feed and the steps after it.
+fn trace_feed<R: Read + Drop, W: Write>(
+    alloc: Global,
+    settings: Settings,
+    config: &Config,
+    source: LineReader<R>,
+    writer: &mut W,
+) -> Result<Ending, CommandFault>
+    requires accepted { IsAccepted config.now }
+    requires covered { IsCovered config.now }
+    ensures traces { IfOk result (λ ending. IfSome (to_come source) (λ bytes.
+        TracesFeed config.now settings bytes ending
+        (W.contents writer.old) (W.contents writer.new))) }
+    ensures fault { IfErr result (λ fault. IsWriteFault fault) }
+{
+    let zone = Zone::Utc;
+    let served = vec![in alloc; true; config.lanes.len()]?;
+    let mut run = Run {
+        config,
+        deciders: settings.deciders,
+        world: World::new(alloc, config, &zone, settings, &served)?,
+        events: Vec::new(alloc),
+        posted: 0,
+        is_over: false,
+    };
+    let mut lines = Lines::new(alloc)?;
+    let mut feeder = Feeder::new(source);
+    let after = read_feed(&mut lines, writer, &mut run, &mut feeder)?;
+    let mut source = feeder.into_lines();
+    let ending = write_end(alloc, &mut lines, writer, &mut run, after, &mut source)?;
+    lines.flush(writer)?;
+    Ok(ending)
+}

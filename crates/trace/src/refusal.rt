@@ -1,0 +1,29 @@
+//! The line of a step line that does nothing.
+
+ghost use Rattle.std.specs.Prelude.{◌++◌, IfErr, OnOk};
+ghost use Rattle.command_output.specs.Outcome.{IsWriteFault};
+ghost use Rattle.command_output.specs.Output.{Leaves};
+ghost use Rattle.command_output.specs.TraceLine.{refused_step_line};
+
+use command_output::{CommandFault, Lines, OutputLine, StepRefusal};
+use due_model::config::Config;
+use std::io::Write;
+
+/// Writes the line of a refused step line.
+pub(crate) fn refuse<W: Write>(
+    lines: &mut Lines,
+    writer: &mut W,
+    config: &Config,
+    number: u64,
+    refusal: StepRefusal,
+) -> Result<(), CommandFault>
+    ensures ok { OnOk result (Leaves (W.contents writer.old) (W.contents writer.new)
+        (lines.old ++ refused_step_line number refusal) lines.new) }
+    ensures fault { IfErr result (λ fault. IsWriteFault fault) }
+{
+    let line = OutputLine::RefusedStep {
+        line: number,
+        refusal,
+    };
+    lines.write(writer, config, &line)
+}

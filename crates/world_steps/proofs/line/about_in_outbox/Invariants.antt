@@ -1,0 +1,7 @@
+use Rattle.std.proofs.Common.{◌≡◌, take}
+use Rattle.decider.specs.Outbox.{waiting_at}
+use Rattle.world_steps.specs.Lines.{about}
+use Rattle.world_steps.proofs.line.about_in_outbox.Given as goal
+
+abbrev pub invariant-loop-place : goal.invariant-loop-place
+invariant-loop-place l = l.found.items ≡ about l.object.0 (take l.place (waiting_at l.outbox l.lane.0))

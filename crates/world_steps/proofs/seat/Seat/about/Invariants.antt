@@ -1,7 +1,0 @@
-use Rattle.std.proofs.Common.{◌≡◌, take}
-use Rattle.decider.specs.Outboxes.{waiting_at}
-use Rattle.world_steps.specs.Lines.{about}
-use Rattle.world_steps.proofs.seat.Seat.about.Given as goal
-
-abbrev pub invariant-loop-place : goal.invariant-loop-place
-invariant-loop-place l = l.found.items ≡ about l.object.0 (take l.place (waiting_at l.self.outbox l.lane.0))
