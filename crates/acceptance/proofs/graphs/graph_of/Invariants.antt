@@ -1,6 +1,0 @@
-use Rattle.std.specs.Prelude.{All}
-use Rattle.graph.specs.Edges.{IsWithin}
-use Rattle.acceptance.proofs.graphs.graph_of.Given as goal
-
-abbrev pub invariant-loop-pair : goal.invariant-loop-pair
-invariant-loop-pair g l = All (IsWithin l.nodes) l.edges.items

@@ -1,6 +1,0 @@
-use Rattle.std.specs.Prelude.{All}
-use Rattle.graph.specs.Edges.{IsWithin}
-use Rattle.acceptance.proofs.graphs.long_chain.Given as goal
-
-abbrev pub invariant-loop-to : goal.invariant-loop-to
-invariant-loop-to l = All (IsWithin 100_000) l.edges.items

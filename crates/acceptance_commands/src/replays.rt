@@ -1,0 +1,244 @@
+//! Replays of the worked examples, over readers and writers in memory.
+
+use acceptance_inputs::readers::in_pieces;
+use acceptance_inputs::texts::input;
+use command_output::{CommandFault, Ending};
+use object_reader::fault::LineFault;
+use object_resolve::{BlockFault, LoadFault};
+use replay::replay;
+use std::alloc::Global;
+use std::cell::Cell;
+use std::io::{self, Read, Write};
+use std::process::Abort;
+use std::test::Fail;
+
+/// Replays BASE with this feed, and compares what is written and how it ends.
+fn gives(
+    rt: &impl Abort,
+    alloc: Global,
+    feed: &str,
+    report: &str,
+    ending: Ending,
+) -> Result<(), Fail> {
+    let text = input(alloc, feed)?;
+    let mut out = Vec::new(alloc);
+    let ended = replay(alloc, text.as_bytes(), &mut out);
+    assert_eq!(rt; ended, Ok(ending), "{feed}");
+    assert_eq!(rt; out.as_slice(), report.as_bytes(), "{feed}");
+    Ok(())
+}
+
+#[test]
+fn one_host_down(rt: HostRuntime) -> Result<(), Fail> {
+    gives(
+        &rt,
+        rt.alloc(),
+        "[1000] HOST_STATE;web;DOWN\n",
+        "N;0;1000;web;PROBLEM;DOWN;1;ann;mail\n",
+        Ending::Whole,
+    )
+}
+
+#[test]
+fn worked_feeds(rt: HostRuntime) -> Result<(), Fail> {
+    let feeds = [
+        ("", "", Ending::Whole),
+        (
+            "[1000] HOST_STATE;web;DOWN\n[1059] CLOCK\n[1060] CLOCK\n",
+            "N;0;1000;web;PROBLEM;DOWN;1;ann;mail\nN;2;1060;web;PROBLEM;DOWN;2;ann;mail\n",
+            Ending::Whole,
+        ),
+        (
+            "[1000] HOST_STATE;web;DOWN\n[1030] HOST_STATE;web;DOWN\n[1059] CLOCK\n[1060] CLOCK\n",
+            "N;0;1000;web;PROBLEM;DOWN;1;ann;mail\nS;1;1030;web;PROBLEM;DOWN;Interval\nN;3;1060;web;PROBLEM;DOWN;2;ann;mail\n",
+            Ending::Whole,
+        ),
+        (
+            "[1000] DISABLE_NOTIFICATIONS\n[1000] HOST_STATE;web;DOWN\n[1005] ENABLE_NOTIFICATIONS\n[1010] HOST_STATE;web;UP\n",
+            "S;1;1000;web;PROBLEM;DOWN;Program\nS;3;1010;web;RECOVERY;UP;NoProblem\n",
+            Ending::Whole,
+        ),
+        (
+            "[1000] HOST_STATE;web;DOWN\n[990] HOST_STATE;web;UP\n[10",
+            "N;0;1000;web;PROBLEM;DOWN;1;ann;mail\nN;1;1000;web;RECOVERY;UP;2;ann;mail\nR;3;Cut\n",
+            Ending::Short,
+        ),
+        (
+            "[x] CLOCK\n[1] NOPE\n[1] HOST_STATE;db;DOWN\n[1] HOST_STATE;web;CRITICAL\n[32503680000] CLOCK\n",
+            "R;1;BadStamp\nR;2;UnknownKind\nR;3;UnknownObject\nR;4;BadState\nR;5;BadStamp\n",
+            Ending::Whole,
+        ),
+    ];
+    for (feed, report, ending) in feeds {
+        gives(&rt, rt.alloc(), feed, report, ending)?;
+    }
+    Ok(())
+}
+
+#[test]
+fn refused_objects(rt: HostRuntime) -> Result<(), Fail> {
+    let texts = [
+        (
+            "define host{\n host_name web\n",
+            CommandFault::Objects(LoadFault::Line {
+                line: 1,
+                fault: LineFault::Unclosed,
+            }),
+        ),
+        (
+            "\ndefine host{\n contacts ann\n}\n",
+            CommandFault::Objects(LoadFault::Block {
+                line: 2,
+                fault: BlockFault::MissingDirective,
+            }),
+        ),
+    ];
+    for (text, fault) in texts {
+        let mut out = Vec::new(rt.alloc());
+        let ended = replay(rt.alloc(), text.as_bytes(), &mut out);
+        assert_eq!(rt; ended, Err(fault), "{text}");
+        assert!(rt; out.is_empty());
+    }
+    Ok(())
+}
+
+/// A writer that takes five bytes at a call, and from the call of this number on fails, or takes nothing.
+#[derive(Drop)]
+struct Stubborn {
+    calls: usize,
+    fails: bool,
+    taken: Vec<u8>,
+}
+
+impl Write for Stubborn {
+    fn write(&mut self, buf: &[u8]) -> io::Result<usize> {
+        if self.calls == 0 {
+            return if self.fails {
+                Err(io::Error::from(io::ErrorKind::Other))
+            } else {
+                Ok(0)
+            };
+        }
+        self.calls -= 1;
+        let count = buf.len().min(5);
+        self.taken.extend_from_slice(&buf[..count])?;
+        Ok(count)
+    }
+
+    fn flush(&mut self) -> io::Result<()> {
+        Ok(())
+    }
+}
+
+#[test]
+fn in_pieces(rt: HostRuntime) -> Result<(), Fail> {
+    let text = input(rt.alloc(), "[1000] HOST_STATE;web;DOWN\n[1060] CLOCK\n")?;
+    for most in [1, 2, 3, 7, 4096] {
+        let mut out = Vec::new(rt.alloc());
+        let reader = in_pieces(text.as_bytes(), most);
+        let ended = replay(rt.alloc(), reader, &mut out);
+        assert_eq!(rt; ended, Ok(Ending::Whole));
+        assert_eq!(rt;
+            out.as_slice(),
+            b"N;0;1000;web;PROBLEM;DOWN;1;ann;mail\nN;1;1060;web;PROBLEM;DOWN;2;ann;mail\n".as_slice(),
+            "pieces of {most}"
+        );
+    }
+    Ok(())
+}
+
+/// Replays one host down into a writer that stops at a call, and compares how it ends and what was written.
+fn stops_at(rt: &impl Abort, alloc: Global, calls: usize, fails: bool) -> Result<(), Fail> {
+    let text = input(alloc, "[1000] HOST_STATE;web;DOWN\n")?;
+    let report = b"N;0;1000;web;PROBLEM;DOWN;1;ann;mail\n".as_slice();
+    let mut writer = Stubborn {
+        calls,
+        fails,
+        taken: Vec::new(alloc),
+    };
+    let ended = replay(alloc, text.as_bytes(), &mut writer);
+    let whole = calls >= 8;
+    let wanted = if whole {
+        Ok(Ending::Whole)
+    } else {
+        Err(CommandFault::Output)
+    };
+    assert_eq!(rt; ended, wanted, "after {calls} calls");
+    let count = calls.saturating_mul(5).min(report.len());
+    assert_eq!(rt;
+        writer.taken.as_slice(),
+        &report[..count],
+        "after {calls} calls"
+    );
+    Ok(())
+}
+
+/// The line has 37 bytes, so that a writer of five bytes a call takes it in eight.
+#[test]
+fn output_fails(rt: HostRuntime) -> Result<(), Fail> {
+    for calls in 0..9 {
+        stops_at(&rt, rt.alloc(), calls, false)?;
+        stops_at(&rt, rt.alloc(), calls, true)?;
+    }
+    Ok(())
+}
+
+/// A reader that gives its lines one a call, and notes how much was written when it was last called.
+#[derive(Drop)]
+struct Watching<'a> {
+    lines: &'a [u8],
+    written: &'a Cell<usize>,
+    noted: &'a Cell<usize>,
+}
+
+impl Read for Watching<'_> {
+    fn read(&mut self, buf: &mut [u8]) -> io::Result<usize> {
+        self.noted.set(self.written.get());
+        let line = self.lines.iter().position(|byte| *byte == b'\n');
+        let count = match line {
+            Some(place) => buf.len().min(place.saturating_add(1)).min(self.lines.len()),
+            None => self.lines.len().min(buf.len()),
+        };
+        let (front, rest) = self.lines.split_at(count);
+        buf[..count].copy_from_slice(front);
+        self.lines = rest;
+        Ok(count)
+    }
+}
+
+/// A writer that counts the bytes that it takes.
+#[derive(Drop)]
+struct Counting<'a> {
+    written: &'a Cell<usize>,
+}
+
+impl Write for Counting<'_> {
+    fn write(&mut self, buf: &[u8]) -> io::Result<usize> {
+        self.written
+            .set(self.written.get().saturating_add(buf.len()));
+        Ok(buf.len())
+    }
+
+    fn flush(&mut self) -> io::Result<()> {
+        Ok(())
+    }
+}
+
+/// What an event said is written before the reader is called for more.
+#[test]
+fn as_it_comes(rt: HostRuntime) -> Result<(), Fail> {
+    let text = input(rt.alloc(), "[1000] HOST_STATE;web;DOWN\n[1060] CLOCK\n")?;
+    let written = Cell::new(0);
+    let noted = Cell::new(0);
+    let reader = Watching {
+        lines: text.as_bytes(),
+        written: &written,
+        noted: &noted,
+    };
+    let mut writer = Counting { written: &written };
+    let ended = replay(rt.alloc(), reader, &mut writer);
+    assert_eq!(rt; ended, Ok(Ending::Whole));
+    assert_eq!(rt; noted.get(), 74);
+    assert_eq!(rt; written.get(), 74);
+    Ok(())
+}

@@ -1,0 +1,7 @@
+//! What tests are run on: configurations, texts and readers that the tests of more than one crate need.
+#![tactic(auto)]
+
+pub mod configs;
+pub mod plain;
+pub mod readers;
+pub mod texts;

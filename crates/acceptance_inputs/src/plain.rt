@@ -1,0 +1,17 @@
+//! Whether events may be given to the bodies, as they stand so far.
+
+ghost use Rattle.std.specs.Prelude.{All, IsTrue};
+ghost use Rattle.due_model.specs.Covered.{IsPlainEvent};
+
+use due_model::config::Config;
+use due_model::event::Event;
+use due_model::proper::is_proper;
+
+/// Whether each event is proper and of a supported kind.
+pub fn are_plain(config: &Config, events: &[Event]) -> bool
+    ensures { IsTrue result → All (IsPlainEvent config.now) events.now }
+{
+    events
+        .iter()
+        .all(|e| is_proper(config, e) && e.kind.is_supported())
+}

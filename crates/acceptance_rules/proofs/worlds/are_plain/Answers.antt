@@ -1,0 +1,19 @@
+use Rattle.std.proofs.Common.{◌≡◌, ◌≤◌, true, length, take, sym, arith, rules}
+use Rattle.std.proofs.lemmas.List.{take_all}
+use Rattle.std.proofs.lemmas.List.Elements.{All-more, All-same}
+use Rattle.due_model.specs.declared.event.EventKind.TheVariants.{Clock}
+use Rattle.world_steps.specs.declared.step.Step.{Step}
+use Rattle.world_steps.specs.declared.step.Step.TheVariants.{Post}
+use Rattle.world_steps.specs.Steps.{IsPlainStep}
+use Rattle.acceptance_rules.proofs.worlds.are_plain.Goals as goal
+
+pub loop-step-preserved : goal.loop-step-preserved
+loop-step-preserved c =
+    let d : Step = Post (record { moment = 0; kind = Clock }) in
+    let plain : c.is_plain.result ≡ true = search rules in
+    All-more (IsPlainStep c.args.config.now) c.args.steps.now c.loop-step.step-index d c.loop-step-test.true c.loop-step.invariant (c.is_plain.ensures plain)
+
+pub returns : goal.returns
+returns c = λ _.
+    let all : length c.args.steps.now ≤ c.loop-step.step-index = omega arith in
+    All-same (IsPlainStep c.args.config.now) c.args.steps.now (take c.loop-step.step-index c.args.steps.now) (sym (take_all c.loop-step.step-index c.args.steps.now all)) c.loop-step.invariant

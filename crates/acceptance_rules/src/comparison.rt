@@ -1,0 +1,456 @@
+//! One decider against the slow program, and two deciders against one, over generated feeds.
+
+ghost use Rattle.std.specs.Prelude.{All, IfOk, ◌<◌, length};
+ghost use Rattle.due_model.specs.Accepted.{IsAccepted};
+ghost use Rattle.due_model.specs.Covered.{IsCovered, IsPlainEvent};
+ghost use Rattle.decider.specs.Share.{IsShare};
+
+use acceptance_inputs::plain::are_plain;
+use decider::{Decider, Outbox, Share};
+use due_model::config::{Config, LaneId, ObjectId};
+use due_model::event::Event;
+use due_model::notice::{Filter, Kind, Notice, Suppression};
+use due_model::zone::Zone;
+use event_feed::Feeder;
+use object_resolve::load;
+use slow_rules::slow::{slow_due, slow_sup};
+use std::alloc::{AllocError, Global};
+use std::fmt::Write;
+use std::process::Abort;
+use std::test::Fail;
+use text_lines::LineReader;
+
+/// Two commands, a contact who uses both, and one who uses the second.
+const PEOPLE: &str = "\
+define command{
+ command_name mail
+ command_line /usr/bin/true
+}
+define command{
+ command_name page
+ command_line /usr/bin/true
+}
+define contact{
+ contact_name ann
+ host_notification_commands mail,page
+ service_notification_commands mail
+}
+define contact{
+ contact_name bob
+ host_notification_commands page
+ service_notification_commands page
+}
+";
+
+/// How many lines a feed has.
+const LINES: u32 = 60;
+
+/// How many feeds are made for a configuration.
+const SEEDS: u64 = 5;
+
+/// How many lanes a configuration has.
+const LANES: u8 = 2;
+
+/// More notices than wait for a lane.
+const MANY: u32 = 100_000;
+
+/// A host of a generated configuration.
+#[derive(Clone, Copy, Debug)]
+struct Host {
+    name: &'static str,
+    contacts: &'static str,
+    interval: u32,
+}
+
+impl Host {
+    const fn new(name: &'static str, contacts: &'static str, interval: u32) -> Host {
+        Host {
+            name,
+            contacts,
+            interval,
+        }
+    }
+}
+
+/// Numbers that look random: a linear congruential generator, of which the high bits count.
+#[derive(Clone, Copy, Debug)]
+struct Numbers {
+    state: u64,
+}
+
+impl Numbers {
+    /// The next number.
+    fn next(&mut self) -> u64 {
+        self.state = self
+            .state
+            .wrapping_mul(6_364_136_223_846_793_005)
+            .wrapping_add(1_442_695_040_888_963_407);
+        self.state >> 33
+    }
+}
+
+/// The text that gives these hosts.
+fn objects(alloc: Global, hosts: &[Host]) -> Result<String, AllocError> {
+    let mut text = String::new(alloc);
+    text.push_str(PEOPLE)?;
+    for host in hosts {
+        let Host {
+            name,
+            contacts,
+            interval,
+        } = *host;
+        text.push_str("define host{\n")?;
+        write!(text, " host_name {name}\n contacts {contacts}\n")?;
+        write!(text, " notification_interval {interval}\n")?;
+        text.push_str("}\n")?;
+    }
+    Ok(text)
+}
+
+/// A hard state of a host.
+fn state_name(number: u64) -> &'static str {
+    match number % 5 {
+        0 | 1 => "DOWN",
+        2 => "UNREACHABLE",
+        _ => "UP",
+    }
+}
+
+/// Adds a line of the feed after its stamp.
+fn add_line(text: &mut String, hosts: &[Host], numbers: &mut Numbers) -> Result<(), AllocError> {
+    let host = numbers.next();
+    let state = state_name(numbers.next());
+    match numbers.next() % 12 {
+        0 => text.push_str("DISABLE_NOTIFICATIONS\n"),
+        1 | 2 => text.push_str("ENABLE_NOTIFICATIONS\n"),
+        3..=6 => text.push_str("CLOCK\n"),
+        _ => match hosts.get(host as usize % hosts.len().max(1)) {
+            None => text.push_str("CLOCK\n"),
+            Some(host) => {
+                let name = host.name;
+                write!(text, "HOST_STATE;{name};{state}\n")
+            }
+        },
+    }
+}
+
+/// A feed over these hosts. Its stamps mostly rise, by so many seconds, and sometimes fall.
+fn feed(alloc: Global, hosts: &[Host], seed: u64, step: u32) -> Result<String, AllocError> {
+    let mut text = String::new(alloc);
+    let mut numbers = Numbers { state: seed };
+    for line in 0..LINES {
+        let moment = u64::from(line) * u64::from(step) + numbers.next() % 100;
+        write!(text, "[{moment}] ")?;
+        add_line(&mut text, hosts, &mut numbers)?;
+    }
+    Ok(text)
+}
+
+/// The configuration that a text gives.
+fn config_of(alloc: Global, text: &str) -> Result<Config, Fail>
+    ensures accepted { IfOk result (λ config. IsAccepted config) }
+    ensures covered { IfOk result (λ config. IsCovered config) }
+{
+    Ok(load(alloc, text.as_bytes())?)
+}
+
+/// The events of a feed, of which each line gives one.
+fn events_of(
+    rt: &impl Abort,
+    alloc: Global,
+    config: &Config,
+    feed: &str,
+) -> Result<Vec<Event>, Fail>
+    ensures { IfOk result (λ events. All (IsPlainEvent config.now) events.items) }
+{
+    let mut feeder = Feeder::new(LineReader::new(alloc, feed.as_bytes())?);
+    let mut events = Vec::new(alloc);
+    for _line in 0..LINES {
+        if let Some(event) = feeder.next(config)? {
+            events.push(event)?;
+        }
+    }
+    assert_eq!(rt; events.len(), LINES as usize, "{feed}");
+    assert!(rt; are_plain(config, &events));
+    Ok(events)
+}
+
+/// The decider of these objects and its outbox after these events.
+fn decided<'a>(
+    alloc: Global,
+    config: &'a Config,
+    zone: &'a Zone,
+    events: &[Event],
+    share: Share,
+) -> Result<(Decider<'a>, Outbox), Fail>
+    requires accepted { IsAccepted config.now }
+    requires covered { IsCovered config.now }
+    requires plain { All (IsPlainEvent config.now) events.now }
+    requires share { IsShare share }
+{
+    let mut outbox = Outbox::new(alloc, config.lanes.len())?;
+    let mut decider = Decider::new(alloc, config, zone, share)?;
+    for event in events {
+        decider.decide(*event, &mut outbox)?;
+    }
+    Ok((decider, outbox))
+}
+
+/// What a decider said of some events: the notices, lane by lane, and the suppressions.
+#[derive(Drop)]
+struct Said {
+    notices: Vec<Notice>,
+    suppressions: Vec<Suppression>,
+}
+
+impl Said {
+    /// What a decider of these objects says, lane by lane.
+    fn of(alloc: Global, config: &Config, events: &[Event], share: Share) -> Result<Said, Fail>
+        requires accepted { IsAccepted config.now }
+        requires covered { IsCovered config.now }
+        requires plain { All (IsPlainEvent config.now) events.now }
+        requires share { IsShare share }
+    {
+        let zone = Zone::Utc;
+        let (decider, mut outbox) = decided(alloc, config, &zone, events, share)?;
+        let mut notices = Vec::new(alloc);
+        for lane in 0..LANES {
+            take_lane(&mut outbox, LaneId(lane), &mut notices)?;
+        }
+        let suppressions = Vec::from_slice(alloc, decider.log())?;
+        Ok(Said {
+            notices,
+            suppressions,
+        })
+    }
+
+    /// The notices of an object on a lane.
+    fn notices_of(
+        &self,
+        alloc: Global,
+        object: ObjectId,
+        lane: LaneId,
+    ) -> Result<Vec<Notice>, AllocError> {
+        let mut found = Vec::new(alloc);
+        for notice in self.notices.as_slice() {
+            if notice.object == object && notice.lane == lane {
+                found.push(*notice)?;
+            }
+        }
+        Ok(found)
+    }
+
+    /// The suppressions of an object.
+    fn suppressions_of(
+        &self,
+        alloc: Global,
+        object: ObjectId,
+    ) -> Result<Vec<Suppression>, AllocError> {
+        let mut found = Vec::new(alloc);
+        for suppression in self.suppressions.as_slice() {
+            if suppression.object == object {
+                found.push(*suppression)?;
+            }
+        }
+        Ok(found)
+    }
+}
+
+/// Takes what waits for a lane, if there is such a lane.
+fn take_lane(
+    outbox: &mut Outbox,
+    lane: LaneId,
+    notices: &mut Vec<Notice>,
+) -> Result<(), AllocError> {
+    for _taken in 0..MANY {
+        if lane.0 as usize >= outbox.len() {
+            return Ok(());
+        }
+        match outbox.take_front(lane) {
+            None => return Ok(()),
+            Some(notice) => notices.push(notice)?,
+        }
+    }
+    Ok(())
+}
+
+/// How often which notices and suppressions come.
+#[derive(Clone, Copy, Debug, PartialEq, Eq)]
+struct Counts {
+    problems: usize,
+    recoveries: usize,
+    /// Suppressions by Program, NoProblem and Interval.
+    stopped: [usize; 3],
+}
+
+impl Counts {
+    /// Adds those of some notices and suppressions.
+    fn add(&mut self, said: &Said) {
+        for notice in said.notices.as_slice() {
+            match notice.kind {
+                Kind::Problem => self.problems = self.problems.saturating_add(1),
+                _ => self.recoveries = self.recoveries.saturating_add(1),
+            }
+        }
+        for suppression in said.suppressions.as_slice() {
+            let place = match suppression.filter {
+                Filter::Program => 0,
+                Filter::NoProblem => 1,
+                _ => 2,
+            };
+            self.stopped[place] = self.stopped[place].saturating_add(1);
+        }
+    }
+}
+
+/// Compares what the slow program and one decider say of an object.
+fn compare_slow(
+    rt: &impl Abort,
+    alloc: Global,
+    config: &Config,
+    events: &[Event],
+    object: ObjectId,
+    sole: &Said,
+) -> Result<(), Fail>
+    requires accepted { IsAccepted config.now }
+    requires covered { IsCovered config.now }
+    requires plain { All (IsPlainEvent config.now) events.now }
+    requires object { object.0 < length config.now.objects }
+{
+    let zone = Zone::Utc;
+    for lane in 0..LANES {
+        let lane = LaneId(lane);
+        let due = slow_due(alloc, config, &zone, events, object, lane)?;
+        let notices = sole.notices_of(alloc, object, lane)?;
+        assert_eq!(rt;
+            notices.as_slice(),
+            due.as_slice(),
+            "{object:?} on {lane:?}"
+        );
+    }
+    let stopped = slow_sup(alloc, config, &zone, events, object)?;
+    let suppressions = sole.suppressions_of(alloc, object)?;
+    assert_eq!(rt; suppressions.as_slice(), stopped.as_slice(), "{object:?}");
+    Ok(())
+}
+
+/// Compares what one decider says of an object, and the one of two whose share has it.
+fn compare_halves(
+    rt: &impl Abort,
+    alloc: Global,
+    object: ObjectId,
+    sole: &Said,
+    half: &Said,
+) -> Result<(), Fail> {
+    for lane in 0..LANES {
+        let lane = LaneId(lane);
+        let notices = half.notices_of(alloc, object, lane)?;
+        let all = sole.notices_of(alloc, object, lane)?;
+        assert_eq!(rt;
+            notices.as_slice(),
+            all.as_slice(),
+            "{object:?} on {lane:?}"
+        );
+    }
+    let suppressions = half.suppressions_of(alloc, object)?;
+    let all = sole.suppressions_of(alloc, object)?;
+    assert_eq!(rt; suppressions.as_slice(), all.as_slice(), "{object:?}");
+    Ok(())
+}
+
+/// Compares what is said of each object: by the slow program, by one decider, and by the one of two that
+/// owns it. The two say together no more than the one.
+fn compare(rt: &impl Abort, alloc: Global, config: &Config, events: &[Event]) -> Result<Said, Fail>
+    requires accepted { IsAccepted config.now }
+    requires covered { IsCovered config.now }
+    requires plain { All (IsPlainEvent config.now) events.now }
+{
+    let sole = Said::of(
+        alloc,
+        config,
+        events,
+        Share {
+            decider: 0,
+            deciders: 1,
+        },
+    )?;
+    let even = Said::of(
+        alloc,
+        config,
+        events,
+        Share {
+            decider: 0,
+            deciders: 2,
+        },
+    )?;
+    let odd = Said::of(
+        alloc,
+        config,
+        events,
+        Share {
+            decider: 1,
+            deciders: 2,
+        },
+    )?;
+    let notices = even.notices.len().saturating_add(odd.notices.len());
+    assert_eq!(rt; notices, sole.notices.len());
+    let suppressions = even
+        .suppressions
+        .len()
+        .saturating_add(odd.suppressions.len());
+    assert_eq!(rt; suppressions, sole.suppressions.len());
+    for number in 0..config.objects.len() {
+        let object = ObjectId(number as u16);
+        let half = if number % 2 == 0 { &even } else { &odd };
+        compare_slow(rt, alloc, config, events, object, &sole)?;
+        compare_halves(rt, alloc, object, &sole, half)?;
+    }
+    Ok(sole)
+}
+
+/// Compares over feeds of these hosts, one for each seed, and says what came.
+fn compare_feeds(
+    rt: &impl Abort,
+    alloc: Global,
+    hosts: &[Host],
+    step: u32,
+) -> Result<Counts, Fail> {
+    let config = config_of(alloc, objects(alloc, hosts)?.as_str())?;
+    let mut counts = Counts {
+        problems: 0,
+        recoveries: 0,
+        stopped: [0; 3],
+    };
+    for seed in 0..SEEDS {
+        let text = feed(alloc, hosts, seed, step)?;
+        let events = events_of(rt, alloc, &config, text.as_str())?;
+        let said = compare(rt, alloc, &config, events.as_slice())?;
+        counts.add(&said);
+    }
+    Ok(counts)
+}
+
+/// Each of these configurations gives problems, recoveries, and each kind of suppression.
+#[test]
+fn one_host(rt: HostRuntime) -> Result<(), Fail> {
+    let cases = [(0, 40), (1, 40), (30, 400)];
+    for (interval, step) in cases {
+        let hosts = [Host::new("web", "ann,bob", interval)];
+        let counts = compare_feeds(&rt, rt.alloc(), &hosts, step)?;
+        assert!(rt; counts.problems > 0 && counts.recoveries > 0, "{counts:?}");
+        assert!(rt; counts.stopped.iter().all(|count| *count > 0), "{counts:?}");
+    }
+    Ok(())
+}
+
+#[test]
+fn three_hosts(rt: HostRuntime) -> Result<(), Fail> {
+    let hosts = [
+        Host::new("web", "ann,bob", 1),
+        Host::new("db", "bob", 0),
+        Host::new("gate", "ann", 30),
+    ];
+    let counts = compare_feeds(&rt, rt.alloc(), &hosts, 90)?;
+    assert!(rt; counts.problems > 0 && counts.recoveries > 0, "{counts:?}");
+    Ok(())
+}

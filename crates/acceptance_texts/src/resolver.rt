@@ -1,0 +1,311 @@
+//! Object texts, and the configuration or the fault that the rules give for each.
+
+use acceptance_inputs::texts::BASE;
+use due_model::config::{Config, Contact, LaneId, Object};
+use object_resolve::{LoadFault, load};
+use std::alloc::{AllocError, Global};
+use std::fmt::Write;
+use std::test::Fail;
+
+/// A text, or `?` where it isn't UTF-8.
+fn text_or_mark(bytes: &[u8]) -> &str {
+    str::from_utf8(bytes).unwrap_or("?")
+}
+
+/// The lanes of a contact, each by its number.
+fn show_lanes(out: &mut String, lanes: &[LaneId]) -> Result<(), AllocError> {
+    for lane in lanes {
+        let number = lane.0;
+        write!(out, " {number}")?;
+    }
+    Ok(())
+}
+
+/// A host on one line: its name, its interval and the numbers of its contacts.
+fn show_host(out: &mut String, host: &Object) -> Result<(), AllocError> {
+    let name = text_or_mark(host.name.as_slice());
+    let interval = host.interval;
+    write!(out, "host {name} {interval}:")?;
+    for contact in host.contacts.as_slice() {
+        let number = contact.0;
+        write!(out, " {number}")?;
+    }
+    out.push_str("\n")
+}
+
+/// A contact on one line: its name, and its lanes for hosts and for services.
+fn show_contact(out: &mut String, contact: &Contact) -> Result<(), AllocError> {
+    let name = text_or_mark(contact.name.as_slice());
+    write!(out, "contact {name}:")?;
+    show_lanes(out, contact.hosts.lanes.as_slice())?;
+    out.push_str(";")?;
+    show_lanes(out, contact.services.lanes.as_slice())?;
+    out.push_str("\n")
+}
+
+/// A configuration, a line for each host, contact and lane.
+fn show(out: &mut String, config: &Config) -> Result<(), AllocError> {
+    for host in config.objects.as_slice() {
+        show_host(out, host)?;
+    }
+    for contact in config.contacts.as_slice() {
+        show_contact(out, contact)?;
+    }
+    for lane in config.lanes.as_slice() {
+        let name = text_or_mark(lane.name.as_slice());
+        write!(out, "lane {name}\n")?;
+    }
+    Ok(())
+}
+
+/// What the text gives: the configuration, or the fault.
+fn result_text(alloc: Global, text: &str) -> Result<String, AllocError> {
+    let mut out = String::new(alloc);
+    match load(alloc, text.as_bytes()) {
+        Ok(config) => show(&mut out, &config)?,
+        Err(fault) => write!(out, "{fault}")?,
+    }
+    Ok(out)
+}
+
+#[test]
+fn base_gives_its_configuration(rt: HostRuntime) -> Result<(), Fail> {
+    let config = "host web 1: 0\ncontact ann: 0; 0\nlane mail\n";
+    assert_eq!(rt; result_text(rt.alloc(), BASE)?.as_str(), config);
+    Ok(())
+}
+
+/// Texts, and what each gives.
+const CASES: [(&str, &str); 40] = [
+    ("", ""),
+    ("define host{\nhost_name web\n", "line 1: Unclosed"),
+    ("define host{\n}\n\nhost\n", "line 4: NotADefine"),
+    ("define host{\nhost_name web\n}\n", "host web 30:\n"),
+    (
+        "define host{\nhost_name web\nhost_name db\n}\n",
+        "host db 30:\n",
+    ),
+    (
+        "define host{\nhost_name web\nHost_name db\nalias x\n}\n",
+        "host web 30:\n",
+    ),
+    (
+        "define host{\nhost_name web\nnotification_interval 01000000\n}\n",
+        "host web 1000000:\n",
+    ),
+    (
+        "define host{\nhost_name web\nnotification_interval 1000001\n}\n",
+        "line 1: BadNumber",
+    ),
+    (
+        "define host{\nhost_name web\nnotification_interval +1\n}\n",
+        "line 1: BadNumber",
+    ),
+    (
+        "define host{\nhost_name web\nnotification_interval 1 2\n}\n",
+        "line 1: BadNumber",
+    ),
+    (
+        "define host{\nhost_name web\nnotification_interval 99999999999999999999\n}\n",
+        "line 1: BadNumber",
+    ),
+    (
+        "define host{\nhost_name web\nnotification_interval x\nnotification_interval 0\n}\n",
+        "host web 0:\n",
+    ),
+    (
+        "define host{\nnotification_interval x\n}\n",
+        "line 1: MissingDirective",
+    ),
+    (
+        "define command{\ncommand_line x\n}\n",
+        "line 1: MissingDirective",
+    ),
+    (
+        "define contact{\nhost_name ann\n}\n",
+        "line 1: MissingDirective",
+    ),
+    ("define host{\nuse x\n}\n", "line 1: NotYet"),
+    (
+        "define host{\nhost_name x\nregister 1\nregister 1\n}\n",
+        "line 1: NotYet",
+    ),
+    (
+        "define host{\nhost_name x\nfirst_notification_delay 1\n}\n",
+        "line 1: NotYet",
+    ),
+    (
+        "define contact{\ncontact_name x\nservice_notification_options n\n}\n",
+        "line 1: NotYet",
+    ),
+    (
+        "define contact{\ncontact_name x\ncontact_groups n\n}\n",
+        "contact x:;\n",
+    ),
+    ("define command{\ncommand_name x\nhostgroups n\n}\n", ""),
+    (
+        "define host{\nhost_name x\ncontacts ,*\n}\n",
+        "line 1: NotYet",
+    ),
+    (
+        "define host{\nhost_name x\ncontacts a, +b\n}\n",
+        "line 1: NotYet",
+    ),
+    (
+        "define host{\nhost_name x\ncontacts a,!b\n}\n",
+        "line 1: NotYet",
+    ),
+    (
+        "define host{\nhost_name x\ncontacts a,null\n}\n",
+        "line 1: NotYet",
+    ),
+    (
+        "define host{\nhost_name x\ncontacts a,nullx\n}\n",
+        "line 1: UnknownName",
+    ),
+    (
+        "define contact{\ncontact_name x\nhost_notification_commands !a\n}\n",
+        "line 1: NotYet",
+    ),
+    (
+        "define host{\nhost_name x\ncontacts *\ncontacts ,\n}\n",
+        "host x 30:\n",
+    ),
+    (
+        "define host{\n}\ndefine host{\nuse x\n}\n",
+        "line 3: NotYet",
+    ),
+    (
+        "define host{\n}\ndefine hostgroup{\n}\ndefine service{\n}\n",
+        "line 3: NotYet",
+    ),
+    (
+        "define host{\nuse x\n}\ndefine timeperiod{\n}\n",
+        "line 1: NotYet",
+    ),
+    (
+        "define servicedependency{\nhost_name x\n}\n",
+        "line 1: NotYet",
+    ),
+    (
+        "define hostextinfo{\nhost_name x\nuse y\n}\ndefine serviceextinfo{\n}\ndefine serviceextinfo{\n}\ndefine host{\nhost_name x\n}\n",
+        "host x 30:\n",
+    ),
+    (
+        "define host{\nhost_name x\ncontacts a\n}\ndefine host{\n}\n",
+        "line 5: MissingDirective",
+    ),
+    (
+        "define host{\nhost_name x\n}\ndefine host{\nhost_name x\n}\n",
+        "line 4: Doubled",
+    ),
+    (
+        "define host{\nhost_name x\n}\ndefine host{\nhost_name x\ncontacts a\n}\n",
+        "line 4: UnknownName",
+    ),
+    (
+        "define host{\nhost_name x\n}\ndefine host{\nhost_name x\n}\ndefine host{\nhost_name y\ncontacts a\n}\n",
+        "line 4: Doubled",
+    ),
+    (
+        "define host{\nhost_name x\n}\ndefine contact{\ncontact_name x\n}\ndefine command{\ncommand_name x\n}\n",
+        "host x 30:\ncontact x:;\n",
+    ),
+    (
+        "define command{\ncommand_name mail\n}\ndefine contact{\ncontact_name x\nhost_notification_commands mail !x\n}\n",
+        "line 4: UnknownName",
+    ),
+    (
+        "define contact{\ncontact_name b\nhost_notification_commands p, m!1!2,m\nservice_notification_commands m\n}\ndefine contact{\ncontact_name a\n}\ndefine host{\nhost_name h\ncontacts a,b , ,a\n}\ndefine command{\ncommand_name m\n}\ndefine command{\ncommand_name n\n}\ndefine command{\ncommand_name p\n}\n",
+        "host h 30: 0 1\ncontact b: 0 1; 0\ncontact a:;\nlane m\nlane p\n",
+    ),
+];
+
+#[test]
+fn each_text_gives_what_the_rules_say(rt: HostRuntime) -> Result<(), Fail> {
+    for case in &CASES {
+        let text = case.0;
+        assert_eq!(rt; result_text(rt.alloc(), text)?.as_str(), case.1, "{text}");
+    }
+    Ok(())
+}
+
+/// So many blocks of that type and with that name, each followed by its number, after the text.
+fn text_with(alloc: Global, front: &str, kind: &str, count: u32) -> Result<String, AllocError> {
+    let mut text = String::from_str(alloc, front)?;
+    for number in 0..count {
+        write!(text, "define {kind}{{\n{kind}_name n{number}\n}}\n")?;
+    }
+    Ok(text)
+}
+
+/// Only the fault of a text, or how many hosts, contacts and lanes it gives.
+fn count_of(alloc: Global, text: &[u8]) -> Result<String, AllocError> {
+    match load(alloc, text) {
+        Ok(config) => {
+            let hosts = config.objects.len();
+            let contacts = config.contacts.len();
+            let lanes = config.lanes.len();
+            format!(in alloc; "{hosts} {contacts} {lanes}")
+        }
+        Err(LoadFault::NoMemory) => String::from_str(alloc, "NoMemory"),
+        Err(fault) => format!(in alloc; "{fault}"),
+    }
+}
+
+#[test]
+fn limits_are_kept(rt: HostRuntime) -> Result<(), Fail> {
+    let alloc = rt.alloc();
+    let hosts = text_with(alloc, "", "host", 65_535)?;
+    assert_eq!(rt; count_of(alloc, hosts.as_bytes())?.as_str(), "65535 0 0");
+    let more = text_with(alloc, "", "host", 65_536)?;
+    assert_eq!(rt;
+        count_of(alloc, more.as_bytes())?.as_str(),
+        "line 196606: TooMany"
+    );
+    let contacts = text_with(alloc, "", "contact", 4_096)?;
+    assert_eq!(rt; count_of(alloc, contacts.as_bytes())?.as_str(), "0 4096 0");
+    let more = text_with(alloc, "", "contact", 4_097)?;
+    assert_eq!(rt;
+        count_of(alloc, more.as_bytes())?.as_str(),
+        "line 12289: TooMany"
+    );
+    Ok(())
+}
+
+const SIXTEEN: &str = "define contact{
+contact_name a
+host_notification_commands n0,n1,n2,n3,n4,n5,n6,n7,n8,n9,n10,n11,n12,n13,n14,n15
+}
+";
+
+const SEVENTEEN: &str = "define contact{
+contact_name a
+host_notification_commands n0,n1,n2,n3,n4,n5,n6,n7,n8,n9,n10,n11,n12,n13,n14,n15
+service_notification_commands n20
+}
+";
+
+#[test]
+fn sixteen_lanes_are_kept(rt: HostRuntime) -> Result<(), Fail> {
+    let alloc = rt.alloc();
+    let kept = text_with(alloc, SIXTEEN, "command", 30)?;
+    assert_eq!(rt; count_of(alloc, kept.as_bytes())?.as_str(), "0 1 16");
+    let refused = text_with(alloc, SEVENTEEN, "command", 30)?;
+    assert_eq!(rt;
+        count_of(alloc, refused.as_bytes())?.as_str(),
+        "line 66: TooMany"
+    );
+    Ok(())
+}
+
+#[test]
+fn large_texts_are_refused(rt: HostRuntime) -> Result<(), Fail> {
+    let alloc = rt.alloc();
+    let mut text = Vec::new(alloc);
+    text.resize(16_777_216, b'\n')?;
+    assert_eq!(rt; count_of(alloc, text.as_slice())?.as_str(), "0 0 0");
+    text.push(b'\n')?;
+    assert_eq!(rt; count_of(alloc, text.as_slice())?.as_str(), "TooLarge");
+    Ok(())
+}
