@@ -1,25 +1,21 @@
 -- The index of the objects' names: how it grows by an object, and that a look-up in one bucket finds what
 -- a look-up among all objects does.
-use Rattle.std.proofs.Common.{◌≡◌, ℕ, zero, suc, ◌+◌, ◌-◌, ◌%◌, ◌<◌, ◌≤◌, Bool, true, false, cond, eqb, List, [], ◌∷◌, ◌++◌, length, map, get_or, set, take, drop, replicate, Option, None, Some, refl, sym, ap, ◌∙◌, ⊎_elim, arith}
-use Rattle.std.specs.Prelude.{slice_get, slice_range, find, filter, ◌&&◌}
+use Rattle.std.proofs.Common.{◌≡◌, ℕ, zero, suc, ◌+◌, ◌%◌, ◌<◌, ◌≤◌, Bool, true, false, cond, eqb, List, [], ◌∷◌, ◌++◌, length, map, get_or, set, replicate, Option, None, Some, refl, sym, ap, ◌∙◌, ⊎_elim, arith}
+use Rattle.std.specs.Prelude.{slice_get, find, filter, ◌&&◌}
 use Rattle.std.specs.Option.{option_map, option_map_or}
 use Rattle.std.specs.List.{position_from, range_with_len}
 use Rattle.std.specs.Str.{bytes_eq}
 use Rattle.std.proofs.lemmas.Bool.{and_parts, cases_eq, ne_eqb, eq-eqb}
 use Rattle.std.proofs.lemmas.Nat.{mod_below}
-use Rattle.std.proofs.lemmas.List.{length-replicate, length-set, get_or-set_other, append-nil, replicate-append-replicate, length-append, length-drop, drop-append-le, take-append-le, drop_at, get_or-map}
+use Rattle.std.proofs.lemmas.List.{length-replicate, length-set, get_or-set_other, append-nil, get_or-map}
 use Rattle.std.proofs.lemmas.Option.{slice_get-map, slice_get_cases}
-use Rattle.std.proofs.Math.Seq.{take-length}
 use Rattle.std.proofs.lemmas.List.FromFn.{filter_of_map_range_with_len_more}
 use Rattle.std.proofs.lemmas.Iterator.Adapters.{position_from-zero}
 use Rattle.std.proofs.lemmas.Grind.{get_or-set_at}
 use Rattle.std.proofs.lemmas.Slice.Eq.{bytes_eq-Decides}
 use Rattle.due_model.specs.declared.config.Object.{Object}
 use Rattle.due_model.specs.declared.config.ObjectId.{ObjectId}
-use Rattle.due_model.specs.Objects.{object_id, has_name_at, is_called, is_named, is_named_at, object_named, name_hash, called_hash, object_hash, is_in_bucket, ids_below, IsIndexUpTo, has_hash_at, is_hashed_name, parts, AreStarts}
-
-pub replicate_push : {A : Type 0} (n : ℕ) (a : A) → replicate n a ++ a ∷ [] ≡ replicate (n + 1) a
-replicate_push n a = replicate-append-replicate n 1 a
+use Rattle.due_model.specs.Objects.{object_id, has_name_at, is_called, is_named, is_named_at, object_named, name_hash, called_hash, object_hash, is_in_bucket, ids_below, IsIndexUpTo, has_hash_at, is_hashed_name}
 
 pub get_or-replicate_nil : {A : Type 0} (n k : ℕ) → get_or (replicate {A = List A} n []) k [] ≡ []
 get_or-replicate_nil zero k = refl
@@ -163,60 +159,8 @@ pub has_hash-named : (objects : List Object) (hashes : List ℕ) (host : List �
 has_hash-named objects hashes host service hash id kept is named =
     rw (kept, is, slice_get-map) (hash_at objects host service (slice_get objects id.0) named)
 
--- ---- lists that are kept one behind the other
-
-range-append : {X : Type 0} (xs ys : List X) (start end : ℕ) → start ≤ end → end ≤ length xs → slice_range (xs ++ ys) start end ≡ slice_range xs start end
-range-append xs ys start end ordered within =
-    let begins : start ≤ length xs = omega arith in
-    let few : end - start ≤ length (drop start xs) = rw length-drop (omega arith) in
-    ap (λ rest. take (end - start) rest) (drop-append-le start xs ys begins) ∙ take-append-le (end - start) (drop start xs) ys few
-
-range-end : {X : Type 0} (xs ys : List X) (start : ℕ) → start ≡ length xs → slice_range (xs ++ ys) start (length xs + length ys) ≡ ys
-range-end xs ys start at =
-    let count : length xs + length ys - length xs ≡ length ys = omega arith in
-    rw (at, count, drop_at xs ys (length xs) refl) (take-length ys)
-
-pub length-parts : {X : Type 0} (starts : List ℕ) (xs : List X) (len : ℕ) → AreStarts starts len → length (parts starts xs) + 1 ≡ length starts
-length-parts [] xs len rising = absurd rising
-length-parts (start ∷ []) xs len rising = refl
-length-parts (start ∷ end ∷ more) xs len rising = omega (arith, length-parts (end ∷ more) xs len rising.2)
-
-pub get_or-parts : {X : Type 0} (starts : List ℕ) (xs : List X) (k : ℕ) → k + 1 < length starts
-    → get_or (parts starts xs) k [] ≡ slice_range xs (get_or starts k 0) (get_or starts (k + 1) 0)
-get_or-parts [] xs k within = absurd (omega arith)
-get_or-parts (start ∷ []) xs k within = absurd (omega arith)
-get_or-parts (start ∷ end ∷ more) xs zero within = refl
-get_or-parts (start ∷ end ∷ more) xs (suc k) within = let next : suc k + 1 ≡ suc (k + 1) = omega arith in rw next (get_or-parts (end ∷ more) xs k (omega arith))
-
-pub starts-rise : (starts : List ℕ) (len k : ℕ) → AreStarts starts len → k + 1 < length starts
-    → (get_or starts k 0 ≤ get_or starts (k + 1) 0) × (get_or starts (k + 1) 0 ≤ len)
-starts-rise [] len k rising within = absurd rising
-starts-rise (start ∷ []) len k rising within = absurd (omega arith)
-starts-rise (start ∷ end ∷ more) len zero rising within = (rising.0, rising.1)
-starts-rise (start ∷ end ∷ more) len (suc k) rising within = let next : suc k + 1 ≡ suc (k + 1) = omega arith in rw next (starts-rise (end ∷ more) len k rising.2 (omega arith))
-
-pub AreStarts-push : (starts : List ℕ) (len more : ℕ) → AreStarts starts len → AreStarts (starts ++ (len + more) ∷ []) (len + more)
-AreStarts-push [] len more rising = absurd rising
-AreStarts-push (start ∷ []) len more rising = (omega (arith, rising), omega arith, refl)
-AreStarts-push (start ∷ end ∷ others) len more rising = (rising.0, omega (arith, rising.1), AreStarts-push (end ∷ others) len more rising.2)
-
-pub parts-push : {X : Type 0} (starts : List ℕ) (xs ys : List X) → AreStarts starts (length xs)
-    → parts (starts ++ (length xs + length ys) ∷ []) (xs ++ ys) ≡ parts starts xs ++ ys ∷ []
-parts-push [] xs ys rising = absurd rising
-parts-push {X} (start ∷ []) xs ys rising = ap (λ (part : List X). part ∷ []) (range-end xs ys start rising)
-parts-push {X} (start ∷ end ∷ more) xs ys rising =
-    rw (range-append xs ys start end rising.0 rising.1) (ap (λ (rest : List (List X)). slice_range xs start end ∷ rest) (parts-push (end ∷ more) xs ys rising.2))
-
 pub find-hashed : (objects : List Object) (hashes : List ℕ) (hash : ℕ) (host : List ℕ) (service : Option (List ℕ)) (ids : List ObjectId)
     → hashes ≡ map (object_hash objects) objects → hash ≡ name_hash host service
     → find (is_hashed_name objects hashes hash host service) ids ≡ find (is_named_at objects host service) ids
 find-hashed objects hashes hash host service ids kept is =
     find-also (is_named_at objects host service) (has_hash_at hashes hash) (λ id named. has_hash-named objects hashes host service hash id kept is named) ids
-
--- one more list behind the others
-pub Kept-more : (starts starts' : List ℕ) (ids ids' list : List ObjectId) (end : ℕ) → AreStarts starts (length ids) → ids' ≡ ids ++ list → starts' ≡ starts ++ end ∷ []
-    → end ≡ length ids' → AreStarts starts' (length ids') × (parts starts' ids' ≡ parts starts ids ++ list ∷ [])
-Kept-more starts starts' ids ids' list end rising grown added at =
-    let long : length ids' ≡ length ids + length list = ap (λ (all : List ObjectId). length all) grown ∙ length-append ids list in
-    let last : end ≡ length ids + length list = at ∙ long in
-    (rw (added, long, last) (AreStarts-push starts (length ids) (length list) rising), rw (added, grown, last) (parts-push starts ids list rising))

@@ -1,6 +1,6 @@
 -- Objects by name (chapter "Object Definitions"): a host has a name, and a service has a description
 -- and the name of its host.
-use Rattle.std.specs.Prelude.{◌≡◌, ℕ, ◌%◌, ◌*◌, ◌^◌, ◌<◌, ◌≤◌, Bool, false, ◌&&◌, ◌==◌, List, [], ◌∷◌, length, map, filter, fold, bit_xor, Option, None, Some, slice_get, slice_index_or, slice_range}
+use Rattle.std.specs.Prelude.{◌≡◌, ℕ, ◌%◌, ◌*◌, ◌^◌, ◌<◌, Bool, false, ◌&&◌, ◌==◌, List, [], ◌∷◌, length, map, filter, fold, bit_xor, Option, None, Some, slice_get, slice_index_or}
 use Rattle.std.specs.Option.{option_map, option_map_or}
 use Rattle.std.specs.List.{position, range_with_len}
 use Rattle.std.specs.Str.{bytes_eq}
@@ -77,15 +77,3 @@ pub record IsIndexUpTo (objects : List Object) (count : ℕ) (buckets : List (Li
   pub some : 0 < length buckets
   pub each : (bucket : ℕ) → bucket < length buckets
       → slice_index_or buckets bucket [] ≡ filter (is_in_bucket objects (length buckets) bucket) (ids_below count)
-
--- the parts of a list that begin at these places, each up to the next
-abbrev pub parts : {X : Type 0} → List ℕ → List X → List (List X)
-parts [] xs = []
-parts (start ∷ []) xs = []
-parts (start ∷ end ∷ more) xs = slice_range xs start end ∷ parts (end ∷ more) xs
-
--- the places rise up to the length, which is the last of them
-abbrev pub AreStarts : List ℕ → ℕ → Type 0
-AreStarts [] len = ⊥
-AreStarts (start ∷ []) len = start ≡ len
-AreStarts (start ∷ end ∷ more) len = (start ≤ end) × (end ≤ len) × AreStarts (end ∷ more) len

@@ -1,11 +1,12 @@
 //! The hosts and services of a configuration, found by their names.
 
-ghost use Rattle.std.specs.Prelude.{◌≡◌, ◌+◌, ◌%◌, ◌++◌, ◌∷◌, [], ◌<◌, ◌≤◌, length, map, find, replicate, slice_index, slice_index_or, slice_range, slice_set, IfOk, OnOk, vec_len};
+ghost use Rattle.std.specs.Prelude.{◌≡◌, ◌≤◌, length, map, find, IfOk, vec_len};
 ghost use Rattle.std.specs.Option.{option_copied};
 ghost use Rattle.due_model.specs.Limits.{max_objects};
 ghost use Rattle.due_model.specs.Objects.{IsIndexUpTo, has_hash_at, has_name_at, hash_of, is_hashed_name, is_named_at, name_hash, object_hash, object_named};
 
 use crate::config::{Object, ObjectId};
+use graph::lists::{Lists, ListsBuilder};
 use std::alloc::{AllocError, Global};
 use std::marker::Model;
 
@@ -17,7 +18,7 @@ pub struct Objects {
     /// The hash of each object's name.
     hashes: Vec<u64>,
     /// As many as there are objects, at least one. Each has the objects whose name's hash leads to it.
-    buckets: Buckets,
+    buckets: Lists<ObjectId>,
 }
 
 impl Model for Objects {
@@ -33,69 +34,6 @@ impl Model for Objects {
         × IsIndexUpTo s.items.items (length s.items.items) s.buckets };
 }
 
-/// Lists of objects, kept one after the other. Contracts see the list of the lists.
-#[derive(Drop)]
-struct Buckets {
-    /// Where each list begins in `ids`, and after the last one the length of `ids`.
-    starts: Vec<usize>,
-    ids: Vec<ObjectId>,
-}
-
-impl Model for Buckets {
-    ghost use Rattle.std.specs.Prelude.{List, length};
-    ghost use Rattle.due_model.specs.declared.config.ObjectId.{ObjectId};
-    ghost use Rattle.due_model.specs.Objects.{AreStarts, parts};
-
-    ghost Value = { List (List ObjectId) };
-
-    ghost view = { λ s. parts s.starts.items s.ids.items };
-
-    ghost invariant = { λ s. AreStarts s.starts.items (length s.ids.items) };
-}
-
-impl Buckets {
-    /// The same lists.
-    fn new(alloc: Global, lists: &[Vec<ObjectId>]) -> Result<Self, AllocError>
-        ensures { IfOk result (λ buckets. buckets ≡ map (λ list. list.items) lists.now) }
-    {
-        let mut starts = Vec::with_capacity(alloc, lists.len().saturating_add(1))?;
-        let mut ids = Vec::new(alloc);
-        starts.push(0)?;
-        for list in lists {
-            ids.extend_from_slice(list.as_slice())?;
-            starts.push(ids.len())?;
-        }
-        Ok(Buckets { starts, ids })
-    }
-
-    /// How many lists there are.
-    fn len(&self) -> usize
-        ensures { result ≡ length self.now }
-    {
-        self.starts.len() - 1
-    }
-
-    /// The list of that number.
-    fn get(&self, number: usize) -> &[ObjectId]
-        requires { number < length self.now }
-        ensures { result.now ≡ slice_index_or self.now number [] }
-    {
-        part_at(self.starts.as_slice(), self.ids.as_slice(), number)
-    }
-}
-
-/// The part of that number.
-fn part_at<'a>(starts: &[usize], ids: &'a [ObjectId], number: usize) -> &'a [ObjectId]
-    requires within { number + 1 < length starts.now }
-    requires ordered { slice_index starts.now number ≤ slice_index starts.now (number + 1) }
-    requires inside { slice_index starts.now (number + 1) ≤ length ids.now }
-    ensures { result.now
-        ≡ slice_range ids.now
-        (slice_index starts.now number) (slice_index starts.now (number + 1)) }
-{
-    &ids[starts[number]..starts[number + 1]]
-}
-
 impl Objects {
     /// Numbers the objects by their place and makes the index. The work grows with the objects and the
     /// bytes of their names. A refused growth drops the objects.
@@ -104,8 +42,7 @@ impl Objects {
         ensures { IfOk result (λ objects. objects ≡ items.items) }
     {
         let hashes = hashes_of(alloc, items.as_slice())?;
-        let lists = index_of(alloc, items.as_slice(), hashes.as_slice())?;
-        let buckets = Buckets::new(alloc, lists.as_slice())?;
+        let buckets = index_of(alloc, items.as_slice(), hashes.as_slice())?.build(alloc)?;
         Ok(Objects {
             items,
             hashes,
@@ -162,42 +99,17 @@ fn index_of(
     alloc: Global,
     objects: &[Object],
     hashes: &[u64],
-) -> Result<Vec<Vec<ObjectId>>, AllocError>
+) -> Result<ListsBuilder<ObjectId>, AllocError>
     requires few { length objects.now ≤ max_objects }
     requires hashes { hashes.now ≡ map (object_hash objects.now) objects.now }
-    ensures { IfOk result
-        (λ buckets. IsIndexUpTo objects.now (length objects.now)
-        (map (λ bucket. bucket.items) buckets.items)) }
+    ensures { IfOk result (IsIndexUpTo objects.now (length objects.now)) }
 {
-    let mut buckets = empty_buckets(alloc, objects.len().max(1))?;
+    let mut buckets = ListsBuilder::new(alloc, objects.len().max(1))?;
     for number in 0..objects.len() {
         let bucket = (hashes[number] % buckets.len() as u64) as usize;
-        push_to(&mut buckets, bucket, ObjectId(number as u16))?;
+        buckets.push(bucket, ObjectId(number as u16))?;
     }
     Ok(buckets)
-}
-
-/// So many empty buckets.
-fn empty_buckets(alloc: Global, count: usize) -> Result<Vec<Vec<ObjectId>>, AllocError>
-    ensures { IfOk result
-        (λ buckets. map (λ bucket. bucket.items) buckets.items ≡ replicate count []) }
-{
-    let mut buckets = Vec::with_capacity(alloc, count)?;
-    for _made in 0..count {
-        buckets.push(Vec::new(alloc))?;
-    }
-    Ok(buckets)
-}
-
-/// Adds an object to a bucket, at its end.
-fn push_to(buckets: &mut Vec<Vec<ObjectId>>, bucket: usize, id: ObjectId) -> Result<(), AllocError>
-    requires { bucket < vec_len buckets.old }
-    ensures { OnOk result (map (λ list. list.items) buckets.new.items
-        ≡ slice_set (map (λ list. list.items) buckets.old.items) bucket
-        (slice_index_or (map (λ list. list.items) buckets.old.items) bucket [] ++ id ∷ [])) }
-{
-    buckets[bucket].push(id)?;
-    Ok(())
 }
 
 /// The hash of an object's name.

@@ -1,12 +1,11 @@
 -- Each node's ends, as edges are added, and that they are exactly where the edges lead.
-use Rattle.std.proofs.Common.{◌≡◌, ℕ, zero, suc, ◌+◌, ◌<◌, ◌≤◌, true, false, cond, eqb, List, [], ◌∷◌, length, map, get_or, refl, sym, ap, subst, ◌∙◌, ◌⊎◌, inl, inr, ⊎_elim, arith}
+use Rattle.std.proofs.Common.{◌≡◌, ℕ, zero, suc, ◌<◌, ◌≤◌, ◌^◌, true, false, cond, eqb, List, [], ◌∷◌, length, map, get_or, refl, sym, ap, subst, ◌∙◌, ◌⊎◌, inl, inr, ⊎_elim, arith}
 use Rattle.std.specs.Prelude.{filter, Contains, All, ◌↔◌}
 use Rattle.std.proofs.lemmas.Bool.{cases_lt, eq-eqb, eqb-true}
 use Rattle.std.proofs.lemmas.List.{get_or_past}
-use Rattle.std.proofs.lemmas.List.Elements.{All-from_get_or, All-map, All-filter, All-weaker, All-take, All-drop, All-contains}
+use Rattle.std.proofs.lemmas.List.Elements.{All-from_get_or, All-get_or, All-map, All-filter, All-weaker, All-contains}
 use Rattle.graph.specs.declared.edges.Edge.{Edge}
-use Rattle.graph.specs.Edges.{Leads, ends_of, HasEdges, IsWithin, parts, AreParts}
-use Rattle.graph.proofs.PartLemmas.{get_or-parts, length-parts}
+use Rattle.graph.specs.Edges.{Leads, ends_of, HasEdges, IsWithin, IsGraph}
 
 -- ---- what a list contains, one element at a time
 
@@ -88,18 +87,16 @@ HasEdges-within nodes edges graph count within has is =
 
 -- ---- what is kept
 
--- a node's part of the targets
-pub AreParts-within : (starts targets : List ℕ) (graph : List (List ℕ)) (p : ℕ) → AreParts starts targets → parts starts targets ≡ graph → p < length graph
-    → All (λ q. q < length graph) (get_or graph p [])
-AreParts-within starts targets graph p are is within =
-    let long : length (parts starts targets) + 1 ≡ length starts = length-parts starts targets (length targets) are.rising in
-    let count : length graph + 1 ≡ length starts = rw (← is) long in
-    let low : p + 1 < length starts = omega arith in
-    rw (← is) (rw (get_or-parts starts targets p low) (
-    All-take (λ q. q < length (parts starts targets)) _ _ (All-drop (λ q. q < length (parts starts targets)) _ targets
-    (All-weaker (λ q. q + 1 < length starts) (λ q. q < length (parts starts targets)) (λ q at. omega (arith, long)) targets are.within))))
+-- a node's ends
+pub IsGraph-within : (graph : List (List ℕ)) (p : ℕ) → IsGraph graph → p < length graph → All (λ q. q < length graph) (get_or graph p [])
+IsGraph-within graph p is low = All-get_or (All (λ q. q < length graph)) graph p [] low is.within
 
-pub AreParts-closed : (starts targets : List ℕ) (graph : List (List ℕ)) → AreParts starts targets → parts starts targets ≡ graph
-    → (p q : ℕ) → Leads graph p q → q < length graph
-AreParts-closed starts targets graph are is p q leads =
-    All-contains (λ q. q < length graph) (get_or graph p []) q (AreParts-within starts targets graph p are is (Leads-within graph p q leads)) leads
+pub IsGraph-closed : (graph : List (List ℕ)) → IsGraph graph → (p q : ℕ) → Leads graph p q → q < length graph
+IsGraph-closed graph is p q leads =
+    All-contains (λ q. q < length graph) (get_or graph p []) q (IsGraph-within graph p is (Leads-within graph p q leads)) leads
+
+pub HasEdges-IsGraph : (nodes : ℕ) (edges : List Edge) (graph : List (List ℕ)) → nodes < 2 ^ 32 → All (IsWithin nodes) edges → HasEdges nodes edges graph → IsGraph graph
+HasEdges-IsGraph nodes edges graph few within has = record {
+  few = omega (arith, has.count, few);
+  within = HasEdges-within nodes edges graph (length graph) within has refl;
+}

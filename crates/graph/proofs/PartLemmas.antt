@@ -1,9 +1,9 @@
 -- Lists that are kept one after another in one list.
-use Rattle.std.proofs.Common.{◌≡◌, ℕ, zero, suc, ◌+◌, ◌-◌, ◌<◌, ◌≤◌, List, [], ◌∷◌, ◌++◌, length, get_or, take, drop, replicate, refl, ap, ◌∙◌, arith}
+use Rattle.std.proofs.Common.{◌≡◌, ℕ, zero, suc, ◌+◌, ◌-◌, ◌<◌, ◌≤◌, List, Vec, Global, [], ◌∷◌, ◌++◌, length, map, get_or, set, take, drop, replicate, refl, sym, ap, ◌∙◌, arith}
 use Rattle.std.specs.Prelude.{slice_range}
-use Rattle.std.proofs.lemmas.List.{replicate-append-replicate, length-append, length-drop, drop-append-le, take-append-le, drop_at}
+use Rattle.std.proofs.lemmas.List.{get_or-map, length-map, map-set, take_more, take_all, replicate-append-replicate, length-append, length-drop, drop-append-le, take-append-le, drop_at}
 use Rattle.std.proofs.Math.Seq.{take-length}
-use Rattle.graph.specs.Edges.{parts, AreStarts}
+use Rattle.graph.specs.Lists.{parts, AreStarts}
 
 pub replicate_push : {A : Type 0} (n : ℕ) (a : A) → replicate n a ++ a ∷ [] ≡ replicate (n + 1) a
 replicate_push n a = replicate-append-replicate n 1 a
@@ -51,9 +51,42 @@ parts-push {X} (start ∷ end ∷ more) xs ys rising =
     rw (range-append xs ys start end rising.0 rising.1) (ap (λ (rest : List (List X)). slice_range xs start end ∷ rest) (parts-push (end ∷ more) xs ys rising.2))
 
 -- one more list after the others
-pub parts-more : (starts starts' : List ℕ) (targets targets' list : List ℕ) (end : ℕ) → AreStarts starts (length targets) → targets' ≡ targets ++ list → starts' ≡ starts ++ end ∷ []
-    → end ≡ length targets' → AreStarts starts' (length targets') × (parts starts' targets' ≡ parts starts targets ++ list ∷ [])
-parts-more starts starts' targets targets' list end rising grown added at =
-    let long : length targets' ≡ length targets + length list = ap (λ (all : List ℕ). length all) grown ∙ length-append targets list in
-    let last : end ≡ length targets + length list = at ∙ long in
-    (rw (added, long, last) (AreStarts-push starts (length targets) (length list) rising), rw (added, grown, last) (parts-push starts targets list rising))
+pub parts-more : {X : Type 0} (starts starts' : List ℕ) (xs xs' list : List X) (end : ℕ) → AreStarts starts (length xs) → xs' ≡ xs ++ list → starts' ≡ starts ++ end ∷ []
+    → end ≡ length xs' → AreStarts starts' (length xs') × (parts starts' xs' ≡ parts starts xs ++ list ∷ [])
+parts-more {X} starts starts' xs xs' list end rising grown added at =
+    let long : length xs' ≡ length xs + length list = ap (λ (all : List X). length all) grown ∙ length-append xs list in
+    let last : end ≡ length xs + length list = at ∙ long in
+    (rw (added, long, last) (AreStarts-push starts (length xs) (length list) rising), rw (added, grown, last) (parts-push starts xs list rising))
+
+-- ---- lists of Vecs
+
+abbrev pub items_of : {X : Type 0} → Vec X Global → List X
+items_of list = list.items
+
+-- a value more at the end of one list
+pub items-push : {X : Type 0} (lists : List (Vec X Global)) (number : ℕ) (list new : Vec X Global) (x : X) → number < length lists
+    → list ≡ get_or lists number list → new.items ≡ list.items ++ x ∷ []
+    → map items_of (set lists number new) ≡ set (map items_of lists) number (get_or (map items_of lists) number [] ++ x ∷ [])
+items-push {X} lists number list new x low is added =
+    map-set items_of lists number new
+    ∙ ap (λ (ys : List X). set (map items_of lists) number ys)
+    (added ∙ ap (λ (ys : List X). ys ++ x ∷ []) (ap items_of is ∙ sym (get_or-map items_of lists number list [] low)))
+
+pub items-low : {X : Type 0} (lists : List (Vec X Global)) (all : List (List X)) (number : ℕ) → map items_of lists ≡ all → number < length all → number < length lists
+items-low {X} lists all number are low = omega (arith, low, sym (length-map lists items_of), ap (λ (some : List (List X)). length some) are)
+
+-- one list more is taken
+pub take-item : {X : Type 0} (lists slice : List (Vec X Global)) (all : List (List X)) (i : ℕ) (list : Vec X Global) (xs : List X) → map items_of lists ≡ all → slice ≡ lists
+    → i < length slice → list ≡ get_or slice i list → xs ≡ list.items → take (i + 1) all ≡ take i all ++ xs ∷ []
+take-item {X} lists slice all i list xs are same low is read =
+    let within : i < length lists = rw same at low in
+    let long : i < length all = omega (arith, within, sym (length-map lists items_of), ap (λ (some : List (List X)). length some) are) in
+    let here : get_or all i [] ≡ xs =
+    ap (λ (some : List (List X)). get_or some i []) (sym are) ∙ get_or-map items_of lists i list [] within
+    ∙ ap items_of (ap (λ (some : List (Vec X Global)). get_or some i list) (sym same) ∙ sym is) ∙ sym read in
+    take_more all i [] long ∙ ap (λ (x : List X). take i all ++ x ∷ []) here
+
+pub take-items : {X : Type 0} (lists slice : List (Vec X Global)) (all : List (List X)) (i : ℕ) → map items_of lists ≡ all → slice ≡ lists → length slice ≤ i → take i all ≡ all
+take-items {X} lists slice all i are same over =
+    let past : length lists ≤ i = rw same at over in
+    take_all i all (omega (arith, past, sym (length-map lists items_of), ap (λ (some : List (List X)). length some) are))

@@ -1,5 +1,5 @@
 -- A graph is the list of each node's ends: the nodes that its edges lead to. A node is a place in that list.
-use Rattle.std.specs.Prelude.{◌≡◌, ℕ, ◌+◌, ◌^◌, ◌<◌, ◌≤◌, ◌==◌, List, [], ◌∷◌, length, map, filter, All, Contains, slice_index_or, slice_range}
+use Rattle.std.specs.Prelude.{◌≡◌, ℕ, ◌^◌, ◌<◌, ◌==◌, List, [], length, map, filter, All, Contains, slice_index_or}
 use Rattle.graph.specs.declared.edges.Edge.{Edge}
 
 -- an edge leads from p to q
@@ -22,20 +22,7 @@ pub record HasEdges (nodes : ℕ) (edges : List Edge) (graph : List (List ℕ)) 
 
 -- ---- how a graph is kept
 
--- the parts of a list that begin at these places, each up to the next
-abbrev pub parts : {X : Type 0} → List ℕ → List X → List (List X)
-parts [] xs = []
-parts (start ∷ []) xs = []
-parts (start ∷ end ∷ more) xs = slice_range xs start end ∷ parts (end ∷ more) xs
-
--- the places rise up to the length, which is the last of them
-abbrev pub AreStarts : List ℕ → ℕ → Type 0
-AreStarts [] len = ⊥
-AreStarts (start ∷ []) len = start ≡ len
-AreStarts (start ∷ end ∷ more) len = (start ≤ end) × (end ≤ len) × AreStarts (end ∷ more) len
-
--- the places where each node's ends begin, and the ends of all nodes, each a node
-pub record AreParts (starts targets : List ℕ) : Type 0 where
-  pub rising : AreStarts starts (length targets)
-  pub few : length starts ≤ 2 ^ 32
-  pub within : All (λ q. q + 1 < length starts) targets
+-- each end is a node
+pub record IsGraph (graph : List (List ℕ)) : Type 0 where
+  pub few : length graph < 2 ^ 32
+  pub within : All (All (λ q. q < length graph)) graph

@@ -1,3 +1,4 @@
+pub mod Lists
 pub mod Chains
 pub mod Edges
 pub mod Reach

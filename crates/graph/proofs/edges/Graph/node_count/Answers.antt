@@ -1,10 +1,7 @@
-use Rattle.std.proofs.Common.{arith}
-use Rattle.graph.proofs.PartLemmas.{length-parts}
-use Rattle.graph.proofs.EdgeLemmas.{AreParts-closed}
+use Rattle.std.proofs.Common.{subst}
+use Rattle.graph.specs.Edges.{IsGraph}
+use Rattle.graph.proofs.EdgeLemmas.{IsGraph-closed}
 use Rattle.graph.proofs.edges.Graph.node_count.Goals as goal
 
-pub returns : goal.returns
-returns c = record {
-  count = rw (← c.self.view_is) (omega (arith, length-parts c.self.inside.starts.items c.self.inside.targets.items _ c.self.invariant.rising, c.self.inside.starts.ok.0));
-  closed = AreParts-closed c.self.inside.starts.items c.self.inside.targets.items _ c.self.invariant c.self.view_is;
-}
+pub returns-clause-closed : goal.returns-clause-closed
+returns-clause-closed c = IsGraph-closed c.args.self.now (subst IsGraph c.self.view_is c.self.invariant)
