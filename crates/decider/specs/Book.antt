@@ -24,21 +24,11 @@ use Rattle.decider.specs.declared.book.EventContext.{EventContext}
 abbrev pub empty_book : Book
 empty_book = record { sent = 0; last = None; ready = None }
 
--- when a problem is attempted again after an attempt at a moment that this filter stopped
+-- when a problem is attempted again after an attempt at a moment that this filter stopped: what retry_after says
+-- of the filters that can fail so far
 abbrev pub retry : Option Last → (moment : ℕ) → Filter → Option ℕ
-retry last m filter.Program = Some (m + 60)
-retry last m filter.Disabled = Some (m + 60)
-retry last m filter.Downtime = Some (m + 60)
-retry last m filter.Flapping = Some (m + 60)
-retry last m filter.Options = Some (m + 60)
-retry last m filter.NoProblem = Some (m + 60)
-retry last m filter.Period = Some (m + 60)
-retry last m filter.Dependency = Some (m + 60)
-retry last m filter.FirstDelay = Some (m + 60)
 retry last m filter.Interval = after_last last
-retry last m filter.ContactDisabled = Some (m + 60)
-retry last m filter.ContactOptions = Some (m + 60)
-retry last m filter.ContactPeriod = Some (m + 60)
+retry last m why = Some (m + 60)
 
 -- the book after an outcome of the problem
 abbrev pub book_after : Book → Outcome → Book

@@ -1,12 +1,11 @@
 //! The core of a decider: it decides the events one by one, and gives the entries of each in order.
 
-ghost use Rattle.std.specs.Prelude.{◌≡◌, ◌↔◌, ℕ, ◌+◌, ◌^◌, ◌<◌, ◌≤◌, [], ◌∷◌, List, length, flat_map, replicate, OnOk, OnErr, IfOk, IsErrOf};
+ghost use Rattle.std.specs.Prelude.{◌≡◌, ◌↔◌, ℕ, ◌+◌, ◌^◌, ◌<◌, ◌≤◌, [], ◌∷◌, List, length, OnOk, OnErr, IfOk, IsErrOf};
 ghost use Rattle.due_model.specs.declared.event.Event.{Event};
 ghost use Rattle.due_model.specs.Accepted.{IsAccepted};
 ghost use Rattle.due_model.specs.Limits.{max_events};
 ghost use Rattle.due_model.specs.Proper.{IsProper};
 ghost use Rattle.due_model.specs.Covered.{IsCovered, IsSupported};
-ghost use Rattle.decider.specs.Book.{empty_book};
 ghost use Rattle.decider.specs.Decisions.{states_after};
 
 use crate::book::{Book, Decision, EventContext};
@@ -86,8 +85,8 @@ impl<'a> EventDecider<'a> {
             count: 0,
             moment: 0,
             program: true,
-            states: all_pending(alloc, count)?,
-            books: all_empty(alloc, count)?,
+            states: vec![in alloc; State::Pending; count]?,
+            books: vec![in alloc; Book::EMPTY; count]?,
             entries: Vec::new(alloc),
             decisions: Vec::new(alloc),
             staged: Vec::new(alloc),
@@ -222,26 +221,4 @@ impl From<AllocError> for DecideFault {
     fn from(_error: AllocError) -> DecideFault {
         DecideFault::NoMemory
     }
-}
-
-/// So many pending states.
-fn all_pending(alloc: Global, count: usize) -> Result<Vec<State>, AllocError>
-    ensures { IfOk result (λ states. states.items ≡ replicate count State.Pending) }
-{
-    let mut states = Vec::with_capacity(alloc, count)?;
-    for _object in 0..count {
-        states.push(State::Pending)?;
-    }
-    Ok(states)
-}
-
-/// So many empty books.
-fn all_empty(alloc: Global, count: usize) -> Result<Vec<Book>, AllocError>
-    ensures { IfOk result (λ books. books.items ≡ replicate count empty_book) }
-{
-    let mut books = Vec::with_capacity(alloc, count)?;
-    for _object in 0..count {
-        books.push(Book::EMPTY)?;
-    }
-    Ok(books)
 }
