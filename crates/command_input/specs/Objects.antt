@@ -1,5 +1,5 @@
 -- The object text at the head of an input, and the feed after it.
-use Rattle.std.specs.Prelude.{◌≡◌, ℕ, List, codes, IfSome, Option, Some, ⊤}
+use Rattle.std.specs.Prelude.{◌≡◌, ℕ, Bool, true, List, codes, IfSome, Option, Some, ⊤}
 use Rattle.due_model.specs.declared.config.Config.{Config}
 use Rattle.object_resolve.specs.Text.{IsTextFault, IsTextOf}
 use Rattle.text_lines.specs.Lines.{Known}
@@ -19,9 +19,9 @@ abbrev pub GivesObjects : Config → (before after : Option (List ℕ)) → Type
 GivesObjects config before after =
     Known before after (λ bytes rest. IsTextOf config (objects_in bytes) × (rest ≡ feed_in bytes))
 
--- what a fault says of the object text, where the bytes are known
-abbrev pub ObjectsFail : CommandFault → Option (List ℕ) → Type 0
-ObjectsFail (Objects fault) known = IfSome known (λ bytes. IsTextFault (objects_in bytes) fault)
-ObjectsFail Unreadable known = ⊤
-ObjectsFail Output known = ⊥
-ObjectsFail NoMemory known = ⊤
+-- what a fault says of the object text, where the bytes are known; only a reader that can fail makes it unreadable
+abbrev pub ObjectsFail : (can_fail : Bool) → CommandFault → Option (List ℕ) → Type 0
+ObjectsFail can_fail (Objects fault) known = IfSome known (λ bytes. IsTextFault (objects_in bytes) fault)
+ObjectsFail can_fail Unreadable known = can_fail ≡ true
+ObjectsFail can_fail Output known = ⊥
+ObjectsFail can_fail NoMemory known = ⊤

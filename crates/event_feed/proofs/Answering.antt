@@ -1,11 +1,13 @@
 -- What the reading of lines makes of the answers to come.
-use Rattle.std.proofs.Common.{◌≡◌, ℕ, suc, ◌+◌, ◌<◌, ◌≤◌, max, true, false, cond, ltb, leb, eqb, List, [], ◌∷◌, ◌++◌, append_assoc, length, take, drop, replicate, Option, Some, None, Result, Ok, Err, refl, sym, ap, subst, ◌∙◌, arith, one-add}
+use Rattle.std.proofs.Common.{◌≡◌, ◌≢◌, ◌⊎◌, inl, inr, Bool, IfSome, ℕ, suc, ◌+◌, ◌<◌, ◌≤◌, max, true, false, cond, ltb, leb, eqb, List, [], ◌∷◌, ◌++◌, append_assoc, length, take, drop, replicate, Option, Some, None, Result, Ok, Err, refl, sym, ap, subst, ◌∙◌, arith, one-add}
 use Rattle.std.specs.Prelude.{is_some, IsTrue, take_while}
 use Rattle.std.specs.List.{list_any}
 use Rattle.std.proofs.lemmas.List.Folds.{list_any-append}
 use Rattle.std.proofs.lemmas.List.{take-append-drop}
 use Rattle.std.proofs.lemmas.Bool.{lt-ltb, le-ltb, lt-leb, le-leb, or_right, or_left, ne_eqb, eq-eqb, cond_both, true≢false}
-use Rattle.std.proofs.lemmas.List.{length-append, nil_from_length, replicate-append-replicate}
+use Rattle.std.proofs.lemmas.List.{length-append, length-replicate, nil_from_length, replicate-append-replicate}
+use Rattle.std.proofs.lemmas.List.Elements.{All-nil}
+use Rattle.event_feed.specs.Fault.{stop_fault}
 use Rattle.std.proofs.lemmas.List.Splits.{slice_split_at, slice_split_none}
 use Rattle.due_model.specs.Proper.{IsProper}
 use Rattle.due_model.specs.Limits.{last_moment}
@@ -21,7 +23,7 @@ use Rattle.text_lines.specs.declared.line_reader.NextLine.TheVariants.{Line, Lon
 use Rattle.event_feed.specs.Line.{line_reading}
 use Rattle.text_lines.specs.Lines.{is_newline, IsUnbroken, BeginsWithLine, pieces, Known, has_newline, has_line}
 use Rattle.text_lines.specs.LineReader.{Reading, to_come, line_limit, byte_limit, call_limit, cut_text, BeginsUnbroken, ReadsFrom, ReadsLine, ReadsHeld, TextFits}
-use Rattle.event_feed.specs.Feed.{Answer, answers, feed_limit, is_stopped, text_reading, moment_after, AreFromLine, ComesNext, ComesLong, ComesTo, RefusesLine, FeedComesTo, GivesEvent, GivesFault, feed_of, raised}
+use Rattle.event_feed.specs.Feed.{Answer, AreGiven, AreGivenBy, BreaksOff, HasLong, least_at_read, refusal, answers, feed_limit, is_stopped, text_reading, moment_after, AreFromLine, ComesNext, ComesLong, ComesTo, RefusesLine, FeedComesTo, GivesEvent, GivesFault, feed_of, raised}
 use Rattle.event_feed.specs.Feeder.{LineAnswers, GoesToLine, CountsLine, begun_lines}
 use Rattle.lemmas.proofs.Lists.{HasFirst, slice_split-first}
 use Rattle.event_feed.proofs.ProperLines.{line_reading-fault}
@@ -344,6 +346,72 @@ GivesFault-long objects before after line last line' None goes_on goes counts =
       last = refl;
       line = counts.0;
     }
+
+-- ---- where a feed is over
+
+-- the line that comes is one of the feed
+has_long : (from : ℕ) (texts : List (List ℕ)) (line count least : ℕ) → least ≤ count → ComesLong from texts line count → HasLong from texts line least
+has_long from texts line count least few comes = record {
+  before = replicate comes.2.empty [];
+  text = comes.0;
+  others = comes.1;
+  are = comes.2.are;
+  number = omega (arith, comes.2.number, length-replicate {A = List ℕ} comes.2.empty []);
+  long = omega (arith, few, comes.3);
+}
+
+-- the answer at which the feed ends is its last
+ends_with : (can_fail : Bool) (all given : List Answer) (from : ℕ) (texts : List (List ℕ)) (line : ℕ) (fault f : FeedFault) → Some f ≡ Some fault
+    → all ≡ record { line = line; given = Err f } ∷ [] → AreGiven can_fail (record { line = line; given = Err fault } ∷ []) all from texts
+ends_with can_fail all given from texts line fault f is same = inl (let e : f ≡ fault = cc in ap (λ (x : FeedFault). record { line = line; given = Err x } ∷ []) (sym e) ∙ sym same)
+
+-- the reading broke off before it
+breaks_off : (can_fail : Bool) (all : List Answer) (from : ℕ) (texts : List (List ℕ)) (line : ℕ) (fault : FeedFault) → Some Read ≡ Some fault
+    → HasLong from texts line (least_at_read can_fail) → AreFromLine line all → AreGiven can_fail (record { line = line; given = Err fault } ∷ []) all from texts
+breaks_off can_fail all from texts line fault is place later = inr (record {
+  front = [];
+  line = line;
+  others = all;
+  begins = refl;
+  place = place;
+  earlier = All-nil (λ (answer : Answer). answer.line < line);
+  later = later;
+  whole = let e : Read ≡ fault = cc in ap (λ (x : FeedFault). record { line = line; given = Err x } ∷ []) (sym e);
+})
+
+least_failed : (can_fail : Bool) → (can_fail ≡ false → Over ReaderFailed ≢ Over ReaderFailed) → least_at_read can_fail ≤ 0
+least_failed true sure = omega arith
+least_failed false sure = absurd (sure refl refl)
+
+least_called : (can_fail : Bool) → least_at_read can_fail ≤ call_limit
+least_called true = omega arith
+least_called false = omega arith
+
+given_at : (can_fail : Bool) (objects : List Object) (last from : ℕ) (how : Stop) (text : List ℕ) (line : ℕ) (bytes rest : List ℕ) (fault : FeedFault)
+    → LineAnswers objects last (Over how) text line rest (answers objects from last (pieces bytes)) → ComesTo (Over how) from bytes line text rest
+    → (can_fail ≡ false → Over how ≢ Over ReaderFailed) → stop_fault how ≡ Some fault
+    → AreGiven can_fail (record { line = line; given = Err fault } ∷ []) (answers objects from last (pieces bytes)) from (pieces bytes)
+given_at can_fail objects last from InputEnded text line bytes rest fault answer comes sure is = absurd (cc)
+given_at can_fail objects last from CutLine text line bytes rest fault answer comes sure is = ends_with can_fail _ [] from (pieces bytes) line fault Cut is answer
+given_at can_fail objects last from ReaderFailed text line bytes rest fault answer comes sure is =
+    breaks_off can_fail _ from (pieces bytes) line fault is (has_long from (pieces bytes) line 0 (least_at_read can_fail) (least_failed can_fail sure) comes) answer
+given_at can_fail objects last from TooManyCalls text line bytes rest fault answer comes sure is =
+    breaks_off can_fail _ from (pieces bytes) line fault is (has_long from (pieces bytes) line call_limit (least_at_read can_fail) (least_called can_fail) comes) answer
+given_at can_fail objects last from TooManyBytes text line bytes rest fault answer comes sure is = ends_with can_fail _ [] from (pieces bytes) line fault Read is answer
+given_at can_fail objects last from TooManyLines text line bytes rest fault answer comes sure is = ends_with can_fail _ [] from (pieces bytes) line fault Read is answer
+
+given_known : (a b : Option (List ℕ)) (P : List ℕ → List ℕ → Type 0) (Q : List ℕ → Type 0) → Known a b P → ((x y : List ℕ) → P x y → Q x) → IfSome a Q
+given_known None b P Q known each = tt
+given_known (Some x) None P Q known each = absurd known
+given_known (Some x) (Some y) P Q known each = each x y known
+
+pub AreGiven-stop : (can_fail : Bool) (objects : List Object) (before after : Reading) (line last line' : ℕ) (stop : Option Stop) (how : Stop) (fault : FeedFault) → is_some stop ≡ false
+    → GoesToLine before line (Over how) after line' → (can_fail ≡ false → Over how ≢ Over ReaderFailed) → stop_fault how ≡ Some fault
+    → AreGivenBy can_fail objects (feed_of before line last stop) (refusal (record { line = line'; fault = fault }) ∷ [])
+AreGiven-stop can_fail objects before after line last line' (Some stop) how fault goes_on goes sure is = absurd (true≢false goes_on)
+AreGiven-stop can_fail objects before after line last line' None how fault goes_on goes sure is =
+    given_known (to_come before) (to_come after) _ _ goes
+    (λ bytes rest both. given_at can_fail objects last line how after.line line' bytes rest fault (both.0 objects last) both.1 sure is)
 
 -- ---- a line that is held
 

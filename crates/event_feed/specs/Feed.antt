@@ -1,5 +1,5 @@
 -- A feed: its lines in order, numbered from 1, and what each answers.
-use Rattle.std.specs.Prelude.{◌≡◌, ◌≢◌, ℕ, ◌+◌, ◌<◌, ◌≤◌, ◌^◌, max, Bool, ◌||◌, ◌==◌, if◌then◌else◌, nat_lt, nat_le, List, [], ◌∷◌, ◌++◌, length, replicate, take_while, IsTrue, IsSome, is_some, Option, Some, None, Result, Ok, Err}
+use Rattle.std.specs.Prelude.{◌≡◌, ◌≢◌, ℕ, ◌+◌, ◌<◌, ◌≤◌, ◌^◌, max, Bool, true, false, All, ◌⊎◌, IfSome, ◌||◌, ◌==◌, if◌then◌else◌, nat_lt, nat_le, List, [], ◌∷◌, ◌++◌, length, replicate, take_while, IsTrue, IsSome, is_some, Option, Some, None, Result, Ok, Err}
 use Rattle.due_model.specs.Proper.{IsProper}
 use Rattle.due_model.specs.Covered.{IsSupported}
 use Rattle.due_model.specs.declared.config.Config.{Config}
@@ -170,6 +170,48 @@ FaultAnswers objects old fault (Some TooManyBytes) new =
     AnswersNext objects old (record { line = fault.line; given = Err fault.fault }) new
 FaultAnswers objects old fault (Some TooManyLines) new =
     AnswersNext objects old (record { line = fault.line; given = Err fault.fault }) new
+
+-- ---- what is given of a feed, where its reader may fail
+
+-- The least length of the line at which a feed ends by Read though no answer tells it: any, where the calls of the reader
+-- can fail; else so many bytes that it may take too many calls.
+abbrev pub least_at_read : (can_fail : Bool) → ℕ
+least_at_read true = 0
+least_at_read false = call_limit
+
+-- `from` lines come before these pieces. The line of this number is one of them, and its text has so many bytes.
+pub record HasLong (from : ℕ) (texts : List (List ℕ)) (line count : ℕ) : Type 0 where
+  pub before : List (List ℕ)
+  pub text : List ℕ
+  pub others : List (List ℕ)
+  pub are : texts ≡ before ++ text ∷ others
+  pub number : line ≡ from + length before + 1
+  pub long : count ≤ length text
+
+-- The reading broke off at a line of the feed: the first of its answers were given, and then the refusal of that line. It
+-- is after the lines of those answers, and not after the line of the next. Where the reader can't fail, the line is long.
+pub record BreaksOff (can_fail : Bool) (given all : List Answer) (from : ℕ) (texts : List (List ℕ)) : Type 0 where
+  pub front : List Answer
+  pub line : ℕ
+  pub others : List Answer
+  pub begins : all ≡ front ++ others
+  pub place : HasLong from texts line (least_at_read can_fail)
+  pub earlier : All (λ answer. answer.line < line) front
+  pub later : AreFromLine line others
+  pub whole : given ≡ front ++ record { line = line; given = Err Read } ∷ []
+
+-- all the answers of a feed were given, or the reading broke off
+abbrev pub AreGiven : (can_fail : Bool) → (given all : List Answer) → (from : ℕ) → (texts : List (List ℕ)) → Type 0
+AreGiven can_fail given all from texts = (given ≡ all) ⊎ BreaksOff can_fail given all from texts
+
+-- the same of a feed whose bytes are known
+abbrev pub AreGivenBy : (can_fail : Bool) → List Object → Feed → List Answer → Type 0
+AreGivenBy can_fail objects feed given =
+    IfSome feed.bytes (λ bytes. AreGiven can_fail given (answers_from objects feed bytes) feed.line (pieces bytes))
+
+-- the answer of a refused line
+abbrev pub refusal : LineFault → Answer
+refusal fault = record { line = fault.line; given = Err fault.fault }
 
 -- which faults come with which stop: Cut and Read with theirs, the faults of a line with none, and want of
 -- memory and the end of the numbers never

@@ -1,7 +1,7 @@
 //! The events of a feed, in order, from a reader of lines.
 
-ghost use Rattle.std.specs.Prelude.{◌≡◌, ◌+◌, ◌≤◌, None, Some, Ok, IfOk, IfErr, IfSome, IfNone, OnSome, IsTrue};
-ghost use Rattle.event_feed.specs.Feed.{ComesToEnd, GivesEvent, GivesFault, GivesNone, feed_limit, feed_of, raised};
+ghost use Rattle.std.specs.Prelude.{◌≡◌, ◌≢◌, ◌+◌, ◌≤◌, ◌∷◌, [], false, IsSome, None, Some, Ok, IfOk, IfErr, IfSome, IfNone, OnSome, IsTrue};
+ghost use Rattle.event_feed.specs.Feed.{AreGivenBy, ComesToEnd, GivesEvent, GivesFault, GivesNone, feed_limit, feed_of, raised, refusal};
 ghost use Rattle.event_feed.specs.Feeder.{CountsLine, GoesToLine, begun_lines};
 ghost use Rattle.text_lines.specs.Lines.{has_line};
 
@@ -11,7 +11,7 @@ use due_model::config::Config;
 use due_model::event::Event;
 use std::io::Read;
 use std::marker::Model;
-use text_lines::{LineReader, NextLine, Stop};
+use text_lines::{Input, LineReader, NextLine, Stop};
 
 /// The most lines of a feed, empty ones counted.
 pub const FEED_LIMIT: u64 = 8_589_934_592;
@@ -40,7 +40,7 @@ impl<R: Read> Model for Feeder<R> {
         × (s.last ≤ last_moment) };
 }
 
-impl<R: Read + Drop> Feeder<R> {
+impl<R: Input + Drop> Feeder<R> {
     /// A feed whose first line is the next of this reader. It takes no memory.
     pub fn new(lines: LineReader<R>) -> Self
         ensures { result ≡ feed_of lines 0 0 None }
@@ -105,6 +105,8 @@ impl<R: Read + Drop> Feeder<R> {
             IfNone found (ComesToEnd self.old self.new))) }
         ensures fault { IfErr result (λ fault.
             GivesFault config.now.objects self.old fault self.new) }
+        ensures last { IfErr result (λ fault. IsSome self.new.stop
+            → AreGivenBy R.can_fail config.now.objects self.old (refusal fault ∷ [])) }
         ensures limit { self.new.line ≤ feed_limit + 1 }
         ensures held { IsTrue (has_line self.old.held) → self.new.calls ≡ self.old.calls }
     {
@@ -138,11 +140,12 @@ impl<R: Read + Drop> Feeder<R> {
 }
 
 /// Goes to the next line that isn't empty, and counts.
-fn next_line<R: Read + Drop>(lines: &mut LineReader<R>, line: &mut u64) -> NextLine
+fn next_line<R: Input + Drop>(lines: &mut LineReader<R>, line: &mut u64) -> NextLine
     requires { line.old ≤ feed_limit }
     ensures goes { GoesToLine lines.old line.old result lines.new line.new }
     ensures counts { CountsLine line.old result line.new }
     ensures held { IsTrue (has_line lines.old.held) → lines.new.calls ≡ lines.old.calls }
+    ensures sure { R.can_fail ≡ false → result ≢ NextLine.Over Stop.ReaderFailed }
 {
     for read in *line..FEED_LIMIT {
         match lines.next_line() {

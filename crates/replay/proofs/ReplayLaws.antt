@@ -1,10 +1,10 @@
 -- From the report of a feed to that of an input.
-use Rattle.std.proofs.Common.{◌≡◌, ℕ, ◌+◌, List, [], length, Option, ◌⊎◌, None, Some, Result, Ok, Err, IfErr, IfOk, IfSome, inl, inr, refl, arith, subst, ◌∙◌}
+use Rattle.std.proofs.Common.{◌≡◌, ℕ, Bool, true, List, [], Option, ◌⊎◌, None, Some, Result, Ok, Err, IfErr, IfOk, IfSome, inl, inr, refl, arith, subst, ◌∙◌}
 use Rattle.std.specs.Io.KnownBytes.{Keeps, prepend_known}
 use Rattle.std.proofs.lemmas.Result.{IfOk-weaker}
 use Rattle.due_model.specs.declared.config.Config.{Config}
 use Rattle.due_model.specs.declared.zone.Zone.{Zone}
-use Rattle.event_feed.specs.Feed.{Answer, Feed, answers, feed_of}
+use Rattle.event_feed.specs.Feed.{Answer, AreGiven, Feed, answers, feed_of}
 use Rattle.object_resolve.specs.declared.fault.LoadFault.{LoadFault}
 use Rattle.object_resolve.specs.declared.fault.LoadFault.TheVariants as load
 use Rattle.object_resolve.specs.Text.{IsTextFault, IsTextOf}
@@ -16,7 +16,7 @@ use Rattle.command_output.specs.declared.outcome.Ending.{Ending}
 use Rattle.command_output.specs.Outcome.{IsWriteFault, fault_of}
 use Rattle.command_input.specs.Objects.{GivesObjects, ObjectsFail, feed_in, objects_in}
 use Rattle.replay.specs.Replay.{FailsWith, Reports}
-use Rattle.replay.specs.Report.{AreGiven, WritesReport, WritesReportFront}
+use Rattle.replay.specs.Report.{WritesReport, WritesReportFront}
 
 -- nothing is held at first
 nothing_held : (known : Option (List ℕ)) → prepend_known [] known ≡ known
@@ -29,16 +29,13 @@ keeps_same None = tt
 keeps_same (Some bytes) = refl
 
 -- the answers of a feed whose bytes are those after the object text
-given_of : (c : Config) (bytes : List ℕ) (rest : Option (List ℕ)) (given : List Answer)
+given_of : (can_fail : Bool) (c : Config) (bytes : List ℕ) (rest : Option (List ℕ)) (given : List Answer)
     → Known (Some bytes) rest (λ before after. IsTextOf c (objects_in before) × (after ≡ feed_in before))
-    → IfSome rest (λ after. AreGiven given (answers c.objects 0 0 (pieces after)) 0 (0 + length (pieces after)))
-    → IsTextOf c (objects_in bytes) × AreGiven given (answers c.objects 0 0 (pieces (feed_in bytes))) 0 (length (pieces (feed_in bytes)))
-given_of c bytes None given h k = absurd h
-given_of c bytes (Some after) given h k =
-    let zero : 0 + length (pieces after) ≡ length (pieces after) = omega arith in
-    let here : AreGiven given (answers c.objects 0 0 (pieces after)) 0 (length (pieces after)) =
-    subst (λ (n : ℕ). AreGiven given (answers c.objects 0 0 (pieces after)) 0 n) zero k in
-    (h.0, subst (λ (feed : List ℕ). AreGiven given (answers c.objects 0 0 (pieces feed)) 0 (length (pieces feed))) h.1 here)
+    → IfSome rest (λ after. AreGiven can_fail given (answers c.objects 0 0 (pieces after)) 0 (pieces after))
+    → IsTextOf c (objects_in bytes) × AreGiven can_fail given (answers c.objects 0 0 (pieces (feed_in bytes))) 0 (pieces (feed_in bytes))
+given_of can_fail c bytes None given h k = absurd h
+given_of can_fail c bytes (Some after) given h k =
+    (h.0, subst (λ (feed : List ℕ). AreGiven can_fail given (answers c.objects 0 0 (pieces feed)) 0 (pieces feed)) h.1 k)
 
 -- three equal parts
 same_all : (c c' : Config) (zone zone' : Zone) (feed feed' : Feed) → c' ≡ c → zone' ≡ zone → feed ≡ feed' → ◌≡◌ {A = Config × Zone × Feed} (c', zone', feed) (c, zone, feed')
@@ -48,64 +45,64 @@ same_all c c' zone zone' feed feed' e f h =
     let d : ◌≡◌ {A = Config × Zone × Feed} (c, zone, feed) (c, zone, feed') = cc in
     a ∙ b ∙ d
 
-report_by : (c : Config) (zone : Zone) (known : Option (List ℕ)) (reading : Reading) (r : Result Ending CommandFault) (old new : Option (List ℕ))
-    → GivesObjects c known (to_come reading) → IfOk r (λ ending. WritesReport c zone (feed_of reading 0 0 None) ending old new)
-    → IfSome known (λ bytes. IfOk r (λ ending. Reports bytes zone ending old new))
-report_by c zone None reading r old new of h = tt
-report_by c zone (Some bytes) reading r old new of h =
-    IfOk-weaker r (λ ending. WritesReport c zone (feed_of reading 0 0 None) ending old new) (λ ending. Reports bytes zone ending old new)
-    (λ ending all. let both = given_of c bytes (to_come reading) all.0 of all.1 in (c, all.0, both.0, both.1, all.2, all.3))
+report_by : (can_fail : Bool) (c : Config) (zone : Zone) (known : Option (List ℕ)) (reading : Reading) (r : Result Ending CommandFault) (old new : Option (List ℕ))
+    → GivesObjects c known (to_come reading) → IfOk r (λ ending. WritesReport can_fail c zone (feed_of reading 0 0 None) ending old new)
+    → IfSome known (λ bytes. IfOk r (λ ending. Reports can_fail bytes zone ending old new))
+report_by can_fail c zone None reading r old new of h = tt
+report_by can_fail c zone (Some bytes) reading r old new of h =
+    IfOk-weaker r (λ ending. WritesReport can_fail c zone (feed_of reading 0 0 None) ending old new) (λ ending. Reports can_fail bytes zone ending old new)
+    (λ ending all. let both = given_of can_fail c bytes (to_come reading) all.0 of all.1 in (c, all.0, both.0, both.1, all.2, all.3))
     h
 
-pub report_of_input : (c c' : Config) (zone zone' : Zone) (known : Option (List ℕ)) (start reading : Reading) (feed : Feed) (r : Result Ending CommandFault) (old new : Option (List ℕ))
+pub report_of_input : (can_fail : Bool) (c c' : Config) (zone zone' : Zone) (known : Option (List ℕ)) (start reading : Reading) (feed : Feed) (r : Result Ending CommandFault) (old new : Option (List ℕ))
     → to_come start ≡ prepend_known [] known → feed ≡ feed_of reading 0 0 None → GivesObjects c (to_come start) (to_come reading)
-    → c' ≡ c → zone' ≡ zone → IfOk r (λ ending. WritesReport c' zone' feed ending old new)
-    → IfSome known (λ bytes. IfOk r (λ ending. Reports bytes zone ending old new))
-report_of_input c c' zone zone' known start reading feed r old new begins is of e f h =
-    report_by c zone known reading r old new (subst (λ (k : Option (List ℕ)). GivesObjects c k (to_come reading)) (begins ∙ nothing_held known) of)
-    (subst (λ (t : Config × Zone × Feed). IfOk r (λ ending. WritesReport t.0 t.1 t.2 ending old new)) (same_all c c' zone zone' feed (feed_of reading 0 0 None) e f is) h)
+    → c' ≡ c → zone' ≡ zone → IfOk r (λ ending. WritesReport can_fail c' zone' feed ending old new)
+    → IfSome known (λ bytes. IfOk r (λ ending. Reports can_fail bytes zone ending old new))
+report_of_input can_fail c c' zone zone' known start reading feed r old new begins is of e f h =
+    report_by can_fail c zone known reading r old new (subst (λ (k : Option (List ℕ)). GivesObjects c k (to_come reading)) (begins ∙ nothing_held known) of)
+    (subst (λ (t : Config × Zone × Feed). IfOk r (λ ending. WritesReport can_fail t.0 t.1 t.2 ending old new)) (same_all c c' zone zone' feed (feed_of reading 0 0 None) e f is) h)
 
-fails_as : (c : Config) (zone : Zone) (bytes : List ℕ) (reading : Reading) (fault : CommandFault) (old new : Option (List ℕ))
-    → GivesObjects c (Some bytes) (to_come reading) → WritesReportFront c zone (feed_of reading 0 0 None) old new → IsWriteFault fault → FailsWith bytes zone fault old new
-fails_as c zone bytes reading (Objects fault) old new of h w = absurd w
-fails_as c zone bytes reading Unreadable old new of h w = absurd w
-fails_as c zone bytes reading Output old new of h w =
-    let both = given_of c bytes (to_come reading) h.0 of h.1 in (c, h.0, both.0, both.1, h.2)
-fails_as c zone bytes reading NoMemory old new of h w =
-    let both = given_of c bytes (to_come reading) h.0 of h.1 in inr (c, h.0, both.0, both.1, h.2)
+fails_as : (can_fail : Bool) (c : Config) (zone : Zone) (bytes : List ℕ) (reading : Reading) (fault : CommandFault) (old new : Option (List ℕ))
+    → GivesObjects c (Some bytes) (to_come reading) → WritesReportFront can_fail c zone (feed_of reading 0 0 None) old new → IsWriteFault fault → FailsWith can_fail bytes zone fault old new
+fails_as can_fail c zone bytes reading (Objects fault) old new of h w = absurd w
+fails_as can_fail c zone bytes reading Unreadable old new of h w = absurd w
+fails_as can_fail c zone bytes reading Output old new of h w =
+    let both = given_of can_fail c bytes (to_come reading) h.0 of h.1 in (c, h.0, both.0, both.1, h.2)
+fails_as can_fail c zone bytes reading NoMemory old new of h w =
+    let both = given_of can_fail c bytes (to_come reading) h.0 of h.1 in inr (c, h.0, both.0, both.1, h.2)
 
-fault_by : (c : Config) (zone : Zone) (known : Option (List ℕ)) (reading : Reading) (r : Result Ending CommandFault) (old new : Option (List ℕ))
-    → GivesObjects c known (to_come reading) → WritesReportFront c zone (feed_of reading 0 0 None) old new → IfErr r (λ fault. IsWriteFault fault)
-    → IfSome known (λ bytes. IfErr r (λ fault. FailsWith bytes zone fault old new))
-fault_by c zone None reading r old new of h w = tt
-fault_by c zone (Some bytes) reading (Ok ending) old new of h w = tt
-fault_by c zone (Some bytes) reading (Err fault) old new of h w = fails_as c zone bytes reading fault old new of h w
+fault_by : (can_fail : Bool) (c : Config) (zone : Zone) (known : Option (List ℕ)) (reading : Reading) (r : Result Ending CommandFault) (old new : Option (List ℕ))
+    → GivesObjects c known (to_come reading) → WritesReportFront can_fail c zone (feed_of reading 0 0 None) old new → IfErr r (λ fault. IsWriteFault fault)
+    → IfSome known (λ bytes. IfErr r (λ fault. FailsWith can_fail bytes zone fault old new))
+fault_by can_fail c zone None reading r old new of h w = tt
+fault_by can_fail c zone (Some bytes) reading (Ok ending) old new of h w = tt
+fault_by can_fail c zone (Some bytes) reading (Err fault) old new of h w = fails_as can_fail c zone bytes reading fault old new of h w
 
-pub fault_of_input : (c c' : Config) (zone zone' : Zone) (known : Option (List ℕ)) (start reading : Reading) (feed : Feed) (r : Result Ending CommandFault) (old new : Option (List ℕ))
+pub fault_of_input : (can_fail : Bool) (c c' : Config) (zone zone' : Zone) (known : Option (List ℕ)) (start reading : Reading) (feed : Feed) (r : Result Ending CommandFault) (old new : Option (List ℕ))
     → to_come start ≡ prepend_known [] known → feed ≡ feed_of reading 0 0 None → GivesObjects c (to_come start) (to_come reading)
-    → c' ≡ c → zone' ≡ zone → WritesReportFront c' zone' feed old new → IfErr r (λ fault. IsWriteFault fault)
-    → IfSome known (λ bytes. IfErr r (λ fault. FailsWith bytes zone fault old new))
-fault_of_input c c' zone zone' known start reading feed r old new begins is of e f h w =
-    fault_by c zone known reading r old new (subst (λ (k : Option (List ℕ)). GivesObjects c k (to_come reading)) (begins ∙ nothing_held known) of)
-    (subst (λ (t : Config × Zone × Feed). WritesReportFront t.0 t.1 t.2 old new) (same_all c c' zone zone' feed (feed_of reading 0 0 None) e f is) h) w
+    → c' ≡ c → zone' ≡ zone → WritesReportFront can_fail c' zone' feed old new → IfErr r (λ fault. IsWriteFault fault)
+    → IfSome known (λ bytes. IfErr r (λ fault. FailsWith can_fail bytes zone fault old new))
+fault_of_input can_fail c c' zone zone' known start reading feed r old new begins is of e f h w =
+    fault_by can_fail c zone known reading r old new (subst (λ (k : Option (List ℕ)). GivesObjects c k (to_come reading)) (begins ∙ nothing_held known) of)
+    (subst (λ (t : Config × Zone × Feed). WritesReportFront can_fail t.0 t.1 t.2 old new) (same_all c c' zone zone' feed (feed_of reading 0 0 None) e f is) h) w
 
 -- the object text gives no configuration, and nothing was written
-objects_by : (zone : Zone) (bytes : List ℕ) (fault : CommandFault) (known : Option (List ℕ)) → ObjectsFail fault (Some bytes) → FailsWith bytes zone fault known known
-objects_by zone bytes (Objects fault) known h = (h, keeps_same known)
-objects_by zone bytes Unreadable known h = keeps_same known
-objects_by zone bytes Output known h = absurd h
-objects_by zone bytes NoMemory known h = inl (keeps_same known)
+objects_by : (can_fail : Bool) (zone : Zone) (bytes : List ℕ) (fault : CommandFault) (known : Option (List ℕ)) → ObjectsFail can_fail fault (Some bytes) → FailsWith can_fail bytes zone fault known known
+objects_by can_fail zone bytes (Objects fault) known h = (h, keeps_same known)
+objects_by can_fail zone bytes Unreadable known h = (keeps_same known, h)
+objects_by can_fail zone bytes Output known h = absurd h
+objects_by can_fail zone bytes NoMemory known h = inl (keeps_same known)
 
-refused_by : (zone : Zone) (known : Option (List ℕ)) (fault : CommandFault) (held : Option (List ℕ)) → ObjectsFail fault known → IfSome known (λ bytes. FailsWith bytes zone fault held held)
-refused_by zone None fault held h = tt
-refused_by zone (Some bytes) fault held h = objects_by zone bytes fault held h
+refused_by : (can_fail : Bool) (zone : Zone) (known : Option (List ℕ)) (fault : CommandFault) (held : Option (List ℕ)) → ObjectsFail can_fail fault known → IfSome known (λ bytes. FailsWith can_fail bytes zone fault held held)
+refused_by can_fail zone None fault held h = tt
+refused_by can_fail zone (Some bytes) fault held h = objects_by can_fail zone bytes fault held h
 
-pub refused_input : (zone : Zone) (known : Option (List ℕ)) (start : Reading) (fault : CommandFault) (held : Option (List ℕ))
-    → to_come start ≡ prepend_known [] known → ObjectsFail fault (to_come start) → IfSome known (λ bytes. FailsWith bytes zone fault held held)
-refused_input zone known start fault held begins h =
-    refused_by zone known fault held (subst (λ (k : Option (List ℕ)). ObjectsFail fault k) (begins ∙ nothing_held known) h)
+pub refused_input : (can_fail : Bool) (zone : Zone) (known : Option (List ℕ)) (start : Reading) (fault : CommandFault) (held : Option (List ℕ))
+    → to_come start ≡ prepend_known [] known → ObjectsFail can_fail fault (to_come start) → IfSome known (λ bytes. FailsWith can_fail bytes zone fault held held)
+refused_input can_fail zone known start fault held begins h =
+    refused_by can_fail zone known fault held (subst (λ (k : Option (List ℕ)). ObjectsFail can_fail fault k) (begins ∙ nothing_held known) h)
 
 -- memory ran out before anything was written
-pub no_memory : (zone : Zone) (known held : Option (List ℕ)) → IfSome known (λ bytes. FailsWith bytes zone NoMemory held held)
-no_memory zone None held = tt
-no_memory zone (Some bytes) held = inl (keeps_same held)
+pub no_memory : (can_fail : Bool) (zone : Zone) (known held : Option (List ℕ)) → IfSome known (λ bytes. FailsWith can_fail bytes zone NoMemory held held)
+no_memory can_fail zone None held = tt
+no_memory can_fail zone (Some bytes) held = inl (keeps_same held)

@@ -1,5 +1,5 @@
 -- What the answers of a feeder say of the lines of its feed.
-use Rattle.std.proofs.Common.{◌≡◌, ℕ, suc, ◌+◌, ◌<◌, ◌≤◌, true, false, not, cond, ◌||◌, All, List, [], ◌∷◌, ◌++◌, length, take, drop, get_or, replicate, Option, None, Some, is_some, IfSome, IsErrOf, IsTrue, Ok, Err, refl, sym, ap, subst, ◌∙◌, inl, inr, arith, append_assoc, length-append}
+use Rattle.std.proofs.Common.{◌≡◌, ℕ, suc, ◌+◌, ◌<◌, ◌≤◌, true, false, not, cond, ◌||◌, All, List, [], ◌∷◌, ◌++◌, length, take, drop, get_or, replicate, Option, None, Some, Bool, IsSome, IfSome, IsErrOf, IsTrue, Ok, Err, refl, sym, ap, subst, ◌∙◌, inl, inr, arith, append_assoc, length-append}
 use Rattle.std.proofs.lemmas.List.{append-nil, length-replicate, take_more, take-append-drop}
 use Rattle.std.proofs.lemmas.List.Elements.{All-nil, All-append, All-push, All-weaker}
 use Rattle.due_model.specs.declared.config.Config.{Config}
@@ -12,11 +12,11 @@ use Rattle.event_feed.specs.declared.fault.LineFault.{LineFault}
 use Rattle.text_lines.specs.declared.line_reader.Stop.{Stop}
 use Rattle.text_lines.specs.declared.line_reader.Stop.TheVariants.{InputEnded, CutLine, ReaderFailed, TooManyCalls, TooManyBytes, TooManyLines}
 use Rattle.event_feed.specs.Fault.{is_line_fault, stop_fault}
-use Rattle.event_feed.specs.Feed.{Answer, AnswersNext, AnswersNone, AreFromLine, ComesLong, ComesNext, FaultAnswers, FaultComesTo, FaultFits, Feed, GivesEvent, GivesFault, answers_from}
+use Rattle.event_feed.specs.Feed.{Answer, AnswersNext, AnswersNone, AreGiven, AreGivenBy, ComesNext, HasLong, least_at_read, refusal, FaultAnswers, FaultComesTo, FaultFits, Feed, GivesEvent, GivesFault, answers_from}
 use Rattle.text_lines.specs.Lines.{Known, pieces}
 use Rattle.command_output.specs.declared.outcome.Ending.TheVariants.{Short, Whole}
 use Rattle.command_output.specs.ReportLine.{refused_line}
-use Rattle.replay.specs.Report.{AreGiven, AreGivenBy, BreaksOff, CountsLines, Ends, Follows, GoesOn, TakesAnswer, WritesReport, WritesReportFront, answer_text, ending_after, ends_short, entries_text, entry_text, given_text, is_ended, is_short, line_of, past_after, report_from, report_text}
+use Rattle.replay.specs.Report.{WritesPart, PassesLines, Ends, Follows, GoesOn, TakesAnswer, WritesReport, WritesReportFront, answer_text, ending_after, ends_short, entries_text, entry_text, given_text, is_ended, is_short, line_of, past_after, report_from, report_text}
 use Rattle.std.proofs.lemmas.Grind.{flat_map-append}
 use Rattle.decider.specs.declared.entries.Entry.{Entry}
 use Rattle.decider.specs.Entries.{event_entries}
@@ -46,123 +46,70 @@ known_then (Some xs) (Some ys) (Some zs) P Q R p q f = f xs ys zs p q
 
 -- ---- lines that were read
 
--- as many pieces are left as were not read
-pieces_left : (from : ℕ) (texts : List (List ℕ)) (line : ℕ) (text : List ℕ) (others : List (List ℕ)) → ComesNext from texts line text others
-    → from + length texts ≡ line + length others
-pieces_left from texts line text others next =
-    let long : length texts ≡ next.empty + suc (length others) =
-    ap length next.are ∙ length-append (replicate next.empty []) (text ∷ others) ∙ ap (λ n. n + suc (length others)) (length-replicate next.empty []) in
-    let number : line ≡ from + next.empty + 1 = next.number in
-    omega arith
+-- the last of these pieces are the others, and so many come before them
+abbrev pub Passed : (from : ℕ) → (texts : List (List ℕ)) → (line : ℕ) → (others : List (List ℕ)) → Type 0
+Passed from texts line others = (before : List (List ℕ)) × (texts ≡ before ++ others) × (line ≡ from + length before)
 
--- the line that comes is one of the feed
-line_within : (from : ℕ) (texts : List (List ℕ)) (line count : ℕ) → ComesLong from texts line count → line ≤ from + length texts
-line_within from texts line count long =
-    let left : from + length texts ≡ line + length long.1 = pieces_left from texts line long.0 long.1 long.2 in
-    omega arith
+passed_more : (from now line : ℕ) (texts mid others : List (List ℕ)) → Passed from texts now mid → Passed now mid line others → Passed from texts line others
+passed_more from now line texts mid others p q =
+    (p.0 ++ q.0, p.1 ∙ ap (λ (more : List (List ℕ)). p.0 ++ more) q.1 ∙ sym (append_assoc p.0 q.0 others), omega (arith, p.2, q.2, length-append p.0 q.0))
 
-pub event_counts : (c : Config) (old : Feed) (event : Event) (new : Feed) → GivesEvent c old event new → CountsLines old new
-event_counts c old event new gives =
-    known_weaker old.bytes new.bytes _ _ gives.place (λ xs ys h. pieces_left old.line (pieces xs) new.line new.text (pieces ys) h.0)
+-- the pieces after the line that comes
+passed : (from : ℕ) (texts : List (List ℕ)) (line : ℕ) (text : List ℕ) (others : List (List ℕ)) → ComesNext from texts line text others
+    → (before : List (List ℕ)) × (texts ≡ before ++ others) × (line ≡ from + length before)
+passed from texts line text others next = (
+  replicate next.empty [] ++ text ∷ [],
+  next.are ∙ sym (append_assoc (replicate next.empty []) (text ∷ []) others),
+  omega (arith, next.number, length-append (replicate next.empty []) (text ∷ []), length-replicate {A = List ℕ} next.empty []),
+)
 
-pub fault_counts : (objects : List Object) (old : Feed) (fault : LineFault) (new : Feed) → new.stop ≡ None → GivesFault objects old fault new → CountsLines old new
-fault_counts objects old fault new e gives =
+pub event_passes : (c : Config) (old : Feed) (event : Event) (new : Feed) → GivesEvent c old event new → PassesLines old new
+event_passes c old event new gives =
+    known_weaker old.bytes new.bytes _ _ gives.place (λ xs ys h. passed old.line (pieces xs) new.line new.text (pieces ys) h.0)
+
+pub fault_passes : (objects : List Object) (old : Feed) (fault : LineFault) (new : Feed) → new.stop ≡ None → GivesFault objects old fault new → PassesLines old new
+fault_passes objects old fault new e gives =
     let place : FaultComesTo objects old fault None new = subst (λ s. FaultComesTo objects old fault s new) e gives.place in
     known_weaker old.bytes new.bytes _ _ place
-    (λ xs ys h. pieces_left old.line (pieces xs) fault.line h.text (pieces ys) h.next ∙ ap (λ n. n + length (pieces ys)) gives.number)
+    (λ xs ys h. let p = passed old.line (pieces xs) fault.line h.text (pieces ys) h.next in (p.0, p.1, sym gives.number ∙ p.2))
 
 -- ---- what is given of a feed
 
 -- one answer, and those after it
-next_by : (objects : List Object) (old new : Feed) (answer : Answer) (bytes rest : Option (List ℕ))
+next_by : (can_fail : Bool) (objects : List Object) (old new : Feed) (answer : Answer) (bytes rest : Option (List ℕ))
     → Known bytes rest (λ before after. answers_from objects old before ≡ answer ∷ answers_from objects new after)
-    → (more : List Answer) × IfSome bytes (λ before. AreGiven (answer ∷ more) (answers_from objects old before) old.line (old.line + length (pieces before)))
-next_by objects old new answer None rest h = ([], tt)
-next_by objects old new answer (Some before) None h = absurd h
-next_by objects old new answer (Some before) (Some after) h = (answers_from objects new after, inl (sym h))
+    → (more : List Answer) × IfSome bytes (λ before. AreGiven can_fail (answer ∷ more) (answers_from objects old before) old.line (pieces before))
+next_by can_fail objects old new answer None rest h = ([], tt)
+next_by can_fail objects old new answer (Some before) None h = absurd h
+next_by can_fail objects old new answer (Some before) (Some after) h = (answers_from objects new after, inl (sym h))
 
-pub next_given : (objects : List Object) (old new : Feed) (answer : Answer) → AnswersNext objects old answer new → (more : List Answer) × AreGivenBy objects old (answer ∷ more)
-next_given objects old new answer h = next_by objects old new answer old.bytes new.bytes h
-
--- an answer after which the feed is over
-last_by : (objects : List Object) (old new : Feed) (answer : Answer) (bytes rest : Option (List ℕ)) → is_some new.stop ≡ true
-    → Known bytes rest (λ before after. answers_from objects old before ≡ answer ∷ answers_from objects new after)
-    → IfSome bytes (λ before. AreGiven (answer ∷ []) (answers_from objects old before) old.line (old.line + length (pieces before)))
-last_by objects old new answer None rest over h = tt
-last_by objects old new answer (Some before) None over h = absurd h
-last_by objects old new answer (Some before) (Some after) over h =
-    let none : answers_from objects new after ≡ [] = rw over refl in
-    inl (sym (h ∙ ap (λ more. answer ∷ more) none))
+pub next_given : (can_fail : Bool) (objects : List Object) (old new : Feed) (answer : Answer) → AnswersNext objects old answer new → (more : List Answer) × AreGivenBy can_fail objects old (answer ∷ more)
+next_given can_fail objects old new answer h = next_by can_fail objects old new answer old.bytes new.bytes h
 
 -- no answer
-none_by : (objects : List Object) (old : Feed) (bytes rest : Option (List ℕ)) → Known bytes rest (λ before after. answers_from objects old before ≡ [])
-    → IfSome bytes (λ before. AreGiven [] (answers_from objects old before) old.line (old.line + length (pieces before)))
-none_by objects old None rest h = tt
-none_by objects old (Some before) None h = absurd h
-none_by objects old (Some before) (Some after) h = inl (sym h)
+none_by : (can_fail : Bool) (objects : List Object) (old : Feed) (bytes rest : Option (List ℕ)) → Known bytes rest (λ before after. answers_from objects old before ≡ [])
+    → IfSome bytes (λ before. AreGiven can_fail [] (answers_from objects old before) old.line (pieces before))
+none_by can_fail objects old None rest h = tt
+none_by can_fail objects old (Some before) None h = absurd h
+none_by can_fail objects old (Some before) (Some after) h = inl (sym h)
 
-pub none_given : (objects : List Object) (old new : Feed) → AnswersNone objects old new → AreGivenBy objects old []
-none_given objects old new h = none_by objects old old.bytes new.bytes h
+pub none_given : (can_fail : Bool) (objects : List Object) (old new : Feed) → AnswersNone objects old new → AreGivenBy can_fail objects old []
+none_given can_fail objects old new h = none_by can_fail objects old old.bytes new.bytes h
 
--- the reader failed
-fails_by : (objects : List Object) (old : Feed) (line count : ℕ) (bytes rest : Option (List ℕ)) → old.line < line
-    → Known bytes rest (λ before after. AreFromLine line (answers_from objects old before))
-    → Known bytes rest (λ before after. ComesLong old.line (pieces before) line count)
-    → IfSome bytes (λ before. AreGiven (record { line = line; given = Err Read } ∷ []) (answers_from objects old before) old.line (old.line + length (pieces before)))
-fails_by objects old line count None rest first h k = tt
-fails_by objects old line count (Some before) None first h k = absurd h
-fails_by objects old line count (Some before) (Some after) first h k = inr (record {
-  front = [];
-  line = line;
-  others = answers_from objects old before;
-  begins = refl;
-  first = first;
-  earlier = All-nil (λ answer. answer.line < line);
-  later = h;
-  within = line_within old.line (pieces before) line count k;
-  whole = refl;
-})
+-- Cut and Read come with a stop
+short_by : (fault : LineFault) (stop : Stop) → stop_fault stop ≡ Some fault.fault → is_short (Err fault.fault) ≡ true
+short_by fault InputEnded e = absurd (cc)
+short_by fault CutLine e = let same : Cut ≡ fault.fault = cc in ap (λ f. not (is_line_fault f)) (sym same)
+short_by fault ReaderFailed e = let same : Read ≡ fault.fault = cc in ap (λ f. not (is_line_fault f)) (sym same)
+short_by fault TooManyCalls e = let same : Read ≡ fault.fault = cc in ap (λ f. not (is_line_fault f)) (sym same)
+short_by fault TooManyBytes e = let same : Read ≡ fault.fault = cc in ap (λ f. not (is_line_fault f)) (sym same)
+short_by fault TooManyLines e = let same : Read ≡ fault.fault = cc in ap (λ f. not (is_line_fault f)) (sym same)
 
 -- the refusal of a line that ends the feed
-abbrev pub refusal : LineFault → Answer
-refusal fault = record { line = fault.line; given = Err fault.fault }
-
-last_is_read : (objects : List Object) (old : Feed) (fault : LineFault) → Some Read ≡ Some fault.fault → AreGivenBy objects old (record { line = fault.line; given = Err Read } ∷ [])
-    → AreGivenBy objects old (refusal fault ∷ []) × (is_short (Err fault.fault) ≡ true)
-last_is_read objects old fault e given =
-    let same : Read ≡ fault.fault = cc in
-    (subst (λ (f : FeedFault). AreGivenBy objects old (record { line = fault.line; given = Err f } ∷ [])) same given, ap (λ f. not (is_line_fault f)) (sym same))
-
-last_is_known : (objects : List Object) (old new : Feed) (fault : LineFault) (f : FeedFault) → Some f ≡ Some fault.fault → is_line_fault f ≡ false → is_some new.stop ≡ true
-    → AnswersNext objects old (refusal fault) new → AreGivenBy objects old (refusal fault ∷ []) × (is_short (Err fault.fault) ≡ true)
-last_is_known objects old new fault f e ends over h =
-    let same : f ≡ fault.fault = cc in
-    (last_by objects old new (refusal fault) old.bytes new.bytes over h, ap (λ g. not (is_line_fault g)) (sym same) ∙ ap not ends)
-
--- the line of a failed reader, by the fault's number
-fails_at : (objects : List Object) (old new : Feed) (fault : LineFault) (count : ℕ) → old.line < new.line → fault.line ≡ new.line
-    → Known old.bytes new.bytes (λ before after. AreFromLine fault.line (answers_from objects old before))
-    → Known old.bytes new.bytes (λ before after. ComesLong old.line (pieces before) new.line count)
-    → AreGivenBy objects old (record { line = fault.line; given = Err Read } ∷ [])
-fails_at objects old new fault count first e h k =
-    fails_by objects old fault.line count old.bytes new.bytes (subst (λ n. old.line < n) (sym e) first) h
-    (subst (λ n. Known old.bytes new.bytes (λ before after. ComesLong old.line (pieces before) n count)) (sym e) k)
-
-last_by_stop : (objects : List Object) (old new : Feed) (fault : LineFault) (stop : Stop) → is_some new.stop ≡ true → old.line < new.line → fault.line ≡ new.line → stop_fault stop ≡ Some fault.fault
-    → FaultAnswers objects old fault (Some stop) new → FaultComesTo objects old fault (Some stop) new → AreGivenBy objects old (refusal fault ∷ []) × (is_short (Err fault.fault) ≡ true)
-last_by_stop objects old new fault InputEnded over first n e h k = absurd h
-last_by_stop objects old new fault CutLine over first n e h k = last_is_known objects old new fault Cut e refl over h
-last_by_stop objects old new fault ReaderFailed over first n e h k = last_is_read objects old fault e (fails_at objects old new fault _ first n h k)
-last_by_stop objects old new fault TooManyCalls over first n e h k = last_is_read objects old fault e (fails_at objects old new fault _ first n h k)
-last_by_stop objects old new fault TooManyBytes over first n e h k = last_is_known objects old new fault Read e refl over h
-last_by_stop objects old new fault TooManyLines over first n e h k = last_is_known objects old new fault Read e refl over h
-
-pub fault_last : (objects : List Object) (old new : Feed) (fault : LineFault) (stop : Stop) → new.stop ≡ Some stop → GivesFault objects old fault new
-    → AreGivenBy objects old (refusal fault ∷ []) × (is_short (Err fault.fault) ≡ true)
-fault_last objects old new fault stop e h =
-    last_by_stop objects old new fault stop (ap is_some e) h.line h.number
-    (subst (λ s. FaultFits fault.fault s) e h.fits) (subst (λ s. FaultAnswers objects old fault s new) e h.answers)
-    (subst (λ s. FaultComesTo objects old fault s new) e h.place)
+pub fault_last : (can_fail : Bool) (objects : List Object) (old new : Feed) (fault : LineFault) (stop : Stop) → new.stop ≡ Some stop → GivesFault objects old fault new
+    → (IsSome new.stop → AreGivenBy can_fail objects old (refusal fault ∷ [])) → AreGivenBy can_fail objects old (refusal fault ∷ []) × (is_short (Err fault.fault) ≡ true)
+fault_last can_fail objects old new fault stop e h last =
+    (last (rw e refl), short_by fault stop (subst (λ s. FaultFits fault.fault s) e h.fits))
 
 -- a line that is read over
 pub fault_next : (objects : List Object) (old new : Feed) (fault : LineFault) → new.stop ≡ None → GivesFault objects old fault new
@@ -174,12 +121,13 @@ fault_next objects old new fault e h =
     line_fault h = h
 
 -- either way it is the next that is given
-pub fault_given : (objects : List Object) (old new : Feed) (fault : LineFault) → GivesFault objects old fault new → (more : List Answer) × AreGivenBy objects old (refusal fault ∷ more)
-fault_given objects old new fault h = by_stop new.stop refl
+pub fault_given : (can_fail : Bool) (objects : List Object) (old new : Feed) (fault : LineFault) → GivesFault objects old fault new
+    → (IsSome new.stop → AreGivenBy can_fail objects old (refusal fault ∷ [])) → (more : List Answer) × AreGivenBy can_fail objects old (refusal fault ∷ more)
+fault_given can_fail objects old new fault h last = by_stop new.stop refl
   where
-    by_stop : (stop : Option Stop) → new.stop ≡ stop → (more : List Answer) × AreGivenBy objects old (refusal fault ∷ more)
-    by_stop None e = next_given objects old new (refusal fault) (fault_next objects old new fault e h).0
-    by_stop (Some stop) e = ([], (fault_last objects old new fault stop e h).0)
+    by_stop : (stop : Option Stop) → new.stop ≡ stop → (more : List Answer) × AreGivenBy can_fail objects old (refusal fault ∷ more)
+    by_stop None e = next_given can_fail objects old new (refusal fault) (fault_next objects old new fault e h).0
+    by_stop (Some stop) e = ([], last (rw e refl))
 
 -- a line of the feed whose refusal is an answer, and the feed goes on
 pub fault_taken : (objects : List Object) (past : List Event) (old new : Feed) (fault : LineFault) → new.stop ≡ None → GivesFault objects old fault new
@@ -188,7 +136,7 @@ fault_taken objects past old new fault e h = record {
   next = (fault_next objects old new fault e h).0;
   line = h.line;
   number = h.number;
-  lines = fault_counts objects old fault new e h;
+  lines = fault_passes objects old fault new e h;
   numbered = refl;
   read_on = (fault_next objects old new fault e h).1;
   goes_on = e;
@@ -206,7 +154,7 @@ event_taken c past old new event line e numbered gives = record {
   next = event_answers c old new event line e gives;
   line = gives.line;
   number = e;
-  lines = event_counts c old event new gives;
+  lines = event_passes c old event new gives;
   numbered = numbered;
   read_on = refl;
   goes_on = gives.goes_on;
@@ -237,7 +185,7 @@ follows_start c zone start runs = record {
   answers = known_same start.bytes (λ bytes rest. answers_from c.objects start bytes ≡ [] ++ answers_from c.objects start rest) (λ bytes. refl);
   line = omega arith;
   earlier = All-nil (λ answer. answer.line ≤ start.line);
-  lines = known_same start.bytes (λ bytes rest. start.line + length (pieces bytes) ≡ start.line + length (pieces rest)) (λ bytes. refl);
+  lines = known_same start.bytes _ (λ bytes. ([], refl, omega arith));
   report = λ others. refl;
   ending = λ others. refl;
   goes_on = runs;
@@ -261,10 +209,10 @@ follows_more c zone start given text past now answer new f takes = record {
   line = omega (arith, f.line, takes.line);
   earlier = earlier_more given answer now.line new.line (omega (arith, takes.line)) (omega (arith, takes.number)) f.earlier;
   lines = known_then start.bytes now.bytes new.bytes
-      (λ bytes rest. start.line + length (pieces bytes) ≡ now.line + length (pieces rest))
-      (λ bytes rest. now.line + length (pieces bytes) ≡ new.line + length (pieces rest))
-      (λ bytes rest. start.line + length (pieces bytes) ≡ new.line + length (pieces rest))
-      f.lines takes.lines (λ xs ys zs p q. p ∙ q);
+      (λ bytes rest. Passed start.line (pieces bytes) now.line (pieces rest))
+      (λ bytes rest. Passed now.line (pieces bytes) new.line (pieces rest))
+      (λ bytes rest. Passed start.line (pieces bytes) new.line (pieces rest))
+      f.lines takes.lines (λ xs ys zs p q. passed_more start.line now.line new.line (pieces xs) (pieces ys) (pieces zs) p q);
   report = λ others.
       ap (λ all. report_text c zone all) (append_assoc given (answer ∷ []) others) ∙ f.report (answer ∷ others)
       ∙ ap (λ b. text ++ (answer_text c zone past answer ++ cond b [] (report_from c zone (past_after past answer.given) others))) takes.numbered
@@ -276,46 +224,55 @@ follows_more c zone start given text past now answer new f takes = record {
   goes_on = takes.goes_on;
 }
 
+-- a long line of those after it
+place_more : (from now : ℕ) (texts others : List (List ℕ)) (line count : ℕ) → Passed from texts now others → HasLong now others line count → HasLong from texts line count
+place_more from now texts others line count p place = record {
+  before = p.0 ++ place.before;
+  text = place.text;
+  others = place.others;
+  are = p.1 ∙ ap (λ (more : List (List ℕ)). p.0 ++ more) place.are ∙ sym (append_assoc p.0 place.before (place.text ∷ place.others));
+  number = omega (arith, place.number, p.2, length-append p.0 place.before);
+  long = place.long;
+}
+
 -- all lines up to one are before a later one
 earlier_below : (given front : List Answer) (line later : ℕ) → line < later → All (λ a. a.line ≤ line) given → All (λ a. a.line < later) front → All (λ a. a.line < later) (given ++ front)
 earlier_below given front line later below h k =
     All-append (λ a. a.line < later) given front (All-weaker (λ a. a.line ≤ line) (λ a. a.line < later) (λ a le. omega (arith, le, below)) given h) k
 
-then_by : (c : Config) (start now : Feed) (given others : List Answer) (bytes rest : Option (List ℕ)) → start.line ≤ now.line → All (λ a. a.line ≤ now.line) given
+then_by : (can_fail : Bool) (c : Config) (start now : Feed) (given others : List Answer) (bytes rest : Option (List ℕ)) → start.line ≤ now.line → All (λ a. a.line ≤ now.line) given
     → Known bytes rest (λ before after. answers_from c.objects start before ≡ given ++ answers_from c.objects now after)
-    → Known bytes rest (λ before after. start.line + length (pieces before) ≡ now.line + length (pieces after))
-    → IfSome rest (λ after. AreGiven others (answers_from c.objects now after) now.line (now.line + length (pieces after)))
-    → IfSome bytes (λ before. AreGiven (given ++ others) (answers_from c.objects start before) start.line (start.line + length (pieces before)))
-then_by c start now given others None rest line earlier f l h = tt
-then_by c start now given others (Some before) None line earlier f l h = absurd f
-then_by c start now given others (Some before) (Some after) line earlier f l (inl same) = inl (ap (λ more. given ++ more) same ∙ sym f)
-then_by c start now given others (Some before) (Some after) line earlier f l (inr fails) =
-    let first : now.line < fails.line = fails.first in
-    let within : fails.line ≤ now.line + length (pieces after) = fails.within in
+    → Known bytes rest (λ before after. Passed start.line (pieces before) now.line (pieces after))
+    → IfSome rest (λ after. AreGiven can_fail others (answers_from c.objects now after) now.line (pieces after))
+    → IfSome bytes (λ before. AreGiven can_fail (given ++ others) (answers_from c.objects start before) start.line (pieces before))
+then_by can_fail c start now given others None rest line earlier f l h = tt
+then_by can_fail c start now given others (Some before) None line earlier f l h = absurd f
+then_by can_fail c start now given others (Some before) (Some after) line earlier f l (inl same) = inl (ap (λ more. given ++ more) same ∙ sym f)
+then_by can_fail c start now given others (Some before) (Some after) line earlier f l (inr fails) =
+    let first : now.line < fails.line = omega (arith, fails.place.number) in
     inr (record {
       front = given ++ fails.front;
       line = fails.line;
       others = fails.others;
       begins = f ∙ ap (λ more. given ++ more) fails.begins ∙ sym (append_assoc given fails.front fails.others);
-      first = omega (arith, line);
+      place = place_more start.line now.line (pieces before) (pieces after) fails.line (least_at_read can_fail) l fails.place;
       earlier = earlier_below given fails.front now.line fails.line first earlier fails.earlier;
       later = fails.later;
-      within = omega (arith, l);
       whole = ap (λ more. given ++ more) fails.whole ∙ sym (append_assoc given fails.front (record { line = fails.line; given = Err Read } ∷ []));
     })
 
 -- what was given, and what is given of the feed after it
-pub given_then : (c : Config) (zone : Zone) (start : Feed) (given : List Answer) (text : List ℕ) (past : List Event) (now : Feed) (others : List Answer)
-    → Follows c zone start given text past now → AreGivenBy c.objects now others → AreGivenBy c.objects start (given ++ others)
-given_then c zone start given text past now others f h = then_by c start now given others start.bytes now.bytes f.line f.earlier f.answers f.lines h
+pub given_then : (can_fail : Bool) (c : Config) (zone : Zone) (start : Feed) (given : List Answer) (text : List ℕ) (past : List Event) (now : Feed) (others : List Answer)
+    → Follows c zone start given text past now → AreGivenBy can_fail c.objects now others → AreGivenBy can_fail c.objects start (given ++ others)
+given_then can_fail c zone start given text past now others f h = then_by can_fail c start now given others start.bytes now.bytes f.line f.earlier f.answers f.lines h
 
 -- some answers are given of a feed
-some_by : (objects : List Object) (feed : Feed) (bytes : Option (List ℕ)) → (given : List Answer) × IfSome bytes (λ before. AreGiven given (answers_from objects feed before) feed.line (feed.line + length (pieces before)))
-some_by objects feed None = ([], tt)
-some_by objects feed (Some bytes) = (answers_from objects feed bytes, inl refl)
+some_by : (can_fail : Bool) (objects : List Object) (feed : Feed) (bytes : Option (List ℕ)) → (given : List Answer) × IfSome bytes (λ before. AreGiven can_fail given (answers_from objects feed before) feed.line (pieces before))
+some_by can_fail objects feed None = ([], tt)
+some_by can_fail objects feed (Some bytes) = (answers_from objects feed bytes, inl refl)
 
-pub some_given : (objects : List Object) (feed : Feed) → (given : List Answer) × AreGivenBy objects feed given
-some_given objects feed = some_by objects feed feed.bytes
+pub some_given : (can_fail : Bool) (objects : List Object) (feed : Feed) → (given : List Answer) × AreGivenBy can_fail objects feed given
+some_given can_fail objects feed = some_by can_fail objects feed feed.bytes
 
 -- ---- the text of an event
 
@@ -370,15 +327,15 @@ pub goes_on_of : (c c' : Config) (zone zone' : Zone) (old : Kept) (feed : Feed) 
 goes_on_of c c' zone zone' old feed before held new feed' after held' e f h =
     subst (λ (t : Config × Zone). GoesOn t.0 t.1 old feed before held new feed' after held') (ap (λ (x : Config). (x, zone)) e ∙ ap (λ (z : Zone). (c', z)) f) h
 
-pub ends_of : (c c' : Config) (zone zone' : Zone) (old : Kept) (feed : Feed) (before : Option (List ℕ)) (held : List ℕ) (ending : Ending) (after : Option (List ℕ)) (held' : List ℕ)
-    → c ≡ c' → zone ≡ zone' → Ends c zone old feed before held ending after held' → Ends c' zone' old feed before held ending after held'
-ends_of c c' zone zone' old feed before held ending after held' e f h =
-    subst (λ (t : Config × Zone). Ends t.0 t.1 old feed before held ending after held') (ap (λ (x : Config). (x, zone)) e ∙ ap (λ (z : Zone). (c', z)) f) h
+pub ends_of : (can_fail : Bool) (c c' : Config) (zone zone' : Zone) (old : Kept) (feed : Feed) (before : Option (List ℕ)) (held : List ℕ) (ending : Ending) (after : Option (List ℕ)) (held' : List ℕ)
+    → c ≡ c' → zone ≡ zone' → Ends can_fail c zone old feed before held ending after held' → Ends can_fail c' zone' old feed before held ending after held'
+ends_of can_fail c c' zone zone' old feed before held ending after held' e f h =
+    subst (λ (t : Config × Zone). Ends can_fail t.0 t.1 old feed before held ending after held') (ap (λ (x : Config). (x, zone)) e ∙ ap (λ (z : Zone). (c', z)) f) h
 
-pub breaks_off_of : (c c' : Config) (zone zone' : Zone) (old : Kept) (feed : Feed) (before : Option (List ℕ)) (held : List ℕ) (after : Option (List ℕ))
-    → c ≡ c' → zone ≡ zone' → BreaksOff c zone old feed before held after → BreaksOff c' zone' old feed before held after
-breaks_off_of c c' zone zone' old feed before held after e f h =
-    subst (λ (t : Config × Zone). BreaksOff t.0 t.1 old feed before held after) (ap (λ (x : Config). (x, zone)) e ∙ ap (λ (z : Zone). (c', z)) f) h
+pub breaks_off_of : (can_fail : Bool) (c c' : Config) (zone zone' : Zone) (old : Kept) (feed : Feed) (before : Option (List ℕ)) (held : List ℕ) (after : Option (List ℕ))
+    → c ≡ c' → zone ≡ zone' → WritesPart can_fail c zone old feed before held after → WritesPart can_fail c' zone' old feed before held after
+breaks_off_of can_fail c c' zone zone' old feed before held after e f h =
+    subst (λ (t : Config × Zone). WritesPart can_fail t.0 t.1 old feed before held after) (ap (λ (x : Config). (x, zone)) e ∙ ap (λ (z : Zone). (c', z)) f) h
 
 -- ---- how far a report has come
 
@@ -427,48 +384,48 @@ written_more c zone start before kept kept' now new mid after held held' h on =
     }
 
 -- the feed ended, and all was written
-pub written_whole : (c : Config) (zone : Zone) (start : Feed) (before : Option (List ℕ)) (kept : Kept) (now : Feed) (mid after end : Option (List ℕ)) (held held' : List ℕ) (ending : Ending)
-    → HasWritten c zone start before kept now mid held → Ends c zone kept now mid held ending after held' → Leaves after end held' []
-    → WritesReport c zone start ending before end
-written_whole c zone start before kept now mid after end held held' ending h ends last =
+pub written_whole : (can_fail : Bool) (c : Config) (zone : Zone) (start : Feed) (before : Option (List ℕ)) (kept : Kept) (now : Feed) (mid after end : Option (List ℕ)) (held held' : List ℕ) (ending : Ending)
+    → HasWritten c zone start before kept now mid held → Ends can_fail c zone kept now mid held ending after held' → Leaves after end held' []
+    → WritesReport can_fail c zone start ending before end
+written_whole can_fail c zone start before kept now mid after end held held' ending h ends last =
     let more = ends.each h.past h.fits in
     let text : Leaves before after (h.text ++ report_from c zone h.past more.0) held' = leaves_on before mid after h.text held (report_from c zone h.past more.0) held' h.leaves more.3 in
     let all : Leaves before end (h.text ++ report_from c zone h.past more.0) [] = leaves_less before after end (h.text ++ report_from c zone h.past more.0) held' [] text last in (
       h.given ++ more.0,
-      given_then c zone start h.given h.text h.past now more.0 h.follows more.1,
+      given_then can_fail c zone start h.given h.text h.past now more.0 h.follows more.1,
       more.2 ∙ sym (h.follows.ending more.0),
       subst (λ bytes. Writes before end bytes) (sym (append-nil all.0) ∙ all.2 ∙ sym (h.follows.report more.0)) all.1,
     )
 
 -- the feed ended, and a front was written
-pub written_cut : (c : Config) (zone : Zone) (start : Feed) (before : Option (List ℕ)) (kept : Kept) (now : Feed) (mid after end : Option (List ℕ)) (held held' : List ℕ) (ending : Ending)
-    → HasWritten c zone start before kept now mid held → Ends c zone kept now mid held ending after held' → WritesFront after end held'
-    → WritesReportFront c zone start before end
-written_cut c zone start before kept now mid after end held held' ending h ends last =
+pub written_cut : (can_fail : Bool) (c : Config) (zone : Zone) (start : Feed) (before : Option (List ℕ)) (kept : Kept) (now : Feed) (mid after end : Option (List ℕ)) (held held' : List ℕ) (ending : Ending)
+    → HasWritten c zone start before kept now mid held → Ends can_fail c zone kept now mid held ending after held' → WritesFront after end held'
+    → WritesReportFront can_fail c zone start before end
+written_cut can_fail c zone start before kept now mid after end held held' ending h ends last =
     let more = ends.each h.past h.fits in
     let text : Leaves before after (h.text ++ report_from c zone h.past more.0) held' = leaves_on before mid after h.text held (report_from c zone h.past more.0) held' h.leaves more.3 in (
       h.given ++ more.0,
-      given_then c zone start h.given h.text h.past now more.0 h.follows more.1,
+      given_then can_fail c zone start h.given h.text h.past now more.0 h.follows more.1,
       subst (λ all. WritesFront before end all) (sym (h.follows.report more.0)) (front_less before after end (h.text ++ report_from c zone h.past more.0) held' text last),
     )
 
 -- a line broke off
-pub written_front : (c : Config) (zone : Zone) (start : Feed) (before : Option (List ℕ)) (kept : Kept) (now : Feed) (mid after : Option (List ℕ)) (held : List ℕ)
-    → HasWritten c zone start before kept now mid held → BreaksOff c zone kept now mid held after → WritesReportFront c zone start before after
-written_front c zone start before kept now mid after held h breaks =
+pub written_front : (can_fail : Bool) (c : Config) (zone : Zone) (start : Feed) (before : Option (List ℕ)) (kept : Kept) (now : Feed) (mid after : Option (List ℕ)) (held : List ℕ)
+    → HasWritten c zone start before kept now mid held → WritesPart can_fail c zone kept now mid held after → WritesReportFront can_fail c zone start before after
+written_front can_fail c zone start before kept now mid after held h breaks =
     let more = breaks.each h.past h.fits in (
       h.given ++ more.0,
-      given_then c zone start h.given h.text h.past now more.0 h.follows more.1,
+      given_then can_fail c zone start h.given h.text h.past now more.0 h.follows more.1,
       subst (λ all. WritesFront before after all) (sym (h.follows.report more.0)) (front_on before mid after h.text held (report_from c zone h.past more.0) h.leaves more.2),
     )
 
 -- what was held back broke off
-pub written_less : (c : Config) (zone : Zone) (start : Feed) (before : Option (List ℕ)) (kept : Kept) (now : Feed) (mid after : Option (List ℕ)) (held : List ℕ)
-    → HasWritten c zone start before kept now mid held → WritesFront mid after held → WritesReportFront c zone start before after
-written_less c zone start before kept now mid after held h front =
-    let more = some_given c.objects now in (
+pub written_less : (can_fail : Bool) (c : Config) (zone : Zone) (start : Feed) (before : Option (List ℕ)) (kept : Kept) (now : Feed) (mid after : Option (List ℕ)) (held : List ℕ)
+    → HasWritten c zone start before kept now mid held → WritesFront mid after held → WritesReportFront can_fail c zone start before after
+written_less can_fail c zone start before kept now mid after held h front =
+    let more = some_given can_fail c.objects now in (
       h.given ++ more.0,
-      given_then c zone start h.given h.text h.past now more.0 h.follows more.1,
+      given_then can_fail c zone start h.given h.text h.past now more.0 h.follows more.1,
       subst (λ all. WritesFront before after all) (sym (h.follows.report more.0))
           (front_longer before after h.text (report_from c zone h.past more.0) (front_less before mid after h.text held h.leaves front)),
     )

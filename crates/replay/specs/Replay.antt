@@ -1,9 +1,9 @@
 -- What a replay does: it writes the report of its input, or fails.
-use Rattle.std.specs.Prelude.{◌≡◌, ℕ, List, [], ◌⊎◌, length, Option}
+use Rattle.std.specs.Prelude.{◌≡◌, ℕ, Bool, true, List, [], ◌⊎◌, Option}
 use Rattle.std.specs.Io.KnownBytes.{Keeps}
 use Rattle.due_model.specs.declared.config.Config.{Config}
 use Rattle.due_model.specs.declared.zone.Zone.{Zone}
-use Rattle.event_feed.specs.Feed.{Answer, answers}
+use Rattle.event_feed.specs.Feed.{Answer, AreGiven, answers}
 use Rattle.object_resolve.specs.Text.{IsTextFault, IsTextOf}
 use Rattle.text_lines.specs.Lines.{pieces}
 use Rattle.command_output.specs.declared.outcome.CommandFault.{CommandFault}
@@ -11,30 +11,30 @@ use Rattle.command_output.specs.declared.outcome.CommandFault.TheVariants.{Objec
 use Rattle.command_output.specs.declared.outcome.Ending.{Ending}
 use Rattle.command_output.specs.Output.{Writes, WritesFront}
 use Rattle.command_input.specs.Objects.{feed_in, objects_in}
-use Rattle.replay.specs.Report.{AreGiven, ending_after, report_text}
+use Rattle.replay.specs.Report.{ending_after, report_text}
 
 -- the answers are those of a feed from its first line on
-abbrev pub AreOfFeed : Config → List ℕ → List Answer → Type 0
-AreOfFeed config feed given =
-    AreGiven given (answers config.objects 0 0 (pieces feed)) 0 (length (pieces feed))
+abbrev pub AreOfFeed : (can_fail : Bool) → Config → List ℕ → List Answer → Type 0
+AreOfFeed can_fail config feed given =
+    AreGiven can_fail given (answers config.objects 0 0 (pieces feed)) 0 (pieces feed)
 
 -- What was written is the report of the feed for the configuration of the object text, and the reading ended so.
-abbrev pub Reports : List ℕ → Zone → Ending → (old new : Option (List ℕ)) → Type 0
-Reports bytes zone ending old new =
+abbrev pub Reports : (can_fail : Bool) → List ℕ → Zone → Ending → (old new : Option (List ℕ)) → Type 0
+Reports can_fail bytes zone ending old new =
     (config : Config) × (given : List Answer) × IsTextOf config (objects_in bytes)
-    × AreOfFeed config (feed_in bytes) given × (ending ≡ ending_after [] given)
+    × AreOfFeed can_fail config (feed_in bytes) given × (ending ≡ ending_after [] given)
     × Writes old new (report_text config zone given)
 
 -- what was written is a front of such a report
-abbrev pub ReportsFront : List ℕ → Zone → (old new : Option (List ℕ)) → Type 0
-ReportsFront bytes zone old new =
+abbrev pub ReportsFront : (can_fail : Bool) → List ℕ → Zone → (old new : Option (List ℕ)) → Type 0
+ReportsFront can_fail bytes zone old new =
     (config : Config) × (given : List Answer) × IsTextOf config (objects_in bytes)
-    × AreOfFeed config (feed_in bytes) given × WritesFront old new (report_text config zone given)
+    × AreOfFeed can_fail config (feed_in bytes) given × WritesFront old new (report_text config zone given)
 
 -- What a fault says. Where the object text is refused or can't be read nothing was written; where the output failed a
--- front of the report, and where memory ran out that, or nothing.
-abbrev pub FailsWith : List ℕ → Zone → CommandFault → (old new : Option (List ℕ)) → Type 0
-FailsWith bytes zone (Objects fault) old new = IsTextFault (objects_in bytes) fault × Keeps old new
-FailsWith bytes zone Unreadable old new = Keeps old new
-FailsWith bytes zone Output old new = ReportsFront bytes zone old new
-FailsWith bytes zone NoMemory old new = Keeps old new ⊎ ReportsFront bytes zone old new
+-- front of the report, and where memory ran out that, or nothing. Only a reader that can fail makes the text unreadable.
+abbrev pub FailsWith : (can_fail : Bool) → List ℕ → Zone → CommandFault → (old new : Option (List ℕ)) → Type 0
+FailsWith can_fail bytes zone (Objects fault) old new = IsTextFault (objects_in bytes) fault × Keeps old new
+FailsWith can_fail bytes zone Unreadable old new = Keeps old new × (can_fail ≡ true)
+FailsWith can_fail bytes zone Output old new = ReportsFront can_fail bytes zone old new
+FailsWith can_fail bytes zone NoMemory old new = Keeps old new ⊎ ReportsFront can_fail bytes zone old new

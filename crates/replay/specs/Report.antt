@@ -13,7 +13,7 @@ use Rattle.decider.specs.Fits.{Fits, Kept}
 use Rattle.event_feed.specs.declared.fault.FeedFault.{FeedFault}
 use Rattle.event_feed.specs.declared.fault.FeedFault.TheVariants.{Ended, Read}
 use Rattle.event_feed.specs.Fault.{is_line_fault}
-use Rattle.event_feed.specs.Feed.{Answer, AnswersNext, AreFromLine, Feed, answers_from}
+use Rattle.event_feed.specs.Feed.{Answer, AnswersNext, AreGivenBy, Feed, answers_from}
 use Rattle.text_lines.specs.Lines.{Known, pieces}
 use Rattle.command_output.specs.declared.outcome.Ending.{Ending}
 use Rattle.command_output.specs.declared.outcome.Ending.TheVariants.{Short, Whole}
@@ -92,40 +92,17 @@ ending_after past answers = if ends_short past answers then Short else Whole
 
 -- ---- what a feed gives
 
--- The reader failed at a line of the feed: the first of its answers were given, and then the refusal of that line. It is
--- after the lines of those answers, not after the line of the next, and no later than the last line of the feed; `from`
--- lines come before the feed, and with its own there are `last`. (Too many calls of a reader count as its failure.)
-pub record FailsBefore (given all : List Answer) (from last : ℕ) : Type 0 where
-  pub front : List Answer
-  pub line : ℕ
-  pub others : List Answer
-  pub begins : all ≡ front ++ others
-  pub first : from < line
-  pub earlier : All (λ answer. answer.line < line) front
-  pub later : AreFromLine line others
-  pub within : line ≤ last
-  pub whole : given ≡ front ++ record { line = line; given = Err Read } ∷ []
-
--- all the answers of a feed were given, or the reader failed
-abbrev pub AreGiven : (given all : List Answer) → (from last : ℕ) → Type 0
-AreGiven given all from last = (given ≡ all) ⊎ FailsBefore given all from last
-
--- the same of a feed whose bytes are known
-abbrev pub AreGivenBy : List Object → Feed → List Answer → Type 0
-AreGivenBy objects feed given = IfSome feed.bytes (λ bytes.
-    AreGiven given (answers_from objects feed bytes) feed.line (feed.line + length (pieces bytes)))
-
--- as many lines of the bytes are left as were not read
-abbrev pub CountsLines : Feed → Feed → Type 0
-CountsLines old new = Known old.bytes new.bytes (λ bytes rest.
-    old.line + length (pieces bytes) ≡ new.line + length (pieces rest))
+-- the bytes left are the lines after those that were read
+abbrev pub PassesLines : Feed → Feed → Type 0
+PassesLines old new = Known old.bytes new.bytes (λ bytes rest. (before : List (List ℕ))
+    × (pieces bytes ≡ before ++ pieces rest) × (new.line ≡ old.line + length before))
 
 -- A line of the feed was read whose answer doesn't end the report, and the feed goes on after it.
 pub record TakesAnswer (objects : List Object) (past : List Event) (old : Feed) (answer : Answer) (new : Feed) : Type 0 where
   pub next : AnswersNext objects old answer new
   pub line : old.line < new.line
   pub number : answer.line ≡ new.line
-  pub lines : CountsLines old new
+  pub lines : PassesLines old new
   pub numbered : is_ended past answer.given ≡ false
   pub read_on : is_short answer.given ≡ false
   pub goes_on : new.stop ≡ None
@@ -136,7 +113,7 @@ pub record Follows (c : Config) (zone : Zone) (start : Feed) (given : List Answe
   pub answers : Known start.bytes now.bytes (λ bytes rest. answers_from c.objects start bytes ≡ given ++ answers_from c.objects now rest)
   pub line : start.line ≤ now.line
   pub earlier : All (λ answer. answer.line ≤ now.line) given
-  pub lines : CountsLines start now
+  pub lines : PassesLines start now
   pub report : (others : List Answer) → report_text c zone (given ++ others) ≡ text ++ report_from c zone past others
   pub ending : (others : List Answer) → ending_after [] (given ++ others) ≡ ending_after past others
   pub goes_on : now.stop ≡ None
@@ -151,23 +128,23 @@ pub record GoesOn (c : Config) (zone : Zone) (old : Kept) (feed : Feed) (before 
       × Leaves before after (held ++ answer_text c zone past answer) held'
 
 -- the feed ended, and the lines of its last answer, if it had one, were made
-pub record Ends (c : Config) (zone : Zone) (old : Kept) (feed : Feed) (before : Option (List ℕ)) (held : List ℕ)
+pub record Ends (can_fail : Bool) (c : Config) (zone : Zone) (old : Kept) (feed : Feed) (before : Option (List ℕ)) (held : List ℕ)
     (ending : Ending) (after : Option (List ℕ)) (held' : List ℕ) : Type 0 where
-  pub each : (past : List Event) → Fits old past → (given : List Answer) × AreGivenBy c.objects feed given
+  pub each : (past : List Event) → Fits old past → (given : List Answer) × AreGivenBy can_fail c.objects feed given
       × (ending ≡ ending_after past given) × Leaves before after (held ++ report_from c zone past given) held'
 
 -- a front of the lines of the next answer was written
-pub record BreaksOff (c : Config) (zone : Zone) (old : Kept) (feed : Feed) (before : Option (List ℕ)) (held : List ℕ)
+pub record WritesPart (can_fail : Bool) (c : Config) (zone : Zone) (old : Kept) (feed : Feed) (before : Option (List ℕ)) (held : List ℕ)
     (after : Option (List ℕ)) : Type 0 where
-  pub each : (past : List Event) → Fits old past → (given : List Answer) × AreGivenBy c.objects feed given
+  pub each : (past : List Event) → Fits old past → (given : List Answer) × AreGivenBy can_fail c.objects feed given
       × WritesFront before after (held ++ report_from c zone past given)
 
 -- the report of a feed was written, and it ended so
-abbrev pub WritesReport : Config → Zone → Feed → Ending → (before after : Option (List ℕ)) → Type 0
-WritesReport c zone feed ending before after = (given : List Answer) × AreGivenBy c.objects feed given
+abbrev pub WritesReport : (can_fail : Bool) → Config → Zone → Feed → Ending → (before after : Option (List ℕ)) → Type 0
+WritesReport can_fail c zone feed ending before after = (given : List Answer) × AreGivenBy can_fail c.objects feed given
     × (ending ≡ ending_after [] given) × Writes before after (report_text c zone given)
 
 -- a front of it was written
-abbrev pub WritesReportFront : Config → Zone → Feed → (before after : Option (List ℕ)) → Type 0
-WritesReportFront c zone feed before after = (given : List Answer) × AreGivenBy c.objects feed given
+abbrev pub WritesReportFront : (can_fail : Bool) → Config → Zone → Feed → (before after : Option (List ℕ)) → Type 0
+WritesReportFront can_fail c zone feed before after = (given : List Answer) × AreGivenBy can_fail c.objects feed given
     × WritesFront before after (report_text c zone given)

@@ -12,40 +12,40 @@ use command_output::{CommandFault, Ending};
 use due_model::zone::Zone;
 use report::Report;
 use std::alloc::Global;
-use std::io::{Read, Write};
-use text_lines::LineReader;
+use std::io::Write;
+use text_lines::{Input, LineReader};
 
 /// Reads object text up to a line `%events`, and then a feed, and writes the report of the feed. The feed is read and
 /// the report written as it comes: what an event adds is written before the reader is called for more, and memory grows
 /// with the configuration alone. Where the object text is refused nothing is written; where the output fails or memory
 /// runs out, a front of the report was.
-pub fn replay<R: Read + Drop, W: Write>(
+pub fn replay<R: Input + Drop, W: Write>(
     alloc: Global,
     reader: R,
     writer: &mut W,
 ) -> Result<Ending, CommandFault>
     // What is written is the report of the bytes read, and nothing else.
     ensures report { IfSome (R.remaining reader) (λ bytes. IfOk result (λ ending.
-        Reports bytes Zone.Utc ending (W.contents writer.old) (W.contents writer.new))) }
+        Reports R.can_fail bytes Zone.Utc ending (W.contents writer.old) (W.contents writer.new))) }
     // A fault says what was wrong, and what was written.
     ensures fault { IfSome (R.remaining reader) (λ bytes. IfErr result (λ fault.
-        FailsWith bytes Zone.Utc fault (W.contents writer.old) (W.contents writer.new))) }
+        FailsWith R.can_fail bytes Zone.Utc fault (W.contents writer.old) (W.contents writer.new))) }
 {
     let zone = Zone::Utc;
     replay_in(alloc, &zone, reader, writer)
 }
 
 /// The same, for local times of a zone.
-pub fn replay_in<R: Read + Drop, W: Write>(
+pub fn replay_in<R: Input + Drop, W: Write>(
     alloc: Global,
     zone: &Zone,
     reader: R,
     writer: &mut W,
 ) -> Result<Ending, CommandFault>
     ensures report { IfSome (R.remaining reader) (λ bytes. IfOk result (λ ending.
-        Reports bytes zone.now ending (W.contents writer.old) (W.contents writer.new))) }
+        Reports R.can_fail bytes zone.now ending (W.contents writer.old) (W.contents writer.new))) }
     ensures fault { IfSome (R.remaining reader) (λ bytes. IfErr result (λ fault.
-        FailsWith bytes zone.now fault (W.contents writer.old) (W.contents writer.new))) }
+        FailsWith R.can_fail bytes zone.now fault (W.contents writer.old) (W.contents writer.new))) }
 {
     let mut lines = LineReader::new(alloc, reader)?;
     let config = read_objects(alloc, &mut lines)?;

@@ -11,7 +11,7 @@ ghost use Rattle.due_model.specs.Covered.{IsCovered, IsSupported};
 ghost use Rattle.due_model.specs.Proper.{IsProper};
 ghost use Rattle.due_model.specs.declared.event.Event.{Event};
 ghost use Rattle.event_feed.specs.Feed.{feed_limit, feed_of};
-ghost use Rattle.replay.specs.Report.{BreaksOff, Ends, GoesOn, WritesReport, WritesReportFront, answer_text, entries_text, is_ended, line_of, whole_share};
+ghost use Rattle.replay.specs.Report.{Ends, GoesOn, WritesPart, WritesReport, WritesReportFront, answer_text, entries_text, is_ended, line_of, whole_share};
 ghost use Rattle.text_lines.specs.Lines.{has_line};
 
 use command_output::{CommandFault, Ending, Lines, OutputLine};
@@ -22,7 +22,7 @@ use due_model::zone::Zone;
 use event_feed::{FeedFault, Feeder};
 use std::alloc::{AllocError, Global};
 use std::io::{Read, Write};
-use text_lines::LineReader;
+use text_lines::{Input, LineReader};
 
 /// The share of the one decider of a replay: all objects.
 const WHOLE: Share = Share {
@@ -41,7 +41,7 @@ pub(crate) struct Report<'a, R: Read> {
     ghost settings: { settings (core_kept decider) ≡ (config.now, zone.now, whole_share) },
 }
 
-impl<'a, R: Read + Drop> Report<'a, R> {
+impl<'a, R: Input + Drop> Report<'a, R> {
     /// A report of which nothing is made yet. A refused growth is the only error.
     pub(crate) fn new(
         alloc: Global,
@@ -71,9 +71,10 @@ impl<'a, R: Read + Drop> Report<'a, R> {
         requires goes_on { self.old.feeder.stop ≡ None }
         requires fits { Fits (core_kept self.old.decider) [] }
         requires held { self.old.lines ≡ [] }
-        ensures ok { IfOk result (λ ending. WritesReport self.old.config.now self.old.zone.now
+        ensures ok { IfOk result (λ ending. WritesReport R.can_fail
+            self.old.config.now self.old.zone.now
             self.old.feeder ending (W.contents writer.old) (W.contents writer.new)) }
-        ensures front { WritesReportFront self.old.config.now self.old.zone.now
+        ensures front { WritesReportFront R.can_fail self.old.config.now self.old.zone.now
             self.old.feeder (W.contents writer.old) (W.contents writer.new) }
         ensures fault { IfErr result (λ fault. IsWriteFault fault) }
     {
@@ -100,10 +101,10 @@ impl<'a, R: Read + Drop> Report<'a, R> {
             self.old.config.now self.old.zone.now (core_kept self.old.decider) self.old.feeder
             (W.contents writer.old) self.old.lines
             (core_kept self.new.decider) self.new.feeder (W.contents writer.new) self.new.lines)) }
-        ensures ends { IfOk result (λ ended. IfSome ended (λ ending. Ends
+        ensures ends { IfOk result (λ ended. IfSome ended (λ ending. Ends R.can_fail
             self.old.config.now self.old.zone.now (core_kept self.old.decider) self.old.feeder
             (W.contents writer.old) self.old.lines ending (W.contents writer.new) self.new.lines)) }
-        ensures front { BreaksOff
+        ensures front { WritesPart R.can_fail
             self.old.config.now self.old.zone.now (core_kept self.old.decider) self.old.feeder
             (W.contents writer.old) self.old.lines (W.contents writer.new) }
         ensures limit { self.new.feeder.line ≤ feed_limit + 1 }
@@ -183,7 +184,7 @@ impl<'a, R: Read + Drop> Report<'a, R> {
 }
 
 /// Writes all lines, unless a line of the feed is there to be read: else the next call of the reader may wait.
-fn write_before_wait<R: Read + Drop, W: Write>(
+fn write_before_wait<R: Input + Drop, W: Write>(
     lines: &mut Lines,
     feeder: &Feeder<R>,
     writer: &mut W,

@@ -1,5 +1,5 @@
 -- The text before the first line that is a mark, and what follows that line.
-use Rattle.std.specs.Prelude.{◌≡◌, ℕ, ◌-◌, ◌<◌, ◌≤◌, Bool, false, List, [], ◌∷◌, ◌++◌, length, take, drop, if◌then◌else◌, Option, None, Some}
+use Rattle.std.specs.Prelude.{◌≡◌, ℕ, ◌+◌, ◌-◌, ◌<◌, ◌≤◌, Bool, false, List, [], ◌∷◌, ◌++◌, length, take, drop, if◌then◌else◌, Option, None, Some}
 use Rattle.std.specs.List.{join_with_byte}
 use Rattle.std.specs.Str.{bytes_eq}
 use Rattle.text_lines.specs.Lines.{IsUnbroken, pieces}
@@ -18,6 +18,11 @@ text_call_limit = 33_554_432
 abbrev pub is_mark : Option (List ℕ) → List ℕ → Bool
 is_mark None line = false
 is_mark (Some mark) line = bytes_eq line mark
+
+-- how long a mark is, where one is given
+abbrev pub mark_length : Option (List ℕ) → ℕ
+mark_length None = 0
+mark_length (Some mark) = length mark
 
 -- the lines before the first one that is the mark, and those after it, joined again
 abbrev pub split_lines : Option (List ℕ) → List (List ℕ) → List ℕ × List ℕ
@@ -77,3 +82,4 @@ pub record MovesHeld (mark : Option (List ℕ)) (old new : Reading) (before afte
   pub unread : new.unread ≡ old.unread
   pub searched : IsSearched mark after search
   pub all : search.at ≡ length after
+  pub few : length after ≤ text_limit + mark_length mark

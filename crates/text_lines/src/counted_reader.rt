@@ -1,9 +1,10 @@
 //! A reader whose calls are counted.
 
-ghost use Rattle.std.specs.Prelude.{◌≡◌, ◌≤◌, length, IfOk};
+ghost use Rattle.std.specs.Prelude.{◌≡◌, ◌≤◌, false, length, IfOk, IsOk};
 ghost use Rattle.std.specs.Io.KnownBytes.{ReadConsumes};
 ghost use Rattle.text_lines.specs.CountedReader.{calls_after};
 
+use crate::input::Input;
 use std::io::{self, Read};
 use std::marker::Model;
 
@@ -23,7 +24,7 @@ impl<R: Read> Model for CountedReader<R> {
     ghost view = { λ s. record { unread = R.remaining s.reader; calls = s.calls } };
 }
 
-impl<R: Read> CountedReader<R> {
+impl<R: Input> CountedReader<R> {
     /// No call was made yet.
     pub fn new(reader: R) -> Self
         ensures { result ≡ record { unread = R.remaining reader; calls = 0 } }
@@ -36,8 +37,9 @@ impl<R: Read> CountedReader<R> {
         ensures bound { IfOk result (λ count. count ≤ length buffer.new) }
         ensures bytes { ReadConsumes self.old.unread self.new.unread result buffer.new }
         ensures counted { self.new.calls ≡ calls_after self.old.calls 1 }
+        ensures sure { R.can_fail ≡ false → IsOk result }
     {
         self.calls = self.calls.saturating_add(1);
-        self.reader.read(buffer)
+        self.reader.read_input(buffer)
     }
 }

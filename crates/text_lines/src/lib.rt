@@ -4,9 +4,11 @@
 
 pub mod bytes;
 pub mod counted_reader;
+pub mod input;
 pub mod line_reader;
 pub mod text;
 
 pub use bytes::find_byte;
+pub use input::{AnyReader, Input};
 pub use line_reader::{BYTE_LIMIT, CALL_LIMIT, LINE_LIMIT, LineReader, NextLine, Stop};
 pub use text::{TEXT_CALL_LIMIT, TEXT_LIMIT, TextFault};

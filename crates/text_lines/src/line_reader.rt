@@ -1,6 +1,6 @@
 //! Lines from any reader, whatever pieces it gives, through a buffer of their own.
 
-ghost use Rattle.std.specs.Prelude.{◌≡◌, ◌+◌, ◌-◌, ◌<◌, ◌≤◌, [], length, take, drop, slice_index, slice_range, IfOk, IsTrue};
+ghost use Rattle.std.specs.Prelude.{◌≡◌, ◌≢◌, ◌+◌, ◌-◌, ◌<◌, ◌≤◌, [], false, length, take, drop, slice_index, slice_range, IfOk, IsOk, IsTrue};
 ghost use Rattle.std.specs.Io.KnownBytes.{ReadConsumes};
 ghost use Rattle.text_lines.specs.CountedReader.{calls_after};
 ghost use Rattle.text_lines.specs.Lines.{IsUnbroken, has_line, has_newline};
@@ -8,6 +8,7 @@ ghost use Rattle.text_lines.specs.LineReader.{Fills, MakesRoom, ReadsHeld, Reads
 
 use crate::bytes::{find_byte, has_line};
 use crate::counted_reader::CountedReader;
+use crate::input::Input;
 use std::alloc::{AllocError, Global};
 use std::io::{self, Read};
 use std::marker::Model;
@@ -96,7 +97,7 @@ impl<R: Read> Model for LineReader<R> {
         × (s.line_end ≤ vec_len s.buffer) × (vec_len s.buffer ≡ 65536) };
 }
 
-impl<R: Read + Drop> LineReader<R> {
+impl<R: Input + Drop> LineReader<R> {
     /// Nothing is read yet. A buffer of 65,536 bytes is all the memory that it takes.
     pub fn new(alloc: Global, reader: R) -> Result<Self, AllocError>
         ensures { IfOk result (λ lines.
@@ -121,6 +122,7 @@ impl<R: Read + Drop> LineReader<R> {
         ensures line { ReadsLine self.old result self.new }
         ensures calls { SpendsCalls self.old result self.new }
         ensures held { IsTrue (has_newline self.old.held) → ReadsHeld self.old result self.new }
+        ensures sure { R.can_fail ≡ false → result ≢ NextLine.Over Stop.ReaderFailed }
     {
         let place = self.find_newline(0);
         if place < self.held_len() {
@@ -151,6 +153,7 @@ impl<R: Read + Drop> LineReader<R> {
         requires { IsUnbroken self.old.held }
         ensures line { ReadsLine self.old result self.new }
         ensures calls { SpendsCalls self.old result self.new }
+        ensures sure { R.can_fail ≡ false → result ≢ NextLine.Over Stop.ReaderFailed }
     {
         let mut skipped = 0;
         for _call in 0..CALL_LIMIT {
@@ -265,6 +268,7 @@ impl<R: Read + Drop> LineReader<R> {
         requires { length self.old.held ≤ line_limit }
         ensures bytes { Fills self.old result self.new }
         ensures calls { self.new.calls ≡ calls_after self.old.calls 1 }
+        ensures sure { R.can_fail ≡ false → result ≢ Filled.Failed }
     {
         let (start, end) = (self.start, self.end);
         self.start = 0;
@@ -290,7 +294,7 @@ fn move_to_front(buffer: &mut [u8], start: usize, end: usize)
 }
 
 /// Moves a part of the buffer to its front, and reads once into the room after it.
-fn refill<R: Read>(
+fn refill<R: Input>(
     reader: &mut CountedReader<R>,
     buffer: &mut [u8],
     start: usize,
@@ -303,13 +307,14 @@ fn refill<R: Read>(
     ensures bytes { ReadConsumes reader.old.unread reader.new.unread result
         (drop (end - start) buffer.new) }
     ensures calls { reader.new.calls ≡ calls_after reader.old.calls 1 }
+    ensures sure { R.can_fail ≡ false → IsOk result }
 {
     move_to_front(buffer, start, end);
     read_after(reader, buffer, end - start)
 }
 
 /// Reads once into the buffer, from a place on.
-fn read_after<R: Read>(
+fn read_after<R: Input>(
     reader: &mut CountedReader<R>,
     buffer: &mut [u8],
     place: usize,
@@ -320,6 +325,7 @@ fn read_after<R: Read>(
     ensures bytes { ReadConsumes reader.old.unread reader.new.unread result
         (drop place buffer.new) }
     ensures calls { reader.new.calls ≡ calls_after reader.old.calls 1 }
+    ensures sure { R.can_fail ≡ false → IsOk result }
 {
     reader.read(&mut buffer[place..])
 }

@@ -4,12 +4,12 @@ ghost use Rattle.std.specs.Prelude.{◌≡◌, ◌<◌, ◌≤◌, ◌+◌, ℕ,
 ghost use Rattle.std.specs.Option.{option_copied};
 ghost use Rattle.text_lines.specs.LineReader.{to_come};
 ghost use Rattle.text_lines.specs.Lines.{Known};
-ghost use Rattle.text_lines.specs.Text.{FindsMark, IsParting, IsSearched, MovesHeld, is_mark, rest_after, split_text, text_before, text_call_limit, text_limit};
+ghost use Rattle.text_lines.specs.Text.{FindsMark, IsParting, IsSearched, MovesHeld, is_mark, rest_after, mark_length, split_text, text_before, text_call_limit, text_limit};
 
 use crate::bytes::find_byte;
+use crate::input::Input;
 use crate::line_reader::{Filled, LineReader};
 use std::alloc::{AllocError, Global};
-use std::io::Read;
 
 /// The most bytes of a text, newlines counted.
 pub const TEXT_LIMIT: usize = 16_777_216;
@@ -54,7 +54,7 @@ struct Parting {
     rest_start: usize,
 }
 
-impl<R: Read + Drop> LineReader<R> {
+impl<R: Input + Drop> LineReader<R> {
     /// Reads the text up to the first line that is the mark, and that line with its newline, which it may lack at the end
     /// of the input; or up to the end of the input, where no line is the mark or there is none. Lines of any length are
     /// kept byte for byte. What follows the mark stays for `next_line`. The text has at most 16,777,216 bytes, and the
@@ -69,6 +69,8 @@ impl<R: Read + Drop> LineReader<R> {
         ensures large { IsErrOf result TextFault.TooLarge → IfSome (to_come self.old) (λ bytes.
             text_limit < length (text_before (option_copied mark.entry) bytes)) }
         ensures calls { self.new.calls ≤ self.old.calls + text_call_limit }
+        ensures sure { R.can_fail ≡ false → mark_length (option_copied mark.entry) < text_limit
+            → ¬ IsErrOf result TextFault.Unreadable }
     {
         let mut text = Vec::new(alloc);
         let mut search = Search {
@@ -109,6 +111,7 @@ impl<R: Read + Drop> LineReader<R> {
         ensures large { IsErrOf result TextFault.TooLarge → (more : List ℕ) →
             text_limit < length (text_before (option_copied mark.entry)
             ((text.old.items ++ self.old.held) ++ more)) }
+        ensures fault { ¬ IsErrOf result TextFault.Unreadable }
         ensures calls { self.new.calls ≡ self.old.calls }
     {
         let before = text.len();
@@ -143,6 +146,7 @@ fn end_text(mark: Option<&[u8]>, mut text: Vec<u8>, search: Search) -> Result<Ve
     ensures limit { IfOk result (λ ended. length ended.items ≤ text_limit) }
     ensures large { IfErr result (λ fault.
         text_limit < length (text_before (option_copied mark.entry) text.items)) }
+    ensures fault { IfErr result (λ fault. fault ≡ TextFault.TooLarge) }
 {
     let end = end_of_text(mark, &text, search);
     if end > TEXT_LIMIT {
@@ -171,8 +175,10 @@ fn end_of_text(mark: Option<&[u8]>, bytes: &[u8], search: Search) -> usize
 fn is_large(mark: Option<&[u8]>, bytes: &[u8], search: Search) -> bool
     requires searched { IsSearched (option_copied mark) bytes.now search }
     requires all { search.at ≡ length bytes.now }
-    ensures { IsTrue result → (more : List ℕ) →
+    ensures large { IsTrue result → (more : List ℕ) →
         text_limit < length (text_before (option_copied mark.entry) (bytes.now ++ more)) }
+    ensures few { result ≡ false →
+        length bytes.now ≤ text_limit + mark_length (option_copied mark.entry) }
 {
     let line_len = bytes.len() - search.line_start;
     search.line_start > TEXT_LIMIT || bytes.len() > TEXT_LIMIT && is_longer(mark, line_len)
@@ -180,8 +186,9 @@ fn is_large(mark: Option<&[u8]>, bytes: &[u8], search: Search) -> bool
 
 /// Whether a length is more than the mark's.
 fn is_longer(mark: Option<&[u8]>, line_len: usize) -> bool
-    ensures { IsTrue result → (line : List ℕ) → line_len ≤ length line →
+    ensures longer { IsTrue result → (line : List ℕ) → line_len ≤ length line →
         is_mark (option_copied mark.entry) line ≡ false }
+    ensures few { result ≡ false → line_len ≤ mark_length (option_copied mark.entry) }
 {
     match mark {
         None => true,

@@ -11,28 +11,28 @@ write-requires-clause-goes_on g c = ap (λ (feed : Feed). feed.stop) c.in_ok-rep
 pub returns-in_err-lines-clause-fault : goal.returns-in_err-lines-clause-fault
 returns-in_err-lines-clause-fault g c =
     let p = err_from_is_err_and c.from_residual.result c.from_residual.ensures.1 in
-    rw (p.1, p.2) (no_memory c.args.zone.now (g.R.Read.remaining c.args.reader) (g.W.Write.contents c.args.writer.now))
+    rw (p.1, p.2) (no_memory g.R.Input.can_fail c.args.zone.now (g.R.Read.remaining c.args.reader) (g.W.Write.contents c.args.writer.now))
 
 pub returns-in_err-config-clause-fault : goal.returns-in_err-config-clause-fault
 returns-in_err-config-clause-fault g c =
     let p = err_from_is_err_and c.from_residual-in_err-config.result c.from_residual-in_err-config.ensures.1 in
-    rw (p.1, p.2) (refused_input c.args.zone.now (g.R.Read.remaining c.args.reader) c.in_ok-lines.lines c.in_err-config.field-0.0 (g.W.Write.contents c.args.writer.now)
+    rw (p.1, p.2) (refused_input g.R.Input.can_fail c.args.zone.now (g.R.Read.remaining c.args.reader) c.in_ok-lines.lines c.in_err-config.field-0.0 (g.W.Write.contents c.args.writer.now)
     (ap (λ (r : Reading). to_come r) c.in_ok-lines.ensures) c.in_err-config.ensures.fault)
 
 pub returns-in_err-report-clause-fault : goal.returns-in_err-report-clause-fault
 returns-in_err-report-clause-fault g c =
     let p = err_from_is_err_and c.from_residual-in_err-report.result c.from_residual-in_err-report.ensures.1 in
-    rw (p.1, p.2) (no_memory c.args.zone.now (g.R.Read.remaining c.args.reader) (g.W.Write.contents c.args.writer.now))
+    rw (p.1, p.2) (no_memory g.R.Input.can_fail c.args.zone.now (g.R.Read.remaining c.args.reader) (g.W.Write.contents c.args.writer.now))
 
 pub returns-clause-report : goal.returns-clause-report
 returns-clause-report g c =
-    report_of_input c.in_ok-config.config c.in_ok-report.report.config.now c.args.zone.now c.in_ok-report.report.zone.now (g.R.Read.remaining c.args.reader) c.in_ok-lines.lines
+    report_of_input g.R.Input.can_fail c.in_ok-config.config c.in_ok-report.report.config.now c.args.zone.now c.in_ok-report.report.zone.now (g.R.Read.remaining c.args.reader) c.in_ok-lines.lines
     c.read_objects.new.lines c.in_ok-report.report.feeder c.write.result _ _
     (ap (λ (r : Reading). to_come r) c.in_ok-lines.ensures) c.in_ok-report.ensures.feed c.in_ok-config.ensures.config c.in_ok-report.ensures.config c.in_ok-report.ensures.zone c.write.ensures.ok
 
 pub returns-clause-fault : goal.returns-clause-fault
 returns-clause-fault g c =
-    fault_of_input c.in_ok-config.config c.in_ok-report.report.config.now c.args.zone.now c.in_ok-report.report.zone.now (g.R.Read.remaining c.args.reader) c.in_ok-lines.lines
+    fault_of_input g.R.Input.can_fail c.in_ok-config.config c.in_ok-report.report.config.now c.args.zone.now c.in_ok-report.report.zone.now (g.R.Read.remaining c.args.reader) c.in_ok-lines.lines
     c.read_objects.new.lines c.in_ok-report.report.feeder c.write.result _ _
     (ap (λ (r : Reading). to_come r) c.in_ok-lines.ensures) c.in_ok-report.ensures.feed c.in_ok-config.ensures.config c.in_ok-report.ensures.config c.in_ok-report.ensures.zone
     c.write.ensures.front c.write.ensures.fault

@@ -1,22 +1,22 @@
 use Rattle.std.proofs.Common.{◌≡◌, ◌∷◌, [], cond, None, Ok, Some, refl, rules, ◌∙◌}
 use Rattle.std.proofs.lemmas.Option.{IfSome_then}
 use Rattle.std.proofs.lemmas.Result.{IfOk-weaker}
-use Rattle.event_feed.specs.Feed.{Answer}
+use Rattle.event_feed.specs.Feed.{Answer, refusal}
 use Rattle.command_output.specs.OutputLaws.{front_begun, front_none, if_none, leaves_nothing, leaves_same}
 use Rattle.command_output.specs.ReportLine.{refused_line}
 use Rattle.replay.specs.Report.{answer_text, is_ended, past_after, report_from}
-use Rattle.replay.proofs.ReportLaws.{event_answers, event_taken, fault_given, fault_last, fault_taken, next_given, none_given, refusal, report_of_end, report_of_refusal, short_at_end, short_at_refusal, taken_same, text_of_event}
+use Rattle.replay.proofs.ReportLaws.{event_answers, event_taken, fault_given, fault_last, fault_taken, next_given, none_given, report_of_end, report_of_refusal, short_at_end, short_at_refusal, taken_same, text_of_event}
 use Rattle.replay.proofs.report.Report.take_line.Goals as goal
 
 pub returns-in-Ok-None-clause-ends : goal.returns-in-Ok-None-clause-ends
 returns-in-Ok-None-clause-ends g c =
     let gives = rw c.in-Ok-None.field-0-is at c.in-Ok-None.ensures.none in
-    record { each = λ past s. ([], none_given c.args.self.now.config.now.objects c.args.self.now.feeder c.next.new.self gives.answers, refl, leaves_nothing _ _) }
+    record { each = λ past s. ([], none_given g.R.Input.can_fail c.args.self.now.config.now.objects c.args.self.now.feeder c.next.new.self gives.answers, refl, leaves_nothing _ _) }
 
 pub returns-in-Ok-None-clause-front : goal.returns-in-Ok-None-clause-front
 returns-in-Ok-None-clause-front g c =
     let gives = rw c.in-Ok-None.field-0-is at c.in-Ok-None.ensures.none in
-    record { each = λ past s. ([], none_given c.args.self.now.config.now.objects c.args.self.now.feeder c.next.new.self gives.answers, front_none _ _) }
+    record { each = λ past s. ([], none_given g.R.Input.can_fail c.args.self.now.config.now.objects c.args.self.now.feeder c.next.new.self gives.answers, front_none _ _) }
 
 pub returns-in-Ok-Some-clause-goes_on : goal.returns-in-Ok-Some-clause-goes_on
 returns-in-Ok-Some-clause-goes_on g c =
@@ -43,7 +43,7 @@ returns-in-Ok-Some-clause-ends g c =
     let gives = rw c.in-Ok-Some.field-0-is at c.in-Ok-Some.ensures.event in
     let config = c.args.self.now.config.now in
     let answer : Answer = record { line = c.line-line.result; given = Ok c.in-Ok-Some.event } in
-    let more = next_given config.objects c.args.self.now.feeder c.next.new.self answer
+    let more = next_given g.R.Input.can_fail config.objects c.args.self.now.feeder c.next.new.self answer
     (event_answers config c.args.self.now.feeder c.next.new.self c.in-Ok-Some.event c.line-line.result c.line-line.ensures gives) in
     IfOk-weaker c.decide_event.result _ _
     (λ ended found. IfSome_then ended found (λ ending at. record {
@@ -63,7 +63,7 @@ returns-in-Ok-Some-clause-front g c =
     let config = c.args.self.now.config.now in
     let zone = c.args.self.now.zone.now in
     let answer : Answer = record { line = c.line-line.result; given = Ok c.in-Ok-Some.event } in
-    let more = next_given config.objects c.args.self.now.feeder c.next.new.self answer
+    let more = next_given g.R.Input.can_fail config.objects c.args.self.now.feeder c.next.new.self answer
     (event_answers config c.args.self.now.feeder c.next.new.self c.in-Ok-Some.event c.line-line.result c.line-line.ensures gives) in
     let front = rw c.in-Ok-Some.field-0-is at c.decide_event.ensures.front in
     record {
@@ -79,7 +79,7 @@ pub returns-in_err-write-in-Err-clause-front : goal.returns-in_err-write-in-Err-
 returns-in_err-write-in-Err-clause-front g c =
     let fault = c.in-Err.refusal in
     let config = c.args.self.now.config.now in
-    let more = fault_given config.objects c.args.self.now.feeder c.next.new.self fault c.in-Err.ensures.fault in
+    let more = fault_given g.R.Input.can_fail config.objects c.args.self.now.feeder c.next.new.self fault c.in-Err.ensures.fault c.in-Err.ensures.last in
     record {
       each = λ past s. (
         refusal fault ∷ more.0,
@@ -105,7 +105,7 @@ pub returns-in-None-clause-front : goal.returns-in-None-clause-front
 returns-in-None-clause-front g c =
     let fault = c.in-Err.refusal in
     let config = c.args.self.now.config.now in
-    let more = fault_given config.objects c.args.self.now.feeder c.next.new.self fault c.in-Err.ensures.fault in
+    let more = fault_given g.R.Input.can_fail config.objects c.args.self.now.feeder c.next.new.self fault c.in-Err.ensures.fault c.in-Err.ensures.last in
     record {
       each = λ past s. (
         refusal fault ∷ more.0,
@@ -118,7 +118,7 @@ pub returns-in-Some-clause-ends : goal.returns-in-Some-clause-ends
 returns-in-Some-clause-ends g c =
     let fault = c.in-Err.refusal in
     let stopped : c.next.new.self.stop ≡ Some c.in-Some.field-0 = search rules in
-    let last = fault_last c.args.self.now.config.now.objects c.args.self.now.feeder c.next.new.self fault c.in-Some.field-0 stopped c.in-Err.ensures.fault in
+    let last = fault_last g.R.Input.can_fail c.args.self.now.config.now.objects c.args.self.now.feeder c.next.new.self fault c.in-Some.field-0 stopped c.in-Err.ensures.fault c.in-Err.ensures.last in
     record {
       each = λ past s. (
         refusal fault ∷ [],
@@ -132,7 +132,7 @@ pub returns-in-Some-clause-front : goal.returns-in-Some-clause-front
 returns-in-Some-clause-front g c =
     let fault = c.in-Err.refusal in
     let config = c.args.self.now.config.now in
-    let more = fault_given config.objects c.args.self.now.feeder c.next.new.self fault c.in-Err.ensures.fault in
+    let more = fault_given g.R.Input.can_fail config.objects c.args.self.now.feeder c.next.new.self fault c.in-Err.ensures.fault c.in-Err.ensures.last in
     record {
       each = λ past s. (
         refusal fault ∷ more.0,

@@ -39,31 +39,31 @@ loop-self-smaller g c =
     omega (arith, less, limit)
 
 pub returns-in_err-write_before_wait-clause-front : goal.returns-in_err-write_before_wait-clause-front
-returns-in_err-write_before_wait-clause-front g c = written_less _ _ _ _ _ _ _ _ _ c.loop-self.invariant.written c.in_err-write_before_wait.ensures.front
+returns-in_err-write_before_wait-clause-front g c = written_less g.R.Input.can_fail _ _ _ _ _ _ _ _ _ c.loop-self.invariant.written c.in_err-write_before_wait.ensures.front
 
 pub returns-in_err-take_line-clause-front : goal.returns-in_err-take_line-clause-front
 returns-in_err-take_line-clause-front g c =
     let inv = c.loop-self.invariant in
     let held = written_held _ _ _ _ _ _ _ _ _ _ inv.written c.in_ok-write_before_wait.ensures.ok in
-    written_front _ _ _ _ _ _ _ _ _ held (breaks_off_of _ _ _ _ _ _ _ _ _ inv.config inv.zone c.in_err-take_line.ensures.front)
+    written_front g.R.Input.can_fail _ _ _ _ _ _ _ _ _ held (breaks_off_of g.R.Input.can_fail _ _ _ _ _ _ _ _ _ inv.config inv.zone c.in_err-take_line.ensures.front)
 
 pub returns-in_err-flush-in-Some-clause-front : goal.returns-in_err-flush-in-Some-clause-front
 returns-in_err-flush-in-Some-clause-front g c =
     let inv = c.loop-self.invariant in
     let held = written_held _ _ _ _ _ _ _ _ _ _ inv.written c.in_ok-write_before_wait.ensures.ok in
     let ends = rw c.in-Some.is at c.in_ok-take_line.ensures.ends in
-    written_cut _ _ _ _ _ _ _ _ _ _ _ _ held (ends_of _ _ _ _ _ _ _ _ _ _ _ inv.config inv.zone ends) c.in_err-flush-in-Some.ensures.front
+    written_cut g.R.Input.can_fail _ _ _ _ _ _ _ _ _ _ _ _ held (ends_of g.R.Input.can_fail _ _ _ _ _ _ _ _ _ _ _ inv.config inv.zone ends) c.in_err-flush-in-Some.ensures.front
 
 pub returns-in-Some-clause-ok : goal.returns-in-Some-clause-ok
 returns-in-Some-clause-ok g c =
     let inv = c.loop-self.invariant in
     let held = written_held _ _ _ _ _ _ _ _ _ _ inv.written c.in_ok-write_before_wait.ensures.ok in
     let ends = rw c.in-Some.is at c.in_ok-take_line.ensures.ends in
-    written_whole _ _ _ _ _ _ _ _ _ _ _ _ held (ends_of _ _ _ _ _ _ _ _ _ _ _ inv.config inv.zone ends) c.in_ok-flush-in-Some.ensures.ok
+    written_whole g.R.Input.can_fail _ _ _ _ _ _ _ _ _ _ _ _ held (ends_of g.R.Input.can_fail _ _ _ _ _ _ _ _ _ _ _ inv.config inv.zone ends) c.in_ok-flush-in-Some.ensures.ok
 
 pub returns-in-Some-clause-front : goal.returns-in-Some-clause-front
 returns-in-Some-clause-front g c =
     let inv = c.loop-self.invariant in
     let held = written_held _ _ _ _ _ _ _ _ _ _ inv.written c.in_ok-write_before_wait.ensures.ok in
     let ends = rw c.in-Some.is at c.in_ok-take_line.ensures.ends in
-    written_cut _ _ _ _ _ _ _ _ _ _ _ _ held (ends_of _ _ _ _ _ _ _ _ _ _ _ inv.config inv.zone ends) c.in_ok-flush-in-Some.ensures.front
+    written_cut g.R.Input.can_fail _ _ _ _ _ _ _ _ _ _ _ _ held (ends_of g.R.Input.can_fail _ _ _ _ _ _ _ _ _ _ _ inv.config inv.zone ends) c.in_ok-flush-in-Some.ensures.front

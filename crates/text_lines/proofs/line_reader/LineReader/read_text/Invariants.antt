@@ -1,7 +1,7 @@
 use Rattle.std.proofs.Common.{◌≡◌, ◌+◌, ◌≤◌, [], length}
 use Rattle.std.specs.Option.{option_copied}
 use Rattle.text_lines.specs.LineReader.{to_come}
-use Rattle.text_lines.specs.Text.{IsSearched}
+use Rattle.text_lines.specs.Text.{IsSearched, mark_length, text_limit}
 use Rattle.text_lines.proofs.Marks.{IsFront}
 use Rattle.text_lines.proofs.line_reader.LineReader.read_text.Given as goal
 
@@ -12,5 +12,7 @@ invariant-loop-call g l = record {
   all : l.search.at ≡ length l.text.items;
   none : l.self.held ≡ [];
   front : IsFront (to_come l.fn.self) l.self l.text.items;
+  each : l._call ≤ length l.text.items;
+  few : length l.text.items ≤ text_limit + mark_length (option_copied l.mark);
   calls : l.self.calls ≤ l.fn.self.calls + l._call;
 }
