@@ -1,0 +1,12 @@
+-- A clock that goes on, on the same day.
+use Rattle.std.specs.Prelude.{◌≡◌, ℕ, ◌+◌, ◌-◌, ◌<◌, ◌≤◌}
+use Rattle.due_model.specs.declared.zone.Zone.{Zone}
+use Rattle.due_model.specs.Local.{Local, local}
+
+-- so many seconds later on the same day
+abbrev pub later : Local → ℕ → Local
+later time seconds = record { weekday = time.weekday; second = time.second + seconds }
+
+-- from t on and before `end` the zone's clock goes on second by second, on the day that it shows at t
+abbrev pub GoesOn : Zone → (t end : ℕ) → Type 0
+GoesOn zone t end = (k : ℕ) → t ≤ k → k < end → local zone k ≡ later (local zone t) (k - t)

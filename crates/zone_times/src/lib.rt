@@ -1,0 +1,6 @@
+//! What a zone's clock shows, how long its offset stays as it is, and a zone from what a command is given. All
+//! that is known of zones here is what `jiff` says of them. Nothing but the reading of a zone file takes memory.
+#![tactic(auto)]
+
+pub mod local;
+pub mod steady;

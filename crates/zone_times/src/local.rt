@@ -1,0 +1,68 @@
+//! Local time: what a clock and a calendar on the wall show.
+
+ghost use Rattle.std.specs.Prelude.{◌≡◌, ◌^◌, ◌<◌, pos, ◌*ℤ◌, ◌+ℤ◌, unsigned_abs};
+ghost use Rattle.std.specs.Int.{int_div_euclid, int_rem_euclid};
+ghost use Rattle.due_model.specs.Local.{local, offset};
+
+use due_model::zone::Zone;
+use jiff::Timestamp;
+
+/// How many seconds a day has.
+pub const DAY: u32 = 86_400;
+
+/// What a clock and a calendar on the wall show.
+#[derive(Clone, Copy, Debug, PartialEq, Eq)]
+pub struct LocalTime {
+    /// From Sunday, which is 0, to Saturday.
+    pub weekday: u8,
+    /// Of the day.
+    pub second: u32,
+    ghost in_week: { weekday < 7 },
+    ghost in_day: { second < 86400 },
+}
+
+/// Local time at a moment, in seconds since the epoch (chapter "Time Periods").
+pub fn local_time(zone: &Zone, t: u64) -> LocalTime
+    requires { t < 2 ^ 35 }
+    ensures weekday { result.weekday ≡ (local zone.now t).weekday }
+    ensures second { result.second ≡ (local zone.now t).second }
+{
+    clock_at(t as i64 + i64::from(offset_at(zone, t)))
+}
+
+/// How far the zone's clock is ahead of UTC, in seconds.
+fn offset_at(zone: &Zone, t: u64) -> i32
+    requires { t < 2 ^ 35 }
+    ensures value { result ≡ offset zone.now t }
+    ensures small { unsigned_abs result < 93600 }
+{
+    match zone {
+        Zone::Utc => 0,
+        Zone::Rules(rules) => rules.to_offset(instant(t)).seconds(),
+        Zone::File(table) => table.to_offset(instant(t).to_plain()).seconds,
+    }
+}
+
+/// That many seconds after the epoch.
+pub(crate) fn instant(t: u64) -> Timestamp
+    requires { t < 2 ^ 35 }
+    ensures { result.nanosecond ≡ pos t *ℤ pos 1_000_000_000 }
+{
+    match Timestamp::from_second(t as i64) {
+        Ok(instant) => instant,
+        Err(_) => unreachable!(),
+    }
+}
+
+/// What the clock shows that many seconds after its own midnight of 1970-01-01, a Thursday.
+fn clock_at(second: i64) -> LocalTime
+    requires { unsigned_abs second < 2 ^ 36 }
+    ensures weekday { result.weekday
+        ≡ unsigned_abs (int_rem_euclid (int_div_euclid second (pos 86400) +ℤ pos 4) (pos 7)) }
+    ensures second { result.second ≡ unsigned_abs (int_rem_euclid second (pos 86400)) }
+{
+    LocalTime {
+        weekday: (second.div_euclid(86_400) + 4).rem_euclid(7) as u8,
+        second: second.rem_euclid(86_400) as u32,
+    }
+}
