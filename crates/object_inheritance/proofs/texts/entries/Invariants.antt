@@ -1,0 +1,10 @@
+use Rattle.std.proofs.Common.{◌≡◌, ◌++◌, length}
+use Rattle.object_inheritance.specs.Texts.{entries, texts}
+use Rattle.object_inheritance.proofs.texts.entries.Given as goal
+
+-- The entries so far, and those of the rest.
+abbrev pub invariant-loop-list : goal.invariant-loop-list
+invariant-loop-list l = texts l.list.items ++ entries l.rest ≡ entries l.value
+
+abbrev pub decreases-loop-list : goal.decreases-loop-list
+decreases-loop-list l = length l.rest

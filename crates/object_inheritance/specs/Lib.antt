@@ -1,0 +1,4 @@
+pub mod Texts
+pub mod Templates
+pub mod Names
+pub mod Inherited

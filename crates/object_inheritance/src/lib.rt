@@ -1,0 +1,6 @@
+//! What the blocks of object text inherit from templates (chapter "Object Inheritance"): which templates
+//! each block uses, the faults of that, and the value that each block has for a directive.
+#![tactic(auto)]
+
+mod names;
+pub mod texts;
