@@ -1,6 +1,6 @@
 //! How large a world is, and how often it tries.
 
-ghost use Rattle.world_steps.specs.Settings.{AreSettings};
+ghost use Rattle.steps.specs.Settings.{AreSettings};
 
 use due_model::limits::{MAX_DECIDERS, MAX_QUEUE, MAX_TRIES};
 

@@ -1,8 +1,7 @@
 //! A lane: its queue, the message in hand, and what its channel has taken or not.
 
 ghost use Rattle.std.specs.Prelude.{◌≡◌, map, IfOk};
-ghost use Rattle.world_steps.specs.Worlds.{new_lane};
-ghost use Rattle.world_steps.specs.Fits.{lane_state};
+ghost use Rattle.steps.specs.Lanes.{lane_state, new_lane};
 
 use crate::line::{LineParts, about_in, about_in_hand, about_in_queue};
 use crate::step::LaneStep;
@@ -13,7 +12,7 @@ use std::collections::VecDeque;
 
 /// What is kept of a lane of the configuration.
 #[derive(Drop)]
-pub(crate) struct KeptLane {
+pub struct KeptLane {
     /// What its channel has taken, the oldest first.
     taken: Vec<Notice>,
     /// The message in hand.
@@ -32,8 +31,7 @@ pub(crate) struct KeptLane {
 
 impl KeptLane {
     ghost use Rattle.std.specs.Prelude.{◌↔◌, [], ◌∷◌, length, IsTrue, OnOk, OnErr};
-    ghost use Rattle.world_steps.specs.Steps.{Can, CanSettle, closed, does, drained, queued, settled};
-    ghost use Rattle.world_steps.specs.Lines.{about};
+    ghost use Rattle.steps.specs.Lanes.{Can, CanSettle, about, closed, does, drained, queued, settled};
 
     /// A lane with nothing in it, which serves or is shut.
     pub(crate) fn new(alloc: Global, serves: bool) -> Self
@@ -51,14 +49,14 @@ impl KeptLane {
     }
 
     /// How many notices wait.
-    pub(crate) fn waiting(&self) -> usize
+    pub fn waiting(&self) -> usize
         ensures { result ≡ length (lane_state self.now).queue }
     {
         self.queue.len()
     }
 
     /// Whether the step is enabled.
-    pub(crate) fn can(&self, step: LaneStep, tries: u8) -> bool
+    pub fn can(&self, step: LaneStep, tries: u8) -> bool
         ensures { IsTrue result ↔ Can tries step (lane_state self.now) }
     {
         match step {
@@ -113,7 +111,7 @@ impl KeptLane {
     }
 
     /// Does an enabled step. A refused growth changes nothing.
-    pub(crate) fn perform(&mut self, step: LaneStep, tries: u8) -> Result<(), AllocError>
+    pub fn perform(&mut self, step: LaneStep, tries: u8) -> Result<(), AllocError>
         requires { Can tries step (lane_state self.old) }
         ensures ok { OnOk result (lane_state self.new ≡ does step (lane_state self.old)) }
         ensures err { OnErr result (lane_state self.new ≡ lane_state self.old) }
@@ -138,7 +136,7 @@ impl KeptLane {
     }
 
     /// A notice comes to the back of the queue. A refused growth changes nothing.
-    pub(crate) fn enqueue(&mut self, notice: Notice) -> Result<(), AllocError>
+    pub fn enqueue(&mut self, notice: Notice) -> Result<(), AllocError>
         ensures ok { OnOk result
             (lane_state self.new ≡ queued (notice ∷ []) (lane_state self.old)) }
         ensures err { OnErr result (lane_state self.new ≡ lane_state self.old) }
@@ -148,7 +146,7 @@ impl KeptLane {
     }
 
     /// What it holds of an object, but for the outboxes. A refused growth is the only error.
-    pub(crate) fn about(
+    pub fn about(
         &self,
         alloc: Global,
         object: ObjectId,
@@ -175,7 +173,7 @@ impl KeptLane {
 }
 
 /// A lane for each of these, with nothing in it, which serves or is shut. A refused growth is the only error.
-pub(crate) fn new_lanes(alloc: Global, served: &[bool]) -> Result<Vec<KeptLane>, AllocError>
+pub fn new_lanes(alloc: Global, served: &[bool]) -> Result<Vec<KeptLane>, AllocError>
     ensures { IfOk result (λ lanes. map lane_state lanes.items ≡ map new_lane served.now) }
 {
     let mut made = Vec::with_capacity(alloc, served.len())?;

@@ -61,7 +61,7 @@ pub struct Stopped {
 }
 
 impl From<AllocError> for StepFault {
-    ghost use Rattle.world_steps.specs.declared.step.StepFault.TheVariants.{NoMemory};
+    ghost use Rattle.steps.specs.declared.step.StepFault.TheVariants.{NoMemory};
 
     ghost from_gives = { λ _ fault. fault ≡ NoMemory };
 
