@@ -7,6 +7,6 @@ mod settings;
 mod step;
 
 pub use lane::{KeptLane, new_lanes};
-pub use line::{LineParts, about_in};
+pub use line::LineParts;
 pub use settings::Settings;
 pub use step::{LaneStep, Step, StepFault, Stopped};

@@ -25,7 +25,7 @@ pub struct LineParts {
 }
 
 /// The notices of an object among these. A refused growth is the only error.
-pub fn about_in(
+pub(crate) fn about_in(
     alloc: Global,
     notices: &[Notice],
     object: ObjectId,
