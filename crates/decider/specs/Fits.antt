@@ -21,7 +21,6 @@ use Rattle.decider.specs.declared.event_decider.EventDecider.{EventDecider}
 use Rattle.decider.specs.declared.share.Share.{Share}
 use Rattle.decider.specs.Book.{empty_book, book_of, BookFits}
 use Rattle.decider.specs.Decisions.{KindIsWithin, decide_numbers, entries_of_decision, settled, states_after}
-use Rattle.decider.specs.Log.{noted}
 use Rattle.decider.specs.Share.{IsShare, is_owned}
 
 -- what a decider keeps
@@ -53,7 +52,7 @@ core_kept d = record {
 }
 
 abbrev pub kept : Decider → Kept
-kept d = record (core_kept d.core) { log = noted d.log }
+kept d = record (core_kept d.core) { log = d.log.lines }
 
 -- the entries of the last event decided
 abbrev pub last_entries : EventDecider → List Entry

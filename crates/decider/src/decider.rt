@@ -8,8 +8,9 @@ ghost use Rattle.due_model.specs.Proper.{IsProper};
 ghost use Rattle.due_model.specs.Covered.{IsCovered, IsSupported};
 ghost use Rattle.decider.specs.Outbox.{lists, waiting_at};
 
+use crate::entries::suppressions;
 use crate::event_decider::{DecideFault, EventDecider};
-use crate::log::Log;
+use crate::log::note;
 use crate::outbox::Outbox;
 use crate::share::Share;
 use due_model::config::Config;
@@ -17,6 +18,7 @@ use due_model::event::Event;
 use due_model::notice::Suppression;
 use due_model::zone::Zone;
 use std::alloc::{AllocError, Global};
+use suppression_log::Log;
 
 /// Decides the events one by one, for the objects of its share: it puts the notices into an outbox, and
 /// keeps the suppressions in a log.
@@ -86,10 +88,10 @@ impl<'a> Decider<'a> {
     {
         self.core.stage(event)?;
         outbox.reserve(self.core.staged())?;
-        self.log.reserve(self.core.staged())?;
+        self.log.reserve(suppressions(self.core.staged()))?;
         self.core.commit(event);
         outbox.deliver(self.core.entries());
-        self.log.note(self.core.entries());
+        note(&mut self.log, self.core.entries());
         Ok(())
     }
 

@@ -6,7 +6,7 @@ use Rattle.due_model.specs.declared.event.Event.{Event}
 use Rattle.event_feed.specs.Feed.{Answer, Feed, answers_from, feed_of}
 use Rattle.text_lines.specs.LineReader.{Reading, to_come}
 use Rattle.text_lines.specs.Lines.{Known}
-use Rattle.world_steps.specs.declared.settings.Settings.{Settings}
+use Rattle.steps.specs.declared.settings.Settings.{Settings}
 use Rattle.world_steps.specs.Runs.{new_world}
 use Rattle.world_steps.specs.Views.{world_setup, world_state}
 use Rattle.world_steps.specs.Worlds.{Setup, WorldState}

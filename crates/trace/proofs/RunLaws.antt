@@ -3,10 +3,10 @@ use Rattle.std.proofs.Common.{◌≡◌, ◌↔◌, ◌<◌, length, get_or, sli
 use Rattle.std.specs.Option.{option_map}
 use Rattle.std.proofs.lemmas.Option.{slice_get_read}
 use Rattle.due_model.specs.declared.event.Event.{Event}
-use Rattle.world_steps.specs.declared.step.Step.{Step}
-use Rattle.world_steps.specs.declared.step.Step.TheVariants.{Post}
-use Rattle.world_steps.specs.declared.step.StepFault.{StepFault}
-use Rattle.world_steps.specs.declared.step.StepFault.TheVariants.{NotEnabled}
+use Rattle.steps.specs.declared.step.Step.{Step}
+use Rattle.steps.specs.declared.step.Step.TheVariants.{Post}
+use Rattle.steps.specs.declared.step.StepFault.{StepFault}
+use Rattle.steps.specs.declared.step.StepFault.TheVariants.{NotEnabled}
 use Rattle.world_steps.specs.Steps.{IsEnabled}
 use Rattle.world_steps.specs.Worlds.{Setup}
 use Rattle.trace.specs.declared.step_line.StepLine.{StepLine}

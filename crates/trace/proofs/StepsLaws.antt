@@ -12,8 +12,8 @@ use Rattle.command_output.specs.Output.{Leaves}
 use Rattle.command_output.specs.OutputLaws.{leaves_on, leaves_nothing}
 use Rattle.text_lines.specs.LineReader.{line_limit, cut_text}
 use Rattle.text_lines.specs.Lines.{BeginsWithLine, IsUnbroken, Known}
-use Rattle.world_steps.specs.declared.step.Step.TheVariants.{Post, Decide, Put, Lane}
-use Rattle.world_steps.specs.declared.step.LaneStep.TheVariants.{Pick, Settle, Fail, Ask, Close, Drain}
+use Rattle.steps.specs.declared.step.Step.TheVariants.{Post, Decide, Put, Lane}
+use Rattle.steps.specs.declared.step.LaneStep.TheVariants.{Pick, Settle, Fail, Ask, Close, Drain}
 use Rattle.world_steps.specs.Worlds.{Setup}
 use Rattle.trace.specs.declared.step_line.StepLine.{StepLine}
 use Rattle.trace.specs.declared.step_line.StepLine.TheVariants.{PostNext, Do}

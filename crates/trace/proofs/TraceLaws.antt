@@ -5,7 +5,7 @@ use Rattle.std.proofs.lemmas.Result.{IfOk-weaker}
 use Rattle.due_model.specs.declared.config.Config.{Config}
 use Rattle.object_resolve.specs.Text.{IsTextOf}
 use Rattle.text_lines.specs.LineReader.{Reading, to_come}
-use Rattle.world_steps.specs.declared.settings.Settings.{Settings}
+use Rattle.steps.specs.declared.settings.Settings.{Settings}
 use Rattle.command_output.specs.declared.outcome.CommandFault.{CommandFault}
 use Rattle.command_output.specs.declared.outcome.CommandFault.TheVariants.{Objects, Unreadable, Output, NoMemory}
 use Rattle.command_output.specs.declared.outcome.Ending.{Ending}

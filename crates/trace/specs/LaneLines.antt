@@ -2,7 +2,8 @@
 use Rattle.std.specs.Prelude.{ℕ, List, flat_map, length}
 use Rattle.std.specs.List.{range_with_len}
 use Rattle.command_output.specs.TraceLine.{held_line}
-use Rattle.world_steps.specs.Lines.{about, decider_of}
+use Rattle.steps.specs.Lanes.{about}
+use Rattle.world_steps.specs.Lines.{decider_of}
 use Rattle.world_steps.specs.Worlds.{Setup, WorldState, lane_at, outbox_at}
 
 -- in this state of a world: the line of what lane l holds of object o

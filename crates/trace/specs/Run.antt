@@ -8,8 +8,8 @@ use Rattle.due_model.specs.declared.event.Event.{Event}
 use Rattle.command_output.specs.TraceLine.{refused_step_line}
 use Rattle.command_output.specs.declared.trace_line.StepRefusal.TheVariants.{BadStep, NotEnabled}
 use Rattle.text_lines.specs.LineReader.{line_limit}
-use Rattle.world_steps.specs.declared.step.Step.{Step}
-use Rattle.world_steps.specs.declared.step.Step.TheVariants.{Post}
+use Rattle.steps.specs.declared.step.Step.{Step}
+use Rattle.steps.specs.declared.step.Step.TheVariants.{Post}
 use Rattle.world_steps.specs.Steps.{IsEnabled, IsPlainStep, after}
 use Rattle.world_steps.specs.Views.{world_setup, world_state}
 use Rattle.world_steps.specs.Worlds.{Setup, WorldState}

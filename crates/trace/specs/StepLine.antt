@@ -5,10 +5,10 @@ use Rattle.std.specs.List.{list_all}
 use Rattle.due_model.specs.declared.config.Config.{Config}
 use Rattle.due_model.specs.declared.config.LaneId.{LaneId}
 use Rattle.event_feed.specs.Line.{digits_number}
-use Rattle.world_steps.specs.declared.step.Step.{Step}
-use Rattle.world_steps.specs.declared.step.Step.TheVariants.{Post, Decide, Put, Lane}
-use Rattle.world_steps.specs.declared.step.LaneStep.{LaneStep}
-use Rattle.world_steps.specs.declared.step.LaneStep.TheVariants.{Pick, Settle, Fail, Ask, Close, Drain}
+use Rattle.steps.specs.declared.step.Step.{Step}
+use Rattle.steps.specs.declared.step.Step.TheVariants.{Post, Decide, Put, Lane}
+use Rattle.steps.specs.declared.step.LaneStep.{LaneStep}
+use Rattle.steps.specs.declared.step.LaneStep.TheVariants.{Pick, Settle, Fail, Ask, Close, Drain}
 use Rattle.trace.specs.declared.step_line.StepLine.{StepLine}
 use Rattle.trace.specs.declared.step_line.StepLine.TheVariants.{PostNext, Do}
 use Rattle.command_output.specs.Fields.{lane_text}

@@ -6,7 +6,7 @@ use Rattle.due_model.specs.declared.zone.Zone.TheVariants.{Utc}
 use Rattle.event_feed.specs.Feed.{Answer, answers}
 use Rattle.object_resolve.specs.Text.{IsTextFault, IsTextOf}
 use Rattle.text_lines.specs.Lines.{pieces}
-use Rattle.world_steps.specs.declared.settings.Settings.{Settings}
+use Rattle.steps.specs.declared.settings.Settings.{Settings}
 use Rattle.world_steps.specs.Runs.{new_world}
 use Rattle.world_steps.specs.Worlds.{Setup, setup_for}
 use Rattle.command_output.specs.declared.outcome.CommandFault.{CommandFault}

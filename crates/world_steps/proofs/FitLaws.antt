@@ -12,10 +12,11 @@ use Rattle.decider.specs.Outbox.{lists, waiting_at}
 use Rattle.decider.specs.declared.share.Share.{Share}
 use Rattle.lemmas.proofs.Writes.{read_at}
 use Rattle.world_steps.specs.declared.deciders.KeptDecider.{KeptDecider}
-use Rattle.world_steps.specs.declared.lane.KeptLane.{KeptLane}
+use Rattle.steps.specs.declared.lane.KeptLane.{KeptLane}
 use Rattle.world_steps.specs.Worlds.{DeciderState, WorldState, Setup, no_decider}
 use Rattle.world_steps.specs.Steps.{decided}
-use Rattle.world_steps.specs.Fits.{decider_state, lane_state, state_of, DeciderFits, StateFits, Fits, count}
+use Rattle.steps.specs.Lanes.{empty_lane, lane_state}
+use Rattle.world_steps.specs.Fits.{decider_state, state_of, DeciderFits, StateFits, Fits, count}
 use Rattle.world_steps.proofs.ListLemmas.{everywhere}
 
 -- what is kept of decider d fits
@@ -28,6 +29,11 @@ found_fits s posted deciders each d x within e = each d x (slice_get_read decide
 pub outbox_read : (deciders : List KeptDecider) (d : ℕ) (x : KeptDecider) (l : ℕ) → d < length deciders → x ≡ get_or deciders d x
     → get_or (get_or (map decider_state deciders) d no_decider).outboxes l [] ≡ waiting_at x.outbox l
 outbox_read deciders d x l within e = ap (λ (y : DeciderState). get_or y.outboxes l []) (read_at decider_state deciders d x no_decider within e)
+
+-- lane l among all
+pub lane_read : (lanes : List KeptLane) (l : ℕ) (a : KeptLane) → l < length (map lane_state lanes) → a ≡ get_or lanes l a
+    → get_or (map lane_state lanes) l empty_lane ≡ lane_state a
+lane_read lanes l a within e = read_at lane_state lanes l a empty_lane (simp length-map at within) e
 
 -- a decider that has decided one more event
 pub decided_law : (s : Setup) (share : Share) (e : Event) (past : List Event) (x y : KeptDecider) → count y ≡ count x + 1

@@ -15,7 +15,7 @@ use Rattle.due_laws.specs.Laws.{NoticesTellOfEvents, TellsOfEvent}
 use Rattle.decider.specs.declared.share.Share.{Share}
 use Rattle.decider.specs.Decider.{gain, gained}
 use Rattle.decider.specs.Share.{is_owned, owned_numbers}
-use Rattle.world_steps.specs.Lines.{about}
+use Rattle.steps.specs.Lanes.{about}
 
 -- all of these are notices of object k
 abbrev pub AreAbout : ℕ → List Notice → Type 0

@@ -6,3 +6,4 @@ pub mod StateLaws
 pub mod NewWorlds
 pub mod RunLaws
 pub mod StepLaws
+mod LineLaws

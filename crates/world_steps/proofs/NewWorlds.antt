@@ -6,9 +6,11 @@ use Rattle.std.proofs.lemmas.List.Elements.{All-nil, All-same}
 use Rattle.due_model.specs.declared.config.Object.{Object}
 use Rattle.due_model.specs.declared.notice.Notice.{Notice}
 use Rattle.due_model.specs.Due.{due, due_for}
-use Rattle.world_steps.specs.Worlds.{DeciderState, LaneState, Setup, no_decider, new_decider, new_lane, empty_lane, decider_at, outbox_at}
+use Rattle.steps.specs.Lanes.{LaneState, new_lane, empty_lane}
+use Rattle.world_steps.specs.Worlds.{DeciderState, Setup, no_decider, new_decider, decider_at, outbox_at}
 use Rattle.world_steps.specs.Steps.{past_of}
-use Rattle.world_steps.specs.Lines.{about, contents, decider_of}
+use Rattle.steps.specs.Lanes.{about, contents}
+use Rattle.world_steps.specs.Lines.{decider_of}
 use Rattle.world_steps.specs.Runs.{new_world}
 use Rattle.world_steps.specs.Fits.{StateFits}
 

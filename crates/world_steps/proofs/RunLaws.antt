@@ -2,11 +2,13 @@
 use Rattle.std.proofs.Common.{◌≡◌, ℕ, ◌+◌, ◌<◌, ◌≤◌, ◌⊎◌, inl, inr, true, false, List, [], ◌∷◌, ◌++◌, length, take, get_or, refl, sym, ap, ◌∙◌, subst, get_or-set_same, get_or-set_other}
 use Rattle.std.proofs.lemmas.Bool.{cases_lt}
 use Rattle.std.proofs.lemmas.List.{get_or_past, take_more}
-use Rattle.world_steps.specs.declared.step.Step.{Step}
-use Rattle.world_steps.specs.declared.step.Step.TheVariants.{Post, Decide, Put, Lane}
-use Rattle.world_steps.specs.declared.step.LaneStep.TheVariants.{Pick, Settle, Fail, Ask, Close, Drain}
-use Rattle.world_steps.specs.Worlds.{LaneState, WorldState, Setup, lane_at, empty_lane, outbox_at}
-use Rattle.world_steps.specs.Steps.{IsEnabled, after, with_lane, with_decider, without_front, picked, settled, failed, asked, closed, drained, queued}
+use Rattle.steps.specs.declared.step.Step.{Step}
+use Rattle.steps.specs.declared.step.Step.TheVariants.{Post, Decide, Put, Lane}
+use Rattle.steps.specs.declared.step.LaneStep.TheVariants.{Pick, Settle, Fail, Ask, Close, Drain}
+use Rattle.steps.specs.Lanes.{LaneState, empty_lane}
+use Rattle.world_steps.specs.Worlds.{WorldState, Setup, lane_at, outbox_at}
+use Rattle.steps.specs.Lanes.{picked, settled, failed, asked, closed, drained, queued}
+use Rattle.world_steps.specs.Steps.{IsEnabled, after, with_lane, with_decider, without_front}
 use Rattle.world_steps.specs.Runs.{after_all, AreEnabled, LeadsTo, ShutTakesNothing}
 use Rattle.world_steps.proofs.ListLemmas.{everywhere}
 

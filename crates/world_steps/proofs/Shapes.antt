@@ -2,9 +2,9 @@
 use Rattle.std.proofs.Common.{◌≡◌, List, [], ◌++◌, take, drop, sym, ap, ◌∙◌, append_assoc}
 use Rattle.std.proofs.lemmas.List.{append-nil, take-append-drop}
 use Rattle.due_model.specs.declared.notice.Notice.{Notice}
-use Rattle.world_steps.specs.Worlds.{LaneState}
-use Rattle.world_steps.specs.Lines.{contents}
-use Rattle.world_steps.specs.Steps.{CanPick, picked, settled, closed, drained, queued}
+use Rattle.steps.specs.Lanes.{LaneState}
+use Rattle.steps.specs.Lanes.{contents}
+use Rattle.steps.specs.Lanes.{CanPick, picked, settled, closed, drained, queued}
 
 module _ {X : Type 0} where
   split_front : (xs ys : List X) → (xs ++ take 1 ys) ++ drop 1 ys ≡ xs ++ ys

@@ -14,19 +14,22 @@ use Rattle.due_model.specs.Due.{due}
 use Rattle.due_laws.specs.Laws.{NoticesTellOfEvents}
 use Rattle.lemmas.proofs.Lists.{past_more}
 use Rattle.decider.specs.Decider.{gained}
-use Rattle.world_steps.specs.declared.step.Step.TheVariants.{Post, Decide, Put, Lane}
-use Rattle.world_steps.specs.declared.step.LaneStep.{LaneStep}
-use Rattle.world_steps.specs.declared.step.LaneStep.TheVariants.{Pick, Settle, Fail, Ask, Close, Drain}
-use Rattle.world_steps.specs.Worlds.{DeciderState, LaneState, WorldState, Setup, no_decider, empty_lane, decider_at, lane_at, outbox_at}
-use Rattle.world_steps.specs.Steps.{after, with_lane, with_decider, decided, without_front, queued, owner, past_of, picked, settled, failed, asked, closed, drained, OfLane, CanPut, CanDecide, Can, does}
-use Rattle.world_steps.specs.Lines.{about, contents, line, decider_of}
+use Rattle.steps.specs.declared.step.Step.TheVariants.{Post, Decide, Put, Lane}
+use Rattle.steps.specs.declared.step.LaneStep.{LaneStep}
+use Rattle.steps.specs.declared.step.LaneStep.TheVariants.{Pick, Settle, Fail, Ask, Close, Drain}
+use Rattle.steps.specs.Lanes.{LaneState, empty_lane}
+use Rattle.world_steps.specs.Worlds.{DeciderState, WorldState, Setup, no_decider, decider_at, lane_at, outbox_at}
+use Rattle.steps.specs.Lanes.{queued, picked, settled, failed, asked, closed, drained, Can, does}
+use Rattle.world_steps.specs.Steps.{after, with_lane, with_decider, decided, without_front, owner, past_of, OfLane, CanPut, CanDecide}
+use Rattle.steps.specs.Lanes.{about, contents}
+use Rattle.world_steps.specs.Lines.{line, decider_of}
 use Rattle.world_steps.specs.Fits.{StateFits}
 use Rattle.world_steps.proofs.ListLemmas.{everywhere}
 use Rattle.world_steps.proofs.Gains.{about_none, gained_owned, gained_is_owned, due_more}
 use Rattle.world_steps.proofs.Shapes.{picked_law, settled_law, closed_law, drained_law, queued_law}
 
 -- those of one object in two lists that are joined
-about-append : (o : ℕ) (xs ys : List Notice) → about o (xs ++ ys) ≡ about o xs ++ about o ys
+pub about-append : (o : ℕ) (xs ys : List Notice) → about o (xs ++ ys) ≡ about o xs ++ about o ys
 about-append o xs ys = filter-append (λ (n : Notice). n.object.0 == o) xs ys
 
 module _ (s : Setup) (w : WorldState) (fits : StateFits s w) where

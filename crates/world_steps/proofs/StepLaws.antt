@@ -18,12 +18,15 @@ use Rattle.decider.specs.Fits.{Fits as PastFits, kept, settings}
 use Rattle.decider.specs.Outbox.{lists, waiting_at}
 use Rattle.lemmas.proofs.Writes.{read_at, map-set_by, map-set_kept}
 use Rattle.world_steps.specs.declared.deciders.KeptDecider.{KeptDecider}
-use Rattle.world_steps.specs.declared.lane.KeptLane.{KeptLane}
-use Rattle.world_steps.specs.declared.step.LaneStep.{LaneStep}
-use Rattle.world_steps.specs.declared.step.Step.TheVariants.{Decide, Put, Lane}
-use Rattle.world_steps.specs.Worlds.{DeciderState, LaneState, WorldState, Setup, no_decider, empty_lane, decider_at, outbox_at}
-use Rattle.world_steps.specs.Steps.{OfLane, Can, CanDecide, CanPut, does, after, decided, next_of, owner, past_of, queued, without_front, with_decider}
-use Rattle.world_steps.specs.Fits.{lane_state, decider_state, state_of, count, DeciderFits, Fits}
+use Rattle.steps.specs.declared.lane.KeptLane.{KeptLane}
+use Rattle.steps.specs.declared.step.LaneStep.{LaneStep}
+use Rattle.steps.specs.declared.step.Step.TheVariants.{Decide, Put, Lane}
+use Rattle.steps.specs.Lanes.{LaneState, empty_lane}
+use Rattle.world_steps.specs.Worlds.{DeciderState, WorldState, Setup, no_decider, decider_at, outbox_at}
+use Rattle.steps.specs.Lanes.{Can, does, queued}
+use Rattle.world_steps.specs.Steps.{OfLane, CanDecide, CanPut, after, decided, next_of, owner, past_of, without_front, with_decider}
+use Rattle.steps.specs.Lanes.{lane_state}
+use Rattle.world_steps.specs.Fits.{decider_state, state_of, count, DeciderFits, Fits}
 use Rattle.world_steps.proofs.ListLemmas.{take_found}
 use Rattle.world_steps.proofs.FitLaws.{found_fits, fits_then, fits_more, kept_fits, set_found, outbox_read, decided_law, past_length}
 use Rattle.world_steps.proofs.StateLaws.{post_after, decide_after, put_after, change_after}

@@ -1,7 +1,6 @@
 -- What is kept of a world: the state that it stands for, and what fits what.
 use Rattle.std.specs.Prelude.{◌≡◌, ℕ, ◌<◌, ◌≤◌, ◌%◌, false, List, [], All, length, map, take, reverse}
 use Rattle.std.specs.Prelude.{Option, Some, None, IsTrue, is_some, slice_get}
-use Rattle.std.specs.Option.{option_to_list}
 use mathlib.Core.Path.{sym, ◌∙◌}
 use mathlib.Core.HLevel.{is_prop→PathP}
 use Rattle.std.proofs.Props.{props}
@@ -21,23 +20,13 @@ use Rattle.decider.specs.Fits.{Kept, kept, settings}
 use Rattle.decider.specs.Fits as decider
 use Rattle.decider.specs.Outbox.{lists}
 use Rattle.world_steps.specs.declared.deciders.KeptDecider.{KeptDecider}
-use Rattle.world_steps.specs.declared.lane.KeptLane.{KeptLane}
-use Rattle.world_steps.specs.Worlds.{LaneState, DeciderState, WorldState, Setup, decider_at, lane_at, outbox_at}
+use Rattle.steps.specs.declared.lane.KeptLane.{KeptLane}
+use Rattle.steps.specs.Lanes.{lane_state}
+use Rattle.world_steps.specs.Worlds.{DeciderState, WorldState, Setup, decider_at, lane_at, outbox_at}
 use Rattle.world_steps.specs.Steps.{owner}
 use Rattle.world_steps.specs.Lines.{LinesAreDue}
 
 -- ---- the state
-
-abbrev pub lane_state : KeptLane → LaneState
-lane_state lane = record {
-  taken = lane.taken.items;
-  hand = option_to_list lane.hand;
-  undelivered = lane.undelivered.items;
-  queue = lane.queue.items;
-  failures = lane.failures;
-  asked = lane.asked;
-  shut = lane.shut;
-}
 
 -- how many events it has decided
 abbrev pub count : KeptDecider → ℕ

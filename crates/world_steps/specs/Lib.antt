@@ -1,4 +1,3 @@
-pub mod Settings
 pub mod Worlds
 pub mod Steps
 pub mod Lines

@@ -1,21 +1,14 @@
 -- What a lane holds of an object, and what it is to be.
-use Rattle.std.specs.Prelude.{◌≡◌, ◌≢◌, ℕ, ◌%◌, ◌<◌, ◌==◌, List, ◌++◌, length, filter, AllPairs}
+use Rattle.std.specs.Prelude.{◌≡◌, ◌≢◌, ℕ, ◌%◌, ◌<◌, List, ◌++◌, length, AllPairs}
 use Rattle.due_model.specs.declared.notice.Notice.{Notice}
 use Rattle.due_model.specs.Due.{due}
-use Rattle.world_steps.specs.Worlds.{LaneState, WorldState, Setup, lane_at, outbox_at}
+use Rattle.steps.specs.Lanes.{about, contents}
+use Rattle.world_steps.specs.Worlds.{WorldState, Setup, lane_at, outbox_at}
 use Rattle.world_steps.specs.Steps.{past_of}
-
--- the notices of object o
-abbrev pub about : (o : ℕ) → List Notice → List Notice
-about o notices = filter (λ n. n.object.0 == o) notices
 
 -- the number of the decider that owns object o
 abbrev pub decider_of : Setup → (o : ℕ) → ℕ
 decider_of s o = o % s.settings.deciders
-
--- all that is in a lane, in order: what its channel has taken, its message in hand, its undelivered list, its queue
-abbrev pub contents : LaneState → List Notice
-contents lane = lane.taken ++ lane.hand ++ lane.undelivered ++ lane.queue
 
 -- Line: what is in lane l and then what is in the outbox of the object's decider, restricted to the object
 abbrev pub line : Setup → WorldState → (l o : ℕ) → List Notice

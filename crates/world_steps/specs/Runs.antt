@@ -1,10 +1,11 @@
 -- A new world, and lists of steps.
 use Rattle.std.specs.Prelude.{◌≡◌, ◌↔◌, ℕ, ◌<◌, true, Bool, List, [], ◌∷◌, length, map, replicate, take}
 use Rattle.std.specs.Prelude.{slice_get, Some}
-use Rattle.world_steps.specs.declared.step.Step.{Step}
-use Rattle.world_steps.specs.declared.step.StepFault.TheVariants.{NotEnabled}
-use Rattle.world_steps.specs.declared.step.Stopped.{Stopped}
-use Rattle.world_steps.specs.Worlds.{WorldState, Setup, new_decider, new_lane, lane_at}
+use Rattle.steps.specs.declared.step.Step.{Step}
+use Rattle.steps.specs.declared.step.StepFault.TheVariants.{NotEnabled}
+use Rattle.steps.specs.declared.step.Stopped.{Stopped}
+use Rattle.steps.specs.Lanes.{new_lane}
+use Rattle.world_steps.specs.Worlds.{WorldState, Setup, new_decider, lane_at}
 use Rattle.world_steps.specs.Steps.{IsEnabled, after}
 
 -- a new world: nothing is posted, decided, held or asked, and exactly the lanes that aren't served are shut

@@ -1,5 +1,5 @@
 -- The table of steps: when each is enabled, and what it does. A step is one action of one actor.
-use Rattle.std.specs.Prelude.{◌≡◌, ℕ, ◌+◌, ◌<◌, ◌⊎◌, true, false, List, [], ◌∷◌, ◌++◌}
+use Rattle.std.specs.Prelude.{ℕ, ◌+◌, ◌<◌, List, [], ◌∷◌, ◌++◌}
 use Rattle.std.specs.Prelude.{length, take, drop, map, reverse, slice_get, slice_set, slice_index_or, Option, Some, None}
 use Rattle.std.specs.List.{range_with_len}
 use Rattle.due_model.specs.declared.event.Event.{Event}
@@ -9,94 +9,10 @@ use Rattle.due_model.specs.Limits.{max_events}
 use Rattle.due_model.specs.Covered.{IsPlainEvent}
 use Rattle.decider.specs.declared.share.Share.{Share}
 use Rattle.decider.specs.Decider.{gained}
-use Rattle.world_steps.specs.declared.step.Step.{Step}
-use Rattle.world_steps.specs.declared.step.Step.TheVariants.{Post, Decide, Put, Lane}
-use Rattle.world_steps.specs.declared.step.LaneStep.{LaneStep}
-use Rattle.world_steps.specs.declared.step.LaneStep.TheVariants.{Pick, Settle, Fail, Ask, Close, Drain}
-use Rattle.world_steps.specs.Worlds.{WorldState, DeciderState, LaneState, Setup, decider_at, lane_at, outbox_at}
-
--- ---- a lane
-
--- it serves, isn't asked to close and has nothing in hand, and something waits
-pub record CanPick (lane : LaneState) : Type 0 where
-  pub serving : lane.shut ≡ false
-  pub not_asked : lane.asked ≡ false
-  pub hand : lane.hand ≡ []
-  pub queue : 0 < length lane.queue
-
--- it serves, with a message in hand
-pub record CanSettle (lane : LaneState) : Type 0 where
-  pub serving : lane.shut ≡ false
-  pub hand : 0 < length lane.hand
-
--- and a try is left
-pub record CanFail (tries : ℕ) (lane : LaneState) : Type 0 where
-  pub settle : CanSettle lane
-  pub failures : lane.failures < tries
-
--- it serves, and isn't asked yet
-pub record CanAsk (lane : LaneState) : Type 0 where
-  pub serving : lane.shut ≡ false
-  pub not_asked : lane.asked ≡ false
-
--- it serves, and is asked to close or has no try left
-pub record CanClose (tries : ℕ) (lane : LaneState) : Type 0 where
-  pub serving : lane.shut ≡ false
-  pub cause : (lane.asked ≡ true) ⊎ (lane.failures ≡ tries)
-
--- it is shut, and something waits
-pub record CanDrain (lane : LaneState) : Type 0 where
-  pub shut : lane.shut ≡ true
-  pub queue : 0 < length lane.queue
-
--- the queue's front goes into the hand
-abbrev pub picked : LaneState → LaneState
-picked lane = record lane { hand = take 1 lane.queue; queue = drop 1 lane.queue }
-
--- the channel has taken the message in hand
-abbrev pub settled : LaneState → LaneState
-settled lane = record lane { taken = lane.taken ++ lane.hand; hand = []; failures = 0 }
-
--- a try has failed
-abbrev pub failed : LaneState → LaneState
-failed lane = record lane { failures = lane.failures + 1 }
-
--- it is asked to close
-abbrev pub asked : LaneState → LaneState
-asked lane = record lane { asked = true }
-
--- it is shut, and the message in hand is given up
-abbrev pub closed : LaneState → LaneState
-closed lane = record lane { undelivered = lane.undelivered ++ lane.hand; hand = []; shut = true }
-
--- the queue's front is given up
-abbrev pub drained : LaneState → LaneState
-drained lane = record lane {
-  undelivered = lane.undelivered ++ take 1 lane.queue;
-  queue = drop 1 lane.queue;
-}
-
--- THE TABLE OF LANES: when a step of a lane that has so many tries is enabled
-abbrev pub Can : (tries : ℕ) → LaneStep → LaneState → Type 0
-Can tries Pick lane = CanPick lane
-Can tries Settle lane = CanSettle lane
-Can tries Fail lane = CanFail tries lane
-Can tries Ask lane = CanAsk lane
-Can tries Close lane = CanClose tries lane
-Can tries Drain lane = CanDrain lane
-
--- THE TABLE OF LANES: what a step does
-abbrev pub does : LaneStep → LaneState → LaneState
-does Pick lane = picked lane
-does Settle lane = settled lane
-does Fail lane = failed lane
-does Ask lane = asked lane
-does Close lane = closed lane
-does Drain lane = drained lane
-
--- these notices come to the back of the queue
-abbrev pub queued : List Notice → LaneState → LaneState
-queued notices lane = record lane { queue = lane.queue ++ notices }
+use Rattle.steps.specs.declared.step.Step.{Step}
+use Rattle.steps.specs.declared.step.Step.TheVariants.{Post, Decide, Put, Lane}
+use Rattle.steps.specs.Lanes.{Can, LaneState, does, queued}
+use Rattle.world_steps.specs.Worlds.{WorldState, DeciderState, Setup, decider_at, lane_at, outbox_at}
 
 -- ---- a decider
 

@@ -1,7 +1,7 @@
 -- A world as its state and its setup.
 use Rattle.std.specs.Prelude.{List, ◌++◌}
 use Rattle.due_model.specs.declared.notice.Notice.{Notice}
-use Rattle.world_steps.specs.declared.line.LineParts.{LineParts}
+use Rattle.steps.specs.declared.line.LineParts.{LineParts}
 use Rattle.world_steps.specs.declared.world.World.{World}
 use Rattle.world_steps.specs.Worlds.{WorldState, Setup, setup_for}
 use Rattle.world_steps.specs.Fits.{state_of}

@@ -1,26 +1,16 @@
 -- The state of a world, as lists.
-use Rattle.std.specs.Prelude.{ℕ, Bool, true, false, not, List, [], replicate, slice_index_or}
+use Rattle.std.specs.Prelude.{ℕ, List, [], replicate, slice_index_or}
 use Rattle.due_model.specs.declared.config.Config.{Config}
 use Rattle.due_model.specs.declared.event.Event.{Event}
 use Rattle.due_model.specs.declared.notice.Notice.{Notice}
 use Rattle.due_model.specs.declared.zone.Zone.{Zone}
-use Rattle.world_steps.specs.declared.settings.Settings.{Settings}
+use Rattle.steps.specs.declared.settings.Settings.{Settings}
+use Rattle.steps.specs.Lanes.{LaneState, empty_lane}
 
 -- a decider: how many of the posted events it has decided, and for each lane the notices that wait for its queue
 pub record DeciderState : Type 0 where
   pub decided : ℕ
   pub outboxes : List (List Notice)
-
--- a lane: what its channel has taken, the message in hand (at most one), what is given up, and what waits; then
--- the tries that failed for the message in hand, whether it is asked to close, and whether it is shut
-pub record LaneState : Type 0 where
-  pub taken : List Notice
-  pub hand : List Notice
-  pub undelivered : List Notice
-  pub queue : List Notice
-  pub failures : ℕ
-  pub asked : Bool
-  pub shut : Bool
 
 -- a world: the posted events, the deciders and the lanes
 pub record WorldState : Type 0 where
@@ -41,25 +31,9 @@ setup_for config zone settings = record { config = config; zone = zone; settings
 abbrev pub new_decider : (lanes : ℕ) → DeciderState
 new_decider lanes = record { decided = 0; outboxes = replicate lanes [] }
 
--- a lane with nothing in it, which serves or is shut
-abbrev pub new_lane : (serves : Bool) → LaneState
-new_lane serves = record {
-  taken = [];
-  hand = [];
-  undelivered = [];
-  queue = [];
-  failures = 0;
-  asked = false;
-  shut = not serves;
-}
-
 -- a decider that isn't there
 abbrev pub no_decider : DeciderState
 no_decider = record { decided = 0; outboxes = [] }
-
--- a lane that isn't there
-abbrev pub empty_lane : LaneState
-empty_lane = new_lane true
 
 abbrev pub decider_at : WorldState → ℕ → DeciderState
 decider_at w d = slice_index_or w.deciders d no_decider

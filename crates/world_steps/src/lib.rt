@@ -3,13 +3,8 @@
 #![tactic(auto)]
 
 mod deciders;
-mod lane;
 mod line;
-mod settings;
-mod step;
 mod world;
 
-pub use line::LineParts;
-pub use settings::Settings;
-pub use step::{LaneStep, Step, StepFault, Stopped};
+pub use steps::{LaneStep, LineParts, Settings, Step, StepFault, Stopped};
 pub use world::World;

@@ -4,16 +4,15 @@ ghost use Rattle.world_steps.specs.Worlds.{setup_for};
 ghost use Rattle.world_steps.specs.Fits.{Fits, Fits-prop};
 
 use crate::deciders::{KeptDecider, new_deciders};
-use crate::lane::{KeptLane, new_lanes};
-use crate::line::{LineParts, about_in_outbox};
-use crate::settings::Settings;
-use crate::step::{LaneStep, Step, StepFault, Stopped};
+use crate::line::about_in_outbox;
+use decider::DecideFault;
 use due_laws::laws::{stand_once, tell_of_events};
 use due_model::config::{Config, LaneId, ObjectId};
 use due_model::event::Event;
 use due_model::limits::MAX_EVENTS;
 use due_model::zone::Zone;
 use std::alloc::{AllocError, Global};
+use steps::{KeptLane, LaneStep, LineParts, Settings, Step, StepFault, Stopped, new_lanes};
 
 /// The posted events, the deciders and the lanes, as one state.
 #[derive(Drop)]
@@ -38,7 +37,8 @@ impl<'a> World<'a> {
     ghost use Rattle.due_model.specs.Due.{due};
     ghost use Rattle.world_steps.specs.Worlds.{lane_at, outbox_at};
     ghost use Rattle.world_steps.specs.Steps.{CanDecide, CanPut, IsEnabled, IsPlainStep, after, past_of};
-    ghost use Rattle.world_steps.specs.Lines.{about, decider_of, line, LinesAreDue, NoticesStandOnce};
+    ghost use Rattle.steps.specs.Lanes.{about};
+    ghost use Rattle.world_steps.specs.Lines.{decider_of, line, LinesAreDue, NoticesStandOnce};
     ghost use Rattle.world_steps.specs.Runs.{new_world, LeadsTo, StopsAt, ShutTakesNothing};
     ghost use Rattle.world_steps.specs.Views.{world_state, world_setup, joined};
 
@@ -67,35 +67,6 @@ impl<'a> World<'a> {
             deciders: new_deciders(alloc, config, zone, settings)?,
             lanes: new_lanes(alloc, served)?,
         })
-    }
-
-    /// What a lane holds of an object, with the outbox of the object's decider. A refused growth is the only error.
-    fn line_parts(
-        &self,
-        alloc: Global,
-        lane: LaneId,
-        object: ObjectId,
-    ) -> Result<LineParts, AllocError>
-        requires { lane.0 < length (world_state self.now).lanes }
-        ensures taken { IfOk result (λ parts.
-            parts.taken.items ≡ about object.0 (lane_at (world_state self.now) lane.0).taken) }
-        ensures hand { IfOk result (λ parts.
-            parts.hand.items ≡ about object.0 (lane_at (world_state self.now) lane.0).hand) }
-        ensures undelivered { IfOk result (λ parts.
-            parts.undelivered.items
-            ≡ about object.0 (lane_at (world_state self.now) lane.0).undelivered) }
-        ensures queue { IfOk result (λ parts.
-            parts.queue.items ≡ about object.0 (lane_at (world_state self.now) lane.0).queue) }
-        ensures outbox { IfOk result (λ parts.
-            parts.outbox.items ≡ about object.0
-            (outbox_at (world_state self.now)
-            (decider_of (world_setup self.now) object.0) lane.0)) }
-    {
-        let decider = object.0 % u16::from(self.settings.deciders);
-        let owner = &self.deciders[decider as usize];
-        let outbox = about_in_outbox(alloc, &owner.outbox, lane, object)?;
-        let held = &self.lanes[lane.0 as usize];
-        held.about(alloc, object, outbox)
     }
 
     /// What a lane holds of an object, part by part: joined in the order of the parts they are what is due. It costs
@@ -129,7 +100,11 @@ impl<'a> World<'a> {
             object.0 lane.0
             (past_of (world_state self.now) (decider_of (world_setup self.now) object.0))) }
     {
-        self.line_parts(alloc, lane, object)
+        let decider = object.0 % u16::from(self.settings.deciders);
+        let owner = &self.deciders[decider as usize];
+        let outbox = about_in_outbox(alloc, &owner.outbox, lane, object)?;
+        let held = &self.lanes[lane.0 as usize];
+        held.about(alloc, object, outbox)
     }
 
     /// Whether a decider has an event to decide.
@@ -215,7 +190,8 @@ impl<'a> World<'a> {
         Ok(())
     }
 
-    /// Decides the next event of a decider for its objects. A refused growth changes nothing.
+    /// Decides the next event of a decider for its objects, and forgets the suppressions. A refused growth changes
+    /// nothing.
     fn decide(&mut self, decider: u8) -> Result<(), AllocError>
         requires { CanDecide (world_state self.old) decider }
         ensures ok { OnOk result (world_state self.new
@@ -227,8 +203,14 @@ impl<'a> World<'a> {
         tell_of_events();
         let next = &mut self.deciders[decider as usize];
         let event = self.posted[next.decider.decided() as usize];
-        next.decide(event)?;
-        Ok(())
+        match next.decider.decide(event, &mut next.outbox) {
+            Ok(()) => {
+                next.decider.clear_log();
+                Ok(())
+            }
+            Err(DecideFault::NoMemory) => Err(AllocError),
+            Err(DecideFault::Ended) => unreachable!(),
+        }
     }
 
     /// Moves the front of a decider's outbox for a lane to the back of the lane's queue. A refused growth changes

@@ -1,5 +1,5 @@
 use Rattle.std.proofs.Common.{Ok, Err, refl, ap, sym}
-use Rattle.world_steps.specs.declared.step.Step.TheVariants.{Post}
+use Rattle.steps.specs.declared.step.Step.TheVariants.{Post}
 use Rattle.trace.specs.Run.{posted_after, run_state}
 use Rattle.world_steps.specs.Views.{world_setup}
 use Rattle.trace.proofs.RunLaws.{next_said, refused_in}

@@ -1,7 +1,6 @@
 use Rattle.decider.specs.Fits.{kept}
-use Rattle.decider.specs.Log.{noted}
 use Rattle.decider.proofs.FitLaws.{fits_with_log}
 use Rattle.decider.proofs.decider.Decider.clear_log.Goals as goal
 
 pub returns-clause-fits : goal.returns-clause-fits
-returns-clause-fits c = λ past fits. fits_with_log (kept c.args.self.now) (noted c.clear.new.self) past fits
+returns-clause-fits c = λ past fits. fits_with_log (kept c.args.self.now) c.clear.new.self.lines past fits

@@ -5,7 +5,6 @@ use Rattle.decider.specs.declared.book.Decision.{Decision}
 use Rattle.decider.specs.declared.entries.Entry.{Entry}
 use Rattle.decider.specs.Entries.{notices_on, suppressions_in}
 use Rattle.decider.specs.Fits.{Kept, Fits, core_kept, kept, kept_after}
-use Rattle.decider.specs.Log.{noted}
 use Rattle.decider.specs.Outbox.{lists, waiting_at}
 use Rattle.decider.proofs.FitLaws.{can_decide, entries_law, fits_after, fits_with_log}
 use Rattle.decider.proofs.LaneLaws.{share_notices, share_suppressions}
@@ -21,7 +20,7 @@ pub returns-clause-fits : goal.returns-clause-fits
 returns-clause-fits c = λ past fits.
     let k = core_kept c.args.self.now.core in
     let e = c.args.event in
-    fits_with_log (core_kept c.commit.new.self) (noted c.note.new.self) (e ∷ past)
+    fits_with_log (core_kept c.commit.new.self) c.note.new.log.lines (e ∷ past)
     (subst (λ (k : Kept). Fits k (e ∷ past))
     (sym (c.commit.ensures.kept
     ∙ ap (λ (k : Kept). kept_after k e c.stage.new.self.decisions.items) c.in_ok-stage.ensures.kept
@@ -43,8 +42,8 @@ pub returns-clause-suppressions : goal.returns-clause-suppressions
 returns-clause-suppressions c = λ past fits.
     let k = core_kept c.args.self.now.core in
     c.note.ensures
-    ∙ ap (λ (lines : List Suppression). lines ++ suppressions_in c.entries-2.result.now) c.in_ok-reserve-2.ensures.noted
-    ∙ ap (λ (entries : List Entry). noted c.args.self.now.log ++ suppressions_in entries)
+    ∙ ap (λ (lines : List Suppression). lines ++ suppressions_in c.entries-2.result.now) c.in_ok-reserve-2.ensures.lines
+    ∙ ap (λ (entries : List Entry). c.args.self.now.log.lines ++ suppressions_in entries)
     (c.entries-2.ensures ∙ c.commit.ensures.entries ∙ c.in_ok-stage.ensures.staged
     ∙ entries_law k c.args.event past (fits_with_log (kept c.args.self.now) [] past fits) c.requires.proper c.requires.supported)
-    ∙ ap (λ (more : List Suppression). noted c.args.self.now.log ++ more) (share_suppressions k.config k.zone k.share c.args.event past)
+    ∙ ap (λ (more : List Suppression). c.args.self.now.log.lines ++ more) (share_suppressions k.config k.zone k.share c.args.event past)

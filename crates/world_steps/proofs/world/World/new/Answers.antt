@@ -2,9 +2,11 @@ use Rattle.std.proofs.Common.{◌≡◌, List, [], length, map, replicate, sym, 
 use Rattle.std.proofs.lemmas.List.Elements.{All-nil}
 use Rattle.due_model.specs.declared.event.Event.{Event}
 use Rattle.due_model.specs.Covered.{IsPlainEvent}
-use Rattle.world_steps.specs.Worlds.{DeciderState, LaneState, new_decider, setup_for}
+use Rattle.steps.specs.Lanes.{LaneState}
+use Rattle.world_steps.specs.Worlds.{DeciderState, new_decider, setup_for}
 use Rattle.world_steps.specs.Runs.{new_world}
-use Rattle.world_steps.specs.Fits.{Fits, StateFits, state_of, lane_state}
+use Rattle.steps.specs.Lanes.{lane_state}
+use Rattle.world_steps.specs.Fits.{Fits, StateFits, state_of}
 use Rattle.world_steps.proofs.NewWorlds.{new_fits}
 use Rattle.world_steps.proofs.world.World.new.Goals as goal
 

@@ -1,7 +1,7 @@
 use Rattle.std.proofs.Common.{◌∙◌, get_or}
 use Rattle.due_model.specs.declared.event.EventKind.TheVariants.{Clock}
-use Rattle.world_steps.specs.declared.step.Step.{Step}
-use Rattle.world_steps.specs.declared.step.Step.TheVariants.{Post}
+use Rattle.steps.specs.declared.step.Step.{Step}
+use Rattle.steps.specs.declared.step.Step.TheVariants.{Post}
 use Rattle.world_steps.specs.Views.{world_state, world_setup}
 use Rattle.world_steps.proofs.RunLaws.{leads_next, shut_next}
 use Rattle.world_steps.proofs.world.World.run.Goals as goal
