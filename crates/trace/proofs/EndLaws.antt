@@ -33,15 +33,15 @@ pub some_weaker : (known : Option (List ℕ)) (P Q : List ℕ → Type 0) → ((
 some_weaker None P Q f h = tt
 some_weaker (Some x) P Q f h = f x h
 
-pub end_short : (c : Config) (d : ℕ) (s : Setup) (old new : RunState) (over : Bool) (rest : List ℕ) (before after : Option (List ℕ)) (held held' : List ℕ)
-    → WritesSteps c d s rest false old new before after held held' → WritesEnd c d s old over Steps rest Short before after held held'
-end_short c d s old new over rest before after held held' h =
+pub end_short : (can_fail : Bool) (c : Config) (d : ℕ) (s : Setup) (old new : RunState) (over : Bool) (rest : List ℕ) (before after : Option (List ℕ)) (held held' : List ℕ)
+    → WritesSteps can_fail c d s rest false old new before after held held' → WritesEnd can_fail c d s old over Steps rest Short before after held held'
+end_short can_fail c d s old new over rest before after held held' h =
     (h.0 ++ [], (false, new, h.0, h.1, refl, refl), subst (λ (t : List ℕ). Leaves before after (held ++ t) held') (sym (append-nil h.0)) h.2)
 
-pub end_whole : (c : Config) (d : ℕ) (s : Setup) (old new : RunState) (over : Bool) (rest : List ℕ) (before mid after : Option (List ℕ)) (held held' held'' : List ℕ)
-    → WritesSteps c d s rest true old new before mid held held' → Leaves mid after (held' ++ world_text s new.world) held''
-    → WritesEnd c d s old over Steps rest (ending_of over) before after held held''
-end_whole c d s old new over rest before mid after held held' held'' h k = (
+pub end_whole : (can_fail : Bool) (c : Config) (d : ℕ) (s : Setup) (old new : RunState) (over : Bool) (rest : List ℕ) (before mid after : Option (List ℕ)) (held held' held'' : List ℕ)
+    → WritesSteps can_fail c d s rest true old new before mid held held' → Leaves mid after (held' ++ world_text s new.world) held''
+    → WritesEnd can_fail c d s old over Steps rest (ending_of over) before after held held''
+end_whole can_fail c d s old new over rest before mid after held held' held'' h k = (
   h.0 ++ world_text s new.world,
   (true, new, h.0, h.1, refl, refl),
   subst (λ (t : List ℕ). Leaves before after t held'') (append_assoc held h.0 (world_text s new.world)) (leaves_on before mid after (held ++ h.0) held' (world_text s new.world) held'' h.2 k),
@@ -60,36 +60,36 @@ state_of_parts run events world e p w =
     ∙ ap (λ (n : ℕ). record { events = events; posted = n; world = world_state run.world }) p
     ∙ ap (λ (v : WorldState). record { events = events; posted = 0; world = v }) w
 
-module _ (c : Config) (settings : Settings) (run0 run1 : Run) (feed0 : Feed) (source : Reading) (known : Option (List ℕ)) (after : AfterFeed) (ending : Ending)
+module _ (can_fail : Bool) (c : Config) (settings : Settings) (run0 run1 : Run) (feed0 : Feed) (source : Reading) (known : Option (List ℕ)) (after : AfterFeed) (ending : Ending)
     (w0 w1 w2 w3 : Option (List ℕ)) (held0 held1 held2 : List ℕ)
     (same : run0.config.now ≡ c) (fresh : feed_state run0 held0 ≡ no_feed) (is : feed0 ≡ feed_of source 0 0 None)
     (one : run1.config.now ≡ c) (many : run1.deciders ≡ settings.deciders) (setup : world_setup run1.world ≡ trace_setup c settings)
     (posted : run1.posted ≡ 0) (world : world_state run1.world ≡ new_world (trace_setup c settings) (replicate (length c.lanes) true))
     (flushed : Leaves w2 w3 held2 []) where
-  traced : (bytes rest : List ℕ) → ReadsFeed run0 feed0 bytes after run1 rest w0 w1 held0 held1
-      → WritesEnd run1.config.now run1.deciders (world_setup run1.world) (run_state run1) run1.is_over after rest ending w1 w2 held1 held2
-      → TracesFeed c settings bytes ending w0 w3
+  traced : (bytes rest : List ℕ) → ReadsFeed can_fail run0 feed0 bytes after run1 rest w0 w1 held0 held1
+      → WritesEnd can_fail run1.config.now run1.deciders (world_setup run1.world) (run_state run1) run1.is_over after rest ending w1 w2 held1 held2
+      → TracesFeed can_fail c settings bytes ending w0 w3
   traced bytes rest h k =
       let given : List Answer = h.0 in
       let f : FeedState = after_answers no_feed given in
       let has : Has f run1 w0 w1 held1 = subst (λ (x : FeedState). Has (after_answers x given) run1 w0 w1 held1) fresh h.2 in
-      let ends : FeedEnds (answers_from c.objects (feed_of source 0 0 None) bytes) 0 bytes after given rest =
-      subst (λ (x : Feed). FeedEnds (answers_from c.objects x bytes) x.line bytes after given rest) is
-      (subst (λ (x : Config). FeedEnds (answers_from x.objects feed0 bytes) feed0.line bytes after given rest) same h.1) in
-      let done : EndsTrace c settings.deciders (trace_setup c settings) (start_with c settings f) f.over after rest ending k.0 =
-      subst (λ (x : Config). EndsTrace x settings.deciders (trace_setup c settings) (start_with c settings f) f.over after rest ending k.0) one
-      (subst (λ (x : ℕ). EndsTrace run1.config.now x (trace_setup c settings) (start_with c settings f) f.over after rest ending k.0) many
-      (subst (λ (x : Setup). EndsTrace run1.config.now run1.deciders x (start_with c settings f) f.over after rest ending k.0) setup
-      (subst (λ (x : RunState). EndsTrace run1.config.now run1.deciders (world_setup run1.world) x f.over after rest ending k.0)
+      let ends : FeedEnds can_fail (answers_from c.objects (feed_of source 0 0 None) bytes) 0 bytes after given rest =
+      subst (λ (x : Feed). FeedEnds can_fail (answers_from c.objects x bytes) x.line bytes after given rest) is
+      (subst (λ (x : Config). FeedEnds can_fail (answers_from x.objects feed0 bytes) feed0.line bytes after given rest) same h.1) in
+      let done : EndsTrace can_fail c settings.deciders (trace_setup c settings) (start_with c settings f) f.over after rest ending k.0 =
+      subst (λ (x : Config). EndsTrace can_fail x settings.deciders (trace_setup c settings) (start_with c settings f) f.over after rest ending k.0) one
+      (subst (λ (x : ℕ). EndsTrace can_fail run1.config.now x (trace_setup c settings) (start_with c settings f) f.over after rest ending k.0) many
+      (subst (λ (x : Setup). EndsTrace can_fail run1.config.now run1.deciders x (start_with c settings f) f.over after rest ending k.0) setup
+      (subst (λ (x : RunState). EndsTrace can_fail run1.config.now run1.deciders (world_setup run1.world) x f.over after rest ending k.0)
       (state_of_parts run1 f.events (new_world (trace_setup c settings) (replicate (length c.lanes) true)) has.events posted world)
-      (subst (λ (x : Bool). EndsTrace run1.config.now run1.deciders (world_setup run1.world) (run_state run1) x after rest ending k.0) has.over k.1)))) in
+      (subst (λ (x : Bool). EndsTrace can_fail run1.config.now run1.deciders (world_setup run1.world) (run_state run1) x after rest ending k.0) has.over k.1)))) in
       (after, given, rest, k.0, ends, done, whole w0 w1 w2 w3 f.text held1 k.0 held2 has.text k.2 flushed)
 
-  pub feed_traced : Known feed0.bytes known (λ bytes rest. ReadsFeed run0 feed0 bytes after run1 rest w0 w1 held0 held1)
-      → IfSome known (λ rest. WritesEnd run1.config.now run1.deciders (world_setup run1.world) (run_state run1) run1.is_over after rest ending w1 w2 held1 held2)
-      → IfSome (to_come source) (λ bytes. TracesFeed c settings bytes ending w0 w3)
+  pub feed_traced : Known feed0.bytes known (λ bytes rest. ReadsFeed can_fail run0 feed0 bytes after run1 rest w0 w1 held0 held1)
+      → IfSome known (λ rest. WritesEnd can_fail run1.config.now run1.deciders (world_setup run1.world) (run_state run1) run1.is_over after rest ending w1 w2 held1 held2)
+      → IfSome (to_come source) (λ bytes. TracesFeed can_fail c settings bytes ending w0 w3)
   feed_traced h k =
-      subst (λ (x : Feed). IfSome x.bytes (λ bytes. TracesFeed c settings bytes ending w0 w3)) is
-      (known_last feed0.bytes known (λ bytes rest. ReadsFeed run0 feed0 bytes after run1 rest w0 w1 held0 held1)
-      (λ rest. WritesEnd run1.config.now run1.deciders (world_setup run1.world) (run_state run1) run1.is_over after rest ending w1 w2 held1 held2)
-      (λ bytes. TracesFeed c settings bytes ending w0 w3) traced h k)
+      subst (λ (x : Feed). IfSome x.bytes (λ bytes. TracesFeed can_fail c settings bytes ending w0 w3)) is
+      (known_last feed0.bytes known (λ bytes rest. ReadsFeed can_fail run0 feed0 bytes after run1 rest w0 w1 held0 held1)
+      (λ rest. WritesEnd can_fail run1.config.now run1.deciders (world_setup run1.world) (run_state run1) run1.is_over after rest ending w1 w2 held1 held2)
+      (λ bytes. TracesFeed can_fail c settings bytes ending w0 w3) traced h k)

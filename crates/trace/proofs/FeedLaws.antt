@@ -1,9 +1,9 @@
 -- The lines of a feed, one after another: what they give, and what is kept of it.
-use Rattle.std.proofs.Common.{codes, slice_index, ◌≡◌, ◌≢◌, ◌<◌, ℕ, ◌+◌, zero, suc, Bool, true, false, List, [], ◌∷◌, ◌++◌, length, replicate, Option, None, Some, Result, Ok, Err, refl, sym, ap, subst, ◌∙◌, append_assoc, arith}
+use Rattle.std.proofs.Common.{codes, slice_index, ◌≡◌, ◌≢◌, ◌<◌, ◌≤◌, ◌⊎◌, inl, inr, All, IfSome, ℕ, ◌+◌, zero, suc, Bool, true, false, List, [], ◌∷◌, ◌++◌, length, replicate, Option, None, Some, Result, Ok, Err, refl, sym, ap, subst, ◌∙◌, append_assoc, arith}
 use Rattle.std.proofs.lemmas.List.{append-nil, length-append, length-replicate}
 use Rattle.std.proofs.lemmas.Str.{is_utf8-from_IsUtf8, IsUtf8-from_ascii}
 use Rattle.std.specs.Str.{IsAscii}
-use Rattle.std.proofs.lemmas.List.Elements.{All-nil, All-cons, All-append, All-replicate}
+use Rattle.std.proofs.lemmas.List.Elements.{All-nil, All-cons, All-append, All-push, All-replicate, All-weaker}
 use Rattle.due_model.specs.declared.config.Object.{Object}
 use Rattle.due_model.specs.declared.event.Event.{Event}
 use Rattle.event_feed.specs.declared.fault.FeedFault.{FeedFault}
@@ -16,7 +16,7 @@ use Rattle.text_lines.specs.declared.line_reader.Stop.{Stop}
 use Rattle.text_lines.specs.declared.line_reader.Stop.TheVariants.{InputEnded, CutLine, ReaderFailed, TooManyCalls, TooManyBytes, TooManyLines}
 use Rattle.std.proofs.lemmas.Option.{same_Some}
 use Rattle.trace.proofs.StepsLaws.{known_weaker}
-use Rattle.event_feed.specs.Feed.{Answer, Feed, ComesNext, ComesTo, FaultAnswers, FaultComesTo, FaultFits, GivesEvent, GivesFault, RefusesLine, answers_from, raised, text_reading}
+use Rattle.event_feed.specs.Feed.{Answer, AreGiven, AreGivenBy, Feed, ComesNext, ComesTo, FaultAnswers, FaultComesTo, FaultFits, GivesEvent, GivesFault, RefusesLine, answers_from, raised, text_reading}
 use Rattle.event_feed.specs.Line.{line_reading}
 use Rattle.text_lines.specs.Lines.{Known, pieces}
 use Rattle.command_output.specs.Output.{Leaves}
@@ -90,6 +90,15 @@ has_more f old new before mid after held held' given h k =
           (subst (λ (text : List ℕ). Leaves mid after text held') (ap (λ (s : FeedState). s.text) here) k.text));
     }
 
+-- all lines up to one are before a later one
+earlier_below : (given front : List Answer) (line later : ℕ) → line < later → All (λ a. a.line ≤ line) given → All (λ a. a.line < later) front → All (λ a. a.line < later) (given ++ front)
+earlier_below given front line later below h k =
+    All-append (λ a. a.line < later) given front (All-weaker (λ a. a.line ≤ line) (λ a. a.line < later) (λ a le. omega (arith, le, below)) given h) k
+
+earlier_more : (given : List Answer) (answer : Answer) (line line' : ℕ) → line ≤ line' → answer.line ≤ line' → All (λ a. a.line ≤ line) given → All (λ a. a.line ≤ line') (given ++ answer ∷ [])
+earlier_more given answer line line' le at h =
+    All-push (λ a. a.line ≤ line') given answer (All-weaker (λ a. a.line ≤ line) (λ a. a.line ≤ line') (λ a k. omega (arith, k, le)) given h) at
+
 -- ---- the loop
 
 pub some_none : (run : Run) (feed : Feed) (bytes : List ℕ) (known : Option (List ℕ)) (held : List ℕ) → ReadsSome run feed bytes run feed bytes known known held held
@@ -100,6 +109,7 @@ some_none run feed bytes known held = (
     lines = record { lines = refl; unmarked = All-nil (λ (line : List ℕ). line ≢ mark) };
     number = omega arith;
     answers = refl;
+    earlier = All-nil (λ (answer : Answer). answer.line ≤ feed.line);
   },
   record { events = refl; over = refl; text = leaves_all known held },
 )
@@ -115,14 +125,37 @@ some_more start old new feed feed' feed'' bytes mid rest before between after he
         lines = comes_more bytes mid h.1.before on.before (pieces rest) h.1.lines on.lines;
         number = omega (arith, h.1.number, on.number, length-append h.1.before on.before);
         answers = h.1.answers ∙ ap (λ (all : List Answer). h.0 ++ all) on.answers ∙ sym (append_assoc h.0 (k.0 ∷ []) (answers_from start.config.now.objects feed'' rest));
+        earlier = earlier_more h.0 k.0 feed'.line feed''.line (omega (arith, on.number)) (omega (arith, on.line)) h.1.earlier;
       },
       subst (λ (f : FeedState). Has f new before after held'') (sym (after_more (feed_state start held) h.0 (k.0 ∷ [])))
           (has_more (after_answers (feed_state start held) h.0) old new before between after held' held'' (k.0 ∷ []) h.2 k.2),
     )
 
-ends_more : (objects : List Object) (feed feed' : Feed) (bytes mid rest : List ℕ) (end : AfterFeed) (given more : List Answer) → FeedSoFar objects feed bytes feed' mid given
-    → FeedEnds (answers_from objects feed' mid) feed'.line mid end more rest → FeedEnds (answers_from objects feed bytes) feed.line bytes end (given ++ more) rest
-ends_more objects feed feed' bytes mid rest Steps given more h k = (
+-- what is given of the feed after some of its lines
+given_more : (can_fail : Bool) (objects : List Object) (feed feed' : Feed) (bytes mid : List ℕ) (given more : List Answer) → FeedSoFar objects feed bytes feed' mid given
+    → AreGiven can_fail more (answers_from objects feed' mid) feed'.line (pieces mid) → AreGiven can_fail (given ++ more) (answers_from objects feed bytes) feed.line (pieces bytes)
+given_more can_fail objects feed feed' bytes mid given more h (inl same) = inl (ap (λ (all : List Answer). given ++ all) same ∙ sym h.answers)
+given_more can_fail objects feed feed' bytes mid given more h (inr breaks) = inr (record {
+  front = given ++ breaks.front;
+  line = breaks.line;
+  others = breaks.others;
+  begins = h.answers ∙ ap (λ (all : List Answer). given ++ all) breaks.begins ∙ sym (append_assoc given breaks.front breaks.others);
+  place = record {
+    before = h.before ++ breaks.place.before;
+    text = breaks.place.text;
+    others = breaks.place.others;
+    are = h.lines.lines ∙ ap (λ (ls : List (List ℕ)). h.before ++ ls) breaks.place.are ∙ sym (append_assoc h.before breaks.place.before (breaks.place.text ∷ breaks.place.others));
+    number = omega (arith, breaks.place.number, h.number, length-append h.before breaks.place.before);
+    long = breaks.place.long;
+  };
+  earlier = earlier_below given breaks.front feed'.line breaks.line (omega (arith, breaks.place.number)) h.earlier breaks.earlier;
+  later = breaks.later;
+  whole = ap (λ (all : List Answer). given ++ all) breaks.whole ∙ sym (append_assoc given breaks.front (record { line = breaks.line; given = Err faults.Read } ∷ []));
+})
+
+ends_more : (can_fail : Bool) (objects : List Object) (feed feed' : Feed) (bytes mid rest : List ℕ) (end : AfterFeed) (given more : List Answer) → FeedSoFar objects feed bytes feed' mid given
+    → FeedEnds can_fail (answers_from objects feed' mid) feed'.line mid end more rest → FeedEnds can_fail (answers_from objects feed bytes) feed.line bytes end (given ++ more) rest
+ends_more can_fail objects feed feed' bytes mid rest Steps given more h k = (
   h.before ++ k.0,
   k.1,
   k.2,
@@ -130,24 +163,23 @@ ends_more objects feed feed' bytes mid rest Steps given more h k = (
   omega (arith, h.number, k.4, length-append h.before k.0),
   h.answers ∙ ap (λ (all : List Answer). given ++ all) k.5 ∙ sym (append_assoc given more (record { line = k.1; given = Err BadStamp } ∷ k.2)),
 )
-ends_more objects feed feed' bytes mid rest Nothing given more h k = h.answers ∙ ap (λ (all : List Answer). given ++ all) k
-ends_more objects feed feed' bytes mid rest Cut given more h k =
+ends_more can_fail objects feed feed' bytes mid rest Nothing given more h k = h.answers ∙ ap (λ (all : List Answer). given ++ all) k
+ends_more can_fail objects feed feed' bytes mid rest Cut given more h k =
     (given ++ k.0, k.1, h.answers ∙ ap (λ (all : List Answer). given ++ all) k.2, ap (λ (all : List Answer). given ++ all) k.3 ∙ sym (append_assoc given k.0 _))
-ends_more objects feed feed' bytes mid rest Unread given more h k = (
+ends_more can_fail objects feed feed' bytes mid rest Unread given more h k = (
   given ++ k.0,
   k.1,
-  k.2,
-  h.answers ∙ ap (λ (all : List Answer). given ++ all) k.3 ∙ sym (append_assoc given k.0 k.2),
-  ap (λ (all : List Answer). given ++ all) k.4 ∙ sym (append_assoc given k.0 _),
+  given_more can_fail objects feed feed' bytes mid given more h k.2,
+  ap (λ (all : List Answer). given ++ all) k.3 ∙ sym (append_assoc given k.0 _),
 )
 
-pub some_last : (start old new : Run) (feed feed' : Feed) (bytes mid rest : List ℕ) (end : AfterFeed) (before between after : Option (List ℕ)) (held held' held'' : List ℕ)
-    → old.config ≡ start.config → ReadsSome start feed bytes old feed' mid before between held held' → EndsFeed old feed' mid end new rest between after held' held''
-    → ReadsFeed start feed bytes end new rest before after held held''
-some_last start old new feed feed' bytes mid rest end before between after held held' held'' same h k =
-    let ends = subst (λ x. FeedEnds (answers_from x.now.objects feed' mid) feed'.line mid end k.0 rest) same k.1 in (
+pub some_last : (can_fail : Bool) (start old new : Run) (feed feed' : Feed) (bytes mid rest : List ℕ) (end : AfterFeed) (before between after : Option (List ℕ)) (held held' held'' : List ℕ)
+    → old.config ≡ start.config → ReadsSome start feed bytes old feed' mid before between held held' → EndsFeed can_fail old feed' mid end new rest between after held' held''
+    → ReadsFeed can_fail start feed bytes end new rest before after held held''
+some_last can_fail start old new feed feed' bytes mid rest end before between after held held' held'' same h k =
+    let ends = subst (λ x. FeedEnds can_fail (answers_from x.now.objects feed' mid) feed'.line mid end k.0 rest) same k.1 in (
       h.0 ++ k.0,
-      ends_more start.config.now.objects feed feed' bytes mid rest end h.0 k.0 h.1 ends,
+      ends_more can_fail start.config.now.objects feed feed' bytes mid rest end h.0 k.0 h.1 ends,
       subst (λ (f : FeedState). Has f new before after held'') (sym (after_more (feed_state start held) h.0 k.0))
           (has_more (after_answers (feed_state start held) h.0) old new before between after held' held'' k.0 h.2 k.2),
     )
@@ -184,6 +216,13 @@ known_both None b P Q h k = tt
 known_both (Some x) None P Q h k = h
 known_both (Some x) (Some y) P Q h k = (h, k)
 
+-- a fact of the first bytes beside one of both
+known_some : (a b : Option (List ℕ)) (P : List ℕ → List ℕ → Type 0) (Q : List ℕ → Type 0) (R : List ℕ → List ℕ → Type 0) → ((x y : List ℕ) → P x y → Q x → R x y)
+    → Known a b P → IfSome a Q → Known a b R
+known_some None b P Q R each h k = tt
+known_some (Some x) None P Q R each h k = h
+known_some (Some x) (Some y) P Q R each h k = each x y h k
+
 -- a refusal keeps the events
 refusal_events : (events : List Event) (over : Bool) (fault : FeedFault) → events ≡ events_after events over (Err fault)
 refusal_events events true fault = refl
@@ -206,7 +245,7 @@ mark_goes_on (Some TooManyLines) fault is fits = let e : faults.Read ≡ fault =
 fault_same : (a b : FeedFault) → ◌≡◌ {A = Result Event FeedFault} (Err a) (Err b) → a ≡ b
 fault_same a b e = cc
 
-module _ (run0 run1 : Run) (feed0 feed1 : Feed) (w0 w1 : Option (List ℕ)) (held0 held1 : List ℕ) where
+module _ (can_fail : Bool) (run0 run1 : Run) (feed0 feed1 : Feed) (w0 w1 : Option (List ℕ)) (held0 held1 : List ℕ) where
   abbrev objects : List Object
   objects = run0.config.now.objects
 
@@ -220,7 +259,7 @@ module _ (run0 run1 : Run) (feed0 feed1 : Feed) (w0 w1 : Option (List ℕ)) (hel
       (λ bytes rest h.
       let comes = comes_next feed0.line bytes rest feed1.line feed1.text h.1.0 (event_unmarked objects feed0.last feed1.text event gives.said) in (
         record { line = feed1.line; given = Ok event },
-        record { before = comes.0; lines = comes.1; number = comes.2; answers = h.0 },
+        record { before = comes.0; lines = comes.1; number = comes.2; answers = h.0; line = refl },
         record { events = events; over = over; text = text },
       ))
       (known_both feed0.bytes feed1.bytes _ _ gives.answers gives.place)
@@ -239,7 +278,7 @@ module _ (run0 run1 : Run) (feed0 feed1 : Feed) (w0 w1 : Option (List ℕ)) (hel
       let bad : refusal.fault ≡ BadStamp = fault_same refusal.fault BadStamp (sym h.1.reading ∙ ap (line_reading objects) marked ∙ mark_reading objects) in
       unmarked (record { refused = bad; says = h.1.stays (λ long. absurd (cc)) ∙ marked })) in (
         record { line = refusal.line; given = Err refusal.fault },
-        record { before = comes.0; lines = comes.1; number = sym gives.number ∙ comes.2; answers = h.0 },
+        record { before = comes.0; lines = comes.1; number = sym gives.number ∙ comes.2; answers = h.0; line = gives.number },
         record {
           events = events ∙ refusal_events run0.events.items run0.is_over refusal.fault;
           over = over ∙ refusal_over run0.events.items run0.is_over refusal.fault;
@@ -250,13 +289,13 @@ module _ (run0 run1 : Run) (feed0 feed1 : Feed) (w0 w1 : Option (List ℕ)) (hel
       (subst (λ (stop : Option Stop). FaultComesTo objects feed0 refusal stop feed1) going gives.place))
 
   pub line_marked : (refusal : LineFault) → GivesFault objects feed0 refusal feed1 → IsMark refusal.fault feed1.text
-      → Known feed0.bytes feed1.bytes (λ bytes rest. EndsFeed run0 feed0 bytes Steps run0 rest w0 w0 held0 held0)
+      → Known feed0.bytes feed1.bytes (λ bytes rest. EndsFeed can_fail run0 feed0 bytes Steps run0 rest w0 w0 held0 held0)
   line_marked refusal gives marked =
       let going : feed1.stop ≡ None = mark_goes_on feed1.stop refusal.fault marked.refused gives.fits in
       known_weaker feed0.bytes feed1.bytes
       (λ bytes rest. (answers_from objects feed0 bytes ≡ record { line = refusal.line; given = Err refusal.fault } ∷ answers_from objects feed1 rest)
       × RefusesLine objects feed0.line bytes refusal feed1.text rest)
-      (λ bytes rest. EndsFeed run0 feed0 bytes Steps run0 rest w0 w0 held0 held0)
+      (λ bytes rest. EndsFeed can_fail run0 feed0 bytes Steps run0 rest w0 w0 held0 held0)
       (λ bytes rest h.
       let is : h.1.text ≡ mark = sym (h.1.stays (λ long. let bad = marked.refused in absurd (cc))) ∙ marked.says in
       let comes = comes_marked feed0.line bytes rest refusal.line h.1.text h.1.next is in (
@@ -286,13 +325,13 @@ module _ (run0 run1 : Run) (feed0 feed1 : Feed) (w0 w1 : Option (List ℕ)) (hel
 
   pub line_cut : (refusal : LineFault) → GivesFault objects feed0 refusal feed1 → feed1.stop ≡ Some CutLine → run1.events.items ≡ run0.events.items → run1.is_over ≡ run0.is_over
       → Leaves w0 w1 (held0 ++ added run0.events.items run0.is_over refusal.line (Err refusal.fault)) held1
-      → Known feed0.bytes feed1.bytes (λ bytes rest. EndsFeed run0 feed0 bytes Cut run1 rest w0 w1 held0 held1)
+      → Known feed0.bytes feed1.bytes (λ bytes rest. EndsFeed can_fail run0 feed0 bytes Cut run1 rest w0 w1 held0 held1)
   line_cut refusal gives cut events over text =
       let fits : stop_fault CutLine ≡ Some refusal.fault = subst (λ (stop : Option Stop). FaultFits refusal.fault stop) cut gives.fits in
       let is : refusal.fault ≡ faults.Cut = sym (same_Some faults.Cut refusal.fault fits) in
       known_weaker feed0.bytes feed1.bytes
       (λ bytes rest. answers_from objects feed0 bytes ≡ record { line = refusal.line; given = Err refusal.fault } ∷ answers_from objects feed1 rest)
-      (λ bytes rest. EndsFeed run0 feed0 bytes Cut run1 rest w0 w1 held0 held1)
+      (λ bytes rest. EndsFeed can_fail run0 feed0 bytes Cut run1 rest w0 w1 held0 held1)
       (λ bytes rest h. (
         record { line = refusal.line; given = Err refusal.fault } ∷ [],
         (
@@ -307,16 +346,18 @@ module _ (run0 run1 : Run) (feed0 feed1 : Feed) (w0 w1 : Option (List ℕ)) (hel
 
   pub line_unread : (refusal : LineFault) (stop : Stop) → GivesFault objects feed0 refusal feed1 → feed1.stop ≡ Some stop → stop ≢ CutLine → run1.events.items ≡ run0.events.items → run1.is_over ≡ run0.is_over
       → Leaves w0 w1 (held0 ++ added run0.events.items run0.is_over refusal.line (Err refusal.fault)) held1
-      → Known feed0.bytes feed1.bytes (λ bytes rest. EndsFeed run0 feed0 bytes Unread run1 rest w0 w1 held0 held1)
-  line_unread refusal stop gives stopped other events over text =
+      → AreGivenBy can_fail objects feed0 (record { line = refusal.line; given = Err refusal.fault } ∷ [])
+      → Known feed0.bytes feed1.bytes (λ bytes rest. EndsFeed can_fail run0 feed0 bytes Unread run1 rest w0 w1 held0 held1)
+  line_unread refusal stop gives stopped other events over text last =
       let is : refusal.fault ≡ faults.Read = read_stop stop refusal.fault other (subst (λ (x : Option Stop). FaultFits refusal.fault x) stopped gives.fits) in
-      known_weaker feed0.bytes feed1.bytes (λ bytes rest. ComesTo (Over stop) feed0.line bytes feed1.line feed1.text rest) (λ bytes rest. EndsFeed run0 feed0 bytes Unread run1 rest w0 w1 held0 held1)
-      (λ bytes rest h. (
+      known_some feed0.bytes feed1.bytes (λ bytes rest. ComesTo (Over stop) feed0.line bytes feed1.line feed1.text rest) _
+      (λ bytes rest. EndsFeed can_fail run0 feed0 bytes Unread run1 rest w0 w1 held0 held1)
+      (λ bytes rest h given. (
         record { line = refusal.line; given = Err refusal.fault } ∷ [],
-        ([], refusal.line, answers_from objects feed0 bytes, refl, ap (λ (f : FeedFault). record { line = refusal.line; given = Err f } ∷ []) is),
+        ([], refusal.line, given, ap (λ (f : FeedFault). record { line = refusal.line; given = Err f } ∷ []) is),
         has_refusal refusal events over text,
       ))
-      (subst (λ (x : Option Stop). FaultComesTo objects feed0 refusal x feed1) stopped gives.place)
+      (subst (λ (x : Option Stop). FaultComesTo objects feed0 refusal x feed1) stopped gives.place) last
     where
       read_stop : (s : Stop) (f : FeedFault) → s ≢ CutLine → stop_fault s ≡ Some f → f ≡ faults.Read
       read_stop InputEnded f other e = absurd (cc)
@@ -328,13 +369,14 @@ module _ (run0 run1 : Run) (feed0 feed1 : Feed) (w0 w1 : Option (List ℕ)) (hel
 
   pub line_stopped : (refusal : LineFault) (stop : Stop) → GivesFault objects feed0 refusal feed1 → feed1.stop ≡ Some stop → run1.events.items ≡ run0.events.items → run1.is_over ≡ run0.is_over
       → Leaves w0 w1 (held0 ++ added run0.events.items run0.is_over refusal.line (Err refusal.fault)) held1
-      → Known feed0.bytes feed1.bytes (λ bytes rest. EndsFeed run0 feed0 bytes (after_stop stop) run1 rest w0 w1 held0 held1)
-  line_stopped refusal InputEnded gives stopped events over text = line_unread refusal InputEnded gives stopped (λ e. absurd (cc)) events over text
-  line_stopped refusal CutLine gives stopped events over text = line_cut refusal gives stopped events over text
-  line_stopped refusal ReaderFailed gives stopped events over text = line_unread refusal ReaderFailed gives stopped (λ e. absurd (cc)) events over text
-  line_stopped refusal TooManyCalls gives stopped events over text = line_unread refusal TooManyCalls gives stopped (λ e. absurd (cc)) events over text
-  line_stopped refusal TooManyBytes gives stopped events over text = line_unread refusal TooManyBytes gives stopped (λ e. absurd (cc)) events over text
-  line_stopped refusal TooManyLines gives stopped events over text = line_unread refusal TooManyLines gives stopped (λ e. absurd (cc)) events over text
+      → AreGivenBy can_fail objects feed0 (record { line = refusal.line; given = Err refusal.fault } ∷ [])
+      → Known feed0.bytes feed1.bytes (λ bytes rest. EndsFeed can_fail run0 feed0 bytes (after_stop stop) run1 rest w0 w1 held0 held1)
+  line_stopped refusal InputEnded gives stopped events over text last = line_unread refusal InputEnded gives stopped (λ e. absurd (cc)) events over text last
+  line_stopped refusal CutLine gives stopped events over text last = line_cut refusal gives stopped events over text
+  line_stopped refusal ReaderFailed gives stopped events over text last = line_unread refusal ReaderFailed gives stopped (λ e. absurd (cc)) events over text last
+  line_stopped refusal TooManyCalls gives stopped events over text last = line_unread refusal TooManyCalls gives stopped (λ e. absurd (cc)) events over text last
+  line_stopped refusal TooManyBytes gives stopped events over text last = line_unread refusal TooManyBytes gives stopped (λ e. absurd (cc)) events over text last
+  line_stopped refusal TooManyLines gives stopped events over text last = line_unread refusal TooManyLines gives stopped (λ e. absurd (cc)) events over text last
 
 pub unmoved_join : (a b c : Run) → Unmoved a b → Unmoved b c → Unmoved a c
 unmoved_join a b c h k = record {

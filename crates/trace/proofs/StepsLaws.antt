@@ -1,5 +1,5 @@
 -- Step lines, one after another: what was read, and what becomes of it.
-use Rattle.std.proofs.Common.{◌≡◌, ◌<◌, ◌≤◌, ℕ, ◌+◌, Bool, true, false, cond, eqb, nat_lt, List, [], ◌∷◌, ◌++◌, length, flat_map, Option, None, Some, IfNone, IfSome, inl, inr, refl, sym, ap, subst, ◌∙◌, append_assoc, arith, codes}
+use Rattle.std.proofs.Common.{◌≡◌, ◌<◌, ◌≤◌, ℕ, ◌⊎◌, ◌+◌, Bool, true, false, cond, eqb, nat_lt, List, [], ◌∷◌, ◌++◌, length, flat_map, Option, None, Some, IfNone, IfSome, inl, inr, refl, sym, ap, subst, ◌∙◌, append_assoc, arith, codes}
 use Rattle.std.proofs.lemmas.Bool.{cases_lt, ne_eqb}
 use Rattle.std.proofs.lemmas.Grind.{flat_map-append}
 use Rattle.std.proofs.lemmas.List.{append-nil, length-append}
@@ -19,6 +19,7 @@ use Rattle.trace.specs.declared.step_line.StepLine.{StepLine}
 use Rattle.trace.specs.declared.step_line.StepLine.TheVariants.{PostNext, Do}
 use Rattle.trace.specs.StepLine.{Spells}
 use Rattle.trace.specs.Run.{RunState, DoesLine, DoesSaid, Says}
+use Rattle.event_feed.specs.Feed.{feed_limit}
 use Rattle.trace.specs.Steps.{AreLines, DoesLast, DoesLines, DoesNext, DoesSoFar, WritesSteps, last_line, with_newline}
 
 -- ---- bytes that are known
@@ -150,10 +151,10 @@ so_far_more c d s n bytes mid rest old run new before between after held held' h
   subst (λ (all : List ℕ). Leaves before after all held'') (append_assoc held h.1 k.1) (leaves_on before between after (held ++ h.1) held' k.1 held'' h.5 k.4),
 )
 
-pub so_far_last : (c : Config) (d : ℕ) (s : Setup) (n : ℕ) (bytes rest : List ℕ) (all : Bool) (old run new : RunState) (before between after : Option (List ℕ)) (held held' held'' : List ℕ)
-    → DoesSoFar c d s n bytes rest old run before between held held' → DoesLast c d s (n + 1) rest all run new between after held' held''
-    → WritesSteps c d s bytes all old new before after held held''
-so_far_last c d s n bytes rest true old run new before between after held held' held'' h k = (
+pub so_far_last : (can_fail : Bool) (c : Config) (d : ℕ) (s : Setup) (n : ℕ) (bytes rest : List ℕ) (all : Bool) (old run new : RunState) (before between after : Option (List ℕ)) (held held' held'' : List ℕ)
+    → DoesSoFar c d s n bytes rest old run before between held held' → DoesLast can_fail c d s (n + 1) rest all run new between after held' held''
+    → WritesSteps can_fail c d s bytes all old new before after held held''
+so_far_last can_fail c d s n bytes rest true old run new before between after held held' held'' h k = (
   h.1 ++ k.0,
   (
     h.0,
@@ -165,27 +166,27 @@ so_far_last c d s n bytes rest true old run new before between after held held' 
   ),
   subst (λ (text : List ℕ). Leaves before after text held'') (append_assoc held h.1 k.0) (leaves_on before between after (held ++ h.1) held' k.0 held'' h.5 k.3),
 )
-so_far_last c d s n bytes rest false old run new before between after held held' held'' h k = (
+so_far_last can_fail c d s n bytes rest false old run new before between after held held' held'' h k = (
   h.1,
-  (h.0, rest, h.2, subst (λ (w : RunState). DoesLines c d s 1 h.0 old w h.1) (sym k.0) h.4),
+  (h.0, rest, h.2, subst (λ (w : RunState). DoesLines c d s 1 h.0 old w h.1) (sym k.0) h.4, inl k.1),
   subst (λ (text : List ℕ). Leaves before after text held'') (append-nil (held ++ h.1)) (leaves_on before between after (held ++ h.1) held' [] held'' h.5
-      (subst (λ (text : List ℕ). Leaves between after text held'') (sym (append-nil held')) k.1)),
+      (subst (λ (text : List ℕ). Leaves between after text held'') (sym (append-nil held')) k.2)),
 )
 
-pub so_far_short : (c : Config) (d : ℕ) (s : Setup) (n : ℕ) (bytes rest : List ℕ) (old new : RunState) (before after : Option (List ℕ)) (held held' : List ℕ)
-    → DoesSoFar c d s n bytes rest old new before after held held' → WritesSteps c d s bytes false old new before after held held'
-so_far_short c d s n bytes rest old new before after held held' h = (h.1, (h.0, rest, h.2, h.4), h.5)
+pub so_far_short : (can_fail : Bool) (c : Config) (d : ℕ) (s : Setup) (n : ℕ) (bytes rest : List ℕ) (old new : RunState) (before after : Option (List ℕ)) (held held' : List ℕ)
+    → n ≡ feed_limit → DoesSoFar c d s n bytes rest old new before after held held' → WritesSteps can_fail c d s bytes false old new before after held held'
+so_far_short can_fail c d s n bytes rest old new before after held held' all h = (h.1, (h.0, rest, h.2, h.4, inr (h.3 ∙ all)), h.5)
 
 -- ---- the end of the lines
 
-pub ends_here : (c : Config) (d : ℕ) (s : Setup) (n : ℕ) (bytes : List ℕ) (old : RunState) (known : Option (List ℕ)) (held : List ℕ) → bytes ≡ []
-    → DoesLast c d s n bytes true old old known known held held
-ends_here c d s n bytes old known held none =
-    subst (λ (b : List ℕ). DoesLast c d s n b true old old known known held held) (sym none) ([], All-nil (λ byte. eqb byte 10 ≡ false), (refl, refl), leaves_nothing known held)
+pub ends_here : (can_fail : Bool) (c : Config) (d : ℕ) (s : Setup) (n : ℕ) (bytes : List ℕ) (old : RunState) (known : Option (List ℕ)) (held : List ℕ) → bytes ≡ []
+    → DoesLast can_fail c d s n bytes true old old known known held held
+ends_here can_fail c d s n bytes old known held none =
+    subst (λ (b : List ℕ). DoesLast can_fail c d s n b true old old known known held held) (sym none) ([], All-nil (λ byte. eqb byte 10 ≡ false), (refl, refl), leaves_nothing known held)
 
-pub ends_cut : (c : Config) (d : ℕ) (s : Setup) (n : ℕ) (bytes : List ℕ) (old new : RunState) (before after : Option (List ℕ)) (held held' text : List ℕ) → IsUnbroken bytes → 0 < length bytes
-    → DoesLine c d s n bytes old new text → Leaves before after (held ++ text) held' → DoesLast c d s n bytes true old new before after held held'
-ends_cut c d s n bytes old new before after held held' text unbroken some does leaves =
+pub ends_cut : (can_fail : Bool) (c : Config) (d : ℕ) (s : Setup) (n : ℕ) (bytes : List ℕ) (old new : RunState) (before after : Option (List ℕ)) (held held' text : List ℕ) → IsUnbroken bytes → 0 < length bytes
+    → DoesLine c d s n bytes old new text → Leaves before after (held ++ text) held' → DoesLast can_fail c d s n bytes true old new before after held held'
+ends_cut can_fail c d s n bytes old new before after held held' text unbroken some does leaves =
     (text, unbroken, subst (λ (lines : List (List ℕ)). DoesLines c d s n lines old new text) (sym (by_test bytes some)) (new, text, [], does, (refl, refl), sym (append-nil text)), leaves)
   where
     by_test : (bs : List ℕ) → 0 < length bs → last_line bs ≡ bs ∷ []
@@ -193,18 +194,18 @@ ends_cut c d s n bytes old new before after held held' text unbroken some does l
 
 -- ---- the same in the words of another run of the same world
 
-module _ (c c' : Config) (d d' : ℕ) (s s' : Setup) (same : c' ≡ c) (as_many : d' ≡ d) (one : s' ≡ s) (n : ℕ) (old new : RunState) (before after : Option (List ℕ)) (held held' : List ℕ) where
+module _ (can_fail : Bool) (c c' : Config) (d d' : ℕ) (s s' : Setup) (same : c' ≡ c) (as_many : d' ≡ d) (one : s' ≡ s) (n : ℕ) (old new : RunState) (before after : Option (List ℕ)) (held held' : List ℕ) where
   pub next_under : (bytes rest : List ℕ) → DoesNext c' d' s' n bytes rest old new before after held held' → DoesNext c d s n bytes rest old new before after held held'
   next_under bytes rest h =
       subst (λ (x : Config). DoesNext x d s n bytes rest old new before after held held') same
       (subst (λ (x : ℕ). DoesNext c' x s n bytes rest old new before after held held') as_many
       (subst (λ (x : Setup). DoesNext c' d' x n bytes rest old new before after held held') one h))
 
-  pub last_under : (bytes : List ℕ) (all : Bool) → DoesLast c' d' s' n bytes all old new before after held held' → DoesLast c d s n bytes all old new before after held held'
+  pub last_under : (bytes : List ℕ) (all : Bool) → DoesLast can_fail c' d' s' n bytes all old new before after held held' → DoesLast can_fail c d s n bytes all old new before after held held'
   last_under bytes all h =
-      subst (λ (x : Config). DoesLast x d s n bytes all old new before after held held') same
-      (subst (λ (x : ℕ). DoesLast c' x s n bytes all old new before after held held') as_many
-      (subst (λ (x : Setup). DoesLast c' d' x n bytes all old new before after held held') one h))
+      subst (λ (x : Config). DoesLast can_fail x d s n bytes all old new before after held held') same
+      (subst (λ (x : ℕ). DoesLast can_fail c' x s n bytes all old new before after held held') as_many
+      (subst (λ (x : Setup). DoesLast can_fail c' d' x n bytes all old new before after held held') one h))
 
 -- ---- answers of a call
 

@@ -1,5 +1,5 @@
 -- From the trace of a feed to that of an input.
-use Rattle.std.proofs.Common.{◌≡◌, ℕ, List, [], Option, None, Some, Result, Ok, Err, IfErr, IfOk, IfSome, inl, inr, refl, subst, ◌∙◌}
+use Rattle.std.proofs.Common.{◌≡◌, ℕ, Bool, true, List, [], Option, None, Some, Result, Ok, Err, IfErr, IfOk, IfSome, inl, inr, refl, subst, ◌∙◌}
 use Rattle.std.specs.Io.KnownBytes.{Keeps, prepend_known}
 use Rattle.std.proofs.lemmas.Result.{IfOk-weaker}
 use Rattle.due_model.specs.declared.config.Config.{Config}
@@ -23,65 +23,65 @@ keeps_same : (known : Option (List ℕ)) → Keeps known known
 keeps_same None = tt
 keeps_same (Some bytes) = refl
 
-traces_known : (c : Config) (settings : Settings) (bytes : List ℕ) (rest : Option (List ℕ)) (ending : Ending) (old new : Option (List ℕ)) → GivesObjects c (Some bytes) rest
-    → IfSome rest (λ feed. TracesFeed c settings feed ending old new) → Traces settings bytes ending old new
-traces_known c settings bytes None ending old new of h = absurd of
-traces_known c settings bytes (Some rest) ending old new of h = (c, of.0, subst (λ (feed : List ℕ). TracesFeed c settings feed ending old new) of.1 h)
+traces_known : (can_fail : Bool) (c : Config) (settings : Settings) (bytes : List ℕ) (rest : Option (List ℕ)) (ending : Ending) (old new : Option (List ℕ)) → GivesObjects c (Some bytes) rest
+    → IfSome rest (λ feed. TracesFeed can_fail c settings feed ending old new) → Traces can_fail settings bytes ending old new
+traces_known can_fail c settings bytes None ending old new of h = absurd of
+traces_known can_fail c settings bytes (Some rest) ending old new of h = (c, of.0, subst (λ (feed : List ℕ). TracesFeed can_fail c settings feed ending old new) of.1 h)
 
-traces_by : (c : Config) (settings : Settings) (known : Option (List ℕ)) (reading : Reading) (r : Result Ending CommandFault) (old new : Option (List ℕ))
-    → GivesObjects c known (to_come reading) → IfOk r (λ ending. IfSome (to_come reading) (λ feed. TracesFeed c settings feed ending old new))
-    → IfSome known (λ bytes. IfOk r (λ ending. Traces settings bytes ending old new))
-traces_by c settings None reading r old new of h = tt
-traces_by c settings (Some bytes) reading r old new of h =
-    IfOk-weaker r (λ ending. IfSome (to_come reading) (λ feed. TracesFeed c settings feed ending old new)) (λ ending. Traces settings bytes ending old new)
-    (λ ending all. traces_known c settings bytes (to_come reading) ending old new of all) h
+traces_by : (can_fail : Bool) (c : Config) (settings : Settings) (known : Option (List ℕ)) (reading : Reading) (r : Result Ending CommandFault) (old new : Option (List ℕ))
+    → GivesObjects c known (to_come reading) → IfOk r (λ ending. IfSome (to_come reading) (λ feed. TracesFeed can_fail c settings feed ending old new))
+    → IfSome known (λ bytes. IfOk r (λ ending. Traces can_fail settings bytes ending old new))
+traces_by can_fail c settings None reading r old new of h = tt
+traces_by can_fail c settings (Some bytes) reading r old new of h =
+    IfOk-weaker r (λ ending. IfSome (to_come reading) (λ feed. TracesFeed can_fail c settings feed ending old new)) (λ ending. Traces can_fail settings bytes ending old new)
+    (λ ending all. traces_known can_fail c settings bytes (to_come reading) ending old new of all) h
 
-pub traces_of_input : (c : Config) (settings : Settings) (known : Option (List ℕ)) (start reading : Reading) (r : Result Ending CommandFault) (old new : Option (List ℕ))
+pub traces_of_input : (can_fail : Bool) (c : Config) (settings : Settings) (known : Option (List ℕ)) (start reading : Reading) (r : Result Ending CommandFault) (old new : Option (List ℕ))
     → to_come start ≡ prepend_known [] known → GivesObjects c (to_come start) (to_come reading)
-    → IfOk r (λ ending. IfSome (to_come reading) (λ feed. TracesFeed c settings feed ending old new))
-    → IfSome known (λ bytes. IfOk r (λ ending. Traces settings bytes ending old new))
-traces_of_input c settings known start reading r old new begins of h =
-    traces_by c settings known reading r old new (subst (λ (k : Option (List ℕ)). GivesObjects c k (to_come reading)) (begins ∙ nothing_held known) of) h
+    → IfOk r (λ ending. IfSome (to_come reading) (λ feed. TracesFeed can_fail c settings feed ending old new))
+    → IfSome known (λ bytes. IfOk r (λ ending. Traces can_fail settings bytes ending old new))
+traces_of_input can_fail c settings known start reading r old new begins of h =
+    traces_by can_fail c settings known reading r old new (subst (λ (k : Option (List ℕ)). GivesObjects c k (to_come reading)) (begins ∙ nothing_held known) of) h
 
-accepted : (c : Config) (bytes : List ℕ) (rest : Option (List ℕ)) → GivesObjects c (Some bytes) rest → IsTextOf c (objects_in bytes)
-accepted c bytes None of = absurd of
-accepted c bytes (Some rest) of = of.0
+accepted : (can_fail : Bool) (c : Config) (bytes : List ℕ) (rest : Option (List ℕ)) → GivesObjects c (Some bytes) rest → IsTextOf c (objects_in bytes)
+accepted can_fail c bytes None of = absurd of
+accepted can_fail c bytes (Some rest) of = of.0
 
-fails_as : (c : Config) (bytes : List ℕ) (rest : Option (List ℕ)) (fault : CommandFault) (old new : Option (List ℕ)) → GivesObjects c (Some bytes) rest → IsWriteFault fault → FailsWith bytes fault old new
-fails_as c bytes rest (Objects fault) old new of w = absurd w
-fails_as c bytes rest Unreadable old new of w = absurd w
-fails_as c bytes rest Output old new of w = (c, accepted c bytes rest of)
-fails_as c bytes rest NoMemory old new of w = inr (c, accepted c bytes rest of)
+fails_as : (can_fail : Bool) (c : Config) (bytes : List ℕ) (rest : Option (List ℕ)) (fault : CommandFault) (old new : Option (List ℕ)) → GivesObjects c (Some bytes) rest → IsWriteFault fault → FailsWith can_fail bytes fault old new
+fails_as can_fail c bytes rest (Objects fault) old new of w = absurd w
+fails_as can_fail c bytes rest Unreadable old new of w = absurd w
+fails_as can_fail c bytes rest Output old new of w = (c, accepted can_fail c bytes rest of)
+fails_as can_fail c bytes rest NoMemory old new of w = inr (c, accepted can_fail c bytes rest of)
 
-fault_by : (c : Config) (known rest : Option (List ℕ)) (r : Result Ending CommandFault) (old new : Option (List ℕ)) → GivesObjects c known rest
-    → IfErr r (λ fault. IsWriteFault fault) → IfSome known (λ bytes. IfErr r (λ fault. FailsWith bytes fault old new))
-fault_by c None rest r old new of w = tt
-fault_by c (Some bytes) rest (Ok ending) old new of w = tt
-fault_by c (Some bytes) rest (Err fault) old new of w = fails_as c bytes rest fault old new of w
+fault_by : (can_fail : Bool) (c : Config) (known rest : Option (List ℕ)) (r : Result Ending CommandFault) (old new : Option (List ℕ)) → GivesObjects c known rest
+    → IfErr r (λ fault. IsWriteFault fault) → IfSome known (λ bytes. IfErr r (λ fault. FailsWith can_fail bytes fault old new))
+fault_by can_fail c None rest r old new of w = tt
+fault_by can_fail c (Some bytes) rest (Ok ending) old new of w = tt
+fault_by can_fail c (Some bytes) rest (Err fault) old new of w = fails_as can_fail c bytes rest fault old new of w
 
-pub fault_of_input : (c : Config) (known rest : Option (List ℕ)) (start : Reading) (r : Result Ending CommandFault) (old new : Option (List ℕ))
+pub fault_of_input : (can_fail : Bool) (c : Config) (known rest : Option (List ℕ)) (start : Reading) (r : Result Ending CommandFault) (old new : Option (List ℕ))
     → to_come start ≡ prepend_known [] known → GivesObjects c (to_come start) rest
-    → IfErr r (λ fault. IsWriteFault fault) → IfSome known (λ bytes. IfErr r (λ fault. FailsWith bytes fault old new))
-fault_of_input c known rest start r old new begins of w =
-    fault_by c known rest r old new (subst (λ (k : Option (List ℕ)). GivesObjects c k rest) (begins ∙ nothing_held known) of) w
+    → IfErr r (λ fault. IsWriteFault fault) → IfSome known (λ bytes. IfErr r (λ fault. FailsWith can_fail bytes fault old new))
+fault_of_input can_fail c known rest start r old new begins of w =
+    fault_by can_fail c known rest r old new (subst (λ (k : Option (List ℕ)). GivesObjects c k rest) (begins ∙ nothing_held known) of) w
 
 -- the object text gives no configuration, and nothing was written
-objects_by : (bytes : List ℕ) (fault : CommandFault) (known : Option (List ℕ)) → ObjectsFail fault (Some bytes) → FailsWith bytes fault known known
-objects_by bytes (Objects fault) known h = (h, keeps_same known)
-objects_by bytes Unreadable known h = keeps_same known
-objects_by bytes Output known h = absurd h
-objects_by bytes NoMemory known h = inl (keeps_same known)
+objects_by : (can_fail : Bool) (bytes : List ℕ) (fault : CommandFault) (known : Option (List ℕ)) → ObjectsFail can_fail fault (Some bytes) → FailsWith can_fail bytes fault known known
+objects_by can_fail bytes (Objects fault) known h = (h, keeps_same known)
+objects_by can_fail bytes Unreadable known h = (keeps_same known, h)
+objects_by can_fail bytes Output known h = absurd h
+objects_by can_fail bytes NoMemory known h = inl (keeps_same known)
 
-refused_by : (known : Option (List ℕ)) (fault : CommandFault) (held : Option (List ℕ)) → ObjectsFail fault known → IfSome known (λ bytes. FailsWith bytes fault held held)
-refused_by None fault held h = tt
-refused_by (Some bytes) fault held h = objects_by bytes fault held h
+refused_by : (can_fail : Bool) (known : Option (List ℕ)) (fault : CommandFault) (held : Option (List ℕ)) → ObjectsFail can_fail fault known → IfSome known (λ bytes. FailsWith can_fail bytes fault held held)
+refused_by can_fail None fault held h = tt
+refused_by can_fail (Some bytes) fault held h = objects_by can_fail bytes fault held h
 
-pub refused_input : (known : Option (List ℕ)) (start : Reading) (fault : CommandFault) (held : Option (List ℕ))
-    → to_come start ≡ prepend_known [] known → ObjectsFail fault (to_come start) → IfSome known (λ bytes. FailsWith bytes fault held held)
-refused_input known start fault held begins h =
-    refused_by known fault held (subst (λ (k : Option (List ℕ)). ObjectsFail fault k) (begins ∙ nothing_held known) h)
+pub refused_input : (can_fail : Bool) (known : Option (List ℕ)) (start : Reading) (fault : CommandFault) (held : Option (List ℕ))
+    → to_come start ≡ prepend_known [] known → ObjectsFail can_fail fault (to_come start) → IfSome known (λ bytes. FailsWith can_fail bytes fault held held)
+refused_input can_fail known start fault held begins h =
+    refused_by can_fail known fault held (subst (λ (k : Option (List ℕ)). ObjectsFail can_fail fault k) (begins ∙ nothing_held known) h)
 
 -- memory ran out before anything was written
-pub no_memory : (known held : Option (List ℕ)) → IfSome known (λ bytes. FailsWith bytes NoMemory held held)
-no_memory None held = tt
-no_memory (Some bytes) held = inl (keeps_same held)
+pub no_memory : (can_fail : Bool) (known held : Option (List ℕ)) → IfSome known (λ bytes. FailsWith can_fail bytes NoMemory held held)
+no_memory can_fail None held = tt
+no_memory can_fail (Some bytes) held = inl (keeps_same held)

@@ -1,12 +1,12 @@
 -- The feed of a trace, up to its mark: the events that are kept, and the lines of its refusals.
-use Rattle.std.specs.Prelude.{◌≡◌, ◌≢◌, ℕ, ◌+◌, ◌==◌, All, Bool, true, false, List, [], ◌∷◌, ◌++◌, length, codes, if◌then◌else◌, Result, Ok, Err}
+use Rattle.std.specs.Prelude.{◌≡◌, ◌≢◌, ℕ, ◌+◌, ◌≤◌, ◌==◌, All, Bool, true, false, List, [], ◌∷◌, ◌++◌, length, codes, if◌then◌else◌, Result, Ok, Err}
 use Rattle.due_model.specs.Limits.{max_events}
 use Rattle.due_model.specs.declared.config.Object.{Object}
 use Rattle.due_model.specs.declared.event.Event.{Event}
 use Rattle.event_feed.specs.declared.fault.FeedFault.{FeedFault}
 use Rattle.event_feed.specs.declared.fault.FeedFault.TheVariants.{BadStamp, Ended, Read}
 use Rattle.event_feed.specs.declared.fault.FeedFault.TheVariants as fault
-use Rattle.event_feed.specs.Feed.{Answer, Feed, answers_from}
+use Rattle.event_feed.specs.Feed.{Answer, AreGiven, Feed, answers_from}
 use Rattle.text_lines.specs.Lines.{pieces}
 use Rattle.text_lines.specs.declared.line_reader.Stop.{Stop}
 use Rattle.text_lines.specs.declared.line_reader.Stop.TheVariants.{InputEnded, CutLine, ReaderFailed, TooManyCalls, TooManyBytes, TooManyLines}
@@ -68,19 +68,19 @@ pub record ComesAfter (bytes : List ℕ) (before others : List (List ℕ)) : Typ
 -- Of all the answers of a feed, after so many lines, those that are given, and what follows them: the first line that is
 -- the mark, which the feed answers as no line of it, and the bytes after it; or nothing; or nothing after a line that the
 -- end of the input cut; or a line that can't be read.
-abbrev pub FeedEnds : (all : List Answer) → (from : ℕ) → (bytes : List ℕ) → AfterFeed
+abbrev pub FeedEnds : (can_fail : Bool) → (all : List Answer) → (from : ℕ) → (bytes : List ℕ) → AfterFeed
     → (given : List Answer) → (rest : List ℕ) → Type 0
-FeedEnds all from bytes Steps given rest =
+FeedEnds can_fail all from bytes Steps given rest =
     (before : List (List ℕ)) × (line : ℕ) × (others : List Answer)
     × ComesAfter bytes before (mark ∷ pieces rest) × (line ≡ from + length before + 1)
     × (all ≡ given ++ record { line = line; given = Err BadStamp } ∷ others)
-FeedEnds all from bytes Nothing given rest = all ≡ given
-FeedEnds all from bytes Cut given rest =
+FeedEnds can_fail all from bytes Nothing given rest = all ≡ given
+FeedEnds can_fail all from bytes Cut given rest =
     (front : List Answer) × (line : ℕ) × (all ≡ given)
     × (given ≡ front ++ record { line = line; given = Err fault.Cut } ∷ [])
-FeedEnds all from bytes Unread given rest =
-    (front : List Answer) × (line : ℕ) × (others : List Answer)
-    × (all ≡ front ++ others) × (given ≡ front ++ record { line = line; given = Err Read } ∷ [])
+FeedEnds can_fail all from bytes Unread given rest =
+    (front : List Answer) × (line : ℕ) × AreGiven can_fail given all from (pieces bytes)
+    × (given ≡ front ++ record { line = line; given = Err Read } ∷ [])
 
 -- what comes after a feed that stopped at a line
 abbrev pub after_stop : Stop → AfterFeed
@@ -98,6 +98,7 @@ pub record FeedGoesOn (objects : List Object) (old : Feed) (bytes : List ℕ) (n
   pub lines : ComesAfter bytes before (pieces rest)
   pub number : new.line ≡ old.line + length before
   pub answers : answers_from objects old bytes ≡ answer ∷ answers_from objects new rest
+  pub line : answer.line ≡ new.line
 
 -- so many lines of the feed were read
 pub record FeedSoFar (objects : List Object) (old : Feed) (bytes : List ℕ) (new : Feed)
@@ -106,3 +107,4 @@ pub record FeedSoFar (objects : List Object) (old : Feed) (bytes : List ℕ) (ne
   pub lines : ComesAfter bytes before (pieces rest)
   pub number : new.line ≡ old.line + length before
   pub answers : answers_from objects old bytes ≡ given ++ answers_from objects new rest
+  pub earlier : All (λ answer. answer.line ≤ new.line) given

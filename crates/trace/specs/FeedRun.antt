@@ -1,5 +1,5 @@
 -- What the reading of a feed does to a run.
-use Rattle.std.specs.Prelude.{◌≡◌, List, ℕ, Option}
+use Rattle.std.specs.Prelude.{◌≡◌, Bool, List, ℕ, Option}
 use Rattle.event_feed.specs.Feed.{Answer, Feed, answers_from}
 use Rattle.command_output.specs.Output.{Leaves}
 use Rattle.world_steps.specs.Views.{world_setup, world_state}
@@ -34,18 +34,18 @@ GoesOn old feed bytes new feed' rest before after held held' =
     × Has (after_answer (feed_state old held) answer) new before after held'
 
 -- the feed came to its end, and what its last line gives is written
-abbrev pub EndsFeed : Run → Feed → List ℕ → AfterFeed → Run → List ℕ
+abbrev pub EndsFeed : (can_fail : Bool) → Run → Feed → List ℕ → AfterFeed → Run → List ℕ
     → (before after : Option (List ℕ)) → (held held' : List ℕ) → Type 0
-EndsFeed old feed bytes end new rest before after held held' =
+EndsFeed can_fail old feed bytes end new rest before after held held' =
     (given : List Answer)
-    × FeedEnds (answers_from old.config.now.objects feed bytes) feed.line bytes end given rest
+    × FeedEnds can_fail (answers_from old.config.now.objects feed bytes) feed.line bytes end given rest
     × Has (after_answers (feed_state old held) given) new before after held'
 
 -- the whole feed was read
-abbrev pub ReadsFeed : Run → Feed → List ℕ → AfterFeed → Run → List ℕ
+abbrev pub ReadsFeed : (can_fail : Bool) → Run → Feed → List ℕ → AfterFeed → Run → List ℕ
     → (before after : Option (List ℕ)) → (held held' : List ℕ) → Type 0
-ReadsFeed old feed bytes end new rest before after held held' =
-    EndsFeed old feed bytes end new rest before after held held'
+ReadsFeed can_fail old feed bytes end new rest before after held held' =
+    EndsFeed can_fail old feed bytes end new rest before after held held'
 
 -- so many lines of the feed were read, and what they give is kept or written
 abbrev pub ReadsSome : Run → Feed → List ℕ → Run → Feed → List ℕ

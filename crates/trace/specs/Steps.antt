@@ -1,7 +1,9 @@
 -- The step lines of a trace, and what becomes of them in order.
-use Rattle.std.specs.Prelude.{◌≡◌, ℕ, ◌+◌, ◌==◌, All, Bool, true, false, List, [], ◌∷◌, ◌++◌, length, flat_map, if◌then◌else◌, Option}
+use Rattle.std.specs.Prelude.{◌≡◌, ℕ, ◌+◌, ◌==◌, All, Bool, true, false, List, [], ◌∷◌, ◌++◌, length, flat_map, ◌⊎◌, if◌then◌else◌, Option}
 use Rattle.due_model.specs.declared.config.Config.{Config}
 use Rattle.command_output.specs.Output.{Leaves}
+use Rattle.event_feed.specs.Feed.{feed_limit, least_at_read}
+use Rattle.text_lines.specs.LineReader.{BeginsUnbroken}
 use Rattle.text_lines.specs.Lines.{BeginsWithLine, IsUnbroken}
 use Rattle.world_steps.specs.Worlds.{Setup}
 use Rattle.trace.specs.Run.{RunState, DoesLine}
@@ -36,18 +38,24 @@ DoesAll c deciders s bytes old new text =
     (lines : List (List ℕ)) × (last : List ℕ) × AreLines bytes lines last × IsUnbroken last
     × DoesLines c deciders s 1 (lines ++ last_line last) old new text
 
--- Some of the lines were read, and then the reading failed.
-abbrev pub DoesSome : Config → (deciders : ℕ) → Setup → (bytes : List ℕ) → (old new : RunState)
+-- the next line is one at which the reading may break off: any, where the reader can fail; else one that may take too many
+-- calls
+abbrev pub MayBreakOff : (can_fail : Bool) → (bytes : List ℕ) → Type 0
+MayBreakOff can_fail bytes = BeginsUnbroken bytes (least_at_read can_fail)
+
+-- Some of the lines were read, and then the reading broke off, or as many lines were read as may be.
+abbrev pub DoesSome : (can_fail : Bool) → Config → (deciders : ℕ) → Setup → (bytes : List ℕ) → (old new : RunState)
     → (text : List ℕ) → Type 0
-DoesSome c deciders s bytes old new text =
+DoesSome can_fail c deciders s bytes old new text =
     (lines : List (List ℕ)) × (rest : List ℕ) × AreLines bytes lines rest
     × DoesLines c deciders s 1 lines old new text
+    × (MayBreakOff can_fail rest ⊎ (length lines ≡ feed_limit))
 
 -- whether all were read
-abbrev pub DoesSteps : Config → (deciders : ℕ) → Setup → (bytes : List ℕ) → (all : Bool)
+abbrev pub DoesSteps : (can_fail : Bool) → Config → (deciders : ℕ) → Setup → (bytes : List ℕ) → (all : Bool)
     → (old new : RunState) → (text : List ℕ) → Type 0
-DoesSteps c deciders s bytes true old new text = DoesAll c deciders s bytes old new text
-DoesSteps c deciders s bytes false old new text = DoesSome c deciders s bytes old new text
+DoesSteps can_fail c deciders s bytes true old new text = DoesAll c deciders s bytes old new text
+DoesSteps can_fail c deciders s bytes false old new text = DoesSome can_fail c deciders s bytes old new text
 
 -- the next line was read, and what becomes of it is on the way to the writer
 abbrev pub DoesNext : Config → (deciders : ℕ) → Setup → (number : ℕ) → (bytes rest : List ℕ)
@@ -57,21 +65,21 @@ DoesNext c deciders s number bytes rest old new before after held held' =
     × DoesLine c deciders s number line old new text × Leaves before after (held ++ text) held'
 
 -- no line was left but one that the end of the input cut, and what becomes of that; or the reading failed
-abbrev pub DoesLast : Config → (deciders : ℕ) → Setup → (number : ℕ) → (bytes : List ℕ)
+abbrev pub DoesLast : (can_fail : Bool) → Config → (deciders : ℕ) → Setup → (number : ℕ) → (bytes : List ℕ)
     → (all : Bool)
     → (old new : RunState) → (before after : Option (List ℕ)) → (held held' : List ℕ) → Type 0
-DoesLast c deciders s number bytes true old new before after held held' =
+DoesLast can_fail c deciders s number bytes true old new before after held held' =
     (text : List ℕ) × IsUnbroken bytes
     × DoesLines c deciders s number (last_line bytes) old new text
     × Leaves before after (held ++ text) held'
-DoesLast c deciders s number bytes false old new before after held held' =
-    (new ≡ old) × Leaves before after held held'
+DoesLast can_fail c deciders s number bytes false old new before after held held' =
+    (new ≡ old) × MayBreakOff can_fail bytes × Leaves before after held held'
 
 -- what becomes of the steps, and its text on the way to the writer
-abbrev pub WritesSteps : Config → (deciders : ℕ) → Setup → (bytes : List ℕ) → (all : Bool)
+abbrev pub WritesSteps : (can_fail : Bool) → Config → (deciders : ℕ) → Setup → (bytes : List ℕ) → (all : Bool)
     → (old new : RunState) → (before after : Option (List ℕ)) → (held held' : List ℕ) → Type 0
-WritesSteps c deciders s bytes all old new before after held held' =
-    (text : List ℕ) × DoesSteps c deciders s bytes all old new text
+WritesSteps can_fail c deciders s bytes all old new before after held held' =
+    (text : List ℕ) × DoesSteps can_fail c deciders s bytes all old new text
     × Leaves before after (held ++ text) held'
 
 -- so many step lines were read, and what became of them is on the way to the writer

@@ -14,12 +14,12 @@ use crate::run::Run;
 use crate::steps::do_steps;
 use command_output::{CommandFault, Ending, Lines};
 use std::alloc::Global;
-use std::io::{Read, Write};
-use text_lines::LineReader;
+use std::io::Write;
+use text_lines::{Input, LineReader};
 
 /// Does the steps that come after a feed, and writes their refused lines, and then what the lanes hold, where all was
 /// read.
-pub(crate) fn write_end<R: Read + Drop, W: Write>(
+pub(crate) fn write_end<R: Input + Drop, W: Write>(
     alloc: Global,
     lines: &mut Lines,
     writer: &mut W,
@@ -29,7 +29,7 @@ pub(crate) fn write_end<R: Read + Drop, W: Write>(
 ) -> Result<Ending, CommandFault>
     requires fits { Fits run.old }
     ensures ok { IfOk result (λ ending. IfSome (to_come source.old) (λ rest.
-        WritesEnd run.old.config.now run.old.deciders (world_setup run.old.world)
+        WritesEnd R.can_fail run.old.config.now run.old.deciders (world_setup run.old.world)
         (run_state run.old) run.old.is_over after rest ending
         (W.contents writer.old) (W.contents writer.new) lines.old lines.new)) }
     ensures fault { IfErr result (λ fault. IsWriteFault fault) }
@@ -49,7 +49,7 @@ pub(crate) fn write_end<R: Read + Drop, W: Write>(
 }
 
 /// Does the steps, and writes what the lanes hold, where all of them were read.
-fn write_steps<R: Read + Drop, W: Write>(
+fn write_steps<R: Input + Drop, W: Write>(
     alloc: Global,
     lines: &mut Lines,
     writer: &mut W,
@@ -58,7 +58,7 @@ fn write_steps<R: Read + Drop, W: Write>(
 ) -> Result<Ending, CommandFault>
     requires fits { Fits run.old }
     ensures ok { IfOk result (λ ending. IfSome (to_come source.old) (λ rest.
-        WritesEnd run.old.config.now run.old.deciders (world_setup run.old.world)
+        WritesEnd R.can_fail run.old.config.now run.old.deciders (world_setup run.old.world)
         (run_state run.old) run.old.is_over AfterFeed.Steps rest ending
         (W.contents writer.old) (W.contents writer.new) lines.old lines.new)) }
     ensures fault { IfErr result (λ fault. IsWriteFault fault) }

@@ -15,8 +15,8 @@ use command_output::{CommandFault, Lines, OutputLine};
 use due_model::event::Event;
 use due_model::limits::MAX_EVENTS;
 use event_feed::{FeedFault, Feeder, LineFault};
-use std::io::{Read, Write};
-use text_lines::Stop;
+use std::io::Write;
+use text_lines::{Input, Stop};
 
 /// The line that separates the feed from the step lines.
 const MARK: &[u8] = b"%steps";
@@ -36,7 +36,7 @@ pub(crate) enum AfterFeed {
 
 /// Reads a feed up to a line that is the mark, or to its end, keeps its events, and writes its refused lines. The
 /// answer says what comes after it.
-pub(crate) fn read_feed<R: Read + Drop, W: Write>(
+pub(crate) fn read_feed<R: Input + Drop, W: Write>(
     lines: &mut Lines,
     writer: &mut W,
     run: &mut Run<'_>,
@@ -48,7 +48,7 @@ pub(crate) fn read_feed<R: Read + Drop, W: Write>(
     ensures fits { Fits run.new }
     ensures unmoved { Unmoved run.old run.new }
     ensures feed { IfOk result (λ after. Known feeder.old.bytes feeder.new.bytes (λ bytes rest.
-        ReadsFeed run.old feeder.old bytes after run.new rest
+        ReadsFeed R.can_fail run.old feeder.old bytes after run.new rest
         (W.contents writer.old) (W.contents writer.new) lines.old lines.new)) }
     ensures fault { IfErr result (λ fault. IsWriteFault fault) }
 {
@@ -61,7 +61,7 @@ pub(crate) fn read_feed<R: Read + Drop, W: Write>(
 
 /// Reads the next line of the feed that says something: its event is kept, and its refusal written. After an event
 /// that can't be numbered nothing is kept or written. The answer says what comes after the feed, once it is over.
-fn read_feed_line<R: Read + Drop, W: Write>(
+fn read_feed_line<R: Input + Drop, W: Write>(
     lines: &mut Lines,
     writer: &mut W,
     run: &mut Run<'_>,
@@ -78,7 +78,7 @@ fn read_feed_line<R: Read + Drop, W: Write>(
         (λ bytes rest. GoesOn run.old feeder.old bytes run.new feeder.new rest
         (W.contents writer.old) (W.contents writer.new) lines.old lines.new))) }
     ensures last { IfOk result (λ end. IfSome end (λ after. Known feeder.old.bytes feeder.new.bytes
-        (λ bytes rest. EndsFeed run.old feeder.old bytes after run.new rest
+        (λ bytes rest. EndsFeed R.can_fail run.old feeder.old bytes after run.new rest
         (W.contents writer.old) (W.contents writer.new) lines.old lines.new))) }
     ensures fault { IfErr result (λ fault. IsWriteFault fault) }
 {

@@ -25,15 +25,15 @@ use event_feed::Feeder;
 use feed::read_feed;
 use run::Run;
 use std::alloc::Global;
-use std::io::{Read, Write};
-use text_lines::LineReader;
+use std::io::Write;
+use text_lines::{Input, LineReader};
 use world_steps::{Settings, World};
 
 /// Reads object text up to a line `%events`, a feed up to a line `%steps`, and step lines, and does the steps in a
 /// world in which all lanes serve. It writes the refused lines of the feed, then those of the steps, and then what
 /// each lane holds of each object. A feed ends as a replay's does, and where it or the step lines can't be read to
 /// their end, what the lanes hold isn't written. Where the object text is refused nothing is written.
-pub fn trace<R: Read + Drop, W: Write>(
+pub fn trace<R: Input + Drop, W: Write>(
     alloc: Global,
     settings: Settings,
     reader: R,
@@ -41,10 +41,10 @@ pub fn trace<R: Read + Drop, W: Write>(
 ) -> Result<Ending, CommandFault>
     // What is written is what the input makes of the steps, and nothing else.
     ensures traces { IfSome (R.remaining reader) (λ bytes. IfOk result (λ ending.
-        Traces settings bytes ending (W.contents writer.old) (W.contents writer.new))) }
+        Traces R.can_fail settings bytes ending (W.contents writer.old) (W.contents writer.new))) }
     // A fault says what was wrong.
     ensures fault { IfSome (R.remaining reader) (λ bytes. IfErr result (λ fault.
-        FailsWith bytes fault (W.contents writer.old) (W.contents writer.new))) }
+        FailsWith R.can_fail bytes fault (W.contents writer.old) (W.contents writer.new))) }
 {
     let mut lines = LineReader::new(alloc, reader)?;
     let config = read_objects(alloc, &mut lines)?;
@@ -52,7 +52,7 @@ pub fn trace<R: Read + Drop, W: Write>(
 }
 
 /// Traces a feed and the steps after it.
-fn trace_feed<R: Read + Drop, W: Write>(
+fn trace_feed<R: Input + Drop, W: Write>(
     alloc: Global,
     settings: Settings,
     config: &Config,
@@ -62,7 +62,7 @@ fn trace_feed<R: Read + Drop, W: Write>(
     requires accepted { IsAccepted config.now }
     requires covered { IsCovered config.now }
     ensures traces { IfOk result (λ ending. IfSome (to_come source) (λ bytes.
-        TracesFeed config.now settings bytes ending
+        TracesFeed R.can_fail config.now settings bytes ending
         (W.contents writer.old) (W.contents writer.new))) }
     ensures fault { IfErr result (λ fault. IsWriteFault fault) }
 {

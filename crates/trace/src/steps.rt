@@ -13,12 +13,12 @@ use crate::refusal::refuse;
 use crate::run::{Run, do_line};
 use command_output::{CommandFault, Lines, StepRefusal};
 use event_feed::FEED_LIMIT;
-use std::io::{Read, Write};
-use text_lines::{LineReader, NextLine, Stop};
+use std::io::Write;
+use text_lines::{Input, LineReader, NextLine, Stop};
 
 /// Does the steps of all step lines, numbered from 1, and writes the lines of those that are refused. The answer
 /// says whether they were read to their end.
-pub(crate) fn do_steps<R: Read + Drop, W: Write>(
+pub(crate) fn do_steps<R: Input + Drop, W: Write>(
     lines: &mut Lines,
     writer: &mut W,
     run: &mut Run<'_>,
@@ -27,7 +27,7 @@ pub(crate) fn do_steps<R: Read + Drop, W: Write>(
     requires fits { Fits run.old }
     ensures fits { Fits run.new }
     ensures steps { IfOk result (λ all. IfSome (to_come source.old) (λ bytes.
-        WritesSteps run.old.config.now run.old.deciders (world_setup run.old.world) bytes all
+        WritesSteps R.can_fail run.old.config.now run.old.deciders (world_setup run.old.world) bytes all
         (run_state run.old) (run_state run.new)
         (W.contents writer.old) (W.contents writer.new) lines.old lines.new)) }
     ensures fault { IfErr result (λ fault. IsWriteFault fault) }
@@ -46,7 +46,7 @@ pub(crate) fn do_steps<R: Read + Drop, W: Write>(
 
 /// Reads the next step line, of this number, and does its step or writes its refusal. Once no line is left, the answer
 /// says whether all were read.
-fn do_next_line<R: Read + Drop, W: Write>(
+fn do_next_line<R: Input + Drop, W: Write>(
     lines: &mut Lines,
     writer: &mut W,
     run: &mut Run<'_>,
@@ -61,7 +61,7 @@ fn do_next_line<R: Read + Drop, W: Write>(
         number bytes rest (run_state run.old) (run_state run.new)
         (W.contents writer.old) (W.contents writer.new) lines.old lines.new))) }
     ensures last { IfOk result (λ end. IfSome end (λ all. IfSome (to_come source.old)
-        (λ bytes. DoesLast run.old.config.now run.old.deciders (world_setup run.old.world)
+        (λ bytes. DoesLast R.can_fail run.old.config.now run.old.deciders (world_setup run.old.world)
         number bytes all (run_state run.old) (run_state run.new)
         (W.contents writer.old) (W.contents writer.new) lines.old lines.new))) }
     ensures fault { IfErr result (λ fault. IsWriteFault fault) }
@@ -84,6 +84,8 @@ fn do_next_line<R: Read + Drop, W: Write>(
             do_line(lines, writer, run, number, source.line())?;
             Ok(Some(true))
         }
-        NextLine::Over(_) => Ok(Some(false)),
+        NextLine::Over(
+            Stop::ReaderFailed | Stop::TooManyCalls | Stop::TooManyBytes | Stop::TooManyLines,
+        ) => Ok(Some(false)),
     }
 }

@@ -23,9 +23,9 @@ returns-clause-ok g c =
     let w2 = g.W.Write.contents last.writer in
     let all : c.in_ok-do_steps.field-0 ≡ true = c.if-not-branch.false in
     let lanes = subst (λ (x : Setup). Leaves w1 w2 (new.lines ++ world_text x (world_state new.run.world)) last.lines) c.do_steps.ensures.setup c.in_ok-write_lanes.ensures.ok in
-    some_weaker (to_come c.args.source.now) (λ rest. WritesSteps run.config.now run.deciders s rest c.in_ok-do_steps.field-0 (run_state run) (run_state new.run) w0 w1 c.args.lines.now new.lines) _
-    (λ rest h. subst (λ (e : Ending). WritesEnd run.config.now run.deciders s (run_state run) run.is_over Steps rest e w0 w2 c.args.lines.now last.lines)
+    some_weaker (to_come c.args.source.now) (λ rest. WritesSteps g.R.Input.can_fail run.config.now run.deciders s rest c.in_ok-do_steps.field-0 (run_state run) (run_state new.run) w0 w1 c.args.lines.now new.lines) _
+    (λ rest h. subst (λ (e : Ending). WritesEnd g.R.Input.can_fail run.config.now run.deciders s (run_state run) run.is_over Steps rest e w0 w2 c.args.lines.now last.lines)
     (sym (c.ending_of.ensures ∙ ap ending_of c.do_steps.ensures.over))
-    (end_whole run.config.now run.deciders s (run_state run) (run_state new.run) run.is_over rest w0 w1 w2 c.args.lines.now new.lines last.lines
-    (subst (λ (b : Bool). WritesSteps run.config.now run.deciders s rest b (run_state run) (run_state new.run) w0 w1 c.args.lines.now new.lines) all h) lanes))
+    (end_whole g.R.Input.can_fail run.config.now run.deciders s (run_state run) (run_state new.run) run.is_over rest w0 w1 w2 c.args.lines.now new.lines last.lines
+    (subst (λ (b : Bool). WritesSteps g.R.Input.can_fail run.config.now run.deciders s rest b (run_state run) (run_state new.run) w0 w1 c.args.lines.now new.lines) all h) lanes))
     c.in_ok-do_steps.ensures.steps

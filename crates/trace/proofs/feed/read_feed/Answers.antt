@@ -41,6 +41,6 @@ returns-in-Some-clause-feed g c =
     let new = c.read_feed_line.new in
     let inv = c.loop-after.invariant in
     known_join c.args.feeder.now.bytes c.loop-after.feeder.bytes new.feeder.bytes _ _ _
-    (λ x y z h k. some_last run mid new.run c.args.feeder.now c.loop-after.feeder x y z c.in-Some.after
+    (λ x y z h k. some_last g.R.Input.can_fail run mid new.run c.args.feeder.now c.loop-after.feeder x y z c.in-Some.after
     (g.W.Write.contents c.args.writer.now) (g.W.Write.contents c.loop-after.writer) (g.W.Write.contents new.writer) c.args.lines.now c.loop-after.lines new.lines inv.unmoved.config h k)
     inv.so_far (if_some_is _ c.in_ok-after.field-0 c.in-Some.after c.in-Some.is c.in_ok-after.ensures.last)

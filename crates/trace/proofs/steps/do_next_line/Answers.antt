@@ -29,7 +29,7 @@ returns-in-Over-InputEnded-clause-last g c =
     let run = c.args.run.now in
     let read = subst (λ (how : NextLine). ReadsLine c.args.source.now how c.next_line.new.self) (c.in-Over-InputEnded.is ∙ ap Over c.in-Over-InputEnded.field-0-is) c.next_line.ensures.line in
     known_first (to_come c.args.source.now) (to_come c.next_line.new.self) (λ bytes rest. ReadsFrom bytes (Over InputEnded) c.next_line.new.self.line rest) _
-    (λ bytes rest r. ends_here run.config.now run.deciders (world_setup run.world) c.args.number bytes (run_state run) (g.W.Write.contents c.args.writer.now) c.args.lines.now r.0) read
+    (λ bytes rest r. ends_here g.R.Input.can_fail run.config.now run.deciders (world_setup run.world) c.args.number bytes (run_state run) (g.W.Write.contents c.args.writer.now) c.args.lines.now r.0) read
 
 pub returns-in_ok-do_line-in-Over-CutLine-clause-last : goal.returns-in_ok-do_line-in-Over-CutLine-clause-last
 returns-in_ok-do_line-in-Over-CutLine-clause-last g c =
@@ -39,6 +39,6 @@ returns-in_ok-do_line-in-Over-CutLine-clause-last g c =
     let done = c.in_ok-do_line-in-Over-CutLine.ensures.ok in
     let read = subst (λ (how : NextLine). ReadsLine c.args.source.now how c.next_line.new.self) (c.in-Over-CutLine.is ∙ ap Over c.in-Over-CutLine.field-0-is) c.next_line.ensures.line in
     known_first (to_come c.args.source.now) (to_come c.next_line.new.self) (λ bytes rest. ReadsFrom bytes (Over CutLine) c.next_line.new.self.line rest) _
-    (λ bytes rest r. ends_cut run.config.now run.deciders (world_setup run.world) c.args.number bytes (run_state run) (run_state new.run)
+    (λ bytes rest r. ends_cut g.R.Input.can_fail run.config.now run.deciders (world_setup run.world) c.args.number bytes (run_state run) (run_state new.run)
     (g.W.Write.contents c.args.writer.now) (g.W.Write.contents new.writer) c.args.lines.now new.lines done.0 r.0 r.1
     (does_cut run.config.now run.deciders (world_setup run.world) c.args.number (run_state run) (run_state new.run) done.0 bytes line (c.line-in-Over-CutLine.ensures ∙ r.3) done.1) done.2) read

@@ -1,8 +1,8 @@
-use Rattle.std.proofs.Common.{◌+◌, ap, ◌∙◌}
+use Rattle.std.proofs.Common.{◌+◌, arith, ap, ◌∙◌}
 use Rattle.text_lines.specs.LineReader.{to_come}
 use Rattle.world_steps.specs.Views.{world_setup}
 use Rattle.trace.specs.Run.{run_state}
-use Rattle.trace.proofs.StepsLaws.{known_join, known_last, so_far_more, so_far_last, next_under, last_under, if_none_is, if_some_is}
+use Rattle.trace.proofs.StepsLaws.{known_join, known_last, so_far_more, so_far_last, so_far_short, known_first, next_under, last_under, if_none_is, if_some_is}
 use Rattle.trace.proofs.steps.do_steps.Goals as goal
 
 pub loop-before-preserved : goal.loop-before-preserved
@@ -22,7 +22,7 @@ loop-before-preserved g c =
       so_far = known_join (to_come c.args.source.now) (to_come c.loop-before.source) (to_come new.source) _ _ _
           (λ x y z h k. so_far_more run.config.now run.deciders (world_setup run.world) n x y z (run_state run) (run_state mid) (run_state new.run)
           (g.W.Write.contents c.args.writer.now) (g.W.Write.contents c.loop-before.writer) (g.W.Write.contents new.writer) c.args.lines.now c.loop-before.lines new.lines h
-          (next_under run.config.now mid.config.now run.deciders mid.deciders (world_setup run.world) (world_setup mid.world)
+          (next_under g.R.Input.can_fail run.config.now mid.config.now run.deciders mid.deciders (world_setup run.world) (world_setup mid.world)
           (ap (λ r. r.now) inv.config) inv.deciders inv.setup (n + 1) (run_state mid) (run_state new.run)
           (g.W.Write.contents c.loop-before.writer) (g.W.Write.contents new.writer) c.loop-before.lines new.lines y z k))
           inv.so_far (if_none_is c.in_ok-all.field-0 c.in_default.is done.next);
@@ -36,9 +36,18 @@ returns-in-Some-clause-steps g c =
     let inv = c.loop-before.invariant in
     let n = c.loop-before.before in
     known_last (to_come c.args.source.now) (to_come c.loop-before.source) _ _ _
-    (λ x y h k. so_far_last run.config.now run.deciders (world_setup run.world) n x y c.in-Some.all (run_state run) (run_state mid) (run_state new.run)
+    (λ x y h k. so_far_last g.R.Input.can_fail run.config.now run.deciders (world_setup run.world) n x y c.in-Some.all (run_state run) (run_state mid) (run_state new.run)
     (g.W.Write.contents c.args.writer.now) (g.W.Write.contents c.loop-before.writer) (g.W.Write.contents new.writer) c.args.lines.now c.loop-before.lines new.lines h
-    (last_under run.config.now mid.config.now run.deciders mid.deciders (world_setup run.world) (world_setup mid.world)
+    (last_under g.R.Input.can_fail run.config.now mid.config.now run.deciders mid.deciders (world_setup run.world) (world_setup mid.world)
     (ap (λ r. r.now) inv.config) inv.deciders inv.setup (n + 1) (run_state mid) (run_state new.run)
     (g.W.Write.contents c.loop-before.writer) (g.W.Write.contents new.writer) c.loop-before.lines new.lines y c.in-Some.all k))
     inv.so_far (if_some_is _ c.in_ok-all.field-0 c.in-Some.all c.in-Some.is c.in_ok-all.ensures.last)
+
+pub returns-clause-steps : goal.returns-clause-steps
+returns-clause-steps g c =
+    let run = c.args.run.now in
+    let new = c.loop-before in
+    known_first (to_come c.args.source.now) (to_come new.source) _ _
+    (λ x y h. so_far_short g.R.Input.can_fail run.config.now run.deciders (world_setup run.world) new.before x y (run_state run) (run_state new.run)
+    (g.W.Write.contents c.args.writer.now) (g.W.Write.contents new.writer) c.args.lines.now new.lines (omega arith) h)
+    new.invariant.so_far
