@@ -1,10 +1,10 @@
 -- The first ; without a backslash before it, and ; for \;, as they are written and as they are found.
-use Rattle.std.proofs.Common.{◌≡◌, ℕ, ◌+◌, ◌-◌, ◌<◌, ◌⊎◌, inl, inr, Bool, true, false, not, ◌&&◌, ◌||◌, ◌==◌, List, [], ◌∷◌, ◌++◌, length, take, drop, get_or, refl, sym, ap, subst, ◌∙◌, arith, tests, add-one, append_assoc}
+use Rattle.std.proofs.Common.{◌≡◌, ℕ, zero, suc, ◌+◌, ◌-◌, ◌<◌, ◌⊎◌, inl, inr, Bool, true, false, not, ◌&&◌, ◌||◌, ◌==◌, List, [], ◌∷◌, ◌++◌, length, take, drop, get_or, refl, sym, ap, subst, ◌∙◌, arith, tests, add-one, append_assoc}
 use Rattle.std.proofs.lemmas.Bool.{and_parts, and_from}
 use Rattle.std.proofs.lemmas.List.{take_more, append-nil, nil_from_length}
 use Rattle.std.proofs.Math.Seq.{drop-cons, drop-length, take-length}
 use Rattle.std.specs.List.{list_all, list_any}
-use Rattle.object_reader.specs.Blanks.{is_blank, AreBlanks}
+use Rattle.object_reader.specs.Blanks.{is_blank, AreBlanks, trim_start, trimmed}
 use Rattle.object_reader.specs.Joined.{EndsInBackslash}
 use Rattle.object_reader.specs.Statements.{starts_semicolon, is_bare, bare_from, unescaped}
 use Rattle.object_reader.specs.DayLines.{separated}
@@ -331,12 +331,31 @@ unfolding unescaped
 all_unescaped whole so_far left done e = done ∙ ap (λ x. so_far ++ unescaped x) (nil_from_length left e) ∙ append-nil so_far
 
 -- bytes in which no ; is found
-pub unescaped_same : (bs : List ℕ) → list_any (λ b. b == 59) bs ≡ false → unescaped bs ≡ bs
-unescaped_same bs h = unescaped_plain bs (none bs h) where
-  head_no : (s t : Bool) → (s || t) ≡ false → (s ≡ false) × (t ≡ false)
-  head_no true t e = let never : ⊥ = cc in absurd never
-  head_no false t e = (refl, e)
 
-  none : (bs : List ℕ) → list_any (λ b. b == 59) bs ≡ false → list_all (λ b. not (b == 59)) bs ≡ true
-  none [] h = refl
-  none (b ∷ bs) h = let parts = head_no (b == 59) (list_any (λ b. b == 59) bs) h in and_from (not (b == 59)) (list_all (λ b. not (b == 59)) bs) (ap not parts.0) (none bs parts.1)
+plain_taken : (n : ℕ) (bs : List ℕ) → list_all (λ b. not (b == 59)) bs ≡ true → list_all (λ b. not (b == 59)) (take n bs) ≡ true
+plain_taken zero bs h = refl
+plain_taken (suc n) [] h = refl
+plain_taken (suc n) (b ∷ bs) h =
+    let parts = and_parts (not (b == 59)) (list_all (λ b. not (b == 59)) bs) h in
+    and_from (not (b == 59)) (list_all (λ b. not (b == 59)) (take n bs)) parts.0 (plain_taken n bs parts.1)
+
+plain_dropped : (n : ℕ) (bs : List ℕ) → list_all (λ b. not (b == 59)) bs ≡ true → list_all (λ b. not (b == 59)) (drop n bs) ≡ true
+plain_dropped zero bs h = h
+plain_dropped (suc n) [] h = refl
+plain_dropped (suc n) (b ∷ bs) h = plain_dropped n bs (and_parts (not (b == 59)) (list_all (λ b. not (b == 59)) bs) h).1
+
+none_found : (bs : List ℕ) → list_any (λ b. b == 59) bs ≡ false → list_all (λ b. not (b == 59)) bs ≡ true
+none_found [] h = refl
+none_found (b ∷ bs) h =
+    let parts = head_no (b == 59) (list_any (λ b. b == 59) bs) h in
+    and_from (not (b == 59)) (list_all (λ b. not (b == 59)) bs) (ap not parts.0) (none_found bs parts.1) where
+      head_no : (s t : Bool) → (s || t) ≡ false → (s ≡ false) × (t ≡ false)
+      head_no true t e = let never : ⊥ = cc in absurd never
+      head_no false t e = (refl, e)
+
+-- they have no comment and no escape
+pub plain_meant : (bs : List ℕ) → list_any (λ b. b == 59) bs ≡ false → unescaped (trimmed (bare_from 0 bs)) ≡ trimmed bs
+plain_meant bs h =
+    let all = none_found bs h in
+    let bare : bare_from 0 bs ≡ bs = bare_all 0 bs (ap (covered 0) (sym (append-nil bs)) ∙ covered_part 0 bs [] all (λ l. refl)) in
+    ap (λ x. unescaped (trimmed x)) bare ∙ unescaped_plain (trimmed bs) (plain_taken _ (trim_start bs) (plain_dropped _ bs all))

@@ -1,9 +1,11 @@
 -- Lists up to the first element that passes, and blanks at their ends.
-use Rattle.std.proofs.Common.{◌≡◌, ℕ, suc, ◌+◌, ◌-◌, ◌<◌, ◌⊎◌, inl, inr, Bool, true, false, not, List, [], ◌∷◌, ◌++◌, length, take, drop, get_or, reverse, refl, sym, ap, subst, ◌∙◌, arith, one-add, append_assoc, length-append}
+use Rattle.std.proofs.Common.{◌≡◌, ℕ, suc, ◌+◌, ◌-◌, ◌<◌, ◌≤◌, ◌⊎◌, inl, inr, Option, None, Some, nat_lt, Bool, true, false, not, List, [], ◌∷◌, ◌++◌, length, take, drop, get_or, reverse, refl, sym, ap, subst, ◌∙◌, arith, tests, one-add, append_assoc, length-append}
 use Rattle.std.proofs.lemmas.Bool.{and_parts, and_from}
 use Rattle.std.proofs.lemmas.List.{take-append-drop, reverse-append, length-reverse, append-nil}
 use Rattle.std.proofs.Math.Seq.{drop-append_seam, take-append_seam, drop-length, take-length}
-use Rattle.std.specs.List.{position_or_len, prefix_len, suffix_len, before_first, list_all}
+use Rattle.std.proofs.lemmas.List.Sums.{prefix_len-le-length}
+use Rattle.std.specs.Option.{unwrap_or}
+use Rattle.std.specs.List.{position, position_or_len, prefix_len, suffix_len, before_first, list_all}
 use Rattle.object_reader.specs.Blanks.{is_blank, trim_start, without_end, AreBlanks, BeginsTight}
 
 pub stops : (p : ℕ → Bool) (xs : List ℕ) (y : ℕ) (ys : List ℕ) → list_all (λ b. not (p b)) xs ≡ true → p y ≡ true → position_or_len p (xs ++ y ∷ ys) ≡ length xs
@@ -181,3 +183,21 @@ trim_across (x ∷ xs) ys = by_head (trim_across xs ys) (is_blank x) refl where
 pub tail_is : (bs : List ℕ) → 0 < length bs → bs ≡ get_or bs 0 0 ∷ take (length bs - 1) (drop 1 bs)
 tail_is [] h = absurd (omega arith)
 tail_is (b ∷ bs) h = let n : length (b ∷ bs) - 1 ≡ length bs = omega arith in ap (λ x. b ∷ x) (sym (ap (λ k. take k bs) n ∙ take-length bs))
+
+-- where the first place is looked for, and the end is taken where there is none
+pub first_place : (p : ℕ → Bool) (xs : List ℕ) (place : ℕ) (found : Option ℕ) → found ≡ position p xs → place ≡ unwrap_or found (length xs)
+    → (place ≤ length xs) × (place ≡ position_or_len p xs)
+first_place p xs place found here is = by_place (nat_lt (position_or_len p xs) (length xs)) refl where
+  within : position_or_len p xs ≤ length xs
+  within = prefix_len-le-length (λ x. not (p x)) xs
+
+  by_place : (t : Bool) → nat_lt (position_or_len p xs) (length xs) ≡ t → (place ≤ length xs) × (place ≡ position_or_len p xs)
+  by_place true e =
+      let at : found ≡ Some (position_or_len p xs) = here ∙ rw e refl in
+      let same : place ≡ position_or_len p xs = is ∙ ap (λ o. unwrap_or o (length xs)) at in
+      (omega (arith, same, within), same)
+  by_place false e =
+      let none : found ≡ None = here ∙ rw e refl in
+      let last : place ≡ length xs = is ∙ ap (λ o. unwrap_or o (length xs)) none in
+      let beyond : length xs ≤ position_or_len p xs = search (arith, tests) in
+      (omega (arith, last), omega (arith, last, beyond, within))

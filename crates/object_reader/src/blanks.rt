@@ -28,7 +28,7 @@ pub(crate) fn trim_start(bytes: &[u8]) -> &[u8]
 }
 
 /// The bytes up to the last that is no blank.
-fn trim_end(bytes: &[u8]) -> &[u8]
+pub(crate) fn trim_end(bytes: &[u8]) -> &[u8]
     ensures { result.now ≡ trim_end bytes.now }
 {
     let mut end = bytes.len();

@@ -1,7 +1,7 @@
 //! The joined lines of a text: a line that ends in a backslash goes on in the next (chapter "Object
 //! Configuration Overview").
 
-ghost use Rattle.std.specs.Prelude.{◌≡◌, ◌∷◌, [], length, ◌≤◌, Ok, Err, MatchResult, MatchOption};
+ghost use Rattle.std.specs.Prelude.{◌≡◌, ◌∷◌, [], true, length, ◌≤◌, Ok, Err, MatchResult, MatchOption};
 ghost use Rattle.std.specs.Cow.{cow_slice_items};
 ghost use Rattle.std.specs.Str.{is_utf8};
 ghost use Rattle.object_reader.specs.Blocks.{BreaksFirst};
@@ -61,9 +61,11 @@ fn is_utf8(bytes: &[u8]) -> bool
     str::from_utf8(bytes).is_ok()
 }
 
-/// What a physical line gives, or its fault as such.
+/// What a physical line gives, or its fault as such. Only a line that isn't known to be UTF-8 is
+/// looked through.
 #[tactic(auto, unfolding(crate::specs::Joined::line_piece))]
-fn line_piece(line: TextLine<'_>) -> Result<LinePiece<'_>, LineFault>
+fn line_piece(line: TextLine<'_>, known: bool) -> Result<LinePiece<'_>, LineFault>
+    requires { known ≡ true → is_utf8 line.bytes.now ≡ true }
     ensures { let spelled = line_piece
         (record { bytes = line.entry.bytes.now; ended = line.entry.ended }) in
         MatchResult result
@@ -73,7 +75,7 @@ fn line_piece(line: TextLine<'_>) -> Result<LinePiece<'_>, LineFault>
     if line.bytes.len() > LINE_LIMIT {
         return Err(LineFault::LineTooLong);
     }
-    if !is_utf8(line.bytes) {
+    if !(known || is_utf8(line.bytes)) {
         return Err(LineFault::NotUtf8);
     }
     Ok(piece_of(content(line)))
@@ -86,10 +88,13 @@ pub(crate) struct JoinedReader<'a> {
     line: u64,
     /// The text from that line on.
     rest: &'a [u8],
+    /// Whether all of the text was found to be UTF-8, so that no line has to be looked through.
+    known: bool,
 }
 
 impl<'a> Model for JoinedReader<'a> {
-    ghost use Rattle.std.specs.Prelude.{List, ◌+◌, ◌<◌, ◌^◌, length};
+    ghost use Rattle.std.specs.Prelude.{◌≡◌, true, List, ◌+◌, ◌<◌, ◌^◌, length};
+    ghost use Rattle.std.specs.Str.{is_utf8};
     ghost use Rattle.object_reader.specs.Lines.{lines_of};
     ghost use Rattle.object_reader.specs.Joined.{JoinedLine, joined_from};
 
@@ -97,7 +102,8 @@ impl<'a> Model for JoinedReader<'a> {
 
     ghost view = { λ s. joined_from s.line (lines_of s.rest.now) };
 
-    ghost invariant = { λ s. s.line + length s.rest.now < 2 ^ 64 };
+    ghost invariant = { λ s. (s.line + length s.rest.now < 2 ^ 64)
+        × (s.known ≡ true → is_utf8 s.rest.now ≡ true) };
 }
 
 impl<'a> JoinedReader<'a> {
@@ -109,6 +115,7 @@ impl<'a> JoinedReader<'a> {
         JoinedReader {
             line: 1,
             rest: text,
+            known: is_utf8(text),
         }
     }
 
@@ -126,7 +133,7 @@ impl<'a> JoinedReader<'a> {
             let (line, rest) = split_line(self.rest);
             self.rest = rest;
             self.line += 1;
-            match line_piece(line) {
+            match line_piece(line, self.known) {
                 Err(fault) => {
                     return Err(ReadFault::AtLine {
                         line: number,
@@ -157,7 +164,7 @@ impl<'a> JoinedReader<'a> {
         let (line, rest) = split_line(self.rest);
         self.rest = rest;
         self.line += 1;
-        match line_piece(line) {
+        match line_piece(line, self.known) {
             Err(fault) => Err(ReadFault::AtLine {
                 line: number,
                 fault,

@@ -11,3 +11,4 @@ mod line;
 pub mod reading;
 mod statement;
 mod text;
+mod words;

@@ -1,6 +1,7 @@
 //! The lines of a text.
 
-ghost use Rattle.std.specs.Prelude.{◌≡◌, ◌<◌, ◌∷◌, length};
+ghost use Rattle.std.specs.Prelude.{◌≡◌, ◌<◌, ◌∷◌, true, length};
+ghost use Rattle.std.specs.Str.{is_utf8};
 ghost use Rattle.object_reader.specs.Lines.{Line, lines_of, content};
 
 use memchr::memchr;
@@ -18,6 +19,8 @@ pub(crate) fn split_line(text: &[u8]) -> (TextLine<'_>, &[u8])
     ensures first { lines_of text.now
         ≡ (record { bytes = result.0.bytes.now; ended = result.0.ended }) ∷ lines_of result.1.now }
     ensures shorter { length result.1.now < length text.now }
+    ensures utf8 { is_utf8 text.now ≡ true
+        → (is_utf8 result.0.bytes.now ≡ true) × (is_utf8 result.1.now ≡ true) }
 {
     match memchr(b'\n', text) {
         Some(at) => {

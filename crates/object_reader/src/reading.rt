@@ -14,8 +14,9 @@ use crate::block::{Block, BlockKind, Directive};
 use crate::day_line::{day_front, spaced, without_blanks};
 use crate::fault::{LineFault, ReadFault};
 use crate::joined::JoinedReader;
-use crate::statement::{after_word, first_word, is_close, is_define, opened, statement};
+use crate::statement::{is_close, is_define, opened, statement};
 use crate::text::LineText;
+use crate::words::Words;
 use due_model::sequence::Sequence;
 use std::alloc::{AllocError, Global};
 
@@ -47,18 +48,17 @@ fn next_statement<'a>(
 
 /// The directive with the first word of a statement as its name.
 #[tactic(auto, unfolding(crate::specs::Blocks::name_and_value))]
-fn name_and_value(alloc: Global, line: u64, text: &[u8]) -> Result<Directive, ReadFault>
-    ensures { Gives result (at_line line (name_and_value text.now)) }
+fn name_and_value(alloc: Global, line: u64, words: &Words<'_>) -> Result<Directive, ReadFault>
+    ensures { Gives result (at_line line (name_and_value words.now)) }
 {
-    let name = first_word(text);
-    let value = after_word(text);
+    let value = words.after();
     if value.is_empty() {
         return Err(ReadFault::AtLine {
             line,
             fault: LineFault::NoValue,
         });
     }
-    let name = Sequence::new(Vec::from_slice(alloc, name)?);
+    let name = Sequence::new(Vec::from_slice(alloc, words.first())?);
     let value = Sequence::new(Vec::from_slice(alloc, value)?);
     Ok(Directive { name, value })
 }
@@ -82,16 +82,22 @@ fn is_period(kind: BlockKind) -> bool
 
 /// The directive that a statement is, in a block of the kind.
 #[tactic(auto, unfolding(crate::specs::Blocks::directive_of))]
-fn directive(alloc: Global, kind: BlockKind, line: u64, text: &[u8]) -> Result<Directive, ReadFault>
-    ensures { Gives result (at_line line (directive_of kind text.now)) }
+fn directive(
+    alloc: Global,
+    kind: BlockKind,
+    line: u64,
+    words: &Words<'_>,
+) -> Result<Directive, ReadFault>
+    ensures { Gives result (at_line line (directive_of kind words.now)) }
 {
     if is_period(kind) {
+        let text = words.all();
         let front = day_front(text);
         if !front.is_empty() {
             return Ok(day_line(alloc, text, front)?);
         }
     }
-    name_and_value(alloc, line, text)
+    name_and_value(alloc, line, words)
 }
 
 /// The directives of the block of the kind that the line `define` opened, up to its end.
@@ -110,14 +116,14 @@ fn directives(
 {
     let mut directives = Vec::new(alloc);
     while let Some(statement) = next_statement(alloc, lines)? {
-        let text = statement.text.as_slice();
-        if is_close(text) {
+        let words = Words::new(statement.text.as_slice());
+        if is_close(&words) {
             return Ok(Sequence::new(directives));
         }
-        if is_define(text) {
+        if is_define(&words) {
             break;
         }
-        directives.push(directive(alloc, kind, statement.line, text)?)?;
+        directives.push(directive(alloc, kind, statement.line, &words)?)?;
     }
     Err(ReadFault::AtLine {
         line: define,
@@ -136,7 +142,8 @@ fn read_text(alloc: Global, bytes: &[u8]) -> Result<Sequence<Block>, ReadFault>
     let mut found = Vec::new(alloc);
     while let Some(statement) = next_statement(alloc, &mut lines)? {
         let line = statement.line;
-        let kind = match opened(statement.text.as_slice()) {
+        let words = Words::new(statement.text.as_slice());
+        let kind = match opened(&words) {
             Ok(kind) => kind,
             Err(fault) => return Err(ReadFault::AtLine { line, fault }),
         };

@@ -1,15 +1,16 @@
 //! What the joined lines of object text say (chapter "Object Configuration Overview").
 
-ghost use Rattle.std.specs.Prelude.{◌≡◌, ◌&&◌, ◌==◌, IfOk};
+ghost use Rattle.std.specs.Prelude.{◌≡◌, ◌&&◌, ◌==◌, false, IfOk};
 ghost use Rattle.std.specs.Cow.{cow_slice_items};
 ghost use Rattle.std.specs.List.{position, list_any};
 ghost use Rattle.std.specs.Str.{bytes_eq};
 ghost use Rattle.object_reader.specs.Blanks.{is_blank};
-ghost use Rattle.object_reader.specs.Statements.{starts_comment, starts_semicolon, bare_from, unescaped, statement, first_word, after_word, is_define, is_close, kind_of, ends_type, opened};
+ghost use Rattle.object_reader.specs.Statements.{starts_comment, starts_semicolon, bare_from, unescaped, statement, is_define, is_close, kind_of, ends_type, opened};
 
-use crate::blanks::{is_blank, trim, trim_start};
+use crate::blanks::{is_blank, trim, trim_end, trim_start};
 use crate::block::BlockKind;
 use crate::fault::LineFault;
+use crate::words::Words;
 use std::alloc::{AllocError, Global};
 use std::borrow::CowSlice;
 
@@ -18,13 +19,6 @@ fn is_word(bytes: &[u8], word: &str) -> bool
     ensures { result ≡ bytes_eq bytes.now word.now }
 {
     bytes == word.as_bytes()
-}
-
-/// The place of the first blank.
-fn first_blank(bytes: &[u8]) -> Option<usize>
-    ensures { result ≡ position is_blank bytes.now }
-{
-    bytes.iter().position(|b| is_blank(*b))
 }
 
 /// The place of the first byte that ends a type.
@@ -91,7 +85,7 @@ fn is_escape(byte: u8, rest: &[u8]) -> bool
 fn unescape(alloc: Global, bytes: &[u8]) -> Result<Vec<u8>, AllocError>
     ensures { IfOk result (λ meant. meant.items ≡ unescaped bytes.now) }
 {
-    let mut meant = Vec::new(alloc);
+    let mut meant = Vec::with_capacity(alloc, bytes.len())?;
     let mut left = bytes;
     while let [byte, rest @ ..] = left {
         if !is_escape(*byte, rest) {
@@ -109,8 +103,21 @@ fn has_semicolon(bytes: &[u8]) -> bool
     bytes.contains(&b';')
 }
 
-/// What a joined line says. It is a part of the line where that is a part of the text and no `;` of
-/// it is escaped.
+/// What a joined line without a `;` says: it has no comment but a `#` at its start, and no escape.
+#[tactic(auto, unfolding(crate::specs::Statements::statement), using(crate::proofs::Escapes::plain_meant))]
+fn plain(bytes: &[u8]) -> &[u8]
+    requires { list_any (λ b. b == 59) bytes.now ≡ false }
+    ensures { result.now ≡ statement bytes.now }
+{
+    let start = trim_start(bytes);
+    if starts_comment(start) {
+        return &start[..0];
+    }
+    trim_end(start)
+}
+
+/// What a joined line says. It is a part of the line where that is a part of the text and has no
+/// `;`, as most lines are.
 pub(crate) fn statement<'a>(
     alloc: Global,
     line: CowSlice<'a, u8>,
@@ -119,44 +126,28 @@ pub(crate) fn statement<'a>(
 {
     match line {
         CowSlice::Borrowed(bytes) => {
-            let core = core(bytes);
-            if has_semicolon(core) {
-                Ok(CowSlice::Owned(unescape(alloc, core)?))
+            if has_semicolon(bytes) {
+                Ok(CowSlice::Owned(unescape(alloc, core(bytes))?))
             } else {
-                Ok(CowSlice::Borrowed(core))
+                Ok(CowSlice::Borrowed(plain(bytes)))
             }
         }
         CowSlice::Owned(bytes) => Ok(CowSlice::Owned(unescape(alloc, core(bytes.as_slice()))?)),
     }
 }
 
-/// The first word of a statement.
-pub(crate) fn first_word(statement: &[u8]) -> &[u8]
-    ensures { result.now ≡ first_word statement.now }
-{
-    let end = first_blank(statement).unwrap_or(statement.len());
-    &statement[..end]
-}
-
-/// What stands after the first word of a statement.
-pub(crate) fn after_word(statement: &[u8]) -> &[u8]
-    ensures { result.now ≡ after_word statement.now }
-{
-    trim_start(&statement[first_word(statement).len()..])
-}
-
 /// Whether a statement closes a block.
-pub(crate) fn is_close(statement: &[u8]) -> bool
-    ensures { result ≡ is_close statement.now }
+pub(crate) fn is_close(words: &Words<'_>) -> bool
+    ensures { result ≡ is_close words.now }
 {
-    is_word(statement, "}")
+    is_word(words.all(), "}")
 }
 
 /// Whether a statement begins as the opening of a block does.
-pub(crate) fn is_define(statement: &[u8]) -> bool
-    ensures { result ≡ is_define statement.now }
+pub(crate) fn is_define(words: &Words<'_>) -> bool
+    ensures { result ≡ is_define words.now }
 {
-    is_word(first_word(statement), "define")
+    is_word(words.first(), "define")
 }
 
 /// The kind of block that a type means.
@@ -199,12 +190,12 @@ fn kind_of(name: &[u8]) -> Result<BlockKind, LineFault>
 
 /// The kind of block that a statement opens.
 #[tactic(auto, unfolding(crate::specs::Statements::opened))]
-pub(crate) fn opened(statement: &[u8]) -> Result<BlockKind, LineFault>
-    ensures { result ≡ opened statement.now }
+pub(crate) fn opened(words: &Words<'_>) -> Result<BlockKind, LineFault>
+    ensures { result ≡ opened words.now }
 {
-    let rest = after_word(statement);
+    let rest = words.after();
     let end = type_end(rest).unwrap_or(rest.len());
-    if is_define(statement) && end > 0 && is_word(trim_start(&rest[end..]), "{") {
+    if is_define(words) && end > 0 && is_word(trim_start(&rest[end..]), "{") {
         kind_of(&rest[..end])
     } else {
         Err(LineFault::NotADefine)

@@ -3,4 +3,4 @@ use Rattle.object_reader.proofs.DayLines.{day_front_le}
 use Rattle.object_reader.proofs.reading.directive.Goals as goal
 
 pub day_line-requires : goal.day_line-requires
-day_line-requires c = rw c.day_front-front.ensures (day_front_le c.args.text.now)
+day_line-requires c = rw c.day_front-front.ensures (day_front_le c.all-text.result.now)

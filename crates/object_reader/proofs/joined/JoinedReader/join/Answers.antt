@@ -13,7 +13,7 @@ returns-in-Err c =
 pub loop-goes_on-preserved : goal.loop-goes_on-preserved
 loop-goes_on-preserved c = (
   rw c.in_ok-extend_from_slice-in-Ok.ensures.items (rw c.trim_start.ensures (join_more c.args.number c.loop-goes_on.self-inside.line c.loop-goes_on.joined.items c.loop-goes_on.goes_on _ _ c.loop-goes_on.invariant.0 c.loop-goes_on-test.true _ _ c.split_line.ensures.first c.in-Ok.piece.bytes.now c.in-Ok.piece.goes_on c.in-Ok.ensures)),
-  omega (arith, c.loop-goes_on.invariant.1, c.split_line.ensures.shorter),
+  (omega (arith, c.loop-goes_on.invariant.1.0, c.split_line.ensures.shorter), λ known. (c.split_line.ensures.utf8 (c.loop-goes_on.invariant.1.1 known)).1),
 )
 
 pub returns : goal.returns
