@@ -10,7 +10,7 @@ use event_feed::{FeedFault, Feeder, read_line, stop_fault};
 use std::alloc::{AllocError, Global};
 use std::io::{self, ErrorKind, Read};
 use std::test::Fail;
-use text_lines::{LineReader, NextLine, Stop};
+use text_lines::{AnyReader, LineReader, NextLine, Stop};
 
 fn host(alloc: Global, name: &str) -> Result<Object, AllocError> {
     Ok(Object {
@@ -123,7 +123,7 @@ fn answers<R: Read + Drop>(
     config: &Config,
     reader: R,
 ) -> Result<(Vec<LineAnswer>, Option<Stop>), AllocError> {
-    let mut feeder = Feeder::new(LineReader::new(alloc, reader)?);
+    let mut feeder = Feeder::new(LineReader::new(alloc, AnyReader::new(reader))?);
     let mut all = Vec::new(alloc);
     for _ in 0..1_000_000u64 {
         match feeder.next(config) {

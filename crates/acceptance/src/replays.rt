@@ -10,6 +10,7 @@ use std::cell::Cell;
 use std::io::{self, Read, Write};
 use std::process::Abort;
 use std::test::Fail;
+use text_lines::AnyReader;
 
 /// Replays BASE with this feed, and compares what is written and how it ends.
 fn gives(
@@ -155,7 +156,7 @@ fn in_pieces(rt: HostRuntime) -> Result<(), Fail> {
             bytes: text.as_bytes(),
             most,
         };
-        let ended = replay(rt.alloc(), reader, &mut out);
+        let ended = replay(rt.alloc(), AnyReader::new(reader), &mut out);
         assert_eq!(rt; ended, Ok(Ending::Whole));
         assert_eq!(rt;
             out.as_slice(),
@@ -255,7 +256,7 @@ fn as_it_comes(rt: HostRuntime) -> Result<(), Fail> {
         noted: &noted,
     };
     let mut writer = Counting { written: &written };
-    let ended = replay(rt.alloc(), reader, &mut writer);
+    let ended = replay(rt.alloc(), AnyReader::new(reader), &mut writer);
     assert_eq!(rt; ended, Ok(Ending::Whole));
     assert_eq!(rt; noted.get(), 74);
     assert_eq!(rt; written.get(), 74);
