@@ -11,6 +11,7 @@ use std::cell::Cell;
 use std::io::{self, Read, Write};
 use std::process::Abort;
 use std::test::Fail;
+use text_lines::AnyReader;
 
 /// Replays BASE with this feed, and compares what is written and how it ends.
 fn gives(
@@ -136,7 +137,7 @@ fn in_pieces(rt: HostRuntime) -> Result<(), Fail> {
     for most in [1, 2, 3, 7, 4096] {
         let mut out = Vec::new(rt.alloc());
         let reader = in_pieces(text.as_bytes(), most);
-        let ended = replay(rt.alloc(), reader, &mut out);
+        let ended = replay(rt.alloc(), AnyReader::new(reader), &mut out);
         assert_eq!(rt; ended, Ok(Ending::Whole));
         assert_eq!(rt;
             out.as_slice(),
@@ -236,7 +237,7 @@ fn as_it_comes(rt: HostRuntime) -> Result<(), Fail> {
         noted: &noted,
     };
     let mut writer = Counting { written: &written };
-    let ended = replay(rt.alloc(), reader, &mut writer);
+    let ended = replay(rt.alloc(), AnyReader::new(reader), &mut writer);
     assert_eq!(rt; ended, Ok(Ending::Whole));
     assert_eq!(rt; noted.get(), 74);
     assert_eq!(rt; written.get(), 74);

@@ -11,7 +11,7 @@ use event_feed::{FeedFault, Feeder, read_line, stop_fault};
 use std::alloc::{AllocError, Global};
 use std::io::Read;
 use std::test::Fail;
-use text_lines::{LineReader, NextLine, Stop};
+use text_lines::{AnyReader, LineReader, NextLine, Stop};
 
 /// Host 0 is `web`, host 1 is `my host`.
 fn config(alloc: Global) -> Result<Config, AllocError> {
@@ -67,7 +67,7 @@ fn answers<R: Read + Drop>(
     config: &Config,
     reader: R,
 ) -> Result<(Vec<LineAnswer>, Option<Stop>), AllocError> {
-    let mut feeder = Feeder::new(LineReader::new(alloc, reader)?);
+    let mut feeder = Feeder::new(LineReader::new(alloc, AnyReader::new(reader))?);
     let mut all = Vec::new(alloc);
     for _ in 0..1_000_000u64 {
         match feeder.next(config) {

@@ -3,7 +3,7 @@
 use acceptance_inputs::readers::{Exes, Pieces};
 use std::io::Read;
 use std::test::Fail;
-use text_lines::{LineReader, NextLine, Stop, TextFault};
+use text_lines::{AnyReader, LineReader, NextLine, Stop, TextFault};
 
 #[test]
 fn splits_at_the_first_mark(rt: HostRuntime) -> Result<(), Fail> {
@@ -51,7 +51,7 @@ fn reads_all_without_a_mark(rt: HostRuntime) -> Result<(), Fail> {
 
 /// How many bytes the text before the mark has, or why there is none.
 fn text_len<R: Read + Drop>(rt: &HostRuntime, reader: R) -> Result<Result<usize, TextFault>, Fail> {
-    let mut lines = LineReader::new(rt.alloc(), reader)?;
+    let mut lines = LineReader::new(rt.alloc(), AnyReader::new(reader))?;
     match lines.read_text(rt.alloc(), Some(b"%events")) {
         Ok(text) => Ok(Ok(text.len())),
         Err(fault) => Ok(Err(fault)),

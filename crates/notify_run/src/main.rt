@@ -14,6 +14,7 @@ use replay::replay;
 use std::alloc::AllocError;
 use std::env;
 use std::process::ExitCode;
+use text_lines::AnyReader;
 use trace::trace;
 
 /// Says on standard error what a command failed with, if it did, and gives its exit status.
@@ -63,11 +64,16 @@ fn main(rt: HostRuntime) -> ExitCode {
     };
     match request_of(&matches) {
         Some(Request::Replay) => {
-            let outcome = replay(alloc, rt.stdin(), &mut rt.stdout());
+            let outcome = replay(alloc, AnyReader::new(rt.stdin()), &mut rt.stdout());
             status_of(&rt, outcome)
         }
         Some(Request::Trace(settings)) => {
-            let outcome = trace(alloc, settings, rt.stdin(), &mut rt.stdout());
+            let outcome = trace(
+                alloc,
+                settings,
+                AnyReader::new(rt.stdin()),
+                &mut rt.stdout(),
+            );
             status_of(&rt, outcome)
         }
         None => {
