@@ -50,37 +50,45 @@ abbrev pub names : ℕ → Suppression → Bool
 names k s = elim s.contact as (λ _. Bool) [ None ↦ false | Some contact ↦ contact.0 == k ]
 
 -- contact k gets one notice on each of its lanes, and no suppression names it
-pub record IsNotified (object : Object) (contact : Contact) (k : ℕ) (notices : ℕ → List Notice) (suppressions : List Suppression) : Type 0 where
-  pub notified : (l : ℕ) → length (filter (λ n. n.contact.0 == k) (notices l)) ≡ (if uses_lane (rights_for object contact) l then 1 else 0)
+pub record IsNotified (object : Object) (contact : Contact) (k : ℕ) (notices : ℕ → List Notice)
+    (suppressions : List Suppression) : Type 0 where
+  pub notified : (l : ℕ) → length (filter (λ n. n.contact.0 == k) (notices l))
+      ≡ (if uses_lane (rights_for object contact) l then 1 else 0)
   pub not_refused : filter (names k) suppressions ≡ []
 
 -- contact k gets no notice, and one suppression names it, by one of its filters
-pub record IsRefused (k : ℕ) (notices : ℕ → List Notice) (suppressions : List Suppression) : Type 0 where
-  pub not_notified : (l : ℕ) → filter (λ n. n.contact.0 == k) (notices l) ≡ []
-  pub suppression : Suppression
-  pub alone : filter (names k) suppressions ≡ suppression ∷ []
-  pub of_contact : is_of_contact suppression.filter ≡ true
+pub record IsRefused (k : ℕ) (notices : ℕ → List Notice) (suppressions : List Suppression) : Type 0
+  where
+    pub not_notified : (l : ℕ) → filter (λ n. n.contact.0 == k) (notices l) ≡ []
+    pub suppression : Suppression
+    pub alone : filter (names k) suppressions ≡ suppression ∷ []
+    pub of_contact : is_of_contact suppression.filter ≡ true
 
 -- each contact that a notice goes to is notified or refused
 abbrev pub ReachesEach : Config → Object → List ℕ → (ℕ → List Notice) → List Suppression → Type 0
-ReachesEach c object ks notices suppressions = (k : ℕ) (contact : Contact) → Contains ks k → slice_get c.contacts k ≡ Some contact
+ReachesEach c object ks notices suppressions = (k : ℕ) (contact : Contact) → Contains ks k
+    → slice_get c.contacts k ≡ Some contact
     → IsNotified object contact k notices suppressions ⊎ IsRefused k notices suppressions
 
 -- what an event attempts on the object, if anything
 abbrev pub attempt_of_event : Config → Zone → ℕ → Object → Event → List Event → Option Kind
-attempt_of_event c zone o object e past = attempted o e.kind (status_after o past) (ready c zone object (began o past) (last_problem c zone o object past)) (moment (e ∷ past))
+attempt_of_event c zone o object e past = attempted o e.kind (status_after o past)
+    (ready c zone object (began o past) (last_problem c zone o object past)) (moment (e ∷ past))
 
 -- the contacts that a notice of this kind at an event goes to
 abbrev pub receivers_at : Config → Zone → ℕ → Object → Event → List Event → Kind → List ℕ
 receivers_at c zone o object e past k =
-    receivers c zone o object (record { kind = k; state = hard o (e ∷ past); moment = moment (e ∷ past) })
+    receivers c zone o object
+    (record { kind = k; state = hard o (e ∷ past); moment = moment (e ∷ past) })
     (number_after (notices_sent (before o e past (hist c zone o object past))) k)
 
 -- An event that attempts nothing leaves no trace. Each attempt is stopped by a filter of the object, or each contact that it
 -- goes to is notified or refused (chapter "Notifications").
 abbrev pub EachAttemptIsAnswered : Type 0
-EachAttemptIsAnswered = (c : Config) (zone : Zone) (o : ℕ) (object : Object) (e : Event) (past : List Event)
+EachAttemptIsAnswered = (c : Config) (zone : Zone) (o : ℕ) (object : Object) (e : Event)
+    (past : List Event)
     → MatchOption (attempt_of_event c zone o object e past)
     (IsSilent (λ l. due_at c zone o object l e past) (suppressed_at c zone o object e past))
     (λ k. IsStopped (λ l. due_at c zone o object l e past) (suppressed_at c zone o object e past)
-    ⊎ ReachesEach c object (receivers_at c zone o object e past k) (λ l. due_at c zone o object l e past) (suppressed_at c zone o object e past))
+    ⊎ ReachesEach c object (receivers_at c zone o object e past k)
+    (λ l. due_at c zone o object l e past) (suppressed_at c zone o object e past))

@@ -23,11 +23,13 @@ BeginsWith {X} xs front = (rest : List X) × (xs ≡ front ++ rest)
 
 -- What was due stays due: what is due after a feed is the front of what is due after each longer feed.
 abbrev pub DueOnlyGrows : Type 0
-DueOnlyGrows = (c : Config) (zone : Zone) (o l : ℕ) (feed more : List Event) → BeginsWith (due c zone o l (reverse (feed ++ more))) (due c zone o l (reverse feed))
+DueOnlyGrows = (c : Config) (zone : Zone) (o l : ℕ) (feed more : List Event)
+    → BeginsWith (due c zone o l (reverse (feed ++ more))) (due c zone o l (reverse feed))
 
 -- So do the suppressions.
 abbrev pub SuppressionsOnlyGrow : Type 0
-SuppressionsOnlyGrow = (c : Config) (zone : Zone) (o : ℕ) (feed more : List Event) → BeginsWith (sup c zone o (reverse (feed ++ more))) (sup c zone o (reverse feed))
+SuppressionsOnlyGrow = (c : Config) (zone : Zone) (o : ℕ) (feed more : List Event)
+    → BeginsWith (sup c zone o (reverse (feed ++ more))) (sup c zone o (reverse feed))
 
 -- a notice comes before another: at an earlier event, or at the same one to a contact of a lesser number
 abbrev pub ComesBefore : Notice → Notice → Type 0
@@ -35,11 +37,13 @@ ComesBefore a b = (a.event < b.event) ⊎ ((a.event ≡ b.event) × (a.contact.0
 
 -- Notices stand in the order of their events, and those of one event in the order of their contacts.
 abbrev pub NoticesStandInOrder : Type 0
-NoticesStandInOrder = (c : Config) (zone : Zone) (o l : ℕ) (past : List Event) → AllPairs ComesBefore (due c zone o l past)
+NoticesStandInOrder = (c : Config) (zone : Zone) (o l : ℕ) (past : List Event)
+    → AllPairs ComesBefore (due c zone o l past)
 
 -- No notice stands there twice.
 abbrev pub NoticesStandOnce : Type 0
-NoticesStandOnce = (c : Config) (zone : Zone) (o l : ℕ) (past : List Event) → AllPairs (λ a b. a ≢ b) (due c zone o l past)
+NoticesStandOnce = (c : Config) (zone : Zone) (o l : ℕ) (past : List Event)
+    → AllPairs (λ a b. a ≢ b) (due c zone o l past)
 
 -- the events up to number i, of a past
 abbrev pub up_to : List Event → ℕ → List Event
@@ -55,7 +59,8 @@ pub record TellsOfEvent (past : List Event) (o l : ℕ) (n : Notice) : Type 0 wh
 
 -- Each notice tells of one of the events.
 abbrev pub NoticesTellOfEvents : Type 0
-NoticesTellOfEvents = (c : Config) (zone : Zone) (o l : ℕ) (past : List Event) → All (TellsOfEvent past o l) (due c zone o l past)
+NoticesTellOfEvents = (c : Config) (zone : Zone) (o l : ℕ) (past : List Event)
+    → All (TellsOfEvent past o l) (due c zone o l past)
 
 -- the program switch is on, and the object isn't flapping, nor it or its host in downtime
 pub record NothingHoldsBack (o : ℕ) (object : Object) (past : List Event) : Type 0 where
@@ -66,8 +71,10 @@ pub record NothingHoldsBack (o : ℕ) (object : Object) (past : List Event) : Ty
 
 -- A problem or a recovery is notified of only while nothing of that holds it back (chapter "Notifications").
 abbrev pub ProblemsAreHeldBack : Type 0
-ProblemsAreHeldBack = (c : Config) (zone : Zone) (o l : ℕ) (object : Object) (past : List Event) → slice_get c.objects o ≡ Some object
-    → All (λ n. is_of_problem n.kind ≡ true → NothingHoldsBack o object (up_to past n.event)) (due c zone o l past)
+ProblemsAreHeldBack = (c : Config) (zone : Zone) (o l : ℕ) (object : Object) (past : List Event)
+    → slice_get c.objects o ≡ Some object
+    → All (λ n. is_of_problem n.kind ≡ true → NothingHoldsBack o object (up_to past n.event))
+    (due c zone o l past)
 
 -- the outcomes of the object's last problem
 abbrev pub last_problem : Config → Zone → ℕ → Object → List Event → List Outcome
@@ -75,8 +82,11 @@ last_problem c zone o object past = of_problem o past (hist c zone o object past
 
 -- A recovery is notified of only after a problem notice of its problem went out (chapter "Notifications").
 abbrev pub RecoveriesFollowNotices : Type 0
-RecoveriesFollowNotices = (c : Config) (zone : Zone) (o l : ℕ) (object : Object) (past : List Event) → slice_get c.objects o ≡ Some object
-    → All (λ n. is_recovery n.kind ≡ true → 0 < notices_sent (last_problem c zone o object (up_to past n.event))) (due c zone o l past)
+RecoveriesFollowNotices = (c : Config) (zone : Zone) (o l : ℕ) (object : Object)
+    (past : List Event) → slice_get c.objects o ≡ Some object
+    → All (λ n. is_recovery n.kind ≡ true
+    → 0 < notices_sent (last_problem c zone o object (up_to past n.event)))
+    (due c zone o l past)
 
 -- the number of an outcome that is a problem notice
 abbrev pub notice_number : Outcome → Option ℕ
@@ -87,15 +97,18 @@ notice_number (Suppressed k state number moment why) = None
 -- The problem notices of one problem are numbered 1, 2, 3 and so on (chapter "Notification Escalations").
 abbrev pub NumbersGoUpByOne : Type 0
 NumbersGoUpByOne = (c : Config) (zone : Zone) (o : ℕ) (object : Object) (past : List Event)
-    → filter_map notice_number (reverse (last_problem c zone o object past)) ≡ range_with_len 1 (notices_sent (last_problem c zone o object past))
+    → filter_map notice_number (reverse (last_problem c zone o object past))
+    ≡ range_with_len 1 (notices_sent (last_problem c zone o object past))
 
 -- Of two problem notices of one problem in a row that report the same state, the second comes no sooner than the gap of the
 -- first after it, and never where that gap is 0 (chapter "Notifications").
 abbrev pub NoticesKeepTheirGaps : Type 0
-NoticesKeepTheirGaps = (c : Config) (zone : Zone) (o : ℕ) (object : Object) (past : List Event) (i : ℕ) (earlier later : Last)
+NoticesKeepTheirGaps = (c : Config) (zone : Zone) (o : ℕ) (object : Object) (past : List Event)
+    (i : ℕ) (earlier later : Last)
     → slice_get (filter_map notice_of (last_problem c zone o object past)) i ≡ Some later
     → slice_get (filter_map notice_of (last_problem c zone o object past)) (i + 1) ≡ Some earlier
-    → earlier.state ≡ later.state → (0 < earlier.gap) × (earlier.moment + earlier.gap ≤ later.moment)
+    → earlier.state ≡ later.state
+    → (0 < earlier.gap) × (earlier.moment + earlier.gap ≤ later.moment)
 
 -- the number of a notice of this kind, after so many problem notices of its problem, its own counted
 abbrev pub number_carried : Kind → ℕ → ℕ
@@ -109,5 +122,7 @@ number_carried kind.DowntimeCancelled sent = 0
 
 -- Each notice carries that number.
 abbrev pub NoticesAreNumbered : Type 0
-NoticesAreNumbered = (c : Config) (zone : Zone) (o l : ℕ) (object : Object) (past : List Event) → slice_get c.objects o ≡ Some object
-    → All (λ n. n.number ≡ number_carried n.kind (notices_sent (last_problem c zone o object (up_to past n.event)))) (due c zone o l past)
+NoticesAreNumbered = (c : Config) (zone : Zone) (o l : ℕ) (object : Object) (past : List Event)
+    → slice_get c.objects o ≡ Some object
+    → All (λ n. n.number ≡ number_carried n.kind
+    (notices_sent (last_problem c zone o object (up_to past n.event)))) (due c zone o l past)

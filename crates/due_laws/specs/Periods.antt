@@ -10,12 +10,14 @@ use Rattle.due_model.specs.Periods.{in_period, next_in, ranges_on}
 
 -- some range of the local weekday has the local second, and none of the periods that this one excludes holds
 pub record HoldsByRanges (c : Config) (zone : Zone) (t : ℕ) (period : Period) : Type 0 where
-  pub in_a_range : Any (λ range. (range.start ≤ (local zone t).second) × ((local zone t).second < range.end)) (ranges_on period (local zone t).weekday)
+  pub in_a_range : Any (λ range. (range.start ≤ (local zone t).second)
+      × ((local zone t).second < range.end)) (ranges_on period (local zone t).weekday)
   pub not_excluded : All (λ excluded. in_period c zone (Some excluded) t ≡ false) period.excludes
 
 -- A period of an accepted configuration holds exactly there (chapter "Time Periods").
 abbrev pub PeriodsHoldByRanges : Type 0
-PeriodsHoldByRanges = (c : Config) (zone : Zone) (p : PeriodId) (period : Period) (t : ℕ) → IsAccepted c → slice_get c.periods p.0 ≡ Some period
+PeriodsHoldByRanges = (c : Config) (zone : Zone) (p : PeriodId) (period : Period) (t : ℕ)
+    → IsAccepted c → slice_get c.periods p.0 ≡ Some period
     → IsTrue (in_period c zone (Some p) t) ↔ HoldsByRanges c zone t period
 
 -- m is the least moment of the period from t on, and at most 400 days later
@@ -28,4 +30,6 @@ pub record IsNext (c : Config) (zone : Zone) (period : Option PeriodId) (t m : �
 -- The next moment is that one; there is none where the period doesn't hold at any moment of 400 days.
 abbrev pub NextIsLeast : Type 0
 NextIsLeast = (c : Config) (zone : Zone) (period : Option PeriodId) (t : ℕ)
-    → MatchOption (next_in c zone period t) ((k : ℕ) → t ≤ k → k ≤ t + 34_560_000 → in_period c zone period k ≡ false) (IsNext c zone period t)
+    → MatchOption (next_in c zone period t)
+    ((k : ℕ) → t ≤ k → k ≤ t + 34_560_000 → in_period c zone period k ≡ false)
+    (IsNext c zone period t)

@@ -33,14 +33,19 @@ tries_problem (Suppressed k s number m why) = is_problem k
 abbrev pub ready_after : Config → Zone → Object → (began : ℕ) → List Outcome → Outcome → Option ℕ
 ready_after c zone object began front Nothing = None
 ready_after c zone object began front (Sent k s number m gap) = next_notice m gap
-ready_after c zone object began front (Suppressed k s number m why) = retry_after c zone object began (last_notice (reverse front)) m why
+ready_after c zone object began front (Suppressed k s number m why) = retry_after c zone object
+    began (last_notice (reverse front)) m why
 
 -- When the next attempt as a problem is, follows from the last outcome of one; with none there is no next.
 pub record IsReadyByLast : Type 0 where
-  pub by_last : (c : Config) (zone : Zone) (object : Object) (began : ℕ) (front : List Outcome) (x : Outcome) (rest : List Outcome)
-      → tries_problem x ≡ true → All (λ y. tries_problem y ≡ false) rest → ready c zone object began (reverse (front ++ x ∷ rest)) ≡ ready_after c zone object began front x
+  pub by_last : (c : Config) (zone : Zone) (object : Object) (began : ℕ) (front : List Outcome)
+      (x : Outcome) (rest : List Outcome)
+      → tries_problem x ≡ true → All (λ y. tries_problem y ≡ false) rest
+      → ready c zone object began (reverse (front ++ x ∷ rest))
+      ≡ ready_after c zone object began front x
   pub never : (c : Config) (zone : Zone) (object : Object) (began : ℕ) (outcomes : List Outcome)
-      → All (λ y. tries_problem y ≡ false) outcomes → ready c zone object began (reverse outcomes) ≡ None
+      → All (λ y. tries_problem y ≡ false) outcomes
+      → ready c zone object began (reverse outcomes) ≡ None
 
 -- an event starts a downtime of the object, or ends or cancels one
 abbrev pub starts_downtime : ℕ → EventKind → Bool
@@ -70,13 +75,16 @@ ends_in o events = count_by (λ e. ends_downtime o e.kind) events
 -- from event s on, with `later` after it, starts outnumber ends and cancellations at each event
 pub record Outnumbers (o : ℕ) (s : Event) (later : List Event) : Type 0 where
   pub start : starts_downtime o s.kind ≡ true
-  pub at_each : (front rest : List Event) → later ≡ front ++ rest → ends_in o (s ∷ front) < starts_in o (s ∷ front)
+  pub at_each : (front rest : List Event) → later ≡ front ++ rest
+      → ends_in o (s ∷ front) < starts_in o (s ∷ front)
 
 -- The object is in downtime where from some start on starts outnumber ends and cancellations at each event (chapter
 -- "Scheduled Downtime").
 abbrev pub DownWhereStartsOutnumber : Type 0
 DownWhereStartsOutnumber = (o : ℕ) (feed : List Event)
-    → IsTrue (down o (reverse feed)) ↔ ((earlier : List Event) × (s : Event) × (later : List Event) × (feed ≡ earlier ++ s ∷ later) × Outnumbers o s later)
+    → IsTrue (down o (reverse feed))
+    ↔ ((earlier : List Event) × (s : Event) × (later : List Event)
+    × (feed ≡ earlier ++ s ∷ later) × Outnumbers o s later)
 
 -- an event is a hard OK state of the object
 abbrev pub is_ok_of : ℕ → EventKind → Bool
@@ -113,23 +121,34 @@ pub record IsInProblem (o : ℕ) (b : Event) (later : List Event) : Type 0 where
 -- b is the least such event
 pub record IsBegin (o : ℕ) (earlier : List Event) (b : Event) (later : List Event) : Type 0 where
   pub such : IsInProblem o b later
-  pub least : (front : List Event) (x : Event) (rest : List Event) → earlier ≡ front ++ x ∷ rest → IsInProblem o x (rest ++ b ∷ later) → ⊥
+  pub least : (front : List Event) (x : Event) (rest : List Event) → earlier ≡ front ++ x ∷ rest
+      → IsInProblem o x (rest ++ b ∷ later) → ⊥
 
 -- A problem begins at the least event that is such: that is its moment, and the outcomes of the problem, and its notices, are
 -- those from that event on. While the last hard state is a problem there is such an event. No event of a feed is a pending state.
 pub record BeginIsLeast : Type 0 where
-  pub at_moment : (o : ℕ) (earlier : List Event) (b : Event) (later : List Event) → All (λ e. is_pending_event e.kind ≡ false) (earlier ++ b ∷ later) → IsBegin o earlier b later
+  pub at_moment : (o : ℕ) (earlier : List Event) (b : Event) (later : List Event)
+      → All (λ e. is_pending_event e.kind ≡ false) (earlier ++ b ∷ later)
+      → IsBegin o earlier b later
       → began o (reverse (earlier ++ b ∷ later)) ≡ moment (reverse (earlier ++ b ∷ []))
-  pub outcomes : (o : ℕ) (earlier : List Event) (b : Event) (later : List Event) (before_it from_it : List Outcome)
-      → All (λ e. is_pending_event e.kind ≡ false) (earlier ++ b ∷ later) → IsBegin o earlier b later
+  pub outcomes : (o : ℕ) (earlier : List Event) (b : Event) (later : List Event)
+      (before_it from_it : List Outcome)
+      → All (λ e. is_pending_event e.kind ≡ false) (earlier ++ b ∷ later)
+      → IsBegin o earlier b later
       → length before_it ≡ length earlier → length from_it ≡ length (b ∷ later)
-      → reverse (of_problem o (reverse (earlier ++ b ∷ later)) (reverse (before_it ++ from_it))) ≡ from_it
-  pub notices : (o : ℕ) (earlier : List Event) (b : Event) (later : List Event) (before_it from_it : List Outcome)
-      → All (λ e. is_pending_event e.kind ≡ false) (earlier ++ b ∷ later) → IsBegin o earlier b later
+      → reverse (of_problem o (reverse (earlier ++ b ∷ later)) (reverse (before_it ++ from_it)))
+      ≡ from_it
+  pub notices : (o : ℕ) (earlier : List Event) (b : Event) (later : List Event)
+      (before_it from_it : List Outcome)
+      → All (λ e. is_pending_event e.kind ≡ false) (earlier ++ b ∷ later)
+      → IsBegin o earlier b later
       → length before_it ≡ length earlier → length from_it ≡ length (b ∷ later)
-      → notices_sent (of_problem o (reverse (earlier ++ b ∷ later)) (reverse (before_it ++ from_it))) ≡ notices_sent from_it
-  pub exists : (o : ℕ) (feed : List Event) → All (λ e. is_pending_event e.kind ≡ false) feed → is_problem_state (hard o (reverse feed)) ≡ true
-      → (earlier : List Event) × (b : Event) × (later : List Event) × (feed ≡ earlier ++ b ∷ later) × IsBegin o earlier b later
+      → notices_sent (of_problem o (reverse (earlier ++ b ∷ later))
+      (reverse (before_it ++ from_it))) ≡ notices_sent from_it
+  pub exists : (o : ℕ) (feed : List Event) → All (λ e. is_pending_event e.kind ≡ false) feed
+      → is_problem_state (hard o (reverse feed)) ≡ true
+      → (earlier : List Event) × (b : Event) × (later : List Event) × (feed ≡ earlier ++ b ∷ later)
+      × IsBegin o earlier b later
 
 -- the hard state that an event gives object o, if it gives one
 abbrev pub hard_state_of : ℕ → EventKind → Option State
@@ -159,16 +178,20 @@ switch_of (Flapping p starts) = None
 abbrev pub IsOfLastEvent : {X : Type 0} → (EventKind → Option X) → X → List Event → X → Type 0
 IsOfLastEvent gives first feed value =
     (All (λ e. gives e.kind ≡ None) feed × (value ≡ first))
-    ⊎ ((front : List Event) × (e : Event) × (rest : List Event) × (feed ≡ front ++ e ∷ rest) × (gives e.kind ≡ Some value) × All (λ x. gives x.kind ≡ None) rest)
+    ⊎ ((front : List Event) × (e : Event) × (rest : List Event) × (feed ≡ front ++ e ∷ rest)
+    × (gives e.kind ≡ Some value) × All (λ x. gives x.kind ≡ None) rest)
 
 -- The hard state of an object is that of its last hard event; pending, where it has none (chapter "State Types").
 abbrev pub HardIsOfLastEvent : Type 0
-HardIsOfLastEvent = (o : ℕ) (feed : List Event) → IsOfLastEvent (hard_state_of o) state.Pending feed (hard o (reverse feed))
+HardIsOfLastEvent = (o : ℕ) (feed : List Event)
+    → IsOfLastEvent (hard_state_of o) state.Pending feed (hard o (reverse feed))
 
 -- An object is flapping where its last flapping event is a start (chapter "State Flapping").
 abbrev pub FlappingIsOfLastEvent : Type 0
-FlappingIsOfLastEvent = (o : ℕ) (feed : List Event) → IsOfLastEvent (flapping_of o) false feed (flapping o (reverse feed))
+FlappingIsOfLastEvent = (o : ℕ) (feed : List Event)
+    → IsOfLastEvent (flapping_of o) false feed (flapping o (reverse feed))
 
 -- The program switch is as the last event that sets it says; on, where none does (chapter "External Commands").
 abbrev pub SwitchIsOfLastEvent : Type 0
-SwitchIsOfLastEvent = (feed : List Event) → IsOfLastEvent switch_of true feed (program_on (reverse feed))
+SwitchIsOfLastEvent = (feed : List Event)
+    → IsOfLastEvent switch_of true feed (program_on (reverse feed))

@@ -27,7 +27,13 @@ use Rattle.due_model.specs.Options.{every_letter}
 use Rattle.due_model.specs.Periods.{in_period, next_in}
 
 abbrev pub on_mail : Rights
-on_mail = record { enabled = true; options = every_letter; period = None; lanes = record { 0 = 0 } ∷ [] }
+on_mail = record {
+  enabled = true;
+  options = every_letter;
+  period = None;
+  lanes = record { 0 = 0 }
+      ∷ [];
+}
 
 -- a contact who is notified by mail, of everything
 abbrev pub by_mail : List ℕ → Contact
@@ -35,7 +41,16 @@ by_mail name = record { name = name; hosts = on_mail; services = on_mail }
 
 -- the host web: contact ann, interval 1
 abbrev pub web : Object
-web = record { name = codes "web"; host = None; enabled = true; options = every_letter; period = None; interval = 1; delay = 0; contacts = record { 0 = 0 } ∷ [] }
+web = record {
+  name = codes "web";
+  host = None;
+  enabled = true;
+  options = every_letter;
+  period = None;
+  interval = 1;
+  delay = 0;
+  contacts = record { 0 = 0 } ∷ [];
+}
 
 -- a service of web with web's contacts and interval
 abbrev pub service : List ℕ → Object
@@ -75,7 +90,8 @@ abbrev pub suppression_row : Suppression → SuppressionRow
 suppression_row s = (s.event, s.moment, s.kind, s.state, s.filter)
 
 -- after these events, in feed order, object o has these notices on the lane mail and these suppressions
-pub record Gives (c : Config) (o : ℕ) (feed : List Event) (notices : List NoticeRow) (suppressions : List SuppressionRow) : Type 0 where
+pub record Gives (c : Config) (o : ℕ) (feed : List Event) (notices : List NoticeRow)
+    (suppressions : List SuppressionRow) : Type 0 where
   pub due : map notice_row (due c Utc o 0 (reverse feed)) ≡ notices
   pub suppressed : map suppression_row (sup c Utc o (reverse feed)) ≡ suppressions
 
@@ -87,21 +103,28 @@ abbrev pub EmptyFeed : Type 0
 EmptyFeed = Gives base 0 [] [] []
 
 abbrev pub Renotify : Type 0
-Renotify = Gives base 0 (at 1000 (has 0 state.Down) ∷ at 1059 event.Clock ∷ at 1060 event.Clock ∷ [])
+Renotify = Gives base 0 (at 1000 (has 0 state.Down) ∷ at 1059 event.Clock ∷ at 1060 event.Clock
+    ∷ [])
     ((0, 1000, kind.Problem, state.Down, 1, 0) ∷ (2, 1060, kind.Problem, state.Down, 2, 0) ∷ []) []
 
 abbrev pub SameStateTooSoon : Type 0
-SameStateTooSoon = Gives base 0 (at 1000 (has 0 state.Down) ∷ at 1030 (has 0 state.Down) ∷ at 1059 event.Clock ∷ at 1060 event.Clock ∷ [])
+SameStateTooSoon = Gives base 0
+    (at 1000 (has 0 state.Down) ∷ at 1030 (has 0 state.Down) ∷ at 1059 event.Clock
+    ∷ at 1060 event.Clock ∷ [])
     ((0, 1000, kind.Problem, state.Down, 1, 0) ∷ (3, 1060, kind.Problem, state.Down, 2, 0) ∷ [])
     ((1, 1030, kind.Problem, state.Down, filter.Interval) ∷ [])
 
 abbrev pub ProgramSwitch : Type 0
-ProgramSwitch = Gives base 0 (at 1000 (event.Program false) ∷ at 1000 (has 0 state.Down) ∷ at 1005 (event.Program true) ∷ at 1010 (has 0 state.Up) ∷ [])
+ProgramSwitch = Gives base 0
+    (at 1000 (event.Program false) ∷ at 1000 (has 0 state.Down) ∷ at 1005 (event.Program true)
+    ∷ at 1010 (has 0 state.Up) ∷ [])
     []
-    ((1, 1000, kind.Problem, state.Down, filter.Program) ∷ (3, 1010, kind.Recovery, state.Up, filter.NoProblem) ∷ [])
+    ((1, 1000, kind.Problem, state.Down, filter.Program)
+    ∷ (3, 1010, kind.Recovery, state.Up, filter.NoProblem) ∷ [])
 
 abbrev pub with_bob : List Escalation → Config
-with_bob escalations = record base { contacts = by_mail (codes "ann") ∷ by_mail (codes "bob") ∷ []; escalations = escalations }
+with_bob escalations = record base
+    { contacts = by_mail (codes "ann") ∷ by_mail (codes "bob") ∷ []; escalations = escalations }
 
 -- an escalation of object o to one contact
 abbrev pub escalation : (o first last interval contact : ℕ) → Escalation
@@ -118,8 +141,10 @@ escalation o first last interval contact = record {
 -- a recovery goes to the contacts of the last notice's number
 abbrev pub EscalationAndRecovery : Type 0
 EscalationAndRecovery = Gives (with_bob (escalation 0 3 3 1 1 ∷ [])) 0
-    (at 1000 (has 0 state.Down) ∷ at 1060 event.Clock ∷ at 1120 event.Clock ∷ at 1130 (has 0 state.Up) ∷ [])
-    ((0, 1000, kind.Problem, state.Down, 1, 0) ∷ (1, 1060, kind.Problem, state.Down, 2, 0) ∷ (2, 1120, kind.Problem, state.Down, 3, 1) ∷ (3, 1130, kind.Recovery, state.Up, 4, 1) ∷ [])
+    (at 1000 (has 0 state.Down) ∷ at 1060 event.Clock ∷ at 1120 event.Clock
+    ∷ at 1130 (has 0 state.Up) ∷ [])
+    ((0, 1000, kind.Problem, state.Down, 1, 0) ∷ (1, 1060, kind.Problem, state.Down, 2, 0)
+    ∷ (2, 1120, kind.Problem, state.Down, 3, 1) ∷ (3, 1130, kind.Recovery, state.Up, 4, 1) ∷ [])
     []
 
 abbrev pub overlap : Config
@@ -132,9 +157,11 @@ overlap = record base {
 -- the manual's overlapping escalations (chapter "Notification Escalations", "Notification Intervals")
 abbrev pub OverlappingEscalations : Type 0
 OverlappingEscalations = Gives overlap 0
-    (at 0 (has 0 state.Down) ∷ at 600 event.Clock ∷ at 1200 event.Clock ∷ at 1800 event.Clock ∷ at 3899 event.Clock ∷ at 3900 event.Clock
+    (at 0 (has 0 state.Down) ∷ at 600 event.Clock ∷ at 1200 event.Clock ∷ at 1800 event.Clock
+    ∷ at 3899 event.Clock ∷ at 3900 event.Clock
     ∷ at 6600 event.Clock ∷ at 9300 event.Clock ∷ at 12899 event.Clock ∷ at 12900 event.Clock ∷ [])
-    ((0, 0, kind.Problem, state.Down, 1, 0) ∷ (1, 600, kind.Problem, state.Down, 2, 0) ∷ (2, 1200, kind.Problem, state.Down, 3, 1)
+    ((0, 0, kind.Problem, state.Down, 1, 0) ∷ (1, 600, kind.Problem, state.Down, 2, 0)
+    ∷ (2, 1200, kind.Problem, state.Down, 3, 1)
     ∷ (5, 3900, kind.Problem, state.Down, 4, 1) ∷ (5, 3900, kind.Problem, state.Down, 4, 2)
     ∷ (6, 6600, kind.Problem, state.Down, 5, 1) ∷ (6, 6600, kind.Problem, state.Down, 5, 2)
     ∷ (7, 9300, kind.Problem, state.Down, 6, 2) ∷ (9, 12900, kind.Problem, state.Down, 7, 2) ∷ [])
@@ -142,11 +169,15 @@ OverlappingEscalations = Gives overlap 0
 
 -- after a notice with the interval 0 none follows until the state changes
 abbrev pub IntervalZero : Type 0
-IntervalZero = Gives (record (with_bob (escalation 1 4 6 0 1 ∷ [])) { objects = web ∷ service (codes "PING") ∷ [] }) 1
-    (at 1000 (has 1 state.Warning) ∷ at 1060 event.Clock ∷ at 1120 event.Clock ∷ at 1180 event.Clock ∷ at 1240 event.Clock ∷ at 9999 event.Clock
+IntervalZero = Gives (record (with_bob (escalation 1 4 6 0 1 ∷ []))
+    { objects = web ∷ service (codes "PING") ∷ [] }) 1
+    (at 1000 (has 1 state.Warning) ∷ at 1060 event.Clock ∷ at 1120 event.Clock
+    ∷ at 1180 event.Clock ∷ at 1240 event.Clock ∷ at 9999 event.Clock
     ∷ at 10000 (has 1 state.Critical) ∷ at 20000 event.Clock ∷ [])
-    ((0, 1000, kind.Problem, state.Warning, 1, 0) ∷ (1, 1060, kind.Problem, state.Warning, 2, 0) ∷ (2, 1120, kind.Problem, state.Warning, 3, 0)
-    ∷ (3, 1180, kind.Problem, state.Warning, 4, 1) ∷ (6, 10000, kind.Problem, state.Critical, 5, 1) ∷ [])
+    ((0, 1000, kind.Problem, state.Warning, 1, 0) ∷ (1, 1060, kind.Problem, state.Warning, 2, 0)
+    ∷ (2, 1120, kind.Problem, state.Warning, 3, 0)
+    ∷ (3, 1180, kind.Problem, state.Warning, 4, 1) ∷ (6, 10000, kind.Problem, state.Critical, 5, 1)
+    ∷ [])
     []
 
 abbrev pub downtime : ℕ → EventKind
@@ -156,35 +187,65 @@ abbrev pub InDowntime : Type 0
 InDowntime = Gives base 0
     (at 1000 (downtime 0) ∷ at 1010 (has 0 state.Down) ∷ at 1020 (has 0 state.Up) ∷ [])
     ((0, 1000, kind.DowntimeStart, state.Pending, 0, 0) ∷ [])
-    ((1, 1010, kind.Problem, state.Down, filter.Downtime) ∷ (2, 1020, kind.Recovery, state.Up, filter.Downtime) ∷ [])
+    ((1, 1010, kind.Problem, state.Down, filter.Downtime)
+    ∷ (2, 1020, kind.Recovery, state.Up, filter.Downtime) ∷ [])
 
 abbrev pub nested : List Event
-nested = at 1000 (downtime 0) ∷ at 1010 (has 1 state.Critical) ∷ at 1020 (downtime 0) ∷ at 1030 (event.Downtime (record { 0 = 0 }) change.End)
-    ∷ at 1040 (event.Downtime (record { 0 = 0 }) change.Cancelled) ∷ at 1050 (event.Downtime (record { 0 = 0 }) change.End) ∷ []
+nested = at 1000 (downtime 0) ∷ at 1010 (has 1 state.Critical) ∷ at 1020 (downtime 0)
+    ∷ at 1030 (event.Downtime (record { 0 = 0 }) change.End)
+    ∷ at 1040 (event.Downtime (record { 0 = 0 }) change.Cancelled)
+    ∷ at 1050 (event.Downtime (record { 0 = 0 }) change.End) ∷ []
 
 abbrev pub with_ping : Config
 with_ping = record base { objects = web ∷ service (codes "PING") ∷ [] }
 
 -- downtimes nest, and a host's holds its services' problems back
 abbrev pub NestedDowntimes : Type 0
-NestedDowntimes = Gives with_ping 0 nested ((0, 1000, kind.DowntimeStart, state.Pending, 0, 0) ∷ (4, 1040, kind.DowntimeCancelled, state.Pending, 0, 0) ∷ []) []
+NestedDowntimes = Gives with_ping 0 nested
+    ((0, 1000, kind.DowntimeStart, state.Pending, 0, 0)
+    ∷ (4, 1040, kind.DowntimeCancelled, state.Pending, 0, 0) ∷ []) []
     × Gives with_ping 1 nested [] ((1, 1010, kind.Problem, state.Critical, filter.Downtime) ∷ [])
 
 abbrev pub WhileFlapping : Type 0
 WhileFlapping = Gives base 0
-    (at 1000 (event.Flapping (record { 0 = 0 }) true) ∷ at 1010 (has 0 state.Down) ∷ at 1020 (event.Flapping (record { 0 = 0 }) false) ∷ at 1069 event.Clock ∷ at 1070 event.Clock ∷ [])
-    ((0, 1000, kind.FlappingStart, state.Pending, 0, 0) ∷ (2, 1020, kind.FlappingStop, state.Down, 0, 0) ∷ (4, 1070, kind.Problem, state.Down, 1, 0) ∷ [])
+    (at 1000 (event.Flapping (record { 0 = 0 }) true) ∷ at 1010 (has 0 state.Down)
+    ∷ at 1020 (event.Flapping (record { 0 = 0 }) false) ∷ at 1069 event.Clock
+    ∷ at 1070 event.Clock ∷ [])
+    ((0, 1000, kind.FlappingStart, state.Pending, 0, 0)
+    ∷ (2, 1020, kind.FlappingStop, state.Down, 0, 0)
+    ∷ (4, 1070, kind.Problem, state.Down, 1, 0) ∷ [])
     ((1, 1010, kind.Problem, state.Down, filter.Flapping) ∷ [])
 
 -- objects 1, 2 and 3 are the services A, C and B of web: A depends on B, and B on C
 abbrev pub only_critical : StateSet
-only_critical = record { pending = false; up = false; down = false; unreachable = false; fine = false; warning = false; unknown = false; critical = true }
+only_critical = record {
+  pending = false;
+  up = false;
+  down = false;
+  unreachable = false;
+  fine = false;
+  warning = false;
+  unknown = false;
+  critical = true;
+}
 
 abbrev pub chain : (inherits : Bool) → Config
 chain inherits = record base {
   objects = web ∷ service (codes "A") ∷ service (codes "C") ∷ service (codes "B") ∷ [];
-  dependencies = record { dependent = record { 0 = 1 }; master = record { 0 = 3 }; inherits = inherits; states = only_critical; period = None }
-      ∷ record { dependent = record { 0 = 3 }; master = record { 0 = 2 }; inherits = false; states = only_critical; period = None } ∷ [];
+  dependencies = record {
+    dependent = record { 0 = 1 };
+    master = record { 0 = 3 };
+    inherits = inherits;
+    states = only_critical;
+    period = None;
+  }
+      ∷ record {
+        dependent = record { 0 = 3 };
+        master = record { 0 = 2 };
+        inherits = false;
+        states = only_critical;
+        period = None;
+      } ∷ [];
 }
 
 abbrev pub both_critical : List Event
@@ -192,8 +253,10 @@ both_critical = at 1000 (has 2 state.Critical) ∷ at 1000 (has 1 state.Critical
 
 -- a dependency that inherits fails where its master's fails; one that doesn't looks at its master alone
 abbrev pub DependencyChain : Type 0
-DependencyChain = Gives (chain true) 2 both_critical ((0, 1000, kind.Problem, state.Critical, 1, 0) ∷ []) []
-    × Gives (chain true) 1 both_critical [] ((1, 1000, kind.Problem, state.Critical, filter.Dependency) ∷ [])
+DependencyChain = Gives (chain true) 2 both_critical
+    ((0, 1000, kind.Problem, state.Critical, 1, 0) ∷ []) []
+    × Gives (chain true) 1 both_critical []
+    ((1, 1000, kind.Problem, state.Critical, filter.Dependency) ∷ [])
     × Gives (chain false) 1 both_critical ((1, 1000, kind.Problem, state.Critical, 1, 0) ∷ []) []
 
 abbrev pub FirstDelay : Type 0
@@ -236,12 +299,14 @@ refusal = record {
 }
 
 abbrev pub ContactOptions : Type 0
-ContactOptions = sup (record base { contacts = record (by_mail (codes "ann")) { hosts = not_recoveries } ∷ [] }) Utc 0
+ContactOptions = sup (record base
+    { contacts = record (by_mail (codes "ann")) { hosts = not_recoveries } ∷ [] }) Utc 0
     (reverse (at 1000 (has 0 state.Down) ∷ at 1010 (has 0 state.Up) ∷ [])) ≡ refusal ∷ []
 
 -- a period that holds on Thursdays, but not where these others do
 abbrev pub thursdays : List Range → List PeriodId → Period
-thursdays ranges excludes = record { name = codes "day"; days = replicate 4 [] ++ ranges ∷ [] ∷ [] ∷ []; excludes = excludes }
+thursdays ranges excludes = record
+    { name = codes "day"; days = replicate 4 [] ++ ranges ∷ [] ∷ [] ∷ []; excludes = excludes }
 
 -- period 0 is all of Thursday without lunch, period 1 is lunch without tea, period 2 is tea
 abbrev pub meals : Config
