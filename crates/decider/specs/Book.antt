@@ -54,7 +54,8 @@ LastIsBounded last = IfSome last (λ l. l.moment + l.gap < 2 ^ 64)
 abbrev pub IsBounded : Book → Outcome → Type 0
 IsBounded book Nothing = Unit {0}
 IsBounded book (Sent k state number moment gap) = (book.sent + 1 < 2 ^ 64) × (moment + gap < 2 ^ 64)
-IsBounded book (Suppressed k state number moment why) = (moment + 60 < 2 ^ 64) × LastIsBounded book.last
+IsBounded book (Suppressed k state number moment why) = (moment + 60 < 2 ^ 64)
+    × LastIsBounded book.last
 
 -- the book with which an event begins, before which object o was in that state: an empty one where a
 -- problem begins
@@ -71,11 +72,13 @@ stopped_by program book k state t = first_failing (
     ∷ [])
 
 -- what becomes of an attempt of a plain host with this interval
-abbrev pub judged_by_book : (interval : ℕ) (program : Bool) → Book → Kind → State → (t : ℕ) → Outcome
-judged_by_book interval program book k state t = elim (stopped_by program book k state t) as (λ _. Outcome) [
-  | None ↦ Sent k state (number_after book.sent k) t (if is_problem k then 60 * interval else 0)
-  | Some why ↦ Suppressed k state (number_after book.sent k) t why
-]
+abbrev pub judged_by_book : (interval : ℕ) (program : Bool) → Book → Kind → State → (t : ℕ)
+    → Outcome
+judged_by_book interval program book k state t =
+    elim (stopped_by program book k state t) as (λ _. Outcome) [
+      | None ↦ Sent k state (number_after book.sent k) t (if is_problem k then 60 * interval else 0)
+      | Some why ↦ Suppressed k state (number_after book.sent k) t why
+    ]
 
 -- what is decided with an outcome, and the book after it
 abbrev pub decision_of : ℕ → Book → Outcome → List Decision
@@ -83,19 +86,22 @@ decision_of o book outcome =
     record { object = record { 0 = o }; outcome = outcome; book = book_after book outcome } ∷ []
 
 -- what is decided of an object that attempts this kind
-abbrev pub decide_kind : (o interval : ℕ) → EventContext → State → Book → Option Kind → List Decision
+abbrev pub decide_kind : (o interval : ℕ) → EventContext → State → Book → Option Kind
+    → List Decision
 decide_kind o interval context state book None = []
 decide_kind o interval context state book (Some k) =
     (λ (begun : Book).
     decision_of o begun
-    (judged_by_book interval context.program begun k (hard_after o context.kind state) context.moment))
+    (judged_by_book interval context.program begun k (hard_after o context.kind state)
+    context.moment))
     (book_at o context.kind state book)
 
 -- what is decided of object o at an event, in that state and with that book before it
 abbrev pub decide_by_book : (o interval : ℕ) → EventContext → State → Book → List Decision
 decide_by_book o interval context state book =
     decide_kind o interval context state book
-    (attempted o context.kind (record { state = state; depth = 0; flapping = false }) book.ready context.moment)
+    (attempted o context.kind (record { state = state; depth = 0; flapping = false }) book.ready
+    context.moment)
 
 -- the outcomes of the object's last problem, the newest first
 abbrev pub problem : Config → Zone → ℕ → Object → List Event → List Outcome
@@ -119,7 +125,11 @@ decision_with o Nothing book = []
 decision_with o (Sent k state number moment gap) book =
     record { object = record { 0 = o }; outcome = Sent k state number moment gap; book = book } ∷ []
 decision_with o (Suppressed k state number moment why) book =
-    record { object = record { 0 = o }; outcome = Suppressed k state number moment why; book = book } ∷ []
+    record {
+      object = record { 0 = o };
+      outcome = Suppressed k state number moment why;
+      book = book;
+    } ∷ []
 
 -- what is decided of object o at an event, by the definitions, with the book after it
 abbrev pub decision_at : Config → Zone → ℕ → Object → Event → List Event → List Decision

@@ -41,7 +41,8 @@ decide_number objects context states books o =
     (slice_get objects o) []
 
 -- what is decided of the owned ones among the first objects
-abbrev pub decide_numbers : List Object → Share → EventContext → List State → List Book → (count : ℕ)
+abbrev pub decide_numbers : List Object → Share → EventContext → List State → List Book
+    → (count : ℕ)
     → List Decision
 decide_numbers objects share context states books count =
     flat_map (decide_number objects context states books) (owned_numbers share count)

@@ -22,7 +22,8 @@ use Rattle.decider.specs.Share.{owned_numbers}
 
 -- what contact k has of an attempt on object o: the filter that refused it, or its notices, in the
 -- order of the lanes
-abbrev pub contact_entries : Config → Zone → ℕ → Object → (event number : ℕ) → Attempt → ℕ → List Entry
+abbrev pub contact_entries : Config → Zone → ℕ → Object → (event number : ℕ) → Attempt → ℕ
+    → List Entry
 contact_entries c zone o object event number a k =
     map Withheld (refusal_of c zone o object event number a k)
     ++ flat_map (λ l. map Sent (notice_to c zone o object l event number a k))

@@ -112,7 +112,8 @@ pub record CanDecideEvent (k : Kept) (e : Event) : Type 0 where
 -- what is decided at an event by what is kept
 abbrev pub decisions_by : Kept → Event → List Decision
 decisions_by k e =
-    decide_numbers k.config.objects k.share (context_of k e) k.states k.books (length k.config.objects)
+    decide_numbers k.config.objects k.share (context_of k e) k.states k.books
+    (length k.config.objects)
 
 -- the entries of that
 abbrev pub entries_by : Kept → Event → List Entry

@@ -1,5 +1,4 @@
--- How each attempt is answered: by notices and suppressions, whatever the configuration and the
--- events.
+-- How each attempt is answered: by notices and suppressions, whatever the configuration and the events.
 use Rattle.std.specs.Prelude.{◌≡◌, ℕ, ◌⊎◌, Bool, true, false, List, [], ◌∷◌, length, filter, slice_get, Contains, ◌==◌, Option, None, Some, MatchOption, if◌then◌else◌}
 use Rattle.due_model.specs.declared.config.Config.{Config}
 use Rattle.due_model.specs.declared.config.Contact.{Contact}
@@ -38,8 +37,7 @@ pub record IsSilent (notices : ℕ → List Notice) (suppressions : List Suppres
   pub no_notice : (l : ℕ) → notices l ≡ []
   pub no_suppression : suppressions ≡ []
 
--- a filter of the object stops it: nobody is notified, and there is one suppression, which names no
--- contact
+-- a filter of the object stops it: nobody is notified, and there is one suppression, which names no contact
 pub record IsStopped (notices : ℕ → List Notice) (suppressions : List Suppression) : Type 0 where
   pub no_notice : (l : ℕ) → notices l ≡ []
   pub suppression : Suppression
@@ -59,12 +57,12 @@ pub record IsNotified (object : Object) (contact : Contact) (k : ℕ) (notices :
   pub not_refused : filter (names k) suppressions ≡ []
 
 -- contact k gets no notice, and one suppression names it, by one of its filters
-pub record IsRefused (k : ℕ) (notices : ℕ → List Notice)
-    (suppressions : List Suppression) : Type 0 where
-  pub not_notified : (l : ℕ) → filter (λ n. n.contact.0 == k) (notices l) ≡ []
-  pub suppression : Suppression
-  pub alone : filter (names k) suppressions ≡ suppression ∷ []
-  pub of_contact : is_of_contact suppression.filter ≡ true
+pub record IsRefused (k : ℕ) (notices : ℕ → List Notice) (suppressions : List Suppression) : Type 0
+  where
+    pub not_notified : (l : ℕ) → filter (λ n. n.contact.0 == k) (notices l) ≡ []
+    pub suppression : Suppression
+    pub alone : filter (names k) suppressions ≡ suppression ∷ []
+    pub of_contact : is_of_contact suppression.filter ≡ true
 
 -- each contact that a notice goes to is notified or refused
 abbrev pub ReachesEach : Config → Object → List ℕ → (ℕ → List Notice) → List Suppression → Type 0
@@ -80,20 +78,17 @@ attempt_of_event c zone o object e past = attempted o e.kind (status_after o pas
 -- the contacts that a notice of this kind at an event goes to
 abbrev pub receivers_at : Config → Zone → ℕ → Object → Event → List Event → Kind → List ℕ
 receivers_at c zone o object e past k =
-    receivers c zone o object (record {
-      kind = k;
-      state = hard o (e ∷ past);
-      moment = moment (e ∷ past);
-    })
+    receivers c zone o object
+    (record { kind = k; state = hard o (e ∷ past); moment = moment (e ∷ past) })
     (number_after (notices_sent (before o e past (hist c zone o object past))) k)
 
--- An event that attempts nothing leaves no trace. Each attempt is stopped by a filter of the
--- object, or each contact that it goes to is notified or refused (chapter "Notifications").
+-- An event that attempts nothing leaves no trace. Each attempt is stopped by a filter of the object, or each contact that it
+-- goes to is notified or refused (chapter "Notifications").
 abbrev pub EachAttemptIsAnswered : Type 0
 EachAttemptIsAnswered = (c : Config) (zone : Zone) (o : ℕ) (object : Object) (e : Event)
     (past : List Event)
     → MatchOption (attempt_of_event c zone o object e past)
     (IsSilent (λ l. due_at c zone o object l e past) (suppressed_at c zone o object e past))
     (λ k. IsStopped (λ l. due_at c zone o object l e past) (suppressed_at c zone o object e past)
-    ⊎ ReachesEach c object (receivers_at c zone o object e past k) (λ l.
-    due_at c zone o object l e past) (suppressed_at c zone o object e past))
+    ⊎ ReachesEach c object (receivers_at c zone o object e past k)
+    (λ l. due_at c zone o object l e past) (suppressed_at c zone o object e past))

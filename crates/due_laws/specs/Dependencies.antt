@@ -7,9 +7,8 @@ use Rattle.due_model.specs.declared.zone.Zone.{Zone}
 use Rattle.due_model.specs.Dependencies.{dependency_fails, has_state}
 use Rattle.due_model.specs.Periods.{in_period}
 
--- A chain of entries leads from object o to the master of the last: the first is of o, and each
--- other of the master of the one before it. The period of each holds at t, all but the last
--- inherit, and the hard state of the last one's master is among its states.
+-- A chain of entries leads from object o to the master of the last: the first is of o, and each other of the master of the one before
+-- it. The period of each holds at t, all but the last inherit, and the hard state of the last one's master is among its states.
 pub record IsFailingChain (c : Config) (zone : Zone) (states : ℕ → State) (t o : ℕ)
     (front : List Dependency) (last : Dependency) : Type 0 where
   pub entries : All (Contains c.dependencies) (front ++ last ∷ [])
@@ -19,8 +18,7 @@ pub record IsFailingChain (c : Config) (zone : Zone) (states : ℕ → State) (t
   pub inherited : All (λ entry. entry.inherits ≡ true) front
   pub listed : has_state last.states (states last.master.0) ≡ true
 
--- A dependency of an object fails exactly where there is such a chain (chapter "Host and Service
--- Dependencies").
+-- A dependency of an object fails exactly where there is such a chain (chapter "Host and Service Dependencies").
 abbrev pub DependenciesFailByChains : Type 0
 DependenciesFailByChains = (c : Config) (zone : Zone) (states : ℕ → State) (t o : ℕ)
     → IsTrue (dependency_fails c zone states t o)

@@ -1,5 +1,4 @@
--- What holds of the notices that are due and of the suppressions, whatever the configuration and
--- the events.
+-- What holds of the notices that are due and of the suppressions, whatever the configuration and the events.
 use Rattle.std.specs.Prelude.{◌≡◌, ◌≢◌, ℕ, ◌+◌, ◌-◌, ◌<◌, ◌≤◌, ◌⊎◌, true, false, List, ◌++◌, length, drop, reverse, slice_get, filter_map, All, AllPairs, Option, None, Some, if◌then◌else◌}
 use Rattle.std.specs.List.{range_with_len}
 use Rattle.std.specs.Option.{ForSome}
@@ -22,8 +21,7 @@ use Rattle.due_model.specs.Rules.{is_of_problem, is_problem, is_recovery}
 abbrev pub BeginsWith : {X : Type 0} → List X → List X → Type 0
 BeginsWith {X} xs front = (rest : List X) × (xs ≡ front ++ rest)
 
--- What was due stays due: what is due after a feed is the front of what is due after each longer
--- feed.
+-- What was due stays due: what is due after a feed is the front of what is due after each longer feed.
 abbrev pub DueOnlyGrows : Type 0
 DueOnlyGrows = (c : Config) (zone : Zone) (o l : ℕ) (feed more : List Event)
     → BeginsWith (due c zone o l (reverse (feed ++ more))) (due c zone o l (reverse feed))
@@ -33,13 +31,11 @@ abbrev pub SuppressionsOnlyGrow : Type 0
 SuppressionsOnlyGrow = (c : Config) (zone : Zone) (o : ℕ) (feed more : List Event)
     → BeginsWith (sup c zone o (reverse (feed ++ more))) (sup c zone o (reverse feed))
 
--- a notice comes before another: at an earlier event, or at the same one to a contact of a lesser
--- number
+-- a notice comes before another: at an earlier event, or at the same one to a contact of a lesser number
 abbrev pub ComesBefore : Notice → Notice → Type 0
 ComesBefore a b = (a.event < b.event) ⊎ ((a.event ≡ b.event) × (a.contact.0 < b.contact.0))
 
--- Notices stand in the order of their events, and those of one event in the order of their
--- contacts.
+-- Notices stand in the order of their events, and those of one event in the order of their contacts.
 abbrev pub NoticesStandInOrder : Type 0
 NoticesStandInOrder = (c : Config) (zone : Zone) (o l : ℕ) (past : List Event)
     → AllPairs ComesBefore (due c zone o l past)
@@ -73,8 +69,7 @@ pub record NothingHoldsBack (o : ℕ) (object : Object) (past : List Event) : Ty
   pub no_downtime : down o past ≡ false
   pub no_downtime_of_host : ForSome object.host (λ h. down h.0 past ≡ false)
 
--- A problem or a recovery is notified of only while nothing of that holds it back (chapter
--- "Notifications").
+-- A problem or a recovery is notified of only while nothing of that holds it back (chapter "Notifications").
 abbrev pub ProblemsAreHeldBack : Type 0
 ProblemsAreHeldBack = (c : Config) (zone : Zone) (o l : ℕ) (object : Object) (past : List Event)
     → slice_get c.objects o ≡ Some object
@@ -85,13 +80,13 @@ ProblemsAreHeldBack = (c : Config) (zone : Zone) (o l : ℕ) (object : Object) (
 abbrev pub last_problem : Config → Zone → ℕ → Object → List Event → List Outcome
 last_problem c zone o object past = of_problem o past (hist c zone o object past)
 
--- A recovery is notified of only after a problem notice of its problem went out (chapter
--- "Notifications").
+-- A recovery is notified of only after a problem notice of its problem went out (chapter "Notifications").
 abbrev pub RecoveriesFollowNotices : Type 0
-RecoveriesFollowNotices = (c : Config) (zone : Zone) (o l : ℕ) (object : Object) (past : List Event)
-    → slice_get c.objects o ≡ Some object
-    → All (λ n. is_recovery n.kind ≡ true → 0
-    < notices_sent (last_problem c zone o object (up_to past n.event))) (due c zone o l past)
+RecoveriesFollowNotices = (c : Config) (zone : Zone) (o l : ℕ) (object : Object)
+    (past : List Event) → slice_get c.objects o ≡ Some object
+    → All (λ n. is_recovery n.kind ≡ true
+    → 0 < notices_sent (last_problem c zone o object (up_to past n.event)))
+    (due c zone o l past)
 
 -- the number of an outcome that is a problem notice
 abbrev pub notice_number : Outcome → Option ℕ
@@ -99,26 +94,23 @@ notice_number Nothing = None
 notice_number (Sent k state number moment gap) = if is_problem k then Some number else None
 notice_number (Suppressed k state number moment why) = None
 
--- The problem notices of one problem are numbered 1, 2, 3 and so on (chapter "Notification
--- Escalations").
+-- The problem notices of one problem are numbered 1, 2, 3 and so on (chapter "Notification Escalations").
 abbrev pub NumbersGoUpByOne : Type 0
 NumbersGoUpByOne = (c : Config) (zone : Zone) (o : ℕ) (object : Object) (past : List Event)
     → filter_map notice_number (reverse (last_problem c zone o object past))
     ≡ range_with_len 1 (notices_sent (last_problem c zone o object past))
 
--- Of two problem notices of one problem in a row that report the same state, the second comes no
--- sooner than the gap of the first after it, and never where that gap is 0 (chapter
--- "Notifications").
+-- Of two problem notices of one problem in a row that report the same state, the second comes no sooner than the gap of the
+-- first after it, and never where that gap is 0 (chapter "Notifications").
 abbrev pub NoticesKeepTheirGaps : Type 0
 NoticesKeepTheirGaps = (c : Config) (zone : Zone) (o : ℕ) (object : Object) (past : List Event)
     (i : ℕ) (earlier later : Last)
     → slice_get (filter_map notice_of (last_problem c zone o object past)) i ≡ Some later
     → slice_get (filter_map notice_of (last_problem c zone o object past)) (i + 1) ≡ Some earlier
-    → earlier.state ≡ later.state → (0 < earlier.gap)
-    × (earlier.moment + earlier.gap ≤ later.moment)
+    → earlier.state ≡ later.state
+    → (0 < earlier.gap) × (earlier.moment + earlier.gap ≤ later.moment)
 
--- the number of a notice of this kind, after so many problem notices of its problem, its own
--- counted
+-- the number of a notice of this kind, after so many problem notices of its problem, its own counted
 abbrev pub number_carried : Kind → ℕ → ℕ
 number_carried kind.Problem sent = sent
 number_carried kind.Recovery sent = sent + 1

@@ -8,8 +8,7 @@ use Rattle.due_model.specs.Accepted.{IsAccepted}
 use Rattle.due_model.specs.Local.{local}
 use Rattle.due_model.specs.Periods.{in_period, next_in, ranges_on}
 
--- some range of the local weekday has the local second, and none of the periods that this one
--- excludes holds
+-- some range of the local weekday has the local second, and none of the periods that this one excludes holds
 pub record HoldsByRanges (c : Config) (zone : Zone) (t : ℕ) (period : Period) : Type 0 where
   pub in_a_range : Any (λ range. (range.start ≤ (local zone t).second)
       × ((local zone t).second < range.end)) (ranges_on period (local zone t).weekday)
@@ -28,9 +27,9 @@ pub record IsNext (c : Config) (zone : Zone) (period : Option PeriodId) (t m : �
   pub holds : in_period c zone period m ≡ true
   pub least : (k : ℕ) → t ≤ k → k < m → in_period c zone period k ≡ false
 
--- The next moment is that one; there is none where the period doesn't hold at any moment of 400
--- days.
+-- The next moment is that one; there is none where the period doesn't hold at any moment of 400 days.
 abbrev pub NextIsLeast : Type 0
 NextIsLeast = (c : Config) (zone : Zone) (period : Option PeriodId) (t : ℕ)
-    → MatchOption (next_in c zone period t) ((k : ℕ) → t ≤ k → k ≤ t + 34_560_000
-    → in_period c zone period k ≡ false) (IsNext c zone period t)
+    → MatchOption (next_in c zone period t)
+    ((k : ℕ) → t ≤ k → k ≤ t + 34_560_000 → in_period c zone period k ≡ false)
+    (IsNext c zone period t)

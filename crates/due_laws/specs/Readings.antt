@@ -33,11 +33,10 @@ tries_problem (Suppressed k s number m why) = is_problem k
 abbrev pub ready_after : Config → Zone → Object → (began : ℕ) → List Outcome → Outcome → Option ℕ
 ready_after c zone object began front Nothing = None
 ready_after c zone object began front (Sent k s number m gap) = next_notice m gap
-ready_after c zone object began front (Suppressed k s number m why) =
-    retry_after c zone object began (last_notice (reverse front)) m why
+ready_after c zone object began front (Suppressed k s number m why) = retry_after c zone object
+    began (last_notice (reverse front)) m why
 
--- When the next attempt as a problem is, follows from the last outcome of one; with none there is
--- no next.
+-- When the next attempt as a problem is, follows from the last outcome of one; with none there is no next.
 pub record IsReadyByLast : Type 0 where
   pub by_last : (c : Config) (zone : Zone) (object : Object) (began : ℕ) (front : List Outcome)
       (x : Outcome) (rest : List Outcome)
@@ -79,11 +78,12 @@ pub record Outnumbers (o : ℕ) (s : Event) (later : List Event) : Type 0 where
   pub at_each : (front rest : List Event) → later ≡ front ++ rest
       → ends_in o (s ∷ front) < starts_in o (s ∷ front)
 
--- The object is in downtime where from some start on starts outnumber ends and cancellations at
--- each event (chapter "Scheduled Downtime").
+-- The object is in downtime where from some start on starts outnumber ends and cancellations at each event (chapter
+-- "Scheduled Downtime").
 abbrev pub DownWhereStartsOutnumber : Type 0
 DownWhereStartsOutnumber = (o : ℕ) (feed : List Event)
-    → IsTrue (down o (reverse feed)) ↔ ((earlier : List Event) × (s : Event) × (later : List Event)
+    → IsTrue (down o (reverse feed))
+    ↔ ((earlier : List Event) × (s : Event) × (later : List Event)
     × (feed ≡ earlier ++ s ∷ later) × Outnumbers o s later)
 
 -- an event is a hard OK state of the object
@@ -112,8 +112,8 @@ is_pending_event (Hard p s) = is_pending s
 is_pending_event (Downtime p change) = false
 is_pending_event (Flapping p starts) = false
 
--- event b, with `later` after it, is a hard problem state of the object, and no event strictly
--- between it and the last is a hard OK state of it
+-- event b, with `later` after it, is a hard problem state of the object, and no event strictly between it and the last is a hard
+-- OK state of it
 pub record IsInProblem (o : ℕ) (b : Event) (later : List Event) : Type 0 where
   pub problem : is_problem_of o b.kind ≡ true
   pub unbroken : All (λ e. is_ok_of o e.kind ≡ false) (take (length later - 1) later)
@@ -124,9 +124,8 @@ pub record IsBegin (o : ℕ) (earlier : List Event) (b : Event) (later : List Ev
   pub least : (front : List Event) (x : Event) (rest : List Event) → earlier ≡ front ++ x ∷ rest
       → IsInProblem o x (rest ++ b ∷ later) → ⊥
 
--- A problem begins at the least event that is such: that is its moment, and the outcomes of the
--- problem, and its notices, are those from that event on. While the last hard state is a problem
--- there is such an event. No event of a feed is a pending state.
+-- A problem begins at the least event that is such: that is its moment, and the outcomes of the problem, and its notices, are
+-- those from that event on. While the last hard state is a problem there is such an event. No event of a feed is a pending state.
 pub record BeginIsLeast : Type 0 where
   pub at_moment : (o : ℕ) (earlier : List Event) (b : Event) (later : List Event)
       → All (λ e. is_pending_event e.kind ≡ false) (earlier ++ b ∷ later)
@@ -144,8 +143,8 @@ pub record BeginIsLeast : Type 0 where
       → All (λ e. is_pending_event e.kind ≡ false) (earlier ++ b ∷ later)
       → IsBegin o earlier b later
       → length before_it ≡ length earlier → length from_it ≡ length (b ∷ later)
-      → notices_sent (of_problem o (reverse (earlier ++ b ∷ later)) (reverse (before_it
-      ++ from_it))) ≡ notices_sent from_it
+      → notices_sent (of_problem o (reverse (earlier ++ b ∷ later))
+      (reverse (before_it ++ from_it))) ≡ notices_sent from_it
   pub exists : (o : ℕ) (feed : List Event) → All (λ e. is_pending_event e.kind ≡ false) feed
       → is_problem_state (hard o (reverse feed)) ≡ true
       → (earlier : List Event) × (b : Event) × (later : List Event) × (feed ≡ earlier ++ b ∷ later)
@@ -175,16 +174,14 @@ switch_of (Hard p s) = None
 switch_of (Downtime p change) = None
 switch_of (Flapping p starts) = None
 
--- a value is that of the last event of the feed that gives one; where none does, it is the first
--- value
+-- a value is that of the last event of the feed that gives one; where none does, it is the first value
 abbrev pub IsOfLastEvent : {X : Type 0} → (EventKind → Option X) → X → List Event → X → Type 0
 IsOfLastEvent gives first feed value =
     (All (λ e. gives e.kind ≡ None) feed × (value ≡ first))
     ⊎ ((front : List Event) × (e : Event) × (rest : List Event) × (feed ≡ front ++ e ∷ rest)
     × (gives e.kind ≡ Some value) × All (λ x. gives x.kind ≡ None) rest)
 
--- The hard state of an object is that of its last hard event; pending, where it has none (chapter
--- "State Types").
+-- The hard state of an object is that of its last hard event; pending, where it has none (chapter "State Types").
 abbrev pub HardIsOfLastEvent : Type 0
 HardIsOfLastEvent = (o : ℕ) (feed : List Event)
     → IsOfLastEvent (hard_state_of o) state.Pending feed (hard o (reverse feed))
@@ -194,8 +191,7 @@ abbrev pub FlappingIsOfLastEvent : Type 0
 FlappingIsOfLastEvent = (o : ℕ) (feed : List Event)
     → IsOfLastEvent (flapping_of o) false feed (flapping o (reverse feed))
 
--- The program switch is as the last event that sets it says; on, where none does (chapter "External
--- Commands").
+-- The program switch is as the last event that sets it says; on, where none does (chapter "External Commands").
 abbrev pub SwitchIsOfLastEvent : Type 0
-SwitchIsOfLastEvent = (feed : List Event) → IsOfLastEvent switch_of true feed
-    (program_on (reverse feed))
+SwitchIsOfLastEvent = (feed : List Event)
+    → IsOfLastEvent switch_of true feed (program_on (reverse feed))

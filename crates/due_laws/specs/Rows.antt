@@ -31,7 +31,8 @@ on_mail = record {
   enabled = true;
   options = every_letter;
   period = None;
-  lanes = record { 0 = 0 } ∷ [];
+  lanes = record { 0 = 0 }
+      ∷ [];
 }
 
 -- a contact who is notified by mail, of everything
@@ -88,8 +89,7 @@ SuppressionRow = ℕ × ℕ × Kind × State × Filter
 abbrev pub suppression_row : Suppression → SuppressionRow
 suppression_row s = (s.event, s.moment, s.kind, s.state, s.filter)
 
--- after these events, in feed order, object o has these notices on the lane mail and these
--- suppressions
+-- after these events, in feed order, object o has these notices on the lane mail and these suppressions
 pub record Gives (c : Config) (o : ℕ) (feed : List Event) (notices : List NoticeRow)
     (suppressions : List SuppressionRow) : Type 0 where
   pub due : map notice_row (due c Utc o 0 (reverse feed)) ≡ notices
@@ -108,23 +108,23 @@ Renotify = Gives base 0 (at 1000 (has 0 state.Down) ∷ at 1059 event.Clock ∷ 
     ((0, 1000, kind.Problem, state.Down, 1, 0) ∷ (2, 1060, kind.Problem, state.Down, 2, 0) ∷ []) []
 
 abbrev pub SameStateTooSoon : Type 0
-SameStateTooSoon = Gives base 0 (at 1000 (has 0 state.Down) ∷ at 1030 (has 0 state.Down)
-    ∷ at 1059 event.Clock ∷ at 1060 event.Clock ∷ [])
+SameStateTooSoon = Gives base 0
+    (at 1000 (has 0 state.Down) ∷ at 1030 (has 0 state.Down) ∷ at 1059 event.Clock
+    ∷ at 1060 event.Clock ∷ [])
     ((0, 1000, kind.Problem, state.Down, 1, 0) ∷ (3, 1060, kind.Problem, state.Down, 2, 0) ∷ [])
     ((1, 1030, kind.Problem, state.Down, filter.Interval) ∷ [])
 
 abbrev pub ProgramSwitch : Type 0
-ProgramSwitch = Gives base 0 (at 1000 (event.Program false) ∷ at 1000 (has 0 state.Down)
-    ∷ at 1005 (event.Program true) ∷ at 1010 (has 0 state.Up) ∷ [])
+ProgramSwitch = Gives base 0
+    (at 1000 (event.Program false) ∷ at 1000 (has 0 state.Down) ∷ at 1005 (event.Program true)
+    ∷ at 1010 (has 0 state.Up) ∷ [])
     []
     ((1, 1000, kind.Problem, state.Down, filter.Program)
     ∷ (3, 1010, kind.Recovery, state.Up, filter.NoProblem) ∷ [])
 
 abbrev pub with_bob : List Escalation → Config
-with_bob escalations = record base {
-  contacts = by_mail (codes "ann") ∷ by_mail (codes "bob") ∷ [];
-  escalations = escalations;
-}
+with_bob escalations = record base
+    { contacts = by_mail (codes "ann") ∷ by_mail (codes "bob") ∷ []; escalations = escalations }
 
 -- an escalation of object o to one contact
 abbrev pub escalation : (o first last interval contact : ℕ) → Escalation
@@ -154,8 +154,7 @@ overlap = record base {
   escalations = escalation 0 3 5 45 1 ∷ escalation 0 4 0 60 2 ∷ [];
 }
 
--- the manual's overlapping escalations (chapter "Notification Escalations", "Notification
--- Intervals")
+-- the manual's overlapping escalations (chapter "Notification Escalations", "Notification Intervals")
 abbrev pub OverlappingEscalations : Type 0
 OverlappingEscalations = Gives overlap 0
     (at 0 (has 0 state.Down) ∷ at 600 event.Clock ∷ at 1200 event.Clock ∷ at 1800 event.Clock
@@ -170,12 +169,10 @@ OverlappingEscalations = Gives overlap 0
 
 -- after a notice with the interval 0 none follows until the state changes
 abbrev pub IntervalZero : Type 0
-IntervalZero = Gives (record (with_bob (escalation 1 4 6 0 1 ∷ [])) {
-  objects = web
-      ∷ service (codes "PING") ∷ [];
-}) 1
-    (at 1000 (has 1 state.Warning) ∷ at 1060 event.Clock ∷ at 1120 event.Clock ∷ at 1180 event.Clock
-    ∷ at 1240 event.Clock ∷ at 9999 event.Clock
+IntervalZero = Gives (record (with_bob (escalation 1 4 6 0 1 ∷ []))
+    { objects = web ∷ service (codes "PING") ∷ [] }) 1
+    (at 1000 (has 1 state.Warning) ∷ at 1060 event.Clock ∷ at 1120 event.Clock
+    ∷ at 1180 event.Clock ∷ at 1240 event.Clock ∷ at 9999 event.Clock
     ∷ at 10000 (has 1 state.Critical) ∷ at 20000 event.Clock ∷ [])
     ((0, 1000, kind.Problem, state.Warning, 1, 0) ∷ (1, 1060, kind.Problem, state.Warning, 2, 0)
     ∷ (2, 1120, kind.Problem, state.Warning, 3, 0)
@@ -204,7 +201,8 @@ with_ping = record base { objects = web ∷ service (codes "PING") ∷ [] }
 
 -- downtimes nest, and a host's holds its services' problems back
 abbrev pub NestedDowntimes : Type 0
-NestedDowntimes = Gives with_ping 0 nested ((0, 1000, kind.DowntimeStart, state.Pending, 0, 0)
+NestedDowntimes = Gives with_ping 0 nested
+    ((0, 1000, kind.DowntimeStart, state.Pending, 0, 0)
     ∷ (4, 1040, kind.DowntimeCancelled, state.Pending, 0, 0) ∷ []) []
     × Gives with_ping 1 nested [] ((1, 1010, kind.Problem, state.Critical, filter.Downtime) ∷ [])
 
@@ -214,8 +212,8 @@ WhileFlapping = Gives base 0
     ∷ at 1020 (event.Flapping (record { 0 = 0 }) false) ∷ at 1069 event.Clock
     ∷ at 1070 event.Clock ∷ [])
     ((0, 1000, kind.FlappingStart, state.Pending, 0, 0)
-    ∷ (2, 1020, kind.FlappingStop, state.Down, 0, 0) ∷ (4, 1070, kind.Problem, state.Down, 1, 0)
-    ∷ [])
+    ∷ (2, 1020, kind.FlappingStop, state.Down, 0, 0)
+    ∷ (4, 1070, kind.Problem, state.Down, 1, 0) ∷ [])
     ((1, 1010, kind.Problem, state.Down, filter.Flapping) ∷ [])
 
 -- objects 1, 2 and 3 are the services A, C and B of web: A depends on B, and B on C
@@ -253,18 +251,12 @@ chain inherits = record base {
 abbrev pub both_critical : List Event
 both_critical = at 1000 (has 2 state.Critical) ∷ at 1000 (has 1 state.Critical) ∷ []
 
--- a dependency that inherits fails where its master's fails; one that doesn't looks at its master
--- alone
+-- a dependency that inherits fails where its master's fails; one that doesn't looks at its master alone
 abbrev pub DependencyChain : Type 0
-DependencyChain = Gives (chain true) 2 both_critical ((0, 1000, kind.Problem, state.Critical, 1, 0)
-    ∷ []) []
-    × Gives (chain true) 1 both_critical [] ((
-      1,
-      1000,
-      kind.Problem,
-      state.Critical,
-      filter.Dependency,
-    ) ∷ [])
+DependencyChain = Gives (chain true) 2 both_critical
+    ((0, 1000, kind.Problem, state.Critical, 1, 0) ∷ []) []
+    × Gives (chain true) 1 both_critical []
+    ((1, 1000, kind.Problem, state.Critical, filter.Dependency) ∷ [])
     × Gives (chain false) 1 both_critical ((1, 1000, kind.Problem, state.Critical, 1, 0) ∷ []) []
 
 abbrev pub FirstDelay : Type 0
@@ -307,19 +299,14 @@ refusal = record {
 }
 
 abbrev pub ContactOptions : Type 0
-ContactOptions = sup (record base {
-  contacts = record (by_mail (codes "ann"))
-      { hosts = not_recoveries } ∷ [];
-}) Utc 0
+ContactOptions = sup (record base
+    { contacts = record (by_mail (codes "ann")) { hosts = not_recoveries } ∷ [] }) Utc 0
     (reverse (at 1000 (has 0 state.Down) ∷ at 1010 (has 0 state.Up) ∷ [])) ≡ refusal ∷ []
 
 -- a period that holds on Thursdays, but not where these others do
 abbrev pub thursdays : List Range → List PeriodId → Period
-thursdays ranges excludes = record {
-  name = codes "day";
-  days = replicate 4 [] ++ ranges ∷ [] ∷ [] ∷ [];
-  excludes = excludes;
-}
+thursdays ranges excludes = record
+    { name = codes "day"; days = replicate 4 [] ++ ranges ∷ [] ∷ [] ∷ []; excludes = excludes }
 
 -- period 0 is all of Thursday without lunch, period 1 is lunch without tea, period 2 is tea
 abbrev pub meals : Config
