@@ -1,0 +1,5 @@
+pub mod StretchLemmas
+pub mod WalkLemmas
+pub mod DayLemmas
+pub mod DoneLemmas
+pub mod ExclusionLemmas

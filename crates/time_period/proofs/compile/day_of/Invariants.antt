@@ -1,0 +1,9 @@
+use Rattle.std.proofs.Common.{◌-◌}
+use Rattle.time_period.specs.Days.{IsMade, holds_without}
+use Rattle.time_period.proofs.compile.day_of.Given as goal
+
+abbrev pub invariant-loop-start : goal.invariant-loop-start
+invariant-loop-start l = IsMade (holds_without l.period l.done l.weekday) l.start l.day.items
+
+abbrev pub decreases-loop-start : goal.decreases-loop-start
+decreases-loop-start l = 86400 - l.start

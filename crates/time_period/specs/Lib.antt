@@ -1,0 +1,4 @@
+pub mod Stretches
+pub mod Days
+pub mod Walks
+pub mod Exclusions

@@ -1,0 +1,33 @@
+//! The ranges of one day.
+
+ghost use Rattle.std.specs.Prelude.{◌<◌};
+ghost use Rattle.time_period.specs.Days.{IsDay, in_ranges};
+ghost use Rattle.time_period.specs.Stretches.{IsStretch};
+
+use crate::stretch::Stretch;
+use due_model::config::Range;
+
+/// Whether some range holds the second, and a second up to which that stays. The ranges stand in any order.
+pub(crate) fn stretch_of(ranges: &[Range], second: u32) -> Stretch
+    requires { second < 86400 }
+    ensures { IsStretch (in_ranges ranges.now) second result }
+{
+    let mut stretch = Stretch::never();
+    for range in ranges {
+        stretch = stretch.or(Stretch::of_range(*range, second));
+    }
+    stretch
+}
+
+/// The same of a day's ranges, which stand in order: a binary search.
+pub(crate) fn stretch_in(day: &[Range], second: u32) -> Stretch
+    requires day { IsDay day.now }
+    requires second { second < 86400 }
+    ensures { IsStretch (in_ranges day.now) second result }
+{
+    let place = day.partition_point(|range| range.end <= second);
+    match day.get(place) {
+        Some(range) => Stretch::of_range(*range, second),
+        None => Stretch::never(),
+    }
+}

@@ -1,0 +1,75 @@
+//! A stretch of a day in which something holds, or doesn't.
+
+ghost use Rattle.std.specs.Prelude.{◌≡◌, ℕ, ◌<◌, ◌≤◌, ◌&&◌, ◌||◌, Bool, true, false, not, nat_le, nat_lt};
+
+use due_model::config::Range;
+
+/// How many seconds a day has.
+pub(crate) const DAY: u32 = 86_400;
+
+/// Whether something holds at a second of the day, and a second up to which that stays.
+#[derive(Clone, Copy)]
+pub(crate) struct Stretch {
+    pub(crate) holds: bool,
+    pub(crate) end: u32,
+    ghost in_day: { end ≤ 86400 },
+}
+
+impl Stretch {
+    ghost use Rattle.due_model.specs.Periods.{in_range};
+    ghost use Rattle.time_period.specs.Stretches.{IsStretch};
+
+    /// Up to the end of the day it doesn't hold.
+    pub(crate) fn never() -> Stretch
+        ensures holds { result.holds ≡ false }
+        ensures end { result.end ≡ 86400 }
+    {
+        Stretch {
+            holds: false,
+            end: DAY,
+        }
+    }
+
+    /// A range holds its start, and not its end.
+    pub(crate) fn of_range(range: Range, second: u32) -> Stretch
+        requires { second < 86400 }
+        ensures stretch { IsStretch (λ k. in_range k range) second result }
+        ensures ends { range.start ≤ range.end → second < range.end → result.end ≤ range.end }
+    {
+        if second < range.start {
+            Stretch {
+                holds: false,
+                end: range.start.min(DAY),
+            }
+        } else if second < range.end {
+            Stretch {
+                holds: true,
+                end: range.end.min(DAY),
+            }
+        } else {
+            Stretch::never()
+        }
+    }
+
+    /// Where either holds.
+    pub(crate) fn or(self, other: Stretch) -> Stretch
+        ensures { (f g : ℕ → Bool) (from : ℕ) → IsStretch f from self → IsStretch g from other
+            → IsStretch (λ k. f k || g k) from result }
+    {
+        Stretch {
+            holds: self.holds || other.holds,
+            end: self.end.min(other.end),
+        }
+    }
+
+    /// Where the one holds and the other doesn't.
+    pub(crate) fn without(self, other: Stretch) -> Stretch
+        ensures { (f g : ℕ → Bool) (from : ℕ) → IsStretch f from self → IsStretch g from other
+            → IsStretch (λ k. f k && not (g k)) from result }
+    {
+        Stretch {
+            holds: self.holds && !other.holds,
+            end: self.end.min(other.end),
+        }
+    }
+}
