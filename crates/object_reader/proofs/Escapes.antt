@@ -1,10 +1,12 @@
 -- The first ; without a backslash before it, and ; for \;, as they are written and as they are found.
-use Rattle.std.proofs.Common.{◌≡◌, ℕ, zero, suc, ◌+◌, ◌-◌, ◌<◌, ◌⊎◌, inl, inr, Bool, true, false, not, ◌&&◌, ◌||◌, ◌==◌, List, [], ◌∷◌, ◌++◌, length, take, drop, get_or, refl, sym, ap, subst, ◌∙◌, arith, tests, add-one, append_assoc}
-use Rattle.std.proofs.lemmas.Bool.{and_parts, and_from}
+use Rattle.std.proofs.Common.{◌≡◌, ℕ, zero, suc, ◌+◌, ◌-◌, ◌<◌, ◌≤◌, ◌⊎◌, inl, inr, Bool, true, false, not, ◌&&◌, ◌||◌, ◌==◌, List, [], ◌∷◌, ◌++◌, length, take, drop, get_or, refl, sym, ap, subst, ◌∙◌, arith, tests, add-one, append_assoc}
+use Rattle.std.proofs.lemmas.Bool.{and_parts, and_from, false_from_ne_true}
 use Rattle.std.proofs.lemmas.List.{take_more, append-nil, nil_from_length}
 use Rattle.std.proofs.Math.Seq.{drop-cons, drop-length, take-length}
-use Rattle.std.specs.List.{list_all, list_any}
+use Rattle.std.specs.List.{list_all}
+use Rattle.memchr.specs.Find.{Passes, is_byte2}
 use Rattle.object_reader.specs.Blanks.{is_blank, AreBlanks, trim_start, trimmed}
+use Rattle.object_reader.specs.Lines.{HasNoSemicolon}
 use Rattle.object_reader.specs.Joined.{EndsInBackslash}
 use Rattle.object_reader.specs.Statements.{starts_semicolon, is_bare, bare_from, unescaped}
 use Rattle.object_reader.specs.DayLines.{separated}
@@ -330,32 +332,38 @@ pub all_unescaped : (whole so_far left : List ℕ) → unescaped whole ≡ so_fa
 unfolding unescaped
 all_unescaped whole so_far left done e = done ∙ ap (λ x. so_far ++ unescaped x) (nil_from_length left e) ∙ append-nil so_far
 
--- bytes in which no ; is found
+-- bytes without ;
 
-plain_taken : (n : ℕ) (bs : List ℕ) → list_all (λ b. not (b == 59)) bs ≡ true → list_all (λ b. not (b == 59)) (take n bs) ≡ true
+pub plain_taken : (n : ℕ) (bs : List ℕ) → HasNoSemicolon bs → HasNoSemicolon (take n bs)
 plain_taken zero bs h = refl
 plain_taken (suc n) [] h = refl
 plain_taken (suc n) (b ∷ bs) h =
     let parts = and_parts (not (b == 59)) (list_all (λ b. not (b == 59)) bs) h in
     and_from (not (b == 59)) (list_all (λ b. not (b == 59)) (take n bs)) parts.0 (plain_taken n bs parts.1)
 
-plain_dropped : (n : ℕ) (bs : List ℕ) → list_all (λ b. not (b == 59)) bs ≡ true → list_all (λ b. not (b == 59)) (drop n bs) ≡ true
+plain_dropped : (n : ℕ) (bs : List ℕ) → HasNoSemicolon bs → HasNoSemicolon (drop n bs)
 plain_dropped zero bs h = h
 plain_dropped (suc n) [] h = refl
 plain_dropped (suc n) (b ∷ bs) h = plain_dropped n bs (and_parts (not (b == 59)) (list_all (λ b. not (b == 59)) bs) h).1
 
-none_found : (bs : List ℕ) → list_any (λ b. b == 59) bs ≡ false → list_all (λ b. not (b == 59)) bs ≡ true
-none_found [] h = refl
-none_found (b ∷ bs) h =
-    let parts = head_no (b == 59) (list_any (λ b. b == 59) bs) h in
-    and_from (not (b == 59)) (list_all (λ b. not (b == 59)) bs) (ap not parts.0) (none_found bs parts.1) where
-      head_no : (s t : Bool) → (s || t) ≡ false → (s ≡ false) × (t ≡ false)
-      head_no true t e = let never : ⊥ = cc in absurd never
-      head_no false t e = (refl, e)
-
 -- they have no comment and no escape
-pub plain_meant : (bs : List ℕ) → list_any (λ b. b == 59) bs ≡ false → unescaped (trimmed (bare_from 0 bs)) ≡ trimmed bs
+pub plain_meant : (bs : List ℕ) → HasNoSemicolon bs → unescaped (trimmed (bare_from 0 bs)) ≡ trimmed bs
 plain_meant bs h =
-    let all = none_found bs h in
-    let bare : bare_from 0 bs ≡ bs = bare_all 0 bs (ap (covered 0) (sym (append-nil bs)) ∙ covered_part 0 bs [] all (λ l. refl)) in
-    ap (λ x. unescaped (trimmed x)) bare ∙ unescaped_plain (trimmed bs) (plain_taken _ (trim_start bs) (plain_dropped _ bs all))
+    let bare : bare_from 0 bs ≡ bs = bare_all 0 bs (ap (covered 0) (sym (append-nil bs)) ∙ covered_part 0 bs [] h (λ l. refl)) in
+    ap (λ x. unescaped (trimmed x)) bare ∙ unescaped_plain (trimmed bs) (plain_taken _ (trim_start bs) (plain_dropped _ bs h))
+
+-- none of the first bytes of a text is one
+pub plain_front : (n : ℕ) (text : List ℕ) → n ≤ length text → ((k : ℕ) → k < n → (get_or text k 0 == 59) ≡ false) → HasNoSemicolon (take n text)
+plain_front zero text within none = refl
+plain_front (suc n) [] within none = refl
+plain_front (suc n) (b ∷ bs) within none =
+    and_from (not (b == 59)) (list_all (λ b. not (b == 59)) (take n bs)) (ap not (none 0 (omega arith))) (plain_front n bs (omega arith) (λ k below. none (suc k) (omega arith)))
+
+-- a search for newlines and semicolons told of none
+
+or_second : (s t : Bool) → t ≡ true → (s || t) ≡ true
+or_second true t e = refl
+or_second false t e = e
+
+pub none_seen : (text : List ℕ) (n : ℕ) → n ≤ length text → ((k : ℕ) → 0 ≤ k → k < n → Passes (is_byte2 10 59) text k → ⊥) → HasNoSemicolon (take n text)
+none_seen text n within none = plain_front n text within (λ k below. false_from_ne_true _ (λ e. none k (omega arith) below (or_second (get_or text k 0 == 10) _ e)))

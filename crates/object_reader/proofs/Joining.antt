@@ -1,5 +1,5 @@
 -- Joined lines, as they are written and as they are found.
-use Rattle.std.proofs.Common.{◌≡◌, ℕ, ◌+◌, ◌-◌, ◌<◌, ◌≤◌, ◌⊎◌, inl, inr, Bool, true, false, not, ◌==◌, nat_lt, List, [], ◌∷◌, ◌++◌, Result, Ok, Err, length, take, get_or, refl, sym, ap, subst, ◌∙◌, arith, tests, append_assoc, length-append}
+use Rattle.std.proofs.Common.{◌≡◌, ℕ, ◌+◌, ◌-◌, ◌<◌, ◌≤◌, ◌⊎◌, inl, inr, Bool, true, false, not, ◌&&◌, ◌==◌, nat_lt, List, [], ◌∷◌, ◌++◌, Result, Ok, Err, length, take, get_or, refl, sym, ap, subst, ◌∙◌, arith, tests, append_assoc, length-append}
 use Rattle.std.proofs.lemmas.Bool.{false_from_ne_true, cases_lt}
 use Rattle.std.proofs.lemmas.List.{nil_from_length}
 use Rattle.std.proofs.lemmas.Str.{IsUtf8-from_is_utf8, is_utf8-from_IsUtf8}
@@ -11,8 +11,9 @@ use Rattle.object_reader.specs.declared.fault.LineFault.TheVariants.{NotUtf8, Li
 use Rattle.object_reader.specs.Blanks.{is_blank, trim_start}
 use Rattle.object_reader.specs.declared.fault.ReadFault.TheVariants.{AtLine}
 use Rattle.object_reader.specs.Blocks.{BreaksFirst}
-use Rattle.object_reader.specs.Lines.{Line, lines_of, content}
+use Rattle.object_reader.specs.Lines.{Line, lines_of, content, HasNoSemicolon}
 use Rattle.object_reader.specs.Joined.{JoinedLine, IsFaultOf, HasNoFault, EndsInBackslash, GoesOn, EndsHere, IsPutAfter, IsJoined, AreJoined, ends_in_backslash, without_last, Piece, piece_of, line_piece, put_after, onto_first, joined_with, joined_from}
+use Rattle.object_reader.proofs.Escapes.{plain_taken}
 use Rattle.object_reader.proofs.Trimming.{before_fails, blanks_from, blanks_trimmed, left_tight, trimmed_parts, trim_across}
 
 -- the last byte
@@ -251,3 +252,28 @@ no_lines n text e = ap (λ t. joined_from n (lines_of t)) (nil_from_length text 
 pub no_lines_left : (text : List ℕ) → length text ≡ 0 → lines_of text ≡ []
 unfolding lines_of
 no_lines_left text e = ap lines_of (nil_from_length text e)
+
+-- a piece has no semicolon where its line has none
+
+content_plain : (l : Line) → HasNoSemicolon l.bytes → HasNoSemicolon (content l)
+unfolding content
+content_plain l h = by_test (l.ended && (get_or l.bytes (length l.bytes - 1) 0 == 13)) refl where
+  by_test : (t : Bool) → (l.ended && (get_or l.bytes (length l.bytes - 1) 0 == 13)) ≡ t → HasNoSemicolon (content l)
+  by_test true e = rw e (plain_taken (length l.bytes - 1) l.bytes h)
+  by_test false e = rw e h
+
+piece_plain : (bs : List ℕ) → HasNoSemicolon bs → HasNoSemicolon (piece_of bs).bytes
+unfolding piece_of
+piece_plain bs h = by_last (ends_in_backslash bs) refl where
+  by_last : (t : Bool) → ends_in_backslash bs ≡ t → HasNoSemicolon (piece_of bs).bytes
+  by_last true e = rw e (plain_taken (length bs - 1) bs h)
+  by_last false e = rw e h
+
+pub line_plain : (l : Line) (p : Piece) → line_piece l ≡ Ok p → HasNoSemicolon l.bytes → HasNoSemicolon p.bytes
+line_plain l p e h = by_fault (faulty_or_not l) where
+  by_fault : FaultyOrNot l → HasNoSemicolon p.bytes
+  by_fault (inl (f, fault)) = let none : Err f ≡ Ok p = sym (faulty_piece l f fault) ∙ e in let never : ⊥ = cc in absurd never
+  by_fault (inr sound) =
+      let same : Ok (piece_of (content l)) ≡ Ok p = sym (sound_piece l sound) ∙ e in
+      let is : piece_of (content l) ≡ p = cc in
+      subst (λ (q : Piece). HasNoSemicolon q.bytes) is (piece_plain (content l) (content_plain l h))

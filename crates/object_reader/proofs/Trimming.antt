@@ -1,9 +1,9 @@
 -- Lists up to the first element that passes, and blanks at their ends.
-use Rattle.std.proofs.Common.{◌≡◌, ℕ, suc, ◌+◌, ◌-◌, ◌<◌, ◌≤◌, ◌⊎◌, inl, inr, Option, None, Some, nat_lt, Bool, true, false, not, List, [], ◌∷◌, ◌++◌, length, take, drop, get_or, reverse, refl, sym, ap, subst, ◌∙◌, arith, tests, one-add, append_assoc, length-append}
+use Rattle.std.proofs.Common.{◌≡◌, ℕ, suc, ◌+◌, ◌-◌, ◌<◌, ◌≤◌, ◌⊎◌, inl, inr, Option, None, Some, nat_lt, nat_le, ◌==◌, Bool, true, false, not, List, [], ◌∷◌, ◌++◌, length, take, drop, get_or, reverse, refl, sym, ap, subst, ◌∙◌, arith, tests, one-add, append_assoc, length-append}
 use Rattle.std.proofs.lemmas.Bool.{and_parts, and_from}
 use Rattle.std.proofs.lemmas.List.{take-append-drop, reverse-append, length-reverse, append-nil}
 use Rattle.std.proofs.Math.Seq.{drop-append_seam, take-append_seam, drop-length, take-length}
-use Rattle.std.proofs.lemmas.List.Sums.{prefix_len-le-length}
+use Rattle.std.proofs.lemmas.List.Sums.{prefix_len-le-length, position_or_len_is, fails_before_first}
 use Rattle.std.specs.Option.{unwrap_or}
 use Rattle.std.specs.List.{position, position_or_len, prefix_len, suffix_len, before_first, list_all}
 use Rattle.object_reader.specs.Blanks.{is_blank, trim_start, without_end, AreBlanks, BeginsTight}
@@ -201,3 +201,50 @@ first_place p xs place found here is = by_place (nat_lt (position_or_len p xs) (
       let last : place ≡ length xs = is ∙ ap (λ o. unwrap_or o (length xs)) none in
       let beyond : length xs ≤ position_or_len p xs = search (arith, tests) in
       (omega (arith, last), omega (arith, last, beyond, within))
+
+-- the first place by a test that more elements pass
+
+place_of : (p : ℕ → Bool) (xs : List ℕ) (place : ℕ) → position p xs ≡ Some place → (position_or_len p xs ≡ place) × (place < length xs)
+place_of p xs place is = by_test (nat_lt (position_or_len p xs) (length xs)) refl where
+  by_test : (t : Bool) → nat_lt (position_or_len p xs) (length xs) ≡ t → (position_or_len p xs ≡ place) × (place < length xs)
+  by_test true e =
+      let found : Some (position_or_len p xs) ≡ Some place = rw e at is in
+      let same : position_or_len p xs ≡ place = cc in
+      let below : position_or_len p xs < length xs = search (arith, tests) in
+      (same, omega (arith, same, below))
+  by_test false e = let none : None ≡ Some place = rw e at is in let never : ⊥ = cc in absurd never
+
+blank_low : (b : ℕ) → nat_le b 32 ≡ false → is_blank b ≡ false
+blank_low b h = by_space (b == 32) refl where
+  by_tab : (t : Bool) → (b == 9) ≡ t → (b == 9) ≡ false
+  by_tab false e = e
+  by_tab true e = let is : b ≡ 9 = grind (arith, tests) in let low : nat_le b 32 ≡ true = rw is refl in let never : ⊥ = cc in absurd never
+
+  by_space : (t : Bool) → (b == 32) ≡ t → is_blank b ≡ false
+  by_space false e = rw e (by_tab (b == 9) refl)
+  by_space true e = let is : b ≡ 32 = grind (arith, tests) in let low : nat_le b 32 ≡ true = rw is refl in let never : ⊥ = cc in absurd never
+
+pub blank_found : (bs : List ℕ) (place : ℕ) (found : Option ℕ) → found ≡ position (λ b. nat_le b 32) bs → found ≡ Some place → is_blank (get_or bs place 0) ≡ true
+    → Some place ≡ position is_blank bs
+blank_found bs place found here is blank =
+    let at = place_of (λ b. nat_le b 32) bs place (sym here ∙ is) in
+    let first : position_or_len is_blank bs ≡ place =
+        position_or_len_is is_blank bs place 0 (omega (arith, at.1))
+        (λ k below. blank_low (get_or bs k 0) (fails_before_first (λ b. nat_le b 32) bs k 0 (omega (arith, below, at.0)))) (λ within. blank) in
+    let below : nat_lt place (length bs) ≡ true = search (arith, tests, at.1) in
+    rw (first, below) refl
+
+pub no_blank : (bs : List ℕ) (found : Option ℕ) → found ≡ position (λ b. nat_le b 32) bs → found ≡ None → None ≡ position is_blank bs
+no_blank bs found here is = by_test (nat_lt (position_or_len (λ b. nat_le b 32) bs) (length bs)) refl where
+  none : position (λ b. nat_le b 32) bs ≡ None
+  none = sym here ∙ is
+
+  by_test : (t : Bool) → nat_lt (position_or_len (λ b. nat_le b 32) bs) (length bs) ≡ t → None ≡ position is_blank bs
+  by_test true e = let some : Some (position_or_len (λ b. nat_le b 32) bs) ≡ None = rw e at none in let never : ⊥ = cc in absurd never
+  by_test false e =
+      let last : length bs ≤ position_or_len (λ b. nat_le b 32) bs = search (arith, tests) in
+      let first : position_or_len is_blank bs ≡ length bs =
+          position_or_len_is is_blank bs (length bs) 0 (omega arith)
+          (λ k below. blank_low (get_or bs k 0) (fails_before_first (λ b. nat_le b 32) bs k 0 (omega (arith, below, last)))) (λ within. absurd (omega (arith, within))) in
+      let beyond : nat_lt (length bs) (length bs) ≡ false = search (arith, tests) in
+      rw (first, beyond) refl

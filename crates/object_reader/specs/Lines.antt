@@ -28,3 +28,7 @@ AreLines text [] = text ≡ []
 AreLines text (l ∷ ls) = IsTrue (list_all (λ b. not (b == 10)) l.bytes)
     × (((rest : List ℕ) × (l.ended ≡ true) × (text ≡ l.bytes ++ 10 ∷ rest) × AreLines rest ls)
     ⊎ ((l.ended ≡ false) × (0 < length l.bytes) × (text ≡ l.bytes) × (ls ≡ [])))
+
+-- No byte is a semicolon.
+abbrev pub HasNoSemicolon : List ℕ → Type 0
+HasNoSemicolon bs = IsTrue (list_all (λ b. not (b == 59)) bs)

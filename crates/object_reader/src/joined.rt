@@ -1,17 +1,16 @@
 //! The joined lines of a text: a line that ends in a backslash goes on in the next (chapter "Object
 //! Configuration Overview").
 
-ghost use Rattle.std.specs.Prelude.{◌≡◌, ◌∷◌, [], true, length, ◌≤◌, Ok, Err, MatchResult, MatchOption};
+ghost use Rattle.std.specs.Prelude.{◌≡◌, ◌∷◌, [], true, length, ◌≤◌, Ok, Err, IfOk, IfSome, MatchResult, MatchOption};
 ghost use Rattle.std.specs.Cow.{cow_slice_items};
 ghost use Rattle.std.specs.Str.{is_utf8};
 ghost use Rattle.object_reader.specs.Blocks.{BreaksFirst};
 ghost use Rattle.object_reader.specs.Joined.{JoinedLine, Piece, ends_in_backslash, piece_of, line_piece, onto_first, joined_from};
-ghost use Rattle.object_reader.specs.Lines.{Line, lines_of};
+ghost use Rattle.object_reader.specs.Lines.{Line, lines_of, HasNoSemicolon};
 
 use crate::blanks::trim_start;
 use crate::fault::{LineFault, ReadFault};
 use crate::line::{TextLine, content, split_line};
-use crate::text::LineText;
 use std::alloc::Global;
 use std::borrow::CowSlice;
 use std::marker::Model;
@@ -79,6 +78,17 @@ fn line_piece(line: TextLine<'_>, known: bool) -> Result<LinePiece<'_>, LineFaul
         return Err(LineFault::NotUtf8);
     }
     Ok(piece_of(content(line)))
+}
+
+/// A joined line.
+#[derive(Drop)]
+pub(crate) struct Joined<'a> {
+    /// The number of its first physical line.
+    pub(crate) line: u64,
+    /// Its bytes, which are a part of the text where it is one physical line.
+    pub(crate) text: CowSlice<'a, u8>,
+    /// Whether it was seen to have no `;`.
+    pub(crate) plain: bool,
 }
 
 /// The joined lines of a text that are left.
@@ -149,13 +159,15 @@ impl<'a> JoinedReader<'a> {
         Ok(joined)
     }
 
-    /// The next joined line. It is a part of the text where it is one physical line.
-    pub(crate) fn next(&mut self, alloc: Global) -> Result<Option<LineText<'a>>, ReadFault>
-        ensures { MatchResult result
+    /// The next joined line.
+    pub(crate) fn next(&mut self, alloc: Global) -> Result<Option<Joined<'a>>, ReadFault>
+        ensures lines { MatchResult result
             (λ found. MatchOption found (self.old ≡ [])
             (λ j. self.old
             ≡ (record { line = j.line; text = Ok (cow_slice_items j.text) }) ∷ self.new))
             (λ fault. BreaksFirst fault self.old) }
+        ensures plain { IfOk result (λ found. IfSome found
+            (λ j. j.plain ≡ true → HasNoSemicolon (cow_slice_items j.text))) }
     {
         if self.rest.is_empty() {
             return Ok(None);
@@ -171,14 +183,16 @@ impl<'a> JoinedReader<'a> {
             }),
             Ok(piece) if piece.goes_on => {
                 let joined = self.join(alloc, number, piece.bytes)?;
-                Ok(Some(LineText {
+                Ok(Some(Joined {
                     line: number,
                     text: CowSlice::Owned(joined),
+                    plain: false,
                 }))
             }
-            Ok(piece) => Ok(Some(LineText {
+            Ok(piece) => Ok(Some(Joined {
                 line: number,
                 text: CowSlice::Borrowed(piece.bytes),
+                plain: line.plain,
             })),
         }
     }

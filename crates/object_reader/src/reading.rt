@@ -35,7 +35,7 @@ fn next_statement<'a>(
         (λ fault. FailsFirst fault (statements_in lines.old)) }
 {
     while let Some(joined) = lines.next(alloc)? {
-        let text = statement(alloc, joined.text)?;
+        let text = statement(alloc, joined.text, joined.plain)?;
         if text.len() > 0 {
             return Ok(Some(LineText {
                 line: joined.line,

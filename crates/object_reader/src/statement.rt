@@ -1,10 +1,11 @@
 //! What the joined lines of object text say (chapter "Object Configuration Overview").
 
-ghost use Rattle.std.specs.Prelude.{◌≡◌, ◌&&◌, ◌==◌, false, IfOk};
+ghost use Rattle.std.specs.Prelude.{◌≡◌, ◌&&◌, ◌==◌, true, IfOk};
 ghost use Rattle.std.specs.Cow.{cow_slice_items};
-ghost use Rattle.std.specs.List.{position, list_any};
+ghost use Rattle.std.specs.List.{position};
 ghost use Rattle.std.specs.Str.{bytes_eq};
 ghost use Rattle.object_reader.specs.Blanks.{is_blank};
+ghost use Rattle.object_reader.specs.Lines.{HasNoSemicolon};
 ghost use Rattle.object_reader.specs.Statements.{starts_comment, starts_semicolon, bare_from, unescaped, statement, is_define, is_close, kind_of, ends_type, opened};
 
 use crate::blanks::{is_blank, trim, trim_end, trim_start};
@@ -96,17 +97,10 @@ fn unescape(alloc: Global, bytes: &[u8]) -> Result<Vec<u8>, AllocError>
     Ok(meant)
 }
 
-/// Whether there is a `;`.
-fn has_semicolon(bytes: &[u8]) -> bool
-    ensures { result ≡ list_any (λ b. b == 59) bytes.now }
-{
-    bytes.contains(&b';')
-}
-
 /// What a joined line without a `;` says: it has no comment but a `#` at its start, and no escape.
 #[tactic(auto, unfolding(crate::specs::Statements::statement), using(crate::proofs::Escapes::plain_meant))]
 fn plain(bytes: &[u8]) -> &[u8]
-    requires { list_any (λ b. b == 59) bytes.now ≡ false }
+    requires { HasNoSemicolon bytes.now }
     ensures { result.now ≡ statement bytes.now }
 {
     let start = trim_start(bytes);
@@ -116,20 +110,22 @@ fn plain(bytes: &[u8]) -> &[u8]
     trim_end(start)
 }
 
-/// What a joined line says. It is a part of the line where that is a part of the text and has no
-/// `;`, as most lines are.
+/// What a joined line says. It is a part of the line where that is a part of the text and was seen to
+/// have no `;`, as most lines are.
 pub(crate) fn statement<'a>(
     alloc: Global,
     line: CowSlice<'a, u8>,
+    seen_plain: bool,
 ) -> Result<CowSlice<'a, u8>, AllocError>
+    requires { seen_plain ≡ true → HasNoSemicolon (cow_slice_items line) }
     ensures { IfOk result (λ said. cow_slice_items said ≡ statement (cow_slice_items line.entry)) }
 {
     match line {
         CowSlice::Borrowed(bytes) => {
-            if has_semicolon(bytes) {
-                Ok(CowSlice::Owned(unescape(alloc, core(bytes))?))
-            } else {
+            if seen_plain {
                 Ok(CowSlice::Borrowed(plain(bytes)))
+            } else {
+                Ok(CowSlice::Owned(unescape(alloc, core(bytes))?))
             }
         }
         CowSlice::Owned(bytes) => Ok(CowSlice::Owned(unescape(alloc, core(bytes.as_slice()))?)),

@@ -2,8 +2,8 @@
 
 use std::borrow::CowSlice;
 
-/// What a joined line holds or says. The bytes are a part of the text itself, but where lines are
-/// joined or a semicolon is escaped.
+/// What a joined line says. The bytes are a part of the text itself, but where lines are joined or
+/// have a semicolon.
 #[derive(Drop)]
 pub(crate) struct LineText<'a> {
     /// The number of the first physical line.

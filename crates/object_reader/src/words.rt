@@ -1,6 +1,6 @@
 //! A statement by its first word (chapter "Object Configuration Overview").
 
-ghost use Rattle.std.specs.Prelude.{◌≡◌};
+ghost use Rattle.std.specs.Prelude.{◌≡◌, nat_le};
 ghost use Rattle.std.specs.List.{position};
 ghost use Rattle.object_reader.specs.Blanks.{is_blank};
 ghost use Rattle.object_reader.specs.Statements.{first_word, after_word};
@@ -8,11 +8,22 @@ ghost use Rattle.object_reader.specs.Statements.{first_word, after_word};
 use crate::blanks::{is_blank, trim_start};
 use std::marker::Model;
 
+/// The place of the first byte up to a space, as most bytes of a text are not.
+fn first_low(bytes: &[u8]) -> Option<usize>
+    ensures { result ≡ position (λ b. nat_le b 32) bytes.now }
+{
+    bytes.iter().position(|b| *b <= b' ')
+}
+
 /// The place of the first blank.
 fn first_blank(bytes: &[u8]) -> Option<usize>
     ensures { result ≡ position is_blank bytes.now }
 {
-    bytes.iter().position(|b| is_blank(*b))
+    match first_low(bytes) {
+        None => None,
+        Some(at) if is_blank(bytes[at]) => Some(at),
+        Some(_) => bytes.iter().position(|b| is_blank(*b)),
+    }
 }
 
 /// A statement whose first word was found, so that it is looked for once.

@@ -10,19 +10,20 @@ use Rattle.object_reader.proofs.line.split_line.Goals as goal
 pub returns-in-Some-clause-first : goal.returns-in-Some-clause-first
 returns-in-Some-clause-first c =
     let text = c.args.text.now in
-    let found = c.in-Some.ensures in
+    let found = rw c.in-Some.is at c.first_newline-newline.ensures.place in
     rw (take_rest text (c.in-Some.at + 1), add-one) (lines_of-ended text c.in-Some.at found.0.high (λ k below. false_from_ne_true _ (found.0.before k (omega arith) below)) found.1)
 
 pub returns-in-None-clause-first : goal.returns-in-None-clause-first
 unfolding lines_of
 returns-in-None-clause-first c =
     let text = c.args.text.now in
-    rw (take_rest text (length text), drop-length text) (lines_of-open text c.requires (λ k below. false_from_ne_true _ (c.in-None.ensures k (omega arith) below)))
+    let none = rw c.in-None.is at c.first_newline-newline.ensures.place in
+    rw (take_rest text (length text), drop-length text) (lines_of-open text c.requires (λ k below. false_from_ne_true _ (none k (omega arith) below)))
 
 pub returns-in-Some-clause-utf8 : goal.returns-in-Some-clause-utf8
 returns-in-Some-clause-utf8 c =
     let text = c.args.text.now in
-    let found = c.in-Some.ensures in
+    let found = rw c.in-Some.is at c.first_newline-newline.ensures.place in
     rw (take_rest text (c.in-Some.at + 1)) (around_newline text c.in-Some.at found.0.high found.1)
 
 pub returns-in-None-clause-utf8 : goal.returns-in-None-clause-utf8
