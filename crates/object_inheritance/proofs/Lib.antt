@@ -1,2 +1,4 @@
 mod TextLemmas
 mod NameLemmas
+mod UseLemmas
+mod FaultLemmas

@@ -2,3 +2,4 @@ pub mod Texts
 pub mod Templates
 pub mod Names
 pub mod Inherited
+pub mod Faults

@@ -1,5 +1,5 @@
 -- A table of the templates by their types and names.
-use Rattle.std.specs.Prelude.{◌≡◌, ℕ, Bool, false, ◌&&◌, ◌==◌, List, Option}
+use Rattle.std.specs.Prelude.{◌≡◌, ℕ, ◌<◌, ◌^◌, Bool, false, ◌&&◌, ◌==◌, List, length}
 use Rattle.std.proofs.Common.{Bor}
 use Rattle.std.specs.List.{position}
 use Rattle.std.specs.Map.{lookup}
@@ -23,3 +23,8 @@ has_key key block = kind_number block.kind == key.0
 -- the entries say where the first block with each key stands
 abbrev pub HasFirsts : List Block → List (Key × ℕ) → Type 0
 HasFirsts blocks entries = (key : Key) → lookup (key_eq key) entries ≡ position (has_key key) blocks
+
+-- the same of few enough blocks
+pub record IsTable (blocks : List Block) (entries : List (Key × ℕ)) : Type 0 where
+  pub few : length blocks < 2 ^ 32
+  pub firsts : HasFirsts blocks entries

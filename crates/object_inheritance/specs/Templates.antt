@@ -3,6 +3,7 @@ use Rattle.std.specs.Prelude.{ℕ, Bool, true, false, ◌&&◌, ◌==◌, List, 
 use Rattle.std.specs.List.{position}
 use Rattle.std.specs.Option.{option_map_or}
 use Rattle.std.specs.Str.{bytes_eq}
+use Rattle.graph.specs.declared.edges.Edge.{Edge}
 use Rattle.object_reader.specs.declared.block.Block.{Block}
 use Rattle.object_reader.specs.declared.block.BlockKind.{BlockKind}
 use Rattle.object_reader.specs.declared.block.BlockKind.TheVariants.{Host, HostGroup, Service, ServiceGroup, Contact, ContactGroup, TimePeriod, Command, HostEscalation, ServiceEscalation, HostDependency, ServiceDependency, HostExtInfo, ServiceExtInfo}
@@ -57,3 +58,7 @@ templates_of blocks block = filter_map (template_place blocks block.kind) (used_
 -- The same of each block: a graph, in which each block leads to the templates that it uses.
 unfoldable pub template_graph : List Block → List (List ℕ)
 template_graph blocks = map (templates_of blocks) blocks
+
+-- an edge of that graph
+abbrev pub edge_from : ℕ → ℕ → Edge
+edge_from place to = record { from = place; to = to }

@@ -3,4 +3,6 @@
 #![tactic(auto)]
 
 mod names;
+pub mod templates;
 pub mod texts;
+mod uses;

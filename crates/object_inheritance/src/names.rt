@@ -91,13 +91,13 @@ pub(crate) struct TemplateNames<'a> {
 impl<'a> Model for TemplateNames<'a> {
     ghost use Rattle.std.specs.Prelude.{List};
     ghost use Rattle.object_reader.specs.declared.block.Block.{Block};
-    ghost use Rattle.object_inheritance.specs.Names.{HasFirsts};
+    ghost use Rattle.object_inheritance.specs.Names.{IsTable};
 
     ghost Value = { List Block };
 
     ghost view = { λ s. s.blocks.now };
 
-    ghost invariant = { λ s. HasFirsts s.blocks.now s.firsts.entries };
+    ghost invariant = { λ s. IsTable s.blocks.now s.firsts.entries };
 }
 
 impl<'a> TemplateNames<'a> {
@@ -115,7 +115,8 @@ impl<'a> TemplateNames<'a> {
 
     /// The blocks.
     pub(crate) fn blocks(&self) -> &'a [Block]
-        ensures { result.now ≡ self.now }
+        ensures value { result.now ≡ self.now }
+        ensures few { length self.now < 2 ^ 32 }
     {
         self.blocks
     }

@@ -9,7 +9,7 @@ use Rattle.object_inheritance.proofs.names.TemplateNames.find.Goals as goal
 pub returns-clause-place : goal.returns-clause-place
 unfolding template_place
 returns-clause-place c =
-    c.copied.ensures ∙ c.get.ensures.value ∙ c.self.invariant (c.kind_number.result, c.args.name)
+    c.copied.ensures ∙ c.get.ensures.value ∙ c.self.invariant.firsts (c.kind_number.result, c.args.name)
     ∙ ap (λ (n : ℕ). position (has_key (n, c.args.name)) c.self.inside.blocks.now) c.kind_number.ensures
     ∙ ap (λ (blocks : List Block). position (is_template c.args.kind c.args.name.now) blocks) c.self.view_is
 

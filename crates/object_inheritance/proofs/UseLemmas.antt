@@ -1,0 +1,145 @@
+-- The graph of templates, one block and one name more.
+use Rattle.std.proofs.Common.{◌≡◌, ℕ, zero, suc, ◌+◌, ◌<◌, ◌≤◌, Bool, true, false, cond, ◌||◌, List, [], ◌∷◌, ◌++◌, append_assoc, length, length-take-le, map, filter, take, get_or, Option, Some, None, refl, sym, ap, subst, eqb, eqb-true, eq-eqb, ◌⊎◌, ⊎_elim, ◌∙◌, Bor, arith}
+use Rattle.std.specs.Prelude.{All, Contains, filter_map}
+use Rattle.std.specs.List.{cons_option, list_any}
+use Rattle.std.specs.Option.{IfSome, option_to_list}
+use Rattle.std.proofs.lemmas.Bool.{false≢true, cases_lt}
+use Rattle.std.proofs.lemmas.List.{append-nil, length-map, map-append, take_more, get_or_past, get_or_append_left, ext_get_or}
+use Rattle.std.proofs.lemmas.List.Elements.{filter-append, filter_map-append, All-nil, All-cons, All-append, All-map, All-weaker, All-contains, All-from_get_or}
+use Rattle.std.proofs.lemmas.List.Folds.{list_any-append}
+use Rattle.std.proofs.Math.Seq.{get_or-append_seam}
+use Rattle.graph.specs.declared.edges.Edge.{Edge}
+use Rattle.graph.specs.Edges.{ends_of, HasEdges, IsWithin, Leads}
+use Rattle.object_reader.specs.declared.block.Block.{Block}
+use Rattle.object_inheritance.specs.Templates.{edge_from, is_template, template_graph, template_place, templates_of, used_names}
+use Rattle.object_inheritance.specs.Texts.{texts}
+use Rattle.object_inheritance.proofs.NameLemmas.{position-within}
+
+-- ---- one name more
+
+pub any-at : (p : List ℕ → Bool) (xs : List (Bor (List ℕ))) (i : ℕ) (d : Bor (List ℕ)) → i < length xs → true ≡ p ((get_or xs i d).now) → true ≡ list_any p (texts xs)
+any-at p [] i d within is = absurd (omega arith)
+any-at p (x ∷ xs) zero d within is = rw (← is) refl
+any-at p (x ∷ xs) (suc i) d within is =
+    elim (p x.now) as (λ b. true ≡ (b || list_any p (texts xs))) [ true ↦ refl | false ↦ any-at p xs i d (omega arith) is ]
+
+texts-more : (xs : List (Bor (List ℕ))) (i : ℕ) (d : Bor (List ℕ)) → i < length xs → texts (take (i + 1) xs) ≡ texts (take i xs) ++ (get_or xs i d).now ∷ []
+texts-more xs i d within = ap texts (take_more xs i d within) ∙ map-append (λ text. text.now) (take i xs) (get_or xs i d ∷ [])
+
+or-false : (a b : Bool) → (a || (b || false)) ≡ (a || b)
+or-false a b = elim a as (λ x. (x || (b || false)) ≡ (x || b)) [ true ↦ refl | false ↦ elim b as (λ y. (y || false) ≡ y) [ true ↦ refl | false ↦ refl ] ]
+
+pub any-more : (p : List ℕ → Bool) (xs : List (Bor (List ℕ))) (i : ℕ) (d : Bor (List ℕ)) → i < length xs
+    → list_any p (texts (take (i + 1) xs)) ≡ (list_any p (texts (take i xs)) || p ((get_or xs i d).now))
+any-more p xs i d within =
+    ap (list_any p) (texts-more xs i d within) ∙ list_any-append p (texts (take i xs)) ((get_or xs i d).now ∷ []) ∙ or-false (list_any p (texts (take i xs))) (p ((get_or xs i d).now))
+
+listed-one : (found : Option ℕ) → cons_option found [] ≡ option_to_list found
+listed-one None = refl
+listed-one (Some k) = refl
+
+-- the edges to the templates of the names so far, and of one more
+pub edges-more : (place : ℕ) (f : List ℕ → Option ℕ) (xs : List (Bor (List ℕ))) (i : ℕ) (d : Bor (List ℕ)) (first old new : List Edge) (found : Option ℕ) → i < length xs
+    → old ≡ first ++ map (edge_from place) (filter_map f (texts (take i xs))) → found ≡ f ((get_or xs i d).now)
+    → new ≡ old ++ map (edge_from place) (option_to_list found) → new ≡ first ++ map (edge_from place) (filter_map f (texts (take (i + 1) xs)))
+edges-more place f xs i d first old new found within before is more =
+    let all : filter_map f (texts (take (i + 1) xs)) ≡ filter_map f (texts (take i xs)) ++ option_to_list found =
+    ap (filter_map f) (texts-more xs i d within) ∙ filter_map-append f (texts (take i xs)) ((get_or xs i d).now ∷ [])
+    ∙ ap (λ one. filter_map f (texts (take i xs)) ++ one) (listed-one (f ((get_or xs i d).now)) ∙ ap option_to_list (sym is)) in
+    more ∙ ap (λ edges. edges ++ map (edge_from place) (option_to_list found)) before
+    ∙ append_assoc first _ _ ∙ ap (λ edges. first ++ edges) (sym (map-append (edge_from place) (filter_map f (texts (take i xs))) (option_to_list found)) ∙ ap (map (edge_from place)) (sym all))
+
+-- ---- templates stand among the blocks
+
+All-one : (P : ℕ → Type 0) (found : Option ℕ) (others : List ℕ) → IfSome found P → All P others → All P (cons_option found others)
+All-one P None others here rest = rest
+All-one P (Some k) others here rest = All-cons P k others here rest
+
+All-found : (f : List ℕ → Option ℕ) (P : ℕ → Type 0) → ((name : List ℕ) → IfSome (f name) P) → (names : List (List ℕ)) → All P (filter_map f names)
+All-found f P each [] = All-nil P
+All-found f P each (name ∷ names) = All-one P (f name) (filter_map f names) (each name) (All-found f P each names)
+
+pub templates-within : (blocks : List Block) (block : Block) → All (λ q. q < length blocks) (templates_of blocks block)
+unfolding template_place
+templates-within blocks block =
+    All-found (template_place blocks block.kind) (λ q. q < length blocks) (λ name. position-within (is_template block.kind name) blocks) (used_names block)
+
+-- ---- one block more
+
+length_snoc : {Y : Type 0} (ys : List Y) (y : Y) → length (ys ++ y ∷ []) ≡ length ys + 1
+length_snoc [] y = refl
+length_snoc (z ∷ ys) y = let more = length_snoc ys y in omega arith
+
+ends-append : (xs ys : List Edge) (p : ℕ) → ends_of (xs ++ ys) p ≡ ends_of xs p ++ ends_of ys p
+ends-append xs ys p =
+    ap (map (λ (edge : Edge). edge.to)) (filter-append (λ (edge : Edge). eqb edge.from p) xs ys)
+    ∙ map-append (λ (edge : Edge). edge.to) (filter (λ (edge : Edge). eqb edge.from p) xs) (filter (λ (edge : Edge). eqb edge.from p) ys)
+
+ends-from : (place p : ℕ) (b : Bool) → eqb place p ≡ b → (tos : List ℕ) → ends_of (map (edge_from place) tos) p ≡ cond b tos []
+ends-from place p true is [] = refl
+ends-from place p false is [] = refl
+ends-from place p true is (to ∷ tos) = rw is (ap (λ more. to ∷ more) (ends-from place p true is tos))
+ends-from place p false is (to ∷ tos) = rw is (ends-from place p false is tos)
+
+-- one more list of ends
+get_or-snoc : (lists : List (List ℕ)) (list : List ℕ) (p : ℕ) (b : Bool) → eqb (length lists) p ≡ b
+    → get_or (lists ++ list ∷ []) p [] ≡ get_or lists p [] ++ cond b list []
+get_or-snoc lists list p true is =
+    let here : length lists ≡ p = eqb-true (length lists) p is in
+    rw (← here) (get_or-append_seam lists list [] [] ∙ ap (λ none. none ++ list) (sym (get_or_past lists (length lists) [] (omega arith))))
+get_or-snoc lists list p false is = ⊎_elim
+    (λ (low : p < length lists). get_or_append_left lists (list ∷ []) [] p low ∙ sym (append-nil (get_or lists p [])))
+    (λ (past : length lists ≤ p). ⊎_elim
+        (λ (further : length lists < p). get_or_past (lists ++ list ∷ []) p [] (let long = length_snoc lists list in omega (arith, long))
+            ∙ sym (append-nil (get_or lists p []) ∙ get_or_past lists p [] past))
+        (λ (back : p ≤ length lists). let same : length lists ≡ p = omega arith in absurd (false≢true (sym is ∙ eq-eqb (length lists) p same)))
+        (cases_lt (length lists) p))
+    (cases_lt p (length lists))
+
+-- the ends of the edges so far, with those of one more block
+pub ends-more : (f : Block → List ℕ) (blocks : List Block) (i : ℕ) (block : Block) (old new : List Edge) → i < length blocks → block ≡ get_or blocks i block
+    → ((p : ℕ) → ends_of old p ≡ get_or (map f (take i blocks)) p []) → new ≡ old ++ map (edge_from i) (f block)
+    → (p : ℕ) → ends_of new p ≡ get_or (map f (take (i + 1) blocks)) p []
+ends-more f blocks i block old new within is before more p =
+    let long : length (map f (take i blocks)) ≡ i = length-map (take i blocks) f ∙ length-take-le i blocks (omega arith) in
+    let all : map f (take (i + 1) blocks) ≡ map f (take i blocks) ++ f block ∷ [] =
+    ap (map f) (take_more blocks i block within ∙ ap (λ (x : Block). take i blocks ++ x ∷ []) (sym is)) ∙ map-append f (take i blocks) (block ∷ []) in
+    ap (λ (edges : List Edge). ends_of edges p) more ∙ ends-append old (map (edge_from i) (f block)) p
+    ∙ ap (λ (ends : List ℕ). ends ++ ends_of (map (edge_from i) (f block)) p) (before p)
+    ∙ ap (λ (ends : List ℕ). get_or (map f (take i blocks)) p [] ++ ends) (ends-from i p (eqb i p) refl (f block))
+    ∙ sym (ap (λ (lists : List (List ℕ)). get_or lists p []) all ∙ get_or-snoc (map f (take i blocks)) (f block) p (eqb i p) (ap (λ (n : ℕ). eqb n p) long))
+
+pub within-more : (n place : ℕ) (old new : List Edge) (tos : List ℕ) → place < n → All (λ q. q < n) tos → All (IsWithin n) old
+    → new ≡ old ++ map (edge_from place) tos → All (IsWithin n) new
+within-more n place old new tos low ends before more =
+    let added : All (IsWithin n) (map (edge_from place) tos) = All-map (IsWithin n) (edge_from place) tos
+    (All-weaker (λ q. q < n) (λ q. IsWithin n (edge_from place q)) (λ q at. record { from = low; to = at }) tos ends) in
+    subst (λ (edges : List Edge). All (IsWithin n) edges) (sym more) (All-append (IsWithin n) old (map (edge_from place) tos) before added)
+
+-- the graph of these edges
+pub graph-is : (blocks : List Block) (nodes : ℕ) (edges : List Edge) (graph : List (List ℕ)) → nodes ≡ length blocks
+    → ((p : ℕ) → ends_of edges p ≡ get_or (template_graph blocks) p []) → HasEdges nodes edges graph → graph ≡ template_graph blocks
+unfolding template_graph
+graph-is blocks nodes edges graph count ends has =
+    ext_get_or [] graph (map (templates_of blocks) blocks) (has.count ∙ count ∙ sym (length-map blocks (templates_of blocks)))
+    (λ p low. has.ends p (subst (λ (n : ℕ). p < n) has.count low) ∙ ends p)
+
+-- templates stand among the blocks
+All-mapped : (f : Block → List ℕ) (n : ℕ) → ((block : Block) → All (λ q. q < n) (f block)) → (blocks : List Block) (p : ℕ)
+    → All (λ q. q < n) (get_or (map f blocks) p [])
+All-mapped f n each [] p = All-nil (λ q. q < n)
+All-mapped f n each (block ∷ blocks) zero = each block
+All-mapped f n each (block ∷ blocks) (suc p) = All-mapped f n each blocks p
+
+pub leads-within : (blocks : List Block) (p q : ℕ) → Leads (template_graph blocks) p q → q < length blocks
+unfolding template_graph
+leads-within blocks p q leads =
+    All-contains (λ k. k < length blocks) (get_or (map (templates_of blocks) blocks) p []) q (All-mapped (templates_of blocks) (length blocks) (templates-within blocks) blocks p) leads
+
+pub leads-from : (blocks : List Block) (p q : ℕ) → Leads (template_graph blocks) p q → p < length blocks
+unfolding template_graph
+leads-from blocks p q leads = ⊎_elim
+    (λ (low : p < length blocks). low)
+    (λ (past : length blocks ≤ p). absurd (let none = get_or_past (map (templates_of blocks) blocks) p [] (let long = length-map blocks (templates_of blocks) in omega (arith, long)) in
+        let at = subst (λ (ends : List ℕ). Contains ends q) none leads in omega (arith, at.1)))
+    (cases_lt p (length blocks))

@@ -1,0 +1,189 @@
+//! Templates, and their faults (chapter "Object Inheritance").
+
+ghost use Rattle.std.specs.Prelude.{◌≡◌, ◌==◌, false, None, IfErr, IfNone, IfOk, IfSome, OnOk};
+ghost use Rattle.std.specs.Option.{option_map_or};
+ghost use Rattle.graph.specs.Chains.{HasNoLoop};
+ghost use Rattle.graph.specs.Edges.{Leads};
+ghost use Rattle.graph.specs.Loops.{IsFirstOnLoop};
+ghost use Rattle.graph.specs.Order.{IsOrder};
+ghost use Rattle.object_inheritance.specs.Faults.{AreFree, fault_by, is_doubled, IsRefusal, uses_unknown};
+ghost use Rattle.object_inheritance.specs.Templates.{template_graph};
+ghost use Rattle.object_inheritance.specs.declared.templates.InheritanceFault.TheVariants.{NoMemory};
+
+use crate::names::{TemplateNames, template_name};
+use crate::uses::{template_graph, uses_unknown};
+use graph::edges::Graph;
+use graph::loops::first_on_loop;
+use graph::order::order;
+use object_reader::block::Block;
+use std::alloc::{AllocError, Global};
+use std::marker::Model;
+
+/// What is wrong with a block's templates. Of several faults of one block the first counts.
+#[derive(Clone, Copy, Debug, PartialEq, Eq)]
+pub enum TemplateFault {
+    /// The block's `use` has a name that no template of its type has.
+    UnknownTemplate,
+    /// The block itself lies on a loop of templates that use one another.
+    TemplateLoop,
+    /// An earlier template of the same type has the same name.
+    Doubled,
+}
+
+/// Why nothing can be inherited.
+#[derive(Clone, Copy, Debug, PartialEq, Eq)]
+pub enum InheritanceFault {
+    /// The fault of a block, with the line of its `define`.
+    AtLine { line: u64, fault: TemplateFault },
+    /// Memory ran out, or there are more than 4,294,967,295 blocks. It says nothing of the blocks.
+    NoMemory,
+}
+
+impl From<AllocError> for InheritanceFault {
+    ghost from_gives = { λ _ fault. fault ≡ NoMemory };
+
+    fn from(_error: AllocError) -> InheritanceFault {
+        InheritanceFault::NoMemory
+    }
+}
+
+/// Whether a block before the place is the template of the block's type and name.
+fn is_doubled<'a>(names: &TemplateNames<'a>, place: u32, block: &'a Block) -> bool
+    ensures { result ≡ is_doubled names.now place block.now }
+{
+    let Some(name) = template_name(block) else {
+        return false;
+    };
+    match names.find(block.kind, name) {
+        Some(first) => first < place,
+        None => false,
+    }
+}
+
+/// The fault of a block, where `looped` says whether it lies on a loop.
+fn fault_of<'a>(
+    alloc: Global,
+    names: &TemplateNames<'a>,
+    place: u32,
+    block: &'a Block,
+    looped: bool,
+) -> Result<Option<TemplateFault>, AllocError>
+    ensures { IfOk result (λ fault. fault ≡ fault_by (uses_unknown names.now block.now) looped
+        (is_doubled names.now place block.now)) }
+{
+    if uses_unknown(alloc, names, block)? {
+        return Ok(Some(TemplateFault::UnknownTemplate));
+    }
+    if looped {
+        return Ok(Some(TemplateFault::TemplateLoop));
+    }
+    if is_doubled(names, place, block) {
+        return Ok(Some(TemplateFault::Doubled));
+    }
+    Ok(None)
+}
+
+/// Whether it is that place.
+fn is_at(found: Option<u32>, place: u32) -> bool
+    ensures { result ≡ option_map_or (λ at. at == place) found false }
+{
+    match found {
+        Some(at) => at == place,
+        None => false,
+    }
+}
+
+/// Finds the first block with a fault, where `looped` is the first that lies on a loop.
+fn check_templates(
+    alloc: Global,
+    names: &TemplateNames,
+    looped: Option<u32>,
+) -> Result<(), InheritanceFault>
+    requires first { IfSome looped (IsFirstOnLoop (template_graph names.now)) }
+    requires no_loop { IfNone looped (HasNoLoop (Leads (template_graph names.now))) }
+    ensures free { OnOk result (AreFree names.now) }
+    ensures fault { IfErr result (IsRefusal names.now) }
+{
+    for (place, block) in names.blocks().iter().enumerate() {
+        let number = place as u32;
+        match fault_of(alloc, names, number, block, is_at(looped, number))? {
+            None => {}
+            Some(fault) => {
+                return Err(InheritanceFault::AtLine {
+                    line: block.line,
+                    fault,
+                });
+            }
+        }
+    }
+    Ok(())
+}
+
+/// Blocks whose templates have no fault. It takes 16 bytes a block and 4 a template that a block uses.
+/// Contracts see the blocks.
+#[derive(Drop)]
+pub struct Templates<'a> {
+    blocks: &'a [Block],
+    graph: Graph,
+    /// Each block stands before the templates that it uses.
+    order: Vec<u32>,
+}
+
+impl<'a> Model for Templates<'a> {
+    ghost use Rattle.std.specs.Prelude.{List};
+    ghost use Rattle.object_reader.specs.declared.block.Block.{Block};
+    ghost use Rattle.object_inheritance.specs.Faults.{IsOrdered};
+
+    ghost Value = { List Block };
+
+    ghost view = { λ s. s.blocks.now };
+
+    ghost invariant = { λ s. IsOrdered s.blocks.now s.graph s.order.items };
+}
+
+impl<'a> Templates<'a> {
+    /// The templates of the blocks, or the first fault. The time grows with the bytes of the blocks, and
+    /// where there is a loop also with what each block before it reaches. A refusal leaves nothing.
+    pub fn new(alloc: Global, blocks: &'a [Block]) -> Result<Templates<'a>, InheritanceFault>
+        ensures blocks { IfOk result (λ templates. templates ≡ blocks.now) }
+        ensures free { OnOk result (AreFree blocks.now) }
+        ensures fault { IfErr result (IsRefusal blocks.now) }
+    {
+        if blocks.len() > u32::MAX as usize {
+            return Err(InheritanceFault::NoMemory);
+        }
+        let names = TemplateNames::new(alloc, blocks)?;
+        let graph = template_graph(alloc, &names)?;
+        let looped = first_on_loop(alloc, &graph)?;
+        check_templates(alloc, &names, looped)?;
+        match order(alloc, &graph)? {
+            Some(order) => Ok(Templates {
+                blocks,
+                graph,
+                order,
+            }),
+            None => unreachable!(),
+        }
+    }
+
+    /// The blocks.
+    pub fn blocks(&self) -> &'a [Block]
+        ensures { result.now ≡ self.now }
+    {
+        self.blocks
+    }
+
+    /// The graph of the templates.
+    pub(crate) fn graph(&self) -> &Graph
+        ensures { result.now ≡ template_graph self.now }
+    {
+        &self.graph
+    }
+
+    /// An order of the blocks, in which each stands before the templates that it uses.
+    pub(crate) fn order(&self) -> &[u32]
+        ensures { IsOrder (template_graph self.now) result.now }
+    {
+        self.order.as_slice()
+    }
+}
