@@ -19,11 +19,11 @@ use Rattle.due_model.specs.Limits.{max_contacts, max_lanes, max_number, max_obje
 use Rattle.due_model.specs.Options.{every_letter}
 use Rattle.due_model.specs.declared.options.OptionLetters.{OptionLetters}
 use Rattle.object_reader.specs.declared.block.Block.{Block}
-use Rattle.object_resolve.specs.Blocks.{contact_names, contacts_in, entries_read, hosts_in, interval_of, name_of}
+use Rattle.object_values.specs.Blocks.{contact_names, contacts_in, entries_read, hosts_in, interval_of, name_of}
 use Rattle.object_resolve.specs.Build.{AreRightsOf, AreSetOf, IsConfigOf, IsContactOf, IsHostOf, contacts_named, lanes_named}
-use Rattle.object_resolve.specs.Values.{command_name, number_of, value_in}
+use Rattle.object_values.specs.Values.{command_name, number_of, value_in}
 use Rattle.object_reader.specs.declared.block.BlockKind.TheVariants.{Host}
-use Rattle.object_resolve.specs.declared.fault.BlockFault.{BlockFault}
+use Rattle.object_values.specs.declared.fault.BlockFault.{BlockFault}
 use Rattle.object_resolve.specs.Limits.{is_lane, lanes_in}
 use Rattle.object_resolve.specs.Resolve.{IsRefusal, IsResolved}
 use Rattle.object_resolve.proofs.FaultLemmas.{none-refused}

@@ -3,12 +3,12 @@ use Rattle.std.proofs.Common.{◌≡◌, ℕ, ◌+◌, IsTrue, is_none, is_some,
 use Rattle.std.proofs.lemmas.Bool.{ltb-true, ltb-false, true≢false}
 use Rattle.std.proofs.lemmas.Option.{get_or_from_slice_get, none-some, slice_get_read, slice_get_within}
 use Rattle.object_reader.specs.declared.block.Block.{Block}
-use Rattle.object_resolve.specs.declared.fault.BlockFault.{BlockFault}
-use Rattle.object_resolve.specs.declared.fault.ResolveFault.{ResolveFault}
-use Rattle.object_resolve.specs.declared.fault.ResolveFault.TheVariants.{AtLine, NoMemory}
-use Rattle.object_resolve.specs.declared.fault.BlockFault.TheVariants.{MissingDirective, BadNumber}
-use Rattle.object_resolve.specs.Blocks.{has_bad_interval, interval_in, is_host, is_host_kind, means_nothing, name_directive}
-use Rattle.object_resolve.specs.Values.{value_in}
+use Rattle.object_values.specs.declared.fault.BlockFault.{BlockFault}
+use Rattle.object_resolve.specs.declared.fault.LoadFault.{LoadFault}
+use Rattle.object_resolve.specs.declared.fault.LoadFault.TheVariants as load
+use Rattle.object_values.specs.declared.fault.BlockFault.TheVariants.{MissingDirective, BadNumber}
+use Rattle.object_values.specs.Blocks.{has_bad_interval, interval_in, is_host, is_host_kind, means_nothing, name_directive}
+use Rattle.object_values.specs.Values.{value_in}
 use Rattle.object_resolve.specs.Resolve.{HaveValues}
 use Rattle.object_reader.specs.declared.block.BlockKind.{BlockKind}
 use Rattle.object_reader.specs.declared.block.BlockKind.TheVariants.{Command, Contact, Host}
@@ -78,14 +78,18 @@ fault-some b fault other is = rw is refl
 
 -- a refusal of one kind is one of another, or both are for want of memory
 pub among-weaker : (P Q : ℕ → BlockFault → Type 0) → ((line : ℕ) (fault : BlockFault) → P line fault → Q line fault)
-    → (fault : ResolveFault) → IsAmong P fault → IsAmong Q fault
-among-weaker P Q weaker (AtLine line fault) refused = weaker line fault refused
-among-weaker P Q weaker NoMemory refused = refused
+    → (fault : LoadFault) → IsAmong P fault → IsAmong Q fault
+among-weaker P Q weaker (load.Block line fault) refused = weaker line fault refused
+among-weaker P Q weaker load.NoMemory refused = refused
+among-weaker P Q weaker (load.Line line fault) refused = absurd refused
+among-weaker P Q weaker load.TooLarge refused = absurd refused
 
 pub at-among : (P Q : ℕ → BlockFault → Type 0) → ((line : ℕ) (fault : BlockFault) → P line fault → Q line fault)
-    → (fault : ResolveFault) → IsAt P fault → IsAmong Q fault
-at-among P Q weaker (AtLine line fault) refused = weaker line fault refused
-at-among P Q weaker NoMemory refused = absurd refused
+    → (fault : LoadFault) → IsAt P fault → IsAmong Q fault
+at-among P Q weaker (load.Block line fault) refused = weaker line fault refused
+at-among P Q weaker load.NoMemory refused = absurd refused
+at-among P Q weaker (load.Line line fault) refused = absurd refused
+at-among P Q weaker load.TooLarge refused = absurd refused
 
 -- a block with a fault contradicts that there is none
 pub none-refused : (fault_of : List Block → Block → Option BlockFault) (blocks : List Block) (line : ℕ) (fault : BlockFault)

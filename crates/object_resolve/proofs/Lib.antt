@@ -1,5 +1,4 @@
 pub mod ListLemmas
-pub mod NumberLemmas
 pub mod NameLemmas
 pub mod FaultLemmas
 pub mod LimitLemmas

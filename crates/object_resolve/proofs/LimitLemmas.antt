@@ -7,10 +7,10 @@ use Rattle.std.proofs.lemmas.Option.{get_or_from_slice_get, none-some, slice_get
 use Rattle.due_model.specs.Limits.{max_contacts, max_lanes, max_objects}
 use Rattle.object_resolve.specs.declared.limits.Counts.{Counts}
 use Rattle.object_reader.specs.declared.block.Block.{Block}
-use Rattle.object_resolve.specs.Blocks.{contacts_in, hosts_in, is_command_kind, is_contact, is_host, name_of}
+use Rattle.object_values.specs.Blocks.{contacts_in, hosts_in, is_command_kind, is_contact, is_host, name_of}
 use Rattle.object_resolve.specs.Limits.{AreFew, AreUsed, IsWithinLimits, are_too_many, is_lane, is_over, is_used, limit_fault}
-use Rattle.object_resolve.specs.declared.fault.BlockFault.{BlockFault}
-use Rattle.object_resolve.specs.declared.fault.BlockFault.TheVariants.{TooMany}
+use Rattle.object_values.specs.declared.fault.BlockFault.{BlockFault}
+use Rattle.object_values.specs.declared.fault.BlockFault.TheVariants.{TooMany}
 use Rattle.object_resolve.specs.Fault.{IsFirstOf}
 use Rattle.object_resolve.proofs.FaultLemmas.{fault-none}
 use Rattle.object_resolve.proofs.ListLemmas.{filter-same}

@@ -9,9 +9,7 @@ use Rattle.object_reader.specs.Blocks.{Gives}
 use Rattle.object_reader.specs.Grammar.{IsObjectText, IsRefused}
 use Rattle.object_resolve.specs.declared.fault.LoadFault.{LoadFault}
 use Rattle.object_resolve.specs.declared.fault.LoadFault.TheVariants as load
-use Rattle.object_resolve.specs.declared.fault.ResolveFault.{ResolveFault}
-use Rattle.object_resolve.specs.declared.fault.ResolveFault.TheVariants.{AtLine, NoMemory}
-use Rattle.object_resolve.specs.Fault.{IsAmong, of_blocks, of_read}
+use Rattle.object_resolve.specs.Fault.{IsAmong, of_read}
 use Rattle.object_resolve.specs.Resolve.{IsRefusal, IsResolved}
 use Rattle.object_resolve.specs.Text.{IsTextFault}
 use Rattle.object_resolve.proofs.Accepted.{resolved-unrefused}
@@ -52,16 +50,20 @@ pub read-fault : (text : List ℕ) (fault : ReadFault) → (fault ≡ read.NoMem
 read-fault text fault (inl is) = inl (ap of_read is)
 read-fault text fault (inr refused) = inr (refused-text text fault refused)
 
-pub blocks-fault : (text : List ℕ) (blocks slice : List Block) (fault : ResolveFault) → slice ≡ blocks → IsObjectText text blocks
-    → IsAmong (IsRefusal slice) fault → (of_blocks fault ≡ load.NoMemory) ⊎ IsTextFault text (of_blocks fault)
-blocks-fault text blocks slice (AtLine line fault) same whole refused = inr (blocks, whole, subst (λ bs. IsRefusal bs line fault) same refused)
-blocks-fault text blocks slice NoMemory same whole refused = inl refl
+pub blocks-fault : (text : List ℕ) (blocks slice : List Block) (fault : LoadFault) → slice ≡ blocks → IsObjectText text blocks
+    → IsAmong (IsRefusal slice) fault → (fault ≡ load.NoMemory) ⊎ IsTextFault text fault
+blocks-fault text blocks slice (load.Block line fault) same whole refused = inr (blocks, whole, subst (λ bs. IsRefusal bs line fault) same refused)
+blocks-fault text blocks slice load.NoMemory same whole refused = inl refl
+blocks-fault text blocks slice (load.Line line fault) same whole refused = absurd refused
+blocks-fault text blocks slice load.TooLarge same whole refused = absurd refused
 
 -- blocks that give a configuration are refused for want of memory alone
-pub blocks-only : (blocks : List Block) (config : Config) (fault : ResolveFault) → IsResolved blocks config
-    → IsAmong (IsRefusal blocks) fault → of_blocks fault ≡ load.NoMemory
-blocks-only blocks config (AtLine line fault) of refused = absurd (resolved-unrefused blocks config line fault of refused)
-blocks-only blocks config NoMemory of refused = refl
+pub blocks-only : (blocks : List Block) (config : Config) (fault : LoadFault) → IsResolved blocks config
+    → IsAmong (IsRefusal blocks) fault → fault ≡ load.NoMemory
+blocks-only blocks config (load.Block line fault) of refused = absurd (resolved-unrefused blocks config line fault of refused)
+blocks-only blocks config load.NoMemory of refused = refl
+blocks-only blocks config (load.Line line fault) of refused = absurd refused
+blocks-only blocks config load.TooLarge of refused = absurd refused
 
 -- ---- configurations
 

@@ -11,8 +11,8 @@ use Rattle.due_model.specs.declared.config.Rights.{Rights}
 use Rattle.due_model.specs.Options.{every_letter}
 use Rattle.object_reader.specs.declared.block.Block.{Block}
 use Rattle.object_reader.specs.declared.block.BlockKind.TheVariants.{Host}
-use Rattle.object_resolve.specs.Blocks.{contact_names, contacts_in, entries_read, hosts_in, interval_in, name_of}
-use Rattle.object_resolve.specs.Values.{command_name, entries_of, value_in}
+use Rattle.object_values.specs.Blocks.{contact_names, contacts_in, entries_read, hosts_in, interval_in, name_of}
+use Rattle.object_values.specs.Values.{command_name, entries_of, value_in}
 
 -- the numbers are those of a list, each once and in order
 pub record AreSetOf (listed numbers : List ℕ) : Type 0 where

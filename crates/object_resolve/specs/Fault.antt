@@ -5,12 +5,10 @@ use Rattle.object_reader.specs.declared.block.Block.{Block}
 use Rattle.object_reader.specs.Fault as reader
 use Rattle.object_reader.specs.declared.fault.ReadFault.{ReadFault}
 use Rattle.object_reader.specs.declared.fault.ReadFault.TheVariants as read
-use Rattle.object_resolve.specs.declared.fault.BlockFault.{BlockFault}
-use Rattle.object_resolve.specs.declared.fault.BlockFault.TheVariants.{MissingDirective, UnknownName, Doubled, BadNumber, TooMany, NotYet}
+use Rattle.object_values.specs.Fault.{fault_name}
+use Rattle.object_values.specs.declared.fault.BlockFault.{BlockFault}
 use Rattle.object_resolve.specs.declared.fault.LoadFault.{LoadFault}
 use Rattle.object_resolve.specs.declared.fault.LoadFault.TheVariants as load
-use Rattle.object_resolve.specs.declared.fault.ResolveFault.{ResolveFault}
-use Rattle.object_resolve.specs.declared.fault.ResolveFault.TheVariants.{AtLine, NoMemory}
 
 -- ---- the first block with a fault
 
@@ -30,26 +28,18 @@ pub record IsFirstOf (fault_of : List Block → Block → Option BlockFault) (bl
   pub refused : fault_of (take place blocks) block ≡ Some fault
   pub before : HaveNone fault_of blocks place
 
--- the line and the fault are such as these
-abbrev pub IsAt : (ℕ → BlockFault → Type 0) → ResolveFault → Type 0
-IsAt Refuses (AtLine line fault) = Refuses line fault
-IsAt Refuses NoMemory = ⊥
+-- the fault is that of a block, and its line and itself are such as these
+abbrev pub IsAt : (ℕ → BlockFault → Type 0) → LoadFault → Type 0
+IsAt Refuses (load.Block line fault) = Refuses line fault
+IsAt Refuses _ = ⊥
 
 -- the same, or memory ran out
-abbrev pub IsAmong : (ℕ → BlockFault → Type 0) → ResolveFault → Type 0
-IsAmong Refuses (AtLine line fault) = Refuses line fault
-IsAmong Refuses NoMemory = Unit {0}
+abbrev pub IsAmong : (ℕ → BlockFault → Type 0) → LoadFault → Type 0
+IsAmong Refuses (load.Block line fault) = Refuses line fault
+IsAmong Refuses load.NoMemory = Unit {0}
+IsAmong Refuses _ = ⊥
 
 -- ---- texts
-
--- the name of a block's fault
-abbrev pub fault_name : BlockFault → List ℕ
-fault_name MissingDirective = codes "MissingDirective"
-fault_name UnknownName = codes "UnknownName"
-fault_name Doubled = codes "Doubled"
-fault_name BadNumber = codes "BadNumber"
-fault_name TooMany = codes "TooMany"
-fault_name NotYet = codes "NotYet"
 
 -- a fault after its line
 abbrev pub at_line : ℕ → List ℕ → List ℕ
@@ -62,15 +52,10 @@ fault_text (load.Block line fault) = at_line line (fault_name fault)
 fault_text load.TooLarge = codes "TooLarge"
 fault_text load.NoMemory = codes "NoMemory"
 
--- ---- of one another
+-- ---- of the reading of a text
 
 -- the fault of a text that isn't blocks
 abbrev pub of_read : ReadFault → LoadFault
 of_read (read.AtLine line fault) = load.Line line fault
 of_read read.TooLarge = load.TooLarge
 of_read read.NoMemory = load.NoMemory
-
--- the fault of blocks
-abbrev pub of_blocks : ResolveFault → LoadFault
-of_blocks (AtLine line fault) = load.Block line fault
-of_blocks NoMemory = load.NoMemory

@@ -1,6 +1,4 @@
-pub mod Values
 pub mod Fault
-pub mod Blocks
 pub mod Limits
 pub mod Tables
 pub mod Build

@@ -6,11 +6,11 @@ use Rattle.due_model.specs.Limits.{max_contacts, max_lanes, max_objects}
 use Rattle.object_reader.specs.declared.block.Block.{Block}
 use Rattle.object_reader.specs.declared.block.BlockKind.{BlockKind}
 use Rattle.object_reader.specs.declared.block.BlockKind.TheVariants.{Contact}
-use Rattle.object_resolve.specs.declared.fault.BlockFault.{BlockFault}
-use Rattle.object_resolve.specs.declared.fault.BlockFault.TheVariants.{TooMany}
+use Rattle.object_values.specs.declared.fault.BlockFault.{BlockFault}
+use Rattle.object_values.specs.declared.fault.BlockFault.TheVariants.{TooMany}
 use Rattle.object_resolve.specs.declared.limits.Counts.{Counts}
-use Rattle.object_resolve.specs.Blocks.{contacts_in, entries_read, hosts_in, is_command_kind, name_of}
-use Rattle.object_resolve.specs.Values.{command_name}
+use Rattle.object_values.specs.Blocks.{contacts_in, entries_read, hosts_in, is_command_kind, name_of}
+use Rattle.object_values.specs.Values.{command_name}
 
 -- ---- lanes
 

@@ -3,8 +3,8 @@
 use Rattle.std.specs.Prelude.{ℕ, ◌⊎◌, List, length}
 use Rattle.due_model.specs.declared.config.Config.{Config}
 use Rattle.object_reader.specs.declared.block.Block.{Block}
-use Rattle.object_resolve.specs.declared.fault.BlockFault.{BlockFault}
-use Rattle.object_resolve.specs.Blocks.{unread_fault, value_fault}
+use Rattle.object_values.specs.declared.fault.BlockFault.{BlockFault}
+use Rattle.object_values.specs.Blocks.{unread_fault, value_fault}
 use Rattle.object_resolve.specs.Build.{IsConfigOf}
 use Rattle.object_resolve.specs.Fault.{HaveNone, IsFirstOf}
 use Rattle.object_resolve.specs.Limits.{AreWithin, is_lane, lanes_in, limit_fault}

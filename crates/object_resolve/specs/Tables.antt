@@ -1,15 +1,16 @@
 -- Which names blocks give, and which of them are unknown or doubled (chapter "Object Definitions").
-use Rattle.std.specs.Prelude.{◌≡◌, ℕ, Bool, true, not, List, [], ◌∷◌, ◌++◌, length, map, filter, Option, Some, None, if◌then◌else◌}
+use Rattle.std.specs.Prelude.{◌≡◌, ℕ, ◌≤◌, ◌<◌, Bool, true, false, not, List, [], ◌∷◌, ◌++◌, length, map, filter, slice_get, take, Option, Some, None, if◌then◌else◌}
 use Rattle.std.specs.List.{list_any}
 use Rattle.std.specs.Str.{bytes_eq}
 use Rattle.object_reader.specs.declared.block.Block.{Block}
 use Rattle.object_reader.specs.declared.block.BlockKind.{BlockKind}
 use Rattle.object_reader.specs.declared.block.BlockKind.TheVariants.{Command, Contact, Host}
-use Rattle.object_resolve.specs.declared.fault.BlockFault.{BlockFault}
-use Rattle.object_resolve.specs.declared.fault.BlockFault.TheVariants.{UnknownName, Doubled}
-use Rattle.object_resolve.specs.Blocks.{entries_read, is_of, name_of}
+use Rattle.object_values.specs.declared.fault.BlockFault.{BlockFault}
+use Rattle.object_values.specs.declared.fault.BlockFault.TheVariants.{UnknownName, Doubled}
+use Rattle.object_values.specs.Blocks.{entries_read, is_of, name_of}
 use Rattle.object_resolve.specs.Fault.{HaveNone}
-use Rattle.object_resolve.specs.Values.{command_name}
+use Rattle.object_resolve.specs.declared.tables.Tables.{Tables}
+use Rattle.object_values.specs.Values.{command_name}
 
 -- ---- the faults of names
 
@@ -58,20 +59,36 @@ table_of Contact commands contacts hosts = contacts
 table_of Host commands contacts hosts = hosts
 table_of _ commands contacts hosts = []
 
--- the names and one more, where it belongs to them
-abbrev pub with_name : Bool → List ℕ → List (List ℕ) → List (List ℕ)
-with_name belongs name names = if belongs then names ++ name ∷ [] else names
-
 -- whether the table of the block's type has its name
 abbrev pub has_name : Block → (commands contacts hosts : List (List ℕ)) → Bool
 has_name block commands contacts hosts =
     list_any (bytes_eq (name_of block)) (table_of block.kind commands contacts hosts)
 
+-- the names and one more, where it isn't among them
+abbrev pub inserted : List ℕ → List (List ℕ) → List (List ℕ)
+inserted name names = if list_any (bytes_eq name) names then names else names ++ name ∷ []
+
 -- the names of a type, and that of one more block, where it is of the type
 abbrev pub with_block : BlockKind → Block → List (List ℕ) → List (List ℕ)
-with_block kind block names = with_name (is_of kind block) (name_of block) names
+with_block kind block names = if is_of kind block then inserted (name_of block) names else names
 
 -- the same names are in both
 abbrev pub AreSameNames : List (List ℕ) → List (List ℕ) → Type 0
 AreSameNames names others = (name : List ℕ)
     → list_any (bytes_eq name) names ≡ list_any (bytes_eq name) others
+
+-- of the first blocks, `count` in number, `fresh` come before the first whose name is doubled
+pub record AreFresh (blocks : List Block) (count fresh : ℕ) : Type 0 where
+  pub within : fresh ≤ count
+  pub before : (k : ℕ) (block : Block) → k < fresh → slice_get blocks k ≡ Some block
+      → is_doubled (take k blocks) block ≡ false
+  pub at : (block : Block) → fresh < count → slice_get blocks fresh ≡ Some block
+      → is_doubled (take fresh blocks) block ≡ true
+
+-- the tables hold the names of the first blocks, `count` in number
+pub record HoldNames (blocks : List Block) (count : ℕ) (tables : Tables) : Type 0 where
+  pub commands : AreSameNames tables.commands (names_in Command (take count blocks))
+  pub contacts : AreSameNames tables.contacts (names_in Contact (take count blocks))
+  pub hosts : AreSameNames tables.hosts (names_in Host (take count blocks))
+  pub numbered : tables.fresh ≡ count → tables.contacts ≡ names_in Contact (take count blocks)
+  pub fresh : AreFresh blocks count tables.fresh

@@ -5,20 +5,20 @@ ghost use Rattle.std.specs.List.{AllZip, filter_map};
 ghost use Rattle.std.specs.Option.{option_to_list};
 ghost use Rattle.std.specs.Str.{bytes_eq};
 ghost use Rattle.due_model.specs.Limits.{max_contacts, max_lanes};
-ghost use Rattle.object_resolve.specs.Blocks.{contacts_in, hosts_in, interval_in, name_of};
+ghost use Rattle.object_values.specs.Blocks.{contacts_in, hosts_in, interval_in, name_of};
 ghost use Rattle.object_resolve.specs.Build.{AreRightsOf, AreSetOf, IsContactOf, IsHostOf, contacts_named, lane_named, lanes_named};
 ghost use Rattle.object_resolve.specs.Limits.{is_used};
 ghost use Rattle.object_resolve.specs.Resolve.{HaveValues};
-ghost use Rattle.object_resolve.specs.Values.{entries_of, texts, value_in};
+ghost use Rattle.object_values.specs.Values.{entries_of, texts, value_in};
 
-use crate::blocks::{interval_in, is_contact, is_host, name_of};
 use crate::limits::is_lane;
 use crate::names::Names;
-use crate::values::{command_name, entries_in};
 use due_model::config::{Contact, ContactId, Lane, LaneId, Object, Rights};
 use due_model::options::OptionLetters;
 use due_model::sequence::{Sequence, Text};
-use object_reader::block::{Block, Directive};
+use object_reader::block::{Block, BlockKind, Directive};
+use object_values::blocks::{interval_in, is_of, name_of};
+use object_values::values::{command_name, entries_in};
 use std::alloc::{AllocError, Global};
 
 /// The name of a block's object.
@@ -128,7 +128,7 @@ pub(crate) fn hosts_of(
 {
     let mut hosts = Vec::new(alloc);
     for block in blocks {
-        if !is_host(block) {
+        if !is_of(BlockKind::Host, block) {
             continue;
         }
         hosts.push(host_of(alloc, block, contacts)?)?;
@@ -247,7 +247,7 @@ pub(crate) fn contacts_of(
 {
     let mut contacts = Vec::new(alloc);
     for block in blocks {
-        if !is_contact(block) {
+        if !is_of(BlockKind::Contact, block) {
             continue;
         }
         contacts.push(contact_of(alloc, block, lanes)?)?;

@@ -1,31 +1,14 @@
 //! Why object text gives no configuration.
 
 ghost use Rattle.std.specs.Prelude.{◌≡◌, Some};
-ghost use Rattle.object_resolve.specs.Fault.{fault_name, fault_text, of_blocks, of_read};
-ghost use Rattle.object_resolve.specs.declared.fault.ResolveFault.TheVariants.{NoMemory};
+ghost use Rattle.object_resolve.specs.Fault.{fault_text, of_read};
+ghost use Rattle.object_resolve.specs.declared.fault.LoadFault.TheVariants.{NoMemory};
 
 use object_reader::fault::{LineFault, ReadFault};
+use object_values::fault::BlockFault;
 use std::alloc::{AllocError, AllocFailed};
 use std::error::Error;
 use std::fmt;
-
-/// What is wrong with one block of object text.
-#[derive(Clone, Copy, Debug, PartialEq, Eq)]
-pub enum BlockFault {
-    /// The block lacks the directive that names its object.
-    MissingDirective,
-    /// A list of the block has a name that no block of its type has.
-    UnknownName,
-    /// An earlier block of the same type has the same name.
-    Doubled,
-    /// A number isn't decimal digits of 0 to 1,000,000.
-    BadNumber,
-    /// With this block there are over 65,535 hosts, 4,096 contacts or 16 lanes.
-    TooMany,
-    /// The block is of a type that isn't resolved yet, or it has a directive, or an entry of a list,
-    /// that isn't read yet.
-    NotYet,
-}
 
 /// Why object text gives no configuration. Nothing is given beside it.
 #[derive(Clone, Copy, Debug, PartialEq, Eq)]
@@ -38,31 +21,6 @@ pub enum LoadFault {
     TooLarge,
     /// Memory ran out. It says nothing of the text.
     NoMemory,
-}
-
-/// Why blocks could not be made a configuration.
-#[derive(Clone, Copy, Debug, PartialEq, Eq)]
-pub(crate) enum ResolveFault {
-    /// The fault of a block, with the line of its `define`.
-    AtLine { line: u64, fault: BlockFault },
-    /// Memory ran out. It says nothing of the blocks.
-    NoMemory,
-}
-
-impl BlockFault {
-    /// The name of the fault, as a program prints it.
-    pub fn name(self) -> &'static str
-        ensures { result.now ≡ fault_name self }
-    {
-        match self {
-            BlockFault::MissingDirective => "MissingDirective",
-            BlockFault::UnknownName => "UnknownName",
-            BlockFault::Doubled => "Doubled",
-            BlockFault::BadNumber => "BadNumber",
-            BlockFault::TooMany => "TooMany",
-            BlockFault::NotYet => "NotYet",
-        }
-    }
 }
 
 /// `line N: NAME` for the fault of a line or of a block, and else the name alone.
@@ -99,29 +57,10 @@ impl From<ReadFault> for LoadFault {
     }
 }
 
-impl From<ResolveFault> for LoadFault {
-    ghost from_gives = { λ fault given. given ≡ of_blocks fault };
-
-    fn from(fault: ResolveFault) -> LoadFault {
-        match fault {
-            ResolveFault::AtLine { line, fault } => LoadFault::Block { line, fault },
-            ResolveFault::NoMemory => LoadFault::NoMemory,
-        }
-    }
-}
-
-impl From<AllocError> for ResolveFault {
+impl From<AllocError> for LoadFault {
     ghost from_gives = { λ _ fault. fault ≡ NoMemory };
 
-    fn from(_error: AllocError) -> ResolveFault {
-        ResolveFault::NoMemory
-    }
-}
-
-impl<T: Drop> From<AllocFailed<T>> for ResolveFault {
-    ghost from_gives = { λ _ fault. fault ≡ NoMemory };
-
-    fn from(_error: AllocFailed<T>) -> ResolveFault {
-        ResolveFault::NoMemory
+    fn from(_error: AllocError) -> LoadFault {
+        LoadFault::NoMemory
     }
 }

@@ -6,7 +6,7 @@ ghost use Rattle.due_model.specs.Covered.{IsCovered};
 ghost use Rattle.due_model.specs.declared.config.Config.{Config};
 ghost use Rattle.object_reader.specs.declared.block.Block.{Block};
 ghost use Rattle.object_resolve.specs.Resolve.{IsRefusal, IsResolved};
-ghost use Rattle.object_resolve.specs.declared.fault.BlockFault.{BlockFault};
+ghost use Rattle.object_values.specs.declared.fault.BlockFault.{BlockFault};
 
 /// A configuration that blocks give is accepted, and so far covered.
 pub fn accept_resolved()

@@ -2,7 +2,6 @@
 //! (chapter "Object Definitions").
 #![tactic(auto)]
 
-mod blocks;
 mod build;
 mod fault;
 pub mod laws;
@@ -11,7 +10,7 @@ mod names;
 mod resolve;
 mod tables;
 mod text;
-mod values;
 
-pub use fault::{BlockFault, LoadFault};
+pub use fault::LoadFault;
+pub use object_values::fault::BlockFault;
 pub use text::load;

@@ -3,17 +3,18 @@
 ghost use Rattle.std.specs.Prelude.{◌≡◌, ℕ, List, ◌||◌, ◌+◌, ◌≤◌, ◌<◌, length, filter, is_some, IfErr, IfOk, IfSome, OnOk, if◌then◌else◌};
 ghost use Rattle.std.specs.List.{list_any};
 ghost use Rattle.std.specs.Str.{bytes_eq};
-ghost use Rattle.object_resolve.specs.Blocks.{is_contact, is_host};
+ghost use Rattle.object_values.specs.Blocks.{is_contact, is_host};
 ghost use Rattle.object_resolve.specs.Fault.{IsAmong, IsAt, IsFirstOf};
 ghost use Rattle.object_resolve.specs.Limits.{AreFew, AreUsed, AreWithin, IsWithinLimits, is_over, is_used, limit_fault, uses};
 ghost use Rattle.object_resolve.specs.Resolve.{IsOver};
 
-use crate::blocks::{command_entries, is_command, is_contact, is_host, name_of};
-use crate::fault::{BlockFault, ResolveFault};
+use crate::fault::LoadFault;
 use crate::names::Names;
-use crate::values::command_name;
 use due_model::limits::{MAX_CONTACTS, MAX_LANES, MAX_OBJECTS};
-use object_reader::block::Block;
+use object_reader::block::{Block, BlockKind};
+use object_values::blocks::{command_entries, is_of, name_of};
+use object_values::fault::BlockFault;
+use object_values::values::command_name;
 use std::alloc::{AllocError, Global};
 
 /// The names of the commands that some contact uses.
@@ -22,7 +23,7 @@ fn used_commands(alloc: Global, blocks: &[Block]) -> Result<Names, AllocError>
 {
     let mut used = Names::new(alloc);
     for block in blocks {
-        if !is_contact(block) {
+        if !is_of(BlockKind::Contact, block) {
             continue;
         }
         add_commands(alloc, &mut used, block)?;
@@ -47,7 +48,7 @@ fn add_commands(alloc: Global, used: &mut Names, block: &Block) -> Result<(), Al
 pub(crate) fn is_lane(block: &Block, used: &Names) -> bool
     ensures { result ≡ is_used used.now block.now }
 {
-    is_command(block) && used.has(name_of(block))
+    is_of(BlockKind::Command, block) && used.has(name_of(block))
 }
 
 /// How many of each there are.
@@ -66,10 +67,10 @@ fn count_block(counts: Counts, block: &Block, used: &Names) -> Counts
     ensures lanes { result.lanes ≡ counts.lanes + (if is_used used.now block.now then 1 else 0) }
 {
     let mut more = counts;
-    if is_host(block) {
+    if is_of(BlockKind::Host, block) {
         more.hosts += 1;
     }
-    if is_contact(block) {
+    if is_of(BlockKind::Contact, block) {
         more.contacts += 1;
     }
     if is_lane(block, used) {
@@ -87,7 +88,7 @@ fn is_over(counts: Counts) -> bool
 
 /// Finds the first block with which there are too many hosts, contacts or lanes, where `used` are the names of
 /// the commands that are lanes.
-fn check_counts(blocks: &[Block], used: &Names) -> Result<(), ResolveFault>
+fn check_counts(blocks: &[Block], used: &Names) -> Result<(), LoadFault>
     ensures limits { OnOk result (IsWithinLimits (is_used used.now) blocks.now) }
     ensures fault { IfErr result (λ fault.
         IsAt (IsFirstOf (limit_fault (is_used used.now)) blocks.now) fault) }
@@ -100,7 +101,7 @@ fn check_counts(blocks: &[Block], used: &Names) -> Result<(), ResolveFault>
     for block in blocks {
         let more = count_block(counts, block, used);
         if is_over(more) {
-            return Err(ResolveFault::AtLine {
+            return Err(LoadFault::Block {
                 line: block.line,
                 fault: BlockFault::TooMany,
             });
@@ -112,7 +113,7 @@ fn check_counts(blocks: &[Block], used: &Names) -> Result<(), ResolveFault>
 
 /// The names of the commands that are lanes, or the first block with which there are too many hosts, contacts
 /// or lanes.
-pub(crate) fn check_limits(alloc: Global, blocks: &[Block]) -> Result<Names, ResolveFault>
+pub(crate) fn check_limits(alloc: Global, blocks: &[Block]) -> Result<Names, LoadFault>
     ensures used { IfOk result (λ used. AreUsed used blocks.now) }
     ensures limits { OnOk result (AreWithin blocks.now) }
     ensures fault { IfErr result (λ fault. IsAmong (IsOver blocks.now) fault) }

@@ -1,15 +1,14 @@
 //! The configuration that blocks mean, or the first block with a fault (chapter "Object Definitions").
 
 ghost use Rattle.std.specs.Prelude.{◌≡◌, IfErr, IfOk, OnOk};
-ghost use Rattle.object_resolve.specs.Blocks.{contact_names};
+ghost use Rattle.object_values.specs.Blocks.{contact_names};
 ghost use Rattle.object_resolve.specs.Build.{IsConfigOf};
 ghost use Rattle.object_resolve.specs.Fault.{IsAmong, IsAt};
 ghost use Rattle.object_resolve.specs.Limits.{AreUsed, AreWithin, lanes_in};
 ghost use Rattle.object_resolve.specs.Resolve.{AreRead, HaveValues, IsMisvalued, IsRefusal, IsResolved, IsUnread};
 
-use crate::blocks::{has_later_parts, value_fault};
 use crate::build::{contacts_of, hosts_of, lanes_of};
-use crate::fault::{BlockFault, ResolveFault};
+use crate::fault::LoadFault;
 use crate::limits::check_limits;
 use crate::names::Names;
 use crate::tables::check_names;
@@ -17,6 +16,8 @@ use due_model::config::Config;
 use due_model::objects::Objects;
 use due_model::sequence::Sequence;
 use object_reader::block::Block;
+use object_values::blocks::{has_later_parts, value_fault};
+use object_values::fault::BlockFault;
 use std::alloc::{AllocError, Global};
 
 /// The configuration that the blocks give, or the first fault: first of types that aren't resolved yet,
@@ -24,7 +25,7 @@ use std::alloc::{AllocError, Global};
 /// limits; each over all blocks in file order. Blocks of `hostextinfo` and `serviceextinfo` say nothing of
 /// notifications and are passed over. Out of memory says nothing of the blocks. The work grows with the
 /// bytes of the blocks.
-pub(crate) fn resolve(alloc: Global, blocks: &[Block]) -> Result<Config, ResolveFault>
+pub(crate) fn resolve(alloc: Global, blocks: &[Block]) -> Result<Config, LoadFault>
     ensures resolved { IfOk result (λ config. IsResolved blocks.now config) }
     ensures refusal { IfErr result (λ fault. IsAmong (IsRefusal blocks.now) fault) }
 {
@@ -36,14 +37,14 @@ pub(crate) fn resolve(alloc: Global, blocks: &[Block]) -> Result<Config, Resolve
 }
 
 /// Finds the first block with a directive or an entry of a list that isn't read yet.
-fn check_read(alloc: Global, blocks: &[Block]) -> Result<(), ResolveFault>
+fn check_read(alloc: Global, blocks: &[Block]) -> Result<(), LoadFault>
     ensures read { OnOk result (AreRead blocks.now) }
     ensures fault { IfErr result (λ fault. IsAmong (IsUnread blocks.now) fault) }
 {
     for block in blocks {
         let later = has_later_parts(alloc, block)?;
         if later {
-            return Err(ResolveFault::AtLine {
+            return Err(LoadFault::Block {
                 line: block.line,
                 fault: BlockFault::NotYet,
             });
@@ -53,7 +54,7 @@ fn check_read(alloc: Global, blocks: &[Block]) -> Result<(), ResolveFault>
 }
 
 /// Finds the first block that lacks its name or whose interval isn't a number.
-fn check_values(blocks: &[Block]) -> Result<(), ResolveFault>
+fn check_values(blocks: &[Block]) -> Result<(), LoadFault>
     ensures values { OnOk result (HaveValues blocks.now) }
     ensures fault { IfErr result (λ fault. IsAt (IsMisvalued blocks.now) fault) }
 {
@@ -61,7 +62,7 @@ fn check_values(blocks: &[Block]) -> Result<(), ResolveFault>
         match value_fault(block) {
             None => {}
             Some(fault) => {
-                return Err(ResolveFault::AtLine {
+                return Err(LoadFault::Block {
                     line: block.line,
                     fault,
                 });

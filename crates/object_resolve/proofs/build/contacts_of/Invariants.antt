@@ -1,6 +1,6 @@
 use Rattle.std.proofs.Common.{take}
 use Rattle.std.specs.List.{AllZip}
-use Rattle.object_resolve.specs.Blocks.{contacts_in}
+use Rattle.object_values.specs.Blocks.{contacts_in}
 use Rattle.object_resolve.specs.Build.{IsContactOf}
 use Rattle.object_resolve.proofs.build.contacts_of.Given as goal
 

@@ -1,7 +1,7 @@
 use Rattle.std.proofs.Common.{◌≡◌, ◌∙◌, ap, codes, map, refl, sym}
-use Rattle.object_resolve.specs.Blocks.{interval_in}
+use Rattle.object_values.specs.Blocks.{interval_in}
 use Rattle.object_resolve.specs.Build.{contacts_named}
-use Rattle.object_resolve.specs.Values.{entries_of, texts, value_in}
+use Rattle.object_values.specs.Values.{entries_of, texts, value_in}
 use Rattle.object_resolve.proofs.ListLemmas.{moved-set}
 use Rattle.object_resolve.proofs.build.host_of.Goals as goal
 

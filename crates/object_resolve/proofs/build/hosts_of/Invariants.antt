@@ -1,6 +1,6 @@
 use Rattle.std.proofs.Common.{take}
 use Rattle.std.specs.List.{AllZip}
-use Rattle.object_resolve.specs.Blocks.{hosts_in}
+use Rattle.object_values.specs.Blocks.{hosts_in}
 use Rattle.object_resolve.specs.Build.{IsHostOf}
 use Rattle.object_resolve.proofs.build.hosts_of.Given as goal
 

@@ -1,7 +1,7 @@
 use Rattle.std.proofs.Common.{◌∙◌, ap}
 use Rattle.std.specs.List.{position}
 use Rattle.std.specs.Str.{bytes_eq}
-use Rattle.object_resolve.specs.Values.{command_name}
+use Rattle.object_values.specs.Values.{command_name}
 use Rattle.object_resolve.proofs.ListLemmas.{found-more}
 use Rattle.object_resolve.proofs.build.lane_numbers.Goals as goal
 

@@ -2,7 +2,7 @@ use Rattle.std.proofs.Common.{◌<◌, All, arith, length, subst, sym, ℕ}
 use Rattle.std.proofs.lemmas.List.Elements.{All-weaker}
 use Rattle.object_resolve.proofs.Accepted.{all-of_set, lanes-within}
 use Rattle.due_model.specs.Limits.{max_lanes}
-use Rattle.object_resolve.specs.Values.{texts}
+use Rattle.object_values.specs.Values.{texts}
 use Rattle.object_resolve.proofs.build.lanes_listed.Goals as goal
 
 pub lane_ids-requires : goal.lane_ids-requires

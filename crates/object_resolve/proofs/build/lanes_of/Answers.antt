@@ -1,5 +1,5 @@
 use Rattle.std.proofs.Common.{◌∙◌, ap, map, sym}
-use Rattle.object_resolve.specs.Blocks.{name_of}
+use Rattle.object_values.specs.Blocks.{name_of}
 use Rattle.object_resolve.specs.Limits.{is_used}
 use Rattle.object_resolve.proofs.ListLemmas.{filter-skip, names-item}
 use Rattle.object_resolve.proofs.build.lanes_of.Goals as goal

@@ -1,5 +1,5 @@
 use Rattle.std.proofs.Common.{◌≡◌, map, filter, take}
-use Rattle.object_resolve.specs.Blocks.{name_of}
+use Rattle.object_values.specs.Blocks.{name_of}
 use Rattle.object_resolve.specs.Limits.{is_used}
 use Rattle.object_resolve.proofs.build.lanes_of.Given as goal
 

@@ -2,8 +2,8 @@ use Rattle.std.proofs.Common.{◌≤◌, ◌∙◌, ◌||◌, ap, arith, length,
 use Rattle.std.specs.List.{list_any}
 use Rattle.std.specs.Str.{bytes_eq}
 use Rattle.object_reader.specs.declared.block.BlockKind.TheVariants.{Contact}
-use Rattle.object_resolve.specs.Blocks.{entries_read}
-use Rattle.object_resolve.specs.Values.{command_name, texts}
+use Rattle.object_values.specs.Blocks.{entries_read}
+use Rattle.object_values.specs.Values.{command_name, texts}
 use Rattle.object_resolve.proofs.ListLemmas.{any-more, has-added, or-assoc}
 use Rattle.object_resolve.proofs.limits.add_commands.Goals as goal
 

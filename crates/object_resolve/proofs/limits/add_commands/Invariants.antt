@@ -1,7 +1,7 @@
 use Rattle.std.proofs.Common.{◌≡◌, ℕ, List, ◌||◌, take}
 use Rattle.std.specs.List.{list_any}
 use Rattle.std.specs.Str.{bytes_eq}
-use Rattle.object_resolve.specs.Values.{command_name, texts}
+use Rattle.object_values.specs.Values.{command_name, texts}
 use Rattle.object_resolve.proofs.limits.add_commands.Given as goal
 
 -- the names before, and the commands of the entries so far

@@ -1,7 +1,7 @@
 use Rattle.std.proofs.Common.{◌≡◌, ◌+◌, ◌∙◌, None, filter, length, sym, take}
-use Rattle.object_resolve.specs.Blocks.{contacts_in, hosts_in, is_contact, is_host}
+use Rattle.object_values.specs.Blocks.{contacts_in, hosts_in, is_contact, is_host}
 use Rattle.object_resolve.specs.Limits.{is_used, limit_fault}
-use Rattle.object_resolve.specs.declared.fault.BlockFault.TheVariants.{TooMany}
+use Rattle.object_values.specs.declared.fault.BlockFault.TheVariants.{TooMany}
 use Rattle.object_resolve.proofs.FaultLemmas.{fault-none, fault-some, first-item, none-item}
 use Rattle.object_resolve.proofs.LimitLemmas.{few, over-item}
 use Rattle.object_resolve.proofs.ListLemmas.{length-filter_item}

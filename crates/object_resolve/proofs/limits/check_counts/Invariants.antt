@@ -1,5 +1,5 @@
 use Rattle.std.proofs.Common.{◌≡◌, length, filter, take}
-use Rattle.object_resolve.specs.Blocks.{contacts_in, hosts_in}
+use Rattle.object_values.specs.Blocks.{contacts_in, hosts_in}
 use Rattle.object_resolve.specs.Fault.{HaveNone}
 use Rattle.object_resolve.specs.Limits.{AreFew, is_used, limit_fault}
 use Rattle.object_resolve.proofs.limits.check_counts.Given as goal

@@ -1,7 +1,7 @@
 use Rattle.std.proofs.Common.{◌≡◌, ℕ, List, take}
 use Rattle.std.specs.List.{list_any}
 use Rattle.std.specs.Str.{bytes_eq}
-use Rattle.object_resolve.specs.Blocks.{contacts_in}
+use Rattle.object_values.specs.Blocks.{contacts_in}
 use Rattle.object_resolve.specs.Limits.{uses}
 use Rattle.object_resolve.proofs.limits.used_commands.Given as goal
 

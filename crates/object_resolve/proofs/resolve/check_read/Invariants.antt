@@ -1,4 +1,4 @@
-use Rattle.object_resolve.specs.Blocks.{unread_fault}
+use Rattle.object_values.specs.Blocks.{unread_fault}
 use Rattle.object_resolve.specs.Fault.{HaveNone}
 use Rattle.object_resolve.proofs.resolve.check_read.Given as goal
 

@@ -1,5 +1,5 @@
 use Rattle.std.proofs.Common.{◌≤◌, arith, length, sym}
-use Rattle.object_resolve.specs.Blocks.{value_fault}
+use Rattle.object_values.specs.Blocks.{value_fault}
 use Rattle.object_resolve.proofs.FaultLemmas.{first-item, none-first, none-item, none-whole}
 use Rattle.object_resolve.proofs.resolve.check_values.Goals as goal
 

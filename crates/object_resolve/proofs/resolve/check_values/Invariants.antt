@@ -1,4 +1,4 @@
-use Rattle.object_resolve.specs.Blocks.{value_fault}
+use Rattle.object_values.specs.Blocks.{value_fault}
 use Rattle.object_resolve.specs.Fault.{HaveNone}
 use Rattle.object_resolve.proofs.resolve.check_values.Given as goal
 

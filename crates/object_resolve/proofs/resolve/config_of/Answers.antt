@@ -1,6 +1,6 @@
 use Rattle.std.proofs.Common.{◌≡◌, ◌∙◌, ap, arith, length, map, subst, sym}
 use Rattle.std.specs.List.{AllZip}
-use Rattle.object_resolve.specs.Blocks.{contact_names, contacts_in, hosts_in, name_of}
+use Rattle.object_values.specs.Blocks.{contact_names, contacts_in, hosts_in, name_of}
 use Rattle.object_resolve.specs.Build.{IsContactOf, IsHostOf}
 use Rattle.object_resolve.specs.Limits.{is_lane, is_used}
 use Rattle.object_resolve.proofs.LimitLemmas.{used-lanes}

@@ -1,6 +1,6 @@
-use Rattle.object_resolve.specs.Values.{texts}
-use Rattle.object_resolve.proofs.ListLemmas.{entries-end, entries-more}
-use Rattle.object_resolve.proofs.values.entries.Goals as goal
+use Rattle.object_values.specs.Values.{texts}
+use Rattle.object_values.proofs.EntryLemmas.{entries-end, entries-more}
+use Rattle.object_values.proofs.values.entries.Goals as goal
 
 pub returns-then-part-rest : goal.returns-then-part-rest
 returns-then-part-rest c =

@@ -1,6 +1,6 @@
 use Rattle.std.proofs.Common.{◌≡◌, ◌++◌, length}
-use Rattle.object_resolve.specs.Values.{entries, texts}
-use Rattle.object_resolve.proofs.values.entries.Given as goal
+use Rattle.object_values.specs.Values.{entries, texts}
+use Rattle.object_values.proofs.values.entries.Given as goal
 
 -- The entries so far, and those of the rest.
 abbrev pub invariant-loop-list : goal.invariant-loop-list

@@ -6,9 +6,9 @@ use Rattle.object_reader.specs.declared.block.Block.{Block}
 use Rattle.object_reader.specs.declared.block.BlockKind.{BlockKind}
 use Rattle.object_reader.specs.declared.block.BlockKind.TheVariants.{Command, Contact, Host, HostExtInfo, ServiceExtInfo}
 use Rattle.object_reader.specs.declared.block.Directive.{Directive}
-use Rattle.object_resolve.specs.declared.fault.BlockFault.{BlockFault}
-use Rattle.object_resolve.specs.declared.fault.BlockFault.TheVariants.{MissingDirective, BadNumber, NotYet}
-use Rattle.object_resolve.specs.Values.{entries_of, number_in, value_in}
+use Rattle.object_values.specs.declared.fault.BlockFault.{BlockFault}
+use Rattle.object_values.specs.declared.fault.BlockFault.TheVariants.{MissingDirective, BadNumber, NotYet}
+use Rattle.object_values.specs.Values.{entries_of, number_in, value_in}
 
 -- ---- the blocks of each type
 

@@ -6,7 +6,7 @@ ghost use Rattle.std.specs.List.{before_first, list_all, list_any, position};
 ghost use Rattle.std.specs.Option.{option_copied};
 ghost use Rattle.std.specs.Str.{bytes_eq};
 ghost use Rattle.due_model.specs.Limits.{max_number};
-ghost use Rattle.object_resolve.specs.Values.{command_name, entries, entries_of, is_comma, texts, number_in, number_of, value_in};
+ghost use Rattle.object_values.specs.Values.{command_name, entries, entries_of, is_comma, texts, number_in, number_of, value_in};
 
 use due_model::limits::MAX_NUMBER;
 use object_reader::blanks::trim;
@@ -14,14 +14,14 @@ use object_reader::block::Directive;
 use std::alloc::{AllocError, Global};
 
 /// Whether the bytes are those of the text.
-pub(crate) fn equals(bytes: &[u8], text: &str) -> bool
+pub fn equals(bytes: &[u8], text: &str) -> bool
     ensures { result ≡ bytes_eq bytes.now text.now }
 {
     bytes == text.as_bytes()
 }
 
 /// The value of the last directive of that name.
-pub(crate) fn value_in<'a>(directives: &'a [Directive], name: &str) -> Option<&'a [u8]>
+pub fn value_in<'a>(directives: &'a [Directive], name: &str) -> Option<&'a [u8]>
     ensures { option_copied result ≡ value_in directives.now name.now }
 {
     let found = directives
@@ -62,7 +62,7 @@ fn push_entry<'a>(list: &mut Vec<&'a [u8]>, entry: &'a [u8]) -> Result<(), Alloc
 }
 
 /// The entries of a list: what stands between the commas, without the blanks round it, where anything does.
-pub(crate) fn entries<'a>(alloc: Global, value: &'a [u8]) -> Result<Vec<&'a [u8]>, AllocError>
+pub fn entries<'a>(alloc: Global, value: &'a [u8]) -> Result<Vec<&'a [u8]>, AllocError>
     ensures { IfOk result (λ list. texts list.items ≡ entries value.now) }
 {
     let mut list = Vec::new(alloc);
@@ -78,7 +78,7 @@ pub(crate) fn entries<'a>(alloc: Global, value: &'a [u8]) -> Result<Vec<&'a [u8]
 }
 
 /// The entries of the list that a directive gives; none where it isn't there.
-pub(crate) fn entries_in<'a>(
+pub fn entries_in<'a>(
     alloc: Global,
     directives: &'a [Directive],
     name: &str,
@@ -100,7 +100,7 @@ fn first_exclamation(bytes: &[u8]) -> Option<usize>
 }
 
 /// The command that an entry of a list of notification commands names: what stands before the first `!`.
-pub(crate) fn command_name(entry: &[u8]) -> &[u8]
+pub fn command_name(entry: &[u8]) -> &[u8]
     ensures { result.now ≡ command_name entry.now }
 {
     let end = first_exclamation(entry).unwrap_or(entry.len());
@@ -127,7 +127,7 @@ fn number_of(digits: &[u8]) -> u32
 }
 
 /// The number that the value is: decimal digits of 0 to 1,000,000.
-pub(crate) fn number_in(value: &[u8]) -> Option<u32>
+pub fn number_in(value: &[u8]) -> Option<u32>
     ensures { result ≡ number_in value.now }
 {
     if value.is_empty() {

@@ -3,43 +3,22 @@
 ghost use Rattle.std.specs.Prelude.{◌≡◌, ◌++◌, codes, IfOk};
 ghost use Rattle.std.specs.List.{list_any};
 ghost use Rattle.std.specs.Str.{bytes_eq};
-ghost use Rattle.object_resolve.specs.Blocks.{entries_read, has_bad_interval, has_later_parts, interval_in, is_command, is_contact, is_host, is_later_entry, is_later_kind, is_of, later_names, means_nothing, name_of, name_directive, value_fault};
-ghost use Rattle.object_resolve.specs.Values.{texts};
+ghost use Rattle.object_values.specs.Blocks.{entries_read, has_bad_interval, has_later_parts, interval_in, is_later_entry, is_later_kind, is_of, later_names, means_nothing, name_of, name_directive, value_fault};
+ghost use Rattle.object_values.specs.Values.{texts};
 
 use crate::fault::BlockFault;
 use crate::values::{entries_in, equals, number_in, value_in};
 use object_reader::block::{Block, BlockKind, Directive};
 use std::alloc::{AllocError, Global};
 
-/// Whether a block is a host's.
-pub(crate) fn is_host(block: &Block) -> bool
-    ensures { result ≡ is_host block.now }
-{
-    matches!(block.kind, BlockKind::Host)
-}
-
-/// Whether a block is a contact's.
-pub(crate) fn is_contact(block: &Block) -> bool
-    ensures { result ≡ is_contact block.now }
-{
-    matches!(block.kind, BlockKind::Contact)
-}
-
-/// Whether a block is a command's.
-pub(crate) fn is_command(block: &Block) -> bool
-    ensures { result ≡ is_command block.now }
-{
-    matches!(block.kind, BlockKind::Command)
-}
-
-/// Whether a block is of that type.
-pub(crate) fn is_of(kind: BlockKind, block: &Block) -> bool
+/// Whether a block is of that type. Of a type that isn't resolved it says no.
+pub fn is_of(kind: BlockKind, block: &Block) -> bool
     ensures { result ≡ is_of kind block.now }
 {
     match kind {
-        BlockKind::Command => is_command(block),
-        BlockKind::Contact => is_contact(block),
-        BlockKind::Host => is_host(block),
+        BlockKind::Command => matches!(block.kind, BlockKind::Command),
+        BlockKind::Contact => matches!(block.kind, BlockKind::Contact),
+        BlockKind::Host => matches!(block.kind, BlockKind::Host),
         _ => false,
     }
 }
@@ -78,7 +57,7 @@ fn name_directive(kind: BlockKind) -> &'static str
 }
 
 /// The name of a block's object; empty where the block gives none.
-pub(crate) fn name_of(block: &Block) -> &[u8]
+pub fn name_of(block: &Block) -> &[u8]
     ensures { result.now ≡ name_of block.now }
 {
     match value_in(block.directives.as_slice(), name_directive(block.kind)) {
@@ -88,7 +67,7 @@ pub(crate) fn name_of(block: &Block) -> &[u8]
 }
 
 /// The entries of both lists of notification commands.
-pub(crate) fn command_entries(
+pub fn command_entries(
     alloc: Global,
     directives: &[Directive],
 ) -> Result<Vec<&[u8]>, AllocError>
@@ -102,7 +81,7 @@ pub(crate) fn command_entries(
 }
 
 /// The entries of the lists that are read, by the type of the block.
-pub(crate) fn entries_read(alloc: Global, block: &Block) -> Result<Vec<&[u8]>, AllocError>
+pub fn entries_read(alloc: Global, block: &Block) -> Result<Vec<&[u8]>, AllocError>
     ensures { IfOk result (λ list.
         texts list.items ≡ entries_read block.now.kind block.now.directives) }
 {
@@ -195,7 +174,7 @@ fn has_later_entry(entries: &[&[u8]]) -> bool
 
 /// Whether a block is of a type that isn't resolved yet, or has a directive or an entry of a list that
 /// isn't read yet.
-pub(crate) fn has_later_parts(alloc: Global, block: &Block) -> Result<bool, AllocError>
+pub fn has_later_parts(alloc: Global, block: &Block) -> Result<bool, AllocError>
     ensures { IfOk result (λ later. later ≡ has_later_parts block.now) }
 {
     if is_later_kind(block.kind) {
@@ -214,7 +193,7 @@ fn has_bad_interval(kind: BlockKind, directives: &[Directive]) -> bool
 }
 
 /// The first fault of a block's own values: it lacks its name, or its interval isn't a number.
-pub(crate) fn value_fault(block: &Block) -> Option<BlockFault>
+pub fn value_fault(block: &Block) -> Option<BlockFault>
     ensures { result ≡ value_fault block.now }
 {
     if means_nothing(block.kind) {
@@ -232,7 +211,7 @@ pub(crate) fn value_fault(block: &Block) -> Option<BlockFault>
 
 /// The interval of a host: the number that it gives, and 30 where it gives none. `None` where what it gives
 /// isn't a number.
-pub(crate) fn interval_in(directives: &[Directive]) -> Option<u32>
+pub fn interval_in(directives: &[Directive]) -> Option<u32>
     ensures { result ≡ interval_in directives.now }
 {
     match value_in(directives, "notification_interval") {

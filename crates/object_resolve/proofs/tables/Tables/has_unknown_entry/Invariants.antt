@@ -1,8 +1,8 @@
 use Rattle.std.proofs.Common.{◌≡◌, false, not, take}
 use Rattle.std.specs.List.{list_any}
 use Rattle.object_resolve.specs.Tables.{is_known}
-use Rattle.object_resolve.specs.Values.{texts}
-use Rattle.object_resolve.proofs.tables.ListableNames.has_unknown_entry.Given as goal
+use Rattle.object_values.specs.Values.{texts}
+use Rattle.object_resolve.proofs.tables.Tables.has_unknown_entry.Given as goal
 
 -- the entries so far are known
 abbrev pub invariant-loop-entry : goal.invariant-loop-entry
