@@ -10,6 +10,7 @@ use due_model::state::State;
 use event_feed::{FeedFault, Feeder, read_line, stop_fault};
 use std::alloc::{AllocError, Global};
 use std::io::Read;
+use std::process::Abort;
 use std::test::Fail;
 use text_lines::{AnyReader, LineReader, NextLine, Stop};
 
@@ -79,6 +80,22 @@ fn answers<R: Read + Drop>(
     Ok((all, feeder.stop()))
 }
 
+/// Compares the answers of a feed, and why it is over.
+fn gives<R: Read + Drop>(
+    rt: &impl Abort,
+    alloc: Global,
+    reader: R,
+    expected: &[LineAnswer],
+    over: Stop,
+    name: &str,
+) -> Result<(), Fail> {
+    let config = config(alloc)?;
+    let (all, stop) = answers(alloc, &config, reader)?;
+    assert_eq!(rt; all.as_slice(), expected, "{name}");
+    assert_eq!(rt; stop, Some(over), "{name}");
+    Ok(())
+}
+
 #[test]
 fn reads_lines(rt: HostRuntime) -> Result<(), Fail> {
     let config = config(rt.alloc())?;
@@ -139,35 +156,35 @@ fn reads_host_states(rt: HostRuntime) -> Result<(), Fail> {
     for (line, given) in rows {
         assert_eq!(rt; read_line(&config, line.as_bytes()), given, "{line}");
     }
-    assert_eq!(rt; read_line(&config, b"[1] \xff"), Err(FeedFault::NotUtf8));
-    assert_eq!(rt;
-        read_line(&config, b"\xff"),
-        Err(FeedFault::NotUtf8),
-        "before the stamp"
-    );
     Ok(())
 }
 
+/// The second is refused before its stamp is looked for.
+#[test]
+fn refuses_bytes_that_are_no_text(rt: HostRuntime) -> Result<(), Fail> {
+    let config = config(rt.alloc())?;
+    for line in [b"[1] \xff".as_slice(), b"\xff".as_slice()] {
+        assert_eq!(rt; read_line(&config, line), Err(FeedFault::NotUtf8));
+    }
+    Ok(())
+}
+
+/// One byte over the limit is refused before the text is looked at.
 #[test]
 fn reads_long_lines(rt: HostRuntime) -> Result<(), Fail> {
     let config = config(rt.alloc())?;
-    let mut line = vec![in rt.alloc(); b'x'; 4096]?;
-    assert_eq!(rt; read_line(&config, &line), Err(FeedFault::BadStamp));
-    line.push(0xff)?;
-    assert_eq!(rt;
-        read_line(&config, &line),
-        Err(FeedFault::LineTooLong),
-        "before the text"
-    );
+    let mut line = vec![in rt.alloc(); 0xff; 4096]?;
+    for fault in [FeedFault::NotUtf8, FeedFault::LineTooLong] {
+        assert_eq!(rt; read_line(&config, &line), Err(fault));
+        line.push(0xff)?;
+    }
     Ok(())
 }
 
 #[test]
 fn refuses_lines_by_number(rt: HostRuntime) -> Result<(), Fail> {
-    let config = config(rt.alloc())?;
     let feed =
         b"[x] CLOCK\n[1] NOPE\n[1] HOST_STATE;db;DOWN\n[1] HOST_STATE;web;CRITICAL\n[32503680000] CLOCK\n";
-    let (all, stop) = answers(rt.alloc(), &config, feed.as_slice())?;
     let expected = [
         answer(1, Err(FeedFault::BadStamp)),
         answer(2, Err(FeedFault::UnknownKind)),
@@ -175,24 +192,32 @@ fn refuses_lines_by_number(rt: HostRuntime) -> Result<(), Fail> {
         answer(4, Err(FeedFault::BadState)),
         answer(5, Err(FeedFault::BadStamp)),
     ];
-    assert_eq!(rt; all.as_slice(), expected.as_slice());
-    assert_eq!(rt; stop, Some(Stop::InputEnded));
-    Ok(())
+    gives(
+        &rt,
+        rt.alloc(),
+        feed.as_slice(),
+        &expected,
+        Stop::InputEnded,
+        "refused lines",
+    )
 }
 
 #[test]
 fn raises_stamps_up_to_the_cut(rt: HostRuntime) -> Result<(), Fail> {
-    let config = config(rt.alloc())?;
     let feed = b"[1000] HOST_STATE;web;DOWN\n[990] HOST_STATE;web;UP\n[10";
-    let (all, stop) = answers(rt.alloc(), &config, feed.as_slice())?;
     let expected = [
         answer(1, hard(1000, 0, State::Down)),
         answer(2, hard(1000, 0, State::Up)),
         answer(3, Err(FeedFault::Cut)),
     ];
-    assert_eq!(rt; all.as_slice(), expected.as_slice());
-    assert_eq!(rt; stop, Some(Stop::CutLine));
-    Ok(())
+    gives(
+        &rt,
+        rt.alloc(),
+        feed.as_slice(),
+        &expected,
+        Stop::CutLine,
+        "a cut line",
+    )
 }
 
 /// Empty lines, a refused line after a great stamp, and lines of 4,096, 4,097 and 60,004 bytes.
@@ -210,7 +235,6 @@ fn mixed_feed(alloc: Global) -> Result<Vec<u8>, AllocError> {
 
 #[test]
 fn reads_in_any_pieces(rt: HostRuntime) -> Result<(), Fail> {
-    let config = config(rt.alloc())?;
     let feed = mixed_feed(rt.alloc())?;
     let expected = [
         answer(3, clock(5)),
@@ -222,9 +246,15 @@ fn reads_in_any_pieces(rt: HostRuntime) -> Result<(), Fail> {
         answer(10, program(5, true)),
     ];
     for size in [1usize, 2, 3, 7, 4096, 100_000] {
-        let (all, stop) = answers(rt.alloc(), &config, in_pieces(&feed, size))?;
-        assert_eq!(rt; all.as_slice(), expected.as_slice(), "in pieces of {size}");
-        assert_eq!(rt; stop, Some(Stop::InputEnded));
+        let reader = in_pieces(&feed, size);
+        gives(
+            &rt,
+            rt.alloc(),
+            reader,
+            &expected,
+            Stop::InputEnded,
+            "pieces",
+        )?;
     }
     Ok(())
 }
@@ -261,70 +291,110 @@ fn short_answers(
     Ok(all)
 }
 
+/// The short feed ends after each number of bytes: after a whole line, or within one.
 #[test]
-fn ends_and_fails_at_each_place(rt: HostRuntime) -> Result<(), Fail> {
-    let config = config(rt.alloc())?;
+fn ends_at_each_place(rt: HostRuntime) -> Result<(), Fail> {
     for count in 0..31usize {
-        if count > SHORT_FEED.len() {
-            break;
-        }
-        let (all, _) = answers(rt.alloc(), &config, in_pieces(&SHORT_FEED[..count], 1))?;
+        let reader = in_pieces(&SHORT_FEED[..count.min(SHORT_FEED.len())], 1);
         let expected = short_answers(rt.alloc(), count, FeedFault::Cut)?;
-        assert_eq!(rt;
-            all.as_slice(),
-            expected.as_slice(),
-            "the end after {count}"
-        );
-        let failing = Pieces {
+        let over = match count {
+            0 | 10 | 11 | 20 | 30 => Stop::InputEnded,
+            _ => Stop::CutLine,
+        };
+        gives(&rt, rt.alloc(), reader, &expected, over, "the end")?;
+    }
+    Ok(())
+}
+
+/// The reader of the short feed fails after each number of bytes.
+#[test]
+fn fails_at_each_place(rt: HostRuntime) -> Result<(), Fail> {
+    for calls in 0..31usize {
+        let reader = Pieces {
             bytes: SHORT_FEED,
             size: 1,
-            calls: count,
+            calls,
         };
-        let (all, stop) = answers(rt.alloc(), &config, failing)?;
-        let expected = short_answers(rt.alloc(), count, FeedFault::Read)?;
-        assert_eq!(rt;
-            all.as_slice(),
-            expected.as_slice(),
-            "a fault after {count}"
-        );
-        assert_eq!(rt; stop, Some(Stop::ReaderFailed));
+        let expected = short_answers(rt.alloc(), calls, FeedFault::Read)?;
+        gives(
+            &rt,
+            rt.alloc(),
+            reader,
+            &expected,
+            Stop::ReaderFailed,
+            "a fault",
+        )?;
     }
     Ok(())
 }
 
 #[test]
 fn stops_at_lines_without_end(rt: HostRuntime) -> Result<(), Fail> {
-    let config = config(rt.alloc())?;
+    let newline = b"\n".as_slice();
     let rows = [
-        (usize::MAX, 1usize, FeedFault::Read, Stop::TooManyCalls),
-        (usize::MAX, 4096, FeedFault::Read, Stop::TooManyBytes),
-        (1_048_577, 100_000, FeedFault::Read, Stop::TooManyBytes),
-        (1_048_576, 100_000, FeedFault::LineTooLong, Stop::InputEnded),
-        (4097, 4096, FeedFault::LineTooLong, Stop::InputEnded),
-        (4096, 4096, FeedFault::BadStamp, Stop::InputEnded),
+        (usize::MAX, newline, 1, FeedFault::Read, Stop::TooManyCalls),
+        (
+            usize::MAX,
+            newline,
+            4096,
+            FeedFault::Read,
+            Stop::TooManyBytes,
+        ),
+        (
+            1_048_577,
+            newline,
+            100_000,
+            FeedFault::Read,
+            Stop::TooManyBytes,
+        ),
+        (
+            1_048_576,
+            newline,
+            100_000,
+            FeedFault::LineTooLong,
+            Stop::InputEnded,
+        ),
+        (
+            4097,
+            newline,
+            4096,
+            FeedFault::LineTooLong,
+            Stop::InputEnded,
+        ),
+        (4096, newline, 4096, FeedFault::BadStamp, Stop::InputEnded),
+        (1_048_576, b"", 4096, FeedFault::Cut, Stop::CutLine),
     ];
-    for (left, size, fault, over) in rows {
-        let reader = Exes {
-            left,
-            after: b"\n",
-            size,
-        };
-        let (all, stop) = answers(rt.alloc(), &config, reader)?;
-        assert_eq!(rt;
-            all.as_slice(),
-            [answer(1, Err(fault))].as_slice(),
-            "{left} by {size}"
-        );
-        assert_eq!(rt; stop, Some(over));
+    for (left, after, size, fault, over) in rows {
+        let reader = Exes { left, after, size };
+        let expected = [answer(1, Err(fault))];
+        gives(&rt, rt.alloc(), reader, &expected, over, "a long line")?;
     }
-    let reader = Exes {
-        left: 1_048_576,
-        after: b"",
-        size: 4096,
-    };
-    let (all, stop) = answers(rt.alloc(), &config, reader)?;
-    assert_eq!(rt; all.as_slice(), [answer(1, Err(FeedFault::Cut))].as_slice());
-    assert_eq!(rt; stop, Some(Stop::CutLine));
+    Ok(())
+}
+
+/// Compares the line that a feeder read last, and whether one more is at hand.
+fn is_at<R: Read + Drop>(rt: &impl Abort, feeder: &Feeder<R>, line: u64, text: &[u8], more: bool) {
+    assert_eq!(rt;
+        (feeder.line(), feeder.text(), feeder.has_line()),
+        (line, text, more)
+    );
+}
+
+/// The lines after a feed have one line "post" and an empty one.
+fn goes_on<R: Read + Drop>(
+    rt: &impl Abort,
+    config: &Config,
+    lines: LineReader<R>,
+) -> Result<(), Fail> {
+    let mut lines = lines;
+    assert_eq!(rt; lines.next_line(), NextLine::Line);
+    assert_eq!(rt;
+        (lines.line(), lines.has_line()),
+        (b"post".as_slice(), false)
+    );
+    let mut feeder = Feeder::new(lines);
+    assert_eq!(rt; feeder.next(config), Ok(None));
+    assert_eq!(rt; (feeder.line(), feeder.stop()), (1, Some(Stop::InputEnded)));
     Ok(())
 }
 
@@ -333,7 +403,7 @@ fn gives_each_line_and_text(rt: HostRuntime) -> Result<(), Fail> {
     let config = config(rt.alloc())?;
     let bytes = b"\n[5] CLOCK\n\n%steps\npost\n\n";
     let mut feeder = Feeder::new(LineReader::new(rt.alloc(), bytes.as_slice())?);
-    assert_eq!(rt; feeder.has_line(), false, "nothing is read yet");
+    assert!(rt; !feeder.has_line());
     assert_eq!(rt;
         feeder.next(&config),
         Ok(Some(Event {
@@ -341,21 +411,10 @@ fn gives_each_line_and_text(rt: HostRuntime) -> Result<(), Fail> {
             kind: EventKind::Clock
         }))
     );
-    assert_eq!(rt;
-        (feeder.line(), feeder.text()),
-        (2, b"[5] CLOCK".as_slice())
-    );
-    assert_eq!(rt; feeder.has_line(), true);
-    assert_eq!(rt; feeder.next(&config).is_err(), true);
-    assert_eq!(rt; (feeder.line(), feeder.text()), (4, b"%steps".as_slice()));
-    let mut lines = feeder.into_lines();
-    assert_eq!(rt; lines.next_line(), NextLine::Line);
-    assert_eq!(rt; lines.line(), b"post".as_slice());
-    assert_eq!(rt; lines.has_line(), false, "only an empty line is held");
-    let mut feeder = Feeder::new(lines);
-    assert_eq!(rt; feeder.next(&config), Ok(None));
-    assert_eq!(rt; (feeder.line(), feeder.stop()), (1, Some(Stop::InputEnded)));
-    Ok(())
+    is_at(&rt, &feeder, 2, b"[5] CLOCK", true);
+    assert!(rt; feeder.next(&config).is_err());
+    is_at(&rt, &feeder, 4, b"%steps", true);
+    goes_on(&rt, &config, feeder.into_lines())
 }
 
 #[test]

@@ -9,3 +9,5 @@ mod lines;
 mod object_text;
 #[cfg(test)]
 mod resolver;
+#[cfg(test)]
+mod shown;

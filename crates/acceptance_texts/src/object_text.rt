@@ -1,11 +1,13 @@
 //! Texts, and what the rules of object text make of each.
 
+use crate::shown::text_or_mark;
 use acceptance_inputs::texts::BASE;
 use object_reader::block::Block;
 use object_reader::fault::LineFault;
 use object_reader::reading::{TEXT_LIMIT, read};
 use std::alloc::{AllocError, Global};
 use std::fmt::Write;
+use std::process::Abort;
 use std::test::Fail;
 
 /// The block as one line: its kind, its line, and each directive in brackets.
@@ -14,8 +16,8 @@ fn show(out: &mut String, block: &Block) -> Result<(), AllocError> {
     let line = block.line;
     write!(out, "{kind:?} {line}")?;
     for directive in block.directives.as_slice() {
-        let name = str::from_utf8(directive.name.as_slice()).unwrap_or("?");
-        let value = str::from_utf8(directive.value.as_slice()).unwrap_or("?");
+        let name = text_or_mark(directive.name.as_slice());
+        let value = text_or_mark(directive.value.as_slice());
         write!(out, "[{name}={value}]")?;
     }
     out.push_str("\n")
@@ -35,131 +37,142 @@ fn shown(alloc: Global, bytes: &[u8]) -> Result<String, AllocError> {
     Ok(out)
 }
 
+/// Compares what `read` makes of the bytes.
+fn gives(rt: &impl Abort, alloc: Global, bytes: &[u8], wanted: &str) -> Result<(), Fail> {
+    let name = text_or_mark(bytes);
+    assert_eq!(rt; shown(alloc, bytes)?.as_str(), wanted, "{name}");
+    Ok(())
+}
+
+/// Compares what `read` makes of each text.
+fn each_gives(rt: &impl Abort, alloc: Global, table: &[(&[u8], &str)]) -> Result<(), Fail> {
+    for row in table {
+        let (bytes, wanted) = *row;
+        gives(rt, alloc, bytes, wanted)?;
+    }
+    Ok(())
+}
+
 #[test]
 fn reads_three_blocks(rt: HostRuntime) -> Result<(), Fail> {
     let blocks = "Command 1[command_name=mail][command_line=/usr/bin/true]
 Contact 5[contact_name=ann][host_notification_commands=mail][service_notification_commands=mail]
 Host 10[host_name=web][contacts=ann][notification_interval=1]
 ";
-    assert_eq!(rt; shown(rt.alloc(), BASE.as_bytes())?.as_str(), blocks);
-    Ok(())
+    gives(&rt, rt.alloc(), BASE.as_bytes(), blocks)
 }
+
+/// Texts of blocks.
+const BLOCKS: [(&[u8], &str); 16] = [
+    (b"", ""),
+    (b"\n \t\n# define host{\n ; define host{\n\r\n", ""),
+    (b"define host{\n}", "Host 1\n"),
+    (
+        b"\n\ndefine contact {\n}\ndefine command{\n}\n",
+        "Contact 3\nCommand 5\n",
+    ),
+    (
+        b"define host{\n b 2\n a 1\n b 3\n}\n",
+        "Host 1[b=2][a=1][b=3]\n",
+    ),
+    (b"define host{\r\n a b\r\n}\r\n", "Host 1[a=b]\n"),
+    (b"define host{\na b\r\r\n}\n", "Host 1[a=b\r]\n"),
+    (
+        b"\tdefine\t host\t {\t\n\ta\t b \tc\t \n\t}\t\n",
+        "Host 1[a=b \tc]\n",
+    ),
+    (b"define host{\na b\0c\n}\n", "Host 1[a=b\0c]\n"),
+    (
+        b"define host{ ; one\n a b;c\n #d\n ;e f\n g #h\n} ; two\n",
+        "Host 1[a=b][g=#h]\n",
+    ),
+    (b"define host{\n} x\n}\n", "Host 1[}=x]\n"),
+    (b"define host{\ndefine{ x\n}\n", "Host 1[define{=x]\n"),
+    (b"define host{\nDEFINE x\n}\n", "Host 1[DEFINE=x]\n"),
+    (
+        b"define host{\nhost_name caf\xc3\xa9\n}\n",
+        "Host 1[host_name=caf\u{e9}]\n",
+    ),
+    (
+        b"define host{\n\xc3\xa9 \xc2\xa0x\n}\n",
+        "Host 1[\u{e9}=\u{a0}x]\n",
+    ),
+    (b"define host{\na {b}\n}\n#", "Host 1[a={b}]\n"),
+];
 
 #[test]
 fn reads_blocks(rt: HostRuntime) -> Result<(), Fail> {
-    let table: [(&[u8], &str); 16] = [
-        (b"", ""),
-        (b"\n \t\n# define host{\n ; define host{\n\r\n", ""),
-        (b"define host{\n}", "Host 1\n"),
-        (
-            b"\n\ndefine contact {\n}\ndefine command{\n}\n",
-            "Contact 3\nCommand 5\n",
-        ),
-        (
-            b"define host{\n b 2\n a 1\n b 3\n}\n",
-            "Host 1[b=2][a=1][b=3]\n",
-        ),
-        (b"define host{\r\n a b\r\n}\r\n", "Host 1[a=b]\n"),
-        (b"define host{\na b\r\r\n}\n", "Host 1[a=b\r]\n"),
-        (
-            b"\tdefine\t host\t {\t\n\ta\t b \tc\t \n\t}\t\n",
-            "Host 1[a=b \tc]\n",
-        ),
-        (b"define host{\na b\0c\n}\n", "Host 1[a=b\0c]\n"),
-        (
-            b"define host{ ; one\n a b;c\n #d\n ;e f\n g #h\n} ; two\n",
-            "Host 1[a=b][g=#h]\n",
-        ),
-        (b"define host{\n} x\n}\n", "Host 1[}=x]\n"),
-        (b"define host{\ndefine{ x\n}\n", "Host 1[define{=x]\n"),
-        (b"define host{\nDEFINE x\n}\n", "Host 1[DEFINE=x]\n"),
-        (
-            b"define host{\nhost_name caf\xc3\xa9\n}\n",
-            "Host 1[host_name=caf\u{e9}]\n",
-        ),
-        (
-            b"define host{\n\xc3\xa9 \xc2\xa0x\n}\n",
-            "Host 1[\u{e9}=\u{a0}x]\n",
-        ),
-        (b"define host{\na {b}\n}\n#", "Host 1[a={b}]\n"),
-    ];
-    for (bytes, blocks) in table {
-        assert_eq!(rt; shown(rt.alloc(), bytes)?.as_str(), blocks);
-    }
-    Ok(())
+    each_gives(&rt, rt.alloc(), &BLOCKS)
 }
+
+/// A block of each type.
+const TYPES: [(&[u8], &str); 14] = [
+    (b"define host{\n}\n", "Host 1\n"),
+    (b"define hostgroup{\n}\n", "HostGroup 1\n"),
+    (b"define service{\n}\n", "Service 1\n"),
+    (b"define servicegroup{\n}\n", "ServiceGroup 1\n"),
+    (b"define contact{\n}\n", "Contact 1\n"),
+    (b"define contactgroup{\n}\n", "ContactGroup 1\n"),
+    (b"define timeperiod{\n}\n", "TimePeriod 1\n"),
+    (b"define command{\n}\n", "Command 1\n"),
+    (b"define hostescalation{\n}\n", "HostEscalation 1\n"),
+    (b"define serviceescalation{\n}\n", "ServiceEscalation 1\n"),
+    (b"define hostdependency{\n}\n", "HostDependency 1\n"),
+    (b"define servicedependency{\n}\n", "ServiceDependency 1\n"),
+    (b"define hostextinfo{\n}\n", "HostExtInfo 1\n"),
+    (b"define serviceextinfo{\n}\n", "ServiceExtInfo 1\n"),
+];
 
 #[test]
 fn reads_all_types(rt: HostRuntime) -> Result<(), Fail> {
-    let table: [(&[u8], &str); 14] = [
-        (b"define host{\n}\n", "Host 1\n"),
-        (b"define hostgroup{\n}\n", "HostGroup 1\n"),
-        (b"define service{\n}\n", "Service 1\n"),
-        (b"define servicegroup{\n}\n", "ServiceGroup 1\n"),
-        (b"define contact{\n}\n", "Contact 1\n"),
-        (b"define contactgroup{\n}\n", "ContactGroup 1\n"),
-        (b"define timeperiod{\n}\n", "TimePeriod 1\n"),
-        (b"define command{\n}\n", "Command 1\n"),
-        (b"define hostescalation{\n}\n", "HostEscalation 1\n"),
-        (b"define serviceescalation{\n}\n", "ServiceEscalation 1\n"),
-        (b"define hostdependency{\n}\n", "HostDependency 1\n"),
-        (b"define servicedependency{\n}\n", "ServiceDependency 1\n"),
-        (b"define hostextinfo{\n}\n", "HostExtInfo 1\n"),
-        (b"define serviceextinfo{\n}\n", "ServiceExtInfo 1\n"),
-    ];
-    for (bytes, blocks) in table {
-        assert_eq!(rt; shown(rt.alloc(), bytes)?.as_str(), blocks);
-    }
-    Ok(())
+    each_gives(&rt, rt.alloc(), &TYPES)
 }
+
+/// Lines that are joined by a backslash.
+const JOINED: [(&[u8], &str); 16] = [
+    (b"define host{\n a b\\\n  c d\n}\n", "Host 1[a=bc d]\n"),
+    (b"define host{\n a b \\\n\t c\n}\n", "Host 1[a=b c]\n"),
+    (b"define host{\n a b\\\n\\\n\t\\\n c\n}\n", "Host 1[a=bc]\n"),
+    (b"define host{\n a b\\\\\n c d\n}\n", "Host 1[a=b\\][c=d]\n"),
+    (
+        b"define host{\n a b\\\\\\\n c d\n}\n",
+        "Host 1[a=b\\\\][c=d]\n",
+    ),
+    (b"define host{\r\n a b\\\r\n c\r\n}\r\n", "Host 1[a=bc]\n"),
+    (
+        b"define host{\n a b\\\r\r\n c d\n}\n",
+        "Host 1[a=b\\\r][c=d]\n",
+    ),
+    (b"define host{\n a b\\ \n c d\n}\n", "Host 1[a=b\\][c=d]\n"),
+    (b"define host{\n}\\", "Host 1\n"),
+    (b"define host{\n}\n\\", "Host 1\n"),
+    (b"\n define\\\n host\\\n\t{\n}\n", "line 2: NotADefine"),
+    (b"\n define \\\n host\\\n\t{\n}\n", "Host 2\n"),
+    (b"# a\\\ndefine host{\ndefine host{\n}\n", "Host 3\n"),
+    (b"\\\n  # a\\\n b\n;c\\\nd\n", ""),
+    (b" \\\n\t \\\n \ndefine host{\n}\n", "Host 4\n"),
+    (b"define host{\n a b\\\n;c\\\n d e\n}\n", "Host 1[a=b]\n"),
+];
 
 #[test]
 fn joins_lines(rt: HostRuntime) -> Result<(), Fail> {
-    let table: [(&[u8], &str); 16] = [
-        (b"define host{\n a b\\\n  c d\n}\n", "Host 1[a=bc d]\n"),
-        (b"define host{\n a b \\\n\t c\n}\n", "Host 1[a=b c]\n"),
-        (b"define host{\n a b\\\n\\\n\t\\\n c\n}\n", "Host 1[a=bc]\n"),
-        (b"define host{\n a b\\\\\n c d\n}\n", "Host 1[a=b\\][c=d]\n"),
-        (
-            b"define host{\n a b\\\\\\\n c d\n}\n",
-            "Host 1[a=b\\\\][c=d]\n",
-        ),
-        (b"define host{\r\n a b\\\r\n c\r\n}\r\n", "Host 1[a=bc]\n"),
-        (
-            b"define host{\n a b\\\r\r\n c d\n}\n",
-            "Host 1[a=b\\\r][c=d]\n",
-        ),
-        (b"define host{\n a b\\ \n c d\n}\n", "Host 1[a=b\\][c=d]\n"),
-        (b"define host{\n}\\", "Host 1\n"),
-        (b"define host{\n}\n\\", "Host 1\n"),
-        (b"\n define\\\n host\\\n\t{\n}\n", "line 2: NotADefine"),
-        (b"\n define \\\n host\\\n\t{\n}\n", "Host 2\n"),
-        (b"# a\\\ndefine host{\ndefine host{\n}\n", "Host 3\n"),
-        (b"\\\n  # a\\\n b\n;c\\\nd\n", ""),
-        (b" \\\n\t \\\n \ndefine host{\n}\n", "Host 4\n"),
-        (b"define host{\n a b\\\n;c\\\n d e\n}\n", "Host 1[a=b]\n"),
-    ];
-    for (bytes, blocks) in table {
-        assert_eq!(rt; shown(rt.alloc(), bytes)?.as_str(), blocks);
-    }
-    Ok(())
+    each_gives(&rt, rt.alloc(), &JOINED)
 }
+
+/// Semicolons that begin no comment.
+const ESCAPED: [(&[u8], &str); 7] = [
+    (b"define host{\n a b\\;c\n}\n", "Host 1[a=b;c]\n"),
+    (b"define host{\n a \\;\n}\n", "Host 1[a=;]\n"),
+    (b"define host{\n a b\\;c;d\\;e\n}\n", "Host 1[a=b;c]\n"),
+    (b"define host{\n a b\\\\;c\n}\n", "Host 1[a=b\\;c]\n"),
+    (b"define host{\n \\;a b \\; ;c\n}\n", "Host 1[;a=b ;]\n"),
+    (b"define host{\n a b\\;\\\n\\;;c\n}\n", "Host 1[a=b;;]\n"),
+    (b"# a \\; b\n", ""),
+];
 
 #[test]
 fn reads_escaped_semicolons(rt: HostRuntime) -> Result<(), Fail> {
-    let table: [(&[u8], &str); 7] = [
-        (b"define host{\n a b\\;c\n}\n", "Host 1[a=b;c]\n"),
-        (b"define host{\n a \\;\n}\n", "Host 1[a=;]\n"),
-        (b"define host{\n a b\\;c;d\\;e\n}\n", "Host 1[a=b;c]\n"),
-        (b"define host{\n a b\\\\;c\n}\n", "Host 1[a=b\\;c]\n"),
-        (b"define host{\n \\;a b \\; ;c\n}\n", "Host 1[;a=b ;]\n"),
-        (b"define host{\n a b\\;\\\n\\;;c\n}\n", "Host 1[a=b;;]\n"),
-        (b"# a \\; b\n", ""),
-    ];
-    for (bytes, blocks) in table {
-        assert_eq!(rt; shown(rt.alloc(), bytes)?.as_str(), blocks);
-    }
-    Ok(())
+    each_gives(&rt, rt.alloc(), &ESCAPED)
 }
 
 #[test]
@@ -182,13 +195,12 @@ define host{
 [monday -1 may=00:00-24:00,01:00-02:00][2026-01-01/ 3=00:00-24:00][09:00=x y][exclude=d]
 Host 11[monday=-1 may 00:00-24:00]
 ";
-    assert_eq!(rt; shown(rt.alloc(), text)?.as_str(), blocks);
-    let table: [(&[u8], &str); 2] = [
-        (b"define timeperiod{\n 09:00\n}\n", "line 2: NoValue"),
-        (b"define timeperiod{\n monday\n}\n", "line 2: NoValue"),
-    ];
-    for (bytes, fault) in table {
-        assert_eq!(rt; shown(rt.alloc(), bytes)?.as_str(), fault);
+    gives(&rt, rt.alloc(), text, blocks)?;
+    for bytes in [
+        b"define timeperiod{\n 09:00\n}\n".as_slice(),
+        b"define timeperiod{\n monday\n}\n".as_slice(),
+    ] {
+        gives(&rt, rt.alloc(), bytes, "line 2: NoValue")?;
     }
     Ok(())
 }
@@ -239,8 +251,7 @@ Service 21[use=generic-service, local][host_name=web][service_description=PING]\
 [check_command=check_ping!100.0,20%!500.0,60%][notes=first; second]
 ServiceEscalation 28[host_name=web][service_description=*][first_notification=3]
 ";
-    assert_eq!(rt; shown(rt.alloc(), SAMPLE)?.as_str(), blocks);
-    Ok(())
+    gives(&rt, rt.alloc(), SAMPLE, blocks)
 }
 
 /// A comment of two lines, a day line of two, an escape, a zero byte, two bytes of one character, two
@@ -268,86 +279,83 @@ fn reads_each_prefix(rt: HostRuntime) -> Result<(), Fail> {
         for length in from..end {
             let length: usize = length;
             let text = &CUT[..length.min(CUT.len())];
-            assert_eq!(rt; shown(rt.alloc(), text)?.as_str(), want);
+            gives(&rt, rt.alloc(), text, want)?;
         }
     }
     Ok(())
 }
 
+/// Faults of joined lines, by the number of the first of them.
+const NUMBERED: [(&[u8], &str); 8] = [
+    (b"\n\\\n\\\nx\n", "line 2: NotADefine"),
+    (b"define host{\n a \\\n\xff\n}\n", "line 2: NotUtf8"),
+    (b"# \\\n\xff\n", "line 1: NotUtf8"),
+    (b"x \\\n\xff\n", "line 1: NotUtf8"),
+    (b"define host{\n\\\n a\\\n\n}\n", "line 2: NoValue"),
+    (b"\n\\\ndefine host{\n a b\n", "line 2: Unclosed"),
+    (
+        b"define host{\n a b\n c \\\n d\n define \\\n host{\n",
+        "line 1: Unclosed",
+    ),
+    (b"define host{\n a \\\n b\n\\\n\\\nc\n", "line 4: NoValue"),
+];
+
 #[test]
 fn numbers_joined_lines(rt: HostRuntime) -> Result<(), Fail> {
-    let table: [(&[u8], &str); 8] = [
-        (b"\n\\\n\\\nx\n", "line 2: NotADefine"),
-        (b"define host{\n a \\\n\xff\n}\n", "line 2: NotUtf8"),
-        (b"# \\\n\xff\n", "line 1: NotUtf8"),
-        (b"x \\\n\xff\n", "line 1: NotUtf8"),
-        (b"define host{\n\\\n a\\\n\n}\n", "line 2: NoValue"),
-        (b"\n\\\ndefine host{\n a b\n", "line 2: Unclosed"),
-        (
-            b"define host{\n a b\n c \\\n d\n define \\\n host{\n",
-            "line 1: Unclosed",
-        ),
-        (b"define host{\n a \\\n b\n\\\n\\\nc\n", "line 4: NoValue"),
-    ];
-    for (bytes, fault) in table {
-        assert_eq!(rt; shown(rt.alloc(), bytes)?.as_str(), fault);
-    }
-    Ok(())
+    each_gives(&rt, rt.alloc(), &NUMBERED)
 }
+
+/// Faults outside a block.
+const OUTSIDE: [(&[u8], &str); 19] = [
+    (b"host_name web\n", "line 1: NotADefine"),
+    (b"\n}\n", "line 2: NotADefine"),
+    (b"define\n", "line 1: NotADefine"),
+    (b"define host\n", "line 1: NotADefine"),
+    (b"define {\n", "line 1: NotADefine"),
+    (b"define{\n", "line 1: NotADefine"),
+    (b"definehost{\n", "line 1: NotADefine"),
+    (b"Define host{\n", "line 1: NotADefine"),
+    (b"define ho{st{\n", "line 1: NotADefine"),
+    (b"define host{{\n", "line 1: NotADefine"),
+    (b"define host{}\n", "line 1: NotADefine"),
+    (b"define host {x\n", "line 1: NotADefine"),
+    (b"define host web{\n", "line 1: NotADefine"),
+    (b"define host{\n}\ndefine dog{\n", "line 3: UnknownType"),
+    (b"define Host{\n", "line 1: UnknownType"),
+    (b"define host}{\n", "line 1: UnknownType"),
+    (b"define hosts{\n", "line 1: UnknownType"),
+    (b"define host\\;{\n", "line 1: UnknownType"),
+    (b"\n# \xff \\\n", "line 2: NotUtf8"),
+];
 
 #[test]
 fn refuses_lines_outside_blocks(rt: HostRuntime) -> Result<(), Fail> {
-    let table: [(&[u8], &str); 19] = [
-        (b"host_name web\n", "line 1: NotADefine"),
-        (b"\n}\n", "line 2: NotADefine"),
-        (b"define\n", "line 1: NotADefine"),
-        (b"define host\n", "line 1: NotADefine"),
-        (b"define {\n", "line 1: NotADefine"),
-        (b"define{\n", "line 1: NotADefine"),
-        (b"definehost{\n", "line 1: NotADefine"),
-        (b"Define host{\n", "line 1: NotADefine"),
-        (b"define ho{st{\n", "line 1: NotADefine"),
-        (b"define host{{\n", "line 1: NotADefine"),
-        (b"define host{}\n", "line 1: NotADefine"),
-        (b"define host {x\n", "line 1: NotADefine"),
-        (b"define host web{\n", "line 1: NotADefine"),
-        (b"define host{\n}\ndefine dog{\n", "line 3: UnknownType"),
-        (b"define Host{\n", "line 1: UnknownType"),
-        (b"define host}{\n", "line 1: UnknownType"),
-        (b"define hosts{\n", "line 1: UnknownType"),
-        (b"define host\\;{\n", "line 1: UnknownType"),
-        (b"\n# \xff \\\n", "line 2: NotUtf8"),
-    ];
-    for (bytes, fault) in table {
-        assert_eq!(rt; shown(rt.alloc(), bytes)?.as_str(), fault);
-    }
-    Ok(())
+    each_gives(&rt, rt.alloc(), &OUTSIDE)
 }
+
+/// Faults within a block.
+const WITHIN: [(&[u8], &str); 13] = [
+    (b"define host{\n host_name web", "line 1: Unclosed"),
+    (b"define host{", "line 1: Unclosed"),
+    (
+        b"\ndefine host{\n a b\n define contact{\n}\n",
+        "line 2: Unclosed",
+    ),
+    (b"define host{\n define\n", "line 1: Unclosed"),
+    (b"define host{\n a\n}\n", "line 2: NoValue"),
+    (b"define host{\n a ;b\n}\n", "line 2: NoValue"),
+    (b"define host{\n}}\n", "line 2: NoValue"),
+    (b"define host{\n a b\n}\r", "line 3: NoValue"),
+    (b"define host{\n a\n\xff\n", "line 2: NoValue"),
+    (b"define host{\n\xff\n a\n", "line 2: NotUtf8"),
+    (b"define host{\n a \xc3\n}\n", "line 2: NotUtf8"),
+    (b"define host{\n define\xff\n}\n", "line 2: NotUtf8"),
+    (b"define host{\n a b\n}\n}\n", "line 4: NotADefine"),
+];
 
 #[test]
 fn refuses_lines_of_blocks(rt: HostRuntime) -> Result<(), Fail> {
-    let table: [(&[u8], &str); 13] = [
-        (b"define host{\n host_name web", "line 1: Unclosed"),
-        (b"define host{", "line 1: Unclosed"),
-        (
-            b"\ndefine host{\n a b\n define contact{\n}\n",
-            "line 2: Unclosed",
-        ),
-        (b"define host{\n define\n", "line 1: Unclosed"),
-        (b"define host{\n a\n}\n", "line 2: NoValue"),
-        (b"define host{\n a ;b\n}\n", "line 2: NoValue"),
-        (b"define host{\n}}\n", "line 2: NoValue"),
-        (b"define host{\n a b\n}\r", "line 3: NoValue"),
-        (b"define host{\n a\n\xff\n", "line 2: NoValue"),
-        (b"define host{\n\xff\n a\n", "line 2: NotUtf8"),
-        (b"define host{\n a \xc3\n}\n", "line 2: NotUtf8"),
-        (b"define host{\n define\xff\n}\n", "line 2: NotUtf8"),
-        (b"define host{\n a b\n}\n}\n", "line 4: NotADefine"),
-    ];
-    for (bytes, fault) in table {
-        assert_eq!(rt; shown(rt.alloc(), bytes)?.as_str(), fault);
-    }
-    Ok(())
+    each_gives(&rt, rt.alloc(), &WITHIN)
 }
 
 /// A comment of so many bytes, and what follows it.
@@ -373,28 +381,30 @@ fn keeps_the_limit_of_lines(rt: HostRuntime) -> Result<(), Fail> {
     ];
     for (length, after, want) in table {
         let text = comment(rt.alloc(), length, after)?;
-        assert_eq!(rt; shown(rt.alloc(), text.as_slice())?.as_str(), want);
+        gives(&rt, rt.alloc(), text.as_slice(), want)?;
     }
-    let text = vec![in rt.alloc(); 0xff; 4097]?;
-    assert_eq!(rt;
-        shown(rt.alloc(), text.as_slice())?.as_str(),
-        "line 1: LineTooLong"
-    );
     Ok(())
+}
+
+/// The limit comes before the text.
+#[test]
+fn measures_before_it_reads(rt: HostRuntime) -> Result<(), Fail> {
+    let text = vec![in rt.alloc(); 0xff; 4097]?;
+    gives(&rt, rt.alloc(), text.as_slice(), "line 1: LineTooLong")
 }
 
 #[test]
 fn keeps_the_limit_of_texts(rt: HostRuntime) -> Result<(), Fail> {
     let mut text = vec![in rt.alloc(); b'\n'; TEXT_LIMIT]?;
-    assert_eq!(rt; shown(rt.alloc(), text.as_slice())?.as_str(), "");
+    gives(&rt, rt.alloc(), text.as_slice(), "")?;
     text.push(b'\n')?;
-    assert_eq!(rt; shown(rt.alloc(), text.as_slice())?.as_str(), "TooLarge");
+    gives(&rt, rt.alloc(), text.as_slice(), "TooLarge")
+}
+
+#[test]
+fn refuses_a_long_line_at_the_limit(rt: HostRuntime) -> Result<(), Fail> {
     let text = vec![in rt.alloc(); b'x'; TEXT_LIMIT]?;
-    assert_eq!(rt;
-        shown(rt.alloc(), text.as_slice())?.as_str(),
-        "line 1: LineTooLong"
-    );
-    Ok(())
+    gives(&rt, rt.alloc(), text.as_slice(), "line 1: LineTooLong")
 }
 
 #[test]

@@ -1,16 +1,13 @@
 //! Object texts, and the configuration or the fault that the rules give for each.
 
+use crate::shown::text_or_mark;
 use acceptance_inputs::texts::BASE;
 use due_model::config::{Config, Contact, LaneId, Object};
 use object_resolve::{LoadFault, load};
 use std::alloc::{AllocError, Global};
 use std::fmt::Write;
+use std::process::Abort;
 use std::test::Fail;
-
-/// A text, or `?` where it isn't UTF-8.
-fn text_or_mark(bytes: &[u8]) -> &str {
-    str::from_utf8(bytes).unwrap_or("?")
-}
 
 /// The lanes of a contact, each by its number.
 fn show_lanes(out: &mut String, lanes: &[LaneId]) -> Result<(), AllocError> {
@@ -253,23 +250,32 @@ fn count_of(alloc: Global, text: &[u8]) -> Result<String, AllocError> {
     }
 }
 
+/// Compares what a text of this many blocks gives, after another text.
+fn counts(
+    rt: &impl Abort,
+    alloc: Global,
+    front: &str,
+    kind: &str,
+    count: u32,
+    wanted: &str,
+) -> Result<(), Fail> {
+    let text = text_with(alloc, front, kind, count)?;
+    let found = count_of(alloc, text.as_bytes())?;
+    assert_eq!(rt; found.as_str(), wanted, "{count} of {kind}");
+    Ok(())
+}
+
 #[test]
 fn limits_are_kept(rt: HostRuntime) -> Result<(), Fail> {
-    let alloc = rt.alloc();
-    let hosts = text_with(alloc, "", "host", 65_535)?;
-    assert_eq!(rt; count_of(alloc, hosts.as_bytes())?.as_str(), "65535 0 0");
-    let more = text_with(alloc, "", "host", 65_536)?;
-    assert_eq!(rt;
-        count_of(alloc, more.as_bytes())?.as_str(),
-        "line 196606: TooMany"
-    );
-    let contacts = text_with(alloc, "", "contact", 4_096)?;
-    assert_eq!(rt; count_of(alloc, contacts.as_bytes())?.as_str(), "0 4096 0");
-    let more = text_with(alloc, "", "contact", 4_097)?;
-    assert_eq!(rt;
-        count_of(alloc, more.as_bytes())?.as_str(),
-        "line 12289: TooMany"
-    );
+    let rows = [
+        ("host", 65_535, "65535 0 0"),
+        ("host", 65_536, "line 196606: TooMany"),
+        ("contact", 4_096, "0 4096 0"),
+        ("contact", 4_097, "line 12289: TooMany"),
+    ];
+    for (kind, count, wanted) in rows {
+        counts(&rt, rt.alloc(), "", kind, count, wanted)?;
+    }
     Ok(())
 }
 
@@ -288,14 +294,10 @@ service_notification_commands n20
 
 #[test]
 fn sixteen_lanes_are_kept(rt: HostRuntime) -> Result<(), Fail> {
-    let alloc = rt.alloc();
-    let kept = text_with(alloc, SIXTEEN, "command", 30)?;
-    assert_eq!(rt; count_of(alloc, kept.as_bytes())?.as_str(), "0 1 16");
-    let refused = text_with(alloc, SEVENTEEN, "command", 30)?;
-    assert_eq!(rt;
-        count_of(alloc, refused.as_bytes())?.as_str(),
-        "line 66: TooMany"
-    );
+    let rows = [(SIXTEEN, "0 1 16"), (SEVENTEEN, "line 66: TooMany")];
+    for (front, wanted) in rows {
+        counts(&rt, rt.alloc(), front, "command", 30, wanted)?;
+    }
     Ok(())
 }
 

@@ -1,11 +1,11 @@
-//! The notices and the suppressions of an outcome.
+//! The notices and the suppressions that an outcome adds.
 
-ghost use Rattle.std.specs.Prelude.{◌≡◌, ◌≤◌, ◌<◌, ◌++◌, [], All, IfOk, OnOk, length, map, None, flat_map, option_to_list};
+ghost use Rattle.std.specs.Prelude.{◌≡◌, ◌≤◌, ◌++◌, [], IfOk, OnOk, length, map, None, flat_map};
 ghost use Rattle.due_model.specs.Covered.{IsCovered};
 ghost use Rattle.due_model.specs.Due.{receivers, rights_for, notice_to, refusal_of, notices, suppressions};
 ghost use Rattle.due_model.specs.Escalations.{contacts_with, has_contact};
 ghost use Rattle.due_model.specs.Limits.{max_contacts};
-ghost use Rattle.slow_rules.specs.Notices.{number_of_contact};
+ghost use Rattle.slow_rules.specs.Notices.{number_of_contact, notice_in, suppression_in};
 
 use crate::filters::contact_failing;
 use due_model::config::{Config, Contact, ContactId, LaneId, Object, ObjectId, Rights};
@@ -13,6 +13,40 @@ use due_model::notice::{Notice, Outcome, Suppression};
 use due_model::rules::Attempt;
 use due_model::zone::Zone;
 use std::alloc::{AllocError, Global};
+
+/// What becomes of an attempt at one contact, on one lane.
+#[derive(Clone, Copy)]
+pub(crate) enum Answer {
+    /// There is no such contact, or its notices don't go out on the lane.
+    Nothing,
+    Due(Notice),
+    Suppressed(Suppression),
+}
+
+/// What the events so far say of one object.
+#[derive(Drop)]
+pub(crate) struct Answers {
+    /// Its notices on one lane, the oldest first.
+    pub(crate) due: Vec<Notice>,
+    /// Its suppressions, the oldest first.
+    pub(crate) suppressed: Vec<Suppression>,
+}
+
+impl Answers {
+    /// Appends an answer. An error leaves the answers as they were.
+    fn add(&mut self, answer: Answer) -> Result<(), AllocError>
+        ensures due { OnOk result (self.new.due.items ≡ self.old.due.items ++ notice_in answer) }
+        ensures suppressed { OnOk result
+            (self.new.suppressed.items ≡ self.old.suppressed.items ++ suppression_in answer) }
+    {
+        match answer {
+            Answer::Nothing => {}
+            Answer::Due(notice) => self.due.push(notice)?,
+            Answer::Suppressed(suppression) => self.suppressed.push(suppression)?,
+        }
+        Ok(())
+    }
+}
 
 /// What a contact is notified of, for the kind of this object.
 pub(crate) fn rights_for<'a>(settings: &Object, contact: &'a Contact) -> &'a Rights
@@ -66,8 +100,9 @@ pub(crate) fn receivers(
     contacts_with(alloc, config, settings)
 }
 
-/// The notice to a contact on a lane, if the contact's filters pass and it uses that lane.
-pub(crate) fn notice_to(
+/// What becomes of an attempt at a contact: the notice on the lane, if the contact's filters pass and it uses
+/// that lane, or the suppression, if one of its filters fails.
+fn answer_of(
     config: &Config,
     zone: &Zone,
     object: ObjectId,
@@ -77,78 +112,51 @@ pub(crate) fn notice_to(
     number: u64,
     attempt: Attempt,
     contact: ContactId,
-) -> Option<Notice>
+) -> Answer
     requires covered { IsCovered config.now }
     requires host { settings.now.host ≡ None }
-    ensures { option_to_list result
+    ensures due { notice_in result
         ≡ notice_to config.now zone.now object.0 settings.now lane.0 event number attempt
         contact.0 }
-{
-    let rights = rights_for(
-        settings,
-        config.contacts.as_slice().get(contact.0 as usize)?,
-    );
-    if contact_failing(config, zone, rights, attempt).is_some() || !rights.uses_lane(lane) {
-        return None;
-    }
-    let Attempt {
-        kind,
-        state,
-        moment,
-    } = attempt;
-    Some(Notice {
-        event,
-        moment,
-        object,
-        kind,
-        state,
-        number,
-        contact,
-        lane,
-    })
-}
-
-/// The suppression of a contact, if one of the contact's filters fails.
-pub(crate) fn refusal_of(
-    config: &Config,
-    zone: &Zone,
-    object: ObjectId,
-    settings: &Object,
-    event: u64,
-    number: u64,
-    attempt: Attempt,
-    contact: ContactId,
-) -> Option<Suppression>
-    requires covered { IsCovered config.now }
-    requires host { settings.now.host ≡ None }
-    ensures { option_to_list result
+    ensures suppressed { suppression_in result
         ≡ refusal_of config.now zone.now object.0 settings.now event number attempt contact.0 }
 {
-    let rights = rights_for(
-        settings,
-        config.contacts.as_slice().get(contact.0 as usize)?,
-    );
-    let filter = contact_failing(config, zone, rights, attempt)?;
+    let Some(receiver) = config.contacts.as_slice().get(contact.0 as usize) else {
+        return Answer::Nothing;
+    };
+    let rights = rights_for(settings, receiver);
     let Attempt {
         kind,
         state,
         moment,
     } = attempt;
-    let contact = Some(contact);
-    Some(Suppression {
-        event,
-        moment,
-        object,
-        kind,
-        state,
-        number,
-        filter,
-        contact,
-    })
+    match contact_failing(config, zone, rights, attempt) {
+        Some(filter) => Answer::Suppressed(Suppression {
+            event,
+            moment,
+            object,
+            kind,
+            state,
+            number,
+            filter,
+            contact: Some(contact),
+        }),
+        None if !rights.uses_lane(lane) => Answer::Nothing,
+        None => Answer::Due(Notice {
+            event,
+            moment,
+            object,
+            kind,
+            state,
+            number,
+            contact,
+            lane,
+        }),
+    }
 }
 
-/// Appends the notices of an attempt to these receivers on a lane. After an error some are appended.
-fn add_sent(
+/// Appends what becomes of an attempt at each of these receivers. After an error some are appended.
+fn add_each(
     config: &Config,
     zone: &Zone,
     object: ObjectId,
@@ -158,58 +166,29 @@ fn add_sent(
     number: u64,
     attempt: Attempt,
     receivers: &[ContactId],
-    due: &mut Vec<Notice>,
+    answers: &mut Answers,
 ) -> Result<(), AllocError>
     requires covered { IsCovered config.now }
     requires host { settings.now.host ≡ None }
-    ensures { OnOk result (due.new.items ≡ due.old.items
+    ensures due { OnOk result (answers.new.due.items ≡ answers.old.due.items
         ++ flat_map
         (notice_to config.now zone.now object.0 settings.now lane.0 event number attempt)
         (map number_of_contact receivers.now)) }
-{
-    for contact in receivers {
-        let notice = notice_to(
-            config, zone, object, settings, lane, event, number, attempt, *contact,
-        );
-        if let Some(notice) = notice {
-            due.push(notice)?;
-        }
-    }
-    Ok(())
-}
-
-/// Appends the suppressions of the receivers that are refused. After an error some are appended.
-fn add_refused(
-    config: &Config,
-    zone: &Zone,
-    object: ObjectId,
-    settings: &Object,
-    event: u64,
-    number: u64,
-    attempt: Attempt,
-    receivers: &[ContactId],
-    suppressed: &mut Vec<Suppression>,
-) -> Result<(), AllocError>
-    requires covered { IsCovered config.now }
-    requires host { settings.now.host ≡ None }
-    ensures { OnOk result (suppressed.new.items ≡ suppressed.old.items
+    ensures suppressed { OnOk result (answers.new.suppressed.items ≡ answers.old.suppressed.items
         ++ flat_map (refusal_of config.now zone.now object.0 settings.now event number attempt)
         (map number_of_contact receivers.now)) }
 {
     for contact in receivers {
-        let refusal = refusal_of(
-            config, zone, object, settings, event, number, attempt, *contact,
-        );
-        if let Some(refusal) = refusal {
-            suppressed.push(refusal)?;
-        }
+        answers.add(answer_of(
+            config, zone, object, settings, lane, event, number, attempt, *contact,
+        ))?;
     }
     Ok(())
 }
 
-/// Appends the notices of an outcome for a lane, one for each receiver that gets it there. After an error
-/// some are appended.
-pub(crate) fn add_notices(
+/// Appends what an outcome adds: the notices for a lane, one for each receiver that gets it there, and the
+/// suppressions, the object's or one for each receiver that is refused. After an error some are appended.
+pub(crate) fn add_answers(
     alloc: Global,
     config: &Config,
     zone: &Zone,
@@ -218,57 +197,18 @@ pub(crate) fn add_notices(
     lane: LaneId,
     event: u64,
     outcome: Outcome,
-    due: &mut Vec<Notice>,
+    answers: &mut Answers,
 ) -> Result<(), AllocError>
     requires few { length config.now.contacts ≤ max_contacts }
     requires covered { IsCovered config.now }
     requires host { settings.now.host ≡ None }
-    ensures { OnOk result (due.new.items ≡ due.old.items
+    ensures due { OnOk result (answers.new.due.items ≡ answers.old.due.items
         ++ notices config.now zone.now object.0 settings.now lane.0 event outcome) }
-{
-    match outcome {
-        Outcome::Nothing | Outcome::Suppressed { .. } => Ok(()),
-        Outcome::Sent {
-            kind,
-            state,
-            number,
-            moment,
-            ..
-        } => {
-            let attempt = Attempt {
-                kind,
-                state,
-                moment,
-            };
-            let receivers = receivers(alloc, config, zone, object, settings, attempt, number)?;
-            let receivers = receivers.as_slice();
-            add_sent(
-                config, zone, object, settings, lane, event, number, attempt, receivers, due,
-            )
-        }
-    }
-}
-
-/// Appends the suppressions of an outcome: the object's, or one for each receiver that is refused. After an
-/// error some are appended.
-pub(crate) fn add_suppressions(
-    alloc: Global,
-    config: &Config,
-    zone: &Zone,
-    object: ObjectId,
-    settings: &Object,
-    event: u64,
-    outcome: Outcome,
-    suppressed: &mut Vec<Suppression>,
-) -> Result<(), AllocError>
-    requires few { length config.now.contacts ≤ max_contacts }
-    requires covered { IsCovered config.now }
-    requires host { settings.now.host ≡ None }
-    ensures { OnOk result (suppressed.new.items ≡ suppressed.old.items
+    ensures suppressed { OnOk result (answers.new.suppressed.items ≡ answers.old.suppressed.items
         ++ suppressions config.now zone.now object.0 settings.now event outcome) }
 {
     match outcome {
-        Outcome::Nothing => Ok(()),
+        Outcome::Nothing => {}
         Outcome::Sent {
             kind,
             state,
@@ -283,9 +223,9 @@ pub(crate) fn add_suppressions(
             };
             let receivers = receivers(alloc, config, zone, object, settings, attempt, number)?;
             let receivers = receivers.as_slice();
-            add_refused(
-                config, zone, object, settings, event, number, attempt, receivers, suppressed,
-            )
+            add_each(
+                config, zone, object, settings, lane, event, number, attempt, receivers, answers,
+            )?;
         }
         Outcome::Suppressed {
             kind,
@@ -294,8 +234,7 @@ pub(crate) fn add_suppressions(
             moment,
             filter,
         } => {
-            let contact = None;
-            suppressed.push(Suppression {
+            answers.add(Answer::Suppressed(Suppression {
                 event,
                 moment,
                 object,
@@ -303,9 +242,9 @@ pub(crate) fn add_suppressions(
                 state,
                 number,
                 filter,
-                contact,
-            })?;
-            Ok(())
+                contact: None,
+            }))?;
         }
     }
+    Ok(())
 }

@@ -6,7 +6,7 @@ ghost use Rattle.due_model.specs.Covered.{IsCovered, IsPlainObject, IsSupported}
 ghost use Rattle.due_model.specs.Due.{due, sup};
 ghost use Rattle.due_model.specs.Proper.{IsProper};
 
-use crate::notices::{add_notices, add_suppressions};
+use crate::notices::{Answers, add_answers};
 use crate::outcomes::outcome;
 use due_model::config::{Config, LaneId, Object, ObjectId};
 use due_model::event::Event;
@@ -23,15 +23,6 @@ fn settings_of(config: &Config, object: ObjectId) -> &Object
     ensures fits { ObjectFits config.now result.now }
 {
     &config.objects.as_slice()[object.0 as usize]
-}
-
-/// What the events so far say of one object.
-#[derive(Drop)]
-struct Answers {
-    /// Its notices on one lane, the oldest first.
-    due: Vec<Notice>,
-    /// Its suppressions, the oldest first.
-    suppressed: Vec<Suppression>,
 }
 
 /// The notices of an object that are due on a lane after these events, and the suppressions of the object.
@@ -55,8 +46,10 @@ fn find_answers(
 {
     let settings = settings_of(config, object);
     let mut history = Vec::new(alloc);
-    let mut due = Vec::new(alloc);
-    let mut suppressed = Vec::new(alloc);
+    let mut answers = Answers {
+        due: Vec::new(alloc),
+        suppressed: Vec::new(alloc),
+    };
     for (index, event) in events.iter().enumerate() {
         let past = &events[..index];
         let now = outcome(
@@ -69,22 +62,20 @@ fn find_answers(
             history.as_slice(),
         );
         let number = index as u64;
-        add_notices(
-            alloc, config, zone, object, settings, lane, number, now, &mut due,
-        )?;
-        add_suppressions(
+        add_answers(
             alloc,
             config,
             zone,
             object,
             settings,
+            lane,
             number,
             now,
-            &mut suppressed,
+            &mut answers,
         )?;
         history.push(now)?;
     }
-    Ok(Answers { due, suppressed })
+    Ok(answers)
 }
 
 /// The notices of an object that are due on a lane after these events, the oldest first. The events are

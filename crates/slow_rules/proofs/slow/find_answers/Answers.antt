@@ -11,8 +11,8 @@ use Rattle.slow_rules.proofs.slow.find_answers.Goals as goal
 pub loop-index-init : goal.loop-index-init
 unfolding hist
 loop-index-init c = record {
-  due = c.new-due.ensures.items;
-  suppressed = c.new-suppressed.ensures.items;
+  due = c.new.ensures.items;
+  suppressed = c.new-2.ensures.items;
   history = ap reverse c.new-history.ensures.items;
   length = c.new-history.ensures.len;
   in_range = All-same IsInRange c.new-history.result.items [] c.new-history.ensures.items (All-nil IsInRange);
@@ -34,8 +34,8 @@ loop-index-preserved c =
     c.outcome-now.ensures.value ∙ ap (λ xs. outcome config zone o settings (get_or events i none) (reverse (take i events)) (reverse xs)) c.as_slice.ensures.value
     in
     record {
-      due = c.in_ok-add_notices.ensures ∙ ap (λ xs. xs ++ notices config zone o settings c.args.lane.0 i now) so_far.due ∙ due_more config zone o settings c.args.lane.0 events i none history now c.loop-index-test.true so_far.history value;
-      suppressed = c.in_ok-add_suppressions.ensures ∙ ap (λ xs. xs ++ suppressions config zone o settings i now) so_far.suppressed ∙ suppressed_more config zone o settings events i none history now c.loop-index-test.true so_far.history value;
+      due = c.in_ok-add_answers.ensures.due ∙ ap (λ xs. xs ++ notices config zone o settings c.args.lane.0 i now) so_far.due ∙ due_more config zone o settings c.args.lane.0 events i none history now c.loop-index-test.true so_far.history value;
+      suppressed = c.in_ok-add_answers.ensures.suppressed ∙ ap (λ xs. xs ++ suppressions config zone o settings i now) so_far.suppressed ∙ suppressed_more config zone o settings events i none history now c.loop-index-test.true so_far.history value;
       history = ap reverse c.in_ok-push.ensures.items ∙ hist_more config zone o settings events i none history now c.loop-index-test.true so_far.history value;
       length = c.in_ok-push.ensures.len ∙ ap (λ n. n + 1) so_far.length;
       in_range = All-same IsInRange c.push.new.self.items (history ++ now ∷ []) c.in_ok-push.ensures.items (All-push IsInRange history now so_far.in_range c.outcome-now.ensures.in_range);

@@ -1,8 +1,0 @@
-use Rattle.std.proofs.Common.{◌≡◌, ◌++◌, map, take, flat_map}
-use Rattle.due_model.specs.Due.{refusal_of}
-use Rattle.slow_rules.specs.Notices.{number_of_contact}
-use Rattle.slow_rules.proofs.notices.add_refused.Given as goal
-
-abbrev pub invariant-loop-contact : goal.invariant-loop-contact
-invariant-loop-contact l =
-    l.suppressed.items ≡ l.initial.suppressed.items ++ flat_map (refusal_of l.config l.zone l.object.0 l.settings l.event l.number l.attempt) (map number_of_contact (take l.contact-index l.receivers))
