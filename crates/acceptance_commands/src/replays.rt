@@ -1,6 +1,6 @@
 //! Replays of the worked examples, over readers and writers in memory.
 
-use acceptance_inputs::readers::in_pieces;
+use acceptance_inputs::readers;
 use acceptance_inputs::texts::input;
 use command_output::{CommandFault, Ending};
 use object_reader::fault::LineFault;
@@ -13,6 +13,22 @@ use std::process::Abort;
 use std::test::Fail;
 use text_lines::AnyReader;
 
+/// Replays what a reader gives, and compares what is written and how it ends.
+fn gives_of<R: Read + Drop>(
+    rt: &impl Abort,
+    alloc: Global,
+    reader: R,
+    report: &str,
+    ending: Ending,
+    name: &str,
+) -> Result<(), Fail> {
+    let mut out = Vec::new(alloc);
+    let ended = replay(alloc, AnyReader::new(reader), &mut out);
+    assert_eq!(rt; ended, Ok(ending), "{name}");
+    assert_eq!(rt; out.as_slice(), report.as_bytes(), "{name}");
+    Ok(())
+}
+
 /// Replays BASE with this feed, and compares what is written and how it ends.
 fn gives(
     rt: &impl Abort,
@@ -22,11 +38,7 @@ fn gives(
     ending: Ending,
 ) -> Result<(), Fail> {
     let text = input(alloc, feed)?;
-    let mut out = Vec::new(alloc);
-    let ended = replay(alloc, text.as_bytes(), &mut out);
-    assert_eq!(rt; ended, Ok(ending), "{feed}");
-    assert_eq!(rt; out.as_slice(), report.as_bytes(), "{feed}");
-    Ok(())
+    gives_of(rt, alloc, text.as_bytes(), report, ending, feed)
 }
 
 #[test]
@@ -134,16 +146,10 @@ impl Write for Stubborn {
 #[test]
 fn in_pieces(rt: HostRuntime) -> Result<(), Fail> {
     let text = input(rt.alloc(), "[1000] HOST_STATE;web;DOWN\n[1060] CLOCK\n")?;
+    let report = "N;0;1000;web;PROBLEM;DOWN;1;ann;mail\nN;1;1060;web;PROBLEM;DOWN;2;ann;mail\n";
     for most in [1, 2, 3, 7, 4096] {
-        let mut out = Vec::new(rt.alloc());
-        let reader = in_pieces(text.as_bytes(), most);
-        let ended = replay(rt.alloc(), AnyReader::new(reader), &mut out);
-        assert_eq!(rt; ended, Ok(Ending::Whole));
-        assert_eq!(rt;
-            out.as_slice(),
-            b"N;0;1000;web;PROBLEM;DOWN;1;ann;mail\nN;1;1060;web;PROBLEM;DOWN;2;ann;mail\n".as_slice(),
-            "pieces of {most}"
-        );
+        let reader = readers::in_pieces(text.as_bytes(), most);
+        gives_of(&rt, rt.alloc(), reader, report, Ending::Whole, "in pieces")?;
     }
     Ok(())
 }

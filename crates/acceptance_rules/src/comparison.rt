@@ -99,10 +99,10 @@ fn objects(alloc: Global, hosts: &[Host]) -> Result<String, AllocError> {
             contacts,
             interval,
         } = *host;
-        text.push_str("define host{\n")?;
-        write!(text, " host_name {name}\n contacts {contacts}\n")?;
-        write!(text, " notification_interval {interval}\n")?;
-        text.push_str("}\n")?;
+        write!(
+            text,
+            "define host{{\n host_name {name}\n contacts {contacts}\n notification_interval {interval}\n}}\n"
+        )?;
     }
     Ok(text)
 }
@@ -154,6 +154,18 @@ fn config_of(alloc: Global, text: &str) -> Result<Config, Fail>
     Ok(load(alloc, text.as_bytes())?)
 }
 
+/// The events that some lines of a feed give.
+fn read_events(alloc: Global, config: &Config, feed: &str) -> Result<Vec<Event>, Fail> {
+    let mut feeder = Feeder::new(LineReader::new(alloc, feed.as_bytes())?);
+    let mut events = Vec::new(alloc);
+    for _line in 0..LINES {
+        if let Some(event) = feeder.next(config)? {
+            events.push(event)?;
+        }
+    }
+    Ok(events)
+}
+
 /// The events of a feed, of which each line gives one.
 fn events_of(
     rt: &impl Abort,
@@ -163,13 +175,7 @@ fn events_of(
 ) -> Result<Vec<Event>, Fail>
     ensures { IfOk result (λ events. All (IsPlainEvent config.now) events.items) }
 {
-    let mut feeder = Feeder::new(LineReader::new(alloc, feed.as_bytes())?);
-    let mut events = Vec::new(alloc);
-    for _line in 0..LINES {
-        if let Some(event) = feeder.next(config)? {
-            events.push(event)?;
-        }
-    }
+    let events = read_events(alloc, config, feed)?;
     assert_eq!(rt; events.len(), LINES as usize, "{feed}");
     assert!(rt; are_plain(config, &events));
     Ok(events)
@@ -303,6 +309,33 @@ impl Counts {
     }
 }
 
+/// Compares the notices that are said of an object on a lane.
+fn has_notices(
+    rt: &impl Abort,
+    alloc: Global,
+    said: &Said,
+    object: ObjectId,
+    lane: LaneId,
+    wanted: &[Notice],
+) -> Result<(), Fail> {
+    let found = said.notices_of(alloc, object, lane)?;
+    assert_eq!(rt; found.as_slice(), wanted, "{object:?} on {lane:?}");
+    Ok(())
+}
+
+/// Compares the suppressions that are said of an object.
+fn has_suppressions(
+    rt: &impl Abort,
+    alloc: Global,
+    said: &Said,
+    object: ObjectId,
+    wanted: &[Suppression],
+) -> Result<(), Fail> {
+    let found = said.suppressions_of(alloc, object)?;
+    assert_eq!(rt; found.as_slice(), wanted, "{object:?}");
+    Ok(())
+}
+
 /// Compares what the slow program and one decider say of an object.
 fn compare_slow(
     rt: &impl Abort,
@@ -321,17 +354,10 @@ fn compare_slow(
     for lane in 0..LANES {
         let lane = LaneId(lane);
         let due = slow_due(alloc, config, &zone, events, object, lane)?;
-        let notices = sole.notices_of(alloc, object, lane)?;
-        assert_eq!(rt;
-            notices.as_slice(),
-            due.as_slice(),
-            "{object:?} on {lane:?}"
-        );
+        has_notices(rt, alloc, sole, object, lane, due.as_slice())?;
     }
     let stopped = slow_sup(alloc, config, &zone, events, object)?;
-    let suppressions = sole.suppressions_of(alloc, object)?;
-    assert_eq!(rt; suppressions.as_slice(), stopped.as_slice(), "{object:?}");
-    Ok(())
+    has_suppressions(rt, alloc, sole, object, stopped.as_slice())
 }
 
 /// Compares what one decider says of an object, and the one of two whose share has it.
@@ -344,18 +370,11 @@ fn compare_halves(
 ) -> Result<(), Fail> {
     for lane in 0..LANES {
         let lane = LaneId(lane);
-        let notices = half.notices_of(alloc, object, lane)?;
         let all = sole.notices_of(alloc, object, lane)?;
-        assert_eq!(rt;
-            notices.as_slice(),
-            all.as_slice(),
-            "{object:?} on {lane:?}"
-        );
+        has_notices(rt, alloc, half, object, lane, all.as_slice())?;
     }
-    let suppressions = half.suppressions_of(alloc, object)?;
     let all = sole.suppressions_of(alloc, object)?;
-    assert_eq!(rt; suppressions.as_slice(), all.as_slice(), "{object:?}");
-    Ok(())
+    has_suppressions(rt, alloc, half, object, all.as_slice())
 }
 
 /// Compares what is said of each object: by the slow program, by one decider, and by the one of two that
@@ -408,6 +427,26 @@ fn compare(rt: &impl Abort, alloc: Global, config: &Config, events: &[Event]) ->
     Ok(sole)
 }
 
+/// Compares over the feed of a seed, and counts what came.
+fn compare_seed(
+    rt: &impl Abort,
+    alloc: Global,
+    config: &Config,
+    hosts: &[Host],
+    seed: u64,
+    step: u32,
+    counts: &mut Counts,
+) -> Result<(), Fail>
+    requires accepted { IsAccepted config.now }
+    requires covered { IsCovered config.now }
+{
+    let text = feed(alloc, hosts, seed, step)?;
+    let events = events_of(rt, alloc, config, text.as_str())?;
+    let said = compare(rt, alloc, config, events.as_slice())?;
+    counts.add(&said);
+    Ok(())
+}
+
 /// Compares over feeds of these hosts, one for each seed, and says what came.
 fn compare_feeds(
     rt: &impl Abort,
@@ -422,10 +461,7 @@ fn compare_feeds(
         stopped: [0; 3],
     };
     for seed in 0..SEEDS {
-        let text = feed(alloc, hosts, seed, step)?;
-        let events = events_of(rt, alloc, &config, text.as_str())?;
-        let said = compare(rt, alloc, &config, events.as_slice())?;
-        counts.add(&said);
+        compare_seed(rt, alloc, &config, hosts, seed, step, &mut counts)?;
     }
     Ok(counts)
 }

@@ -1,8 +1,11 @@
 //! The worked rows of one host, through the slow program.
 
+ghost use Rattle.std.specs.Prelude.{◌≡◌};
+ghost use Rattle.due_laws.specs.Rows.{base};
+
 use acceptance_inputs::configs::base;
 use acceptance_inputs::plain::are_plain;
-use due_model::config::{ContactId, LaneId, ObjectId};
+use due_model::config::{Config, ContactId, LaneId, ObjectId};
 use due_model::covered::is_covered;
 use due_model::event::{Event, EventKind};
 use due_model::notice::{Filter, Kind, Notice, Suppression};
@@ -58,6 +61,38 @@ fn stopped(
     }
 }
 
+/// The slow program gives these notices after these events.
+fn gives_notices(
+    rt: &impl Abort,
+    alloc: Global,
+    config: &Config,
+    events: &[Event],
+    notices: &[Notice],
+) -> Result<(), Fail>
+    requires { config.now ≡ base }
+{
+    assert!(rt; are_plain(config, events));
+    let due = slow_due(alloc, config, &Zone::Utc, events, ObjectId(0), LaneId(0))?;
+    assert_eq!(rt; due.as_slice(), notices);
+    Ok(())
+}
+
+/// The slow program gives these suppressions after these events.
+fn gives_suppressions(
+    rt: &impl Abort,
+    alloc: Global,
+    config: &Config,
+    events: &[Event],
+    suppressions: &[Suppression],
+) -> Result<(), Fail>
+    requires { config.now ≡ base }
+{
+    assert!(rt; are_plain(config, events));
+    let suppressed = slow_sup(alloc, config, &Zone::Utc, events, ObjectId(0))?;
+    assert_eq!(rt; suppressed.as_slice(), suppressions);
+    Ok(())
+}
+
 /// The slow program gives these notices and these suppressions after these events.
 fn gives(
     rt: &impl Abort,
@@ -67,12 +102,8 @@ fn gives(
     suppressions: &[Suppression],
 ) -> Result<(), Fail> {
     let config = base(alloc)?;
-    assert!(rt; are_plain(&config, events));
-    let notices_due = slow_due(alloc, &config, &Zone::Utc, events, ObjectId(0), LaneId(0))?;
-    assert_eq!(rt; notices_due.as_slice(), notices);
-    let suppressed = slow_sup(alloc, &config, &Zone::Utc, events, ObjectId(0))?;
-    assert_eq!(rt; suppressed.as_slice(), suppressions);
-    Ok(())
+    gives_notices(rt, alloc, &config, events, notices)?;
+    gives_suppressions(rt, alloc, &config, events, suppressions)
 }
 
 const DOWN: State = State::Down;

@@ -1,6 +1,9 @@
 //! Runs of worlds: the worked examples, long lists of steps, and a world at its limits.
 
-ghost use Rattle.std.specs.Prelude.{◌≡◌, All, IsTrue};
+ghost use Rattle.std.specs.Prelude.{◌≡◌, All, IfOk, IsTrue, length};
+ghost use Rattle.due_laws.specs.Rows.{base};
+ghost use Rattle.due_model.specs.Accepted.{IsAccepted};
+ghost use Rattle.due_model.specs.Covered.{IsCovered};
 ghost use Rattle.world_steps.specs.Steps.{IsPlainStep};
 ghost use Rattle.world_steps.specs.Views.{world_setup};
 
@@ -14,7 +17,7 @@ use due_model::zone::Zone;
 use std::alloc::{AllocError, Global};
 use std::process::Abort;
 use std::test::Fail;
-use world_steps::{LaneStep, Settings, Step, StepFault, World};
+use world_steps::{LaneStep, LineParts, Settings, Step, StepFault, World};
 
 /// Whether the step posts what may be posted, if it posts.
 fn is_plain(config: &Config, step: Step) -> bool
@@ -101,6 +104,53 @@ fn are_of(rt: &impl Abort, alloc: Global, notices: &[Notice], events: &[u64]) ->
     Ok(())
 }
 
+/// Steps of which those at these places, counted from 1, aren't enabled.
+fn refuses(
+    rt: &impl Abort,
+    alloc: Global,
+    config: &Config,
+    world: &mut World,
+    steps: &[Step],
+    places: &[usize],
+) -> Result<(), Fail>
+    requires { (world_setup world.old).config ≡ config.now }
+    ensures { world_setup world.new ≡ world_setup world.old }
+{
+    let found = refused(rt, alloc, config, world, steps)?;
+    assert_eq!(rt; found.as_slice(), places);
+    Ok(())
+}
+
+/// What the channel took, what is in its hand and what it gave up are of these events.
+fn has_parts(
+    rt: &impl Abort,
+    alloc: Global,
+    parts: &LineParts,
+    line: [&[u64]; 3],
+) -> Result<(), Fail> {
+    are_of(rt, alloc, &parts.taken, line[0])?;
+    are_of(rt, alloc, &parts.hand, line[1])?;
+    are_of(rt, alloc, &parts.undelivered, line[2])
+}
+
+/// A world of this configuration refuses these of the steps, and its line is then this, part by part.
+fn plays_in(
+    rt: &impl Abort,
+    alloc: Global,
+    config: &Config,
+    steps: &[Step],
+    places: &[usize],
+    line: [&[u64]; 3],
+) -> Result<(), Fail>
+    requires { config.now ≡ base }
+{
+    let zone = Zone::Utc;
+    let mut world = World::new(alloc, config, &zone, TWO_TRIES, &[true])?;
+    refuses(rt, alloc, config, &mut world, steps, places)?;
+    let parts = world.line(alloc, MAIL, ObjectId(0))?;
+    has_parts(rt, alloc, &parts, line)
+}
+
 /// A world of BASE with one decider refuses these of the steps, and its line is then this, part by part.
 fn plays(
     rt: &impl Abort,
@@ -110,14 +160,7 @@ fn plays(
     line: [&[u64]; 3],
 ) -> Result<(), Fail> {
     let config = base(alloc)?;
-    let zone = Zone::Utc;
-    let mut world = World::new(alloc, &config, &zone, TWO_TRIES, &[true])?;
-    let found = refused(rt, alloc, &config, &mut world, steps)?;
-    assert_eq!(rt; found.as_slice(), places);
-    let parts = world.line(alloc, MAIL, ObjectId(0))?;
-    are_of(rt, alloc, &parts.taken, line[0])?;
-    are_of(rt, alloc, &parts.hand, line[1])?;
-    are_of(rt, alloc, &parts.undelivered, line[2])
+    plays_in(rt, alloc, &config, steps, places, line)
 }
 
 #[test]
@@ -191,18 +234,24 @@ fn changes(alloc: Global, count: u64) -> Result<Vec<Step>, AllocError> {
     Ok(steps)
 }
 
+/// A world of this configuration takes each of so many changes to the channel.
+fn takes_changes(rt: &impl Abort, alloc: Global, config: &Config, count: u64) -> Result<(), Fail>
+    requires { config.now ≡ base }
+{
+    let zone = Zone::Utc;
+    let mut world = World::new(alloc, config, &zone, LEAST, &[true])?;
+    let steps = changes(alloc, count)?;
+    assert!(rt; are_plain(config, steps.as_slice()));
+    assert_eq!(rt; world.run(steps.as_slice()), Ok(()));
+    let parts = world.line(alloc, MAIL, ObjectId(0))?;
+    assert_eq!(rt; parts.taken.len() as u64, count);
+    Ok(())
+}
+
 #[test]
 fn ten_thousand_steps(rt: HostRuntime) -> Result<(), Fail> {
-    let alloc = rt.alloc();
-    let config = base(alloc)?;
-    let zone = Zone::Utc;
-    let mut world = World::new(alloc, &config, &zone, LEAST, &[true])?;
-    let steps = changes(alloc, 2000)?;
-    assert!(&rt; are_plain(&config, steps.as_slice()));
-    assert_eq!(&rt; world.run(steps.as_slice()), Ok(()));
-    let parts = world.line(alloc, MAIL, ObjectId(0))?;
-    assert_eq!(&rt; parts.taken.len(), 2000);
-    Ok(())
+    let config = base(rt.alloc())?;
+    takes_changes(&rt, rt.alloc(), &config, 2000)
 }
 
 /// Each of eight hosts is down, and each decider has decided it; each queue has a notice of the first decider.
@@ -221,19 +270,44 @@ fn crowd(alloc: Global) -> Result<Vec<Step>, AllocError> {
     Ok(steps)
 }
 
+/// A world of many deciders and lanes, after the crowd of steps.
+fn crowded<'a>(
+    rt: &impl Abort,
+    alloc: Global,
+    config: &'a Config,
+    zone: &'a Zone,
+) -> Result<World<'a>, Fail>
+    requires accepted { IsAccepted config.now }
+    requires covered { IsCovered config.now }
+    requires lanes { length config.now.lanes ≡ 16 }
+    ensures { IfOk result (λ world. (world_setup world).config ≡ config.now) }
+{
+    let mut world = World::new(alloc, config, zone, MOST, &[true; 16])?;
+    let steps = crowd(alloc)?;
+    assert!(rt; are_plain(config, steps.as_slice()));
+    assert_eq!(rt; world.run(steps.as_slice()), Ok(()));
+    Ok(world)
+}
+
+/// The last lane has a notice of the first decider in its queue, and one of the last in the outbox.
+fn last_lane_is_full(rt: &impl Abort, alloc: Global, config: &Config) -> Result<(), Fail>
+    requires accepted { IsAccepted config.now }
+    requires covered { IsCovered config.now }
+    requires lanes { length config.now.lanes ≡ 16 }
+    requires objects { length config.now.objects ≡ 8 }
+{
+    let zone = Zone::Utc;
+    let last = LaneId(15);
+    let mut world = crowded(rt, alloc, config, &zone)?;
+    assert_eq!(rt; world.apply(Step::Put(7, last)), Err(StepFault::NotEnabled));
+    let first = world.line(alloc, last, ObjectId(0))?;
+    are_of(rt, alloc, &first.queue, &[0])?;
+    let other = world.line(alloc, last, ObjectId(7))?;
+    are_of(rt, alloc, &other.outbox, &[7])
+}
+
 #[test]
 fn at_the_limits(rt: HostRuntime) -> Result<(), Fail> {
-    let alloc = rt.alloc();
-    let config = wide(alloc)?;
-    let zone = Zone::Utc;
-    let mut world = World::new(alloc, &config, &zone, MOST, &[true; 16])?;
-    let steps = crowd(alloc)?;
-    assert!(&rt; are_plain(&config, steps.as_slice()));
-    assert_eq!(&rt; world.run(steps.as_slice()), Ok(()));
-    let last = LaneId(15);
-    assert_eq!(&rt; world.apply(Step::Put(7, last)), Err(StepFault::NotEnabled));
-    let first = world.line(alloc, last, ObjectId(0))?;
-    are_of(&rt, alloc, &first.queue, &[0])?;
-    let other = world.line(alloc, last, ObjectId(7))?;
-    are_of(&rt, alloc, &other.outbox, &[7])
+    let config = wide(rt.alloc())?;
+    last_lane_is_full(&rt, rt.alloc(), &config)
 }
