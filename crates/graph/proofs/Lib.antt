@@ -1,6 +1,9 @@
 pub mod PartLemmas
+pub mod ListLemmas
 pub mod EdgeLemmas
 pub mod ReachLemmas
-pub mod OrderLemmas
 pub mod WalkLemmas
-pub mod LoopLemmas
+pub mod CloseLemmas
+pub mod MoveLemmas
+pub mod OverLemmas
+pub mod TopLemmas

@@ -4,3 +4,4 @@ pub mod Edges
 pub mod Reach
 pub mod Order
 pub mod Loops
+pub mod Walk

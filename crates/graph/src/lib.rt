@@ -9,3 +9,4 @@ pub mod lists;
 pub mod loops;
 pub mod order;
 pub mod reach;
+mod walk;

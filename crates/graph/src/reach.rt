@@ -42,8 +42,9 @@ impl Reach {
         Reach::with_stamp(alloc, nodes, 1)
     }
 
-    /// The same, at a later stamp.
-    fn with_stamp(alloc: Global, nodes: u32, stamp: u32) -> Result<Self, AllocError>
+    /// The same, whose first search has the stamp after this one: 4,294,967,295 minus the stamp are left before
+    /// all marks are set to 0. For tests of that; `new` begins at 1.
+    pub fn with_stamp(alloc: Global, nodes: u32, stamp: u32) -> Result<Self, AllocError>
         requires { 0 < stamp }
         ensures { IfOk result (λ reach. reach ≡ record { nodes = nodes; found = [] }) }
     {
@@ -115,31 +116,5 @@ impl Reach {
         for node in nodes {
             self.find(*node);
         }
-    }
-}
-
-#[cfg(test)]
-mod tests {
-    use super::*;
-    use crate::edges::Edge;
-    use std::test::Fail;
-
-    #[test]
-    fn stamps_wrap(rt: HostRuntime) -> Result<(), Fail> {
-        let alloc = rt.alloc();
-        let edges = [Edge { from: 0, to: 1 }];
-        let graph = Graph::new(alloc, 2, &edges)?;
-        let mut reach = Reach::with_stamp(alloc, 2, u32::MAX - 1)?;
-        reach.reach(&graph, 0);
-        assert_eq!(rt; reach.found(), [0, 1].as_slice(), "at the greatest stamp");
-        reach.reach(&graph, 1);
-        assert_eq!(rt;
-            reach.found(),
-            [1].as_slice(),
-            "after the marks were cleared"
-        );
-        reach.reach(&graph, 0);
-        assert_eq!(rt; reach.found(), [0, 1].as_slice());
-        Ok(())
     }
 }

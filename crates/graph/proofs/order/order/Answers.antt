@@ -1,23 +1,22 @@
 use Rattle.std.proofs.Common.{◌≡◌, ◌∙◌, List, ℕ, Vec, Global, sym, ap, subst}
 use Rattle.std.specs.Prelude.{reverse}
 use Rattle.std.proofs.lemmas.List.{take_at}
-use Rattle.graph.specs.declared.order.Step.{Step}
-use Rattle.graph.specs.Order.{IsOrder, MatchStep}
-use Rattle.graph.proofs.OrderLemmas.{IsOrder-reverse, IsOrder-HasNoLoop}
+use Rattle.graph.specs.Chains.{HasNoLoop}
+use Rattle.graph.specs.Edges.{Leads}
+use Rattle.graph.specs.Order.{IsOrder}
+use Rattle.graph.proofs.OverLemmas.{first-HasLoop, at_none}
 use Rattle.graph.proofs.order.order.Goals as goal
+
+pub returns-then-is_some-clause-a_loop : goal.returns-then-is_some-clause-a_loop
+returns-then-is_some-clause-a_loop c = first-HasLoop c.args.graph.now c.in_ok-walk.walk.least (sym c.is_some.ensures ∙ c.if-is_some.true) c.in_ok-walk.ensures.first
 
 pub returns-clause-order : goal.returns-clause-order
 returns-clause-order c =
-    let walk = c.step.new.self in
-    let over = subst (λ (s : Step). MatchStep c.args.graph.now c.loop-walk.walk walk s) c.in-Over.is c.in_ok-step.ensures in
+    let walk = c.in_ok-walk.walk in
     let written : c.reverse.new.self ≡ reverse walk.done.items =
     c.reverse.ensures.after ∙ ap (λ (xs : List ℕ). reverse xs) (c.as_mut_slice.ensures.value ∙ ap (λ (done : Vec ℕ Global). done.items) c.into_done-order.ensures) in
     subst (λ (xs : List ℕ). IsOrder c.args.graph.now xs) (sym (take_at c.reverse.new.self _ c.into_done-order.result.len (c.reverse.ensures.len ∙ c.as_mut_slice.ensures.len) ∙ written))
-    (IsOrder-reverse c.args.graph.now walk.marks.items walk.turns.items walk.path.items walk.done.items walk.next over.0 over.1)
+    (at_none walk.least (IsOrder c.args.graph.now (reverse walk.done.items)) (sym c.is_some.ensures ∙ c.if-is_some.false) c.in_ok-walk.ensures.order)
 
 pub returns-clause-no_loop : goal.returns-clause-no_loop
-returns-clause-no_loop c =
-    let walk = c.step.new.self in
-    let over = subst (λ (s : Step). MatchStep c.args.graph.now c.loop-walk.walk walk s) c.in-Over.is c.in_ok-step.ensures in
-    IsOrder-HasNoLoop c.args.graph.now (reverse walk.done.items)
-    (IsOrder-reverse c.args.graph.now walk.marks.items walk.turns.items walk.path.items walk.done.items walk.next over.0 over.1)
+returns-clause-no_loop c = at_none c.in_ok-walk.walk.least (HasNoLoop (Leads c.args.graph.now)) (sym c.is_some.ensures ∙ c.if-is_some.false) c.in_ok-walk.ensures.no_loop

@@ -1,5 +1,5 @@
-use Rattle.graph.specs.Order.{Fits, steps_left}
-use Rattle.graph.proofs.order.order.Given as goal
+use Rattle.graph.specs.Walk.{Fits, steps_left}
+use Rattle.graph.proofs.walk.Walk.along.Given as goal
 
 abbrev pub invariant-loop-walk : goal.invariant-loop-walk
 invariant-loop-walk l = Fits l.graph l.walk

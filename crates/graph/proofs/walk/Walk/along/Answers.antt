@@ -1,0 +1,10 @@
+use Rattle.std.proofs.Common.{subst}
+use Rattle.graph.specs.declared.walk.Step.{Step}
+use Rattle.graph.specs.Walk.{MatchStep}
+use Rattle.graph.proofs.OverLemmas.{Fits-over}
+use Rattle.graph.proofs.walk.Walk.along.Goals as goal
+
+pub returns : goal.returns
+returns c =
+    let over = subst (λ (s : Step). MatchStep c.args.graph.now c.loop-walk.walk c.step.new.self s) c.in-Over.is c.in_ok-step.ensures in
+    Fits-over c.args.graph.now c.step.new.self over.0 over.1 over.2
