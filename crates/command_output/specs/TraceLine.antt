@@ -16,13 +16,19 @@ abbrev pub refused_step_line : ℕ → StepRefusal → List ℕ
 refused_step_line line refusal =
     codes "E" ++ field (decimal line) ++ field (refusal_name refusal) ++ 10 ∷ []
 
+-- five lists of notices
+unfoldable pub list_fields : Config → (taken hand undelivered queue outbox : List Notice) → List ℕ
+list_fields c taken hand undelivered queue outbox =
+    field (notices_text c taken) ++ field (notices_text c hand)
+    ++ field (notices_text c undelivered) ++ field (notices_text c queue)
+    ++ field (notices_text c outbox)
+
 -- what lane l holds of object o: L;lane;object;taken;hand;undelivered;queue;outbox
 abbrev pub held_line : Config → (l o : ℕ)
     → (taken hand undelivered queue outbox : List Notice) → List ℕ
 held_line c l o taken hand undelivered queue outbox =
-    codes "L" ++ field (lane_text c l) ++ field (object_text c o) ++ field (notices_text c taken)
-    ++ field (notices_text c hand) ++ field (notices_text c undelivered)
-    ++ field (notices_text c queue) ++ field (notices_text c outbox) ++ 10 ∷ []
+    codes "L" ++ field (lane_text c l) ++ field (object_text c o)
+    ++ list_fields c taken hand undelivered queue outbox ++ 10 ∷ []
 
 abbrev pub lane_line : Config → LaneLine → List ℕ
 lane_line c held =

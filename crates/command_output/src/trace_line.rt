@@ -1,7 +1,7 @@
 //! The lines of a trace beside those of refused feed lines: a refused step line, and what a lane holds.
 
 ghost use Rattle.std.specs.Prelude.{◌≡◌, ◌++◌, OnOk};
-ghost use Rattle.command_output.specs.TraceLine.{lane_line, refusal_name, refused_step_line};
+ghost use Rattle.command_output.specs.TraceLine.{lane_line, list_fields, refusal_name, refused_step_line};
 
 use crate::fields::{push_field, push_lane, push_notices, push_number, push_object};
 use due_model::config::{Config, LaneId, ObjectId};
@@ -58,6 +58,20 @@ pub(crate) fn push_refused_step(
     line.extend_from_slice(b"\n")
 }
 
+/// Adds the five lists.
+#[tactic(auto, unfolding(crate::specs::TraceLine::list_fields))]
+fn push_lists(line: &mut Vec<u8>, config: &Config, held: &LaneLine<'_>) -> Result<(), AllocError>
+    ensures { OnOk result (line.new.items ≡ line.old.items ++ list_fields config.now
+        held.now.taken.now held.now.hand.now held.now.undelivered.now held.now.queue.now
+        held.now.outbox.now) }
+{
+    push_notices(line, config, held.taken)?;
+    push_notices(line, config, held.hand)?;
+    push_notices(line, config, held.undelivered)?;
+    push_notices(line, config, held.queue)?;
+    push_notices(line, config, held.outbox)
+}
+
 /// Adds the line of what a lane holds of an object.
 pub(crate) fn push_held(
     line: &mut Vec<u8>,
@@ -69,10 +83,6 @@ pub(crate) fn push_held(
     line.extend_from_slice(b"L")?;
     push_lane(line, config, held.lane)?;
     push_object(line, config, held.object)?;
-    push_notices(line, config, held.taken)?;
-    push_notices(line, config, held.hand)?;
-    push_notices(line, config, held.undelivered)?;
-    push_notices(line, config, held.queue)?;
-    push_notices(line, config, held.outbox)?;
+    push_lists(line, config, held)?;
     line.extend_from_slice(b"\n")
 }
