@@ -1,1 +1,3 @@
 pub mod ClockLemmas
+pub mod ChangeLemmas
+pub mod YearLemmas
