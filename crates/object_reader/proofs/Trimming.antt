@@ -229,8 +229,8 @@ pub blank_found : (bs : List ℕ) (place : ℕ) (found : Option ℕ) → found �
 blank_found bs place found here is blank =
     let at = place_of (λ b. nat_le b 32) bs place (sym here ∙ is) in
     let first : position_or_len is_blank bs ≡ place =
-        position_or_len_is is_blank bs place 0 (omega (arith, at.1))
-        (λ k below. blank_low (get_or bs k 0) (fails_before_first (λ b. nat_le b 32) bs k 0 (omega (arith, below, at.0)))) (λ within. blank) in
+    position_or_len_is is_blank bs place 0 (omega (arith, at.1))
+    (λ k below. blank_low (get_or bs k 0) (fails_before_first (λ b. nat_le b 32) bs k 0 (omega (arith, below, at.0)))) (λ within. blank) in
     let below : nat_lt place (length bs) ≡ true = search (arith, tests, at.1) in
     rw (first, below) refl
 
@@ -244,7 +244,7 @@ no_blank bs found here is = by_test (nat_lt (position_or_len (λ b. nat_le b 32)
   by_test false e =
       let last : length bs ≤ position_or_len (λ b. nat_le b 32) bs = search (arith, tests) in
       let first : position_or_len is_blank bs ≡ length bs =
-          position_or_len_is is_blank bs (length bs) 0 (omega arith)
-          (λ k below. blank_low (get_or bs k 0) (fails_before_first (λ b. nat_le b 32) bs k 0 (omega (arith, below, last)))) (λ within. absurd (omega (arith, within))) in
+      position_or_len_is is_blank bs (length bs) 0 (omega arith)
+      (λ k below. blank_low (get_or bs k 0) (fails_before_first (λ b. nat_le b 32) bs k 0 (omega (arith, below, last)))) (λ within. absurd (omega (arith, within))) in
       let beyond : nat_lt (length bs) (length bs) ≡ false = search (arith, tests) in
       rw (first, beyond) refl

@@ -19,6 +19,7 @@ pub(crate) struct TextLine<'a> {
 
 /// Where the first newline of a text stands, and whether no `;` stands before it. The two are looked
 /// for at once, since most lines have no `;`.
+#[inline(never)]
 fn first_newline(text: &[u8]) -> (Option<usize>, bool)
     ensures place { IsFirstByte (is_byte 10) text.now result.0 }
     ensures plain { result.1 ≡ true

@@ -116,10 +116,11 @@ fn directives(
 {
     let mut directives = Vec::new(alloc);
     while let Some(statement) = next_statement(alloc, lines)? {
-        let words = Words::new(statement.text.as_slice());
-        if is_close(&words) {
+        let text = statement.text.as_slice();
+        if is_close(text) {
             return Ok(Sequence::new(directives));
         }
+        let words = Words::new(text);
         if is_define(&words) {
             break;
         }

@@ -133,10 +133,10 @@ pub(crate) fn statement<'a>(
 }
 
 /// Whether a statement closes a block.
-pub(crate) fn is_close(words: &Words<'_>) -> bool
-    ensures { result ≡ is_close words.now }
+pub(crate) fn is_close(statement: &[u8]) -> bool
+    ensures { result ≡ is_close statement.now }
 {
-    is_word(words.all(), "}")
+    is_word(statement, "}")
 }
 
 /// Whether a statement begins as the opening of a block does.
