@@ -7,7 +7,7 @@ use Rattle.object_values.specs.declared.fault.BlockFault.{BlockFault}
 use Rattle.object_resolve.specs.declared.fault.LoadFault.{LoadFault}
 use Rattle.object_resolve.specs.declared.fault.LoadFault.TheVariants as load
 use Rattle.object_values.specs.declared.fault.BlockFault.TheVariants.{MissingDirective, BadNumber}
-use Rattle.object_values.specs.Blocks.{has_bad_interval, interval_in, is_host, is_host_kind, means_nothing, name_directive}
+use Rattle.object_values.specs.Blocks.{has_bad_interval, interval_in, is_host, is_host_kind, means_nothing, name_directive, value_fault}
 use Rattle.object_values.specs.Values.{value_in}
 use Rattle.object_resolve.specs.Resolve.{HaveValues}
 use Rattle.object_reader.specs.declared.block.BlockKind.{BlockKind}
@@ -113,6 +113,7 @@ interval-read kind directives missing host none = absurd (true≢false (sym host
 -- a host's interval is a number, where no block has a fault of its own values
 pub interval-given : (blocks : List Block) (i : ℕ) (x : Block) → HaveValues blocks → i < length blocks → x ≡ get_or blocks i x
     → is_host x ≡ true → IsTrue (is_some (interval_in x.directives))
+unfolding value_fault
 interval-given blocks i x values within is host =
     interval-read x.kind x.directives (is_none (value_in x.directives (name_directive x.kind))) host
     (values i x within (slice_get_read blocks (length blocks) i x refl within is))

@@ -50,6 +50,7 @@ known-same contacts contacts' commands commands' same-contacts same-commands kin
 -- which entries are unknown depends on which names are there alone
 unknown-same : (contacts contacts' commands commands' : List (List ℕ)) (block : Block) → ((name : List ℕ) → list_any (bytes_eq name) contacts ≡ list_any (bytes_eq name) contacts')
     → ((name : List ℕ) → list_any (bytes_eq name) commands ≡ list_any (bytes_eq name) commands') → has_unknown contacts commands block ≡ has_unknown contacts' commands' block
+unfolding has_unknown
 unknown-same contacts contacts' commands commands' block same-contacts same-commands =
     list_any-same _ _ (known-same contacts contacts' commands commands' same-contacts same-commands block.kind) (entries_read block.kind block.directives)
 

@@ -30,7 +30,7 @@ is_known contacts commands Host entry = list_any (bytes_eq entry) contacts
 is_known contacts commands _ entry = true
 
 -- whether a list of the block has an entry that names none of them
-abbrev pub has_unknown : List (List ℕ) → List (List ℕ) → Block → Bool
+unfoldable pub has_unknown : List (List ℕ) → List (List ℕ) → Block → Bool
 has_unknown contacts commands block =
     list_any (λ entry. not (is_known contacts commands block.kind entry))
     (entries_read block.kind block.directives)

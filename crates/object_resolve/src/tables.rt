@@ -106,6 +106,7 @@ impl Tables {
     }
 
     /// The fault of names of a block, whose own name is doubled or not.
+    #[tactic(auto, unfolding(crate::specs::Tables::has_unknown))]
     fn name_fault(
         &self,
         alloc: Global,

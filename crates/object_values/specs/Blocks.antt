@@ -111,7 +111,7 @@ is_later_entry (b ∷ bs) = b == 33 || b == 42 || b == 43 || bytes_eq (b ∷ bs)
 
 -- whether a block is of a type that isn't resolved yet, or has a directive, or an entry of a list, that
 -- isn't read yet
-abbrev pub has_later_parts : Block → Bool
+unfoldable pub has_later_parts : Block → Bool
 has_later_parts block = is_later_kind block.kind
     || list_any (λ d. list_any (bytes_eq d.name) (later_names block.kind)) block.directives
     || list_any is_later_entry (entries_read block.kind block.directives)
@@ -137,9 +137,10 @@ has_bad_interval _ directives = false
 
 -- the first fault of a block's own values:
 -- a name that is missing, or an interval that isn't a number
-abbrev pub value_fault : Block → Option BlockFault
+unfoldable pub value_fault : Block → Option BlockFault
 value_fault block =
     if means_nothing block.kind then None
-    else if is_none (value_in block.directives (name_directive block.kind)) then Some MissingDirective
+    else if is_none (value_in block.directives (name_directive block.kind))
+    then Some MissingDirective
     else if has_bad_interval block.kind block.directives then Some BadNumber
     else None

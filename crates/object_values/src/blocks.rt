@@ -67,10 +67,7 @@ pub fn name_of(block: &Block) -> &[u8]
 }
 
 /// The entries of both lists of notification commands.
-pub fn command_entries(
-    alloc: Global,
-    directives: &[Directive],
-) -> Result<Vec<&[u8]>, AllocError>
+pub fn command_entries(alloc: Global, directives: &[Directive]) -> Result<Vec<&[u8]>, AllocError>
     ensures { IfOk result (λ list.
         texts list.items ≡ entries_read BlockKind.Contact directives.now) }
 {
@@ -174,6 +171,7 @@ fn has_later_entry(entries: &[&[u8]]) -> bool
 
 /// Whether a block is of a type that isn't resolved yet, or has a directive or an entry of a list that
 /// isn't read yet.
+#[tactic(auto, unfolding(crate::specs::Blocks::has_later_parts))]
 pub fn has_later_parts(alloc: Global, block: &Block) -> Result<bool, AllocError>
     ensures { IfOk result (λ later. later ≡ has_later_parts block.now) }
 {
@@ -193,6 +191,7 @@ fn has_bad_interval(kind: BlockKind, directives: &[Directive]) -> bool
 }
 
 /// The first fault of a block's own values: it lacks its name, or its interval isn't a number.
+#[tactic(auto, unfolding(crate::specs::Blocks::value_fault))]
 pub fn value_fault(block: &Block) -> Option<BlockFault>
     ensures { result ≡ value_fault block.now }
 {
