@@ -2,3 +2,5 @@ mod TextLemmas
 mod NameLemmas
 mod UseLemmas
 mod FaultLemmas
+mod InheritedLemmas
+mod ColumnLemmas

@@ -1,5 +1,5 @@
 -- What each block has for a directive (chapter "Object Inheritance").
-use Rattle.std.specs.Prelude.{ℕ, zero, suc, Bool, false, ◌==◌, List, [], ◌∷◌, ◌++◌, length, map, drop, Option, None, Some, codes, slice_get, slice_index_or, if◌then◌else◌}
+use Rattle.std.specs.Prelude.{◌≡◌, ℕ, zero, suc, ◌≤◌, Bool, false, ◌==◌, List, [], ◌∷◌, ◌++◌, length, map, drop, Option, None, Some, codes, slice_get, slice_index_or, if◌then◌else◌}
 use Rattle.std.specs.List.{list_any}
 use Rattle.std.specs.Option.{option_and_then, option_map, option_to_list}
 use Rattle.std.specs.Str.{bytes_eq}
@@ -77,3 +77,17 @@ list blocks directive place = list_given (given blocks directive place)
 -- The name that a block has for a directive that is a name which may be empty, as that of a period.
 abbrev pub name : List Block → List ℕ → ℕ → Option (List ℕ)
 name blocks directive place = option_map name_of (value blocks directive place)
+
+-- ---- of blocks whose templates have no fault
+
+-- What is given to each block is what it gives itself, followed by what is given to the first of its
+-- templates to which anything is given.
+abbrev pub AreInherited : List Block → Type 0
+AreInherited blocks = (directive : List ℕ) (place : ℕ) → given blocks directive place
+    ≡ option_to_list (own blocks directive place)
+    ++ first_given (map (given blocks directive) (sources blocks directive place))
+
+-- No line is longer than there are blocks: to go further along it finds nothing more.
+abbrev pub AreShort : List Block → Type 0
+AreShort blocks = (directive : List ℕ) (place further : ℕ) → length blocks ≤ further
+    → given_along further blocks directive place ≡ given blocks directive place

@@ -3,3 +3,4 @@ pub mod Templates
 pub mod Names
 pub mod Inherited
 pub mod Faults
+pub mod Columns

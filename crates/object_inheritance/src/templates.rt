@@ -1,12 +1,13 @@
 //! Templates, and their faults (chapter "Object Inheritance").
 
-ghost use Rattle.std.specs.Prelude.{◌≡◌, ◌==◌, false, None, IfErr, IfNone, IfOk, IfSome, OnOk};
+ghost use Rattle.std.specs.Prelude.{◌≡◌, ◌<◌, ◌==◌, false, length, All, None, IfErr, IfNone, IfOk, IfSome, OnOk};
 ghost use Rattle.std.specs.Option.{option_map_or};
 ghost use Rattle.graph.specs.Chains.{HasNoLoop};
 ghost use Rattle.graph.specs.Edges.{Leads};
 ghost use Rattle.graph.specs.Loops.{IsFirstOnLoop};
 ghost use Rattle.graph.specs.Order.{IsOrder};
 ghost use Rattle.object_inheritance.specs.Faults.{AreFree, fault_by, is_doubled, IsRefusal, uses_unknown};
+ghost use Rattle.object_inheritance.specs.Inherited.{AreInherited, AreShort};
 ghost use Rattle.object_inheritance.specs.Templates.{template_graph};
 ghost use Rattle.object_inheritance.specs.declared.templates.InheritanceFault.TheVariants.{NoMemory};
 
@@ -168,21 +169,29 @@ impl<'a> Templates<'a> {
 
     /// The blocks.
     pub fn blocks(&self) -> &'a [Block]
-        ensures { result.now ≡ self.now }
+        ensures value { result.now ≡ self.now }
+
+        // What is given to a block is what it gives itself and what the first of its templates has.
+        ensures inherited { AreInherited self.now }
+
+        // How far one looks makes no difference from the number of the blocks on.
+        ensures short { AreShort self.now }
     {
         self.blocks
     }
 
     /// The graph of the templates.
     pub(crate) fn graph(&self) -> &Graph
-        ensures { result.now ≡ template_graph self.now }
+        ensures value { result.now ≡ template_graph self.now }
+        ensures long { length result.now ≡ length self.now }
     {
         &self.graph
     }
 
     /// An order of the blocks, in which each stands before the templates that it uses.
     pub(crate) fn order(&self) -> &[u32]
-        ensures { IsOrder (template_graph self.now) result.now }
+        ensures order { IsOrder (template_graph self.now) result.now }
+        ensures within { All (λ place. place < length self.now) result.now }
     {
         self.order.as_slice()
     }

@@ -1,0 +1,16 @@
+use Rattle.std.proofs.Common.{List, subst, sym}
+use Rattle.object_reader.specs.declared.block.Block.{Block}
+use Rattle.graph.specs.Order.{IsOrder}
+use Rattle.object_inheritance.specs.Inherited.{AreInherited, AreShort}
+use Rattle.object_inheritance.proofs.InheritedLemmas.{are-inherited, are-short}
+use Rattle.object_inheritance.proofs.templates.Templates.blocks.Goals as goal
+
+pub returns-clause-inherited : goal.returns-clause-inherited
+returns-clause-inherited c =
+    subst AreInherited c.self.view_is (are-inherited c.self.inside.blocks.now c.self.inside.order.items
+    (subst (λ graph. IsOrder graph c.self.inside.order.items) c.self.invariant.same c.self.invariant.ordered))
+
+pub returns-clause-short : goal.returns-clause-short
+returns-clause-short c =
+    subst AreShort c.self.view_is (are-short c.self.inside.blocks.now c.self.inside.order.items
+    (subst (λ graph. IsOrder graph c.self.inside.order.items) c.self.invariant.same c.self.invariant.ordered))

@@ -1,0 +1,251 @@
+//! What each block has for a directive: what it gives itself, or else what it takes from a template
+//! (chapter "Object Inheritance").
+
+ghost use Rattle.std.specs.Prelude.{◌≡◌, ℕ, ◌<◌, ◌++◌, [], None, length, find, is_some, reverse, slice_index_or, All, IfOk, IfSome, OnOk, if◌then◌else◌};
+ghost use Rattle.std.specs.Option.{option_copied, option_map};
+ghost use Rattle.graph.specs.Edges.{Leads};
+ghost use Rattle.object_inheritance.specs.Columns.{given_from, IsGivenAt, line_of};
+ghost use Rattle.object_inheritance.specs.Inherited.{is_additive, list, name, name_of, own_entries, sources, stays, value};
+ghost use Rattle.object_inheritance.specs.Templates.{template_graph};
+ghost use Rattle.object_inheritance.specs.Texts.{texts};
+
+use crate::templates::Templates;
+use crate::texts::{entries, value_in};
+use object_reader::block::Block;
+use std::alloc::{AllocError, Global};
+use std::marker::Model;
+
+/// Whether a directive isn't inherited.
+fn stays(directive: &[u8]) -> bool
+    ensures { result ≡ stays directive.now }
+{
+    directive == "name".as_bytes()
+        || directive == "use".as_bytes()
+        || directive == "register".as_bytes()
+}
+
+/// Whether a list begins with `+`.
+fn is_additive(text: &[u8]) -> bool
+    ensures { result ≡ is_additive text.now }
+{
+    match text {
+        [] => false,
+        [first, ..] => *first == b'+',
+    }
+}
+
+/// A name that may be empty: `null` is given and empty.
+fn name_of(text: &[u8]) -> &[u8]
+    ensures { result.now ≡ name_of text.now }
+{
+    if text == "null".as_bytes() { &text[..0] } else { text }
+}
+
+/// The entries that a list has itself.
+fn own_entries<'a>(alloc: Global, text: &'a [u8]) -> Result<Vec<&'a [u8]>, AllocError>
+    ensures { IfOk result (λ list. texts list.items ≡ own_entries text.now) }
+{
+    if is_additive(text) {
+        entries(alloc, &text[1..])
+    } else {
+        entries(alloc, name_of(text))
+    }
+}
+
+/// Adds the entries that a list has itself, the last one first.
+fn push_reversed<'a>(
+    alloc: Global,
+    list: &mut Vec<&'a [u8]>,
+    text: &'a [u8],
+) -> Result<(), AllocError>
+    ensures { OnOk result (texts list.new.items
+        ≡ texts list.old.items ++ reverse (own_entries text.now)) }
+{
+    let mut own = own_entries(alloc, text)?;
+    own.as_mut_slice().reverse();
+    list.extend_from_slice(own.as_slice())?;
+    Ok(())
+}
+
+/// What is given to a block for a directive.
+#[derive(Clone, Copy)]
+pub(crate) struct Given<'a> {
+    /// The nearest text: the block's own, or that of the template from which the block takes it.
+    text: &'a [u8],
+    /// Where the template stands from which the block of that text would take one.
+    further: Option<u32>,
+}
+
+/// The first of the places for which anything is given.
+fn first_with(column: &[Option<Given>], places: &[u32]) -> Option<u32>
+    requires { All (λ q. q < length column.now) places.now }
+    ensures within { IfSome result (λ q. q < length column.now) }
+    ensures first { result ≡ find (λ q. is_some (slice_index_or column.now q None)) places.now }
+{
+    for place in places {
+        if column[*place as usize].is_some() {
+            return Some(*place);
+        }
+    }
+    None
+}
+
+/// The first of the templates, from which the block at the place may take the directive, for which anything
+/// is given.
+fn further_of(
+    templates: &Templates,
+    column: &[Option<Given>],
+    directive: &[u8],
+    place: u32,
+) -> Option<u32>
+    requires within { place < length templates.now }
+    requires long { length column.now ≡ length templates.now }
+    ensures first { result ≡ find (λ q. is_some (slice_index_or column.now q None))
+        (sources templates.now directive.now place) }
+    ensures within { IfSome result (λ q. q < length templates.now) }
+{
+    if stays(directive) {
+        return None;
+    }
+    let graph = templates.graph();
+    first_with(column, graph.ends(place))
+}
+
+/// What is given to the block at the place, where the column has it of the templates that it uses.
+fn given_at<'a>(
+    templates: &Templates<'a>,
+    column: &[Option<Given<'a>>],
+    directive: &[u8],
+    place: u32,
+) -> Option<Given<'a>>
+    requires within { place < length templates.now }
+    requires long { length column.now ≡ length templates.now }
+    requires used { (q : ℕ) → Leads (template_graph templates.now) place q
+        → IsGivenAt templates.now directive.now q (slice_index_or column.now q None) }
+    ensures { IsGivenAt templates.now directive.now place result }
+{
+    let further = further_of(templates, column, directive, place);
+    let blocks = templates.blocks();
+    let block = &blocks[place as usize];
+    match value_in(block.directives.as_slice(), directive) {
+        Some(text) => Some(Given { text, further }),
+        None => match further {
+            Some(template) => column[template as usize],
+            None => None,
+        },
+    }
+}
+
+/// What all blocks have for one directive. It takes some 32 bytes a block. Contracts see the blocks and the
+/// directive.
+#[derive(Drop)]
+pub struct Values<'a> {
+    blocks: &'a [Block],
+    directive: &'a [u8],
+    column: Vec<Option<Given<'a>>>,
+}
+
+impl<'a> Model for Values<'a> {
+    ghost use Rattle.object_inheritance.specs.Columns.{Column, HasGiven};
+
+    ghost Value = { Column };
+
+    ghost view = { λ s. record {
+      blocks = s.blocks.now;
+      directive = s.directive.now;
+    } };
+
+    ghost invariant = { λ s. HasGiven s.blocks.now s.directive.now s.column.items };
+}
+
+impl<'a> Values<'a> {
+    /// What the blocks have for the directive. Each block's is found once: the time grows with the blocks,
+    /// their directives and the templates that they use. A refused growth leaves nothing.
+    pub fn new(
+        alloc: Global,
+        templates: &Templates<'a>,
+        directive: &'a [u8],
+    ) -> Result<Values<'a>, AllocError>
+        ensures { IfOk result (λ values. values
+            ≡ record { blocks = templates.now; directive = directive.now }) }
+    {
+        let blocks = templates.blocks();
+        let order = templates.order();
+        let mut column = vec![in alloc; None; blocks.len()]?;
+        let mut left = order.len();
+        while left > 0 {
+            left -= 1;
+            let place = order[left];
+            column[place as usize] = given_at(templates, column.as_slice(), directive, place);
+        }
+        Ok(Values {
+            blocks,
+            directive,
+            column,
+        })
+    }
+
+    /// What is given to the block at the place.
+    fn given(&self, place: usize) -> Option<Given<'a>>
+        ensures { IsGivenAt self.now.blocks self.now.directive place result }
+    {
+        if place < self.column.len() {
+            self.column[place]
+        } else {
+            None
+        }
+    }
+
+    /// The value of the block at the place, as it is written; none where neither it nor a template gives one.
+    pub fn value(&self, place: usize) -> Option<&'a [u8]>
+        ensures { option_copied result ≡ value self.now.blocks self.now.directive place }
+    {
+        match self.given(place) {
+            Some(given) => Some(given.text),
+            None => None,
+        }
+    }
+
+    /// The name that the block at the place has for the directive, where it is a name that may be empty, as
+    /// that of a period: `null` is given and empty.
+    pub fn name(&self, place: usize) -> Option<&'a [u8]>
+        ensures { option_copied result ≡ name self.now.blocks self.now.directive place }
+    {
+        match self.value(place) {
+            Some(text) => Some(name_of(text)),
+            None => None,
+        }
+    }
+
+    /// What is given beside an additive list, and nothing beside another.
+    fn beside(&self, given: Given<'a>) -> Option<Given<'a>>
+        ensures { line_of self.now.blocks self.now.directive result
+            ≡ (if is_additive given.entry.text.now
+            then given_from self.now.blocks self.now.directive given.entry.further else []) }
+    {
+        if !is_additive(given.text) {
+            return None;
+        }
+        self.given(given.further? as usize)
+    }
+
+    /// The entries that the block at the place has for the directive, where it is a list of names; none where
+    /// neither it nor a template gives one, which isn't an empty list. The time grows with the texts of the
+    /// additive lists that are joined. A refused growth leaves nothing.
+    pub fn list(&self, alloc: Global, place: usize) -> Result<Option<Vec<&'a [u8]>>, AllocError>
+        ensures { IfOk result (λ found. option_map (λ entries. texts entries.items) found
+            ≡ list self.now.blocks self.now.directive place) }
+    {
+        let mut given = self.given(place);
+        if given.is_none() {
+            return Ok(None);
+        }
+        let mut list = Vec::new(alloc);
+        while let Some(next) = given {
+            push_reversed(alloc, &mut list, next.text)?;
+            given = self.beside(next);
+        }
+        list.as_mut_slice().reverse();
+        Ok(Some(list))
+    }
+}
