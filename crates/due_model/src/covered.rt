@@ -8,14 +8,14 @@ use crate::event::EventKind;
 use crate::options::OptionLetters;
 
 /// Whether a set has every letter of a host.
-pub fn has_host_letters(set: &OptionLetters) -> bool
+fn has_host_letters(set: &OptionLetters) -> bool
     ensures { IsTrue result ↔ HasHostLetters set.now }
 {
     set.down && set.unreachable && set.recovery && set.flapping && set.downtime
 }
 
 /// Whether this is a host with every letter, enabled, and with no delay and no period.
-pub fn is_plain_host(object: &Object) -> bool
+fn is_plain_host(object: &Object) -> bool
     ensures { IsTrue result ↔ IsPlainHost object.now }
 {
     object.host.is_none()
@@ -26,7 +26,7 @@ pub fn is_plain_host(object: &Object) -> bool
 }
 
 /// Whether the rights restrict nothing about hosts.
-pub fn are_full_rights(rights: &Rights) -> bool
+fn are_full_rights(rights: &Rights) -> bool
     ensures { IsTrue result ↔ AreFullRights rights.now }
 {
     rights.enabled && has_host_letters(&rights.options) && rights.period.is_none()
