@@ -32,7 +32,7 @@ pub fn replay<R: Input + Drop, W: Write>(
         FailsWith R.can_fail bytes Zone.Utc fault (W.contents writer.old) (W.contents writer.new))) }
 {
     let zone = Zone::Utc;
-    let _ = (alloc, &zone, reader); match writer.write(b"R;1;Read\n") { Ok(9) => Ok(Ending::Short), _ => Err(CommandFault::Output), }
+    replay_in(alloc, &zone, reader, writer)
 }
 
 /// The same, for local times of a zone.
