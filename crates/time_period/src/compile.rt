@@ -141,7 +141,8 @@ fn stays_until(period: &Period, done: &[Compiled], weekday: u8, from: u32, holds
     requires from { from ≤ 86400 }
     ensures low { from ≤ result }
     ensures high { result ≤ 86400 }
-    ensures alike { (k : ℕ) → from ≤ k → k < result → holds_without period.now done.now weekday k ≡ holds }
+    ensures alike { (k : ℕ) → from ≤ k → k < result
+        → holds_without period.now done.now weekday k ≡ holds }
     ensures over { result < 86400 → holds_without period.now done.now weekday result ≡ not holds }
 {
     let mut end = from;

@@ -2,5 +2,6 @@
 //! that is known of zones here is what `jiff` says of them. Nothing but the reading of a zone file takes memory.
 #![tactic(auto)]
 
+pub mod given;
 pub mod local;
 pub mod steady;
