@@ -19,7 +19,7 @@ pub(crate) struct TextLine<'a> {
 
 /// Where the first newline of a text stands, and whether no `;` stands before it. The two are looked
 /// for at once, since most lines have no `;`.
-#[inline(never)]
+#[inline(always)]
 fn first_newline(text: &[u8]) -> (Option<usize>, bool)
     ensures place { IsFirstByte (is_byte 10) text.now result.0 }
     ensures plain { result.1 ≡ true
@@ -33,6 +33,7 @@ fn first_newline(text: &[u8]) -> (Option<usize>, bool)
 }
 
 /// The first line of a text that isn't empty, and the text after it.
+#[inline(always)]
 pub(crate) fn split_line(text: &[u8]) -> (TextLine<'_>, &[u8])
     requires { 0 < length text.now }
     ensures first { lines_of text.now
