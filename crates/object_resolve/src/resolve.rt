@@ -5,6 +5,7 @@ ghost use Rattle.object_values.specs.Blocks.{contact_names};
 ghost use Rattle.object_resolve.specs.Build.{IsConfigOf};
 ghost use Rattle.object_resolve.specs.Fault.{IsAmong, IsAt};
 ghost use Rattle.object_resolve.specs.Limits.{AreUsed, AreWithin, lanes_in};
+ghost use Rattle.object_resolve.specs.Tables.{AreNamed};
 ghost use Rattle.object_resolve.specs.Resolve.{AreRead, HaveValues, IsMisvalued, IsRefusal, IsResolved, IsUnread};
 
 use crate::build::{contacts_of, hosts_of, lanes_of};
@@ -29,11 +30,35 @@ pub(crate) fn resolve(alloc: Global, blocks: &[Block]) -> Result<Config, LoadFau
     ensures resolved { IfOk result (λ config. IsResolved blocks.now config) }
     ensures refusal { IfErr result (λ fault. IsAmong (IsRefusal blocks.now) fault) }
 {
+    let known = check(alloc, blocks)?;
+    Ok(config_of(alloc, blocks, &known)?)
+}
+
+/// The names that the configuration of blocks is made with.
+#[derive(Drop)]
+struct Known {
+    /// The names of the contacts, in file order.
+    contacts: Names,
+    /// The names of the commands that some contact uses.
+    used: Names,
+}
+
+/// Finds the first fault of the blocks, pass by pass. Where there is none, gives the names that their
+/// configuration is made with.
+fn check(alloc: Global, blocks: &[Block]) -> Result<Known, LoadFault>
+    ensures read { OnOk result (AreRead blocks.now) }
+    ensures values { OnOk result (HaveValues blocks.now) }
+    ensures names { OnOk result (AreNamed blocks.now) }
+    ensures limits { OnOk result (AreWithin blocks.now) }
+    ensures contacts { IfOk result (λ known. known.contacts ≡ contact_names blocks.now) }
+    ensures used { IfOk result (λ known. AreUsed known.used blocks.now) }
+    ensures refusal { IfErr result (λ fault. IsAmong (IsRefusal blocks.now) fault) }
+{
     check_read(alloc, blocks)?;
     check_values(blocks)?;
-    let tables = check_names(alloc, blocks)?;
+    let contacts = check_names(alloc, blocks)?;
     let used = check_limits(alloc, blocks)?;
-    Ok(config_of(alloc, blocks, tables.contacts(), &used)?)
+    Ok(Known { contacts, used })
 }
 
 /// Finds the first block with a directive or an entry of a list that isn't read yet.
@@ -73,21 +98,16 @@ fn check_values(blocks: &[Block]) -> Result<(), LoadFault>
 }
 
 /// The configuration of blocks that have no fault.
-fn config_of(
-    alloc: Global,
-    blocks: &[Block],
-    contacts: &Names,
-    used: &Names,
-) -> Result<Config, AllocError>
+fn config_of(alloc: Global, blocks: &[Block], known: &Known) -> Result<Config, AllocError>
     requires values { HaveValues blocks.now }
-    requires names { contacts.now ≡ contact_names blocks.now }
-    requires used { AreUsed used.now blocks.now }
+    requires names { known.now.contacts ≡ contact_names blocks.now }
+    requires used { AreUsed known.now.used blocks.now }
     requires limits { AreWithin blocks.now }
     ensures { IfOk result (λ config. IsConfigOf blocks.now (lanes_in blocks.now) config) }
 {
-    let lanes = lanes_of(alloc, blocks, used)?;
+    let lanes = lanes_of(alloc, blocks, &known.used)?;
     let people = contacts_of(alloc, blocks, lanes.as_slice())?;
-    let hosts = hosts_of(alloc, blocks, contacts)?;
+    let hosts = hosts_of(alloc, blocks, &known.contacts)?;
     Ok(Config {
         objects: Objects::new(alloc, hosts)?,
         contacts: Sequence::new(people),

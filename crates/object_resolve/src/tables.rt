@@ -18,7 +18,7 @@ use std::alloc::{AllocError, Global};
 
 /// The names of the blocks of each type, numbered in file order and each once.
 #[derive(Drop)]
-pub(crate) struct Tables {
+struct Tables {
     hosts: Names,
     contacts: Names,
     commands: Names,
@@ -144,20 +144,20 @@ impl Tables {
     }
 
     /// The names of the contacts.
-    pub(crate) fn contacts(&self) -> &Names
-        ensures { result.now ≡ self.now.contacts }
+    fn into_contacts(self) -> Names
+        ensures { result ≡ self.contacts }
     {
-        &self.contacts
+        self.contacts
     }
 }
 
-/// The names of the blocks, or the first block with an entry that names no block or with a doubled name.
-pub(crate) fn check_names(alloc: Global, blocks: &[Block]) -> Result<Tables, LoadFault>
-    ensures contacts { IfOk result (λ tables. tables.contacts ≡ contact_names blocks.now) }
+/// The names of the contacts, or the first block with an entry that names no block or with a doubled name.
+pub(crate) fn check_names(alloc: Global, blocks: &[Block]) -> Result<Names, LoadFault>
+    ensures contacts { IfOk result (λ contacts. contacts ≡ contact_names blocks.now) }
     ensures names { OnOk result (AreNamed blocks.now) }
     ensures fault { IfErr result (λ fault. IsAmong (IsMisnamed blocks.now) fault) }
 {
     let tables = Tables::of_blocks(alloc, blocks)?;
     tables.check(alloc, blocks)?;
-    Ok(tables)
+    Ok(tables.into_contacts())
 }

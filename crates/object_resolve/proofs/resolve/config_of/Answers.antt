@@ -9,13 +9,13 @@ use Rattle.object_resolve.proofs.resolve.config_of.Goals as goal
 
 pub new-requires : goal.new-requires
 new-requires c =
-    let long : length c.in_ok-hosts.hosts.items ≡ length (hosts_in c.args.blocks.now) = length-paired (IsHostOf c.args.contacts.now) (hosts_in c.args.blocks.now) c.in_ok-hosts.hosts.items c.in_ok-hosts.ensures in
+    let long : length c.in_ok-hosts.hosts.items ≡ length (hosts_in c.args.blocks.now) = length-paired (IsHostOf c.args.known.now.contacts) (hosts_in c.args.blocks.now) c.in_ok-hosts.hosts.items c.in_ok-hosts.ensures in
     omega (arith, c.requires.limits.hosts, c.in_ok-hosts.hosts.ok)
 
 pub returns : goal.returns
 returns c =
     let blocks = c.args.blocks.now in
-    let used = c.args.used.now in
+    let used = c.args.known.now.used in
     record {
       objects = subst (AllZip (IsHostOf (contact_names blocks)) (hosts_in blocks)) (sym c.in_ok-new.ensures)
           (subst (λ names. AllZip (IsHostOf names) (hosts_in blocks) c.in_ok-hosts.hosts.items) c.requires.names c.in_ok-hosts.ensures);

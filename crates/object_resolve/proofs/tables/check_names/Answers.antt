@@ -1,9 +1,11 @@
+use Rattle.std.proofs.Common.{◌∙◌}
 use Rattle.std.proofs.lemmas.Result.{err_from_is_err_and}
 use Rattle.object_resolve.proofs.NameLemmas.{contacts-all}
 use Rattle.object_resolve.proofs.tables.check_names.Goals as goal
 
 pub returns-clause-contacts : goal.returns-clause-contacts
-returns-clause-contacts c = contacts-all c.args.blocks.now c.in_ok-tables.tables c.in_ok-tables.ensures c.in_ok-check.ensures.names
+returns-clause-contacts c =
+    c.into_contacts.ensures ∙ contacts-all c.args.blocks.now c.in_ok-tables.tables c.in_ok-tables.ensures c.in_ok-check.ensures.names
 
 pub returns-in_err-tables-clause-fault : goal.returns-in_err-tables-clause-fault
 returns-in_err-tables-clause-fault c =
