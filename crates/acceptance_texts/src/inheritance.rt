@@ -228,8 +228,9 @@ const CASES: [(&str, &str, &str); 30] = [
 #[test]
 fn blocks_have_what_the_rules_give(rt: HostRuntime) -> Result<(), Fail> {
     for case in &CASES {
-        let found = result_text(rt.alloc(), case.0, case.1)?;
-        assert_eq!(rt; found.as_str(), case.2, "{case.0}");
+        let text = case.0;
+        let found = result_text(rt.alloc(), text, case.1)?;
+        assert_eq!(rt; found.as_str(), case.2, "{text}");
     }
     Ok(())
 }
@@ -241,11 +242,17 @@ fn diamonds(alloc: Global, rows: u32) -> Result<String, AllocError> {
     for row in 0..rows {
         let next = row + 1;
         for side in ["a", "b"] {
-            write!(text, "define host{{\nname {side}{row}\nuse a{next},b{next}\n}}\n")?;
+            write!(
+                text,
+                "define host{{\nname {side}{row}\nuse a{next},b{next}\n}}\n"
+            )?;
         }
     }
     for side in ["a", "b"] {
-        write!(text, "define host{{\nname {side}{rows}\ncontacts {side}\n}}\n")?;
+        write!(
+            text,
+            "define host{{\nname {side}{rows}\ncontacts {side}\n}}\n"
+        )?;
     }
     Ok(text)
 }
@@ -267,6 +274,9 @@ fn first_contacts(alloc: Global, text: &str) -> Result<String, AllocError> {
 #[test]
 fn long_chains_and_wide_diamonds_are_resolved(rt: HostRuntime) -> Result<(), Fail> {
     let text = diamonds(rt.alloc(), 10_000)?;
-    assert_eq!(rt; first_contacts(rt.alloc(), text.as_str())?.as_str(), "a|a|a.\n");
+    assert_eq!(rt;
+        first_contacts(rt.alloc(), text.as_str())?.as_str(),
+        "a|a|a.\n"
+    );
     Ok(())
 }
