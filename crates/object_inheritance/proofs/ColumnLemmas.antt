@@ -63,8 +63,8 @@ module _ (blocks : List Block) (directive : List ℕ) where
       (first-found kept places (λ q at. each q (suc at.0, omega (arith, at.1), at.2)))
 
   module _ (inherited : AreInherited blocks) (place : ℕ) (column : List (Option Given)) (further : Option ℕ)
-    (used : (q : ℕ) → Leads (template_graph blocks) place q → IsGivenAt blocks directive q (get_or column q None))
-    (found : further ≡ find (λ q. is_some (get_or column q None)) (sources blocks directive place)) where
+      (used : (q : ℕ) → Leads (template_graph blocks) place q → IsGivenAt blocks directive q (get_or column q None))
+      (found : further ≡ find (λ q. is_some (get_or column q None)) (sources blocks directive place)) where
     equation : given blocks directive place ≡ option_to_list (own blocks directive place) ++ given_from blocks directive further
     equation = inherited directive place ∙ ap (λ line. option_to_list (own blocks directive place) ++ line)
         (first-found (λ q. get_or column q None) (sources blocks directive place) (λ q at. used q (sources-lead blocks directive place q at))

@@ -31,12 +31,12 @@ module _ (blocks : List Block) (place : ℕ) (block : Block) (within : place < l
     (λ loops. ⊎_elim
         (λ (early : place < first). absurd (is.first place early loops))
         (λ (here : first ≤ place). ⊎_elim
-            (λ (later : first < place). absurd (
-                let inside : first < length blocks = omega arith in
-                let at = slice_get-get_or blocks first block inside in
-                free-unlooped blocks first _ (free first _ later at) is.on_loop))
-            (λ (back : place ≤ first). let same : first ≡ place = omega arith in eq-eqb first place same)
-            (cases_lt first place))
+        (λ (later : first < place). absurd (
+        let inside : first < length blocks = omega arith in
+        let at = slice_get-get_or blocks first block inside in
+        free-unlooped blocks first _ (free first _ later at) is.on_loop))
+        (λ (back : place ≤ first). let same : first ≡ place = omega arith in eq-eqb first place same)
+        (cases_lt first place))
         (cases_lt place first)),
   )
 
@@ -51,10 +51,10 @@ pub free-more : (blocks : List Block) (i : ℕ) (block : Block) → AreFreeBefor
 free-more blocks i block free at fault k other low here = ⊎_elim
     (λ (before : k < i). free k other before here)
     (λ (past : i ≤ k).
-        let same : k ≡ i = omega arith in
-        let one : Some other ≡ Some block = sym here ∙ ap (slice_get blocks) same ∙ at in
-        let is : other ≡ block = ap (λ (found : Option Block). unwrap_or found block) one in
-        subst (λ (j : ℕ). IsFaultAt blocks j other None) (sym same) (subst (λ (x : Block). IsFaultAt blocks i x None) (sym is) fault))
+    let same : k ≡ i = omega arith in
+    let one : Some other ≡ Some block = sym here ∙ ap (slice_get blocks) same ∙ at in
+    let is : other ≡ block = ap (λ (found : Option Block). unwrap_or found block) one in
+    subst (λ (j : ℕ). IsFaultAt blocks j other None) (sym same) (subst (λ (x : Block). IsFaultAt blocks i x None) (sym is) fault))
     (cases_lt k i)
 
 pub free-all : (blocks : List Block) (i : ℕ) → length blocks ≤ i → AreFreeBefore blocks i → AreFree blocks

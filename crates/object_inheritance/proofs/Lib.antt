@@ -4,3 +4,4 @@ mod UseLemmas
 mod FaultLemmas
 mod InheritedLemmas
 mod ColumnLemmas
+mod LawLemmas

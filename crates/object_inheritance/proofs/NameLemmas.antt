@@ -37,6 +37,7 @@ seam b n l few = ⊎_elim
     differs : (c : Bool) → eqb n l ≡ c → n < l → c ≡ false
     differs false is low = refl
     differs true is low = absurd (let same : n ≡ l = eqb-true n l is in omega arith)
+
     at_end : (c : Bool) → cond (nat_lt (l + cond c 0 1) (l + 1)) (Some (l + cond c 0 1)) None ≡ cond c (Some l) None
     at_end true = rw (lt-ltb (l + 0) (l + 1) (omega arith)) (ap (λ (k : ℕ). Some k) (omega arith))
     at_end false = rw (le-ltb (l + 1) (l + 1) (omega arith)) refl
@@ -66,7 +67,6 @@ key_alike x y z is =
     let both = and-true (eqb x.0 y.0) (bytes_eq x.1.now y.1.now) is in
     ap (λ (n : ℕ). eqb n z.0 && bytes_eq x.1.now z.1.now) (eqb-true x.0 y.0 both.0)
     ∙ ap (λ (b : Bool). eqb y.0 z.0 && b) (nat_list_eq_equiv.congr x.1.now y.1.now z.1.now both.1)
-
 
 -- the key of a block that is a template
 has-named : (block : Block) (key other : Key) → key.0 ≡ kind_number block.kind → template_name block ≡ Some key.1.now

@@ -54,4 +54,3 @@ entries-more old new every rest part entry before is trim-is more inside =
     ap (λ es. new ++ entries es) after
     ∙ ap (λ ns. ns ++ entries (after_first is_comma rest)) (more ∙ ap (λ e. old ++ cond (eqb (length e) 0) [] (e ∷ [])) trim-is)
     ∙ append_assoc old _ _ ∙ ap (λ es. old ++ es) (sym split) ∙ before
-

@@ -90,10 +90,10 @@ get_or-snoc lists list p true is =
 get_or-snoc lists list p false is = ⊎_elim
     (λ (low : p < length lists). get_or_append_left lists (list ∷ []) [] p low ∙ sym (append-nil (get_or lists p [])))
     (λ (past : length lists ≤ p). ⊎_elim
-        (λ (further : length lists < p). get_or_past (lists ++ list ∷ []) p [] (let long = length_snoc lists list in omega (arith, long))
-            ∙ sym (append-nil (get_or lists p []) ∙ get_or_past lists p [] past))
-        (λ (back : p ≤ length lists). let same : length lists ≡ p = omega arith in absurd (false≢true (sym is ∙ eq-eqb (length lists) p same)))
-        (cases_lt (length lists) p))
+    (λ (further : length lists < p). get_or_past (lists ++ list ∷ []) p [] (let long = length_snoc lists list in omega (arith, long))
+    ∙ sym (append-nil (get_or lists p []) ∙ get_or_past lists p [] past))
+    (λ (back : p ≤ length lists). let same : length lists ≡ p = omega arith in absurd (false≢true (sym is ∙ eq-eqb (length lists) p same)))
+    (cases_lt (length lists) p))
     (cases_lt p (length lists))
 
 -- the ends of the edges so far, with those of one more block
@@ -141,5 +141,5 @@ unfolding template_graph
 leads-from blocks p q leads = ⊎_elim
     (λ (low : p < length blocks). low)
     (λ (past : length blocks ≤ p). absurd (let none = get_or_past (map (templates_of blocks) blocks) p [] (let long = length-map blocks (templates_of blocks) in omega (arith, long)) in
-        let at = subst (λ (ends : List ℕ). Contains ends q) none leads in omega (arith, at.1)))
+    let at = subst (λ (ends : List ℕ). Contains ends q) none leads in omega (arith, at.1)))
     (cases_lt p (length blocks))

@@ -4,3 +4,4 @@ pub mod Names
 pub mod Inherited
 pub mod Faults
 pub mod Columns
+pub mod Laws

@@ -38,7 +38,11 @@ fn is_additive(text: &[u8]) -> bool
 fn name_of(text: &[u8]) -> &[u8]
     ensures { result.now ≡ name_of text.now }
 {
-    if text == "null".as_bytes() { &text[..0] } else { text }
+    if text == "null".as_bytes() {
+        &text[..0]
+    } else {
+        text
+    }
 }
 
 /// The entries that a list has itself.

@@ -3,6 +3,7 @@
 #![tactic(auto)]
 
 pub mod inherited;
+pub mod laws;
 mod names;
 pub mod templates;
 pub mod texts;

@@ -1,0 +1,21 @@
+-- Laws of what blocks inherit, of any blocks.
+use Rattle.std.specs.Prelude.{◌≡◌, ℕ, Bool, false, List, Option, None, Some, codes}
+use Rattle.object_reader.specs.declared.block.Block.{Block}
+use Rattle.object_inheritance.specs.Inherited.{given, is_additive, list, own, own_entries, value}
+
+-- A directive that a block gives itself never comes from a template.
+abbrev pub OwnValueWins : Type 0
+OwnValueWins = (blocks : List Block) (directive : List ℕ) (place : ℕ) (text : List ℕ)
+    → own blocks directive place ≡ Some text → value blocks directive place ≡ Some text
+
+-- The same of a list, unless it begins with +.
+abbrev pub OwnListWins : Type 0
+OwnListWins = (blocks : List Block) (directive : List ℕ) (place : ℕ) (text : List ℕ)
+    → own blocks directive place ≡ Some text → is_additive text ≡ false
+    → list blocks directive place ≡ Some (own_entries text)
+
+-- A block without `use` has what it gives itself.
+abbrev pub PlainBlockHasItsOwn : Type 0
+PlainBlockHasItsOwn = (blocks : List Block) (directive : List ℕ) (place : ℕ)
+    → own blocks (codes "use") place ≡ None
+    → value blocks directive place ≡ own blocks directive place

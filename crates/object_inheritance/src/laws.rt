@@ -1,0 +1,16 @@
+//! Laws of what blocks inherit (chapter "Object Inheritance"). Each is the contract of a function with nothing
+//! to do.
+
+ghost use Rattle.object_inheritance.specs.Laws.{OwnListWins, OwnValueWins, PlainBlockHasItsOwn};
+
+/// A directive that a block gives itself never comes from a template; nor do the entries of a list, unless
+/// it begins with `+`.
+pub fn own_value_wins()
+    ensures value { OwnValueWins }
+    ensures list { OwnListWins }
+{}
+
+/// A block without `use` has what it gives itself.
+pub fn plain_block_has_its_own()
+    ensures { PlainBlockHasItsOwn }
+{}
