@@ -4,7 +4,11 @@ use acceptance_inputs::configs::object;
 use due_model::config::ObjectId;
 use due_model::objects::Objects;
 use std::alloc::{AllocError, Global};
+use std::process::Abort;
 use std::test::Fail;
+
+/// More objects than a list here has.
+const MANY: usize = 100;
 
 /// Hosts, and services of the host of this number; the last one's host isn't in the list.
 const OBJECTS: [(&str, Option<ObjectId>); 6] = [
@@ -31,6 +35,7 @@ const FOUND: [(&[u8], Option<&[u8]>, Option<ObjectId>); 9] = [
 
 /// The objects of a list of names and hosts.
 fn objects(
+    rt: &impl Abort,
     alloc: Global,
     names: &[(&'static str, Option<ObjectId>)],
 ) -> Result<Objects, AllocError> {
@@ -39,12 +44,13 @@ fn objects(
         let (name, host) = *named;
         objects.push(object(alloc, name, host)?)?;
     }
+    assert!(rt; objects.len() < MANY);
     Objects::new(alloc, objects)
 }
 
 #[test]
 fn finds_by_name(rt: HostRuntime) -> Result<(), Fail> {
-    let objects = objects(rt.alloc(), &OBJECTS)?;
+    let objects = objects(&rt, rt.alloc(), &OBJECTS)?;
     for row in &FOUND {
         let (host, service, found) = *row;
         assert_eq!(rt; objects.find(host, service), found, "{host:?} {service:?}");
@@ -54,7 +60,7 @@ fn finds_by_name(rt: HostRuntime) -> Result<(), Fail> {
 
 #[test]
 fn finds_nothing_in_an_empty_list(rt: HostRuntime) -> Result<(), Fail> {
-    let objects = objects(rt.alloc(), &[])?;
+    let objects = objects(&rt, rt.alloc(), &[])?;
     assert_eq!(rt; objects.find(b"web", None), None);
     assert_eq!(rt; objects.len(), 0);
     Ok(())
