@@ -4,6 +4,8 @@
 #[cfg(test)]
 mod feeds;
 #[cfg(test)]
+mod inheritance;
+#[cfg(test)]
 mod lines;
 #[cfg(test)]
 mod object_text;
