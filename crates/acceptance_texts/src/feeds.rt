@@ -12,7 +12,7 @@ use std::alloc::{AllocError, Global};
 use std::io::Read;
 use std::process::Abort;
 use std::test::Fail;
-use text_lines::{AnyReader, LineReader, NextLine, Stop};
+use text_lines::{AnyReader, Input, LineReader, NextLine, Stop};
 
 /// Host 0 is `web`, host 1 is `my host`.
 fn config(alloc: Global) -> Result<Config, AllocError> {
@@ -373,7 +373,7 @@ fn stops_at_lines_without_end(rt: HostRuntime) -> Result<(), Fail> {
 }
 
 /// Compares the line that a feeder read last, and whether one more is at hand.
-fn is_at<R: Read + Drop>(rt: &impl Abort, feeder: &Feeder<R>, line: u64, text: &[u8], more: bool) {
+fn is_at<R: Input + Drop>(rt: &impl Abort, feeder: &Feeder<R>, line: u64, text: &[u8], more: bool) {
     assert_eq!(rt;
         (feeder.line(), feeder.text(), feeder.has_line()),
         (line, text, more)
@@ -381,7 +381,7 @@ fn is_at<R: Read + Drop>(rt: &impl Abort, feeder: &Feeder<R>, line: u64, text: &
 }
 
 /// The lines after a feed have one line "post" and an empty one.
-fn goes_on<R: Read + Drop>(
+fn goes_on<R: Input + Drop>(
     rt: &impl Abort,
     config: &Config,
     lines: LineReader<R>,
