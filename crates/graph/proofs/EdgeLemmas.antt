@@ -1,9 +1,9 @@
 -- Each node's ends, as edges are added, and that they are exactly where the edges lead.
-use Rattle.std.proofs.Common.{◌≡◌, ℕ, zero, suc, ◌<◌, ◌≤◌, ◌^◌, true, false, cond, eqb, List, [], ◌∷◌, length, map, get_or, refl, sym, ap, subst, ◌∙◌, ◌⊎◌, inl, inr, ⊎_elim, arith}
+use Rattle.std.proofs.Common.{◌≡◌, ℕ, zero, suc, ◌<◌, ◌≤◌, ◌^◌, true, false, cond, eqb, List, [], ◌∷◌, ◌++◌, length, map, get_or, set, replicate, refl, sym, ap, subst, ◌∙◌, ◌⊎◌, inl, inr, ⊎_elim, arith}
 use Rattle.std.specs.Prelude.{filter, Contains, All, ◌↔◌}
 use Rattle.std.proofs.lemmas.Bool.{cases_lt, eq-eqb, eqb-true}
-use Rattle.std.proofs.lemmas.List.{get_or_past}
-use Rattle.std.proofs.lemmas.List.Elements.{All-from_get_or, All-get_or, All-map, All-filter, All-weaker, All-contains}
+use Rattle.std.proofs.lemmas.List.{append-nil, get_or-replicate, get_or-set_other, get_or-set_same, get_or_past, length-replicate, length-set, map-append}
+use Rattle.std.proofs.lemmas.List.Elements.{All-from_get_or, All-get_or, All-map, All-filter, All-weaker, All-contains, filter-append}
 use Rattle.graph.specs.declared.edges.Edge.{Edge}
 use Rattle.graph.specs.Edges.{Leads, ends_of, HasEdges, IsWithin, IsGraph}
 
@@ -26,6 +26,29 @@ Contains-none x at = omega (arith, at.1)
 
 ends_of-cons : (e : Edge) (edges : List Edge) (p : ℕ) → ends_of (e ∷ edges) p ≡ cond (eqb e.from p) (e.to ∷ ends_of edges p) (ends_of edges p)
 ends_of-cons e edges p = elim (eqb e.from p) as (λ b. map (λ (x : Edge). x.to) (cond b (e ∷ filter (λ (x : Edge). eqb x.from p) edges) (filter (λ (x : Edge). eqb x.from p) edges)) ≡ cond b (e.to ∷ ends_of edges p) (ends_of edges p)) [ true ↦ refl | false ↦ refl ]
+
+ends_of-push : (edges : List Edge) (e : Edge) (p : ℕ) → ends_of (edges ++ e ∷ []) p ≡ ends_of edges p ++ cond (eqb e.from p) (e.to ∷ []) []
+ends_of-push edges e p = rw (filter-append (λ (x : Edge). eqb x.from p) edges (e ∷ []), map-append, ends_of-cons e [] p) refl
+
+pub HasEdges-none : (nodes : ℕ) → HasEdges nodes [] (replicate nodes [])
+HasEdges-none nodes = record {
+  count = length-replicate {A = List ℕ} nodes [];
+  ends = λ p low. get_or-replicate {A = List ℕ} nodes p [] [] low;
+}
+
+-- one edge more
+pub HasEdges-more : (nodes : ℕ) (edges : List Edge) (e : Edge) (lists : List (List ℕ)) → e.from < nodes → HasEdges nodes edges lists
+    → HasEdges nodes (edges ++ e ∷ []) (set lists e.from (get_or lists e.from [] ++ e.to ∷ []))
+HasEdges-more nodes edges e lists within has =
+    let ends = get_or lists e.from [] ++ e.to ∷ [] in
+    record {
+      count = length-set lists e.from ends ∙ has.count;
+      ends = λ p low. elim (eqb e.from p) as (λ b. eqb e.from p ≡ b → get_or (set lists e.from ends) p [] ≡ ends_of edges p ++ cond b (e.to ∷ []) []) [
+        | true ↦ λ same. subst (λ (q : ℕ). get_or (set lists e.from ends) q [] ≡ ends_of edges q ++ e.to ∷ []) (eqb-true e.from p same)
+            (get_or-set_same lists e.from ends [] (omega (arith, within, has.count)) ∙ ap (λ (some : List ℕ). some ++ e.to ∷ []) (has.ends e.from within))
+        | false ↦ λ other. get_or-set_other lists e.from p ends [] (λ is. let same : eqb e.from p ≡ true = eq-eqb e.from p (sym is) in cc) ∙ has.ends p low ∙ sym (append-nil (ends_of edges p))
+      ] refl ∙ sym (ends_of-push edges e p);
+    }
 
 -- ---- exactly where the edges lead
 

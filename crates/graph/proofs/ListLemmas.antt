@@ -1,8 +1,8 @@
 -- Lists by what stands at each place.
-use Rattle.std.proofs.Common.{◌≡◌, ℕ, zero, suc, ◌+◌, ◌<◌, List, [], ◌∷◌, ◌++◌, length, get_or, set, Some, refl, sym, ap, ◌∙◌, ◌⊎◌, inl, inr, ⊎_elim, arith}
+use Rattle.std.proofs.Common.{◌≡◌, ℕ, zero, suc, ◌+◌, ◌-◌, ◌<◌, drop, replicate, take, List, [], ◌∷◌, ◌++◌, length, get_or, set, Some, refl, sym, ap, ◌∙◌, ◌⊎◌, inl, inr, ⊎_elim, arith}
 use Rattle.std.specs.Prelude.{Contains, AllPairs, slice_get}
 use Rattle.std.proofs.lemmas.Option.{slice_get_within, get_or_from_slice_get, slice_get-get_or}
-use Rattle.std.proofs.lemmas.List.{length-append, get_or_append_left, get_or_push}
+use Rattle.std.proofs.lemmas.List.{length-drop, take_all, take_more, length-append, get_or_append_left, get_or_push}
 
 pub set_same : {X : Type 0} (xs : List X) (i : ℕ) (x : X) → i < length xs → slice_get (set xs i x) i ≡ Some x
 set_same [] i x within = absurd (omega arith)
@@ -70,3 +70,22 @@ pub pairs_front : {X : Type 0} (R : X → X → Type 0) (front back : List X) �
 pairs_front {X} R front back pairs i j d before low =
     let long : length (front ++ back) ≡ length front + length back = length-append front back in
     rw (get_or_append_left front back d i (omega arith), get_or_append_left front back d j low) at (pairs i j d before (omega (arith, long)))
+
+-- the last element is taken off
+pub last_off : {X : Type 0} (xs ys : List X) (x : X) (count : ℕ) → slice_get xs (length xs - 1) ≡ Some x → count ≡ length xs → ys ≡ take (count - 1) xs → xs ≡ ys ++ x ∷ []
+last_off {X} xs ys x count at long rest =
+    let low : length xs - 1 < length xs = slice_get_within xs (length xs - 1) x at in
+    let all : length xs - 1 + 1 ≡ length xs = omega (arith, low) in
+    sym (take_all (length xs) xs (omega arith)) ∙ ap (λ (n : ℕ). take n xs) (sym all) ∙ take_more xs (length xs - 1) x low
+    ∙ ap (λ (y : X). take (length xs - 1) xs ++ y ∷ []) (get_or_from_slice_get xs (length xs - 1) x x at)
+    ∙ ap (λ (front : List X). front ++ x ∷ []) (sym (rest ∙ ap (λ (n : ℕ). take (n - 1) xs) long))
+
+pub zeros : (count k : ℕ) → get_or (replicate {A = ℕ} count 0) k 0 ≡ 0
+zeros zero k = refl
+zeros (suc count) zero = refl
+zeros (suc count) (suc k) = zeros count k
+
+-- the elements from a place on
+pub rest_from : {X : Type 0} (xs now : List X) (place : ℕ) → now ≡ xs → take (length now - place) (drop place now) ≡ drop place xs
+rest_from {X} xs now place is =
+    take_all (length now - place) (drop place now) (rw length-drop (omega arith)) ∙ ap (λ (all : List X). drop place all) is

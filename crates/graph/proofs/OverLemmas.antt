@@ -1,5 +1,5 @@
 -- What is known at the path's last node, and what stands when the walk is over.
-use Rattle.std.proofs.Common.{◌≡◌, ℕ, zero, suc, ◌+◌, ◌-◌, ◌<◌, ◌≤◌, List, [], length, get_or, replicate, true, false, Option, None, Some, IfSome, refl, sym, ap, subst, ◌∙◌, ⊎_elim, arith}
+use Rattle.std.proofs.Common.{◌≡◌, ℕ, ◌+◌, ◌-◌, ◌<◌, ◌≤◌, List, [], length, get_or, replicate, true, false, Option, None, Some, IfSome, refl, sym, ap, subst, ◌∙◌, ⊎_elim, arith}
 use Rattle.std.specs.Prelude.{Contains, IfNone, is_some, slice_get, reverse}
 use Rattle.std.proofs.lemmas.Option.{slice_get_within, slice_get_cases, slice_get-get_or, get_or_from_slice_get}
 use Rattle.std.proofs.lemmas.List.{length-reverse, length-replicate, get_or_default, get_or-replicate, get_or-reverse}
@@ -15,6 +15,7 @@ use Rattle.graph.specs.Order.{HasLoop, IsOrder}
 use Rattle.graph.specs.Walk.{AtMost, Fits, Goes, IsOver, end_at}
 use Rattle.graph.proofs.EdgeLemmas.{Leads-within}
 use Rattle.graph.proofs.WalkLemmas.{IsBegun-next}
+use Rattle.graph.proofs.ListLemmas.{zeros}
 
 -- ---- the walk is over
 
@@ -110,11 +111,6 @@ at_none (Some x) P none fact = cc
 
 -- ---- no node is entered yet
 
-no_turns : (count k : ℕ) → get_or (replicate {A = ℕ} count 0) k 0 ≡ 0
-no_turns zero k = refl
-no_turns (suc count) zero = refl
-no_turns (suc count) (suc k) = no_turns count k
-
 pub Fits-new : (graph : List (List ℕ)) (walk : Walk) (count : ℕ) → count ≡ length graph → ((p q : ℕ) → Leads graph p q → q < length graph)
     → walk.marks.items ≡ replicate count Unseen → walk.turns.items ≡ replicate count 0 → walk.live.items ≡ [] → walk.path.items ≡ [] → walk.roots.items ≡ [] → walk.done.items ≡ []
     → walk.next ≡ 0 → walk.least ≡ None → Fits graph walk
@@ -123,7 +119,7 @@ Fits-new graph walk count is closed marks turns live path roots done next least 
     λ k mark at. let within : k < length (replicate count Unseen) = slice_get_within (replicate count Unseen) k mark at in
     let low : k < count = omega (arith, within, length-replicate count Unseen) in
     sym (get_or_from_slice_get (replicate count Unseen) k mark Unseen at) ∙ get_or-replicate count k Unseen Unseen low in
-    let none : (k : ℕ) → get_or (replicate {A = ℕ} count 0) k 0 ≡ 0 = λ k. no_turns count k in
+    let none : (k : ℕ) → get_or (replicate {A = ℕ} count 0) k 0 ≡ 0 = λ k. zeros count k in
     let nothing : (k t : ℕ) → slice_get {X = ℕ} [] t ≡ Some k → ⊥ = λ k t at. cc in
     record {
       nodes = rw (marks, live, path, roots) (record {

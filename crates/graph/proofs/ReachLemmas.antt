@@ -1,5 +1,5 @@
 -- A search: its marks, what it gains, and its end.
-use Rattle.std.proofs.Common.{◌≡◌, ◌≢◌, ℕ, zero, suc, ◌+◌, ◌<◌, ◌≤◌, eqb, List, [], ◌∷◌, ◌++◌, length, get_or, set, take, refl, sym, ap, subst, ◌∙◌, inl, inr, ⊎_elim, arith}
+use Rattle.std.proofs.Common.{◌≡◌, ◌≢◌, ℕ, zero, suc, ◌+◌, ◌<◌, ◌≤◌, eqb, List, [], ◌∷◌, ◌++◌, length, get_or, set, take, replicate, ◌^◌, refl, sym, ap, subst, ◌∙◌, inl, inr, ⊎_elim, arith}
 use Rattle.std.specs.Prelude.{Contains, All, AllPairs}
 use Rattle.std.specs.List.{IsDistinct}
 use Rattle.std.proofs.lemmas.Bool.{cases_eq, cases_lt}
@@ -8,12 +8,13 @@ use Rattle.std.proofs.lemmas.Map.Made.{IsDistinct-from_AllPairs}
 use Rattle.std.proofs.lemmas.Map.Steps.{length-le_from_distinct_below}
 use Rattle.std.proofs.lemmas.Map.Views.{Contains-from_any}
 use Rattle.std.proofs.lemmas.Bool.{eqb-true}
-use Rattle.std.proofs.lemmas.List.{append-nil, append_assoc, length-set, length-append, length-take-le, get_or-set_same, get_or-set_other, get_or_append_left, get_or_past, get_or-take, get_or_default, take_more, take_more_set}
+use Rattle.std.proofs.lemmas.List.{length-replicate, append-nil, append_assoc, length-set, length-append, length-take-le, get_or-set_same, get_or-set_other, get_or_append_left, get_or_past, get_or-take, get_or_default, take_more, take_more_set}
 use Rattle.std.proofs.lemmas.List.Elements.{All-from_get_or, All-get_or, Contains-get_or, Contains-push, Contains-push_cases, Contains-append_left, Contains-append_right, Contains-append_cases}
 use Rattle.std.proofs.lemmas.List.Quantifiers.{all_pairs_push}
 use Rattle.graph.specs.Chains.{Chain, Reaches}
 use Rattle.graph.specs.Edges.{Leads}
-use Rattle.graph.specs.Reach.{IsReached, IsMarked, IsSearch, Gains, IsTurn}
+use Rattle.graph.proofs.ListLemmas.{zeros}
+use Rattle.graph.specs.Reach.{Found, IsReached, IsMarked, IsSearch, Gains, IsTurn}
 
 -- ---- marks
 
@@ -52,6 +53,29 @@ IsMarked-push marks stamp found node is within unmarked = record {
       (cases_eq k node);
   once = apart marks stamp found node is unmarked;
 }
+
+-- nothing is found yet
+abbrev pub none_found : ℕ → Found
+none_found nodes = record {
+  nodes = nodes;
+  found = [];
+}
+
+pub IsSearch-new : (marks queue : List ℕ) (nodes stamp : ℕ) → nodes < 2 ^ 32 → 0 < stamp → marks ≡ replicate nodes 0 → queue ≡ replicate nodes 0 → IsSearch marks stamp queue 0
+IsSearch-new marks queue nodes stamp low some marked queued =
+    let long : length (replicate {A = ℕ} nodes 0) ≡ nodes = length-replicate {A = ℕ} nodes 0 in
+    rw (marked, queued) (record {
+      few = omega (arith, long, low);
+      long = refl;
+      room = omega arith;
+      marked = record {
+        some = some;
+        below = λ k. omega (arith, zeros nodes k);
+        marked = λ k same. absurd (omega (arith, some, zeros nodes k, same));
+        stamped = λ k at. absurd (omega (arith, at.1));
+        once = λ i j d before few. absurd (omega (arith, few));
+      };
+    })
 
 -- no more than the nodes were found, so that one that isn't found has room
 pub IsSearch-room : (marks : List ℕ) (stamp : ℕ) (queue : List ℕ) (count node : ℕ) → IsSearch marks stamp queue count → node < length marks → (get_or marks node 0 ≡ stamp → ⊥) → count < length queue

@@ -73,7 +73,7 @@ impl Walk {
             live: Vec::new(alloc),
             path: Vec::new(alloc),
             roots: Vec::new(alloc),
-            done: Vec::with_capacity(alloc, nodes)?,
+            done: Vec::new(alloc),
             next: 0,
             least: None,
         })
@@ -186,8 +186,9 @@ impl Walk {
         requires root { slice_get self.old.roots.items (length self.old.roots.items - 1) ≡ Some place }
         ensures { OnOk result (Closes place self.old self.new) }
     {
-        self.done.extend_from_slice(&self.live[place..])?;
-        mark_done(&mut self.marks, &self.live[place..]);
+        let nodes = &self.live[place..];
+        self.done.extend_from_slice(nodes)?;
+        mark_done(&mut self.marks, nodes);
         self.live.truncate(place);
         let _ = self.path.pop();
         let _ = self.roots.pop();
