@@ -12,7 +12,7 @@ use Rattle.object_reader.specs.declared.block.Block.{Block}
 use Rattle.object_inheritance.specs.Columns.{given_from, HasGiven, HasGivenFrom, IsGivenAt, line_of}
 use Rattle.object_inheritance.specs.Inherited.{AreInherited, first_given, given, own, own_entries, is_additive, joined_entries, list_given, sources}
 use Rattle.object_inheritance.specs.Templates.{template_graph}
-use Rattle.object_inheritance.specs.Texts.{texts, value_in}
+use Rattle.object_values.specs.Values.{texts, value_in}
 use Rattle.object_inheritance.specs.declared.inherited.Given.{Given}
 use Rattle.object_inheritance.proofs.InheritedLemmas.{graph-long, sources-lead}
 use Rattle.object_inheritance.proofs.UseLemmas.{leads-within}

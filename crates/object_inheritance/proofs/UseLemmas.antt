@@ -12,7 +12,7 @@ use Rattle.graph.specs.declared.edges.Edge.{Edge}
 use Rattle.graph.specs.Edges.{ends_of, HasEdges, IsWithin, Leads}
 use Rattle.object_reader.specs.declared.block.Block.{Block}
 use Rattle.object_inheritance.specs.Templates.{edge_from, is_template, template_graph, template_place, templates_of, used_names}
-use Rattle.object_inheritance.specs.Texts.{texts}
+use Rattle.object_values.specs.Values.{texts}
 use Rattle.object_inheritance.proofs.NameLemmas.{position-within}
 
 -- ---- one name more
