@@ -60,7 +60,10 @@ fn name_directive(kind: BlockKind) -> &'static str
 pub fn name_of(block: &Block) -> &[u8]
     ensures { result.now ≡ name_of block.now }
 {
-    match value_in(block.directives.as_slice(), name_directive(block.kind).as_bytes()) {
+    match value_in(
+        block.directives.as_slice(),
+        name_directive(block.kind).as_bytes(),
+    ) {
         None => &[],
         Some(name) => name,
     }
