@@ -1,6 +1,6 @@
 -- What is kept of each block, by what is kept of the templates that it uses.
-use Rattle.std.proofs.Common.{◌≡◌, ℕ, zero, suc, ◌+◌, ◌-◌, ◌<◌, ◌≤◌, Bool, true, false, cond, List, [], ◌∷◌, ◌++◌, append_assoc, length, map, drop, get_or, set, Option, Some, None, refl, sym, ap, subst, eqb, eqb-true, eq-eqb, ◌⊎◌, ⊎_elim, ◌∙◌, Bor, arith}
-use Rattle.std.specs.Prelude.{All, Contains, find, is_some, reverse, slice_get, unwrap_or}
+use Rattle.std.proofs.Common.{◌≡◌, ℕ, zero, suc, ◌+◌, ◌<◌, ◌≤◌, Bool, true, false, cond, List, [], ◌∷◌, ◌++◌, append_assoc, length, map, drop, get_or, set, Option, Some, None, refl, sym, ap, subst, eqb, eqb-true, eq-eqb, ⊎_elim, ◌∙◌, Bor, arith}
+use Rattle.std.specs.Prelude.{All, Contains, find, is_some, reverse, unwrap_or}
 use Rattle.std.specs.Option.{option_to_list, option_and_then}
 use Rattle.std.proofs.lemmas.Bool.{false≢true, cases_lt}
 use Rattle.std.proofs.lemmas.Option.{slice_get-get_or}
@@ -12,7 +12,7 @@ use Rattle.object_reader.specs.declared.block.Block.{Block}
 use Rattle.object_inheritance.specs.Columns.{given_from, HasGiven, HasGivenFrom, IsGivenAt, line_of}
 use Rattle.object_inheritance.specs.Inherited.{AreInherited, first_given, given, own, own_entries, is_additive, joined_entries, list_given, sources}
 use Rattle.object_inheritance.specs.Templates.{template_graph}
-use Rattle.object_inheritance.specs.Texts.{texts, value_in}
+use Rattle.object_values.specs.Values.{texts, value_in}
 use Rattle.object_inheritance.specs.declared.inherited.Given.{Given}
 use Rattle.object_inheritance.proofs.InheritedLemmas.{graph-long, sources-lead}
 use Rattle.object_inheritance.proofs.UseLemmas.{leads-within}

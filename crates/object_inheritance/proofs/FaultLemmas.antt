@@ -1,5 +1,5 @@
 -- The first block with a fault.
-use Rattle.std.proofs.Common.{◌≡◌, ℕ, ◌+◌, ◌<◌, ◌≤◌, Bool, true, false, cond, List, [], ◌∷◌, length, Option, Some, None, refl, sym, ap, subst, eqb, eqb-true, eq-eqb, ◌⊎◌, ⊎_elim, ◌∙◌, arith}
+use Rattle.std.proofs.Common.{◌≡◌, ℕ, ◌+◌, ◌<◌, ◌≤◌, Bool, true, false, List, [], ◌∷◌, length, Option, Some, None, refl, sym, ap, subst, eqb, eqb-true, eq-eqb, ⊎_elim, ◌∙◌, arith}
 use Rattle.std.specs.Prelude.{◌↔◌, IfNone, IfSome, IsTrue, is_some, slice_get, unwrap_or}
 use Rattle.std.specs.Option.{option_map_or}
 use Rattle.std.proofs.lemmas.Bool.{false≢true, cases_lt}
@@ -12,7 +12,6 @@ use Rattle.graph.specs.Order.{HasLoop}
 use Rattle.object_reader.specs.declared.block.Block.{Block}
 use Rattle.object_inheritance.specs.Faults.{AreFree, AreFreeBefore, fault_by, IsFaultAt, IsLooped}
 use Rattle.object_inheritance.specs.Templates.{template_graph, templates_of}
-use Rattle.object_inheritance.specs.declared.templates.TemplateFault.{TemplateFault}
 
 none-looped : (unknown looped doubled : Bool) → None ≡ fault_by unknown looped doubled → looped ≡ true → ⊥
 none-looped true looped doubled is loops = false≢true (ap is_some is)

@@ -1,8 +1,8 @@
 -- What is given to a block, by what is given to the templates that it uses; and that no line is longer than
 -- there are blocks, where an order has each block before them.
-use Rattle.std.proofs.Common.{◌≡◌, ℕ, zero, suc, ◌+◌, ◌-◌, ◌<◌, ◌≤◌, Bool, true, false, ◌||◌, cond, List, [], ◌∷◌, ◌++◌, length, map, drop, get_or, set, Option, Some, None, refl, sym, ap, subst, eqb, eqb-true, eq-eqb, ◌⊎◌, ⊎_elim, ◌∙◌, arith}
-use Rattle.std.specs.Prelude.{All, Contains, find, is_some, slice_get}
-use Rattle.std.specs.List.{IsDistinct, list_any, position_or_len}
+use Rattle.std.proofs.Common.{◌≡◌, ℕ, zero, suc, ◌+◌, ◌-◌, ◌<◌, ◌≤◌, Bool, true, false, ◌||◌, cond, List, [], ◌∷◌, ◌++◌, length, map, get_or, Option, None, refl, sym, ap, subst, eqb, eqb-true, eq-eqb, ⊎_elim, ◌∙◌, arith}
+use Rattle.std.specs.Prelude.{All, Contains}
+use Rattle.std.specs.List.{list_any, position_or_len}
 use Rattle.std.specs.Option.{option_to_list}
 use Rattle.std.proofs.lemmas.Bool.{false≢true, cases_lt}
 use Rattle.std.proofs.lemmas.Bool.Decides.{Decides-eqb}

@@ -1,13 +1,13 @@
 -- What a block gives itself comes first.
-use Rattle.std.proofs.Common.{◌≡◌, ℕ, zero, suc, ◌<◌, ◌≤◌, Bool, true, false, cond, List, [], ◌∷◌, ◌++◌, length, map, get_or, Option, Some, None, refl, sym, ap, ◌⊎◌, ⊎_elim, ◌∙◌, arith}
+use Rattle.std.proofs.Common.{◌≡◌, ℕ, zero, suc, Bool, true, false, cond, List, [], ◌∷◌, ◌++◌, length, map, get_or, Option, Some, None, refl, sym, ap, ◌∙◌}
 use Rattle.std.specs.Prelude.{codes, filter_map, is_some, slice_get}
-use Rattle.std.specs.Option.{option_and_then, option_map_or, option_to_list}
+use Rattle.std.specs.Option.{option_to_list}
 use Rattle.std.proofs.lemmas.Bool.{false≢true}
-use Rattle.std.proofs.lemmas.List.{append-nil}
 use Rattle.object_reader.specs.declared.block.Block.{Block}
 use Rattle.object_inheritance.specs.Inherited.{first_given, given, given_along, is_additive, joined_entries, list, list_given, own, own_entries, sources, stays, value}
-use Rattle.object_inheritance.specs.Templates.{is_passed_over, template_graph, template_place, templates_of}
-use Rattle.object_inheritance.specs.Texts.{entries_of, value_in}
+use Rattle.object_inheritance.specs.Templates.{template_graph, template_place, templates_of}
+use Rattle.object_values.specs.Blocks.{means_nothing}
+use Rattle.object_values.specs.Values.{entries_of, value_in}
 
 -- what is given, by what the block gives, where there is a block at all
 given-front : (all : List Block) (blocks : List Block) (directive : List ℕ) (place : ℕ) (text : List ℕ) → all ≡ blocks → own all directive place ≡ Some text
@@ -42,7 +42,7 @@ none-used false found is = ap entries_of is
 no-templates : (all : List Block) (blocks : List Block) (place : ℕ) → own blocks (codes "use") place ≡ None → get_or (map (templates_of all) blocks) place [] ≡ []
 no-templates all [] place none = refl
 no-templates all (block ∷ blocks) zero none =
-    ap (filter_map (template_place all block.kind)) (none-used (is_passed_over block.kind) (value_in block.directives (codes "use")) none)
+    ap (filter_map (template_place all block.kind)) (none-used (means_nothing block.kind) (value_in block.directives (codes "use")) none)
 no-templates all (block ∷ blocks) (suc place) none = no-templates all blocks place none
 
 no-sources : (blocks : List Block) (directive : List ℕ) (place : ℕ) → own blocks (codes "use") place ≡ None → sources blocks directive place ≡ []

@@ -1,4 +1,3 @@
-mod TextLemmas
 mod NameLemmas
 mod UseLemmas
 mod FaultLemmas

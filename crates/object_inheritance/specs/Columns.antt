@@ -1,9 +1,8 @@
 -- How it is kept what all blocks have for one directive.
-use Rattle.std.specs.Prelude.{◌≡◌, ℕ, ◌<◌, ◌≤◌, List, [], ◌∷◌, ◌++◌, length, map, Option, None, Some, slice_index, slice_index_or}
-use Rattle.std.specs.Option.{option_to_list}
+use Rattle.std.specs.Prelude.{◌≡◌, ℕ, ◌<◌, ◌≤◌, List, [], ◌∷◌, length, Option, None, Some, slice_index, slice_index_or}
 use Rattle.object_reader.specs.declared.block.Block.{Block}
 use Rattle.object_inheritance.specs.declared.inherited.Given.{Given}
-use Rattle.object_inheritance.specs.Inherited.{first_given, given, own, sources}
+use Rattle.object_inheritance.specs.Inherited.{given}
 
 -- the blocks, and a directive
 pub record Column : Type 0 where

@@ -5,7 +5,7 @@ use Rattle.std.specs.Option.{option_and_then, option_map, option_to_list}
 use Rattle.std.specs.Str.{bytes_eq}
 use Rattle.object_reader.specs.declared.block.Block.{Block}
 use Rattle.object_inheritance.specs.Templates.{template_graph}
-use Rattle.object_inheritance.specs.Texts.{entries, value_in}
+use Rattle.object_values.specs.Values.{entries, value_in}
 
 -- what the block at the place gives for the directive itself
 abbrev pub own : List Block → List ℕ → ℕ → Option (List ℕ)

@@ -1,7 +1,7 @@
 -- Laws of what blocks inherit, of any blocks.
-use Rattle.std.specs.Prelude.{◌≡◌, ℕ, Bool, false, List, Option, None, Some, codes}
+use Rattle.std.specs.Prelude.{◌≡◌, ℕ, false, List, None, Some, codes}
 use Rattle.object_reader.specs.declared.block.Block.{Block}
-use Rattle.object_inheritance.specs.Inherited.{given, is_additive, list, own, own_entries, value}
+use Rattle.object_inheritance.specs.Inherited.{is_additive, list, own, own_entries, value}
 
 -- A directive that a block gives itself never comes from a template.
 abbrev pub OwnValueWins : Type 0

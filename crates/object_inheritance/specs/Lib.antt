@@ -1,4 +1,3 @@
-pub mod Texts
 pub mod Templates
 pub mod Names
 pub mod Inherited

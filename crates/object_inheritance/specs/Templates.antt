@@ -1,5 +1,5 @@
 -- Templates, and which of them each block uses (chapter "Object Inheritance").
-use Rattle.std.specs.Prelude.{ℕ, Bool, true, false, ◌&&◌, ◌==◌, List, [], map, filter_map, Option, None, codes, if◌then◌else◌}
+use Rattle.std.specs.Prelude.{ℕ, Bool, false, ◌&&◌, ◌==◌, List, [], map, filter_map, Option, None, codes, if◌then◌else◌}
 use Rattle.std.specs.List.{position}
 use Rattle.std.specs.Option.{option_map_or}
 use Rattle.std.specs.Str.{bytes_eq}
@@ -7,13 +7,8 @@ use Rattle.graph.specs.declared.edges.Edge.{Edge}
 use Rattle.object_reader.specs.declared.block.Block.{Block}
 use Rattle.object_reader.specs.declared.block.BlockKind.{BlockKind}
 use Rattle.object_reader.specs.declared.block.BlockKind.TheVariants.{Host, HostGroup, Service, ServiceGroup, Contact, ContactGroup, TimePeriod, Command, HostEscalation, ServiceEscalation, HostDependency, ServiceDependency, HostExtInfo, ServiceExtInfo}
-use Rattle.object_inheritance.specs.Texts.{entries_of, value_in}
-
--- whether blocks of the type are passed over: they say nothing of notifications
-abbrev pub is_passed_over : BlockKind → Bool
-is_passed_over HostExtInfo = true
-is_passed_over ServiceExtInfo = true
-is_passed_over _ = false
+use Rattle.object_values.specs.Blocks.{means_nothing}
+use Rattle.object_values.specs.Values.{entries_of, value_in}
 
 -- The number of a type. Two blocks are of one type where these numbers are equal.
 abbrev pub kind_number : BlockKind → ℕ
@@ -35,12 +30,12 @@ kind_number ServiceExtInfo = 13
 -- The name that a block has as a template: that of its own `name`.
 abbrev pub template_name : Block → Option (List ℕ)
 template_name block =
-    if is_passed_over block.kind then None else value_in block.directives (codes "name")
+    if means_nothing block.kind then None else value_in block.directives (codes "name")
 
 -- The names of the templates that a block uses: the list of its own `use`.
 abbrev pub used_names : Block → List (List ℕ)
 used_names block =
-    if is_passed_over block.kind then [] else entries_of (value_in block.directives (codes "use"))
+    if means_nothing block.kind then [] else entries_of (value_in block.directives (codes "use"))
 
 -- whether a block is a template of that type and name
 abbrev pub is_template : BlockKind → List ℕ → Block → Bool

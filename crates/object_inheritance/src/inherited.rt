@@ -7,11 +7,11 @@ ghost use Rattle.graph.specs.Edges.{Leads};
 ghost use Rattle.object_inheritance.specs.Columns.{given_from, IsGivenAt, line_of};
 ghost use Rattle.object_inheritance.specs.Inherited.{is_additive, list, name, name_of, own_entries, sources, stays, value};
 ghost use Rattle.object_inheritance.specs.Templates.{template_graph};
-ghost use Rattle.object_inheritance.specs.Texts.{texts};
+ghost use Rattle.object_values.specs.Values.{texts};
 
 use crate::templates::Templates;
-use crate::texts::{entries, value_in};
 use object_reader::block::Block;
+use object_values::values::{entries, equals, value_in};
 use std::alloc::{AllocError, Global};
 use std::marker::Model;
 
@@ -19,9 +19,7 @@ use std::marker::Model;
 fn stays(directive: &[u8]) -> bool
     ensures { result ≡ stays directive.now }
 {
-    directive == "name".as_bytes()
-        || directive == "use".as_bytes()
-        || directive == "register".as_bytes()
+    equals(directive, "name") || equals(directive, "use") || equals(directive, "register")
 }
 
 /// Whether a list begins with `+`.
@@ -38,7 +36,7 @@ fn is_additive(text: &[u8]) -> bool
 fn name_of(text: &[u8]) -> &[u8]
     ensures { result.now ≡ name_of text.now }
 {
-    if text == "null".as_bytes() {
+    if equals(text, "null") {
         &text[..0]
     } else {
         text

@@ -6,5 +6,4 @@ pub mod inherited;
 pub mod laws;
 mod names;
 pub mod templates;
-pub mod texts;
 mod uses;

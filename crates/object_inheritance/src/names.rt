@@ -4,21 +4,15 @@ ghost use Rattle.std.specs.Prelude.{◌≡◌, ◌^◌, ◌<◌, ◌++◌, ◌�
 ghost use Rattle.std.specs.Option.{option_copied};
 ghost use Rattle.object_reader.specs.declared.block.Block.{Block};
 ghost use Rattle.object_inheritance.specs.Names.{HasFirsts};
-ghost use Rattle.object_inheritance.specs.Templates.{is_passed_over, kind_number, template_name, template_place, used_names};
-ghost use Rattle.object_inheritance.specs.Texts.{texts};
+ghost use Rattle.object_inheritance.specs.Templates.{kind_number, template_name, template_place, used_names};
+ghost use Rattle.object_values.specs.Values.{texts};
 
-use crate::texts::{entries_in, value_in};
 use indexmap::IndexMap;
 use object_reader::block::{Block, BlockKind};
+use object_values::blocks::means_nothing;
+use object_values::values::{entries_in, value_in};
 use std::alloc::{AllocError, Global};
 use std::marker::Model;
-
-/// Whether blocks of a type are passed over: they say nothing of notifications.
-fn is_passed_over(kind: BlockKind) -> bool
-    ensures { result ≡ is_passed_over kind }
-{
-    matches!(kind, BlockKind::HostExtInfo | BlockKind::ServiceExtInfo)
-}
 
 /// The number of a type.
 fn kind_number(kind: BlockKind) -> u8
@@ -46,7 +40,7 @@ fn kind_number(kind: BlockKind) -> u8
 pub(crate) fn template_name(block: &Block) -> Option<&[u8]>
     ensures { option_copied result ≡ template_name block.now }
 {
-    if is_passed_over(block.kind) {
+    if means_nothing(block.kind) {
         return None;
     }
     value_in(block.directives.as_slice(), "name".as_bytes())
@@ -56,10 +50,10 @@ pub(crate) fn template_name(block: &Block) -> Option<&[u8]>
 pub(crate) fn used_names(alloc: Global, block: &Block) -> Result<Vec<&[u8]>, AllocError>
     ensures { IfOk result (λ names. texts names.items ≡ used_names block.now) }
 {
-    if is_passed_over(block.kind) {
+    if means_nothing(block.kind) {
         return Ok(Vec::new(alloc));
     }
-    entries_in(alloc, block.directives.as_slice(), "use".as_bytes())
+    entries_in(alloc, block.directives.as_slice(), "use")
 }
 
 /// Notes where a template stands, unless an earlier one of its type and name is there.

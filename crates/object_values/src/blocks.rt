@@ -24,7 +24,7 @@ pub fn is_of(kind: BlockKind, block: &Block) -> bool
 }
 
 /// Whether blocks of a type say nothing of notifications. They are passed over.
-fn means_nothing(kind: BlockKind) -> bool
+pub fn means_nothing(kind: BlockKind) -> bool
     ensures { result ≡ means_nothing kind }
 {
     matches!(kind, BlockKind::HostExtInfo | BlockKind::ServiceExtInfo)
@@ -60,7 +60,10 @@ fn name_directive(kind: BlockKind) -> &'static str
 pub fn name_of(block: &Block) -> &[u8]
     ensures { result.now ≡ name_of block.now }
 {
-    match value_in(block.directives.as_slice(), name_directive(block.kind)) {
+    match value_in(
+        block.directives.as_slice(),
+        name_directive(block.kind).as_bytes(),
+    ) {
         None => &[],
         Some(name) => name,
     }
@@ -199,7 +202,7 @@ pub fn value_fault(block: &Block) -> Option<BlockFault>
         return None;
     }
     let directives = block.directives.as_slice();
-    if value_in(directives, name_directive(block.kind)).is_none() {
+    if value_in(directives, name_directive(block.kind).as_bytes()).is_none() {
         return Some(BlockFault::MissingDirective);
     }
     if has_bad_interval(block.kind, directives) {
@@ -213,7 +216,7 @@ pub fn value_fault(block: &Block) -> Option<BlockFault>
 pub fn interval_in(directives: &[Directive]) -> Option<u32>
     ensures { result ≡ interval_in directives.now }
 {
-    match value_in(directives, "notification_interval") {
+    match value_in(directives, "notification_interval".as_bytes()) {
         None => Some(30),
         Some(value) => number_in(value),
     }

@@ -21,13 +21,13 @@ pub fn equals(bytes: &[u8], text: &str) -> bool
 }
 
 /// The value of the last directive of that name.
-pub fn value_in<'a>(directives: &'a [Directive], name: &str) -> Option<&'a [u8]>
+pub fn value_in<'a>(directives: &'a [Directive], name: &[u8]) -> Option<&'a [u8]>
     ensures { option_copied result ≡ value_in directives.now name.now }
 {
     let found = directives
         .iter()
         .rev()
-        .find(|directive| equals(directive.name.as_slice(), name));
+        .find(|directive| directive.name.as_slice() == name);
     match found {
         None => None,
         Some(directive) => Some(directive.value.as_slice()),
@@ -62,6 +62,7 @@ fn push_entry<'a>(list: &mut Vec<&'a [u8]>, entry: &'a [u8]) -> Result<(), Alloc
 }
 
 /// The entries of a list: what stands between the commas, without the blanks round it, where anything does.
+/// A refused growth leaves nothing.
 pub fn entries<'a>(alloc: Global, value: &'a [u8]) -> Result<Vec<&'a [u8]>, AllocError>
     ensures { IfOk result (λ list. texts list.items ≡ entries value.now) }
 {
@@ -77,7 +78,7 @@ pub fn entries<'a>(alloc: Global, value: &'a [u8]) -> Result<Vec<&'a [u8]>, Allo
     }
 }
 
-/// The entries of the list that a directive gives; none where it isn't there.
+/// The entries of the list that a directive gives; none where it isn't there. A refused growth leaves nothing.
 pub fn entries_in<'a>(
     alloc: Global,
     directives: &'a [Directive],
@@ -86,7 +87,7 @@ pub fn entries_in<'a>(
     ensures { IfOk result (λ list.
         texts list.items ≡ entries_of (value_in directives.now name.now)) }
 {
-    match value_in(directives, name) {
+    match value_in(directives, name.as_bytes()) {
         None => Ok(Vec::new(alloc)),
         Some(value) => entries(alloc, value),
     }

@@ -1,6 +1,5 @@
-use Rattle.std.proofs.Common.{◌≡◌, ◌∙◌, Bool, List, None, Option, [], ap, cond, get_or, refl, subst, sym, ℕ}
+use Rattle.std.proofs.Common.{◌∙◌, Bool, List, None, [], ap, cond, get_or, sym, ℕ}
 use Rattle.std.specs.Prelude.{find, is_some}
-use Rattle.object_inheritance.specs.Inherited.{stays}
 use Rattle.object_inheritance.specs.Templates.{template_graph}
 use Rattle.object_inheritance.proofs.inherited.further_of.Goals as goal
 

@@ -1,8 +1,7 @@
-use Rattle.std.proofs.Common.{◌≡◌, ◌∙◌, List, None, Option, Some, ap, get_or, sym, ℕ}
+use Rattle.std.proofs.Common.{◌≡◌, ◌∙◌, List, ap, get_or, sym}
 use Rattle.object_reader.specs.declared.block.Block.{Block}
 use Rattle.object_reader.specs.declared.block.Directive.{Directive}
-use Rattle.object_inheritance.specs.Inherited.{own}
-use Rattle.object_inheritance.specs.Texts.{value_in}
+use Rattle.object_values.specs.Values.{value_in}
 use Rattle.object_inheritance.proofs.ColumnLemmas.{given-none, given-own, given-taken, own-is}
 use Rattle.object_inheritance.proofs.inherited.given_at.Goals as goal
 

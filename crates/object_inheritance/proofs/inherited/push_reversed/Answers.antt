@@ -1,7 +1,7 @@
-use Rattle.std.proofs.Common.{◌≡◌, ◌++◌, ◌∙◌, List, ℕ, Bor, ap, sym}
+use Rattle.std.proofs.Common.{◌≡◌, ◌++◌, ◌∙◌, List, ℕ, Bor, ap}
 use Rattle.std.specs.Prelude.{reverse}
 use Rattle.std.proofs.lemmas.List.{map-append, take_at}
-use Rattle.object_inheritance.specs.Texts.{texts}
+use Rattle.object_values.specs.Values.{texts}
 use Rattle.object_inheritance.proofs.ColumnLemmas.{texts-reverse}
 use Rattle.object_inheritance.proofs.inherited.push_reversed.Goals as goal
 

@@ -1,5 +1,5 @@
 use Rattle.std.proofs.Common.{◌∙◌, sym}
-use Rattle.object_inheritance.proofs.NameLemmas.{firsts-kept, firsts-new, firsts-none}
+use Rattle.object_inheritance.proofs.NameLemmas.{firsts-kept, firsts-new}
 use Rattle.object_inheritance.proofs.names.note.Goals as goal
 
 pub returns-in_ok-insert : goal.returns-in_ok-insert

@@ -1,7 +1,7 @@
 use Rattle.std.proofs.Common.{◌≡◌, false, is_none, take}
 use Rattle.std.specs.List.{list_any}
 use Rattle.object_inheritance.specs.Templates.{template_place}
-use Rattle.object_inheritance.specs.Texts.{texts}
+use Rattle.object_values.specs.Values.{texts}
 use Rattle.object_inheritance.proofs.uses.uses_unknown.Given as goal
 
 -- None of the names so far is unknown.

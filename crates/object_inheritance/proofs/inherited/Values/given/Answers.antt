@@ -1,4 +1,4 @@
-use Rattle.std.proofs.Common.{◌≡◌, ◌≤◌, List, [], arith, length, subst}
+use Rattle.std.proofs.Common.{◌≡◌, ◌≤◌, [], arith, length, subst}
 use Rattle.object_inheritance.specs.Columns.{Column}
 use Rattle.object_inheritance.specs.Inherited.{given}
 use Rattle.object_inheritance.proofs.InheritedLemmas.{given-past}

@@ -3,7 +3,7 @@ use Rattle.std.specs.Prelude.{reverse}
 use Rattle.std.proofs.lemmas.List.{take_at}
 use Rattle.object_inheritance.specs.Columns.{given_from, line_of}
 use Rattle.object_inheritance.specs.Inherited.{joined_entries, list_given}
-use Rattle.object_inheritance.specs.Texts.{texts}
+use Rattle.object_values.specs.Values.{texts}
 use Rattle.object_inheritance.specs.declared.inherited.Given.{Given}
 use Rattle.object_inheritance.proofs.ColumnLemmas.{fewer, list-is, one-text, texts-reverse}
 use Rattle.object_inheritance.proofs.inherited.Values.list.Goals as goal

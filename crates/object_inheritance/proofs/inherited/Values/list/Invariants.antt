@@ -2,7 +2,7 @@ use Rattle.std.proofs.Common.{◌≡◌, ◌++◌, length}
 use Rattle.std.specs.Prelude.{reverse}
 use Rattle.object_inheritance.specs.Columns.{line_of}
 use Rattle.object_inheritance.specs.Inherited.{joined_entries}
-use Rattle.object_inheritance.specs.Texts.{texts}
+use Rattle.object_values.specs.Values.{texts}
 use Rattle.object_inheritance.proofs.inherited.Values.list.Given as goal
 
 -- The entries of the texts that are left, and then those so far.

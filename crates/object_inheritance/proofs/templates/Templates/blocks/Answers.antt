@@ -1,5 +1,4 @@
-use Rattle.std.proofs.Common.{List, subst, sym}
-use Rattle.object_reader.specs.declared.block.Block.{Block}
+use Rattle.std.proofs.Common.{subst}
 use Rattle.graph.specs.Order.{IsOrder}
 use Rattle.object_inheritance.specs.Inherited.{AreInherited, AreShort}
 use Rattle.object_inheritance.proofs.InheritedLemmas.{are-inherited, are-short}

@@ -1,4 +1,4 @@
-use Rattle.std.proofs.Common.{List, Option, ℕ, subst}
+use Rattle.std.proofs.Common.{List, ℕ, subst}
 use Rattle.std.specs.Prelude.{IfNone}
 use Rattle.graph.specs.Chains.{HasNoLoop}
 use Rattle.graph.specs.Edges.{Leads}

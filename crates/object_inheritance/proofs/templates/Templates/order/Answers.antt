@@ -1,4 +1,4 @@
-use Rattle.std.proofs.Common.{◌<◌, List, ℕ, ◌∙◌, ap, get_or, length, subst, sym}
+use Rattle.std.proofs.Common.{◌<◌, List, ℕ, ◌∙◌, ap, length, subst, sym}
 use Rattle.std.specs.Prelude.{All}
 use Rattle.object_reader.specs.declared.block.Block.{Block}
 use Rattle.object_inheritance.proofs.InheritedLemmas.{graph-long}
