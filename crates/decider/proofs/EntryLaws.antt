@@ -1,10 +1,8 @@
 -- The entries of what is decided are those of the definitions.
-use Rattle.std.proofs.Common.{◌≡◌, ℕ, ◌+◌, arith, map-id, List, [], ◌∷◌, ◌++◌, length, map, slice_get, flat_map, Option, Some, None, is_some, if◌then◌else◌, refl, sym, ap, ◌∙◌}
+use Rattle.std.proofs.Common.{◌≡◌, ℕ, List, [], ◌∷◌, ◌++◌, length, map, slice_get, flat_map, Option, Some, None, is_some, if◌then◌else◌, refl, sym, ap, ◌∙◌}
 use Rattle.std.specs.List.{range_with_len}
 use Rattle.std.specs.Option.{option_map_or}
-use Rattle.std.proofs.lemmas.Grind.{flat_map-append}
 use Rattle.std.proofs.lemmas.List.{append-nil}
-use Rattle.std.proofs.lemmas.List.FromFn.{map-range_with_len_more}
 use Rattle.due_model.specs.declared.config.Config.{Config}
 use Rattle.due_model.specs.declared.config.Contact.{Contact}
 use Rattle.due_model.specs.declared.config.Object.{Object}
@@ -30,17 +28,6 @@ use Rattle.decider.specs.declared.entries.Entry.{Entry}
 use Rattle.decider.specs.declared.entries.Entry.TheVariants.{Withheld, Sent as sent}
 use Rattle.decider.specs.Decisions.{entries_of_decision, entries_of_object, entries_to_contact, entries_to_contacts, notice_of, plain_entries, plain_entries_to}
 use Rattle.decider.specs.Entries.{contact_entries, outcome_entries}
-
--- the numbers below n + 1
-range_more : (n : ℕ) → range_with_len 0 (n + 1) ≡ range_with_len 0 n ++ n ∷ []
-range_more n =
-    sym (map-id (range_with_len 0 (n + 1))) ∙ map-range_with_len_more (λ k. k) 0 n n (omega arith)
-    ∙ ap (λ xs. xs ++ n ∷ []) (map-id (range_with_len 0 n))
-
--- what f gives of them
-pub flat_range_more : {A : Type 0} (f : ℕ → List A) (n : ℕ) → flat_map f (range_with_len 0 (n + 1)) ≡ flat_map f (range_with_len 0 n) ++ f n
-flat_range_more f n =
-    ap (flat_map f) (range_more n) ∙ flat_map-append f (range_with_len 0 n) (n ∷ []) ∙ ap (λ ys. flat_map f (range_with_len 0 n) ++ ys) (append-nil (f n))
 
 module _ (c : Config) (zone : Zone) (o : ℕ) (object : Object) (covered : IsCovered c) (known : IsPlainObject c o object) where
   host_rights : (contact : Contact) → rights_for object contact ≡ contact.hosts

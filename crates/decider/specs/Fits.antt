@@ -136,3 +136,9 @@ kept_after k e decisions = record {
 -- the configuration, the zone and the share
 abbrev pub settings : Kept → Config × Zone × Share
 settings k = (k.config, k.zone, k.share)
+
+-- It has decided nothing of this configuration: it fits the empty past, and its log is empty.
+pub record HasDecidedNothing (c : Config) (zone : Zone) (share : Share) (k : Kept) : Type 0 where
+  pub fits : Fits k []
+  pub settings : settings k ≡ (c, zone, share)
+  pub log : k.log ≡ []

@@ -31,7 +31,7 @@ pub struct Decider<'a> {
 
 impl<'a> Decider<'a> {
     ghost use Rattle.decider.specs.Decider.{gained, suppressed_gained};
-    ghost use Rattle.decider.specs.Fits.{kept, Fits, settings};
+    ghost use Rattle.decider.specs.Fits.{kept, Fits, HasDecidedNothing, settings};
     ghost use Rattle.decider.specs.Share.{IsShare};
 
     /// A decider of the objects of this share, which has decided no event. A refused growth is the only
@@ -45,10 +45,8 @@ impl<'a> Decider<'a> {
         requires accepted { IsAccepted config.now }
         requires covered { IsCovered config.now }
         requires share { IsShare share }
-        ensures fits { IfOk result (λ decider. Fits (kept decider) []) }
-        ensures settings { IfOk result (λ decider.
-            settings (kept decider) ≡ (config.now, zone.now, share)) }
-        ensures log { IfOk result (λ decider. (kept decider).log ≡ []) }
+        ensures { IfOk result (λ decider.
+            HasDecidedNothing config.now zone.now share (kept decider)) }
     {
         Ok(Decider {
             core: EventDecider::new(alloc, config, zone, share)?,

@@ -58,7 +58,7 @@ pub struct EventDecider<'a> {
 
 impl<'a> EventDecider<'a> {
     ghost use Rattle.decider.specs.Entries.{event_entries, share_entries};
-    ghost use Rattle.decider.specs.Fits.{Fits, core_kept, last_entries, CanDecideEvent, context_of, decisions_by, entries_by, kept_after, settings};
+    ghost use Rattle.decider.specs.Fits.{Fits, HasDecidedNothing, core_kept, last_entries, CanDecideEvent, context_of, decisions_by, entries_by, kept_after, settings};
     ghost use Rattle.decider.specs.Share.{IsShare};
 
     /// A decider of the objects of this share, which has decided no event. A refused growth is the only
@@ -72,9 +72,8 @@ impl<'a> EventDecider<'a> {
         requires accepted { IsAccepted config.now }
         requires covered { IsCovered config.now }
         requires share { IsShare share }
-        ensures fits { IfOk result (λ decider. Fits (core_kept decider) []) }
-        ensures settings { IfOk result (λ decider.
-            settings (core_kept decider) ≡ (config.now, zone.now, share)) }
+        ensures decided { IfOk result (λ decider.
+            HasDecidedNothing config.now zone.now share (core_kept decider)) }
         ensures entries { IfOk result (λ decider. last_entries decider ≡ []) }
     {
         let count = config.objects.len();

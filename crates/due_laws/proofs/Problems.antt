@@ -1,11 +1,11 @@
 -- How the outcomes of one problem follow one another.
-use Rattle.std.proofs.Common.{length, ◌≡◌, ℕ, suc, zero, ◌+◌, ◌<◌, ◌≤◌, Bool, true, false, cond, not, ◌==◌, List, [], ◌∷◌, ◌++◌, reverse, slice_get, filter_map, All, Option, None, Some, is_some, if◌then◌else◌, refl, sym, ap, ap₂, ◌∙◌, subst, arith, ◌⊎◌, inl, inr, map-id, append-nil, zero-add, leb-true}
+use Rattle.std.proofs.Common.{length, ◌≡◌, ℕ, suc, zero, ◌+◌, ◌<◌, ◌≤◌, Bool, true, false, cond, not, ◌==◌, List, [], ◌∷◌, ◌++◌, reverse, slice_get, filter_map, All, Option, None, Some, is_some, if◌then◌else◌, refl, sym, ap, ap₂, ◌∙◌, subst, arith, ◌⊎◌, inl, inr, append-nil, zero-add, leb-true}
 use Rattle.std.specs.List.{range_with_len, cons_option}
 use Rattle.std.proofs.lemmas.Bool.{eqb-false, not-false, cond_both, false≢true}
 use Rattle.std.proofs.lemmas.List.{reverse-append}
 use Rattle.std.proofs.lemmas.List.Elements.{filter_map-append}
-use Rattle.std.proofs.lemmas.List.FromFn.{map-range_with_len_more}
 use Rattle.std.proofs.lemmas.List.Sums.{sum_by-cons}
+use Rattle.lemmas.proofs.Numbers.{range_more}
 use Rattle.due_model.specs.declared.config.Config.{Config}
 use Rattle.due_model.specs.declared.config.Object.{Object}
 use Rattle.due_model.specs.declared.event.Event.{Event}
@@ -150,10 +150,6 @@ told_of (Sent k s number m gap) rest h = told_by (is_problem k) k s number m gap
 told_of (Suppressed k s number m f) rest h = inl (record { notice = refl; numbered = refl })
 
 -- the numbers go up by one
-
-range_more : (a n : ℕ) → range_with_len a (n + 1) ≡ range_with_len a n ++ (a + n) ∷ []
-range_more a n =
-    sym (map-id (range_with_len a (n + 1))) ∙ map-range_with_len_more (λ x. x) a n (a + n) refl ∙ ap (λ xs. xs ++ (a + n) ∷ []) (map-id (range_with_len a n))
 
 abbrev numbers_of : List Outcome → List ℕ
 numbers_of outcomes = filter_map notice_number (reverse outcomes)

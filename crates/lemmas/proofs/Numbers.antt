@@ -1,16 +1,30 @@
 -- Lists over the numbers below a bound that pass a test.
-use Rattle.std.proofs.Common.{◌≡◌, ◌≢◌, ℕ, zero, suc, ◌+◌, ◌<◌, Bool, true, false, cond, List, [], ◌∷◌, ◌++◌, filter, flat_map, refl, sym, ap, subst, ◌∙◌, arith, add-zero, inl, inr}
+use Rattle.std.proofs.Common.{◌≡◌, ◌≢◌, ℕ, zero, suc, ◌+◌, ◌<◌, Bool, true, false, cond, List, [], ◌∷◌, ◌++◌, filter, flat_map, refl, sym, ap, subst, ◌∙◌, arith, map-id, inl, inr}
 use Rattle.std.specs.List.{range_with_len}
 use Rattle.std.proofs.lemmas.List.{append-nil}
 use Rattle.std.proofs.lemmas.List.Elements.{filter-append}
+use Rattle.std.proofs.lemmas.List.FromFn.{map-range_with_len_more}
 use Rattle.std.proofs.lemmas.Grind.{flat_map-append}
 use Rattle.std.proofs.lemmas.Bool.{cases_eq}
 
-range_more : (a n : ℕ) → range_with_len a (suc n) ≡ range_with_len a n ++ (a + n) ∷ []
-range_more a zero = ap (λ m. m ∷ []) (sym (add-zero a))
-range_more a (suc n) =
-    let sum : (a + 1) + n ≡ a + suc n = omega arith in
-    ap (λ xs. a ∷ xs) (range_more (a + 1) n ∙ ap (λ m. range_with_len (a + 1) n ++ m ∷ []) sum)
+-- the numbers from a on, and one number more
+pub range_more : (a n : ℕ) → range_with_len a (n + 1) ≡ range_with_len a n ++ (a + n) ∷ []
+range_more a n =
+    sym (map-id (range_with_len a (n + 1))) ∙ map-range_with_len_more (λ k. k) a n (a + n) refl
+    ∙ ap (λ xs. xs ++ (a + n) ∷ []) (map-id (range_with_len a n))
+
+-- the numbers below n, and one number more
+below_more : (n : ℕ) → range_with_len 0 (n + 1) ≡ range_with_len 0 n ++ n ∷ []
+below_more n =
+    let sum : 0 + n ≡ n = omega arith in
+    range_more 0 n ∙ ap (λ m. range_with_len 0 n ++ m ∷ []) sum
+
+-- what f gives of them
+pub flat_range_more : {A : Type 0} (f : ℕ → List A) (n : ℕ)
+    → flat_map f (range_with_len 0 (n + 1)) ≡ flat_map f (range_with_len 0 n) ++ f n
+flat_range_more f n =
+    ap (flat_map f) (below_more n) ∙ flat_map-append f (range_with_len 0 n) (n ∷ [])
+    ∙ ap (λ ys. flat_map f (range_with_len 0 n) ++ ys) (append-nil (f n))
 
 module _ {A : Type 0} (f : ℕ → List A) (p : ℕ → Bool) where
   -- what f gives of the numbers below n that pass
@@ -20,13 +34,14 @@ module _ {A : Type 0} (f : ℕ → List A) (p : ℕ → Bool) where
   -- one number more
   pub flat_more : (n : ℕ) → flat_below (suc n) ≡ flat_below n ++ cond (p n) (f n) []
   flat_more n =
-      ap (λ xs. flat_map f (filter p xs)) (range_more 0 n ∙ ap (λ m. range_with_len 0 n ++ m ∷ []) (zero_plus n))
+      ap flat_below (one n)
+      ∙ ap (λ xs. flat_map f (filter p xs)) (below_more n)
       ∙ ap (flat_map f) (filter-append p (range_with_len 0 n) (n ∷ []))
       ∙ flat_map-append f (filter p (range_with_len 0 n)) (filter p (n ∷ []))
       ∙ ap (λ ys. flat_below n ++ ys) (last n (p n) refl)
     where
-      zero_plus : (n : ℕ) → 0 + n ≡ n
-      zero_plus n = omega arith
+      one : (n : ℕ) → suc n ≡ n + 1
+      one n = omega arith
 
       last : (n : ℕ) (b : Bool) → p n ≡ b → flat_map f (filter p (n ∷ [])) ≡ cond (p n) (f n) []
       last n true e = rw e (append-nil (f n))

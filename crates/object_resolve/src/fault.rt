@@ -4,6 +4,7 @@ ghost use Rattle.std.specs.Prelude.{◌≡◌, Some};
 ghost use Rattle.object_resolve.specs.Fault.{fault_text, of_read};
 ghost use Rattle.object_resolve.specs.declared.fault.LoadFault.TheVariants.{NoMemory};
 
+use object_reader::block::Block;
 use object_reader::fault::{LineFault, ReadFault};
 use object_values::fault::BlockFault;
 use std::alloc::{AllocError, AllocFailed};
@@ -21,6 +22,16 @@ pub enum LoadFault {
     TooLarge,
     /// Memory ran out. It says nothing of the text.
     NoMemory,
+}
+
+/// The fault of a block.
+pub(crate) fn of_block(block: &Block, fault: BlockFault) -> LoadFault
+    ensures { result ≡ LoadFault.Block block.now.line fault }
+{
+    LoadFault::Block {
+        line: block.line,
+        fault,
+    }
 }
 
 /// `line N: NAME` for the fault of a line or of a block, and else the name alone.

@@ -8,7 +8,7 @@ ghost use Rattle.object_resolve.specs.Fault.{IsAmong, IsAt, IsFirstOf};
 ghost use Rattle.object_resolve.specs.Limits.{AreFew, AreUsed, AreWithin, IsWithinLimits, is_over, is_used, limit_fault, uses};
 ghost use Rattle.object_resolve.specs.Resolve.{IsOver};
 
-use crate::fault::LoadFault;
+use crate::fault::{LoadFault, of_block};
 use crate::names::Names;
 use due_model::limits::{MAX_CONTACTS, MAX_LANES, MAX_OBJECTS};
 use object_reader::block::{Block, BlockKind};
@@ -101,10 +101,7 @@ fn check_counts(blocks: &[Block], used: &Names) -> Result<(), LoadFault>
     for block in blocks {
         let more = count_block(counts, block, used);
         if is_over(more) {
-            return Err(LoadFault::Block {
-                line: block.line,
-                fault: BlockFault::TooMany,
-            });
+            return Err(of_block(block, BlockFault::TooMany));
         }
         counts = more;
     }

@@ -9,7 +9,7 @@ ghost use Rattle.object_resolve.specs.Tables.{AreNamed};
 ghost use Rattle.object_resolve.specs.Resolve.{AreRead, HaveValues, IsMisvalued, IsRefusal, IsResolved, IsUnread};
 
 use crate::build::{contacts_of, hosts_of, lanes_of};
-use crate::fault::LoadFault;
+use crate::fault::{LoadFault, of_block};
 use crate::limits::check_limits;
 use crate::names::Names;
 use crate::tables::check_names;
@@ -69,10 +69,7 @@ fn check_read(alloc: Global, blocks: &[Block]) -> Result<(), LoadFault>
     for block in blocks {
         let later = has_later_parts(alloc, block)?;
         if later {
-            return Err(LoadFault::Block {
-                line: block.line,
-                fault: BlockFault::NotYet,
-            });
+            return Err(of_block(block, BlockFault::NotYet));
         }
     }
     Ok(())
@@ -86,12 +83,7 @@ fn check_values(blocks: &[Block]) -> Result<(), LoadFault>
     for block in blocks {
         match value_fault(block) {
             None => {}
-            Some(fault) => {
-                return Err(LoadFault::Block {
-                    line: block.line,
-                    fault,
-                });
-            }
+            Some(fault) => return Err(of_block(block, fault)),
         }
     }
     Ok(())

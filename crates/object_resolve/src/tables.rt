@@ -8,7 +8,7 @@ ghost use Rattle.object_resolve.specs.Resolve.{IsMisnamed};
 ghost use Rattle.object_resolve.specs.Tables.{AreNamed, HoldNames, fault_by, has_name, has_unknown, is_known, with_block};
 ghost use Rattle.object_values.specs.Values.{texts};
 
-use crate::fault::LoadFault;
+use crate::fault::{LoadFault, of_block};
 use crate::names::Names;
 use object_reader::block::{Block, BlockKind};
 use object_values::blocks::{entries_read, name_of};
@@ -134,10 +134,7 @@ impl Tables {
     {
         for (place, block) in blocks.iter().enumerate() {
             if let Some(fault) = self.name_fault(alloc, block, place == self.fresh)? {
-                return Err(LoadFault::Block {
-                    line: block.line,
-                    fault,
-                });
+                return Err(of_block(block, fault));
             }
         }
         Ok(())

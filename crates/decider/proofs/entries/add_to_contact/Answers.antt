@@ -3,7 +3,7 @@ use Rattle.std.specs.List.{range_with_len}
 use Rattle.decider.specs.declared.entries.Entry.{Entry}
 use Rattle.decider.specs.declared.entries.Entry.TheVariants.{Sent}
 use Rattle.decider.specs.Decisions.{contact_notices}
-use Rattle.decider.proofs.EntryLaws.{flat_range_more}
+use Rattle.lemmas.proofs.Numbers.{flat_range_more}
 use Rattle.decider.proofs.entries.add_to_contact.Goals as goal
 
 pub loop-lane-preserved : goal.loop-lane-preserved

@@ -40,5 +40,6 @@ returns-then-is_over-clause-fault c =
     length-filter_item is_contact blocks i x c.loop-block.counts.contacts _ c.loop-block-test.true c.block-item.is c.loop-block.invariant.contacts c.count_block-more.ensures.contacts in
     let lanes : c.count_block-more.result.lanes ≡ length (filter lane (take (i + 1) blocks)) =
     length-filter_item lane blocks i x c.loop-block.counts.lanes _ c.loop-block-test.true c.block-item.is c.loop-block.invariant.lanes c.count_block-more.ensures.lanes in
-    first-item (limit_fault lane) blocks i x TooMany c.loop-block-test.true c.block-item.is c.loop-block.invariant.none
-    (fault-some _ TooMany None (over-item lane blocks i x _ _ _ c.loop-block-test.true c.block-item.is hosts contacts lanes ∙ sym c.is_over.ensures ∙ c.if-is_over.true))
+    rw c.of_block.ensures
+    (first-item (limit_fault lane) blocks i x TooMany c.loop-block-test.true c.block-item.is c.loop-block.invariant.none
+    (fault-some _ TooMany None (over-item lane blocks i x _ _ _ c.loop-block-test.true c.block-item.is hosts contacts lanes ∙ sym c.is_over.ensures ∙ c.if-is_over.true)))

@@ -20,8 +20,9 @@ returns-clause-read c =
 
 pub returns-then-later-clause-fault : goal.returns-then-later-clause-fault
 returns-then-later-clause-fault c =
-    first-item (λ earlier block. unread_fault block) c.args.blocks.now c.loop-block.block-index c.block-item.result NotYet c.loop-block-test.true c.block-item.is c.loop-block.invariant
-    (fault-some (has_later_parts c.block-item.result) NotYet None (sym c.in_ok-later.ensures ∙ c.if-later.true))
+    rw c.of_block.ensures
+    (first-item (λ earlier block. unread_fault block) c.args.blocks.now c.loop-block.block-index c.block-item.result NotYet c.loop-block-test.true c.block-item.is c.loop-block.invariant
+    (fault-some (has_later_parts c.block-item.result) NotYet None (sym c.in_ok-later.ensures ∙ c.if-later.true)))
 
 pub returns-in_err-later-clause-fault : goal.returns-in_err-later-clause-fault
 returns-in_err-later-clause-fault c =

@@ -17,4 +17,5 @@ returns-clause-values c =
 
 pub returns-in-Some-clause-fault : goal.returns-in-Some-clause-fault
 returns-in-Some-clause-fault c =
-    first-item (λ earlier block. value_fault block) c.args.blocks.now c.loop-block.block-index c.block-item.result c.in-Some.fault c.loop-block-test.true c.block-item.is c.loop-block.invariant (sym c.in-Some.ensures)
+    rw c.of_block.ensures
+    (first-item (λ earlier block. value_fault block) c.args.blocks.now c.loop-block.block-index c.block-item.result c.in-Some.fault c.loop-block-test.true c.block-item.is c.loop-block.invariant (sym c.in-Some.ensures))

@@ -12,9 +12,10 @@ returns-in-Some-clause-fault c =
     let blocks = c.args.blocks.now in
     let i = c.loop-place.place in
     let x = c.index-blocks-place.result in
-    first-item (name_fault blocks) blocks i x c.in-Some.fault c.loop-place-test.true c.index-blocks-place.is c.loop-place.invariant
+    rw c.of_block.ensures
+    (first-item (name_fault blocks) blocks i x c.in-Some.fault c.loop-place-test.true c.index-blocks-place.is c.loop-place.invariant
     (fault-here blocks i x c.args.self.now c.loop-place-test.true c.index-blocks-place.is c.requires c.loop-place.invariant
-    ∙ sym c.in_ok-fault.ensures ∙ c.in-Some.is)
+    ∙ sym c.in_ok-fault.ensures ∙ c.in-Some.is))
 
 pub loop-place-preserved : goal.loop-place-preserved
 loop-place-preserved c =
