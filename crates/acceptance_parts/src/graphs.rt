@@ -126,3 +126,14 @@ fn long_loop(rt: HostRuntime) -> Result<(), Fail> {
     let graph = long_chain(rt.alloc(), Some(2))?;
     gives(&rt, rt.alloc(), &graph, None, Some(2))
 }
+
+/// Marks are stamps that go up; after the greatest one all marks are cleared.
+#[test]
+fn stamps_wrap(rt: HostRuntime) -> Result<(), Fail> {
+    let graph = graph_of(&rt, rt.alloc(), 2, &[(0, 1)])?;
+    let mut reach = Reach::with_stamp(rt.alloc(), 2, u32::MAX - 1)?;
+    reaches(&rt, &mut reach, &graph, 0, &[0, 1]);
+    reaches(&rt, &mut reach, &graph, 1, &[1]);
+    reaches(&rt, &mut reach, &graph, 0, &[0, 1]);
+    Ok(())
+}
