@@ -2,6 +2,7 @@
 #![tactic(auto)]
 
 pub mod configs;
+pub mod periods;
 pub mod plain;
 pub mod readers;
 pub mod texts;

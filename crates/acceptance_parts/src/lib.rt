@@ -8,3 +8,5 @@ mod graphs;
 mod kept;
 #[cfg(test)]
 mod objects;
+#[cfg(test)]
+mod periods;
