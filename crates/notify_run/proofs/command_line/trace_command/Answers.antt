@@ -31,29 +31,29 @@ returns c =
     let long = ap rule_of c.long.ensures ∙ ap (λ (r : Rule). record r { long = Some (codes "deciders") }) c.new.ensures.rule in
     let named = ap rule_of c.value_name.ensures ∙ ap (λ (r : Rule). record r { value_names = 1 }) long in
     let parsed = ap rule_of c.value_parser-2.ensures.others
-        ∙ ap₂ (λ (r : Rule) (p : Option ValueParser). record r { parser = p }) named parser in
+    ∙ ap₂ (λ (r : Rule) (p : Option ValueParser). record r { parser = p }) named parser in
     let deciders : rule_of c.help-deciders.result ≡ number_option (codes "deciders") (codes "1") 8 = ap rule_of c.help-deciders.ensures
-        ∙ ap rule_of c.default_value.ensures ∙ ap (λ (r : Rule). record r { defaults = codes "1" ∷ [] }) parsed in
+    ∙ ap rule_of c.default_value.ensures ∙ ap (λ (r : Rule). record r { defaults = codes "1" ∷ [] }) parsed in
     let local = ap is_global c.help-deciders.ensures ∙ ap is_global c.default_value.ensures ∙ ap is_global c.value_parser-2.ensures.others
-        ∙ ap is_global c.value_name.ensures ∙ ap is_global c.long.ensures ∙ c.new.ensures.optional.1 in
+    ∙ ap is_global c.value_name.ensures ∙ ap is_global c.long.ensures ∙ c.new.ensures.optional.1 in
     let parser-2 : c.value_parser-4.result.value_parser ≡ Some (Signed (pos 1) (pos 1024)) = given-2.1 ∙ ap Some (given-2.2 ∙ range-2) in
     let long-2 = ap rule_of c.long-2.ensures ∙ ap (λ (r : Rule). record r { long = Some (codes "queue") }) c.new-3.ensures.rule in
     let named-2 = ap rule_of c.value_name-2.ensures ∙ ap (λ (r : Rule). record r { value_names = 1 }) long-2 in
     let parsed-2 = ap rule_of c.value_parser-4.ensures.others
-        ∙ ap₂ (λ (r : Rule) (p : Option ValueParser). record r { parser = p }) named-2 parser-2 in
+    ∙ ap₂ (λ (r : Rule) (p : Option ValueParser). record r { parser = p }) named-2 parser-2 in
     let queue : rule_of c.help-queue.result ≡ number_option (codes "queue") (codes "64") 1024 = ap rule_of c.help-queue.ensures
-        ∙ ap rule_of c.default_value-2.ensures ∙ ap (λ (r : Rule). record r { defaults = codes "64" ∷ [] }) parsed-2 in
+    ∙ ap rule_of c.default_value-2.ensures ∙ ap (λ (r : Rule). record r { defaults = codes "64" ∷ [] }) parsed-2 in
     let local-2 = ap is_global c.help-queue.ensures ∙ ap is_global c.default_value-2.ensures ∙ ap is_global c.value_parser-4.ensures.others
-        ∙ ap is_global c.value_name-2.ensures ∙ ap is_global c.long-2.ensures ∙ c.new-3.ensures.optional.1 in
+    ∙ ap is_global c.value_name-2.ensures ∙ ap is_global c.long-2.ensures ∙ c.new-3.ensures.optional.1 in
     let parser-3 : c.value_parser-6.result.value_parser ≡ Some (Signed (pos 1) (pos 10)) = given-3.1 ∙ ap Some (given-3.2 ∙ range-3) in
     let long-3 = ap rule_of c.long-3.ensures ∙ ap (λ (r : Rule). record r { long = Some (codes "tries") }) c.new-5.ensures.rule in
     let named-3 = ap rule_of c.value_name-3.ensures ∙ ap (λ (r : Rule). record r { value_names = 1 }) long-3 in
     let parsed-3 = ap rule_of c.value_parser-6.ensures.others
-        ∙ ap₂ (λ (r : Rule) (p : Option ValueParser). record r { parser = p }) named-3 parser-3 in
+    ∙ ap₂ (λ (r : Rule) (p : Option ValueParser). record r { parser = p }) named-3 parser-3 in
     let tries : rule_of c.help-tries.result ≡ number_option (codes "tries") (codes "3") 10 = ap rule_of c.help-tries.ensures
-        ∙ ap rule_of c.default_value-3.ensures ∙ ap (λ (r : Rule). record r { defaults = codes "3" ∷ [] }) parsed-3 in
+    ∙ ap rule_of c.default_value-3.ensures ∙ ap (λ (r : Rule). record r { defaults = codes "3" ∷ [] }) parsed-3 in
     let local-3 = ap is_global c.help-tries.ensures ∙ ap is_global c.default_value-3.ensures ∙ ap is_global c.value_parser-6.ensures.others
-        ∙ ap is_global c.value_name-3.ensures ∙ ap is_global c.long-3.ensures ∙ c.new-5.ensures.optional.1 in
+    ∙ ap is_global c.value_name-3.ensures ∙ ap is_global c.long-3.ensures ∙ c.new-5.ensures.optional.1 in
     let bare : app_of c.long_about.result ≡ new_app (codes "trace") = ap app_of_fields c.long_about.ensures ∙ ap app_of_fields c.about.ensures ∙ c.new-7.ensures.app in
     let one = c.in_ok-arg.ensures.shape local ∙ ap₂ with_rule bare deciders in
     let two = c.in_ok-arg-2.ensures.shape local-2 ∙ ap₂ with_rule one queue in
