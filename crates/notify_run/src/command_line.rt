@@ -1,8 +1,9 @@
 //! The command line: what `notify-run` can be asked, and what its words ask.
 
-ghost use Rattle.std.specs.Prelude.{◌≡◌, codes, IfSome, Some};
-ghost use Rattle.clap.specs.Matches.{subcommand_name_of};
-ghost use Rattle.notify_run.specs.CommandLine.{request_name};
+ghost use Rattle.std.specs.Prelude.{◌≡◌, codes, IfOk, IfSome, Some};
+ghost use Rattle.clap.specs.Words.{app_of, subcommand_name_of};
+ghost use Rattle.notify_run.specs.CommandLine.{program_words, replay_words, request_name};
+ghost use Rattle.notify_run.specs.CommandLine.{trace_words};
 
 use clap::{Arg, ArgMatches, Command, value_parser};
 use std::alloc::{AllocError, Global};
@@ -71,14 +72,18 @@ pub enum Request {
 }
 
 /// The command `replay`, which has no options yet.
-fn replay_command<'a>(alloc: Global) -> Command<'a> {
+fn replay_command<'a>(alloc: Global) -> Command<'a>
+    ensures words { app_of result ≡ replay_words }
+{
     Command::new(alloc, "replay")
         .about("What would have been sent, from object text and a feed of events")
         .long_about(REPLAY)
 }
 
 /// The command `trace` and its options.
-fn trace_command<'a>(alloc: Global) -> Result<Command<'a>, AllocError> {
+fn trace_command<'a>(alloc: Global) -> Result<Command<'a>, AllocError>
+    ensures words { IfOk result (λ command. app_of command ≡ trace_words) }
+{
     let deciders = Arg::new(alloc, "deciders")
         .long("deciders")
         .value_name("NUMBER")
@@ -106,7 +111,9 @@ fn trace_command<'a>(alloc: Global) -> Result<Command<'a>, AllocError> {
 }
 
 /// The commands of `notify-run`. A refused growth is the only error.
-pub fn command<'a>(alloc: Global) -> Result<Command<'a>, AllocError> {
+pub fn command<'a>(alloc: Global) -> Result<Command<'a>, AllocError>
+    ensures words { IfOk result (λ command. app_of command ≡ program_words) }
+{
     Command::new(alloc, "notify-run")
         .bin_name("notify-run")?
         .about("The notification logic of Nagios Core 4")
