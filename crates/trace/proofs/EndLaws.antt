@@ -21,9 +21,9 @@ use Rattle.trace.specs.Feed.{FeedEnds, FeedState, after_answers}
 use Rattle.trace.specs.FeedRun.{Has, ReadsFeed, feed_state}
 use Rattle.trace.specs.LaneLines.{world_text}
 use Rattle.trace.specs.Run.{RunState, run_state}
-use Rattle.trace.specs.Steps.{WritesSteps}
+use Rattle.trace.specs.StepLines.{WritesSteps}
 use Rattle.trace.specs.Trace.{EndsTrace, TracesFeed, WritesEnd, ending_of, no_feed, start_with, trace_setup}
-use Rattle.trace.proofs.StepsLaws.{known_last}
+use Rattle.trace.proofs.StepLinesLaws.{known_last}
 
 pub some_all : (known : Option (List ℕ)) (P : List ℕ → Type 0) → ((x : List ℕ) → P x) → IfSome known P
 some_all None P f = tt

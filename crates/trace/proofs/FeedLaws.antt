@@ -15,7 +15,7 @@ use Rattle.text_lines.specs.declared.line_reader.NextLine.TheVariants.{Line, Ove
 use Rattle.text_lines.specs.declared.line_reader.Stop.{Stop}
 use Rattle.text_lines.specs.declared.line_reader.Stop.TheVariants.{InputEnded, CutLine, ReaderFailed, TooManyCalls, TooManyBytes, TooManyLines}
 use Rattle.std.proofs.lemmas.Option.{same_Some}
-use Rattle.trace.proofs.StepsLaws.{known_weaker}
+use Rattle.trace.proofs.StepLinesLaws.{known_weaker}
 use Rattle.event_feed.specs.Feed.{Answer, AreGiven, AreGivenBy, Feed, ComesNext, ComesTo, FaultAnswers, FaultComesTo, FaultFits, GivesEvent, GivesFault, RefusesLine, answers_from, raised, text_reading}
 use Rattle.event_feed.specs.Line.{line_reading}
 use Rattle.text_lines.specs.Lines.{Known, pieces}

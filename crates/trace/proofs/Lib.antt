@@ -1,7 +1,7 @@
 pub mod StepLineLaws
 pub mod RunLaws
 pub mod LaneLaws
-pub mod StepsLaws
+pub mod StepLinesLaws
 pub mod FeedLaws
 pub mod TraceLaws
 pub mod EndLaws

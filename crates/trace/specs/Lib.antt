@@ -1,6 +1,6 @@
 pub mod StepLine
 pub mod Run
-pub mod Steps
+pub mod StepLines
 pub mod LaneLines
 pub mod Feed
 pub mod FeedRun

@@ -20,7 +20,7 @@ use Rattle.trace.specs.Feed.{FeedEnds, FeedState, after_answers}
 use Rattle.trace.specs.LaneLines.{world_text}
 use Rattle.command_input.specs.Objects.{feed_in, objects_in}
 use Rattle.trace.specs.Run.{RunState}
-use Rattle.trace.specs.Steps.{DoesSteps}
+use Rattle.trace.specs.StepLines.{DoesSteps}
 
 -- how a trace ends whose steps were read to their end
 abbrev pub ending_of : (over : Bool) → Ending

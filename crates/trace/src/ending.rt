@@ -11,7 +11,7 @@ ghost use Rattle.trace.specs.Trace.{WritesEnd, ending_of};
 use crate::feed::AfterFeed;
 use crate::lanes::write_lanes;
 use crate::run::Run;
-use crate::steps::do_steps;
+use crate::step_lines::do_steps;
 use command_output::{CommandFault, Ending, Lines};
 use std::alloc::Global;
 use std::io::Write;

@@ -14,7 +14,7 @@ mod lanes;
 mod refusal;
 mod run;
 mod step_line;
-mod steps;
+mod step_lines;
 
 use command_input::read_objects;
 use command_output::{CommandFault, Ending, Lines};

@@ -7,7 +7,7 @@ use Rattle.world_steps.specs.Worlds.{Setup}
 use Rattle.trace.specs.declared.feed.AfterFeed.TheVariants.{Steps}
 use Rattle.trace.specs.LaneLines.{world_text}
 use Rattle.trace.specs.Run.{run_state}
-use Rattle.trace.specs.Steps.{WritesSteps}
+use Rattle.trace.specs.StepLines.{WritesSteps}
 use Rattle.trace.specs.Trace.{WritesEnd, ending_of}
 use Rattle.trace.proofs.EndLaws.{some_weaker, end_whole}
 use Rattle.trace.proofs.ending.write_steps.Goals as goal

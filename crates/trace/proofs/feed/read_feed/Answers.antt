@@ -1,7 +1,7 @@
 use Rattle.std.proofs.Common.{refl}
 use Rattle.trace.specs.FeedRun.{ReadsSome}
 use Rattle.trace.proofs.FeedLaws.{some_none, some_more, some_last, unmoved_join}
-use Rattle.trace.proofs.StepsLaws.{known_join, known_self, if_none_is, if_some_is}
+use Rattle.trace.proofs.StepLinesLaws.{known_join, known_self, if_none_is, if_some_is}
 use Rattle.trace.proofs.feed.read_feed.Goals as goal
 
 pub loop-after-init : goal.loop-after-init

@@ -6,7 +6,7 @@ use Rattle.trace.specs.Feed.{added}
 use Rattle.trace.specs.FeedRun.{EndsFeed}
 use Rattle.due_model.specs.declared.event.Event.{Event}
 use Rattle.event_feed.specs.Feed.{GivesEvent}
-use Rattle.trace.proofs.StepsLaws.{if_some_is}
+use Rattle.trace.proofs.StepLinesLaws.{if_some_is}
 use Rattle.trace.proofs.FeedLaws.{line_event, line_refused, line_marked, line_stopped}
 use Rattle.trace.proofs.feed.read_feed_line.Goals as goal
 

@@ -20,7 +20,7 @@ use Rattle.trace.specs.declared.step_line.StepLine.TheVariants.{PostNext, Do}
 use Rattle.trace.specs.StepLine.{Spells}
 use Rattle.trace.specs.Run.{RunState, DoesLine, DoesSaid, Says}
 use Rattle.event_feed.specs.Feed.{feed_limit}
-use Rattle.trace.specs.Steps.{AreLines, DoesLast, DoesLines, DoesNext, DoesSoFar, WritesSteps, last_line, with_newline}
+use Rattle.trace.specs.StepLines.{AreLines, DoesLast, DoesLines, DoesNext, DoesSoFar, WritesSteps, last_line, with_newline}
 
 -- ---- bytes that are known
 

@@ -2,8 +2,8 @@ use Rattle.std.proofs.Common.{◌+◌, arith, ap, ◌∙◌}
 use Rattle.text_lines.specs.LineReader.{to_come}
 use Rattle.world_steps.specs.Views.{world_setup}
 use Rattle.trace.specs.Run.{run_state}
-use Rattle.trace.proofs.StepsLaws.{known_join, known_last, so_far_more, so_far_last, so_far_short, known_first, next_under, last_under, if_none_is, if_some_is}
-use Rattle.trace.proofs.steps.do_steps.Goals as goal
+use Rattle.trace.proofs.StepLinesLaws.{known_join, known_last, so_far_more, so_far_last, so_far_short, known_first, next_under, last_under, if_none_is, if_some_is}
+use Rattle.trace.proofs.step_lines.do_steps.Goals as goal
 
 pub loop-before-preserved : goal.loop-before-preserved
 loop-before-preserved g c =

@@ -3,8 +3,8 @@ use Rattle.text_lines.specs.LineReader.{to_come}
 use Rattle.text_lines.specs.Lines.{Known}
 use Rattle.world_steps.specs.Views.{world_setup}
 use Rattle.trace.specs.Run.{Fits, run_state}
-use Rattle.trace.specs.Steps.{DoesSoFar}
-use Rattle.trace.proofs.steps.do_steps.Given as goal
+use Rattle.trace.specs.StepLines.{DoesSoFar}
+use Rattle.trace.proofs.step_lines.do_steps.Given as goal
 
 abbrev pub invariant-loop-before : goal.invariant-loop-before
 invariant-loop-before g l = record {

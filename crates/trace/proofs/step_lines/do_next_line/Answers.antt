@@ -5,8 +5,8 @@ use Rattle.text_lines.specs.declared.line_reader.NextLine.TheVariants.{Line, Ove
 use Rattle.text_lines.specs.declared.line_reader.Stop.TheVariants.{InputEnded, CutLine}
 use Rattle.world_steps.specs.Views.{world_setup}
 use Rattle.trace.specs.Run.{run_state}
-use Rattle.trace.proofs.StepsLaws.{known_weaker, known_first, does_short, does_cut, ends_here, ends_cut}
-use Rattle.trace.proofs.steps.do_next_line.Goals as goal
+use Rattle.trace.proofs.StepLinesLaws.{known_weaker, known_first, does_short, does_cut, ends_here, ends_cut}
+use Rattle.trace.proofs.step_lines.do_next_line.Goals as goal
 
 pub returns-in_ok-do_line-in-Line-clause-next : goal.returns-in_ok-do_line-in-Line-clause-next
 returns-in_ok-do_line-in-Line-clause-next g c =

@@ -7,7 +7,7 @@ ghost use Rattle.text_lines.specs.LineReader.{to_come};
 ghost use Rattle.text_lines.specs.Lines.{Known};
 ghost use Rattle.world_steps.specs.Views.{world_setup};
 ghost use Rattle.trace.specs.Run.{Fits, run_state};
-ghost use Rattle.trace.specs.Steps.{DoesLast, DoesNext, WritesSteps};
+ghost use Rattle.trace.specs.StepLines.{DoesLast, DoesNext, WritesSteps};
 
 use crate::refusal::refuse;
 use crate::run::{Run, do_line};
