@@ -11,4 +11,5 @@ pub record IsStep (place : ℕ) (period : Period) : Type 0 where
 
 -- each period may stand at its place
 abbrev pub IsLadder : List Period → Type 0
-IsLadder periods = (place : ℕ) (period : Period) → slice_get periods place ≡ Some period → IsStep place period
+IsLadder periods =
+    (place : ℕ) (period : Period) → slice_get periods place ≡ Some period → IsStep place period

@@ -21,7 +21,8 @@ GivesObjects config before after =
 
 -- what a fault says of the object text, where the bytes are known; only a reader that can fail makes it unreadable
 abbrev pub ObjectsFail : (can_fail : Bool) → CommandFault → Option (List ℕ) → Type 0
-ObjectsFail can_fail (Objects fault) known = IfSome known (λ bytes. IsTextFault (objects_in bytes) fault)
+ObjectsFail can_fail (Objects fault) known =
+    IfSome known (λ bytes. IsTextFault (objects_in bytes) fault)
 ObjectsFail can_fail Unreadable known = can_fail ≡ true
 ObjectsFail can_fail Output known = ⊥
 ObjectsFail can_fail NoMemory known = ⊤

@@ -1,7 +1,9 @@
 //! The fields of a line.
 
 ghost use Rattle.std.specs.Prelude.{◌≡◌, ◌++◌, decimal, flat_map, OnOk};
-ghost use Rattle.command_output.specs.Fields.{after_comma, contact_text, field, host_part, lane_text, notice_mark, notices_text, number_text, object_text, own_name};
+ghost use Rattle.command_output.specs.Fields.{after_comma, contact_text, field, host_part, lane_text};
+ghost use Rattle.command_output.specs.Fields.{notice_mark, notices_text, number_text, object_text};
+ghost use Rattle.command_output.specs.Fields.{own_name};
 
 use due_model::config::{Config, ContactId, LaneId, ObjectId};
 use due_model::notice::Notice;

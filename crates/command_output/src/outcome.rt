@@ -1,7 +1,8 @@
 //! How a command ends: what it can fail with, the text of that, and the exit status.
 
 ghost use Rattle.std.specs.Prelude.{◌≡◌, Some};
-ghost use Rattle.command_output.specs.Outcome.{ending_status, fault_of, fault_status, fault_text, outcome_status};
+ghost use Rattle.command_output.specs.Outcome.{ending_status, fault_of, fault_status, fault_text};
+ghost use Rattle.command_output.specs.Outcome.{outcome_status};
 
 use crate::output::OutputFailed;
 use object_resolve::LoadFault;

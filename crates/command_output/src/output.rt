@@ -1,6 +1,7 @@
 //! What the program writes: a buffer before a writer.
 
-ghost use Rattle.std.specs.Prelude.{◌≡◌, ◌+◌, ◌≤◌, [], ◌++◌, length, vec_len, vec_capacity, IfOk, OnOk};
+ghost use Rattle.std.specs.Prelude.{◌≡◌, ◌+◌, ◌≤◌, [], ◌++◌, length, vec_len};
+ghost use Rattle.std.specs.Prelude.{vec_capacity, IfOk, OnOk};
 ghost use Rattle.command_output.specs.Output.{Leaves, WritesFront};
 
 use std::alloc::{AllocError, Global};

@@ -4,7 +4,7 @@ ghost use Rattle.std.specs.Prelude.{◌≡◌, ◌++◌, OnOk};
 ghost use Rattle.command_output.specs.OutputLine.{line_text};
 
 use crate::report_line::{push_notice, push_refused, push_suppression};
-use crate::trace_line::{LaneLine, StepRefusal, push_held, push_refused_step};
+use crate::trace_line::{LaneLine, StepRefusal, push_held};
 use due_model::config::Config;
 use due_model::notice::{Notice, Suppression};
 use event_feed::FeedFault;
@@ -36,8 +36,13 @@ pub(crate) fn push_line(
     match line {
         OutputLine::Notice(notice) => push_notice(text, config, notice),
         OutputLine::Suppression(suppression) => push_suppression(text, config, suppression),
-        OutputLine::Refused { line, fault } => push_refused(text, *line, *fault),
-        OutputLine::RefusedStep { line, refusal } => push_refused_step(text, *line, *refusal),
+        OutputLine::Refused { line, fault } => push_refused(text, b'R', *line, fault.name()),
+        OutputLine::RefusedStep { line, refusal } => push_refused(
+            text,
+            b'E',
+            *line,
+            refusal.name(),
+        ),
         OutputLine::Held(held) => push_held(text, config, held),
     }
 }

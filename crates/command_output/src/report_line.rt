@@ -1,7 +1,9 @@
-//! The lines of a report: a notice, a suppression, a refused line of the feed.
+//! The lines of a report: a notice, a suppression, a refused line.
 
-ghost use Rattle.std.specs.Prelude.{◌≡◌, ◌++◌, OnOk};
-ghost use Rattle.command_output.specs.ReportLine.{head_fields, notice_line, refused_contact_line, refused_line, stopped_line, suppression_line};
+ghost use Rattle.std.specs.Prelude.{◌≡◌, [], ◌∷◌, ◌++◌, decimal, OnOk};
+ghost use Rattle.command_output.specs.Fields.{field};
+ghost use Rattle.command_output.specs.ReportLine.{head_fields, notice_line};
+ghost use Rattle.command_output.specs.ReportLine.{refused_contact_line, stopped_line, suppression_line};
 
 use crate::fields::{
     push_contact, push_field, push_lane, push_notice_number, push_number, push_object,
@@ -10,7 +12,6 @@ use crate::names::{filter_name, kind_name, state_name};
 use due_model::config::{Config, ContactId, ObjectId};
 use due_model::notice::{Kind, Notice, Suppression};
 use due_model::state::State;
-use event_feed::FeedFault;
 use std::alloc::AllocError;
 
 /// What the lines of notices and suppressions begin with, after their letter.
@@ -135,16 +136,18 @@ pub(crate) fn push_suppression(
     }
 }
 
-/// Adds the line of a refused line of the feed.
+/// Adds the line of a refused line, which begins with this letter: its number, and why it is refused.
 pub(crate) fn push_refused(
     line: &mut Vec<u8>,
+    letter: u8,
     number: u64,
-    fault: FeedFault,
+    fault: &str,
 ) -> Result<(), AllocError>
-    ensures { OnOk result (line.new.items ≡ line.old.items ++ refused_line number fault) }
+    ensures { OnOk result (line.new.items ≡ line.old.items
+        ++ letter ∷ field (decimal number) ++ field fault.now ++ 10 ∷ []) }
 {
-    line.extend_from_slice(b"R")?;
+    line.push(letter)?;
     push_number(line, number)?;
-    push_field(line, fault.name().as_bytes())?;
+    push_field(line, fault.as_bytes())?;
     line.extend_from_slice(b"\n")
 }

@@ -1,9 +1,9 @@
-//! The lines of a trace beside those of refused feed lines: a refused step line, and what a lane holds.
+//! The lines of a trace beside those of refused lines: why a step line is refused, and what a lane holds.
 
 ghost use Rattle.std.specs.Prelude.{◌≡◌, ◌++◌, OnOk};
-ghost use Rattle.command_output.specs.TraceLine.{lane_line, list_fields, refusal_name, refused_step_line};
+ghost use Rattle.command_output.specs.TraceLine.{lane_line, list_fields, refusal_name};
 
-use crate::fields::{push_field, push_lane, push_notices, push_number, push_object};
+use crate::fields::{push_lane, push_notices, push_object};
 use due_model::config::{Config, LaneId, ObjectId};
 use due_model::notice::Notice;
 use std::alloc::AllocError;
@@ -34,28 +34,16 @@ pub struct LaneLine<'a> {
     pub outbox: &'a [Notice],
 }
 
-/// The name of a refusal.
-fn refusal_name(refusal: StepRefusal) -> &'static str
-    ensures { result.now ≡ refusal_name refusal }
-{
-    match refusal {
-        StepRefusal::BadStep => "BadStep",
-        StepRefusal::NotEnabled => "NotEnabled",
+impl StepRefusal {
+    /// The name, as a trace prints it.
+    pub fn name(self) -> &'static str
+        ensures { result.now ≡ refusal_name self }
+    {
+        match self {
+            StepRefusal::BadStep => "BadStep",
+            StepRefusal::NotEnabled => "NotEnabled",
+        }
     }
-}
-
-/// Adds the line of a refused step line.
-pub(crate) fn push_refused_step(
-    line: &mut Vec<u8>,
-    number: u64,
-    refusal: StepRefusal,
-) -> Result<(), AllocError>
-    ensures { OnOk result (line.new.items ≡ line.old.items ++ refused_step_line number refusal) }
-{
-    line.extend_from_slice(b"E")?;
-    push_number(line, number)?;
-    push_field(line, refusal_name(refusal).as_bytes())?;
-    line.extend_from_slice(b"\n")
 }
 
 /// Adds the five lists.

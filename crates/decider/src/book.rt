@@ -81,7 +81,8 @@ impl Book {
 
 impl Book {
     ghost use Rattle.std.specs.Option.{option_to_list};
-    ghost use Rattle.decider.specs.Book.{retry, IsBounded, LastIsBounded, book_at, stopped_by, judged_by_book, decide_by_book, decide_kind};
+    ghost use Rattle.decider.specs.Book.{retry, IsBounded, LastIsBounded, book_at, stopped_by};
+    ghost use Rattle.decider.specs.Book.{judged_by_book, decide_by_book, decide_kind};
 
     /// When the problem is attempted again after an attempt that this filter stopped.
     fn retry(self, moment: u64, filter: Filter) -> Option<u64>

@@ -1,6 +1,7 @@
 //! What is decided of the objects at an event, before anything is changed, and the books after it.
 
-ghost use Rattle.std.specs.Prelude.{◌≡◌, ◌<◌, [], ◌++◌, length, slice_set, if◌then◌else◌, OnOk};
+ghost use Rattle.std.specs.Prelude.{◌≡◌, ◌<◌, [], ◌++◌, length, slice_set};
+ghost use Rattle.std.specs.Prelude.{if◌then◌else◌, OnOk};
 ghost use Rattle.std.specs.Option.{option_to_list};
 ghost use Rattle.decider.specs.Decisions.{decide_number, decide_numbers, settled};
 ghost use Rattle.decider.specs.Fits.{CanDecide};

@@ -1,9 +1,11 @@
 //! The entries of an event, in order: by object, then contact, then lane.
 
-ghost use Rattle.std.specs.Prelude.{◌≡◌, ℕ, ◌<◌, ◌≤◌, ◌==◌, [], ◌++◌, length, filter, map, flat_map, if◌then◌else◌, OnOk};
+ghost use Rattle.std.specs.Prelude.{◌≡◌, ℕ, ◌<◌, ◌≤◌, ◌==◌, [], ◌++◌, length};
+ghost use Rattle.std.specs.Prelude.{filter, map, flat_map, if◌then◌else◌, OnOk};
 ghost use Rattle.due_model.specs.Escalations.{has_contact};
 ghost use Rattle.decider.specs.declared.entries.Entry.TheVariants as entry;
-ghost use Rattle.decider.specs.Decisions.{contact_notices, plain_entries_to, entries_to_contact, entries_to_contacts, entries_of_object, entries_of_decision};
+ghost use Rattle.decider.specs.Decisions.{contact_notices, plain_entries_to, entries_to_contact};
+ghost use Rattle.decider.specs.Decisions.{entries_to_contacts, entries_of_object, entries_of_decision};
 ghost use Rattle.decider.specs.Entries.{is_for, is_withheld};
 ghost use Rattle.decider.specs.Fits.{IsWithinLimits};
 

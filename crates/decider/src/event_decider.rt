@@ -1,6 +1,7 @@
 //! The core of a decider: it decides the events one by one, and gives the entries of each in order.
 
-ghost use Rattle.std.specs.Prelude.{◌≡◌, ◌↔◌, ℕ, ◌+◌, ◌^◌, ◌<◌, ◌≤◌, [], ◌∷◌, List, length, OnOk, OnErr, IfOk, IsErrOf};
+ghost use Rattle.std.specs.Prelude.{◌≡◌, ◌↔◌, ℕ, ◌+◌, ◌^◌, ◌<◌, ◌≤◌, []};
+ghost use Rattle.std.specs.Prelude.{◌∷◌, List, length, OnOk, OnErr, IfOk, IsErrOf};
 ghost use Rattle.due_model.specs.declared.event.Event.{Event};
 ghost use Rattle.due_model.specs.Accepted.{IsAccepted};
 ghost use Rattle.due_model.specs.Limits.{max_events};
@@ -58,7 +59,8 @@ pub struct EventDecider<'a> {
 
 impl<'a> EventDecider<'a> {
     ghost use Rattle.decider.specs.Entries.{event_entries, share_entries};
-    ghost use Rattle.decider.specs.Fits.{Fits, HasDecidedNothing, core_kept, last_entries, CanDecideEvent, context_of, decisions_by, entries_by, kept_after, settings};
+    ghost use Rattle.decider.specs.Fits.{Fits, HasDecidedNothing, core_kept, last_entries, CanDecideEvent};
+    ghost use Rattle.decider.specs.Fits.{context_of, decisions_by, entries_by, kept_after, settings};
     ghost use Rattle.decider.specs.Share.{IsShare};
 
     /// A decider of the objects of this share, which has decided no event. A refused growth is the only

@@ -14,7 +14,9 @@ pub struct Outbox {
 }
 
 impl Outbox {
-    ghost use Rattle.std.specs.Prelude.{◌≡◌, ◌≢◌, ℕ, ◌<◌, ◌≤◌, ◌+◌, ◌++◌, [], ◌∷◌, drop, length, replicate, slice_get, slice_set, IfOk, OnOk};
+    ghost use Rattle.std.specs.Prelude.{◌≡◌, ◌≢◌, ℕ, ◌<◌, ◌≤◌, ◌+◌, ◌++◌};
+    ghost use Rattle.std.specs.Prelude.{[], ◌∷◌, drop, length, replicate, slice_get, slice_set, IfOk};
+    ghost use Rattle.std.specs.Prelude.{OnOk};
     ghost use Rattle.decider.specs.Entries.{notices_on};
     ghost use Rattle.decider.specs.Outbox.{lists, spare_at, waiting_at, count_for, HasRoomFor};
 

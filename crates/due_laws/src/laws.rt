@@ -1,6 +1,9 @@
 //! Laws of what is due, over every configuration, zone and list of events.
 
-ghost use Rattle.due_laws.specs.Laws.{DueOnlyGrows, SuppressionsOnlyGrow, NoticesStandInOrder, NoticesStandOnce, NoticesTellOfEvents, ProblemsAreHeldBack, RecoveriesFollowNotices, NumbersGoUpByOne, NoticesAreNumbered, NoticesKeepTheirGaps};
+ghost use Rattle.due_laws.specs.Laws.{DueOnlyGrows, SuppressionsOnlyGrow, NoticesStandInOrder};
+ghost use Rattle.due_laws.specs.Laws.{NoticesStandOnce, NoticesTellOfEvents, ProblemsAreHeldBack};
+ghost use Rattle.due_laws.specs.Laws.{RecoveriesFollowNotices, NumbersGoUpByOne, NoticesAreNumbered};
+ghost use Rattle.due_laws.specs.Laws.{NoticesKeepTheirGaps};
 
 /// What was due, or suppressed, after some events is the front of that after more events.
 pub fn only_grows()

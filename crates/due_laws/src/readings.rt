@@ -1,6 +1,8 @@
 //! Laws of what the events so far say of an object.
 
-ghost use Rattle.due_laws.specs.Readings.{MomentIsGreatestStamp, IsReadyByLast, DownWhereStartsOutnumber, BeginIsLeast, HardIsOfLastEvent, FlappingIsOfLastEvent, SwitchIsOfLastEvent};
+ghost use Rattle.due_laws.specs.Readings.{MomentIsGreatestStamp, IsReadyByLast, DownWhereStartsOutnumber};
+ghost use Rattle.due_laws.specs.Readings.{BeginIsLeast, HardIsOfLastEvent, FlappingIsOfLastEvent};
+ghost use Rattle.due_laws.specs.Readings.{SwitchIsOfLastEvent};
 
 /// The readings say of the whole list of events what the manual says: the moment is the greatest stamp, the
 /// ready moment comes from the last problem attempt, the object is in downtime where from some start on starts

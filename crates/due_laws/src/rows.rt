@@ -1,6 +1,9 @@
 //! Worked examples that the definitions must get right.
 
-ghost use Rattle.due_laws.specs.Rows.{OneHostDown, EmptyFeed, Renotify, SameStateTooSoon, ProgramSwitch, EscalationAndRecovery, OverlappingEscalations, IntervalZero, InDowntime, NestedDowntimes, WhileFlapping, DependencyChain, FirstDelay, ContactOptions, WorkHours, NestedExclusion};
+ghost use Rattle.due_laws.specs.Rows.{OneHostDown, EmptyFeed, Renotify, SameStateTooSoon, ProgramSwitch};
+ghost use Rattle.due_laws.specs.Rows.{EscalationAndRecovery, OverlappingEscalations, IntervalZero};
+ghost use Rattle.due_laws.specs.Rows.{InDowntime, NestedDowntimes, WhileFlapping, DependencyChain};
+ghost use Rattle.due_laws.specs.Rows.{FirstDelay, ContactOptions, WorkHours, NestedExclusion};
 
 /// The definitions give what the worked examples say of one host: a notice, none, the next after the
 /// interval, the filters for the same state and for the program switch.

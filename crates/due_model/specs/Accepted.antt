@@ -66,11 +66,14 @@ pub record DependencyFits (c : Config) (d : Dependency) : Type 0 where
 
 -- period p excludes period q
 abbrev pub Excludes : Config → ℕ → ℕ → Type 0
-Excludes c p q = (period : Period) × (slice_get c.periods p ≡ Some period) × Contains period.excludes (record { 0 = q })
+Excludes c p q =
+    (period : Period) × (slice_get c.periods p ≡ Some period)
+    × Contains period.excludes (record { 0 = q })
 
 -- object p depends on object q
 abbrev pub DependsOn : Config → ℕ → ℕ → Type 0
-DependsOn c p q = (d : Dependency) × Contains c.dependencies d × (d.dependent.0 ≡ p) × (d.master.0 ≡ q)
+DependsOn c p q =
+    (d : Dependency) × Contains c.dependencies d × (d.dependent.0 ≡ p) × (d.master.0 ≡ q)
 
 -- Accepted: numbers stand within their lists, nothing loops, and the limits are kept.
 pub record IsAccepted (c : Config) : Type 0 where

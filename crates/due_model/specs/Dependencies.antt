@@ -26,7 +26,8 @@ abbrev pub entry_fails : (depth : ℕ) → Config → Zone → (ℕ → State) �
 entry_fails zero c zone states t o = false
 entry_fails (suc depth) c zone states t o = list_any (λ entry.
     entry.dependent.0 == o && in_period c zone entry.period t
-    && (has_state entry.states (states entry.master.0) || entry.inherits && entry_fails depth c zone states t entry.master.0)) c.dependencies
+    && (has_state entry.states (states entry.master.0)
+    || entry.inherits && entry_fails depth c zone states t entry.master.0)) c.dependencies
 
 -- DepFails: whether a dependency of object o fails at t, where the hard state of each object is that
 abbrev pub dependency_fails : Config → Zone → (ℕ → State) → (t o : ℕ) → Bool

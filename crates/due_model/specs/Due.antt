@@ -45,61 +45,105 @@ uses_lane rights l = list_any (λ lane. lane.0 == l) rights.lanes
 abbrev pub notice_to : Config → Zone → ℕ → Object → (l event number : ℕ) → Attempt → ℕ → List Notice
 notice_to c zone o object l event number a k = elim (slice_get c.contacts k) as (λ _. List Notice) [
   | None ↦ []
-  | Some contact ↦ elim (contact_failing c zone (rights_for object contact) a) as (λ _. List Notice) [
-    | Some why ↦ []
-    | None ↦ if uses_lane (rights_for object contact) l
-        then record { event = event; moment = a.moment; object = record { 0 = o }; kind = a.kind; state = a.state; number = number; contact = record { 0 = k }; lane = record { 0 = l } } ∷ []
-        else []
-  ]
+  | Some contact ↦ elim (contact_failing c zone (rights_for object contact) a)
+      as (λ _. List Notice) [
+        | Some why ↦ []
+        | None ↦ if uses_lane (rights_for object contact) l
+            then record {
+              event = event;
+              moment = a.moment;
+              object = record { 0 = o };
+              kind = a.kind;
+              state = a.state;
+              number = number;
+              contact = record { 0 = k };
+              lane = record { 0 = l };
+            }
+            ∷ []
+            else []
+      ]
 ]
 
 -- the suppression of contact k, if one of the contact's filters fails
-abbrev pub refusal_of : Config → Zone → ℕ → Object → (event number : ℕ) → Attempt → ℕ → List Suppression
-refusal_of c zone o object event number a k = elim (slice_get c.contacts k) as (λ _. List Suppression) [
-  | None ↦ []
-  | Some contact ↦ elim (contact_failing c zone (rights_for object contact) a) as (λ _. List Suppression) [
-    | None ↦ []
-    | Some why ↦ record { event = event; moment = a.moment; object = record { 0 = o }; kind = a.kind; state = a.state; number = number; filter = why; contact = Some (record { 0 = k }) } ∷ []
-  ]
-]
+abbrev pub refusal_of : Config → Zone → ℕ → Object → (event number : ℕ) → Attempt → ℕ
+    → List Suppression
+refusal_of c zone o object event number a k =
+    elim (slice_get c.contacts k) as (λ _. List Suppression) [
+      | None ↦ []
+      | Some contact ↦ elim (contact_failing c zone (rights_for object contact) a)
+          as (λ _. List Suppression) [
+            | None ↦ []
+            | Some why ↦ record {
+              event = event;
+              moment = a.moment;
+              object = record { 0 = o };
+              kind = a.kind;
+              state = a.state;
+              number = number;
+              filter = why;
+              contact = Some (record { 0 = k });
+            } ∷ []
+          ]
+    ]
 
 -- the notices of an outcome for lane l, one for each receiver that gets it there
 abbrev pub notices : Config → Zone → ℕ → Object → (l event : ℕ) → Outcome → List Notice
 notices c zone o object l event Nothing = []
 notices c zone o object l event (Sent k state number moment gap) =
-    (λ (a : Attempt). flat_map (notice_to c zone o object l event number a) (receivers c zone o object a number)) (record { kind = k; state = state; moment = moment })
+    (λ (a : Attempt). flat_map (notice_to c zone o object l event number a)
+    (receivers c zone o object a number)) (record { kind = k; state = state; moment = moment })
 notices c zone o object l event (Suppressed k state number moment why) = []
 
 -- the suppressions of an outcome: the object's, or one for each receiver that is refused
 abbrev pub suppressions : Config → Zone → ℕ → Object → (event : ℕ) → Outcome → List Suppression
 suppressions c zone o object event Nothing = []
 suppressions c zone o object event (Sent k state number moment gap) =
-    (λ (a : Attempt). flat_map (refusal_of c zone o object event number a) (receivers c zone o object a number)) (record { kind = k; state = state; moment = moment })
+    (λ (a : Attempt). flat_map (refusal_of c zone o object event number a)
+    (receivers c zone o object a number)) (record { kind = k; state = state; moment = moment })
 suppressions c zone o object event (Suppressed k state number moment why) =
-    record { event = event; moment = moment; object = record { 0 = o }; kind = k; state = state; number = number; filter = why; contact = None } ∷ []
+    record {
+      event = event;
+      moment = moment;
+      object = record { 0 = o };
+      kind = k;
+      state = state;
+      number = number;
+      filter = why;
+      contact = None;
+    } ∷ []
 
 -- what an event adds to the notices of object o for lane l
 abbrev pub due_at : Config → Zone → ℕ → Object → (l : ℕ) → Event → List Event → List Notice
-due_at c zone o object l e past = notices c zone o object l (length past) (outcome c zone o object e past (hist c zone o object past))
+due_at c zone o object l e past =
+    notices c zone o object l (length past)
+    (outcome c zone o object e past (hist c zone o object past))
 
 -- what an event adds to the suppressions of object o
 abbrev pub suppressed_at : Config → Zone → ℕ → Object → Event → List Event → List Suppression
-suppressed_at c zone o object e past = suppressions c zone o object (length past) (outcome c zone o object e past (hist c zone o object past))
+suppressed_at c zone o object e past =
+    suppressions c zone o object (length past)
+    (outcome c zone o object e past (hist c zone o object past))
 
 -- Due, for an object with these settings: the notices for lane l, the oldest first
 abbrev pub due_for : Config → Zone → ℕ → Object → (l : ℕ) → List Event → List Notice
 due_for c zone o object l [] = []
-due_for c zone o object l (e ∷ past) = due_for c zone o object l past ++ due_at c zone o object l e past
+due_for c zone o object l (e ∷ past) =
+    due_for c zone o object l past ++ due_at c zone o object l e past
 
 -- Sup, likewise: the suppressions, the oldest first
 abbrev pub suppressed_for : Config → Zone → ℕ → Object → List Event → List Suppression
 suppressed_for c zone o object [] = []
-suppressed_for c zone o object (e ∷ past) = suppressed_for c zone o object past ++ suppressed_at c zone o object e past
+suppressed_for c zone o object (e ∷ past) =
+    suppressed_for c zone o object past ++ suppressed_at c zone o object e past
 
 -- Due: the notices of object o for lane l after a past
 abbrev pub due : Config → Zone → (o l : ℕ) → List Event → List Notice
-due c zone o l past = elim (slice_get c.objects o) as (λ _. List Notice) [ None ↦ [] | Some object ↦ due_for c zone o object l past ]
+due c zone o l past =
+    elim (slice_get c.objects o)
+    as (λ _. List Notice) [ None ↦ [] | Some object ↦ due_for c zone o object l past ]
 
 -- Sup: the suppressions of object o after a past
 abbrev pub sup : Config → Zone → (o : ℕ) → List Event → List Suppression
-sup c zone o past = elim (slice_get c.objects o) as (λ _. List Suppression) [ None ↦ [] | Some object ↦ suppressed_for c zone o object past ]
+sup c zone o past =
+    elim (slice_get c.objects o)
+    as (λ _. List Suppression) [ None ↦ [] | Some object ↦ suppressed_for c zone o object past ]

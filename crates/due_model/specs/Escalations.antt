@@ -13,7 +13,8 @@ use Rattle.due_model.specs.Rules.{has_letter}
 -- whether an escalation of object o matches the n-th notification of a problem, of this letter, at t
 abbrev pub matches : Config → Zone → (o n : ℕ) → OptionLetter → (t : ℕ) → Escalation → Bool
 matches c zone o n letter t e =
-    e.object.0 == o && nat_le e.first n && (e.last == 0 || nat_le n e.last) && has_letter e.options letter && in_period c zone e.period t
+    e.object.0 == o && nat_le e.first n && (e.last == 0 || nat_le n e.last)
+    && has_letter e.options letter && in_period c zone e.period t
 
 -- Match: the escalations that match (chapter "Notification Escalations")
 abbrev pub matching : Config → Zone → (o n : ℕ) → OptionLetter → (t : ℕ) → List Escalation

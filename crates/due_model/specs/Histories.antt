@@ -24,7 +24,8 @@ use Rattle.due_model.specs.Dependencies.{dependency_fails}
 abbrev pub of_problem : ℕ → List Event → List Outcome → List Outcome
 of_problem o [] history = []
 of_problem o (e ∷ past) [] = []
-of_problem o (e ∷ past) (outcome ∷ history) = outcome ∷ (if begins o e past then [] else of_problem o past history)
+of_problem o (e ∷ past) (outcome ∷ history) =
+    outcome ∷ (if begins o e past then [] else of_problem o past history)
 
 -- the outcomes of the problem that runs at an event, or ends there, from before that event
 abbrev pub before : ℕ → Event → List Event → List Outcome → List Outcome
@@ -33,7 +34,8 @@ before o e past history = if begins o e past then [] else of_problem o past hist
 -- a problem notice that went out
 abbrev pub notice_of : Outcome → Option Last
 notice_of Nothing = None
-notice_of (Sent k state number moment gap) = if is_problem k then Some (record { state = state; moment = moment; gap = gap }) else None
+notice_of (Sent k state number moment gap) =
+    if is_problem k then Some (record { state = state; moment = moment; gap = gap }) else None
 notice_of (Suppressed k state number moment why) = None
 
 -- how many problem notices went out
@@ -43,7 +45,9 @@ notices_sent history = count_by (λ outcome. is_some (notice_of outcome)) histor
 -- the last problem notice that went out
 abbrev pub last_notice : List Outcome → Option Last
 last_notice [] = None
-last_notice (outcome ∷ history) = elim (notice_of outcome) as (λ _. Option Last) [ None ↦ last_notice history | Some last ↦ Some last ]
+last_notice (outcome ∷ history) =
+    elim (notice_of outcome)
+    as (λ _. Option Last) [ None ↦ last_notice history | Some last ↦ Some last ]
 
 -- when the last notice may be followed by one of the same state
 abbrev pub after_last : Option Last → Option ℕ
@@ -52,7 +56,8 @@ after_last (Some last) = next_notice last.moment last.gap
 
 -- When a problem is attempted again by the clock, after an attempt at a moment that this filter stopped. `last` is the
 -- last notice, `began` the moment at which the problem began.
-abbrev pub retry_after : Config → Zone → Object → (began : ℕ) → Option Last → (moment : ℕ) → Filter → Option ℕ
+abbrev pub retry_after : Config → Zone → Object → (began : ℕ) → Option Last → (moment : ℕ) → Filter
+    → Option ℕ
 retry_after c zone object began last m filter.Program = Some (m + 60)
 retry_after c zone object began last m filter.Disabled = Some (m + 60)
 retry_after c zone object began last m filter.Downtime = Some (m + 60)
@@ -74,15 +79,18 @@ ready c zone object began (Nothing ∷ history) = ready c zone object began hist
 ready c zone object began (Sent k state number moment gap ∷ history) =
     if is_problem k then next_notice moment gap else ready c zone object began history
 ready c zone object began (Suppressed k state number moment why ∷ history) =
-    if is_problem k then retry_after c zone object began (last_notice history) moment why else ready c zone object began history
+    if is_problem k then retry_after c zone object began (last_notice history) moment why
+    else ready c zone object began history
 
 -- the status of the object after the past
 abbrev pub status_after : ℕ → List Event → ObjectStatus
-status_after o past = record { state = hard o past; depth = depth o past; flapping = flapping o past }
+status_after o past =
+    record { state = hard o past; depth = depth o past; flapping = flapping o past }
 
 -- whether the object, or a service's host, is in downtime
 abbrev pub down_with_host : ℕ → Object → List Event → Bool
-down_with_host o object past = down o past || elim object.host as (λ _. Bool) [ None ↦ false | Some host ↦ down host.0 past ]
+down_with_host o object past =
+    down o past || elim object.host as (λ _. Bool) [ None ↦ false | Some host ↦ down host.0 past ]
 
 -- what the filters read at an event, the event itself counted; `earlier` has the outcomes of the problem before it
 abbrev pub view : Config → Zone → ℕ → Object → Event → List Event → (earlier : List Outcome) → View
@@ -112,26 +120,31 @@ number_after sent kind.DowntimeCancelled = 0
 
 -- the gap of a notice: only a problem's has one
 abbrev pub gap_of : Config → Zone → ℕ → Object → Attempt → (number : ℕ) → ℕ
-gap_of c zone o object a number = if is_problem a.kind then gap c zone o object number (letter_of a.kind a.state) a.moment else 0
+gap_of c zone o object a number =
+    if is_problem a.kind then gap c zone o object number (letter_of a.kind a.state) a.moment else 0
 
 -- what becomes of an attempt: the first failing filter suppresses it, else it goes out
 abbrev pub judged : Config → Zone → ℕ → Object → View → Attempt → Outcome
 judged c zone o object v a = elim (failing c zone v a) as (λ _. Outcome) [
-  | None ↦ Sent a.kind a.state (number_after v.sent a.kind) a.moment (gap_of c zone o object a (number_after v.sent a.kind))
+  | None ↦ Sent a.kind a.state (number_after v.sent a.kind) a.moment
+      (gap_of c zone o object a (number_after v.sent a.kind))
   | Some why ↦ Suppressed a.kind a.state (number_after v.sent a.kind) a.moment why
 ]
 
 -- what becomes of an event that attempts this kind, or nothing
-abbrev pub outcome_of : Config → Zone → ℕ → Object → Event → List Event → (earlier : List Outcome) → Option Kind → Outcome
+abbrev pub outcome_of : Config → Zone → ℕ → Object → Event → List Event → (earlier : List Outcome)
+    → Option Kind → Outcome
 outcome_of c zone o object e past earlier None = Nothing
 outcome_of c zone o object e past earlier (Some k) =
-    judged c zone o object (view c zone o object e past earlier) (record { kind = k; state = hard o (e ∷ past); moment = moment (e ∷ past) })
+    judged c zone o object (view c zone o object e past earlier)
+    (record { kind = k; state = hard o (e ∷ past); moment = moment (e ∷ past) })
 
 -- Outcome: what becomes of the object at an event, after that past and its history
 abbrev pub outcome : Config → Zone → ℕ → Object → Event → List Event → List Outcome → Outcome
 outcome c zone o object e past history =
     outcome_of c zone o object e past (before o e past history)
-    (attempted o e.kind (status_after o past) (ready c zone object (began o past) (of_problem o past history)) (moment (e ∷ past)))
+    (attempted o e.kind (status_after o past)
+    (ready c zone object (began o past) (of_problem o past history)) (moment (e ∷ past)))
 
 -- the history with the outcome of one more event
 abbrev pub longer : Config → Zone → ℕ → Object → Event → List Event → List Outcome → List Outcome

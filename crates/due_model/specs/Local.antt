@@ -29,6 +29,7 @@ pub record Local : Type 0 where
 -- Local time, of which a period speaks (chapter "Time Periods"). 1970-01-01 was a Thursday.
 abbrev pub local : Zone → ℕ → Local
 local zone t = record {
-  weekday = unsigned_abs (int_rem_euclid (int_div_euclid (local_second zone t) (pos 86400) +ℤ pos 4) (pos 7));
+  weekday = unsigned_abs
+      (int_rem_euclid (int_div_euclid (local_second zone t) (pos 86400) +ℤ pos 4) (pos 7));
   second = unsigned_abs (int_rem_euclid (local_second zone t) (pos 86400));
 }

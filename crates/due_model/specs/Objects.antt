@@ -13,7 +13,8 @@ object_id place = record { 0 = place }
 
 -- the object of this number has this name; a number outside the list has none
 abbrev pub has_name_at : List Object → List ℕ → ObjectId → Bool
-has_name_at objects name id = option_map_or (λ object. bytes_eq object.name name) (slice_get objects id.0) false
+has_name_at objects name id =
+    option_map_or (λ object. bytes_eq object.name name) (slice_get objects id.0) false
 
 -- a host by its name; a service by its host's name and its description, given the host of the object
 -- and the object's own name
@@ -21,7 +22,8 @@ abbrev pub is_called : List Object → List ℕ → Option (List ℕ) → Option
 is_called objects host None None name = bytes_eq name host
 is_called objects host None (Some id) name = false
 is_called objects host (Some service) None name = false
-is_called objects host (Some service) (Some id) name = has_name_at objects host id && bytes_eq name service
+is_called objects host (Some service) (Some id) name =
+    has_name_at objects host id && bytes_eq name service
 
 -- the object is the host of this name or, where a service is given, that service of the host of this name
 abbrev pub is_named : List Object → List ℕ → Option (List ℕ) → Object → Bool
@@ -29,11 +31,13 @@ is_named objects host service object = is_called objects host service object.hos
 
 -- the same of the object of this number
 abbrev pub is_named_at : List Object → List ℕ → Option (List ℕ) → ObjectId → Bool
-is_named_at objects host service id = option_map_or (is_named objects host service) (slice_get objects id.0) false
+is_named_at objects host service id =
+    option_map_or (is_named objects host service) (slice_get objects id.0) false
 
 -- the first object in number order that has the name
 abbrev pub object_named : List Object → List ℕ → Option (List ℕ) → Option ObjectId
-object_named objects host service = option_map object_id (position (is_named objects host service) objects)
+object_named objects host service =
+    option_map object_id (position (is_named objects host service) objects)
 
 -- ---- how an index of the names is kept
 
@@ -44,13 +48,15 @@ hash_of seed bytes = fold (λ hash byte. bit_xor hash byte * 1099511628211 % 2 ^
 -- the hash of a name: of the host's name and, for a service, a byte that no text has and the description
 abbrev pub name_hash : List ℕ → Option (List ℕ) → ℕ
 name_hash host None = hash_of 14695981039346656037 host
-name_hash host (Some service) = hash_of (hash_of (hash_of 14695981039346656037 host) (255 ∷ [])) service
+name_hash host (Some service) =
+    hash_of (hash_of (hash_of 14695981039346656037 host) (255 ∷ [])) service
 
 -- the hash of an object's name, given its host and its own name; a service whose host isn't in the list
 -- has no name
 abbrev pub called_hash : List Object → Option ObjectId → List ℕ → ℕ
 called_hash objects None name = name_hash name None
-called_hash objects (Some id) name = option_map_or (λ host. name_hash host.name (Some name)) (slice_get objects id.0) 0
+called_hash objects (Some id) name =
+    option_map_or (λ host. name_hash host.name (Some name)) (slice_get objects id.0) 0
 
 abbrev pub object_hash : List Object → Object → ℕ
 object_hash objects object = called_hash objects object.host object.name
@@ -61,19 +67,23 @@ has_hash_at hashes hash id = option_map_or (λ found. found == hash) (slice_get 
 
 -- the object of this number has the hash and the name
 abbrev pub is_hashed_name : List Object → List ℕ → ℕ → List ℕ → Option (List ℕ) → ObjectId → Bool
-is_hashed_name objects hashes hash host service id = has_hash_at hashes hash id && is_named_at objects host service id
+is_hashed_name objects hashes hash host service id =
+    has_hash_at hashes hash id && is_named_at objects host service id
 
 -- whether the object of this number goes into this bucket
 abbrev pub is_in_bucket : List Object → ℕ → ℕ → ObjectId → Bool
 is_in_bucket objects buckets bucket id =
-    option_map_or (λ object. (object_hash objects object % buckets) == bucket) (slice_get objects id.0) false
+    option_map_or (λ object. (object_hash objects object % buckets) == bucket)
+    (slice_get objects id.0) false
 
 -- the numbers below this one, in order
 abbrev pub ids_below : ℕ → List ObjectId
 ids_below count = map object_id (range_with_len 0 count)
 
 -- each bucket lists, in order, the numbers below `count` of the objects whose hash leads to it
-pub record IsIndexUpTo (objects : List Object) (count : ℕ) (buckets : List (List ObjectId)) : Type 0 where
+pub record IsIndexUpTo (objects : List Object) (count : ℕ)
+    (buckets : List (List ObjectId)) : Type 0 where
   pub some : 0 < length buckets
   pub each : (bucket : ℕ) → bucket < length buckets
-      → slice_index_or buckets bucket [] ≡ filter (is_in_bucket objects (length buckets) bucket) (ids_below count)
+      → slice_index_or buckets bucket []
+      ≡ filter (is_in_bucket objects (length buckets) bucket) (ids_below count)

@@ -14,7 +14,8 @@ in_range second range = nat_le range.start second && nat_lt second range.end
 
 -- the ranges of a weekday
 abbrev pub ranges_on : Period → ℕ → List Range
-ranges_on period weekday = elim (slice_get period.days weekday) as (λ _. List Range) [ None ↦ [] | Some ranges ↦ ranges ]
+ranges_on period weekday =
+    elim (slice_get period.days weekday) as (λ _. List Range) [ None ↦ [] | Some ranges ↦ ranges ]
 
 -- A period holds at a local time where some range of the weekday has its second, and no period that it
 -- excludes holds there (chapter "Time Periods"). A chain of exclusions has at most `depth` periods.
@@ -38,7 +39,9 @@ reach_of_next = 34_560_000
 -- the first moment from t on that passes, among `count` of them
 unfoldable pub first_passing : (ℕ → Bool) → (count t : ℕ) → Option ℕ
 first_passing passes zero t = None
-first_passing passes (suc count) t = elim (passes t) as (λ _. Option ℕ) [ true ↦ Some t | false ↦ first_passing passes count (t + 1) ]
+first_passing passes (suc count) t =
+    elim (passes t)
+    as (λ _. Option ℕ) [ true ↦ Some t | false ↦ first_passing passes count (t + 1) ]
 
 -- Next: the least moment of a period at or after t, at most 400 days on (chapter "Time Periods").
 unfoldable pub next_in : Config → Zone → Option PeriodId → ℕ → Option ℕ

@@ -25,7 +25,9 @@ is_state_of service Critical = service
 abbrev pub KindIsProper : Config → EventKind → Type 0
 KindIsProper c Clock = Unit {0}
 KindIsProper c (Program on) = Unit {0}
-KindIsProper c (Hard o state) = (object : Object) × (slice_get c.objects o.0 ≡ Some object) × IsTrue (is_state_of (is_some object.host) state)
+KindIsProper c (Hard o state) =
+    (object : Object) × (slice_get c.objects o.0 ≡ Some object)
+    × IsTrue (is_state_of (is_some object.host) state)
 KindIsProper c (Downtime o change) = HasObject c o.0
 KindIsProper c (Flapping o starts) = HasObject c o.0
 

@@ -56,11 +56,15 @@ attempted_by_flapping flapping false = if flapping then Some kind.FlappingStop e
 -- (chapter "Notifications", "When Do Notifications Occur?"). The clock attempts a problem again once its ready
 -- moment has come.
 abbrev pub attempted : ℕ → EventKind → ObjectStatus → Option ℕ → ℕ → Option Kind
-attempted o event.Clock old ready t = if is_problem_state old.state && has_come ready t then Some kind.Problem else None
+attempted o event.Clock old ready t =
+    if is_problem_state old.state && has_come ready t then Some kind.Problem else None
 attempted o (event.Program on) old ready t = None
-attempted o (event.Hard p now) old ready t = if p.0 == o then attempted_by_state old.state now else None
-attempted o (event.Downtime p change) old ready t = if p.0 == o then attempted_by_downtime old.depth change else None
-attempted o (event.Flapping p starts) old ready t = if p.0 == o then attempted_by_flapping old.flapping starts else None
+attempted o (event.Hard p now) old ready t =
+    if p.0 == o then attempted_by_state old.state now else None
+attempted o (event.Downtime p change) old ready t =
+    if p.0 == o then attempted_by_downtime old.depth change else None
+attempted o (event.Flapping p starts) old ready t =
+    if p.0 == o then attempted_by_flapping old.flapping starts else None
 
 -- the letter of a state (chapter "Object Definitions", `notification_options`)
 abbrev pub state_letter : State → OptionLetter
@@ -148,7 +152,8 @@ next_notice moment gap = if gap == 0 then None else Some (moment + gap)
 -- the last notice reported the same state, and its gap is 0 or hasn't passed
 abbrev pub is_too_soon : Option Last → State → (t : ℕ) → Bool
 is_too_soon None state t = false
-is_too_soon (Some last) state t = same_state last.state state && not (has_come (next_notice last.moment last.gap) t)
+is_too_soon (Some last) state t =
+    same_state last.state state && not (has_come (next_notice last.moment last.gap) t)
 
 -- the first filter of a list that fails
 abbrev pub first_failing : List (Bool × Filter) → Option Filter
@@ -167,7 +172,11 @@ failing c zone v a = first_failing (
     ∷ (is_recovery a.kind && v.sent == 0, filter.NoProblem)
     ∷ (not (in_period c zone v.period a.moment), filter.Period)
     ∷ (is_of_problem a.kind && v.depends, filter.Dependency)
-    ∷ (is_problem a.kind && v.sent == 0 && nat_lt a.moment (v.began + 60 * v.delay), filter.FirstDelay)
+    ∷ (
+      is_problem a.kind && v.sent == 0
+          && nat_lt a.moment (v.began + 60 * v.delay),
+      filter.FirstDelay,
+    )
     ∷ (is_problem a.kind && is_too_soon v.last a.state a.moment, filter.Interval)
     ∷ [])
 

@@ -3,7 +3,8 @@
 ghost use Rattle.std.specs.Prelude.{◌≡◌, ◌≤◌, length, map, find, IfOk, vec_len};
 ghost use Rattle.std.specs.Option.{option_copied};
 ghost use Rattle.due_model.specs.Limits.{max_objects};
-ghost use Rattle.due_model.specs.Objects.{IsIndexUpTo, has_hash_at, has_name_at, hash_of, is_hashed_name, is_named_at, name_hash, object_hash, object_named};
+ghost use Rattle.due_model.specs.Objects.{IsIndexUpTo, has_hash_at, has_name_at, hash_of, is_hashed_name};
+ghost use Rattle.due_model.specs.Objects.{is_named_at, name_hash, object_hash, object_named};
 
 use crate::config::{Object, ObjectId};
 use graph::lists::{Lists, ListsBuilder};

@@ -1,8 +1,11 @@
 //! The rules of what an event changes and what it attempts, over values already read.
 
 ghost use Rattle.std.specs.Prelude.{◌≡◌, ◌+◌, ◌^◌, ◌<◌, Some, IfSome};
-ghost use Rattle.due_model.specs.Readings.{is_ok_state, is_problem_state, switch_after, hard_after, depth_changed, is_problem_of};
-ghost use Rattle.due_model.specs.Rules.{attempted, attempted_by_state, attempted_by_downtime, attempted_by_flapping, downtime_kind, has_come, state_letter, letter_of, has_letter, is_too_soon, next_notice, same_state};
+ghost use Rattle.due_model.specs.Readings.{is_ok_state, is_problem_state, switch_after, hard_after};
+ghost use Rattle.due_model.specs.Readings.{depth_changed, is_problem_of};
+ghost use Rattle.due_model.specs.Rules.{attempted, attempted_by_state, attempted_by_downtime};
+ghost use Rattle.due_model.specs.Rules.{attempted_by_flapping, downtime_kind, has_come, state_letter};
+ghost use Rattle.due_model.specs.Rules.{letter_of, has_letter, is_too_soon, next_notice, same_state};
 ghost use Rattle.due_model.specs.Dependencies.{has_state};
 ghost use Rattle.due_model.specs.Histories.{number_after};
 

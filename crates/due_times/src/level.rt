@@ -1,6 +1,7 @@
 //! A level of the index: moments, or none, by place.
 
-ghost use Rattle.std.specs.Prelude.{◌≡◌, ◌+◌, ◌*◌, ◌<◌, ◌≤◌, None, length, slice_set, IfOk};
+ghost use Rattle.std.specs.Prelude.{◌≡◌, ◌+◌, ◌*◌, ◌<◌, ◌≤◌, None, length};
+ghost use Rattle.std.specs.Prelude.{slice_set, IfOk};
 ghost use Rattle.due_times.specs.Index.{at, earlier, is_earlier};
 ghost use Rattle.due_times.specs.Levels.{IsAbove};
 

@@ -4,7 +4,9 @@
 
 mod level;
 
-ghost use Rattle.std.specs.Prelude.{◌≡◌, ◌↔◌, IsTrue, ◌+◌, ◌-◌, ◌%◌, ◌^◌, ◌<◌, ◌≤◌, ℕ, List, [], Option, None, Some, IsOk, IfNone, IfOk, IfSome, OnOk, OnErr, length};
+ghost use Rattle.std.specs.Prelude.{◌≡◌, ◌↔◌, IsTrue, ◌+◌, ◌-◌, ◌%◌, ◌^◌};
+ghost use Rattle.std.specs.Prelude.{◌<◌, ◌≤◌, ℕ, List, [], Option, None, Some, IsOk, IfNone};
+ghost use Rattle.std.specs.Prelude.{IfOk, IfSome, OnOk, OnErr, length};
 ghost use Rattle.due_times.specs.Index.{IsFirst, IsFirstDue, NothingIsDue, SameEntries, Sets, at};
 ghost use Rattle.due_times.specs.Levels.{ArePaired, IsAbove, leaves, level};
 

@@ -7,7 +7,7 @@ use Rattle.due_model.specs.declared.config.Object.{Object}
 use Rattle.due_model.specs.declared.event.Event.{Event}
 use Rattle.event_feed.specs.declared.fault.FeedFault.{FeedFault}
 use Rattle.event_feed.specs.declared.fault.FeedFault.TheVariants.{Cut, LineTooLong, Read}
-use Rattle.event_feed.specs.declared.fault.LineFault.{LineFault}
+use Rattle.event_feed.specs.declared.fault.RefusedLine.{RefusedLine}
 use Rattle.event_feed.specs.Fault.{is_line_fault, stop_fault}
 use Rattle.event_feed.specs.Line.{line_reading}
 use Rattle.text_lines.specs.LineReader.{Reading, byte_limit, call_limit, cut_text, line_limit, to_come}
@@ -92,11 +92,13 @@ answers_from objects feed bytes =
 -- where the bytes are known, the answer is the next, and the feed goes on after it
 abbrev pub AnswersNext : List Object → Feed → Answer → Feed → Type 0
 AnswersNext objects old answer new =
-    Known old.bytes new.bytes (λ bytes rest. answers_from objects old bytes ≡ answer ∷ answers_from objects new rest)
+    Known old.bytes new.bytes
+    (λ bytes rest. answers_from objects old bytes ≡ answer ∷ answers_from objects new rest)
 
 -- where the bytes are known, there is no answer to come
 abbrev pub AnswersNone : List Object → Feed → Feed → Type 0
-AnswersNone objects old new = Known old.bytes new.bytes (λ bytes rest. answers_from objects old bytes ≡ [])
+AnswersNone objects old new =
+    Known old.bytes new.bytes (λ bytes rest. answers_from objects old bytes ≡ [])
 
 -- no answer is of a line before this one
 abbrev pub AreFromLine : ℕ → List Answer → Type 0
@@ -109,7 +111,8 @@ AnswersLater objects old line new =
 
 -- `from` lines come before these pieces. The first of them are empty lines, then comes the line of this number, with
 -- this text, and then the others.
-pub record ComesNext (from : ℕ) (texts : List (List ℕ)) (line : ℕ) (text : List ℕ) (others : List (List ℕ)) : Type 0 where
+pub record ComesNext (from : ℕ) (texts : List (List ℕ)) (line : ℕ) (text : List ℕ)
+    (others : List (List ℕ)) : Type 0 where
   pub empty : ℕ
   pub number : line ≡ from + empty + 1
   pub are : texts ≡ replicate empty [] ++ text ∷ others
@@ -117,7 +120,8 @@ pub record ComesNext (from : ℕ) (texts : List (List ℕ)) (line : ℕ) (text :
 -- the line of this number comes next, and its text has so many bytes
 abbrev pub ComesLong : ℕ → List (List ℕ) → ℕ → (count : ℕ) → Type 0
 ComesLong from texts line count =
-    (text : List ℕ) × (others : List (List ℕ)) × ComesNext from texts line text others × (count ≤ length text)
+    (text : List ℕ) × (others : List (List ℕ)) × ComesNext from texts line text others
+    × (count ≤ length text)
 
 -- The line that a reading came to: its number, its text where it is there, and the bytes after it. At the end of the
 -- input the number is that of the last line, which an empty piece follows.
@@ -125,14 +129,18 @@ abbrev pub ComesTo : NextLine → (from : ℕ) → List ℕ → ℕ → List ℕ
 ComesTo Line from bytes line text rest =
     ComesNext from (pieces bytes) line text (pieces rest) × (0 < length text)
 ComesTo Long from bytes line text rest =
-    (long : List ℕ) × ComesNext from (pieces bytes) line long (pieces rest) × (line_limit < length long)
+    (long : List ℕ) × ComesNext from (pieces bytes) line long (pieces rest)
+    × (line_limit < length long)
 ComesTo (Over InputEnded) from bytes line text rest =
     ComesNext from (pieces bytes) (line + 1) [] [] × (rest ≡ [])
 ComesTo (Over CutLine) from bytes line text rest =
-    (cut : List ℕ) × ComesNext from (pieces bytes) line cut [] × (0 < length cut) × (text ≡ cut_text (length cut) cut)
+    (cut : List ℕ) × ComesNext from (pieces bytes) line cut [] × (0 < length cut)
+    × (text ≡ cut_text (length cut) cut)
 ComesTo (Over ReaderFailed) from bytes line text rest = ComesLong from (pieces bytes) line 0
-ComesTo (Over TooManyCalls) from bytes line text rest = ComesLong from (pieces bytes) line call_limit
-ComesTo (Over TooManyBytes) from bytes line text rest = ComesLong from (pieces bytes) line (byte_limit + 1)
+ComesTo (Over TooManyCalls) from bytes line text rest =
+    ComesLong from (pieces bytes) line call_limit
+ComesTo (Over TooManyBytes) from bytes line text rest =
+    ComesLong from (pieces bytes) line (byte_limit + 1)
 ComesTo (Over TooManyLines) from bytes line text rest =
     ComesLong from (pieces bytes) line 0 × (line ≡ feed_limit + 1)
 
@@ -142,7 +150,8 @@ FeedComesTo how old new =
     Known old.bytes new.bytes (λ bytes rest. ComesTo how old.line bytes new.line new.text rest)
 
 -- the next line that isn't empty is refused by what it says, and its text stays unless it is too long
-pub record RefusesLine (objects : List Object) (from : ℕ) (bytes : List ℕ) (fault : LineFault) (kept rest : List ℕ) : Type 0 where
+pub record RefusesLine (objects : List Object) (from : ℕ) (bytes : List ℕ) (fault : RefusedLine)
+    (kept rest : List ℕ) : Type 0 where
   pub text : List ℕ
   pub next : ComesNext from (pieces bytes) fault.line text (pieces rest)
   pub some : 0 < length text
@@ -150,7 +159,7 @@ pub record RefusesLine (objects : List Object) (from : ℕ) (bytes : List ℕ) (
   pub stays : fault.fault ≢ LineTooLong → kept ≡ text
 
 -- where the line of a fault stands in the bytes, where they are known
-abbrev pub FaultComesTo : List Object → Feed → LineFault → Option Stop → Feed → Type 0
+abbrev pub FaultComesTo : List Object → Feed → RefusedLine → Option Stop → Feed → Type 0
 FaultComesTo objects old fault None new =
     Known old.bytes new.bytes (λ bytes rest. RefusesLine objects old.line bytes fault new.text rest)
 FaultComesTo objects old fault (Some stop) new = FeedComesTo (Over stop) old new
@@ -158,7 +167,7 @@ FaultComesTo objects old fault (Some stop) new = FeedComesTo (Over stop) old new
 -- What a fault says of a feed whose bytes are known. A line that is read over, a cut and a limit on bytes or
 -- lines are the next answer of the feed. Where the reader failed or took too many calls, which the bytes
 -- don't tell, the feed ends before the answers of that line.
-abbrev pub FaultAnswers : List Object → Feed → LineFault → Option Stop → Feed → Type 0
+abbrev pub FaultAnswers : List Object → Feed → RefusedLine → Option Stop → Feed → Type 0
 FaultAnswers objects old fault None new =
     AnswersNext objects old (record { line = fault.line; given = Err fault.fault }) new
 FaultAnswers objects old fault (Some InputEnded) new = ⊥
@@ -190,7 +199,8 @@ pub record HasLong (from : ℕ) (texts : List (List ℕ)) (line count : ℕ) : T
 
 -- The reading broke off at a line of the feed: the first of its answers were given, and then the refusal of that line. It
 -- is after the lines of those answers, and not after the line of the next. Where the reader can't fail, the line is long.
-pub record BreaksOff (can_fail : Bool) (given all : List Answer) (from : ℕ) (texts : List (List ℕ)) : Type 0 where
+pub record BreaksOff (can_fail : Bool) (given all : List Answer) (from : ℕ)
+    (texts : List (List ℕ)) : Type 0 where
   pub front : List Answer
   pub line : ℕ
   pub others : List Answer
@@ -201,16 +211,19 @@ pub record BreaksOff (can_fail : Bool) (given all : List Answer) (from : ℕ) (t
   pub whole : given ≡ front ++ record { line = line; given = Err Read } ∷ []
 
 -- all the answers of a feed were given, or the reading broke off
-abbrev pub AreGiven : (can_fail : Bool) → (given all : List Answer) → (from : ℕ) → (texts : List (List ℕ)) → Type 0
+abbrev pub AreGiven : (can_fail : Bool) → (given all : List Answer) → (from : ℕ)
+    → (texts : List (List ℕ)) → Type 0
 AreGiven can_fail given all from texts = (given ≡ all) ⊎ BreaksOff can_fail given all from texts
 
 -- the same of a feed whose bytes are known
 abbrev pub AreGivenBy : (can_fail : Bool) → List Object → Feed → List Answer → Type 0
 AreGivenBy can_fail objects feed given =
-    IfSome feed.bytes (λ bytes. AreGiven can_fail given (answers_from objects feed bytes) feed.line (pieces bytes))
+    IfSome feed.bytes
+    (λ bytes. AreGiven can_fail given (answers_from objects feed bytes) feed.line
+    (pieces bytes))
 
 -- the answer of a refused line
-abbrev pub refusal : LineFault → Answer
+abbrev pub refusal : RefusedLine → Answer
 refusal fault = record { line = fault.line; given = Err fault.fault }
 
 -- which faults come with which stop: Cut and Read with theirs, the faults of a line with none, and want of
@@ -245,12 +258,14 @@ pub record ComesToEnd (old new : Feed) : Type 0 where
   pub place : FeedComesTo (Over InputEnded) old new
 
 -- a line, the last one read, gives no event
-pub record GivesFault (objects : List Object) (old : Feed) (fault : LineFault) (new : Feed) : Type 0 where
+pub record GivesFault (objects : List Object) (old : Feed) (fault : RefusedLine)
+    (new : Feed) : Type 0 where
   pub answers : FaultAnswers objects old fault new.stop new
   pub place : FaultComesTo objects old fault new.stop new
   pub fits : FaultFits fault.fault new.stop
   -- a line that isn't too long is refused by what it says
-  pub said : new.stop ≡ None → fault.fault ≢ LineTooLong → line_reading objects new.text ≡ Err fault.fault
+  pub said : new.stop ≡ None → fault.fault ≢ LineTooLong
+      → line_reading objects new.text ≡ Err fault.fault
   pub number : fault.line ≡ new.line
   pub last : new.last ≡ old.last
   pub line : old.line < new.line

@@ -34,7 +34,8 @@ after_digits line = drop (length (stamp_digits line)) (drop 1 line)
 
 abbrev pub is_stamp_shaped : List ℕ → Bool
 is_stamp_shaped line =
-    begins_with line (codes "[") && begins_with (after_digits line) (codes "] ") && nat_lt 0 (length (stamp_digits line))
+    begins_with line (codes "[") && begins_with (after_digits line) (codes "] ")
+    && nat_lt 0 (length (stamp_digits line))
 
 -- the number that the digits write; leading zeros are allowed
 abbrev pub digits_number : List ℕ → ℕ
@@ -91,20 +92,25 @@ bare_reading kind (argument ∷ arguments) = Err BadState
 abbrev pub host_state_reading : List Object → List (List ℕ) → Result EventKind FeedFault
 host_state_reading objects [] = Err BadState
 host_state_reading objects (host ∷ []) = Err BadState
-host_state_reading objects (host ∷ state ∷ []) = state_reading (object_named objects host None) (host_state_named state)
+host_state_reading objects (host ∷ state ∷ []) =
+    state_reading (object_named objects host None) (host_state_named state)
 host_state_reading objects (host ∷ state ∷ more ∷ arguments) = Err BadState
 
 -- what a command says with these arguments
-abbrev pub arguments_reading : List Object → Option Command → List (List ℕ) → Result EventKind FeedFault
+abbrev pub arguments_reading : List Object → Option Command → List (List ℕ)
+    → Result EventKind FeedFault
 arguments_reading objects None arguments = Err UnknownKind
 arguments_reading objects (Some TellTime) arguments = bare_reading Clock arguments
-arguments_reading objects (Some EnableNotifications) arguments = bare_reading (Program true) arguments
-arguments_reading objects (Some DisableNotifications) arguments = bare_reading (Program false) arguments
+arguments_reading objects (Some EnableNotifications) arguments =
+    bare_reading (Program true) arguments
+arguments_reading objects (Some DisableNotifications) arguments =
+    bare_reading (Program false) arguments
 arguments_reading objects (Some HostState) arguments = host_state_reading objects arguments
 
 abbrev pub command_reading : List Object → List (List ℕ) → Result EventKind FeedFault
 command_reading objects [] = Err UnknownKind
-command_reading objects (name ∷ arguments) = arguments_reading objects (command_named name) arguments
+command_reading objects (name ∷ arguments) =
+    arguments_reading objects (command_named name) arguments
 
 -- ---- the line
 
@@ -114,7 +120,8 @@ stamped moment (Err fault) = Err fault
 
 abbrev pub stamp_reading : List Object → Option ℕ → List ℕ → Result Event FeedFault
 stamp_reading objects None command = Err BadStamp
-stamp_reading objects (Some moment) command = stamped moment (command_reading objects (fields command))
+stamp_reading objects (Some moment) command =
+    stamped moment (command_reading objects (fields command))
 
 -- the event that a line says, or the first reason why it says none
 abbrev pub line_reading : List Object → List ℕ → Result Event FeedFault

@@ -62,7 +62,7 @@ impl fmt::Display for FeedFault {
 
 /// A line of the feed that gives no event. Lines are numbered from 1, empty ones too.
 #[derive(Clone, Copy, Debug, PartialEq, Eq)]
-pub struct LineFault {
+pub struct RefusedLine {
     pub line: u64,
     pub fault: FeedFault,
 }

@@ -1,11 +1,13 @@
 //! The events of a feed, in order, from a reader of lines.
 
-ghost use Rattle.std.specs.Prelude.{◌≡◌, ◌≢◌, ◌+◌, ◌≤◌, ◌∷◌, [], false, IsSome, None, Some, Ok, IfOk, IfErr, IfSome, IfNone, OnSome, IsTrue};
-ghost use Rattle.event_feed.specs.Feed.{AreGivenBy, ComesToEnd, GivesEvent, GivesFault, GivesNone, feed_limit, feed_of, raised, refusal};
+ghost use Rattle.std.specs.Prelude.{◌≡◌, ◌≢◌, ◌+◌, ◌≤◌, ◌∷◌, [], false, IsSome};
+ghost use Rattle.std.specs.Prelude.{None, Some, Ok, IfOk, IfErr, IfSome, IfNone, OnSome, IsTrue};
+ghost use Rattle.event_feed.specs.Feed.{AreGivenBy, ComesToEnd, GivesEvent, GivesFault, GivesNone};
+ghost use Rattle.event_feed.specs.Feed.{feed_limit, feed_of, raised, refusal};
 ghost use Rattle.event_feed.specs.Feeder.{CountsLine, GoesToLine, begun_lines};
 ghost use Rattle.text_lines.specs.Lines.{has_line};
 
-use crate::fault::{FeedFault, LineFault, stop_fault};
+use crate::fault::{FeedFault, RefusedLine, stop_fault};
 use crate::line::read_line;
 use due_model::config::Config;
 use due_model::event::Event;
@@ -95,7 +97,7 @@ impl<R: Input + Drop> Feeder<R> {
     /// last moment is raised to it. A line with another fault than Cut and Read is read over, and the feed
     /// goes on after it; after Cut and Read, and at the end of the input, it is over, and the answer is
     /// `Ok(None)` from then on. It takes no memory, and calls no reader where `has_line` says so.
-    pub fn next(&mut self, config: &Config) -> Result<Option<Event>, LineFault>
+    pub fn next(&mut self, config: &Config) -> Result<Option<Event>, RefusedLine>
         ensures over { OnSome self.old.stop ((result ≡ Ok None) × (self.new ≡ self.old)) }
         ensures event { IfOk result (λ found. IfSome found (λ event.
             GivesEvent config.now self.old event self.new)) }
@@ -122,9 +124,9 @@ impl<R: Input + Drop> Feeder<R> {
                     self.last = event.moment;
                     Ok(Some(event))
                 }
-                Err(fault) => Err(LineFault { line, fault }),
+                Err(fault) => Err(RefusedLine { line, fault }),
             },
-            NextLine::Long => Err(LineFault {
+            NextLine::Long => Err(RefusedLine {
                 line,
                 fault: FeedFault::LineTooLong,
             }),
@@ -132,7 +134,7 @@ impl<R: Input + Drop> Feeder<R> {
                 self.stop = Some(stop);
                 match stop_fault(stop) {
                     None => Ok(None),
-                    Some(fault) => Err(LineFault { line, fault }),
+                    Some(fault) => Err(RefusedLine { line, fault }),
                 }
             }
         }

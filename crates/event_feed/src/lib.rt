@@ -6,6 +6,6 @@ pub mod fault;
 pub mod feeder;
 pub mod line;
 
-pub use fault::{FeedFault, LineFault, stop_fault};
+pub use fault::{FeedFault, RefusedLine, stop_fault};
 pub use feeder::{FEED_LIMIT, Feeder};
 pub use line::{read_line, read_number};

@@ -1,12 +1,15 @@
 //! One line of the feed.
 
-ghost use Rattle.std.specs.Prelude.{◌≡◌, ◌≤◌, ◌∷◌, Some, None, IfOk, IfSome, nat_le, length, take_while, if◌then◌else◌};
+ghost use Rattle.std.specs.Prelude.{◌≡◌, ◌≤◌, ◌∷◌, Some, None, IfOk, IfSome, nat_le};
+ghost use Rattle.std.specs.Prelude.{length, take_while, if◌then◌else◌};
 ghost use Rattle.std.specs.Option.{option_copied, option_map};
 ghost use Rattle.std.specs.Str.{is_utf8};
 ghost use Rattle.due_model.specs.Proper.{IsProper};
 ghost use Rattle.due_model.specs.Limits.{last_moment};
 ghost use Rattle.std.specs.Char.{is_ascii_digit};
-ghost use Rattle.event_feed.specs.Line.{bare_reading, command_named, command_of, command_reading, fields, fields_after, host_state_named, host_state_reading, line_reading, digits_number, stamp_of, state_reading};
+ghost use Rattle.event_feed.specs.Line.{bare_reading, command_named, command_of, command_reading, fields};
+ghost use Rattle.event_feed.specs.Line.{fields_after, host_state_named, host_state_reading, line_reading};
+ghost use Rattle.event_feed.specs.Line.{digits_number, stamp_of, state_reading};
 
 use crate::fault::FeedFault;
 use due_model::config::{Config, ObjectId};

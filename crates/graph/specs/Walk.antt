@@ -38,24 +38,31 @@ pub record IsOpen (marks : List Mark) (live path roots : List ℕ) : Type 0 wher
   pub first_root : 0 < length live → Contains roots 0
 
 -- each node that the path has left had all its turns, and an unseen one none
-pub record IsTurned (graph : List (List ℕ)) (marks : List Mark) (turns live path : List ℕ) : Type 0 where
+pub record IsTurned (graph : List (List ℕ)) (marks : List Mark)
+    (turns live path : List ℕ) : Type 0 where
   pub as_many : length turns ≡ length graph
   pub few : (k : ℕ) → slice_index turns k ≤ length (slice_index_or graph k [])
   pub unseen : (k : ℕ) → slice_get marks k ≡ Some Unseen → slice_index turns k ≡ 0
-  pub left : (k t : ℕ) → slice_get live t ≡ Some k → (Contains path t → ⊥) → slice_index turns k ≡ length (slice_index_or graph k [])
-  pub over : (k : ℕ) → slice_get marks k ≡ Some Done → slice_index turns k ≡ length (slice_index_or graph k [])
+  pub left : (k t : ℕ) → slice_get live t ≡ Some k → (Contains path t → ⊥)
+      → slice_index turns k ≡ length (slice_index_or graph k [])
+  pub over : (k : ℕ) → slice_get marks k ≡ Some Done
+      → slice_index turns k ≡ length (slice_index_or graph k [])
 
 -- done nodes lead to done ones, and live nodes reach one another as far as no root stands between them
-pub record IsLinked (graph : List (List ℕ)) (marks : List Mark) (turns live roots : List ℕ) : Type 0 where
-  pub closed : (p q : ℕ) → slice_get marks p ≡ Some Done → Leads graph p q → slice_get marks q ≡ Some Done
-  pub joined : (i j p q : ℕ) → slice_get live i ≡ Some p → slice_get live j ≡ Some q → NoRoot roots j i → Reaches (Leads graph) p q
+pub record IsLinked (graph : List (List ℕ)) (marks : List Mark)
+    (turns live roots : List ℕ) : Type 0 where
+  pub closed : (p q : ℕ) → slice_get marks p ≡ Some Done → Leads graph p q
+      → slice_get marks q ≡ Some Done
+  pub joined : (i j p q : ℕ) → slice_get live i ≡ Some p → slice_get live j ≡ Some q
+      → NoRoot roots j i → Reaches (Leads graph) p q
   pub passed : (t k i : ℕ) → slice_get live t ≡ Some k → i < slice_index turns k
       → (slice_get marks (end_at graph k i) ≡ Some Done)
       ⊎ ((j : ℕ) × (slice_get live j ≡ Some (end_at graph k i)) × NoRoot roots j t)
 
 -- the least node on a loop is known of those whose edges were passed
 pub record IsTold (graph : List (List ℕ)) (turns : List ℕ) (least : Option ℕ) : Type 0 where
-  pub told : (k i : ℕ) → i < slice_index turns k → AtMost least k ⊎ (Reaches (Leads graph) (end_at graph k i) k → ⊥)
+  pub told : (k i : ℕ) → i < slice_index turns k
+      → AtMost least k ⊎ (Reaches (Leads graph) (end_at graph k i) k → ⊥)
   pub on_loop : (p : ℕ) → least ≡ Some p → IsOnLoop (Leads graph) p
 
 -- the nodes that are done, each once; one that leads to a later one lies on a loop
@@ -63,7 +70,8 @@ pub record IsDone (graph : List (List ℕ)) (marks : List Mark) (done : List ℕ
   pub marked : (k : ℕ) → Contains done k → slice_get marks k ≡ Some Done
   pub each : (k : ℕ) → slice_get marks k ≡ Some Done → Contains done k
   pub once : AllPairs (λ p q. p ≢ q) done
-  pub backward : (i j p q : ℕ) → slice_get done i ≡ Some p → slice_get done j ≡ Some q → Leads graph p q → (j < i) ⊎ Reaches (Leads graph) q p
+  pub backward : (i j p q : ℕ) → slice_get done i ≡ Some p → slice_get done j ≡ Some q
+      → Leads graph p q → (j < i) ⊎ Reaches (Leads graph) q p
 
 -- every node below the next one was seen
 pub record IsBegun (graph : List (List ℕ)) (marks : List Mark) (next : ℕ) : Type 0 where
@@ -105,7 +113,8 @@ sum_below (suc n) f = sum_below n f + f n
 
 abbrev pub steps_left : List (List ℕ) → Walk → ℕ
 steps_left graph walk =
-    (length graph - walk.next) + sum_below (length graph) (steps_at graph walk.marks.items walk.turns.items)
+    (length graph - walk.next)
+    + sum_below (length graph) (steps_at graph walk.marks.items walk.turns.items)
     + length walk.path.items + length walk.roots.items
 
 -- ---- steps
@@ -116,10 +125,12 @@ Goes graph before after = Fits graph after × (steps_left graph after < steps_le
 
 abbrev pub MatchStep : List (List ℕ) → Walk → Walk → Step → Type 0
 MatchStep graph before after On = Goes graph before after
-MatchStep graph before after Over = Fits graph after × (after.path.items ≡ []) × (after.next ≡ length graph)
+MatchStep graph before after Over =
+    Fits graph after × (after.path.items ≡ []) × (after.next ≡ length graph)
 
 pub record Enters (node : ℕ) (before after : Walk) : Type 0 where
-  pub marks : after.marks.items ≡ slice_set before.marks.items node (Live (length before.live.items))
+  pub marks : after.marks.items
+      ≡ slice_set before.marks.items node (Live (length before.live.items))
   pub turns : after.turns.items ≡ before.turns.items
   pub live : after.live.items ≡ before.live.items ++ node ∷ []
   pub path : after.path.items ≡ before.path.items ++ length before.live.items ∷ []
@@ -166,7 +177,8 @@ pub record Merges (root : ℕ) (before after : Walk) : Type 0 where
 
 pub record Passes (node : ℕ) (told : Option ℕ) (before after : Walk) : Type 0 where
   pub marks : after.marks.items ≡ before.marks.items
-  pub turns : after.turns.items ≡ slice_set before.turns.items node (slice_index before.turns.items node + 1)
+  pub turns : after.turns.items
+      ≡ slice_set before.turns.items node (slice_index before.turns.items node + 1)
   pub live : after.live.items ≡ before.live.items
   pub path : after.path.items ≡ before.path.items
   pub roots : after.roots.items ≡ before.roots.items

@@ -1,6 +1,7 @@
 //! A graph from a list of its edges.
 
-ghost use Rattle.std.specs.Prelude.{◌≡◌, ℕ, ◌<◌, ◌↔◌, [], length, All, Contains, slice_index_or, IfOk};
+ghost use Rattle.std.specs.Prelude.{◌≡◌, ℕ, ◌<◌, ◌↔◌, [], length, All, Contains};
+ghost use Rattle.std.specs.Prelude.{slice_index_or, IfOk};
 ghost use Rattle.graph.specs.Edges.{HasEdges, IsWithin, Leads};
 
 use crate::lists::{Lists, ListsBuilder};

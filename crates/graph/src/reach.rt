@@ -1,6 +1,7 @@
 //! What a node reaches.
 
-ghost use Rattle.std.specs.Prelude.{◌≡◌, ◌^◌, ◌<◌, ◌≢◌, [], ◌∷◌, length, All, AllPairs, Contains, IfOk};
+ghost use Rattle.std.specs.Prelude.{◌≡◌, ◌^◌, ◌<◌, ◌≢◌, [], ◌∷◌, length, All};
+ghost use Rattle.std.specs.Prelude.{AllPairs, Contains, IfOk};
 ghost use Rattle.graph.specs.Reach.{Found, Gains, IsReached};
 
 use crate::edges::Graph;

@@ -5,8 +5,10 @@
 //! another. An edge back to a live node takes the roots after it away. When the path leaves a root, the nodes
 //! from there on lead to no other live node, and are done.
 
-ghost use Rattle.std.specs.Prelude.{◌≡◌, ◌-◌, ◌^◌, ◌<◌, ◌≤◌, [], length, slice_get, slice_index, All, Some, IfOk, OnOk};
-ghost use Rattle.graph.specs.Walk.{Closes, Enters, Fits, Goes, IsMarkedDone, IsOver, Leaves, MatchStep, Merges, Passes, least_of};
+ghost use Rattle.std.specs.Prelude.{◌≡◌, ◌-◌, ◌^◌, ◌<◌, ◌≤◌, [], length, slice_get};
+ghost use Rattle.std.specs.Prelude.{slice_index, All, Some, IfOk, OnOk};
+ghost use Rattle.graph.specs.Walk.{Closes, Enters, Fits, Goes, IsMarkedDone, IsOver, Leaves, MatchStep};
+ghost use Rattle.graph.specs.Walk.{Merges, Passes, least_of};
 
 use crate::edges::Graph;
 use std::alloc::{AllocError, Global};

@@ -24,7 +24,8 @@ abbrev pub IsGivenAt : List Block → List ℕ → ℕ → Option Given → Type
 IsGivenAt blocks directive place kept = given blocks directive place ≡ line_of blocks directive kept
 
 -- the same of each block
-pub record HasGiven (blocks : List Block) (directive : List ℕ) (column : List (Option Given)) : Type 0 where
+pub record HasGiven (blocks : List Block) (directive : List ℕ)
+    (column : List (Option Given)) : Type 0 where
   pub long : length column ≡ length blocks
   pub each : (place : ℕ) → place < length blocks
       → IsGivenAt blocks directive place (slice_index_or column place None)
@@ -35,4 +36,5 @@ pub record HasGivenFrom (blocks : List Block) (directive : List ℕ) (order : Li
   pub begun : left ≤ length order
   pub long : length column ≡ length blocks
   pub done : (j : ℕ) → left ≤ j → j < length order
-      → IsGivenAt blocks directive (slice_index order j) (slice_index_or column (slice_index order j) None)
+      → IsGivenAt blocks directive (slice_index order j)
+      (slice_index_or column (slice_index order j) None)

@@ -24,7 +24,8 @@ IsLooped blocks place = IsOnLoop (Leads (template_graph blocks)) place
 -- whether an earlier block is the template of the block's type and name
 abbrev pub is_doubled : List Block → ℕ → Block → Bool
 is_doubled blocks place block = option_map_or
-    (λ name. option_map_or (λ first. nat_lt first place) (template_place blocks block.kind name) false)
+    (λ name. option_map_or (λ first. nat_lt first place)
+    (template_place blocks block.kind name) false)
     (template_name block) false
 
 -- of several faults of a block the first counts

@@ -1,11 +1,13 @@
 //! What each block has for a directive: what it gives itself, or else what it takes from a template
 //! (chapter "Object Inheritance").
 
-ghost use Rattle.std.specs.Prelude.{◌≡◌, ℕ, ◌<◌, ◌++◌, [], None, length, find, is_some, reverse, slice_index_or, All, IfOk, IfSome, OnOk, if◌then◌else◌};
+ghost use Rattle.std.specs.Prelude.{◌≡◌, ℕ, ◌<◌, ◌++◌, [], None, length, find, is_some};
+ghost use Rattle.std.specs.Prelude.{reverse, slice_index_or, All, IfOk, IfSome, OnOk, if◌then◌else◌};
 ghost use Rattle.std.specs.Option.{option_copied, option_map};
 ghost use Rattle.graph.specs.Edges.{Leads};
 ghost use Rattle.object_inheritance.specs.Columns.{given_from, IsGivenAt, line_of};
-ghost use Rattle.object_inheritance.specs.Inherited.{is_additive, list, name, name_of, own_entries, sources, stays, value};
+ghost use Rattle.object_inheritance.specs.Inherited.{is_additive, list, name, name_of, own_entries};
+ghost use Rattle.object_inheritance.specs.Inherited.{sources, stays, value};
 ghost use Rattle.object_inheritance.specs.Templates.{template_graph};
 ghost use Rattle.object_values.specs.Values.{texts};
 

@@ -1,6 +1,7 @@
 //! The templates of each type by their names.
 
-ghost use Rattle.std.specs.Prelude.{◌≡◌, ◌^◌, ◌<◌, ◌++◌, ◌∷◌, List, [], length, IfOk, IfSome, OnOk};
+ghost use Rattle.std.specs.Prelude.{◌≡◌, ◌^◌, ◌<◌, ◌++◌, ◌∷◌, List, [], length};
+ghost use Rattle.std.specs.Prelude.{IfOk, IfSome, OnOk};
 ghost use Rattle.std.specs.Option.{option_copied};
 ghost use Rattle.object_reader.specs.declared.block.Block.{Block};
 ghost use Rattle.object_inheritance.specs.Names.{HasFirsts};
@@ -63,7 +64,8 @@ fn note<'a>(
     place: u32,
 ) -> Result<(), AllocError>
     ensures { OnOk result ((blocks : List Block) → length blocks ≡ place
-        → HasFirsts blocks firsts.old.entries → HasFirsts (blocks ++ block.now ∷ []) firsts.new.entries) }
+        → HasFirsts blocks firsts.old.entries
+        → HasFirsts (blocks ++ block.now ∷ []) firsts.new.entries) }
 {
     let Some(name) = template_name(block) else {
         return Ok(());

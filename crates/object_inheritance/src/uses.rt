@@ -1,6 +1,7 @@
 //! The graph of templates: each block leads to the templates that it uses.
 
-ghost use Rattle.std.specs.Prelude.{◌≡◌, ℕ, ◌^◌, ◌<◌, ◌++◌, length, map, slice_index_or, All, IfOk, OnOk, [], is_none};
+ghost use Rattle.std.specs.Prelude.{◌≡◌, ℕ, ◌^◌, ◌<◌, ◌++◌, length, map};
+ghost use Rattle.std.specs.Prelude.{slice_index_or, All, IfOk, OnOk, [], is_none};
 ghost use Rattle.std.specs.Option.{option_to_list};
 ghost use Rattle.graph.specs.Edges.{ends_of, IsWithin};
 ghost use Rattle.object_inheritance.specs.Faults.{uses_unknown};

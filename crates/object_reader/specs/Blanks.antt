@@ -16,11 +16,13 @@ HasNoBlank bs = IsTrue (list_all (λ b. not (is_blank b)) bs)
 
 -- The bytes are none, or the first is no blank.
 abbrev pub BeginsTight : List ℕ → Type 0
-BeginsTight bs = (bs ≡ []) ⊎ ((first : ℕ) × (others : List ℕ) × (bs ≡ first ∷ others) × (is_blank first ≡ false))
+BeginsTight bs =
+    (bs ≡ []) ⊎ ((first : ℕ) × (others : List ℕ) × (bs ≡ first ∷ others) × (is_blank first ≡ false))
 
 -- The bytes are none, or the first and the last are no blanks.
 abbrev pub IsTight : List ℕ → Type 0
-IsTight s = (s ≡ []) ⊎ (((first : ℕ) × (others : List ℕ) × (s ≡ first ∷ others) × (is_blank first ≡ false))
+IsTight s = (s ≡ [])
+    ⊎ (((first : ℕ) × (others : List ℕ) × (s ≡ first ∷ others) × (is_blank first ≡ false))
     × ((front : List ℕ) × (last : ℕ) × (s ≡ front ++ last ∷ []) × (is_blank last ≡ false)))
 
 -- the bytes from the first on that is no blank

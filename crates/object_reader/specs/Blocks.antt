@@ -14,7 +14,8 @@ use Rattle.object_reader.specs.Joined.{JoinedLine}
 
 -- the first fault, or what comes of what was read
 infixl 10 ◌>>=◌
-abbrev pub ◌>>=◌ : {A B : Type 0} → Result A ReadFault → (A → Result B ReadFault) → Result B ReadFault
+abbrev pub ◌>>=◌ : {A B : Type 0} → Result A ReadFault → (A → Result B ReadFault)
+    → Result B ReadFault
 (Ok x) >>= f = f x
 (Err fault) >>= f = Err fault
 
@@ -25,7 +26,9 @@ at_line n (Err fault) = Err (AtLine n fault)
 
 -- a first word and the value after it
 unfoldable pub name_and_value : List ℕ → Result Directive LineFault
-name_and_value s = if length (after_word s) == 0 then Err NoValue else Ok (record { name = first_word s; value = after_word s })
+name_and_value s =
+    if length (after_word s) == 0 then Err NoValue
+    else Ok (record { name = first_word s; value = after_word s })
 
 -- a day line, with what stands before its first word with a colon; or a name and a value
 abbrev pub day_or_value : List ℕ → List ℕ → Result Directive LineFault
@@ -46,11 +49,13 @@ abbrev pub with_blocks : List Block → Result (List Block) ReadFault → Result
 with_blocks blocks read = read >>= λ others. Ok (blocks ++ others)
 
 -- directives before those of the block that are still to come
-abbrev pub with_directives : List Directive → Result (List Directive × List Block) ReadFault → Result (List Directive × List Block) ReadFault
+abbrev pub with_directives : List Directive → Result (List Directive × List Block) ReadFault
+    → Result (List Directive × List Block) ReadFault
 with_directives directives read = read >>= λ inside. Ok (directives ++ inside.0, inside.1)
 
 -- the directives of a block, and the blocks after it
-abbrev pub before_blocks : List Directive → Result (List Block) ReadFault → Result (List Directive × List Block) ReadFault
+abbrev pub before_blocks : List Directive → Result (List Block) ReadFault
+    → Result (List Directive × List Block) ReadFault
 before_blocks directives blocks = blocks >>= λ others. Ok (directives, others)
 
 unfoldable mutual
@@ -71,11 +76,13 @@ unfoldable mutual
     text ← at_line s.line s.text
     if is_close text then before_blocks [] (blocks_of ss)
         else if is_define text then Err (AtLine define Unclosed)
-        else (at_line s.line (directive_of kind text) >>= λ directive. with_directives (directive ∷ []) (block_of kind define ss))
+        else (at_line s.line (directive_of kind text) >>= λ directive. with_directives
+        (directive ∷ []) (block_of kind define ss))
 
 -- The text of an object file: at most 16,777,216 bytes, newlines counted, that are blocks.
 unfoldable pub read_text : List ℕ → Result (List Block) ReadFault
-read_text text = if nat_lt 16777216 (length text) then Err TooLarge else blocks_of (statements_of text)
+read_text text =
+    if nat_lt 16777216 (length text) then Err TooLarge else blocks_of (statements_of text)
 
 -- What a function gives is what the definition gives, unless memory ran out.
 abbrev pub Gives : {A : Type 0} → Result A ReadFault → Result A ReadFault → Type 0

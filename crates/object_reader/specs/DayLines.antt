@@ -39,7 +39,9 @@ pub record IsDayLine (s : List ℕ) (d : Directive) : Type 0 where
 
 -- what stands before the first word with a colon; nothing where none has one
 unfoldable pub day_front : List ℕ → List ℕ
-day_front s = if list_any (λ b. b == 58) s then without_end (λ b. not (is_blank b)) (before_first (λ b. b == 58) s) else []
+day_front s =
+    if list_any (λ b. b == 58) s
+    then without_end (λ b. not (is_blank b)) (before_first (λ b. b == 58) s) else []
 
 -- whether there is a first byte, and it is no blank
 abbrev pub starts_word : List ℕ → Bool
@@ -49,7 +51,8 @@ starts_word (b ∷ bs) = not (is_blank b)
 -- the words, with one space between each two
 unfoldable pub spaced : List ℕ → List ℕ
 spaced [] = []
-spaced (b ∷ bs) = if is_blank b then (if starts_word bs then 32 ∷ spaced bs else spaced bs) else b ∷ spaced bs
+spaced (b ∷ bs) =
+    if is_blank b then (if starts_word bs then 32 ∷ spaced bs else spaced bs) else b ∷ spaced bs
 
 -- the directive that a line is, where words stand in front of the first with a colon
 abbrev pub day_line : List ℕ → List ℕ → Directive

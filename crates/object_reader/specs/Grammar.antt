@@ -19,9 +19,11 @@ use Rattle.object_reader.specs.Spelling.{Says, IsDefine, IsSpelled}
 abbrev pub AreStatements : List JoinedLine → List Statement → Type 0
 AreStatements [] ss = ss ≡ []
 AreStatements (j ∷ js) ss =
-    ((f : LineFault) × (others : List Statement) × (j.text ≡ Err f) × (ss ≡ (record { line = j.line; text = Err f }) ∷ others) × AreStatements js others)
+    ((f : LineFault) × (others : List Statement) × (j.text ≡ Err f)
+    × (ss ≡ (record { line = j.line; text = Err f }) ∷ others) × AreStatements js others)
     ⊎ (((bytes : List ℕ) × (j.text ≡ Ok bytes) × Says bytes [] × AreStatements js ss)
-    ⊎ ((bytes : List ℕ) × (text : List ℕ) × (others : List Statement) × (j.text ≡ Ok bytes) × Says bytes text × (0 < length text)
+    ⊎ ((bytes : List ℕ) × (text : List ℕ) × (others : List Statement) × (j.text ≡ Ok bytes)
+    × Says bytes text × (0 < length text)
     × (ss ≡ (record { line = j.line; text = Ok text }) ∷ others) × AreStatements js others))
 
 -- The statement opens the block: it stands at the block's line, and is a define with the type of its kind.
@@ -66,7 +68,9 @@ pub record IsBlock (ss : List Statement) (b : Block) : Type 0 where
 -- The statements are those of the blocks, one block after the other, and no others.
 abbrev pub AreBlocks : List Statement → List Block → Type 0
 AreBlocks ss [] = ss ≡ []
-AreBlocks ss (b ∷ bs) = (first : List Statement) × (others : List Statement) × (ss ≡ first ++ others) × IsBlock first b × AreBlocks others bs
+AreBlocks ss (b ∷ bs) =
+    (first : List Statement) × (others : List Statement) × (ss ≡ first ++ others) × IsBlock first b
+    × AreBlocks others bs
 
 -- A directive's name and value are UTF-8, and its name isn't empty.
 pub record IsPlain (d : Directive) : Type 0 where
@@ -98,31 +102,42 @@ pub record IsObjectText (text : List ℕ) (blocks : List Block) : Type 0 where
 -- statement and some directives.
 abbrev pub IsBeginning : List Statement → Option Block → Type 0
 IsBeginning ss None = (whole : List Block) × AreBlocks ss whole
-IsBeginning ss (Some b) = (before : List Statement) × (whole : List Block) × (head : Statement) × (body : List Statement)
-    × (ss ≡ before ++ head ∷ body) × AreBlocks before whole × Opens head b × AreDirectives b.kind body b.directives
+IsBeginning ss (Some b) =
+    (before : List Statement) × (whole : List Block) × (head : Statement) × (body : List Statement)
+    × (ss ≡ before ++ head ∷ body) × AreBlocks before whole × Opens head b
+    × AreDirectives b.kind body b.directives
 
 -- The statement opens no block: its type is none of the types, or it is no define.
 abbrev pub OpensNone : List ℕ → LineFault → Type 0
-OpensNone text f = ((name : List ℕ) × IsDefine text name × (kind_of name ≡ Err f)) ⊎ (((name : List ℕ) → IsDefine text name → ⊥) × (f ≡ NotADefine))
+OpensNone text f =
+    ((name : List ℕ) × IsDefine text name × (kind_of name ≡ Err f))
+    ⊎ (((name : List ℕ) → IsDefine text name → ⊥) × (f ≡ NotADefine))
 
 -- The statement is at fault: its line is, or outside a block it opens none, or in a block it begins the next one or
 -- is no name with a value.
 abbrev pub IsFaulty : Option Block → Statement → ReadFault → Type 0
-IsFaulty None s fault = (f : LineFault) × (fault ≡ AtLine s.line f) × ((s.text ≡ Err f) ⊎ ((text : List ℕ) × (s.text ≡ Ok text) × OpensNone text f))
+IsFaulty None s fault =
+    (f : LineFault) × (fault ≡ AtLine s.line f)
+    × ((s.text ≡ Err f) ⊎ ((text : List ℕ) × (s.text ≡ Ok text) × OpensNone text f))
 IsFaulty (Some b) s fault = ((f : LineFault) × (fault ≡ AtLine s.line f) × (s.text ≡ Err f))
-    ⊎ (((text : List ℕ) × (s.text ≡ Ok text) × (is_close text ≡ false) × (is_define text ≡ true) × (fault ≡ AtLine b.line Unclosed))
+    ⊎ (((text : List ℕ) × (s.text ≡ Ok text) × (is_close text ≡ false) × (is_define text ≡ true)
+    × (fault ≡ AtLine b.line Unclosed))
     ⊎ ((text : List ℕ) × (s.text ≡ Ok text) × (is_close text ≡ false) × (is_define text ≡ false)
     × ((d : Directive) → IsSpelled b.kind text d → ⊥) × (fault ≡ AtLine s.line NoValue)))
 
 -- The first fault of the statements: everything before it is in order, and either the next statement is at fault,
 -- or a block is open at the end.
 abbrev pub IsFirstFault : List Statement → ReadFault → Type 0
-IsFirstFault ss fault = ((before : List Statement) × (s : Statement) × (after : List Statement) × (within : Option Block)
+IsFirstFault ss fault =
+    ((before : List Statement) × (s : Statement) × (after : List Statement)
+    × (within : Option Block)
     × (ss ≡ before ++ s ∷ after) × IsBeginning before within × IsFaulty within s fault)
     ⊎ ((b : Block) × IsBeginning ss (Some b) × (fault ≡ AtLine b.line Unclosed))
 
 -- The text is refused with this fault: it is too large, or it isn't and this is its first fault.
 abbrev pub IsRefused : List ℕ → ReadFault → Type 0
 IsRefused text TooLarge = 16777216 < length text
-IsRefused text (AtLine n fault) = (statements : List Statement) × (length text ≤ 16777216) × HasStatements text statements × IsFirstFault statements (AtLine n fault)
+IsRefused text (AtLine n fault) =
+    (statements : List Statement) × (length text ≤ 16777216) × HasStatements text statements
+    × IsFirstFault statements (AtLine n fault)
 IsRefused text NoMemory = ⊥

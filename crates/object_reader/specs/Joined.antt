@@ -31,7 +31,8 @@ GoesOn bs piece = (bs ≡ piece ++ 92 ∷ []) × (EndsInBackslash piece → ⊥)
 
 -- A physical line that ends its joined line: of two backslashes at its end the last goes; else it ends in none.
 abbrev pub EndsHere : List ℕ → List ℕ → Type 0
-EndsHere bs piece = ((bs ≡ piece ++ 92 ∷ []) × EndsInBackslash piece) ⊎ ((EndsInBackslash bs → ⊥) × (piece ≡ bs))
+EndsHere bs piece =
+    ((bs ≡ piece ++ 92 ∷ []) × EndsInBackslash piece) ⊎ ((EndsInBackslash bs → ⊥) × (piece ≡ bs))
 
 -- What the next lines say comes after the piece, without its leading blanks. A fault in them is that of the whole.
 abbrev pub IsPutAfter : List ℕ → Result (List ℕ) LineFault → Result (List ℕ) LineFault → Type 0
@@ -46,13 +47,15 @@ IsJoined [] rest text = ⊥
 IsJoined (l ∷ []) rest text = ((f : LineFault) × IsFaultOf l f × (text ≡ Err f))
     ⊎ (HasNoFault l × ((bytes : List ℕ) × (text ≡ Ok bytes)
     × (EndsHere (content l) bytes ⊎ (GoesOn (content l) bytes × (rest ≡ [])))))
-IsJoined (l ∷ m ∷ ls) rest text = HasNoFault l × ((piece : List ℕ) × (more : Result (List ℕ) LineFault)
+IsJoined (l ∷ m ∷ ls) rest text =
+    HasNoFault l × ((piece : List ℕ) × (more : Result (List ℕ) LineFault)
     × GoesOn (content l) piece × IsJoined (m ∷ ls) rest more × IsPutAfter piece more text)
 
 -- The physical lines, of which the first has the number n, are the joined lines, one after the other.
 abbrev pub AreJoined : ℕ → List Line → List JoinedLine → Type 0
 AreJoined n lines [] = lines ≡ []
-AreJoined n lines (j ∷ js) = (first : List Line) × (rest : List Line) × (lines ≡ first ++ rest) × (j.line ≡ n)
+AreJoined n lines (j ∷ js) =
+    (first : List Line) × (rest : List Line) × (lines ≡ first ++ rest) × (j.line ≡ n)
     × IsJoined first rest j.text × AreJoined (n + length first) rest js
 
 -- By a function.

@@ -15,11 +15,14 @@ onto_first_line b (l ∷ ls) = (record { bytes = b ∷ l.bytes; ended = l.ended 
 -- The lines of a text: each ends with a newline, and the last may lack it.
 unfoldable pub lines_of : List ℕ → List Line
 lines_of [] = []
-lines_of (b ∷ bs) = if b == 10 then (record { bytes = []; ended = true }) ∷ lines_of bs else onto_first_line b (lines_of bs)
+lines_of (b ∷ bs) =
+    if b == 10 then (record { bytes = []; ended = true }) ∷ lines_of bs
+    else onto_first_line b (lines_of bs)
 
 -- What a line holds: its bytes, without a carriage return before the newline.
 unfoldable pub content : Line → List ℕ
-content l = if l.ended && (slice_index l.bytes (length l.bytes - 1) == 13) then take (length l.bytes - 1) l.bytes else l.bytes
+content l = if l.ended && (slice_index l.bytes (length l.bytes - 1) == 13)
+    then take (length l.bytes - 1) l.bytes else l.bytes
 
 -- The text is these lines, one after the other. No line holds a newline, and one follows each; the last may lack it,
 -- and then it isn't empty.

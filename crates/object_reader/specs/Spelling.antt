@@ -38,7 +38,9 @@ pub record IsKept (bs s : List ℕ) : Type 0 where
   pub after_blank : AreBlanks after
   pub tight : IsTight core
   pub escapes : IsUnescaped core s
-  pub comment : (dropped ≡ []) ⊎ ((others : List ℕ) × (dropped ≡ 59 ∷ others) × (EndsInBackslash (before ++ (core ++ after)) → ⊥))
+  pub comment : (dropped ≡ [])
+      ⊎ ((others : List ℕ) × (dropped ≡ 59 ∷ others)
+      × (EndsInBackslash (before ++ (core ++ after)) → ⊥))
 
 -- What the bytes of a joined line say: nothing where they are a comment, and else the statement that is kept.
 abbrev pub Says : List ℕ → List ℕ → Type 0

@@ -49,8 +49,10 @@ after_word s = trim_start (drop (length (first_word s)) s)
 
 -- the types of object text, and the kinds that they mean (chapter "Object Definitions")
 abbrev pub types : List (List ℕ × BlockKind)
-types = (codes "host", Host) ∷ (codes "hostgroup", HostGroup) ∷ (codes "service", Service) ∷ (codes "servicegroup", ServiceGroup)
-    ∷ (codes "contact", Contact) ∷ (codes "contactgroup", ContactGroup) ∷ (codes "timeperiod", TimePeriod) ∷ (codes "command", Command)
+types = (codes "host", Host) ∷ (codes "hostgroup", HostGroup) ∷ (codes "service", Service)
+    ∷ (codes "servicegroup", ServiceGroup)
+    ∷ (codes "contact", Contact) ∷ (codes "contactgroup", ContactGroup)
+    ∷ (codes "timeperiod", TimePeriod) ∷ (codes "command", Command)
     ∷ (codes "hostescalation", HostEscalation) ∷ (codes "serviceescalation", ServiceEscalation)
     ∷ (codes "hostdependency", HostDependency) ∷ (codes "servicedependency", ServiceDependency)
     ∷ (codes "hostextinfo", HostExtInfo) ∷ (codes "serviceextinfo", ServiceExtInfo) ∷ []
@@ -71,7 +73,8 @@ ends_type b = is_blank b || b == 123
 -- A block is opened by `define`, blanks, a type, blanks or none, and {.
 unfoldable pub opened : List ℕ → Result BlockKind LineFault
 opened s = let rest = after_word s in let name = before_first ends_type rest in
-    if bytes_eq (first_word s) (codes "define") && not (length name == 0) && bytes_eq (trim_start (drop (length name) rest)) (codes "{")
+    if bytes_eq (first_word s) (codes "define") && not (length name == 0)
+    && bytes_eq (trim_start (drop (length name) rest)) (codes "{")
     then kind_of name else Err NotADefine
 
 -- A block is closed by } alone.

@@ -1,11 +1,13 @@
 //! The joined lines of a text: a line that ends in a backslash goes on in the next (chapter "Object
 //! Configuration Overview").
 
-ghost use Rattle.std.specs.Prelude.{◌≡◌, ◌∷◌, [], true, length, ◌≤◌, Ok, Err, IfOk, IfSome, MatchResult, MatchOption};
+ghost use Rattle.std.specs.Prelude.{◌≡◌, ◌∷◌, [], true, length, ◌≤◌, Ok, Err, IfOk};
+ghost use Rattle.std.specs.Prelude.{IfSome, MatchResult, MatchOption};
 ghost use Rattle.std.specs.Cow.{cow_slice_items};
 ghost use Rattle.std.specs.Str.{is_utf8};
 ghost use Rattle.object_reader.specs.Blocks.{BreaksFirst};
-ghost use Rattle.object_reader.specs.Joined.{JoinedLine, Piece, ends_in_backslash, piece_of, line_piece, onto_first, joined_from};
+ghost use Rattle.object_reader.specs.Joined.{JoinedLine, Piece, ends_in_backslash, piece_of, line_piece};
+ghost use Rattle.object_reader.specs.Joined.{onto_first, joined_from};
 ghost use Rattle.object_reader.specs.Lines.{Line, lines_of, HasNoSemicolon};
 
 use crate::blanks::trim_start;

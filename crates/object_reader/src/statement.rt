@@ -6,7 +6,9 @@ ghost use Rattle.std.specs.List.{position};
 ghost use Rattle.std.specs.Str.{bytes_eq};
 ghost use Rattle.object_reader.specs.Blanks.{is_blank};
 ghost use Rattle.object_reader.specs.Lines.{HasNoSemicolon};
-ghost use Rattle.object_reader.specs.Statements.{starts_comment, starts_semicolon, bare_from, unescaped, statement, is_define, is_close, kind_of, ends_type, opened};
+ghost use Rattle.object_reader.specs.Statements.{starts_comment, starts_semicolon, bare_from, unescaped};
+ghost use Rattle.object_reader.specs.Statements.{statement, is_define, is_close, kind_of, ends_type};
+ghost use Rattle.object_reader.specs.Statements.{opened};
 
 use crate::blanks::{is_blank, trim, trim_end, trim_start};
 use crate::block::BlockKind;

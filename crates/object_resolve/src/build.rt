@@ -1,12 +1,14 @@
 //! The hosts, contacts and lanes of blocks that have no fault.
 
-ghost use Rattle.std.specs.Prelude.{◌≡◌, ◌≤◌, ◌<◌, ◌++◌, All, IfSome, OnOk, length, map, filter, position, vec_len, IfOk, IsTrue, is_some};
+ghost use Rattle.std.specs.Prelude.{◌≡◌, ◌≤◌, ◌<◌, ◌++◌, All, IfSome, OnOk, length};
+ghost use Rattle.std.specs.Prelude.{map, filter, position, vec_len, IfOk, IsTrue, is_some};
 ghost use Rattle.std.specs.List.{AllZip, filter_map};
 ghost use Rattle.std.specs.Option.{option_to_list};
 ghost use Rattle.std.specs.Str.{bytes_eq};
 ghost use Rattle.due_model.specs.Limits.{max_contacts, max_lanes};
 ghost use Rattle.object_values.specs.Blocks.{contacts_in, hosts_in, interval_in, name_of};
-ghost use Rattle.object_resolve.specs.Build.{AreRightsOf, AreSetOf, IsContactOf, IsHostOf, contacts_named, lane_named, lanes_named};
+ghost use Rattle.object_resolve.specs.Build.{AreRightsOf, AreSetOf, IsContactOf, IsHostOf, contacts_named};
+ghost use Rattle.object_resolve.specs.Build.{lane_named, lanes_named};
 ghost use Rattle.object_resolve.specs.Limits.{is_used};
 ghost use Rattle.object_resolve.specs.Resolve.{HaveValues};
 ghost use Rattle.object_values.specs.Values.{entries_of, texts, value_in};

@@ -1,11 +1,13 @@
 //! The commands that are lanes, and the limits of a configuration.
 
-ghost use Rattle.std.specs.Prelude.{◌≡◌, ℕ, List, ◌||◌, ◌+◌, ◌≤◌, ◌<◌, length, filter, is_some, IfErr, IfOk, IfSome, OnOk, if◌then◌else◌};
+ghost use Rattle.std.specs.Prelude.{◌≡◌, ℕ, List, ◌||◌, ◌+◌, ◌≤◌, ◌<◌, length};
+ghost use Rattle.std.specs.Prelude.{filter, is_some, IfErr, IfOk, IfSome, OnOk, if◌then◌else◌};
 ghost use Rattle.std.specs.List.{list_any};
 ghost use Rattle.std.specs.Str.{bytes_eq};
 ghost use Rattle.object_values.specs.Blocks.{is_contact, is_host};
 ghost use Rattle.object_resolve.specs.Fault.{IsAmong, IsAt, IsFirstOf};
-ghost use Rattle.object_resolve.specs.Limits.{AreFew, AreUsed, AreWithin, IsWithinLimits, is_over, is_used, limit_fault, uses};
+ghost use Rattle.object_resolve.specs.Limits.{AreFew, AreUsed, AreWithin, IsWithinLimits, is_over, is_used};
+ghost use Rattle.object_resolve.specs.Limits.{limit_fault, uses};
 ghost use Rattle.object_resolve.specs.Resolve.{IsOver};
 
 use crate::fault::{LoadFault, of_block};

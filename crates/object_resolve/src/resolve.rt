@@ -6,7 +6,8 @@ ghost use Rattle.object_resolve.specs.Build.{IsConfigOf};
 ghost use Rattle.object_resolve.specs.Fault.{IsAmong, IsAt};
 ghost use Rattle.object_resolve.specs.Limits.{AreUsed, AreWithin, lanes_in};
 ghost use Rattle.object_resolve.specs.Tables.{AreNamed};
-ghost use Rattle.object_resolve.specs.Resolve.{AreRead, HaveValues, IsMisvalued, IsRefusal, IsResolved, IsUnread};
+ghost use Rattle.object_resolve.specs.Resolve.{AreRead, HaveValues, IsMisvalued, IsRefusal, IsResolved};
+ghost use Rattle.object_resolve.specs.Resolve.{IsUnread};
 
 use crate::build::{contacts_of, hosts_of, lanes_of};
 use crate::fault::{LoadFault, of_block};

@@ -5,7 +5,8 @@ ghost use Rattle.std.specs.List.{list_any};
 ghost use Rattle.object_values.specs.Blocks.{contact_names};
 ghost use Rattle.object_resolve.specs.Fault.{IsAmong};
 ghost use Rattle.object_resolve.specs.Resolve.{IsMisnamed};
-ghost use Rattle.object_resolve.specs.Tables.{AreNamed, HoldNames, fault_by, has_name, has_unknown, is_known, with_block};
+ghost use Rattle.object_resolve.specs.Tables.{AreNamed, HoldNames, fault_by, has_name, has_unknown};
+ghost use Rattle.object_resolve.specs.Tables.{is_known, with_block};
 ghost use Rattle.object_values.specs.Values.{texts};
 
 use crate::fault::{LoadFault, of_block};

@@ -3,7 +3,9 @@
 ghost use Rattle.std.specs.Prelude.{◌≡◌, ◌++◌, codes, IfOk};
 ghost use Rattle.std.specs.List.{list_any};
 ghost use Rattle.std.specs.Str.{bytes_eq};
-ghost use Rattle.object_values.specs.Blocks.{entries_read, has_bad_interval, has_later_parts, interval_in, is_later_entry, is_later_kind, is_of, later_names, means_nothing, name_of, name_directive, value_fault};
+ghost use Rattle.object_values.specs.Blocks.{entries_read, has_bad_interval, has_later_parts, interval_in};
+ghost use Rattle.object_values.specs.Blocks.{is_later_entry, is_later_kind, is_of, later_names};
+ghost use Rattle.object_values.specs.Blocks.{means_nothing, name_of, name_directive, value_fault};
 ghost use Rattle.object_values.specs.Values.{texts};
 
 use crate::fault::BlockFault;

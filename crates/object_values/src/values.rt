@@ -1,12 +1,14 @@
 //! What the directives of a block say (chapter "Object Definitions").
 
-ghost use Rattle.std.specs.Prelude.{◌≡◌, ◌++◌, ◌+◌, ◌∷◌, [], OnOk, ◌≤◌, ◌==◌, ◌&&◌, not, min, length, map, take_while, IfOk, if◌then◌else◌};
+ghost use Rattle.std.specs.Prelude.{◌≡◌, ◌++◌, ◌+◌, ◌∷◌, [], OnOk, ◌≤◌, ◌==◌};
+ghost use Rattle.std.specs.Prelude.{◌&&◌, not, min, length, map, take_while, IfOk, if◌then◌else◌};
 ghost use Rattle.std.specs.Char.{is_ascii_digit};
 ghost use Rattle.std.specs.List.{before_first, list_all, list_any, position};
 ghost use Rattle.std.specs.Option.{option_copied};
 ghost use Rattle.std.specs.Str.{bytes_eq};
 ghost use Rattle.due_model.specs.Limits.{max_number};
-ghost use Rattle.object_values.specs.Values.{command_name, entries, entries_of, is_comma, texts, number_in, number_of, value_in};
+ghost use Rattle.object_values.specs.Values.{command_name, entries, entries_of, is_comma, texts, number_in};
+ghost use Rattle.object_values.specs.Values.{number_of, value_in};
 
 use due_model::limits::MAX_NUMBER;
 use object_reader::blanks::trim;

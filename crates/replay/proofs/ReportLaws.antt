@@ -8,7 +8,7 @@ use Rattle.due_model.specs.declared.event.Event.{Event}
 use Rattle.due_model.specs.declared.zone.Zone.{Zone}
 use Rattle.event_feed.specs.declared.fault.FeedFault.{FeedFault}
 use Rattle.event_feed.specs.declared.fault.FeedFault.TheVariants.{Cut, Ended, Read}
-use Rattle.event_feed.specs.declared.fault.LineFault.{LineFault}
+use Rattle.event_feed.specs.declared.fault.RefusedLine.{RefusedLine}
 use Rattle.text_lines.specs.declared.line_reader.Stop.{Stop}
 use Rattle.text_lines.specs.declared.line_reader.Stop.TheVariants.{InputEnded, CutLine, ReaderFailed, TooManyCalls, TooManyBytes, TooManyLines}
 use Rattle.event_feed.specs.Fault.{is_line_fault, stop_fault}
@@ -67,7 +67,7 @@ pub event_passes : (c : Config) (old : Feed) (event : Event) (new : Feed) → Gi
 event_passes c old event new gives =
     known_weaker old.bytes new.bytes _ _ gives.place (λ xs ys h. passed old.line (pieces xs) new.line new.text (pieces ys) h.0)
 
-pub fault_passes : (objects : List Object) (old : Feed) (fault : LineFault) (new : Feed) → new.stop ≡ None → GivesFault objects old fault new → PassesLines old new
+pub fault_passes : (objects : List Object) (old : Feed) (fault : RefusedLine) (new : Feed) → new.stop ≡ None → GivesFault objects old fault new → PassesLines old new
 fault_passes objects old fault new e gives =
     let place : FaultComesTo objects old fault None new = subst (λ s. FaultComesTo objects old fault s new) e gives.place in
     known_weaker old.bytes new.bytes _ _ place
@@ -97,7 +97,7 @@ pub none_given : (can_fail : Bool) (objects : List Object) (old new : Feed) → 
 none_given can_fail objects old new h = none_by can_fail objects old old.bytes new.bytes h
 
 -- Cut and Read come with a stop
-short_by : (fault : LineFault) (stop : Stop) → stop_fault stop ≡ Some fault.fault → is_short (Err fault.fault) ≡ true
+short_by : (fault : RefusedLine) (stop : Stop) → stop_fault stop ≡ Some fault.fault → is_short (Err fault.fault) ≡ true
 short_by fault InputEnded e = absurd (cc)
 short_by fault CutLine e = let same : Cut ≡ fault.fault = cc in ap (λ f. not (is_line_fault f)) (sym same)
 short_by fault ReaderFailed e = let same : Read ≡ fault.fault = cc in ap (λ f. not (is_line_fault f)) (sym same)
@@ -106,13 +106,13 @@ short_by fault TooManyBytes e = let same : Read ≡ fault.fault = cc in ap (λ f
 short_by fault TooManyLines e = let same : Read ≡ fault.fault = cc in ap (λ f. not (is_line_fault f)) (sym same)
 
 -- the refusal of a line that ends the feed
-pub fault_last : (can_fail : Bool) (objects : List Object) (old new : Feed) (fault : LineFault) (stop : Stop) → new.stop ≡ Some stop → GivesFault objects old fault new
+pub fault_last : (can_fail : Bool) (objects : List Object) (old new : Feed) (fault : RefusedLine) (stop : Stop) → new.stop ≡ Some stop → GivesFault objects old fault new
     → (IsSome new.stop → AreGivenBy can_fail objects old (refusal fault ∷ [])) → AreGivenBy can_fail objects old (refusal fault ∷ []) × (is_short (Err fault.fault) ≡ true)
 fault_last can_fail objects old new fault stop e h last =
     (last (rw e refl), short_by fault stop (subst (λ s. FaultFits fault.fault s) e h.fits))
 
 -- a line that is read over
-pub fault_next : (objects : List Object) (old new : Feed) (fault : LineFault) → new.stop ≡ None → GivesFault objects old fault new
+pub fault_next : (objects : List Object) (old new : Feed) (fault : RefusedLine) → new.stop ≡ None → GivesFault objects old fault new
     → AnswersNext objects old (refusal fault) new × (is_short (Err fault.fault) ≡ false)
 fault_next objects old new fault e h =
     (subst (λ s. FaultAnswers objects old fault s new) e h.answers, ap not (line_fault (subst (λ s. FaultFits fault.fault s) e h.fits)))
@@ -121,7 +121,7 @@ fault_next objects old new fault e h =
     line_fault h = h
 
 -- either way it is the next that is given
-pub fault_given : (can_fail : Bool) (objects : List Object) (old new : Feed) (fault : LineFault) → GivesFault objects old fault new
+pub fault_given : (can_fail : Bool) (objects : List Object) (old new : Feed) (fault : RefusedLine) → GivesFault objects old fault new
     → (IsSome new.stop → AreGivenBy can_fail objects old (refusal fault ∷ [])) → (more : List Answer) × AreGivenBy can_fail objects old (refusal fault ∷ more)
 fault_given can_fail objects old new fault h last = by_stop new.stop refl
   where
@@ -130,7 +130,7 @@ fault_given can_fail objects old new fault h last = by_stop new.stop refl
     by_stop (Some stop) e = ([], last (rw e refl))
 
 -- a line of the feed whose refusal is an answer, and the feed goes on
-pub fault_taken : (objects : List Object) (past : List Event) (old new : Feed) (fault : LineFault) → new.stop ≡ None → GivesFault objects old fault new
+pub fault_taken : (objects : List Object) (past : List Event) (old new : Feed) (fault : RefusedLine) → new.stop ≡ None → GivesFault objects old fault new
     → TakesAnswer objects past old (refusal fault) new
 fault_taken objects past old new fault e h = record {
   next = (fault_next objects old new fault e h).0;
@@ -171,10 +171,10 @@ pub short_at_end : (past : List Event) (answer : Answer) (more : List Answer) �
 short_at_end past answer more h =
     sym (ap (λ b. cond (b || is_short answer.given || ends_short (past_after past answer.given) more) Short Whole) h)
 
-pub short_at_refusal : (past : List Event) (fault : LineFault) → is_short (Err fault.fault) ≡ true → Short ≡ ending_after past (refusal fault ∷ [])
+pub short_at_refusal : (past : List Event) (fault : RefusedLine) → is_short (Err fault.fault) ≡ true → Short ≡ ending_after past (refusal fault ∷ [])
 short_at_refusal past fault h = sym (ap (λ b. cond (false || b || false) Short Whole) h)
 
-pub report_of_refusal : (c : Config) (zone : Zone) (past : List Event) (fault : LineFault) → refused_line fault.line fault.fault ≡ report_from c zone past (refusal fault ∷ [])
+pub report_of_refusal : (c : Config) (zone : Zone) (past : List Event) (fault : RefusedLine) → refused_line fault.line fault.fault ≡ report_from c zone past (refusal fault ∷ [])
 report_of_refusal c zone past fault = sym (append-nil (refused_line fault.line fault.fault))
 
 -- ---- from line to line

@@ -19,7 +19,8 @@ AreOfFeed can_fail config feed given =
     AreGiven can_fail given (answers config.objects 0 0 (pieces feed)) 0 (pieces feed)
 
 -- What was written is the report of the feed for the configuration of the object text, and the reading ended so.
-abbrev pub Reports : (can_fail : Bool) → List ℕ → Zone → Ending → (old new : Option (List ℕ)) → Type 0
+abbrev pub Reports : (can_fail : Bool) → List ℕ → Zone → Ending → (old new : Option (List ℕ))
+    → Type 0
 Reports can_fail bytes zone ending old new =
     (config : Config) × (given : List Answer) × IsTextOf config (objects_in bytes)
     × AreOfFeed can_fail config (feed_in bytes) given × (ending ≡ ending_after [] given)
@@ -29,12 +30,16 @@ Reports can_fail bytes zone ending old new =
 abbrev pub ReportsFront : (can_fail : Bool) → List ℕ → Zone → (old new : Option (List ℕ)) → Type 0
 ReportsFront can_fail bytes zone old new =
     (config : Config) × (given : List Answer) × IsTextOf config (objects_in bytes)
-    × AreOfFeed can_fail config (feed_in bytes) given × WritesFront old new (report_text config zone given)
+    × AreOfFeed can_fail config (feed_in bytes) given
+    × WritesFront old new (report_text config zone given)
 
 -- What a fault says. Where the object text is refused or can't be read nothing was written; where the output failed a
 -- front of the report, and where memory ran out that, or nothing. Only a reader that can fail makes the text unreadable.
-abbrev pub FailsWith : (can_fail : Bool) → List ℕ → Zone → CommandFault → (old new : Option (List ℕ)) → Type 0
-FailsWith can_fail bytes zone (Objects fault) old new = IsTextFault (objects_in bytes) fault × Keeps old new
+abbrev pub FailsWith : (can_fail : Bool) → List ℕ → Zone → CommandFault
+    → (old new : Option (List ℕ)) → Type 0
+FailsWith can_fail bytes zone (Objects fault) old new =
+    IsTextFault (objects_in bytes) fault × Keeps old new
 FailsWith can_fail bytes zone Unreadable old new = Keeps old new × (can_fail ≡ true)
 FailsWith can_fail bytes zone Output old new = ReportsFront can_fail bytes zone old new
-FailsWith can_fail bytes zone NoMemory old new = Keeps old new ⊎ ReportsFront can_fail bytes zone old new
+FailsWith can_fail bytes zone NoMemory old new =
+    Keeps old new ⊎ ReportsFront can_fail bytes zone old new

@@ -72,7 +72,8 @@ abbrev pub report_from : Config → Zone → List Event → List Answer → List
 report_from c zone past [] = []
 report_from c zone past (answer ∷ answers) =
     answer_text c zone past answer
-    ++ (if is_ended past answer.given then [] else report_from c zone (past_after past answer.given) answers)
+    ++ (if is_ended past answer.given then []
+    else report_from c zone (past_after past answer.given) answers)
 
 -- the report of a feed from its beginning
 abbrev pub report_text : Config → Zone → List Answer → List ℕ
@@ -84,7 +85,8 @@ report_text c zone answers = report_from c zone [] answers
 abbrev pub ends_short : List Event → List Answer → Bool
 ends_short past [] = false
 ends_short past (answer ∷ answers) =
-    is_ended past answer.given || is_short answer.given || ends_short (past_after past answer.given) answers
+    is_ended past answer.given || is_short answer.given
+    || ends_short (past_after past answer.given) answers
 
 -- how the reading of a feed ends, after a past
 abbrev pub ending_after : List Event → List Answer → Ending
@@ -98,7 +100,8 @@ PassesLines old new = Known old.bytes new.bytes (λ bytes rest. (before : List (
     × (pieces bytes ≡ before ++ pieces rest) × (new.line ≡ old.line + length before))
 
 -- A line of the feed was read whose answer doesn't end the report, and the feed goes on after it.
-pub record TakesAnswer (objects : List Object) (past : List Event) (old : Feed) (answer : Answer) (new : Feed) : Type 0 where
+pub record TakesAnswer (objects : List Object) (past : List Event) (old : Feed) (answer : Answer)
+    (new : Feed) : Type 0 where
   pub next : AnswersNext objects old answer new
   pub line : old.line < new.line
   pub number : answer.line ≡ new.line
@@ -109,42 +112,56 @@ pub record TakesAnswer (objects : List Object) (past : List Event) (old : Feed) 
 
 -- Of a feed's answers these came first; the past is theirs, the text is what they add to a report, and the feed goes on
 -- after them.
-pub record Follows (c : Config) (zone : Zone) (start : Feed) (given : List Answer) (text : List ℕ) (past : List Event) (now : Feed) : Type 0 where
-  pub answers : Known start.bytes now.bytes (λ bytes rest. answers_from c.objects start bytes ≡ given ++ answers_from c.objects now rest)
+pub record Follows (c : Config) (zone : Zone) (start : Feed) (given : List Answer) (text : List ℕ)
+    (past : List Event) (now : Feed) : Type 0 where
+  pub answers : Known start.bytes now.bytes
+      (λ bytes rest. answers_from c.objects start bytes ≡ given ++ answers_from c.objects now rest)
   pub line : start.line ≤ now.line
   pub earlier : All (λ answer. answer.line ≤ now.line) given
   pub lines : PassesLines start now
-  pub report : (others : List Answer) → report_text c zone (given ++ others) ≡ text ++ report_from c zone past others
+  pub report : (others : List Answer)
+      → report_text c zone (given ++ others) ≡ text ++ report_from c zone past others
   pub ending : (others : List Answer) → ending_after [] (given ++ others) ≡ ending_after past others
   pub goes_on : now.stop ≡ None
 
 -- ---- what the making of a report does
 
 -- For a decider that fits a past: the next line of the feed was read, and the lines of its answer were made.
-pub record GoesOn (c : Config) (zone : Zone) (old : Kept) (feed : Feed) (before : Option (List ℕ)) (held : List ℕ)
+pub record GoesOn (c : Config) (zone : Zone) (old : Kept) (feed : Feed) (before : Option (List ℕ))
+    (held : List ℕ)
     (new : Kept) (feed' : Feed) (after : Option (List ℕ)) (held' : List ℕ) : Type 0 where
-  pub each : (past : List Event) → Fits old past → (answer : Answer) × TakesAnswer c.objects past feed answer feed'
+  pub each : (past : List Event) → Fits old past
+      → (answer : Answer) × TakesAnswer c.objects past feed answer feed'
       × Fits new (past_after past answer.given)
       × Leaves before after (held ++ answer_text c zone past answer) held'
 
 -- the feed ended, and the lines of its last answer, if it had one, were made
-pub record Ends (can_fail : Bool) (c : Config) (zone : Zone) (old : Kept) (feed : Feed) (before : Option (List ℕ)) (held : List ℕ)
+pub record Ends (can_fail : Bool) (c : Config) (zone : Zone) (old : Kept) (feed : Feed)
+    (before : Option (List ℕ)) (held : List ℕ)
     (ending : Ending) (after : Option (List ℕ)) (held' : List ℕ) : Type 0 where
-  pub each : (past : List Event) → Fits old past → (given : List Answer) × AreGivenBy can_fail c.objects feed given
-      × (ending ≡ ending_after past given) × Leaves before after (held ++ report_from c zone past given) held'
+  pub each : (past : List Event) → Fits old past
+      → (given : List Answer) × AreGivenBy can_fail c.objects feed given
+      × (ending ≡ ending_after past given)
+      × Leaves before after (held ++ report_from c zone past given) held'
 
 -- a front of the lines of the next answer was written
-pub record WritesPart (can_fail : Bool) (c : Config) (zone : Zone) (old : Kept) (feed : Feed) (before : Option (List ℕ)) (held : List ℕ)
+pub record WritesPart (can_fail : Bool) (c : Config) (zone : Zone) (old : Kept) (feed : Feed)
+    (before : Option (List ℕ)) (held : List ℕ)
     (after : Option (List ℕ)) : Type 0 where
-  pub each : (past : List Event) → Fits old past → (given : List Answer) × AreGivenBy can_fail c.objects feed given
+  pub each : (past : List Event) → Fits old past
+      → (given : List Answer) × AreGivenBy can_fail c.objects feed given
       × WritesFront before after (held ++ report_from c zone past given)
 
 -- the report of a feed was written, and it ended so
-abbrev pub WritesReport : (can_fail : Bool) → Config → Zone → Feed → Ending → (before after : Option (List ℕ)) → Type 0
-WritesReport can_fail c zone feed ending before after = (given : List Answer) × AreGivenBy can_fail c.objects feed given
+abbrev pub WritesReport : (can_fail : Bool) → Config → Zone → Feed → Ending
+    → (before after : Option (List ℕ)) → Type 0
+WritesReport can_fail c zone feed ending before after =
+    (given : List Answer) × AreGivenBy can_fail c.objects feed given
     × (ending ≡ ending_after [] given) × Writes before after (report_text c zone given)
 
 -- a front of it was written
-abbrev pub WritesReportFront : (can_fail : Bool) → Config → Zone → Feed → (before after : Option (List ℕ)) → Type 0
-WritesReportFront can_fail c zone feed before after = (given : List Answer) × AreGivenBy can_fail c.objects feed given
+abbrev pub WritesReportFront : (can_fail : Bool) → Config → Zone → Feed
+    → (before after : Option (List ℕ)) → Type 0
+WritesReportFront can_fail c zone feed before after =
+    (given : List Answer) × AreGivenBy can_fail c.objects feed given
     × WritesFront before after (report_text c zone given)

@@ -29,7 +29,8 @@ pub fn replay<R: Input + Drop, W: Write>(
         Reports R.can_fail bytes Zone.Utc ending (W.contents writer.old) (W.contents writer.new))) }
     // A fault says what was wrong, and what was written.
     ensures fault { IfSome (R.remaining reader) (λ bytes. IfErr result (λ fault.
-        FailsWith R.can_fail bytes Zone.Utc fault (W.contents writer.old) (W.contents writer.new))) }
+        FailsWith R.can_fail bytes Zone.Utc fault
+        (W.contents writer.old) (W.contents writer.new))) }
 {
     let zone = Zone::Utc;
     replay_in(alloc, &zone, reader, writer)
@@ -45,7 +46,8 @@ pub fn replay_in<R: Input + Drop, W: Write>(
     ensures report { IfSome (R.remaining reader) (λ bytes. IfOk result (λ ending.
         Reports R.can_fail bytes zone.now ending (W.contents writer.old) (W.contents writer.new))) }
     ensures fault { IfSome (R.remaining reader) (λ bytes. IfErr result (λ fault.
-        FailsWith R.can_fail bytes zone.now fault (W.contents writer.old) (W.contents writer.new))) }
+        FailsWith R.can_fail bytes zone.now fault
+        (W.contents writer.old) (W.contents writer.new))) }
 {
     let mut lines = LineReader::new(alloc, reader)?;
     let config = read_objects(alloc, &mut lines)?;

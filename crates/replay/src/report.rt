@@ -1,6 +1,7 @@
 //! The report of a feed, line by line as it comes.
 
-ghost use Rattle.std.specs.Prelude.{◌≡◌, ◌+◌, ◌<◌, ◌≤◌, ◌∷◌, ◌++◌, [], List, false, true, IfErr, IfNone, IfOk, IfSome, None, Ok, OnOk};
+ghost use Rattle.std.specs.Prelude.{◌≡◌, ◌+◌, ◌<◌, ◌≤◌, ◌∷◌, ◌++◌, [], List};
+ghost use Rattle.std.specs.Prelude.{false, true, IfErr, IfNone, IfOk, IfSome, None, Ok, OnOk};
 ghost use Rattle.command_output.specs.Outcome.{IsWriteFault};
 ghost use Rattle.command_output.specs.Output.{Leaves, WritesFront};
 ghost use Rattle.command_output.specs.ReportLine.{refused_line};
@@ -11,7 +12,8 @@ ghost use Rattle.due_model.specs.Covered.{IsCovered, IsSupported};
 ghost use Rattle.due_model.specs.Proper.{IsProper};
 ghost use Rattle.due_model.specs.declared.event.Event.{Event};
 ghost use Rattle.event_feed.specs.Feed.{feed_limit, feed_of};
-ghost use Rattle.replay.specs.Report.{Ends, GoesOn, WritesPart, WritesReport, WritesReportFront, answer_text, entries_text, is_ended, line_of, whole_share};
+ghost use Rattle.replay.specs.Report.{Ends, GoesOn, WritesPart, WritesReport, WritesReportFront};
+ghost use Rattle.replay.specs.Report.{answer_text, entries_text, is_ended, line_of, whole_share};
 ghost use Rattle.text_lines.specs.Lines.{has_line};
 
 use command_output::{CommandFault, Ending, Lines, OutputLine};

@@ -1,9 +1,11 @@
 //! The filters of an object and of a contact, tried in their order (chapter "Notifications", "What Filters
 //! Must Be Passed In Order For Notifications To Be Sent?").
 
-ghost use Rattle.std.specs.Prelude.{◌≡◌, ◌<◌, ◌≤◌, ◌^◌, length, reverse, None, All, IfSome, option_map};
+ghost use Rattle.std.specs.Prelude.{◌≡◌, ◌<◌, ◌≤◌, ◌^◌, length, reverse, None, All};
+ghost use Rattle.std.specs.Prelude.{IfSome, option_map};
 ghost use Rattle.due_model.specs.Limits.{last_moment, max_number};
-ghost use Rattle.due_model.specs.Rules.{is_problem, is_recovery, is_of_downtime, is_of_problem, failing, contact_failing};
+ghost use Rattle.due_model.specs.Rules.{is_problem, is_recovery, is_of_downtime, is_of_problem, failing};
+ghost use Rattle.due_model.specs.Rules.{contact_failing};
 ghost use Rattle.slow_rules.specs.Histories.{IsLastInRange};
 
 use crate::periods::in_period;

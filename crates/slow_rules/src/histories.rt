@@ -1,9 +1,11 @@
 //! What the outcomes so far say of the object's problem, read by going over all of them.
 
-ghost use Rattle.std.specs.Prelude.{◌≡◌, ◌<◌, ◌≤◌, ◌^◌, length, reverse, None, All, IfSome, option_map, count_by, is_some, List, ◌∷◌};
+ghost use Rattle.std.specs.Prelude.{◌≡◌, ◌<◌, ◌≤◌, ◌^◌, length, reverse, None, All};
+ghost use Rattle.std.specs.Prelude.{IfSome, option_map, count_by, is_some, List, ◌∷◌};
 ghost use Rattle.due_model.specs.Limits.{last_moment, max_number};
 ghost use Rattle.due_model.specs.declared.notice.Outcome.{Outcome};
-ghost use Rattle.due_model.specs.Histories.{before, of_problem, notice_of, notices_sent, last_notice, after_last, retry_after, ready};
+ghost use Rattle.due_model.specs.Histories.{before, of_problem, notice_of, notices_sent, last_notice};
+ghost use Rattle.due_model.specs.Histories.{after_last, retry_after, ready};
 ghost use Rattle.due_model.specs.Periods.{next_in};
 ghost use Rattle.slow_rules.specs.Histories.{longest_gap, IsInRange, IsLastInRange};
 

@@ -1,6 +1,7 @@
 //! The notices and the suppressions that an outcome adds.
 
-ghost use Rattle.std.specs.Prelude.{◌≡◌, ◌≤◌, ◌++◌, [], IfOk, OnOk, length, map, None, flat_map};
+ghost use Rattle.std.specs.Prelude.{◌≡◌, ◌≤◌, ◌++◌, [], IfOk, OnOk, length, map, None};
+ghost use Rattle.std.specs.Prelude.{flat_map};
 ghost use Rattle.due_model.specs.Covered.{IsCovered};
 ghost use Rattle.due_model.specs.Due.{receivers, rights_for, notice_to, refusal_of, notices, suppressions};
 ghost use Rattle.due_model.specs.Escalations.{contacts_with, has_contact};

@@ -1,6 +1,7 @@
 //! What becomes of an object at an event: what is attempted, and the first filter that stops it.
 
-ghost use Rattle.std.specs.Prelude.{◌≡◌, ◌≤◌, ◌<◌, ◌+◌, ◌^◌, [], ◌∷◌, All, IfSome, length, reverse, None};
+ghost use Rattle.std.specs.Prelude.{◌≡◌, ◌≤◌, ◌<◌, ◌+◌, ◌^◌, [], ◌∷◌, All};
+ghost use Rattle.std.specs.Prelude.{IfSome, length, reverse, None};
 ghost use Rattle.due_model.specs.Accepted.{ObjectFits};
 ghost use Rattle.due_model.specs.Limits.{last_moment, max_number};
 ghost use Rattle.due_model.specs.Covered.{IsCovered, IsPlainEvent, IsPlainObject};

@@ -1,7 +1,8 @@
 //! The suppressions that were noted, in order: a list whose room can be made beforehand.
 #![tactic(auto)]
 
-ghost use Rattle.std.specs.Prelude.{◌≡◌, ◌+◌, ◌<◌, ◌≤◌, [], ◌∷◌, ◌++◌, IsOk, OnOk, OnErr};
+ghost use Rattle.std.specs.Prelude.{◌≡◌, ◌+◌, ◌<◌, ◌≤◌, [], ◌∷◌, ◌++◌, IsOk};
+ghost use Rattle.std.specs.Prelude.{OnOk, OnErr};
 
 use due_model::notice::Suppression;
 use std::alloc::{AllocError, Global};

@@ -34,7 +34,8 @@ call_limit = 65_536
 -- the bytes begin with so many that have no newline among them
 abbrev pub BeginsUnbroken : List ℕ → ℕ → Type 0
 BeginsUnbroken bytes count =
-    (text : List ℕ) × (more : List ℕ) × IsUnbroken text × (bytes ≡ text ++ more) × (count ≤ length text)
+    (text : List ℕ) × (more : List ℕ) × IsUnbroken text × (bytes ≡ text ++ more)
+    × (count ≤ length text)
 
 -- of a line that the end of the input cut: its text, or nothing where it has too many bytes
 abbrev pub cut_text : (count : ℕ) → List ℕ → List ℕ
@@ -44,18 +45,22 @@ cut_text count text = if nat_lt line_limit count then [] else text
 abbrev pub ReadsFrom : List ℕ → NextLine → List ℕ → List ℕ → Type 0
 ReadsFrom bytes Line line rest = BeginsWithLine bytes line rest × (length line ≤ line_limit)
 ReadsFrom bytes Long line rest =
-    (text : List ℕ) × BeginsWithLine bytes text rest × (line_limit < length text) × (length text ≤ byte_limit)
+    (text : List ℕ) × BeginsWithLine bytes text rest × (line_limit < length text)
+    × (length text ≤ byte_limit)
 ReadsFrom bytes (Over CutLine) line rest =
-    IsUnbroken bytes × (0 < length bytes) × (length bytes ≤ byte_limit) × (line ≡ cut_text (length bytes) bytes)
+    IsUnbroken bytes × (0 < length bytes) × (length bytes ≤ byte_limit)
+    × (line ≡ cut_text (length bytes) bytes)
 ReadsFrom bytes (Over InputEnded) line rest = (bytes ≡ []) × (rest ≡ [])
-ReadsFrom bytes (Over ReaderFailed) line rest = (front : List ℕ) × IsUnbroken front × (bytes ≡ front ++ rest)
+ReadsFrom bytes (Over ReaderFailed) line rest =
+    (front : List ℕ) × IsUnbroken front × (bytes ≡ front ++ rest)
 ReadsFrom bytes (Over TooManyCalls) line rest = BeginsUnbroken bytes call_limit
 ReadsFrom bytes (Over TooManyBytes) line rest = BeginsUnbroken bytes (byte_limit + 1)
 ReadsFrom bytes (Over TooManyLines) line rest = ⊥
 
 -- the same of the bytes to come, where they are known
 abbrev pub ReadsLine : Reading → NextLine → Reading → Type 0
-ReadsLine old how new = Known (to_come old) (to_come new) (λ bytes rest. ReadsFrom bytes how new.line rest)
+ReadsLine old how new =
+    Known (to_come old) (to_come new) (λ bytes rest. ReadsFrom bytes how new.line rest)
 
 -- too many calls come after as many as a line may take
 abbrev pub CallsFit : ℕ → NextLine → ℕ → Type 0
@@ -89,7 +94,8 @@ ending count =
 -- what a call adds: some bytes that the reader had, or none at its end, or none where it failed
 abbrev pub Fills : Reading → Filled → Reading → Type 0
 Fills old More new =
-    (piece : List ℕ) × (0 < length piece) × (new.held ≡ old.held ++ piece) × Consumes old.unread new.unread piece
+    (piece : List ℕ) × (0 < length piece) × (new.held ≡ old.held ++ piece)
+    × Consumes old.unread new.unread piece
 Fills old Empty new = (new.held ≡ old.held) × Keeps old.unread new.unread × IsAtEnd old.unread
 Fills old Failed new = (new.held ≡ old.held) × Keeps old.unread new.unread
 
@@ -98,4 +104,5 @@ pub record MakesRoom (now new : Reading) (skipped skipped' : ℕ) : Type 0 where
   pub held : new.held ≡ (if nat_lt line_limit (length now.held) then [] else now.held)
   pub unread : new.unread ≡ now.unread
   pub calls : new.calls ≡ now.calls
-  pub counted : skipped' ≡ (if nat_lt line_limit (length now.held) then skipped + length now.held else skipped)
+  pub counted : skipped'
+      ≡ (if nat_lt line_limit (length now.held) then skipped + length now.held else skipped)

@@ -53,7 +53,8 @@ with_front text parts = (text ++ parts.0, parts.1)
 abbrev pub SkipsLines : Option (List ℕ) → List ℕ → (start : ℕ) → Type 0
 SkipsLines mark bytes start =
     (more : List ℕ) →
-    split_text mark (bytes ++ more) ≡ with_front (take start bytes) (split_text mark (drop start bytes ++ more))
+    split_text mark (bytes ++ more)
+    ≡ with_front (take start bytes) (split_text mark (drop start bytes ++ more))
 
 -- a search for the mark came so far: no line before is the mark, and the one under way has no newline yet
 pub record IsSearched (mark : Option (List ℕ)) (bytes : List ℕ) (search : Search) : Type 0 where
@@ -67,16 +68,20 @@ pub record IsParting (mark : Option (List ℕ)) (bytes : List ℕ) (parting : Pa
   pub text : parting.text_end ≤ length bytes
   pub rest : parting.rest_start ≤ length bytes
   pub parts : (more : List ℕ) →
-      split_text mark (bytes ++ more) ≡ (take parting.text_end bytes, drop parting.rest_start bytes ++ more)
+      split_text mark (bytes ++ more)
+      ≡ (take parting.text_end bytes, drop parting.rest_start bytes ++ more)
 
 -- what is held was moved after a text, and the mark is in it: whatever follows, the text ends there
-pub record FindsMark (mark : Option (List ℕ)) (old new : Reading) (before after : List ℕ) : Type 0 where
-  pub parts : (more : List ℕ) → split_text mark ((before ++ old.held) ++ more) ≡ (after, new.held ++ more)
+pub record FindsMark (mark : Option (List ℕ)) (old new : Reading)
+    (before after : List ℕ) : Type 0 where
+  pub parts : (more : List ℕ)
+      → split_text mark ((before ++ old.held) ++ more) ≡ (after, new.held ++ more)
   pub unread : new.unread ≡ old.unread
   pub few : length after ≤ text_limit
 
 -- all of what is held was moved after a text, and no line of it is the mark
-pub record MovesHeld (mark : Option (List ℕ)) (old new : Reading) (before after : List ℕ) (search : Search) : Type 0 where
+pub record MovesHeld (mark : Option (List ℕ)) (old new : Reading) (before after : List ℕ)
+    (search : Search) : Type 0 where
   pub text : after ≡ before ++ old.held
   pub held : new.held ≡ []
   pub unread : new.unread ≡ old.unread

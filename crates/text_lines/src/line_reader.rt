@@ -1,10 +1,12 @@
 //! Lines from any reader, whatever pieces it gives, through a buffer of their own.
 
-ghost use Rattle.std.specs.Prelude.{◌≡◌, ◌≢◌, ◌+◌, ◌-◌, ◌<◌, ◌≤◌, [], false, length, take, drop, slice_index, slice_range, IfOk, IsOk, IsTrue};
+ghost use Rattle.std.specs.Prelude.{◌≡◌, ◌≢◌, ◌+◌, ◌-◌, ◌<◌, ◌≤◌, [], false};
+ghost use Rattle.std.specs.Prelude.{length, take, drop, slice_index, slice_range, IfOk, IsOk, IsTrue};
 ghost use Rattle.std.specs.Io.KnownBytes.{ReadConsumes};
 ghost use Rattle.text_lines.specs.CountedReader.{calls_after};
 ghost use Rattle.text_lines.specs.Lines.{IsUnbroken, has_line, has_newline};
-ghost use Rattle.text_lines.specs.LineReader.{Fills, MakesRoom, ReadsHeld, ReadsLine, SpendsCalls, byte_limit, cut_text, ending, line_limit};
+ghost use Rattle.text_lines.specs.LineReader.{Fills, MakesRoom, ReadsHeld, ReadsLine, SpendsCalls};
+ghost use Rattle.text_lines.specs.LineReader.{byte_limit, cut_text, ending, line_limit};
 
 use crate::bytes::{find_byte, has_line};
 use crate::counted_reader::CountedReader;

@@ -1,10 +1,12 @@
 //! The text of a reader up to the first line that is a mark.
 
-ghost use Rattle.std.specs.Prelude.{◌≡◌, ◌<◌, ◌≤◌, ◌+◌, ℕ, List, [], ◌++◌, false, length, IfErr, IfOk, IsErrOf, IfSome, IsTrue, take};
+ghost use Rattle.std.specs.Prelude.{◌≡◌, ◌<◌, ◌≤◌, ◌+◌, ℕ, List, [], ◌++◌, false};
+ghost use Rattle.std.specs.Prelude.{length, IfErr, IfOk, IsErrOf, IfSome, IsTrue, take};
 ghost use Rattle.std.specs.Option.{option_copied};
 ghost use Rattle.text_lines.specs.LineReader.{to_come};
 ghost use Rattle.text_lines.specs.Lines.{Known};
-ghost use Rattle.text_lines.specs.Text.{FindsMark, IsParting, IsSearched, MovesHeld, is_mark, rest_after, mark_length, split_text, text_before, text_call_limit, text_limit};
+ghost use Rattle.text_lines.specs.Text.{FindsMark, IsParting, IsSearched, MovesHeld, is_mark, rest_after};
+ghost use Rattle.text_lines.specs.Text.{mark_length, split_text, text_before, text_call_limit, text_limit};
 
 use crate::bytes::find_byte;
 use crate::input::Input;

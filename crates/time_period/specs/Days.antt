@@ -24,11 +24,15 @@ passes days zone t = holds_at days (local zone t).weekday (local zone t).second
 -- a worked-out period holds where the period of the configuration does
 abbrev pub IsCompiled : Config → PeriodId → List (List Range) → Type 0
 IsCompiled c period days = (weekday second : ℕ) → weekday < 7 → second < 86400
-    → holds_at days weekday second ≡ holds (length c.periods) c.periods period.0 (record { weekday = weekday; second = second })
+    → holds_at days weekday second
+    ≡ holds (length c.periods) c.periods period.0
+    (record { weekday = weekday; second = second })
 
 -- each period of the configuration has its place among these
 abbrev pub AreCompiled : Config → List (List (List Range)) → Type 0
-AreCompiled c all = (length all ≡ length c.periods) × ((p : PeriodId) → p.0 < length c.periods → IsCompiled c p (slice_index_or all p.0 []))
+AreCompiled c all =
+    (length all ≡ length c.periods)
+    × ((p : PeriodId) → p.0 < length c.periods → IsCompiled c p (slice_index_or all p.0 []))
 
 -- ---- how a day is kept, and made
 
@@ -39,13 +43,16 @@ pub record IsDay (ranges : List Range) : Type 0 where
   pub within : All (λ r. r.end ≤ 86400) ranges
 
 -- whether some of these periods holds, of those that are done
-abbrev pub holds_any : List PeriodId → (done : List (List (List Range))) → (weekday second : ℕ) → Bool
-holds_any excludes done weekday second = list_any (λ excluded. holds_at (slice_index_or done excluded.0 []) weekday second) excludes
+abbrev pub holds_any : List PeriodId → (done : List (List (List Range))) → (weekday second : ℕ)
+    → Bool
+holds_any excludes done weekday second =
+    list_any (λ excluded. holds_at (slice_index_or done excluded.0 []) weekday second) excludes
 
 -- a period without those that it excludes
 abbrev pub holds_without : Period → (done : List (List (List Range))) → (weekday second : ℕ) → Bool
 holds_without period done weekday second =
-    in_ranges (ranges_on period weekday) second && not (holds_any period.excludes done weekday second)
+    in_ranges (ranges_on period weekday) second
+    && not (holds_any period.excludes done weekday second)
 
 -- a day whose ranges hold exactly where the test passes
 pub record IsDayOf (test : ℕ → Bool) (ranges : List Range) : Type 0 where
@@ -53,7 +60,8 @@ pub record IsDayOf (test : ℕ → Bool) (ranges : List Range) : Type 0 where
   pub alike : (second : ℕ) → second < 86400 → in_ranges ranges second ≡ test second
 
 -- such days, of the first `count` weekdays
-pub record AreWorkedOut (period : Period) (done : List (List (List Range))) (count : ℕ) (days : List (List Range)) : Type 0 where
+pub record AreWorkedOut (period : Period) (done : List (List (List Range))) (count : ℕ)
+    (days : List (List Range)) : Type 0 where
   pub as_many : length days ≡ count
   pub each : All IsDay days
   pub alike : (weekday second : ℕ) → weekday < count → second < 86400

@@ -16,7 +16,8 @@ edges_of number excludes = map (λ excluded. record { from = number; to = exclud
 -- the edges of periods that are numbered from `first` on
 abbrev pub exclusion_edges : (first : ℕ) → List Period → List Edge
 exclusion_edges first [] = []
-exclusion_edges first (period ∷ periods) = edges_of first period.excludes ++ exclusion_edges (first + 1) periods
+exclusion_edges first (period ∷ periods) =
+    edges_of first period.excludes ++ exclusion_edges (first + 1) periods
 
 -- each period of the configuration, and none before one that excludes it
 pub record InOrder (c : Config) (order : List ℕ) : Type 0 where
@@ -29,11 +30,14 @@ pub record InOrder (c : Config) (order : List ℕ) : Type 0 where
 -- these days hold where the period does, if chains of exclusions are followed so far at least
 abbrev pub IsRight : Config → (deep p : ℕ) → List (List Range) → Type 0
 IsRight c deep p days = (depth weekday second : ℕ) → deep ≤ depth → weekday < 7 → second < 86400
-    → holds_at days weekday second ≡ holds depth c.periods p (record { weekday = weekday; second = second })
+    → holds_at days weekday second
+    ≡ holds depth c.periods p (record { weekday = weekday; second = second })
 
 -- all that come from that place of the order on are done
-pub record AreDone (c : Config) (order : List ℕ) (left : ℕ) (done : List (List (List Range))) : Type 0 where
+pub record AreDone (c : Config) (order : List ℕ) (left : ℕ)
+    (done : List (List (List Range))) : Type 0 where
   pub start : left ≤ length order
   pub as_many : length done ≡ length c.periods
   pub right : (i : ℕ) → left ≤ i → i < length order
-      → IsRight c (length order - left) (slice_index order i) (slice_index_or done (slice_index order i) [])
+      → IsRight c (length order - left) (slice_index order i)
+      (slice_index_or done (slice_index order i) [])

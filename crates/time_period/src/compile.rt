@@ -1,8 +1,10 @@
 //! How periods are worked out: each one once, after those that it excludes.
 
-ghost use Rattle.std.specs.Prelude.{◌≡◌, ℕ, ◌<◌, ◌≤◌, ◌++◌, not, length, IfOk, OnOk, All, map, vec_len};
+ghost use Rattle.std.specs.Prelude.{◌≡◌, ℕ, ◌<◌, ◌≤◌, ◌++◌, not, length, IfOk, OnOk};
+ghost use Rattle.std.specs.Prelude.{All, map, vec_len};
 ghost use Rattle.due_model.specs.Accepted.{IsAccepted};
-ghost use Rattle.time_period.specs.Days.{AreCompiled, AreWorkedOut, IsCompiled, IsDay, IsDayOf, holds_any, holds_without};
+ghost use Rattle.time_period.specs.Days.{AreCompiled, AreWorkedOut, IsCompiled, IsDay, IsDayOf, holds_any};
+ghost use Rattle.time_period.specs.Days.{holds_without};
 ghost use Rattle.time_period.specs.Exclusions.{InOrder, edges_of, exclusion_edges};
 ghost use Rattle.time_period.specs.Stretches.{IsStretch};
 

@@ -1,6 +1,7 @@
 //! A stretch of a day in which something holds, or doesn't.
 
-ghost use Rattle.std.specs.Prelude.{◌≡◌, ℕ, ◌<◌, ◌≤◌, ◌&&◌, ◌||◌, Bool, true, false, not, nat_le, nat_lt};
+ghost use Rattle.std.specs.Prelude.{◌≡◌, ℕ, ◌<◌, ◌≤◌, ◌&&◌, ◌||◌, Bool, true};
+ghost use Rattle.std.specs.Prelude.{false, not, nat_le, nat_lt};
 
 use due_model::config::Range;
 

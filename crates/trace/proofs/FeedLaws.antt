@@ -9,7 +9,7 @@ use Rattle.due_model.specs.declared.event.Event.{Event}
 use Rattle.event_feed.specs.declared.fault.FeedFault.{FeedFault}
 use Rattle.event_feed.specs.declared.fault.FeedFault.TheVariants.{BadStamp, LineTooLong}
 use Rattle.event_feed.specs.declared.fault.FeedFault.TheVariants as faults
-use Rattle.event_feed.specs.declared.fault.LineFault.{LineFault}
+use Rattle.event_feed.specs.declared.fault.RefusedLine.{RefusedLine}
 use Rattle.event_feed.specs.Fault.{stop_fault}
 use Rattle.text_lines.specs.declared.line_reader.NextLine.TheVariants.{Line, Over}
 use Rattle.text_lines.specs.declared.line_reader.Stop.{Stop}
@@ -264,7 +264,7 @@ module _ (can_fail : Bool) (run0 run1 : Run) (feed0 feed1 : Feed) (w0 w1 : Optio
       ))
       (known_both feed0.bytes feed1.bytes _ _ gives.answers gives.place)
 
-  pub line_refused : (refusal : LineFault) → GivesFault objects feed0 refusal feed1 → feed1.stop ≡ None → ¬ IsMark refusal.fault feed1.text
+  pub line_refused : (refusal : RefusedLine) → GivesFault objects feed0 refusal feed1 → feed1.stop ≡ None → ¬ IsMark refusal.fault feed1.text
       → run1.events.items ≡ run0.events.items → run1.is_over ≡ run0.is_over
       → Leaves w0 w1 (held0 ++ added run0.events.items run0.is_over refusal.line (Err refusal.fault)) held1
       → Known feed0.bytes feed1.bytes (λ bytes rest. GoesOn run0 feed0 bytes run1 feed1 rest w0 w1 held0 held1)
@@ -288,7 +288,7 @@ module _ (can_fail : Bool) (run0 run1 : Run) (feed0 feed1 : Feed) (w0 w1 : Optio
       (known_both feed0.bytes feed1.bytes _ _ (subst (λ (stop : Option Stop). FaultAnswers objects feed0 refusal stop feed1) going gives.answers)
       (subst (λ (stop : Option Stop). FaultComesTo objects feed0 refusal stop feed1) going gives.place))
 
-  pub line_marked : (refusal : LineFault) → GivesFault objects feed0 refusal feed1 → IsMark refusal.fault feed1.text
+  pub line_marked : (refusal : RefusedLine) → GivesFault objects feed0 refusal feed1 → IsMark refusal.fault feed1.text
       → Known feed0.bytes feed1.bytes (λ bytes rest. EndsFeed can_fail run0 feed0 bytes Steps run0 rest w0 w0 held0 held0)
   line_marked refusal gives marked =
       let going : feed1.stop ≡ None = mark_goes_on feed1.stop refusal.fault marked.refused gives.fits in
@@ -314,7 +314,7 @@ module _ (can_fail : Bool) (run0 run1 : Run) (feed0 feed1 : Feed) (w0 w1 : Optio
       (subst (λ (stop : Option Stop). FaultComesTo objects feed0 refusal stop feed1) going gives.place))
 
   -- what the last line gives
-  has_refusal : (refusal : LineFault) → run1.events.items ≡ run0.events.items → run1.is_over ≡ run0.is_over
+  has_refusal : (refusal : RefusedLine) → run1.events.items ≡ run0.events.items → run1.is_over ≡ run0.is_over
       → Leaves w0 w1 (held0 ++ added run0.events.items run0.is_over refusal.line (Err refusal.fault)) held1
       → Has (after_answers (feed_state run0 held0) (record { line = refusal.line; given = Err refusal.fault } ∷ [])) run1 w0 w1 held1
   has_refusal refusal events over text = record {
@@ -323,7 +323,7 @@ module _ (can_fail : Bool) (run0 run1 : Run) (feed0 feed1 : Feed) (w0 w1 : Optio
     text = text;
   }
 
-  pub line_cut : (refusal : LineFault) → GivesFault objects feed0 refusal feed1 → feed1.stop ≡ Some CutLine → run1.events.items ≡ run0.events.items → run1.is_over ≡ run0.is_over
+  pub line_cut : (refusal : RefusedLine) → GivesFault objects feed0 refusal feed1 → feed1.stop ≡ Some CutLine → run1.events.items ≡ run0.events.items → run1.is_over ≡ run0.is_over
       → Leaves w0 w1 (held0 ++ added run0.events.items run0.is_over refusal.line (Err refusal.fault)) held1
       → Known feed0.bytes feed1.bytes (λ bytes rest. EndsFeed can_fail run0 feed0 bytes Cut run1 rest w0 w1 held0 held1)
   line_cut refusal gives cut events over text =
@@ -344,7 +344,7 @@ module _ (can_fail : Bool) (run0 run1 : Run) (feed0 feed1 : Feed) (w0 w1 : Optio
       ))
       (subst (λ (stop : Option Stop). FaultAnswers objects feed0 refusal stop feed1) cut gives.answers)
 
-  pub line_unread : (refusal : LineFault) (stop : Stop) → GivesFault objects feed0 refusal feed1 → feed1.stop ≡ Some stop → stop ≢ CutLine → run1.events.items ≡ run0.events.items → run1.is_over ≡ run0.is_over
+  pub line_unread : (refusal : RefusedLine) (stop : Stop) → GivesFault objects feed0 refusal feed1 → feed1.stop ≡ Some stop → stop ≢ CutLine → run1.events.items ≡ run0.events.items → run1.is_over ≡ run0.is_over
       → Leaves w0 w1 (held0 ++ added run0.events.items run0.is_over refusal.line (Err refusal.fault)) held1
       → AreGivenBy can_fail objects feed0 (record { line = refusal.line; given = Err refusal.fault } ∷ [])
       → Known feed0.bytes feed1.bytes (λ bytes rest. EndsFeed can_fail run0 feed0 bytes Unread run1 rest w0 w1 held0 held1)
@@ -367,7 +367,7 @@ module _ (can_fail : Bool) (run0 run1 : Run) (feed0 feed1 : Feed) (w0 w1 : Optio
       read_stop TooManyBytes f other e = sym (same_Some faults.Read f e)
       read_stop TooManyLines f other e = sym (same_Some faults.Read f e)
 
-  pub line_stopped : (refusal : LineFault) (stop : Stop) → GivesFault objects feed0 refusal feed1 → feed1.stop ≡ Some stop → run1.events.items ≡ run0.events.items → run1.is_over ≡ run0.is_over
+  pub line_stopped : (refusal : RefusedLine) (stop : Stop) → GivesFault objects feed0 refusal feed1 → feed1.stop ≡ Some stop → run1.events.items ≡ run0.events.items → run1.is_over ≡ run0.is_over
       → Leaves w0 w1 (held0 ++ added run0.events.items run0.is_over refusal.line (Err refusal.fault)) held1
       → AreGivenBy can_fail objects feed0 (record { line = refusal.line; given = Err refusal.fault } ∷ [])
       → Known feed0.bytes feed1.bytes (λ bytes rest. EndsFeed can_fail run0 feed0 bytes (after_stop stop) run1 rest w0 w1 held0 held1)

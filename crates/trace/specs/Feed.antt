@@ -68,7 +68,8 @@ pub record ComesAfter (bytes : List ℕ) (before others : List (List ℕ)) : Typ
 -- Of all the answers of a feed, after so many lines, those that are given, and what follows them: the first line that is
 -- the mark, which the feed answers as no line of it, and the bytes after it; or nothing; or nothing after a line that the
 -- end of the input cut; or a line that can't be read.
-abbrev pub FeedEnds : (can_fail : Bool) → (all : List Answer) → (from : ℕ) → (bytes : List ℕ) → AfterFeed
+abbrev pub FeedEnds : (can_fail : Bool) → (all : List Answer) → (from : ℕ) → (bytes : List ℕ)
+    → AfterFeed
     → (given : List Answer) → (rest : List ℕ) → Type 0
 FeedEnds can_fail all from bytes Steps given rest =
     (before : List (List ℕ)) × (line : ℕ) × (others : List Answer)

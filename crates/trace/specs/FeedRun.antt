@@ -38,7 +38,8 @@ abbrev pub EndsFeed : (can_fail : Bool) → Run → Feed → List ℕ → AfterF
     → (before after : Option (List ℕ)) → (held held' : List ℕ) → Type 0
 EndsFeed can_fail old feed bytes end new rest before after held held' =
     (given : List Answer)
-    × FeedEnds can_fail (answers_from old.config.now.objects feed bytes) feed.line bytes end given rest
+    × FeedEnds can_fail
+    (answers_from old.config.now.objects feed bytes) feed.line bytes end given rest
     × Has (after_answers (feed_state old held) given) new before after held'
 
 -- the whole feed was read

@@ -44,7 +44,8 @@ abbrev pub MayBreakOff : (can_fail : Bool) → (bytes : List ℕ) → Type 0
 MayBreakOff can_fail bytes = BeginsUnbroken bytes (least_at_read can_fail)
 
 -- Some of the lines were read, and then the reading broke off, or as many lines were read as may be.
-abbrev pub DoesSome : (can_fail : Bool) → Config → (deciders : ℕ) → Setup → (bytes : List ℕ) → (old new : RunState)
+abbrev pub DoesSome : (can_fail : Bool) → Config → (deciders : ℕ) → Setup → (bytes : List ℕ)
+    → (old new : RunState)
     → (text : List ℕ) → Type 0
 DoesSome can_fail c deciders s bytes old new text =
     (lines : List (List ℕ)) × (rest : List ℕ) × AreLines bytes lines rest
@@ -52,10 +53,12 @@ DoesSome can_fail c deciders s bytes old new text =
     × (MayBreakOff can_fail rest ⊎ (length lines ≡ feed_limit))
 
 -- whether all were read
-abbrev pub DoesSteps : (can_fail : Bool) → Config → (deciders : ℕ) → Setup → (bytes : List ℕ) → (all : Bool)
+abbrev pub DoesSteps : (can_fail : Bool) → Config → (deciders : ℕ) → Setup → (bytes : List ℕ)
+    → (all : Bool)
     → (old new : RunState) → (text : List ℕ) → Type 0
 DoesSteps can_fail c deciders s bytes true old new text = DoesAll c deciders s bytes old new text
-DoesSteps can_fail c deciders s bytes false old new text = DoesSome can_fail c deciders s bytes old new text
+DoesSteps can_fail c deciders s bytes false old new text =
+    DoesSome can_fail c deciders s bytes old new text
 
 -- the next line was read, and what becomes of it is on the way to the writer
 abbrev pub DoesNext : Config → (deciders : ℕ) → Setup → (number : ℕ) → (bytes rest : List ℕ)
@@ -65,7 +68,8 @@ DoesNext c deciders s number bytes rest old new before after held held' =
     × DoesLine c deciders s number line old new text × Leaves before after (held ++ text) held'
 
 -- no line was left but one that the end of the input cut, and what becomes of that; or the reading failed
-abbrev pub DoesLast : (can_fail : Bool) → Config → (deciders : ℕ) → Setup → (number : ℕ) → (bytes : List ℕ)
+abbrev pub DoesLast : (can_fail : Bool) → Config → (deciders : ℕ) → Setup → (number : ℕ)
+    → (bytes : List ℕ)
     → (all : Bool)
     → (old new : RunState) → (before after : Option (List ℕ)) → (held held' : List ℕ) → Type 0
 DoesLast can_fail c deciders s number bytes true old new before after held held' =
@@ -76,7 +80,8 @@ DoesLast can_fail c deciders s number bytes false old new before after held held
     (new ≡ old) × MayBreakOff can_fail bytes × Leaves before after held held'
 
 -- what becomes of the steps, and its text on the way to the writer
-abbrev pub WritesSteps : (can_fail : Bool) → Config → (deciders : ℕ) → Setup → (bytes : List ℕ) → (all : Bool)
+abbrev pub WritesSteps : (can_fail : Bool) → Config → (deciders : ℕ) → Setup → (bytes : List ℕ)
+    → (all : Bool)
     → (old new : RunState) → (before after : Option (List ℕ)) → (held held' : List ℕ) → Type 0
 WritesSteps can_fail c deciders s bytes all old new before after held held' =
     (text : List ℕ) × DoesSteps can_fail c deciders s bytes all old new text

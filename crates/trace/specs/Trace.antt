@@ -37,7 +37,8 @@ ending_after true over = ending_of over
 ending_after false over = Short
 
 -- what is written after the feed, and how the trace ends
-abbrev pub EndsTrace : (can_fail : Bool) → Config → (deciders : ℕ) → Setup → (start : RunState) → (over : Bool)
+abbrev pub EndsTrace : (can_fail : Bool) → Config → (deciders : ℕ) → Setup → (start : RunState)
+    → (over : Bool)
     → AfterFeed → (rest : List ℕ)
     → Ending → (text : List ℕ) → Type 0
 EndsTrace can_fail c deciders s start over feed.Steps rest ending text =
@@ -48,10 +49,12 @@ EndsTrace can_fail c deciders s start over feed.Nothing rest ending text =
     (text ≡ world_text s start.world) × (ending ≡ ending_of over)
 EndsTrace can_fail c deciders s start over feed.Cut rest ending text =
     (text ≡ world_text s start.world) × (ending ≡ Short)
-EndsTrace can_fail c deciders s start over feed.Unread rest ending text = (text ≡ []) × (ending ≡ Short)
+EndsTrace can_fail c deciders s start over feed.Unread rest ending text =
+    (text ≡ []) × (ending ≡ Short)
 
 -- the same, on its way to the writer
-abbrev pub WritesEnd : (can_fail : Bool) → Config → (deciders : ℕ) → Setup → (start : RunState) → (over : Bool)
+abbrev pub WritesEnd : (can_fail : Bool) → Config → (deciders : ℕ) → Setup → (start : RunState)
+    → (over : Bool)
     → AfterFeed → (rest : List ℕ)
     → Ending → (before after : Option (List ℕ)) → (held held' : List ℕ) → Type 0
 WritesEnd can_fail c deciders s start over end rest ending before after held held' =
@@ -75,7 +78,8 @@ no_feed = record { events = []; over = false; text = [] }
 
 -- What is written of a feed and the steps after it: the refused lines of the feed in order, then those of the step lines in
 -- order, and then the lines of what the lanes hold in the world that the steps lead to.
-abbrev pub TracesFeed : (can_fail : Bool) → Config → Settings → (bytes : List ℕ) → Ending → (old new : Option (List ℕ))
+abbrev pub TracesFeed : (can_fail : Bool) → Config → Settings → (bytes : List ℕ) → Ending
+    → (old new : Option (List ℕ))
     → Type 0
 TracesFeed can_fail c settings bytes ending old new =
     (end : AfterFeed) × (given : List Answer) × (rest : List ℕ) × (text : List ℕ)
@@ -86,15 +90,18 @@ TracesFeed can_fail c settings bytes ending old new =
     × Writes old new ((after_answers no_feed given).text ++ text)
 
 -- the same of the bytes of an input, whose object text was accepted
-abbrev pub Traces : (can_fail : Bool) → Settings → (bytes : List ℕ) → Ending → (old new : Option (List ℕ)) → Type 0
+abbrev pub Traces : (can_fail : Bool) → Settings → (bytes : List ℕ) → Ending
+    → (old new : Option (List ℕ)) → Type 0
 Traces can_fail settings bytes ending old new =
     (config : Config) × IsTextOf config (objects_in bytes)
     × TracesFeed can_fail config settings (feed_in bytes) ending old new
 
 -- What a fault says. Where the object text is refused or can't be read nothing was written; where the output failed it was
 -- accepted; and where memory ran out it was accepted, or nothing was written.
-abbrev pub FailsWith : (can_fail : Bool) → (bytes : List ℕ) → CommandFault → (old new : Option (List ℕ)) → Type 0
-FailsWith can_fail bytes (Objects fault) old new = IsTextFault (objects_in bytes) fault × Keeps old new
+abbrev pub FailsWith : (can_fail : Bool) → (bytes : List ℕ) → CommandFault
+    → (old new : Option (List ℕ)) → Type 0
+FailsWith can_fail bytes (Objects fault) old new =
+    IsTextFault (objects_in bytes) fault × Keeps old new
 FailsWith can_fail bytes Unreadable old new = Keeps old new × (can_fail ≡ true)
 FailsWith can_fail bytes Output old new = (config : Config) × IsTextOf config (objects_in bytes)
 FailsWith can_fail bytes NoMemory old new =

@@ -1,6 +1,7 @@
 //! The feed of a trace: events up to a line `%steps`.
 
-ghost use Rattle.std.specs.Prelude.{◌≡◌, ◌+◌, ◌<◌, ◌≤◌, ◌↔◌, ◌++◌, true, IfErr, IfNone, IfOk, IfSome, None, Ok, Err, OnOk};
+ghost use Rattle.std.specs.Prelude.{◌≡◌, ◌+◌, ◌<◌, ◌≤◌, ◌↔◌, ◌++◌, true};
+ghost use Rattle.std.specs.Prelude.{IfErr, IfNone, IfOk, IfSome, None, Ok, Err, OnOk};
 ghost use Rattle.due_model.specs.Covered.{IsPlainEvent};
 ghost use Rattle.command_output.specs.Outcome.{IsWriteFault};
 ghost use Rattle.command_output.specs.Output.{Leaves};
@@ -14,7 +15,7 @@ use crate::run::Run;
 use command_output::{CommandFault, Lines, OutputLine};
 use due_model::event::Event;
 use due_model::limits::MAX_EVENTS;
-use event_feed::{FeedFault, Feeder, LineFault};
+use event_feed::{FeedFault, Feeder, RefusedLine};
 use std::io::Write;
 use text_lines::{Input, Stop};
 
@@ -128,7 +129,7 @@ fn write_refusal<W: Write>(
     lines: &mut Lines,
     writer: &mut W,
     run: &Run<'_>,
-    refusal: LineFault,
+    refusal: RefusedLine,
 ) -> Result<(), CommandFault>
     ensures ok { OnOk result (Leaves (W.contents writer.old) (W.contents writer.new)
         (lines.old ++ added run.now.events.items run.now.is_over refusal.line (Err refusal.fault))

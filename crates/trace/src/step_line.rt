@@ -1,12 +1,14 @@
 //! The step lines of `trace`: one step a line.
 
-ghost use Rattle.std.specs.Prelude.{◌≡◌, ◌≢◌, ◌≤◌, ℕ, List, ◌++◌, length, IfNone, IfSome, MatchOption};
+ghost use Rattle.std.specs.Prelude.{◌≡◌, ◌≢◌, ◌≤◌, ℕ, List, ◌++◌, length, IfNone};
+ghost use Rattle.std.specs.Prelude.{IfSome, MatchOption};
 ghost use Rattle.std.specs.Char.{is_ascii_digit};
 ghost use Rattle.std.specs.List.{list_all};
 ghost use Rattle.due_model.specs.Limits.{max_deciders, max_lanes};
 ghost use Rattle.command_output.specs.Fields.{lane_text};
 ghost use Rattle.trace.specs.declared.step_line.StepLine.{StepLine};
-ghost use Rattle.trace.specs.StepLine.{BeginsWithWord, IsDecider, NamesLane, Spells, SpellsDecide, SpellsLane, SpellsPut};
+ghost use Rattle.trace.specs.StepLine.{BeginsWithWord, IsDecider, NamesLane, Spells, SpellsDecide};
+ghost use Rattle.trace.specs.StepLine.{SpellsLane, SpellsPut};
 
 use due_model::config::{Config, LaneId};
 use event_feed::read_number;

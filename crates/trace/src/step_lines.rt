@@ -27,8 +27,8 @@ pub(crate) fn do_steps<R: Input + Drop, W: Write>(
     requires fits { Fits run.old }
     ensures fits { Fits run.new }
     ensures steps { IfOk result (λ all. IfSome (to_come source.old) (λ bytes.
-        WritesSteps R.can_fail run.old.config.now run.old.deciders (world_setup run.old.world) bytes all
-        (run_state run.old) (run_state run.new)
+        WritesSteps R.can_fail run.old.config.now run.old.deciders (world_setup run.old.world)
+        bytes all (run_state run.old) (run_state run.new)
         (W.contents writer.old) (W.contents writer.new) lines.old lines.new)) }
     ensures fault { IfErr result (λ fault. IsWriteFault fault) }
     ensures setup { world_setup run.new.world ≡ world_setup run.old.world }
@@ -61,8 +61,8 @@ fn do_next_line<R: Input + Drop, W: Write>(
         number bytes rest (run_state run.old) (run_state run.new)
         (W.contents writer.old) (W.contents writer.new) lines.old lines.new))) }
     ensures last { IfOk result (λ end. IfSome end (λ all. IfSome (to_come source.old)
-        (λ bytes. DoesLast R.can_fail run.old.config.now run.old.deciders (world_setup run.old.world)
-        number bytes all (run_state run.old) (run_state run.new)
+        (λ bytes. DoesLast R.can_fail run.old.config.now run.old.deciders
+        (world_setup run.old.world) number bytes all (run_state run.old) (run_state run.new)
         (W.contents writer.old) (W.contents writer.new) lines.old lines.new))) }
     ensures fault { IfErr result (λ fault. IsWriteFault fault) }
     ensures setup { world_setup run.new.world ≡ world_setup run.old.world }

@@ -2,7 +2,8 @@
 //! undelivered.
 #![tactic(auto)]
 
-ghost use Rattle.std.specs.Prelude.{◌≡◌, ◌↔◌, [], ◌∷◌, ◌++◌, Some, None, IsSome, IsNone, IsErrOf, OnOk, OnErr, IfOk};
+ghost use Rattle.std.specs.Prelude.{◌≡◌, ◌↔◌, [], ◌∷◌, ◌++◌, Some, None, IsSome};
+ghost use Rattle.std.specs.Prelude.{IsNone, IsErrOf, OnOk, OnErr, IfOk};
 ghost use Rattle.std.specs.Option.{option_to_list};
 
 use due_model::notice::Notice;

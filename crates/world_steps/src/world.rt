@@ -31,7 +31,8 @@ pub struct World<'a> {
 }
 
 impl<'a> World<'a> {
-    ghost use Rattle.std.specs.Prelude.{◌≡◌, ◌↔◌, ◌<◌, length, All, IsTrue, IfOk, OnOk, OnErr, IfErr, IsErrOf};
+    ghost use Rattle.std.specs.Prelude.{◌≡◌, ◌↔◌, ◌<◌, length, All, IsTrue, IfOk, OnOk};
+    ghost use Rattle.std.specs.Prelude.{OnErr, IfErr, IsErrOf};
     ghost use Rattle.due_model.specs.Accepted.{IsAccepted};
     ghost use Rattle.due_model.specs.Covered.{IsCovered, IsPlainEvent};
     ghost use Rattle.due_model.specs.Due.{due};

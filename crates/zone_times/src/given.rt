@@ -22,7 +22,8 @@ pub enum ZoneFault {
 
 /// The zone of a rule text (POSIX) or of the bytes of a zone file (TZif); where neither is given, it is UTC.
 pub fn zone_given(alloc: Global, rule: Option<&str>, file: Option<&[u8]>) -> Result<Zone, ZoneFault>
-    ensures { MatchGiven (option_map (λ s. s.now) rule.entry) (option_map (λ s. s.now) file.entry) result }
+    ensures { MatchGiven (option_map (λ s. s.now) rule.entry)
+        (option_map (λ s. s.now) file.entry) result }
 {
     match (rule, file) {
         (None, None) => Ok(Zone::Utc),
