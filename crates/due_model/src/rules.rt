@@ -6,6 +6,7 @@ ghost use Rattle.due_model.specs.Readings.{depth_changed, is_problem_of};
 ghost use Rattle.due_model.specs.Rules.{attempted, attempted_by_state, attempted_by_downtime};
 ghost use Rattle.due_model.specs.Rules.{attempted_by_flapping, downtime_kind, has_come, state_letter};
 ghost use Rattle.due_model.specs.Rules.{letter_of, has_letter, is_too_soon, next_notice, same_state};
+ghost use Rattle.due_model.specs.Rules.{is_problem, is_recovery, is_of_problem, is_of_downtime};
 ghost use Rattle.due_model.specs.Dependencies.{has_state};
 ghost use Rattle.due_model.specs.Histories.{number_after};
 
@@ -94,6 +95,37 @@ impl Kind {
             Kind::DowntimeStart | Kind::DowntimeEnd | Kind::DowntimeCancelled =>
                 OptionLetter::Downtime,
         }
+    }
+
+    /// Whether this is a problem notification.
+    pub fn is_problem(self) -> bool
+        ensures { result ≡ is_problem self }
+    {
+        matches!(self, Kind::Problem)
+    }
+
+    /// Whether this is a recovery notification.
+    pub fn is_recovery(self) -> bool
+        ensures { result ≡ is_recovery self }
+    {
+        matches!(self, Kind::Recovery)
+    }
+
+    /// Whether this notification is about a problem, or the recovery from one.
+    pub fn is_of_problem(self) -> bool
+        ensures { result ≡ is_of_problem self }
+    {
+        matches!(self, Kind::Problem | Kind::Recovery)
+    }
+
+    /// Whether this notification is about a downtime.
+    pub fn is_of_downtime(self) -> bool
+        ensures { result ≡ is_of_downtime self }
+    {
+        matches!(
+            self,
+            Kind::DowntimeStart | Kind::DowntimeCancelled | Kind::DowntimeEnd
+        )
     }
 
     /// The number of a notification of this kind in its problem, of which so many problem notices went out

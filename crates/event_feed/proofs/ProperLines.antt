@@ -120,7 +120,7 @@ stamp_of-early line moment is =
     let within : digits_number (stamp_digits line) ≤ last_moment = leb-true _ _ (and_parts _ _ parts.0).1 in
     omega (arith, within, parts.1)
 
--- ---- a fault of a line is one that the feed goes on behind
+-- ---- a fault of a line is one that the feed goes on after
 
 ok-err : {A E : Type 0} (x : A) (e : E) → ◌≡◌ {A = Result A E} (Ok x) (Err e) → ⊥
 ok-err x e is = true≢false (ap is_ok is)

@@ -18,7 +18,7 @@ fault_name Read = codes "Read"
 fault_name NoMemory = codes "NoMemory"
 fault_name Ended = codes "Ended"
 
--- the faults of a line that is read over: the feed goes on behind it
+-- the faults of a line that is read over: the feed goes on after it
 abbrev pub is_line_fault : FeedFault → Bool
 is_line_fault BadStamp = true
 is_line_fault UnknownKind = true

@@ -127,7 +127,7 @@ pub fn command<'a>(alloc: Global) -> Result<Command<'a>, AllocError>
 }
 
 /// The settings of a trace. Each option has a default, and its range is that of the settings, so that there are
-/// some behind each command line that was read.
+/// some for each command line that was read.
 fn settings_of(options: &ArgMatches<'_>) -> Option<Settings> {
     let deciders = options.get_one::<u8>("deciders")?;
     let queue = options.get_one::<u16>("queue")?;

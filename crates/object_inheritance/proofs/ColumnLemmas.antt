@@ -143,7 +143,7 @@ joined-beside : (additive : Bool) (line : List (List ℕ)) → joined_entries (c
 joined-beside true line = refl
 joined-beside false line = refl
 
--- the entries of one more text, behind those of the texts beside it
+-- the entries of one more text, added to those so far
 pub one-text : (text : List ℕ) (line beside whole old new : List (List ℕ)) → joined_entries (text ∷ line) ++ reverse old ≡ whole
     → beside ≡ cond (is_additive text) line [] → new ≡ old ++ reverse (own_entries text)
     → joined_entries beside ++ reverse new ≡ whole
