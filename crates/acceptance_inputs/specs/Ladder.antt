@@ -1,5 +1,5 @@
 -- Configurations whose order shows that nothing loops.
-use Rattle.std.specs.Prelude.{◌≡◌, ℕ, ◌<◌, ◌≤◌, List, length, slice_get, All, Contains, Option, Some}
+use Rattle.std.specs.Prelude.{◌≡◌, ℕ, ◌<◌, ◌≤◌, List, length, slice_get, All, Some}
 use Rattle.due_model.specs.declared.config.Config.{Config}
 use Rattle.due_model.specs.declared.config.Dependency.{Dependency}
 use Rattle.due_model.specs.declared.config.Period.{Period}
@@ -25,7 +25,8 @@ pub record IsStep (place : ℕ) (period : Period) : Type 0 where
 
 -- each period may stand at its place: it excludes earlier ones alone
 abbrev pub IsLadder : List Period → Type 0
-IsLadder periods = (place : ℕ) (period : Period) → slice_get periods place ≡ Some period → IsStep place period
+IsLadder periods =
+    (place : ℕ) (period : Period) → slice_get periods place ≡ Some period → IsStep place period
 
 -- a dependency on an earlier object
 pub record IsFall (c : Config) (d : Dependency) : Type 0 where
