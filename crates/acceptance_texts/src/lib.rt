@@ -1,12 +1,9 @@
-//! Tests of what is read: object text, lines and feeds, on values from outside. There is no code here.
+//! Tests of object text: how it is read, what its templates give and what it means, on values from outside. There is
+//! no code here.
 #![tactic(auto)]
 
 #[cfg(test)]
-mod feeds;
-#[cfg(test)]
 mod inheritance;
-#[cfg(test)]
-mod lines;
 #[cfg(test)]
 mod object_text;
 #[cfg(test)]
