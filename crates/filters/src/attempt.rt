@@ -1,7 +1,6 @@
 //! A notification that is attempted, with what its filters read besides it.
 
-ghost use Rattle.std.specs.Prelude.{◌≡◌, ◌≤◌, not, if◌then◌else◌, Some, None};
-ghost use Rattle.std.specs.Result.{result_err};
+ghost use Rattle.std.specs.Prelude.{◌≡◌, ◌≤◌, not};
 ghost use Rattle.due_model.specs.declared.config.Config.{Config};
 ghost use Rattle.due_model.specs.Limits.{last_moment};
 ghost use Rattle.due_model.specs.Periods.{in_period};
@@ -9,7 +8,7 @@ ghost use Rattle.due_model.specs.Rules.{has_letter};
 ghost use Rattle.time_period.specs.Days.{AreCompiled};
 
 use due_model::config::PeriodId;
-use due_model::notice::{Filter, Kind};
+use due_model::notice::Kind;
 use due_model::options::{OptionLetter, OptionLetters};
 use due_model::state::State;
 use due_model::zone::Zone;
@@ -55,11 +54,4 @@ impl Attempt<'_> {
             None => false,
         }
     }
-}
-
-/// An error by this filter, if it fails.
-pub(crate) fn stop(fails: bool, filter: Filter) -> Result<(), Filter>
-    ensures { result_err result ≡ (if fails then Some filter else None) }
-{
-    if fails { Err(filter) } else { Ok(()) }
 }

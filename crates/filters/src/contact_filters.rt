@@ -8,7 +8,8 @@ ghost use Rattle.due_model.specs.Rules.{contact_failing, letter_of};
 ghost use Rattle.time_period.specs.Days.{AreCompiled};
 ghost use Rattle.filters.specs.Attempt.{plain, rights_of};
 
-use crate::attempt::{Attempt, stop};
+use crate::attempt::Attempt;
+use crate::verdict::stop_if;
 use due_model::config::{Config, Contact, ContactId, Rights};
 use due_model::notice::Filter;
 
@@ -30,9 +31,9 @@ pub fn contact_verdict(
         attempt.service,
         &config.contacts.as_slice()[usize::from(contact.0)],
     );
-    stop(is_disabled(rights), Filter::ContactDisabled)?;
-    stop(attempt.lacks_letter(rights.options), Filter::ContactOptions)?;
-    stop(attempt.is_outside(rights.period), Filter::ContactPeriod)
+    stop_if(is_disabled(rights), Filter::ContactDisabled)?;
+    stop_if(attempt.lacks_letter(rights.options), Filter::ContactOptions)?;
+    stop_if(attempt.is_outside(rights.period), Filter::ContactPeriod)
 }
 
 /// What a contact is notified of: for services, or for hosts.

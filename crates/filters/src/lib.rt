@@ -6,3 +6,4 @@ pub mod attempt;
 pub mod contact_filters;
 mod kinds;
 pub mod object_filters;
+mod verdict;

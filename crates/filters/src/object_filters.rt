@@ -8,8 +8,9 @@ ghost use Rattle.due_model.specs.Rules.{failing, has_letter, is_problem, is_reco
 ghost use Rattle.time_period.specs.Days.{AreCompiled};
 ghost use Rattle.filters.specs.Attempt.{IsLastInRange, plain};
 
-use crate::attempt::{Attempt, stop};
+use crate::attempt::Attempt;
 use crate::kinds::{is_of_downtime, is_of_problem, is_problem, is_recovery};
+use crate::verdict::stop_if;
 use due_model::notice::{Filter, Kind};
 use due_model::rules::{View, is_too_soon};
 
@@ -24,16 +25,16 @@ pub fn object_verdict(view: View, attempt: &Attempt<'_>) -> Result<(), Filter>
         → result_err result ≡ failing c attempt.now.zone.now view (plain attempt.now) }
 {
     let kind = attempt.kind;
-    stop(is_switched_off(view), Filter::Program)?;
-    stop(is_disabled(view), Filter::Disabled)?;
-    stop(is_down(view, kind), Filter::Downtime)?;
-    stop(is_flapping(view, kind), Filter::Flapping)?;
-    stop(attempt.lacks_letter(view.options), Filter::Options)?;
-    stop(is_without_problem(view, kind), Filter::NoProblem)?;
-    stop(attempt.is_outside(view.period), Filter::Period)?;
-    stop(depends(view, kind), Filter::Dependency)?;
-    stop(is_within_delay(view, attempt), Filter::FirstDelay)?;
-    stop(is_within_interval(view, attempt), Filter::Interval)
+    stop_if(is_switched_off(view), Filter::Program)?;
+    stop_if(is_disabled(view), Filter::Disabled)?;
+    stop_if(is_down(view, kind), Filter::Downtime)?;
+    stop_if(is_flapping(view, kind), Filter::Flapping)?;
+    stop_if(attempt.lacks_letter(view.options), Filter::Options)?;
+    stop_if(is_without_problem(view, kind), Filter::NoProblem)?;
+    stop_if(attempt.is_outside(view.period), Filter::Period)?;
+    stop_if(depends(view, kind), Filter::Dependency)?;
+    stop_if(is_within_delay(view, attempt), Filter::FirstDelay)?;
+    stop_if(is_within_interval(view, attempt), Filter::Interval)
 }
 
 /// The program switch is off.
