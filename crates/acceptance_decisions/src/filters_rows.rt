@@ -599,42 +599,44 @@ fn letter_gives(rt: &impl Abort, periods: &[Compiled], kind: Kind, state: State,
     }
 }
 
-#[test]
-fn only_one_filter(rt: HostRuntime) -> Result<(), Fail> {
-    let all = compile_all(rt.alloc(), &periods(rt.alloc(), &PERIODS)?)?;
+/// Views that one filter alone refuses.
+fn only_one_filter(rt: &impl Abort, periods: &[Compiled]) {
     for only in &ONLY {
-        let stops = Some(only.filter);
-        kinds_give(&rt, all.as_slice(), only.view, only.stopped, stops);
-        kinds_give(&rt, all.as_slice(), only.view, only.passed, None);
+        kinds_give(rt, periods, only.view, only.stopped, Some(only.filter));
+        kinds_give(rt, periods, only.view, only.passed, None);
     }
-    Ok(())
 }
 
-#[test]
-fn first_of_several(rt: HostRuntime) -> Result<(), Fail> {
-    let all = compile_all(rt.alloc(), &periods(rt.alloc(), &PERIODS)?)?;
+/// Views that several refuse.
+fn first_of_several(rt: &impl Abort, periods: &[Compiled]) {
     for row in &CHAIN {
         let (view, kind, found) = *row;
-        kinds_give(&rt, all.as_slice(), view, &[kind], found);
+        kinds_give(rt, periods, view, &[kind], found);
     }
-    Ok(())
 }
 
-#[test]
-fn moments(rt: HostRuntime) -> Result<(), Fail> {
-    let all = compile_all(rt.alloc(), &periods(rt.alloc(), &PERIODS)?)?;
-    for case in &MOMENTS {
-        gives(&rt, all.as_slice(), *case);
-    }
-    Ok(())
-}
-
-#[test]
-fn letters(rt: HostRuntime) -> Result<(), Fail> {
-    let all = compile_all(rt.alloc(), &periods(rt.alloc(), &PERIODS)?)?;
+/// The letter of each attempt.
+fn letters(rt: &impl Abort, periods: &[Compiled]) {
     for row in &BY_LETTER {
         let (kind, state, own) = *row;
-        letter_gives(&rt, all.as_slice(), kind, state, own);
+        letter_gives(rt, periods, kind, state, own);
+    }
+}
+
+/// The periods of `PERIODS`, worked out.
+fn worked_out(alloc: Global) -> Result<Vec<Compiled>, AllocError> {
+    let config = periods(alloc, &PERIODS)?;
+    compile_all(alloc, &config)
+}
+
+#[test]
+fn filters_of_objects(rt: HostRuntime) -> Result<(), Fail> {
+    let all = worked_out(rt.alloc())?;
+    only_one_filter(&rt, all.as_slice());
+    first_of_several(&rt, all.as_slice());
+    letters(&rt, all.as_slice());
+    for case in &MOMENTS {
+        gives(&rt, all.as_slice(), *case);
     }
     Ok(())
 }
@@ -701,16 +703,24 @@ fn contact_gives(
     }
 }
 
+/// Compares what stops notices to the contacts of `HELD`.
+fn contacts_give(rt: &impl Abort, config: &Config, periods: &[Compiled])
+    requires { AreCompiled config.now periods.now }
+{
+    for (place, held) in HELD.iter().enumerate() {
+        contact_gives(rt, config, periods, 2 * place, false, *held);
+        contact_gives(rt, config, periods, 2 * place, true, FREE);
+        contact_gives(rt, config, periods, 2 * place + 1, false, FREE);
+        contact_gives(rt, config, periods, 2 * place + 1, true, *held);
+    }
+}
+
 #[test]
-fn contacts_of_hosts_and_services(rt: HostRuntime) -> Result<(), Fail> {
+fn filters_of_contacts(rt: HostRuntime) -> Result<(), Fail> {
+    let contacts = contacts(rt.alloc())?;
     let mut config = periods(rt.alloc(), &PERIODS)?;
     let all = compile_all(rt.alloc(), &config)?;
-    config.contacts = Sequence::new(contacts(rt.alloc())?);
-    for (place, held) in HELD.iter().enumerate() {
-        contact_gives(&rt, &config, all.as_slice(), 2 * place, false, *held);
-        contact_gives(&rt, &config, all.as_slice(), 2 * place, true, FREE);
-        contact_gives(&rt, &config, all.as_slice(), 2 * place + 1, false, FREE);
-        contact_gives(&rt, &config, all.as_slice(), 2 * place + 1, true, *held);
-    }
+    config.contacts = Sequence::new(contacts);
+    contacts_give(&rt, &config, all.as_slice());
     Ok(())
 }

@@ -14,7 +14,8 @@ use due_model::state::State;
 use due_model::zone::Zone;
 use time_period::compiled::Compiled;
 
-/// A notification that is attempted, and what it is judged by. It borrows the zone and the periods.
+/// A notification that is attempted, with all that filters read besides the object's view. Definitions speak of
+/// `due_model`'s plain attempt: the kind, the state and the moment. It borrows the zone and the periods.
 #[derive(Clone, Copy)]
 pub struct Attempt<'a> {
     /// In seconds since the epoch: 0 to 32,503,679,999.

@@ -13,7 +13,8 @@ use crate::verdict::stop_if;
 use due_model::config::{Config, Contact, ContactId, Rights};
 use due_model::notice::Filter;
 
-/// The first of a contact's filters that fails, in their order, or Ok. It takes no memory.
+/// Tries the filters of a contact in their order. The error is the first one that fails (chapter "Notifications").
+/// The attempt's letter is that of its kind and state, and its periods are the configuration's. It takes no memory.
 pub fn contact_verdict(
     config: &Config,
     contact: ContactId,

@@ -4,7 +4,8 @@ ghost use Rattle.std.specs.Prelude.{◌≡◌, ◌+◌, ◌*◌, ◌≤◌, ◌=
 ghost use Rattle.std.specs.Result.{result_err};
 ghost use Rattle.due_model.specs.declared.config.Config.{Config};
 ghost use Rattle.due_model.specs.Limits.{last_moment, max_number};
-ghost use Rattle.due_model.specs.Rules.{failing, has_letter, is_problem, is_recovery, is_of_downtime, is_of_problem, is_too_soon, letter_of};
+ghost use Rattle.due_model.specs.Rules.{failing, has_letter, is_too_soon, letter_of};
+ghost use Rattle.due_model.specs.Rules.{is_problem, is_recovery, is_of_downtime, is_of_problem};
 ghost use Rattle.time_period.specs.Days.{AreCompiled};
 ghost use Rattle.filters.specs.Attempt.{IsLastInRange, plain};
 
@@ -14,7 +15,9 @@ use crate::verdict::stop_if;
 use due_model::notice::{Filter, Kind};
 use due_model::rules::{View, is_too_soon};
 
-/// The first of an object's filters that fails, in their order, or Ok. It takes no memory.
+/// Tries the filters of an object in their order. The error is the first one that fails (chapter "Notifications").
+/// The attempt's letter is that of its kind and state, and numbers are within their limits: a notice's gap is at most
+/// 60,000,000 seconds. It takes no memory.
 pub fn object_verdict(view: View, attempt: &Attempt<'_>) -> Result<(), Filter>
     requires moment { attempt.now.moment ≤ last_moment }
     requires letter { attempt.now.letter ≡ letter_of attempt.now.kind attempt.now.state }
