@@ -1,0 +1,56 @@
+//! The filters of a contact.
+
+ghost use Rattle.std.specs.Prelude.{◌≡◌, ◌<◌, ◌≤◌, not, length, slice_get, Some};
+ghost use Rattle.std.specs.Result.{result_err};
+ghost use Rattle.due_model.specs.declared.config.Contact.{Contact};
+ghost use Rattle.due_model.specs.Limits.{last_moment};
+ghost use Rattle.due_model.specs.Rules.{contact_failing, letter_of};
+ghost use Rattle.time_period.specs.Days.{AreCompiled};
+ghost use Rattle.filters.specs.Attempt.{plain, rights_of};
+
+use crate::attempt::Attempt;
+use crate::verdict::stop_if;
+use due_model::config::{Config, Contact, ContactId, Rights};
+use due_model::notice::Filter;
+
+/// Tries the filters of a contact in their order. The error is the first one that fails (chapter "Notifications").
+/// The attempt's letter is that of its kind and state, and its periods are the configuration's. It takes no memory.
+pub fn contact_verdict(
+    config: &Config,
+    contact: ContactId,
+    attempt: &Attempt<'_>,
+) -> Result<(), Filter>
+    requires contact { contact.0 < length config.now.contacts }
+    requires periods { AreCompiled config.now attempt.now.periods.now }
+    requires moment { attempt.now.moment ≤ last_moment }
+    requires letter { attempt.now.letter ≡ letter_of attempt.now.kind attempt.now.state }
+    ensures { (k : Contact) → slice_get config.now.contacts contact.0 ≡ Some k
+        → result_err result ≡ contact_failing config.now attempt.now.zone.now
+        (rights_of attempt.now.service k) (plain attempt.now) }
+{
+    let rights = rights_of(
+        attempt.service,
+        &config.contacts.as_slice()[usize::from(contact.0)],
+    );
+    stop_if(is_disabled(rights), Filter::ContactDisabled)?;
+    stop_if(attempt.lacks_letter(rights.options), Filter::ContactOptions)?;
+    stop_if(attempt.is_outside(rights.period), Filter::ContactPeriod)
+}
+
+/// What a contact is notified of: for services, or for hosts.
+fn rights_of(service: bool, contact: &Contact) -> &Rights
+    ensures { result.now ≡ rights_of service contact.now }
+{
+    if service {
+        &contact.services
+    } else {
+        &contact.hosts
+    }
+}
+
+/// The contact's notifications for this kind of object are off.
+fn is_disabled(rights: &Rights) -> bool
+    ensures { result ≡ not rights.now.enabled }
+{
+    !rights.enabled
+}

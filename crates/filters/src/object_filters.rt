@@ -1,0 +1,104 @@
+//! The filters of an object.
+
+ghost use Rattle.std.specs.Prelude.{◌≡◌, ◌+◌, ◌*◌, ◌≤◌, ◌==◌, ◌&&◌, not, nat_lt, IfSome};
+ghost use Rattle.std.specs.Result.{result_err};
+ghost use Rattle.due_model.specs.declared.config.Config.{Config};
+ghost use Rattle.due_model.specs.Limits.{last_moment, max_number};
+ghost use Rattle.due_model.specs.Rules.{failing, has_letter, is_too_soon, letter_of};
+ghost use Rattle.due_model.specs.Rules.{is_problem, is_recovery, is_of_downtime, is_of_problem};
+ghost use Rattle.time_period.specs.Days.{AreCompiled};
+ghost use Rattle.filters.specs.Attempt.{IsLastInRange, plain};
+
+use crate::attempt::Attempt;
+use crate::kinds::{is_of_downtime, is_of_problem, is_problem, is_recovery};
+use crate::verdict::stop_if;
+use due_model::notice::{Filter, Kind};
+use due_model::rules::{View, is_too_soon};
+
+/// Tries the filters of an object in their order. The error is the first one that fails (chapter "Notifications").
+/// The attempt's letter is that of its kind and state, and numbers are within their limits: a notice's gap is at most
+/// 60,000,000 seconds. It takes no memory.
+pub fn object_verdict(view: View, attempt: &Attempt<'_>) -> Result<(), Filter>
+    requires moment { attempt.now.moment ≤ last_moment }
+    requires letter { attempt.now.letter ≡ letter_of attempt.now.kind attempt.now.state }
+    requires began { view.began ≤ last_moment }
+    requires delay { view.delay ≤ max_number }
+    requires last { IfSome view.last IsLastInRange }
+    ensures { (c : Config) → AreCompiled c attempt.now.periods.now
+        → result_err result ≡ failing c attempt.now.zone.now view (plain attempt.now) }
+{
+    let kind = attempt.kind;
+    stop_if(is_switched_off(view), Filter::Program)?;
+    stop_if(is_disabled(view), Filter::Disabled)?;
+    stop_if(is_down(view, kind), Filter::Downtime)?;
+    stop_if(is_flapping(view, kind), Filter::Flapping)?;
+    stop_if(attempt.lacks_letter(view.options), Filter::Options)?;
+    stop_if(is_without_problem(view, kind), Filter::NoProblem)?;
+    stop_if(attempt.is_outside(view.period), Filter::Period)?;
+    stop_if(depends(view, kind), Filter::Dependency)?;
+    stop_if(is_within_delay(view, attempt), Filter::FirstDelay)?;
+    stop_if(is_within_interval(view, attempt), Filter::Interval)
+}
+
+/// The program switch is off.
+fn is_switched_off(view: View) -> bool
+    ensures { result ≡ not view.program }
+{
+    !view.program
+}
+
+/// The object's notifications are off.
+fn is_disabled(view: View) -> bool
+    ensures { result ≡ not view.enabled }
+{
+    !view.enabled
+}
+
+/// The object, or a service's host, is in downtime. Downtimes themselves are told.
+fn is_down(view: View, kind: Kind) -> bool
+    ensures { result ≡ (not (is_of_downtime kind) && view.down) }
+{
+    !is_of_downtime(kind) && view.down
+}
+
+/// The object is flapping, and this is about a problem.
+fn is_flapping(view: View, kind: Kind) -> bool
+    ensures { result ≡ (is_of_problem kind && view.flapping) }
+{
+    is_of_problem(kind) && view.flapping
+}
+
+/// A recovery from a problem of which no notice went out.
+fn is_without_problem(view: View, kind: Kind) -> bool
+    ensures { result ≡ (is_recovery kind && view.sent == 0) }
+{
+    is_recovery(kind) && view.sent == 0
+}
+
+/// A notification dependency fails, and this is about a problem.
+fn depends(view: View, kind: Kind) -> bool
+    ensures { result ≡ (is_of_problem kind && view.depends) }
+{
+    is_of_problem(kind) && view.depends
+}
+
+/// No notice of the problem went out, and the delay since its first event hasn't passed.
+fn is_within_delay(view: View, attempt: &Attempt<'_>) -> bool
+    requires began { view.began ≤ last_moment }
+    requires delay { view.delay ≤ max_number }
+    ensures { result ≡ (is_problem attempt.now.kind && view.sent == 0
+        && nat_lt attempt.now.moment (view.began + 60 * view.delay)) }
+{
+    is_problem(attempt.kind)
+        && view.sent == 0
+        && attempt.moment < view.began + 60 * u64::from(view.delay)
+}
+
+/// The last problem notice reported the same state, and its interval is 0 or hasn't passed.
+fn is_within_interval(view: View, attempt: &Attempt<'_>) -> bool
+    requires last { IfSome view.last IsLastInRange }
+    ensures { result ≡ (is_problem attempt.now.kind
+        && is_too_soon view.last attempt.now.state attempt.now.moment) }
+{
+    is_problem(attempt.kind) && is_too_soon(view.last, attempt.state, attempt.moment)
+}
