@@ -4,6 +4,5 @@
 
 pub mod attempt;
 pub mod contact_filters;
-mod kinds;
 pub mod object_filters;
 mod verdict;

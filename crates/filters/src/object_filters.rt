@@ -10,7 +10,6 @@ ghost use Rattle.time_period.specs.Days.{AreCompiled};
 ghost use Rattle.filters.specs.Attempt.{IsLastInRange, plain};
 
 use crate::attempt::Attempt;
-use crate::kinds::{is_of_downtime, is_of_problem, is_problem, is_recovery};
 use crate::verdict::stop_if;
 use due_model::notice::{Filter, Kind};
 use due_model::rules::{View, is_too_soon};
@@ -58,28 +57,28 @@ fn is_disabled(view: View) -> bool
 fn is_down(view: View, kind: Kind) -> bool
     ensures { result ≡ (not (is_of_downtime kind) && view.down) }
 {
-    !is_of_downtime(kind) && view.down
+    !kind.is_of_downtime() && view.down
 }
 
 /// The object is flapping, and this is about a problem.
 fn is_flapping(view: View, kind: Kind) -> bool
     ensures { result ≡ (is_of_problem kind && view.flapping) }
 {
-    is_of_problem(kind) && view.flapping
+    kind.is_of_problem() && view.flapping
 }
 
 /// A recovery from a problem of which no notice went out.
 fn is_without_problem(view: View, kind: Kind) -> bool
     ensures { result ≡ (is_recovery kind && view.sent == 0) }
 {
-    is_recovery(kind) && view.sent == 0
+    kind.is_recovery() && view.sent == 0
 }
 
 /// A notification dependency fails, and this is about a problem.
 fn depends(view: View, kind: Kind) -> bool
     ensures { result ≡ (is_of_problem kind && view.depends) }
 {
-    is_of_problem(kind) && view.depends
+    kind.is_of_problem() && view.depends
 }
 
 /// No notice of the problem went out, and the delay since its first event hasn't passed.
@@ -89,7 +88,7 @@ fn is_within_delay(view: View, attempt: &Attempt<'_>) -> bool
     ensures { result ≡ (is_problem attempt.now.kind && view.sent == 0
         && nat_lt attempt.now.moment (view.began + 60 * view.delay)) }
 {
-    is_problem(attempt.kind)
+    attempt.kind.is_problem()
         && view.sent == 0
         && attempt.moment < view.began + 60 * u64::from(view.delay)
 }
@@ -100,5 +99,5 @@ fn is_within_interval(view: View, attempt: &Attempt<'_>) -> bool
     ensures { result ≡ (is_problem attempt.now.kind
         && is_too_soon view.last attempt.now.state attempt.now.moment) }
 {
-    is_problem(attempt.kind) && is_too_soon(view.last, attempt.state, attempt.moment)
+    attempt.kind.is_problem() && is_too_soon(view.last, attempt.state, attempt.moment)
 }
