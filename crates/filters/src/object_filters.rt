@@ -4,7 +4,7 @@ ghost use Rattle.std.specs.Prelude.{◌≡◌, ◌+◌, ◌*◌, ◌≤◌, ◌=
 ghost use Rattle.std.specs.Result.{result_err};
 ghost use Rattle.due_model.specs.declared.config.Config.{Config};
 ghost use Rattle.due_model.specs.Limits.{last_moment, max_number};
-ghost use Rattle.due_model.specs.Rules.{failing, has_letter, is_too_soon, letter_of};
+ghost use Rattle.due_model.specs.Rules.{failing, is_too_soon, letter_of};
 ghost use Rattle.due_model.specs.Rules.{is_problem, is_recovery, is_of_downtime, is_of_problem};
 ghost use Rattle.time_period.specs.Days.{AreCompiled};
 ghost use Rattle.filters.specs.Attempt.{IsLastInRange, plain};
