@@ -63,6 +63,9 @@ hard_fits s t old c zone o object e past fits is at =
     ∙ sym (ap (within_hard c zone object s (hard o past) (moment (e ∷ past)) (began o past) (problem c zone o object past)) (eq-eqb o o refl))
     ∙ sym (ap (λ (k : EventKind). (λ (x : Event). book_within c zone o object x past) (record { moment = e.moment; kind = k })) is)
 
+pub hard_fits_by : (s : State) (t : ℕ) (old new : BookValues) → new ≡ after_hard s t old → HardFits s t old new
+hard_fits_by s t old new is = subst (HardFits s t old) (sym is) (hard_fits s t old)
+
 -- within an event that gives the object no hard state
 
 other_within : (c : Config) (zone : Zone) (o : ℕ) (object : Object) (m : ℕ) (k : EventKind) (past : List Event) → is_hard_of o k ≡ false

@@ -81,13 +81,27 @@ impl Book {
         ensures values { self.new ≡ after_hard state t self.old }
         ensures fits { HardFits state t self.old self.new }
     {
-        if state.is_problem() && !self.state.is_problem() {
-            self.began = t;
-            self.sent = 0;
-            self.last = None;
+        *self = self.in_state(state, t);
+    }
+
+    /// The book of the object in this hard state at moment `t`.
+    fn in_state(self, state: State, t: u64) -> Book
+        requires { t ≤ last_moment }
+        ensures { result ≡ after_hard state t self }
+    {
+        if state.is_problem() && !self.is_running() {
+            Book {
+                state,
+                began: t,
+                ..Book::new()
+            }
+        } else {
+            Book {
+                state,
+                due: None,
+                ..self
+            }
         }
-        self.state = state;
-        self.due = None;
     }
 
     /// A problem notice goes out at moment `t`; `interval` is how long it keeps the next of the same state back, in
@@ -114,10 +128,10 @@ impl Book {
         self.due = next_notice(t, interval);
     }
 
-    /// A filter stops an attempt as a problem at moment `t`. It doesn't count. The clock attempts the problem again
-    /// at `next` after a period and after the first delay, whose moments the caller knows; when the last notice
-    /// lets the next out after an interval; and 60 seconds later after any other filter. It asks for a running
-    /// problem.
+    /// A filter stops an attempt as a problem at moment `t`. It doesn't count. The clock attempts the problem again:
+    /// after `Period` and `FirstDelay` at `next`, a moment that the caller knows, and never where that is none; after
+    /// `Interval` once the last notice's interval has passed; after any other filter 60 seconds later. It asks for
+    /// a running problem.
     pub fn suppressed(&mut self, filter: Filter, t: u64, next: Option<u64>)
         requires runs { is_problem_state self.old.state ≡ true }
         requires moment { t ≤ last_moment }
