@@ -1,0 +1,141 @@
+//! Books of one object through the worked examples.
+
+ghost use Rattle.std.specs.Prelude.{◌≡◌, true};
+ghost use Rattle.due_model.specs.Readings.{is_problem_state};
+
+use due_model::limits::LAST_MOMENT;
+use due_model::notice::Filter;
+use due_model::rules::Last;
+use due_model::state::State;
+use problem_count::Book;
+use std::process::Abort;
+use std::test::Fail;
+
+/// What a book is told.
+#[derive(Clone, Copy)]
+enum Told {
+    /// The object has this hard state.
+    Hard(State),
+    /// A problem notice goes out, and keeps the next one back for so many seconds.
+    Sent(u64),
+    /// A filter stops a problem, to be attempted again at this moment where the configuration says when.
+    Stopped(Filter, Option<u64>),
+}
+
+/// At this moment the book is told this, and then it has this number and is due at that moment.
+type Step = (u64, Told, u64, Option<u64>);
+
+/// The example `renotify`: an interval of 60 seconds.
+const RENOTIFY: [Step; 3] = [
+    (1000, Told::Hard(State::Down), 1, None),
+    (1000, Told::Sent(60), 2, Some(1060)),
+    (1060, Told::Sent(60), 3, Some(1120)),
+];
+
+/// The example `interval-zero`: from the fourth notice on an escalation with interval 0 matches.
+const INTERVAL_ZERO: [Step; 7] = [
+    (1000, Told::Hard(State::Warning), 1, None),
+    (1000, Told::Sent(60), 2, Some(1060)),
+    (1060, Told::Sent(60), 3, Some(1120)),
+    (1120, Told::Sent(60), 4, Some(1180)),
+    (1180, Told::Sent(0), 5, None),
+    (10_000, Told::Hard(State::Critical), 5, None),
+    (10_000, Told::Sent(0), 6, None),
+];
+
+/// The example `first-delay`: a delay of 120 seconds.
+const FIRST_DELAY: [Step; 3] = [
+    (1000, Told::Hard(State::Down), 1, None),
+    (
+        1000,
+        Told::Stopped(Filter::FirstDelay, Some(1120)),
+        1,
+        Some(1120),
+    ),
+    (1120, Told::Sent(60), 2, Some(1180)),
+];
+
+/// The example `work-hours`: the period holds again the next morning.
+const WORK_HOURS: [Step; 3] = [
+    (61_200, Told::Hard(State::Down), 1, None),
+    (
+        61_200,
+        Told::Stopped(Filter::Period, Some(118_800)),
+        1,
+        Some(118_800),
+    ),
+    (118_800, Told::Sent(60), 2, Some(118_860)),
+];
+
+/// The example `flapping`, and then the same state again, the recovery, and the next problem.
+const NEXT_PROBLEM: [Step; 10] = [
+    (1010, Told::Hard(State::Down), 1, None),
+    (1010, Told::Stopped(Filter::Flapping, None), 1, Some(1070)),
+    (1070, Told::Sent(60), 2, Some(1130)),
+    (1080, Told::Hard(State::Down), 2, None),
+    (1080, Told::Stopped(Filter::Interval, None), 2, Some(1130)),
+    (1090, Told::Hard(State::Unreachable), 2, None),
+    (1090, Told::Stopped(Filter::Program, Some(7)), 2, Some(1150)),
+    (1100, Told::Hard(State::Up), 1, None),
+    (1110, Told::Hard(State::Up), 1, None),
+    (1120, Told::Hard(State::Down), 1, None),
+];
+
+/// The book after a step.
+fn after_step(rt: &impl Abort, book: Book, t: u64, what: Told) -> Book {
+    let mut book = book;
+    assert!(rt; t <= LAST_MOMENT);
+    match what {
+        Told::Hard(state) => book.hard(state, t),
+        Told::Sent(interval) => {
+            assert!(rt; book.is_running() && book.sent() < 1000 && interval <= 60_000_000);
+            book.went_out(t, interval);
+        }
+        Told::Stopped(filter, next) => {
+            assert!(rt; book.is_running());
+            book.suppressed(filter, t, next);
+        }
+    }
+    book
+}
+
+/// Each step gives the number and the moment that stand beside it. It returns the book at the end.
+fn goes(rt: &impl Abort, steps: &[Step]) -> Book {
+    let mut book = Book::new();
+    for (t, what, number, due) in steps {
+        book = after_step(rt, book, *t, *what);
+        assert!(rt; (book.number(), book.due()) == (*number, *due));
+    }
+    book
+}
+
+#[test]
+fn worked_rows(rt: HostRuntime) -> Result<(), Fail> {
+    for steps in [
+        RENOTIFY.as_slice(),
+        FIRST_DELAY.as_slice(),
+        WORK_HOURS.as_slice(),
+    ] {
+        let _book = goes(&rt, steps);
+    }
+    Ok(())
+}
+
+#[test]
+fn last_notice_of_a_problem(rt: HostRuntime) -> Result<(), Fail> {
+    let book = goes(&rt, &INTERVAL_ZERO);
+    let last = Last {
+        state: State::Critical,
+        moment: 10_000,
+        gap: 0,
+    };
+    assert!(rt; (book.sent(), book.last(), book.began()) == (5, Some(last), 1000));
+    Ok(())
+}
+
+#[test]
+fn next_problem(rt: HostRuntime) -> Result<(), Fail> {
+    let book = goes(&rt, &NEXT_PROBLEM);
+    assert!(rt; (book.sent(), book.last(), book.began()) == (0, None, 1120));
+    Ok(())
+}

@@ -1,0 +1,2 @@
+mod FitLaws
+mod AttemptLaws

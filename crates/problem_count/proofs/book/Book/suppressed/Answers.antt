@@ -1,0 +1,5 @@
+use Rattle.problem_count.proofs.FitLaws.{suppressed_fits_by}
+use Rattle.problem_count.proofs.book.Book.suppressed.Goals as goal
+
+pub returns-clause-fits : goal.returns-clause-fits
+returns-clause-fits c = suppressed_fits_by c.args.filter c.args.t c.args.next _ c.args.self.now _ c.self.view_is c.retry-self-inside.ensures c.requires.runs

@@ -1,0 +1,5 @@
+use Rattle.problem_count.proofs.FitLaws.{sent_fits_by}
+use Rattle.problem_count.proofs.book.Book.went_out.Goals as goal
+
+pub returns-clause-fits : goal.returns-clause-fits
+returns-clause-fits c = sent_fits_by c.args.t c.args.interval _ c.args.self.now _ c.self.view_is c.next_notice-self-inside.ensures c.requires.runs

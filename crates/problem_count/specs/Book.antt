@@ -1,0 +1,56 @@
+-- What a book is to its callers, and what each call makes of it.
+use Rattle.std.specs.Prelude.{ℕ, ◌+◌, ◌*◌, ◌≤◌, Bool, not, ◌&&◌, Option, Some, None, IfSome, if◌then◌else◌}
+use Rattle.due_model.specs.declared.notice.Filter.{Filter}
+use Rattle.due_model.specs.declared.notice.Filter.TheVariants as filter
+use Rattle.due_model.specs.declared.rules.Last.{Last}
+use Rattle.due_model.specs.declared.state.State.{State}
+use Rattle.due_model.specs.declared.state.State.TheVariants.{Pending}
+use Rattle.due_model.specs.Limits.{last_moment, max_number}
+use Rattle.due_model.specs.Readings.{is_problem_state}
+use Rattle.due_model.specs.Histories.{after_last}
+
+-- what a book keeps
+pub record BookValues : Type 0 where
+  -- the object's last hard state, and when its last problem began
+  pub state : State
+  pub began : ℕ
+  -- how many notices of that problem went out, and the last of them
+  pub sent : ℕ
+  pub last : Option Last
+  -- when the clock next attempts the problem that runs; never, where that says so
+  pub due : Option ℕ
+
+-- of an object of which nothing is known yet
+abbrev pub new_book : BookValues
+new_book = record { state = Pending; began = 0; sent = 0; last = None; due = None }
+
+-- a problem state after an OK or a pending one
+abbrev pub begins_problem : State → BookValues → Bool
+begins_problem s book = is_problem_state s && not (is_problem_state book.state)
+
+-- the book of an object that has this hard state at moment t: an empty one where a problem begins
+abbrev pub after_hard : State → (t : ℕ) → BookValues → BookValues
+after_hard s t book =
+    if begins_problem s book
+    then record { state = s; began = t; sent = 0; last = None; due = None }
+    else record book { state = s; due = None }
+
+-- the number of the running problem's next notice
+abbrev pub number_of : BookValues → ℕ
+number_of book = if is_problem_state book.state then book.sent + 1 else 1
+
+-- when a problem is attempted again, after an attempt at moment t that this filter stopped; `next` has it for
+-- the filters of which the configuration says when
+abbrev pub retry_by : Option Last → (t : ℕ) → (next : Option ℕ) → Filter → Option ℕ
+retry_by last t next filter.Period = next
+retry_by last t next filter.FirstDelay = next
+retry_by last t next filter.Interval = after_last last
+retry_by last t next why = Some (t + 60)
+
+-- the greatest gap that a configuration can give, in seconds
+abbrev pub longest_gap : ℕ
+longest_gap = 60 * max_number
+
+-- a notice that went out in time, with a gap that a configuration can give
+abbrev pub LastIsInRange : Option Last → Type 0
+LastIsInRange last = IfSome last (λ l. (l.moment ≤ last_moment) × (l.gap ≤ longest_gap))

@@ -1,0 +1,123 @@
+-- What a book stands for: the definitions' values after a past, and within an event.
+use Rattle.std.specs.Prelude.{◌≡◌, ℕ, ◌+◌, ◌*◌, true, List, [], ◌∷◌, Option, Some, None, if◌then◌else◌}
+use Rattle.due_model.specs.declared.config.Config.{Config}
+use Rattle.due_model.specs.declared.config.Object.{Object}
+use Rattle.due_model.specs.declared.event.Event.{Event}
+use Rattle.due_model.specs.declared.event.EventKind.TheVariants.{Hard}
+use Rattle.due_model.specs.declared.notice.Filter.{Filter}
+use Rattle.due_model.specs.declared.notice.Filter.TheVariants as filter
+use Rattle.due_model.specs.declared.notice.Kind.TheVariants.{Problem}
+use Rattle.due_model.specs.declared.notice.Outcome.{Outcome}
+use Rattle.due_model.specs.declared.notice.Outcome.TheVariants.{Sent, Suppressed}
+use Rattle.due_model.specs.declared.state.State.{State}
+use Rattle.due_model.specs.declared.zone.Zone.{Zone}
+use Rattle.due_model.specs.Periods.{next_in}
+use Rattle.due_model.specs.Readings.{began, hard, is_problem_of, is_problem_state, moment}
+use Rattle.due_model.specs.Histories.{before, hist, last_notice, notices_sent, of_problem, outcome, ready}
+use Rattle.problem_count.specs.Book.{BookValues}
+
+-- the outcomes of the object's last problem, the newest first
+abbrev pub problem : Config → Zone → ℕ → Object → List Event → List Outcome
+problem c zone o object past = of_problem o past (hist c zone o object past)
+
+-- the outcomes of the problem that runs at an event, or ends there, from before that event
+abbrev pub problem_before : Config → Zone → ℕ → Object → Event → List Event → List Outcome
+problem_before c zone o object e past = before o e past (hist c zone o object past)
+
+-- what becomes of the object at an event
+abbrev pub outcome_at : Config → Zone → ℕ → Object → Event → List Event → Outcome
+outcome_at c zone o object e past = outcome c zone o object e past (hist c zone o object past)
+
+-- Ready, of an object in this state whose last problem began at that moment and had these outcomes; never, where no
+-- problem runs
+abbrev pub due_by : Config → Zone → Object → State → (began : ℕ) → List Outcome → Option ℕ
+due_by c zone object s began outcomes =
+    if is_problem_state s then ready c zone object began outcomes else None
+
+-- the book of object o after a past
+abbrev pub book_of : Config → Zone → ℕ → Object → List Event → BookValues
+book_of c zone o object past = record {
+  state = hard o past;
+  began = began o past;
+  sent = notices_sent (problem c zone o object past);
+  last = last_notice (problem c zone o object past);
+  due = due_by c zone object (hard o past) (began o past) (problem c zone o object past);
+}
+
+-- the book within an event, before what becomes of it: with nothing due, where the event is a hard problem state
+abbrev pub book_within : Config → Zone → ℕ → Object → Event → List Event → BookValues
+book_within c zone o object e past = record {
+  state = hard o (e ∷ past);
+  began = began o (e ∷ past);
+  sent = notices_sent (problem_before c zone o object e past);
+  last = last_notice (problem_before c zone o object e past);
+  due = if is_problem_of o e.kind
+      then None
+      else due_by c zone object (hard o (e ∷ past)) (began o (e ∷ past))
+      (problem_before c zone o object e past);
+}
+
+-- Fits: each value that is kept is the definitions' after this past.
+abbrev pub BookFits : Config → Zone → ℕ → Object → List Event → BookValues → Type 0
+BookFits c zone o object past book = book ≡ book_of c zone o object past
+
+-- likewise, within an event
+abbrev pub BookFitsWithin : Config → Zone → ℕ → Object → Event → List Event → BookValues → Type 0
+BookFitsWithin c zone o object e past book = book ≡ book_within c zone o object e past
+
+-- the book fits the past of each object of which nothing happened
+abbrev pub FitsNothing : BookValues → Type 0
+FitsNothing book = (c : Config) (zone : Zone) (o : ℕ) (object : Object)
+    → BookFits c zone o object [] book
+
+-- Whatever past the old book fits, the new one fits within the event that gives the object this hard state at t.
+abbrev pub HardFits : State → (t : ℕ) → (old new : BookValues) → Type 0
+HardFits s t old new =
+    (c : Config) (zone : Zone) (o : ℕ) (object : Object) (e : Event) (past : List Event)
+    → BookFits c zone o object past old
+    → e.kind ≡ Hard (record { 0 = o }) s → t ≡ moment (e ∷ past)
+    → BookFitsWithin c zone o object e past new
+
+-- Whatever event the old book fits within, of which a problem notice goes out at t with this gap, the new one fits
+-- after it.
+abbrev pub SentFits : (t gap : ℕ) → (old new : BookValues) → Type 0
+SentFits t gap old new =
+    (c : Config) (zone : Zone) (o : ℕ) (object : Object) (e : Event) (past : List Event)
+    → BookFitsWithin c zone o object e past old
+    → (s : State) (number : ℕ)
+    → outcome_at c zone o object e past ≡ Sent Problem s number t gap
+    → BookFits c zone o object (e ∷ past) new
+
+-- `next` is when a problem that began at that moment is attempted again, for the filters of which the configuration
+-- says when
+abbrev pub IsNextMoment : Config → Zone → Object → (began : ℕ) → Filter → (t : ℕ)
+    → (next : Option ℕ) → Type 0
+IsNextMoment c zone object began filter.Period t next = next ≡ next_in c zone object.period t
+IsNextMoment c zone object began filter.FirstDelay t next = next ≡ Some (began + 60 * object.delay)
+IsNextMoment c zone object began why t next = Unit {0}
+
+-- Whatever event the old book fits within, at which this filter stops a problem at t, the new one fits after it.
+abbrev pub SuppressedFits : Filter → (t : ℕ) → (next : Option ℕ) → (old new : BookValues) → Type 0
+SuppressedFits why t next old new =
+    (c : Config) (zone : Zone) (o : ℕ) (object : Object) (e : Event) (past : List Event)
+    → BookFitsWithin c zone o object e past old
+    → (s : State) (number : ℕ)
+    → outcome_at c zone o object e past ≡ Suppressed Problem s number t why
+    → IsNextMoment c zone object old.began why t next
+    → BookFits c zone o object (e ∷ past) new
+
+-- Whatever past the book fits, this is the number of the next problem notice, if the problem runs.
+abbrev pub NumberIsNext : BookValues → (number : ℕ) → Type 0
+NumberIsNext book number =
+    (c : Config) (zone : Zone) (o : ℕ) (object : Object) (past : List Event)
+    → BookFits c zone o object past book
+    → is_problem_state (hard o past) ≡ true
+    → number ≡ notices_sent (problem c zone o object past) + 1
+
+-- Whatever past the book fits, the clock next attempts the problem at this moment, if it runs.
+abbrev pub DueIsReady : BookValues → (due : Option ℕ) → Type 0
+DueIsReady book due =
+    (c : Config) (zone : Zone) (o : ℕ) (object : Object) (past : List Event)
+    → BookFits c zone o object past book
+    → is_problem_state (hard o past) ≡ true
+    → due ≡ ready c zone object (began o past) (problem c zone o object past)

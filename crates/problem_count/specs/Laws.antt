@@ -1,0 +1,105 @@
+-- Laws of books, over every configuration, zone, object and past.
+use Rattle.std.specs.Prelude.{◌≡◌, ℕ, ◌≤◌, Bool, true, false, List, ◌∷◌, length, Option, Some, None, ◌==◌, if◌then◌else◌}
+use Rattle.due_model.specs.declared.config.Config.{Config}
+use Rattle.due_model.specs.declared.config.Object.{Object}
+use Rattle.due_model.specs.declared.event.Event.{Event}
+use Rattle.due_model.specs.declared.event.EventKind.{EventKind}
+use Rattle.due_model.specs.declared.event.EventKind.TheVariants.{Clock, Program, Hard, Downtime, Flapping}
+use Rattle.due_model.specs.declared.notice.Kind.TheVariants.{Problem}
+use Rattle.due_model.specs.declared.notice.Outcome.{Outcome}
+use Rattle.due_model.specs.declared.notice.Outcome.TheVariants.{Nothing, Sent, Suppressed}
+use Rattle.due_model.specs.declared.zone.Zone.{Zone}
+use Rattle.due_model.specs.Readings.{is_problem_state, moment}
+use Rattle.due_model.specs.Rules.{attempted, has_come, is_problem}
+use Rattle.due_model.specs.Histories.{outcome_of, status_after}
+use Rattle.problem_count.specs.Book.{BookValues}
+use Rattle.problem_count.specs.Fits.{BookFits, BookFitsWithin, outcome_at, problem_before}
+
+-- whether an event gives object o a hard state
+abbrev pub is_hard_of : ℕ → EventKind → Bool
+is_hard_of o (Hard p s) = p.0 == o
+is_hard_of o k = false
+
+-- whether an outcome is of an attempt as a problem
+abbrev pub is_of_problem_attempt : Outcome → Bool
+is_of_problem_attempt Nothing = false
+is_of_problem_attempt (Sent k s number t gap) = is_problem k
+is_of_problem_attempt (Suppressed k s number t why) = is_problem k
+
+-- within an event that gives the object no hard state a book still fits
+abbrev pub OtherEventsFit : Type 0
+OtherEventsFit =
+    (c : Config) (zone : Zone) (o : ℕ) (object : Object) (e : Event) (past : List Event)
+    (book : BookValues)
+    → BookFits c zone o object past book
+    → is_hard_of o e.kind ≡ false
+    → BookFitsWithin c zone o object e past book
+
+-- a book fits after an event that becomes no attempt as a problem
+abbrev pub OtherOutcomesFit : Type 0
+OtherOutcomesFit =
+    (c : Config) (zone : Zone) (o : ℕ) (object : Object) (e : Event) (past : List Event)
+    (book : BookValues)
+    → BookFitsWithin c zone o object e past book
+    → is_of_problem_attempt (outcome_at c zone o object e past) ≡ false
+    → BookFits c zone o object (e ∷ past) book
+
+-- whether an event at moment t names object o, or is the clock's with the object due by then
+abbrev pub touches : ℕ → EventKind → (due : Option ℕ) → (t : ℕ) → Bool
+touches o Clock due t = has_come due t
+touches o (Program on) due t = false
+touches o (Hard p s) due t = p.0 == o
+touches o (Downtime p change) due t = p.0 == o
+touches o (Flapping p starts) due t = p.0 == o
+
+-- Of an event that doesn't touch the object nothing becomes, and the book fits on.
+abbrev pub UntouchedFit : Type 0
+UntouchedFit =
+    (c : Config) (zone : Zone) (o : ℕ) (object : Object) (e : Event) (past : List Event)
+    (book : BookValues)
+    → BookFits c zone o object past book
+    → touches o e.kind book.due (moment (e ∷ past)) ≡ false
+    → (outcome_at c zone o object e past ≡ Nothing) × BookFits c zone o object (e ∷ past) book
+
+-- what becomes of an event is what it attempts by the moment at which the book is due
+abbrev pub OutcomesAreByDue : Type 0
+OutcomesAreByDue =
+    (c : Config) (zone : Zone) (o : ℕ) (object : Object) (e : Event) (past : List Event)
+    (book : BookValues)
+    → BookFits c zone o object past book
+    → outcome_at c zone o object e past
+    ≡ outcome_of c zone o object e past (problem_before c zone o object e past)
+    (attempted o e.kind (status_after o past) book.due (moment (e ∷ past)))
+
+-- the clock attempts a problem exactly where the moment has come at which the book is due
+abbrev pub ClockAttemptsByDue : Type 0
+ClockAttemptsByDue =
+    (c : Config) (zone : Zone) (o : ℕ) (object : Object) (past : List Event) (book : BookValues)
+    (t : ℕ)
+    → BookFits c zone o object past book
+    → attempted o Clock (status_after o past) book.due t
+    ≡ (if has_come book.due t then Some Problem else None)
+
+-- a problem runs within an event that is attempted as one, whenever it is due
+abbrev pub ProblemsRun : Type 0
+ProblemsRun =
+    (c : Config) (zone : Zone) (o : ℕ) (object : Object) (e : Event) (past : List Event)
+    (book : BookValues) (due : Option ℕ) (t : ℕ)
+    → BookFitsWithin c zone o object e past book
+    → attempted o e.kind (status_after o past) due t ≡ Some Problem
+    → is_problem_state book.state ≡ true
+
+-- no more notices went out than there were events
+abbrev pub CountsAreFew : Type 0
+CountsAreFew =
+    (c : Config) (zone : Zone) (o : ℕ) (object : Object) (past : List Event) (book : BookValues)
+    → BookFits c zone o object past book
+    → book.sent ≤ length past
+
+-- nor within an event, than before it
+abbrev pub CountsWithinAreFew : Type 0
+CountsWithinAreFew =
+    (c : Config) (zone : Zone) (o : ℕ) (object : Object) (e : Event) (past : List Event)
+    (book : BookValues)
+    → BookFitsWithin c zone o object e past book
+    → book.sent ≤ length past

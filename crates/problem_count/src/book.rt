@@ -1,0 +1,206 @@
+//! A book: the problem of one object, told event by event what became of it.
+
+ghost use Rattle.std.specs.Prelude.{◌≡◌, ◌+◌, ◌*◌, ◌^◌, ◌<◌, ◌≤◌, true, None, Some, IfSome};
+ghost use Rattle.due_model.specs.Limits.{last_moment};
+ghost use Rattle.due_model.specs.Readings.{is_problem_state};
+ghost use Rattle.due_model.specs.Rules.{next_notice};
+ghost use Rattle.problem_count.specs.Book.{longest_gap, LastIsInRange, after_hard, new_book, number_of, retry_by};
+ghost use Rattle.problem_count.specs.Fits.{DueIsReady, FitsNothing, HardFits, NumberIsNext, SentFits, SuppressedFits};
+
+use due_model::notice::Filter;
+use due_model::rules::{Last, next_notice};
+use due_model::state::State;
+use std::marker::Model;
+
+/// What is kept of an object's last problem. It takes no memory. Moments are in seconds since the epoch.
+///
+/// An event that gives the object a hard state is told by `hard`, before what becomes of it. What becomes of an
+/// attempt as a problem is told by `went_out` or `suppressed`; all else leaves the book as it is.
+#[derive(Clone, Copy)]
+pub struct Book {
+    /// The object's last hard state.
+    state: State,
+    /// When its last problem began.
+    began: u64,
+    /// How many notices of that problem went out.
+    sent: u64,
+    /// The last of them.
+    last: Option<Last>,
+    /// When the clock next attempts the problem that runs; none is never.
+    due: Option<u64>,
+}
+
+impl Model for Book {
+    ghost use Rattle.std.specs.Prelude.{◌+◌, ◌^◌, ◌<◌, ◌≤◌};
+    ghost use Rattle.due_model.specs.Limits.{last_moment};
+    ghost use Rattle.problem_count.specs.Book.{BookValues, LastIsInRange};
+
+    ghost Value = { BookValues };
+
+    ghost view = { λ s. record {
+      state = s.state;
+      began = s.began;
+      sent = s.sent;
+      last = s.last;
+      due = s.due;
+    } };
+
+    ghost inverse = { λ d. record {
+      state = d.state;
+      began = d.began;
+      sent = d.sent;
+      last = d.last;
+      due = d.due;
+    } };
+
+    // Numbers and moments are in range, so that no sum of them is too great.
+    ghost invariant = { λ s. (s.sent + 1 < 2 ^ 64) × (s.began ≤ last_moment)
+        × LastIsInRange s.last };
+}
+
+impl Book {
+    /// The book of an object of which nothing is known yet.
+    pub fn new() -> Book
+        ensures values { result ≡ new_book }
+        ensures fits { FitsNothing result }
+    {
+        Book {
+            state: State::Pending,
+            began: 0,
+            sent: 0,
+            last: None,
+            due: None,
+        }
+    }
+
+    /// The object has this hard state at moment `t`. A problem state after an OK or a pending one begins a
+    /// problem (chapter "Notifications"). Nothing is due until what becomes of the state is told; after an OK
+    /// state nothing is due at all.
+    pub fn hard(&mut self, state: State, t: u64)
+        requires { t ≤ last_moment }
+        ensures values { self.new ≡ after_hard state t self.old }
+        ensures fits { HardFits state t self.old self.new }
+    {
+        *self = self.in_state(state, t);
+    }
+
+    /// The book of the object in this hard state at moment `t`.
+    fn in_state(self, state: State, t: u64) -> Book
+        requires { t ≤ last_moment }
+        ensures { result ≡ after_hard state t self }
+    {
+        if state.is_problem() && !self.is_running() {
+            Book {
+                state,
+                began: t,
+                ..Book::new()
+            }
+        } else {
+            Book {
+                state,
+                due: None,
+                ..self
+            }
+        }
+    }
+
+    /// A problem notice goes out at moment `t`; `interval` is how long it keeps the next of the same state back, in
+    /// seconds (at most 60,000,000), and 0 is for ever (chapter "Notifications"). It asks for a running problem and
+    /// a number below `u64::MAX`.
+    pub fn went_out(&mut self, t: u64, interval: u64)
+        requires runs { is_problem_state self.old.state ≡ true }
+        requires number { self.old.sent + 2 < 2 ^ 64 }
+        requires moment { t ≤ last_moment }
+        requires interval { interval ≤ longest_gap }
+        ensures values { self.new ≡ record self.old {
+          sent = self.old.sent + 1;
+          last = Some (record { state = self.old.state; moment = t; gap = interval });
+          due = next_notice t interval;
+        } }
+        ensures fits { SentFits t interval self.old self.new }
+    {
+        self.sent += 1;
+        self.last = Some(Last {
+            state: self.state,
+            moment: t,
+            gap: interval,
+        });
+        self.due = next_notice(t, interval);
+    }
+
+    /// A filter stops an attempt as a problem at moment `t`. It doesn't count. The clock attempts the problem again:
+    /// after `Period` and `FirstDelay` at `next`, a moment that the caller knows, and never where that is none; after
+    /// `Interval` once the last notice's interval has passed; after any other filter 60 seconds later. It asks for
+    /// a running problem.
+    pub fn suppressed(&mut self, filter: Filter, t: u64, next: Option<u64>)
+        requires runs { is_problem_state self.old.state ≡ true }
+        requires moment { t ≤ last_moment }
+        ensures values { self.new ≡ record self.old { due = retry_by self.old.last t next filter } }
+        ensures fits { SuppressedFits filter t next self.old self.new }
+    {
+        self.due = self.retry(filter, t, next);
+    }
+
+    /// When a problem is attempted again, after an attempt at moment `t` that this filter stopped; none is never.
+    fn retry(&self, filter: Filter, t: u64, next: Option<u64>) -> Option<u64>
+        requires { t ≤ last_moment }
+        ensures { result ≡ retry_by self.now.last t next filter }
+    {
+        match filter {
+            Filter::Period | Filter::FirstDelay => next,
+            Filter::Interval => {
+                let last = self.last?;
+                next_notice(last.moment, last.gap)
+            }
+            _ => Some(t + 60),
+        }
+    }
+
+    /// The number of the running problem's next notice: 1 more than those that went out. It is 1 where no problem
+    /// runs.
+    pub fn number(&self) -> u64
+        ensures value { result ≡ number_of self.now }
+        ensures next { NumberIsNext self.now result }
+    {
+        if self.is_running() { self.sent + 1 } else { 1 }
+    }
+
+    /// When the clock next attempts the running problem; none is never. Nothing is due where no problem runs.
+    pub fn due(&self) -> Option<u64>
+        ensures value { result ≡ self.now.due }
+        ensures ready { DueIsReady self.now result }
+    {
+        self.due
+    }
+
+    /// Whether a problem runs: the last hard state is a problem state.
+    pub fn is_running(&self) -> bool
+        ensures { result ≡ is_problem_state self.now.state }
+    {
+        self.state.is_problem()
+    }
+
+    /// How many notices of the last problem went out. It stays after the recovery, which has the next number.
+    pub fn sent(&self) -> u64
+        ensures value { result ≡ self.now.sent }
+        ensures range { result + 1 < 2 ^ 64 }
+    {
+        self.sent
+    }
+
+    /// The last notice of the last problem that went out.
+    pub fn last(&self) -> Option<Last>
+        ensures value { result ≡ self.now.last }
+        ensures range { LastIsInRange result }
+    {
+        self.last
+    }
+
+    /// When the last problem began; 0 where there was none.
+    pub fn began(&self) -> u64
+        ensures value { result ≡ self.now.began }
+        ensures range { result ≤ last_moment }
+    {
+        self.began
+    }
+}
