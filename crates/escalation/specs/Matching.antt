@@ -8,14 +8,17 @@ use Rattle.due_model.specs.declared.zone.Zone.{Zone}
 use Rattle.due_model.specs.Periods.{in_period}
 use Rattle.due_model.specs.Rules.{has_letter}
 
--- whether an escalation applies to the n-th notification of a problem of its object, of this letter, at t
+-- whether an escalation applies to the n-th notification of a problem of its object, of this letter
+-- and at t
 abbrev pub applies : Config → Zone → (n : ℕ) → OptionLetter → (t : ℕ) → Escalation → Bool
 applies c zone n letter t e =
-    nat_le e.first n && (e.last == 0 || nat_le n e.last) && has_letter e.options letter && in_period c zone e.period t
+    nat_le e.first n && (e.last == 0 || nat_le n e.last) && has_letter e.options letter
+    && in_period c zone e.period t
 
 -- the escalations at these places that apply
-abbrev pub applying : Config → Zone → (n : ℕ) → OptionLetter → (t : ℕ) → (places : List ℕ) → List Escalation
-applying c zone n letter t places = filter (applies c zone n letter t) (filter_map (slice_get c.escalations) places)
+abbrev pub applying : Config → Zone → (n : ℕ) → OptionLetter → (t : ℕ) → List ℕ → List Escalation
+applying c zone n letter t places =
+    filter (applies c zone n letter t) (filter_map (slice_get c.escalations) places)
 
 -- the least interval of escalations, where there is one
 abbrev pub least_of : List Escalation → Option ℕ

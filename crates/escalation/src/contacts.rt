@@ -1,6 +1,7 @@
 //! Who is notified.
 
-ghost use Rattle.std.specs.Prelude.{◌≡◌, ◌<◌, ◌≤◌, ◌++◌, All, Some, length, slice_get, IfOk, OnErr, OnOk};
+ghost use Rattle.std.specs.Prelude.{◌≡◌, ◌<◌, ◌≤◌, ◌++◌, All, Some, length, slice_get};
+ghost use Rattle.std.specs.Prelude.{IfOk, OnErr, OnOk};
 ghost use Rattle.due_model.specs.Accepted.{IsAccepted};
 ghost use Rattle.due_model.specs.Escalations.{contacts_with, has_contact, reach};
 ghost use Rattle.due_model.specs.Limits.{last_moment};
@@ -39,7 +40,8 @@ pub fn contacts(
     requires object { object.0 < length config.now.objects }
     requires moment { t ≤ last_moment }
     requires compiled { AreCompiled config.now periods.now }
-    ensures appended { OnOk result ((settings : Object) → slice_get config.now.objects object.0 ≡ Some settings
+    ensures appended { OnOk result ((settings : Object)
+        → slice_get config.now.objects object.0 ≡ Some settings
         → out.new.items ≡ out.old.items
         ++ contact_ids (reach config.now zone.now object.0 settings number letter t)) }
     ensures refused { OnErr result (out.new.items ≡ out.old.items) }
@@ -63,8 +65,10 @@ pub fn own_contacts(
 ) -> Result<(), AllocError>
     requires accepted { IsAccepted config.now }
     requires object { object.0 < length config.now.objects }
-    ensures appended { OnOk result ((settings : Object) → slice_get config.now.objects object.0 ≡ Some settings
-        → out.new.items ≡ out.old.items ++ contact_ids (contacts_with config.now (has_contact settings.contacts))) }
+    ensures appended { OnOk result ((settings : Object)
+        → slice_get config.now.objects object.0 ≡ Some settings
+        → out.new.items ≡ out.old.items
+        ++ contact_ids (contacts_with config.now (has_contact settings.contacts))) }
     ensures refused { OnErr result (out.new.items ≡ out.old.items) }
 {
     let own = config.objects.as_slice()[usize::from(object.0)]
@@ -89,7 +93,8 @@ fn name_applying(
     requires within { All (λ place. place < length config.now.escalations) places.now }
     requires moment { t ≤ last_moment }
     requires compiled { AreCompiled config.now periods.now }
-    ensures some { IfOk result (λ some. some ≡ has_some (applying config.now zone.now number letter t places.now)) }
+    ensures some { IfOk result (λ some. some
+        ≡ has_some (applying config.now zone.now number letter t places.now)) }
     ensures named { OnOk result (named.new.items ≡ named.old.items
         ++ named_by (applying config.now zone.now number letter t places.now)) }
 {
