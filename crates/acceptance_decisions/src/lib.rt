@@ -4,4 +4,6 @@
 #[cfg(test)]
 mod books;
 #[cfg(test)]
+mod escalations;
+#[cfg(test)]
 mod filters_rows;

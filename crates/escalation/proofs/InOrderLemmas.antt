@@ -1,0 +1,172 @@
+-- Contacts that were sorted and freed of doubles, as the numbers below a count that are among them.
+use Rattle.std.proofs.Common.{◌≡◌, ℕ, zero, suc, ◌+◌, ◌<◌, ◌≤◌, Bool, true, false, ◌||◌, cond, eqb, List, [], ◌∷◌, ◌++◌, length, map, get_or, Result, Ok, Err, OnOk, is_ok, refl, sym, ap, subst, ◌∙◌, ◌⊎◌, inl, inr, ⊎_elim, arith}
+use Rattle.std.specs.Prelude.{All, AllPairs, Contains, filter}
+use Rattle.std.specs.List.{dedup, dedup_from, range_with_len}
+use Rattle.std.specs.List.Sorted.{IsNonDecreasingBy, IsPermutation, IsSorted}
+use Rattle.std.specs.Ordering.{nat_cmp, is_lt}
+use Rattle.std.proofs.lemmas.Bool.Decides.{nat_tests}
+use Rattle.std.proofs.lemmas.Bool.{cases_eq, eq-eqb, ne_eqb}
+use Rattle.std.proofs.lemmas.List.{get_or-map, length-map}
+use Rattle.std.proofs.lemmas.List.Elements.{All-contains, All-map}
+use Rattle.std.proofs.lemmas.List.FromFn.{get_or-range_with_len, length-range_with_len}
+use Rattle.std.proofs.lemmas.List.Kept.{AllPairs-filter, AllPairs-from_increasing, Contains-dedup_nat, Contains-from_dedup}
+use Rattle.std.proofs.lemmas.List.Sorted.{Contains-permutation, IsPermutation-map, IsPermutation-sym}
+use Rattle.std.proofs.lemmas.Map.Keys.{IsStrictlyIncreasing-dedup}
+use Rattle.lemmas.proofs.Lists.{AllPairs-head, AllPairs-tail, range_increases}
+use Rattle.due_model.specs.declared.config.ContactId.{ContactId}
+use Rattle.due_model.specs.Escalations.{has_contact}
+use Rattle.escalation.specs.Named.{contact_ids}
+
+-- ---- what a list contains, one element at a time
+
+Contains-here : {X : Type 0} (x : X) (xs : List X) → Contains (x ∷ xs) x
+Contains-here x xs = (0, omega arith, refl)
+
+Contains-later : {X : Type 0} (x y : X) (xs : List X) → Contains xs y → Contains (x ∷ xs) y
+Contains-later x y xs at = (suc at.0, omega (arith, at.1), at.2)
+
+Contains-cases : {X : Type 0} (x y : X) (xs : List X) → Contains (x ∷ xs) y → (x ≡ y) ⊎ Contains xs y
+Contains-cases x y xs (zero, within, at) = inl at
+Contains-cases x y xs (suc k, within, at) = inr (k, omega arith, at)
+
+Contains-none : {X : Type 0} (x : X) → Contains [] x → ⊥
+Contains-none x at = omega (arith, at.1)
+
+-- ---- rising numbers are determined by which they are
+
+above : (x k : ℕ) (xs : List ℕ) → AllPairs (λ x y. x < y) (x ∷ xs) → Contains xs k → x < k
+above x k xs rising at = All-contains (λ y. x < y) xs k (AllPairs-head (λ x y. x < y) x xs rising) at
+
+-- the first of the one is not above that of the other
+first_low : (x y : ℕ) (xs ys : List ℕ) → AllPairs (λ x y. x < y) (y ∷ ys) → Contains (y ∷ ys) x → y ≤ x
+first_low x y xs ys rising at = elim (Contains-cases y x ys at) [
+  | inl same ↦ omega (arith, same)
+  | inr later ↦ omega (arith, above y x ys rising later)
+]
+
+-- what is in the rest of the one is in the rest of the other
+rest_in : (x y : ℕ) (xs ys : List ℕ) → x ≡ y → AllPairs (λ x y. x < y) (x ∷ xs) → ((k : ℕ) → Contains (x ∷ xs) k → Contains (y ∷ ys) k)
+    → (k : ℕ) → Contains xs k → Contains ys k
+rest_in x y xs ys same rising to k at = elim (Contains-cases y k ys (to k (Contains-later x k xs at))) [
+  | inl here ↦ absurd (omega (arith, above x k xs rising at, same, here))
+  | inr later ↦ later
+]
+
+pub same_rising : (xs ys : List ℕ) → AllPairs (λ x y. x < y) xs → AllPairs (λ x y. x < y) ys
+    → ((k : ℕ) → Contains xs k → Contains ys k) → ((k : ℕ) → Contains ys k → Contains xs k) → xs ≡ ys
+same_rising [] [] rising rising' to from = refl
+same_rising [] (y ∷ ys) rising rising' to from = absurd (Contains-none y (from y (Contains-here y ys)))
+same_rising (x ∷ xs) [] rising rising' to from = absurd (Contains-none x (to x (Contains-here x xs)))
+same_rising (x ∷ xs) (y ∷ ys) rising rising' to from =
+    let low : y ≤ x = first_low x y xs ys rising' (to x (Contains-here x xs)) in
+    let high : x ≤ y = first_low y x ys xs rising (from y (Contains-here y ys)) in
+    let same : x ≡ y = omega arith in
+    let rest : xs ≡ ys = same_rising xs ys (AllPairs-tail (λ x y. x < y) x xs rising) (AllPairs-tail (λ x y. x < y) y ys rising')
+    (rest_in x y xs ys same rising to) (rest_in y x ys xs (sym same) rising' from) in
+    ap (λ (z : ℕ). z ∷ xs) same ∙ ap (λ (zs : List ℕ). y ∷ zs) rest
+
+-- ---- what a filter contains
+
+Contains-filter : (p : ℕ → Bool) (xs : List ℕ) (k : ℕ) → Contains xs k → p k ≡ true → Contains (filter p xs) k
+Contains-filter p [] k at passes = absurd (Contains-none k at)
+Contains-filter p (x ∷ xs) k at passes = elim (Contains-cases x k xs at) [
+  | inl here ↦ let yes : p x ≡ true = ap p here ∙ passes in rw yes (subst (λ (y : ℕ). Contains (x ∷ filter p xs) y) here (Contains-here x (filter p xs)))
+  | inr later ↦ elim (p x) as (λ b. Contains (cond b (x ∷ filter p xs) (filter p xs)) k) [
+    | true ↦ Contains-later x k (filter p xs) (Contains-filter p xs k later passes)
+    | false ↦ Contains-filter p xs k later passes
+  ]
+]
+
+filter-Contains : (p : ℕ → Bool) (xs : List ℕ) (k : ℕ) → Contains (filter p xs) k → p k ≡ true
+filter-Contains p [] k at = absurd (Contains-none k at)
+filter-Contains p (x ∷ xs) k at =
+    elim (p x) as (λ b. p x ≡ b → Contains (cond b (x ∷ filter p xs) (filter p xs)) k → p k ≡ true) [
+      | true ↦ λ yes here. ⊎_elim
+          (λ (same : x ≡ k). sym (ap p same) ∙ yes)
+          (λ (later : Contains (filter p xs) k). filter-Contains p xs k later)
+          (Contains-cases x k (filter p xs) here)
+      | false ↦ λ no here. filter-Contains p xs k here
+    ] refl at
+
+below-Contains : (count k : ℕ) → k < count → Contains (range_with_len 0 count) k
+below-Contains count k low = (k, omega (arith, low, length-range_with_len 0 count), get_or-range_with_len 0 count k k low ∙ omega arith)
+
+-- ---- contacts by their numbers
+
+abbrev pub number : ContactId → ℕ
+number contact = contact.0
+
+pub ids_numbers : (contacts : List ContactId) → contacts ≡ contact_ids (map number contacts)
+ids_numbers [] = refl
+ids_numbers (k ∷ ks) = ap (λ (rest : List ContactId). k ∷ rest) (ids_numbers ks)
+
+or_true : (a b : Bool) → b ≡ true → (a || b) ≡ true
+or_true true b holds = refl
+or_true false b holds = holds
+
+has-Contains : (contacts : List ContactId) (k : ℕ) → has_contact contacts k ≡ true → Contains (map number contacts) k
+has-Contains [] k has = cc
+has-Contains (x ∷ xs) k has = elim (cases_eq x.0 k) [
+  | inl same ↦ subst (λ (y : ℕ). Contains (x.0 ∷ map number xs) y) same (Contains-here x.0 (map number xs))
+  | inr other ↦
+      let no : eqb x.0 k ≡ false = ne_eqb x.0 k other in
+      Contains-later x.0 k (map number xs) (has-Contains xs k (rw no at has))
+]
+
+Contains-has : (contacts : List ContactId) (k : ℕ) → Contains (map number contacts) k → has_contact contacts k ≡ true
+Contains-has [] k at = absurd (Contains-none k at)
+Contains-has (x ∷ xs) k at = elim (Contains-cases x.0 k (map number xs) at) [
+  | inl same ↦ let yes : eqb x.0 k ≡ true = eq-eqb x.0 k same in rw yes refl
+  | inr later ↦ or_true (eqb x.0 k) (has_contact xs k) (Contains-has xs k later)
+]
+
+-- ---- sorted, and freed of doubles
+
+dedup_from_numbers : (E : ContactId → ContactId → Bool) → ((a b : ContactId) → E a b ≡ eqb a.0 b.0) → (k : ContactId) (xs : List ContactId)
+    → map number (dedup_from E k xs) ≡ dedup_from eqb k.0 (map number xs)
+dedup_from_numbers E ties k [] = refl
+dedup_from_numbers E ties k (x ∷ xs) =
+    rw (ties x k) (elim (eqb x.0 k.0) as (λ b. map number (cond b (dedup_from E k xs) (k ∷ dedup_from E x xs)) ≡ cond b (dedup_from eqb k.0 (map number xs)) (k.0 ∷ dedup_from eqb x.0 (map number xs))) [
+      | true ↦ dedup_from_numbers E ties k xs
+      | false ↦ ap (λ (rest : List ℕ). k.0 ∷ rest) (dedup_from_numbers E ties x xs)
+    ])
+
+dedup_numbers : (E : ContactId → ContactId → Bool) → ((a b : ContactId) → E a b ≡ eqb a.0 b.0) → (xs : List ContactId)
+    → map number (dedup E xs) ≡ dedup eqb (map number xs)
+dedup_numbers E ties [] = refl
+dedup_numbers E ties (x ∷ xs) = dedup_from_numbers E ties x xs
+
+not_lower : (a b : ℕ) → b ≤ a → is_lt (nat_cmp a b) ≡ false
+not_lower a b low = grind (arith, nat_tests)
+
+sorted_numbers : (xs : List ContactId) → IsNonDecreasingBy number xs → IsSorted nat_cmp (map number xs)
+sorted_numbers xs rising = λ k d low high.
+    let long : length (map number xs) ≡ length xs = length-map xs number in
+    let e : ContactId = record { 0 = d } in
+    rw (get_or-map number xs (k + 1) e d (omega (arith, long, high)), get_or-map number xs k e d (omega (arith, long, high)))
+    (not_lower (get_or xs (k + 1) e).0 (get_or xs k e).0 (rising k (k + 1) e (omega arith) (omega (arith, long, high))))
+
+-- the numbers below the count that are among the contacts
+pub in_order : (E : ContactId → ContactId → Bool) → ((a b : ContactId) → E a b ≡ eqb a.0 b.0) → (xs ys zs : List ContactId)
+    → IsPermutation xs ys → IsNonDecreasingBy number ys → zs ≡ dedup E ys
+    → (count : ℕ) → All (λ contact. contact.0 < count) xs → zs ≡ contact_ids (filter (has_contact xs) (range_with_len 0 count))
+in_order E ties xs ys zs moved rising is count few =
+    let ns : List ℕ = map number xs in
+    let ms : List ℕ = map number ys in
+    let moves : IsPermutation ns ms = IsPermutation-map number xs ys moved in
+    let below : All (λ k. k < count) ns = All-map (λ k. k < count) number xs few in
+    let same : dedup eqb ms ≡ filter (has_contact xs) (range_with_len 0 count) =
+    same_rising (dedup eqb ms) (filter (has_contact xs) (range_with_len 0 count))
+    (AllPairs-from_increasing (dedup eqb ms) (IsStrictlyIncreasing-dedup ms (sorted_numbers ys rising)))
+    (AllPairs-filter (λ x y. x < y) (has_contact xs) (range_with_len 0 count) (range_increases 0 count))
+    (λ k at.
+    let among : Contains ns k = Contains-permutation ms ns k (IsPermutation-sym ns ms moves) (Contains-from_dedup eqb ms k at) in
+    Contains-filter (has_contact xs) (range_with_len 0 count) k (below-Contains count k (All-contains (λ k. k < count) ns k below among)) (Contains-has xs k among))
+    (λ k at. Contains-dedup_nat ms k (Contains-permutation ns ms k moves (has-Contains xs k (filter-Contains (has_contact xs) (range_with_len 0 count) k at)))) in
+    ids_numbers zs ∙ ap contact_ids (ap (map number) is ∙ dedup_numbers E ties ys ∙ same)
+
+-- what is appended where there was room
+pub appended : {T E X : Type 0} (r : Result T E) (P : ℕ → Type 0) (f : ℕ → List X) (new old more : List X)
+    → new ≡ cond (is_ok r) (old ++ more) old → ((n : ℕ) → P n → more ≡ f n) → OnOk r ((n : ℕ) → P n → new ≡ old ++ f n)
+appended {X} (Ok x) P f new old more is same = λ n p. is ∙ ap (λ (rest : List X). old ++ rest) (same n p)
+appended (Err e) P f new old more is same = tt

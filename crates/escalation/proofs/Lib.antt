@@ -1,0 +1,3 @@
+pub mod InOrderLemmas
+pub mod ByObjectLemmas
+pub mod MatchingLemmas

@@ -1,0 +1,17 @@
+use Rattle.std.proofs.Common.{◌∙◌, ◌*◌, ◌<◌, All, ap, length, subst, sym}
+use Rattle.escalation.specs.Matching.{applying, least_of}
+use Rattle.escalation.proofs.MatchingLemmas.{are_matching, are_within, interval_is, is_read}
+use Rattle.escalation.proofs.interval.matching_interval.Goals as goal
+
+pub least_interval-least-requires-clause-within : goal.least_interval-least-requires-clause-within
+least_interval-least-requires-clause-within c =
+    subst (All (λ place. place < length c.args.config.now.escalations)) (sym c.of-places.ensures)
+    (are_within c.args.config.now c.args.by_object.now c.args.object.0 c.requires.grouped c.requires.object)
+
+pub returns : goal.returns
+returns c = λ settings at.
+    let config = c.args.config.now in
+    let own = is_read config.objects c.as_slice.result.now c.args.object.0 c.from.result c.index-as_slice-from.result settings c.as_slice.ensures c.from.ensures at in
+    let matching = ap (applying config c.args.zone.now c.args.number c.args.letter c.args.t) c.of-places.ensures
+    ∙ are_matching config c.args.zone.now c.args.number c.args.letter c.args.t c.args.by_object.now c.args.object.0 c.requires.grouped c.requires.object in
+    ap (λ units. 60 * units) (c.from-2.ensures ∙ c.unwrap_or.ensures ∙ interval_is settings _ _ _ (c.least_interval-least.ensures ∙ ap least_of matching) (ap (λ o. o.interval) own))

@@ -1,0 +1,3 @@
+pub mod ByObject
+pub mod Matching
+pub mod Named

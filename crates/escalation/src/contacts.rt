@@ -1,0 +1,110 @@
+//! Who is notified.
+
+ghost use Rattle.std.specs.Prelude.{◌≡◌, ◌<◌, ◌≤◌, ◌++◌, All, Some, length, slice_get};
+ghost use Rattle.std.specs.Prelude.{IfOk, OnErr, OnOk};
+ghost use Rattle.due_model.specs.Accepted.{IsAccepted};
+ghost use Rattle.due_model.specs.Escalations.{contacts_with, has_contact, reach};
+ghost use Rattle.due_model.specs.Limits.{last_moment};
+ghost use Rattle.due_model.specs.declared.config.Object.{Object};
+ghost use Rattle.time_period.specs.Days.{AreCompiled};
+ghost use Rattle.escalation.specs.ByObject.{IsByObject};
+ghost use Rattle.escalation.specs.Matching.{applying};
+ghost use Rattle.escalation.specs.Named.{contact_ids, has_some, named_by};
+
+use crate::by_object::ByObject;
+use crate::in_order::append_in_order;
+use crate::matching::applies;
+use due_model::config::{Config, ContactId, ObjectId};
+use due_model::options::OptionLetter;
+use due_model::zone::Zone;
+use std::alloc::{AllocError, Global};
+use time_period::compiled::Compiled;
+
+/// Appends who is notified of a problem, or of a recovery from it: the contacts of the escalations that match, and
+/// the object's own where none does, each once and in number order. The number is that of the problem notice; of
+/// a recovery, how many problem notices went out before it. A refused growth leaves `out` as it was.
+pub fn contacts(
+    alloc: Global,
+    config: &Config,
+    by_object: &ByObject,
+    object: ObjectId,
+    number: u64,
+    letter: OptionLetter,
+    t: u64,
+    periods: &[Compiled],
+    zone: &Zone,
+    out: &mut Vec<ContactId>,
+) -> Result<(), AllocError>
+    requires accepted { IsAccepted config.now }
+    requires grouped { IsByObject config.now by_object.now }
+    requires object { object.0 < length config.now.objects }
+    requires moment { t ≤ last_moment }
+    requires compiled { AreCompiled config.now periods.now }
+    ensures appended { OnOk result ((settings : Object)
+        → slice_get config.now.objects object.0 ≡ Some settings
+        → out.new.items ≡ out.old.items
+        ++ contact_ids (reach config.now zone.now object.0 settings number letter t)) }
+    ensures refused { OnErr result (out.new.items ≡ out.old.items) }
+{
+    let mut named = Vec::new(alloc);
+    let places = by_object.of(object);
+    if name_applying(config, places, number, letter, t, periods, zone, &mut named)? {
+        append_in_order(named, out)
+    } else {
+        own_contacts(alloc, config, object, out)
+    }
+}
+
+/// Appends the object's own contacts, each once and in number order: who is notified of flapping and of a downtime,
+/// which no escalation concerns. A refused growth leaves `out` as it was.
+pub fn own_contacts(
+    alloc: Global,
+    config: &Config,
+    object: ObjectId,
+    out: &mut Vec<ContactId>,
+) -> Result<(), AllocError>
+    requires accepted { IsAccepted config.now }
+    requires object { object.0 < length config.now.objects }
+    ensures appended { OnOk result ((settings : Object)
+        → slice_get config.now.objects object.0 ≡ Some settings
+        → out.new.items ≡ out.old.items
+        ++ contact_ids (contacts_with config.now (has_contact settings.contacts))) }
+    ensures refused { OnErr result (out.new.items ≡ out.old.items) }
+{
+    let own = config.objects.as_slice()[usize::from(object.0)]
+        .contacts
+        .as_slice();
+    append_in_order(Vec::from_slice(alloc, own)?, out)
+}
+
+/// Appends the contacts of the escalations at these places that apply, as they stand there, and answers whether
+/// there is such an escalation.
+fn name_applying(
+    config: &Config,
+    places: &[u32],
+    number: u64,
+    letter: OptionLetter,
+    t: u64,
+    periods: &[Compiled],
+    zone: &Zone,
+    named: &mut Vec<ContactId>,
+) -> Result<bool, AllocError>
+    requires accepted { IsAccepted config.now }
+    requires within { All (λ place. place < length config.now.escalations) places.now }
+    requires moment { t ≤ last_moment }
+    requires compiled { AreCompiled config.now periods.now }
+    ensures some { IfOk result (λ some. some
+        ≡ has_some (applying config.now zone.now number letter t places.now)) }
+    ensures named { OnOk result (named.new.items ≡ named.old.items
+        ++ named_by (applying config.now zone.now number letter t places.now)) }
+{
+    let mut some = false;
+    for place in places {
+        let escalation = &config.escalations.as_slice()[*place as usize];
+        if applies(config, escalation, number, letter, t, periods, zone) {
+            named.extend_from_slice(escalation.contacts.as_slice())?;
+            some = true;
+        }
+    }
+    Ok(some)
+}

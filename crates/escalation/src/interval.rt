@@ -1,0 +1,81 @@
+//! How long after a problem notice the next of the same state is due.
+
+ghost use Rattle.std.specs.Prelude.{◌≡◌, ◌<◌, ◌≤◌, All, Some, length, min, slice_get};
+ghost use Rattle.std.specs.Prelude.{option_map, unwrap_or};
+ghost use Rattle.due_model.specs.Accepted.{IsAccepted};
+ghost use Rattle.due_model.specs.Escalations.{gap};
+ghost use Rattle.due_model.specs.Limits.{last_moment};
+ghost use Rattle.due_model.specs.declared.config.Object.{Object};
+ghost use Rattle.time_period.specs.Days.{AreCompiled};
+ghost use Rattle.escalation.specs.ByObject.{IsByObject};
+ghost use Rattle.escalation.specs.Matching.{applying, least_of};
+
+use crate::by_object::ByObject;
+use crate::matching::applies;
+use due_model::config::{Config, ObjectId};
+use due_model::options::OptionLetter;
+use due_model::zone::Zone;
+use time_period::compiled::Compiled;
+
+/// How long after the n-th problem notice of an object, which goes out at `t` about a state of this letter, the
+/// next of the same state is due, in seconds: 0 to 60,000,000, and 0 is never. It is the least interval of the
+/// escalations that match, and the object's own where none does. It takes no memory.
+pub fn matching_interval(
+    config: &Config,
+    by_object: &ByObject,
+    object: ObjectId,
+    number: u64,
+    letter: OptionLetter,
+    t: u64,
+    periods: &[Compiled],
+    zone: &Zone,
+) -> u64
+    requires accepted { IsAccepted config.now }
+    requires grouped { IsByObject config.now by_object.now }
+    requires object { object.0 < length config.now.objects }
+    requires moment { t ≤ last_moment }
+    requires compiled { AreCompiled config.now periods.now }
+    ensures { (settings : Object) → slice_get config.now.objects object.0 ≡ Some settings
+        → result ≡ gap config.now zone.now object.0 settings number letter t }
+{
+    let own = config.objects.as_slice()[usize::from(object.0)].interval;
+    let places = by_object.of(object);
+    let least = least_interval(config, places, number, letter, t, periods, zone);
+    60 * u64::from(least.unwrap_or(own))
+}
+
+/// The least interval of the escalations at these places that apply, if one does.
+fn least_interval(
+    config: &Config,
+    places: &[u32],
+    number: u64,
+    letter: OptionLetter,
+    t: u64,
+    periods: &[Compiled],
+    zone: &Zone,
+) -> Option<u32>
+    requires accepted { IsAccepted config.now }
+    requires within { All (λ place. place < length config.now.escalations) places.now }
+    requires moment { t ≤ last_moment }
+    requires compiled { AreCompiled config.now periods.now }
+    ensures { result ≡ least_of (applying config.now zone.now number letter t places.now) }
+{
+    let mut least = None;
+    for place in places {
+        let escalation = &config.escalations.as_slice()[*place as usize];
+        if applies(config, escalation, number, letter, t, periods, zone) {
+            least = Some(lesser(least, escalation.interval));
+        }
+    }
+    least
+}
+
+/// The lesser of an interval and another, if there is another.
+fn lesser(least: Option<u32>, interval: u32) -> u32
+    ensures { result ≡ unwrap_or (option_map (λ other. min other interval) least) interval }
+{
+    match least {
+        Some(other) => other.min(interval),
+        None => interval,
+    }
+}
