@@ -1,13 +1,13 @@
 -- The entries of each object, as they are put in order.
-use Rattle.std.proofs.Common.{◌≡◌, ℕ, ◌<◌, ◌≤◌, Bool, true, false, cond, eqb, List, [], ◌∷◌, ◌++◌, length, get_or, set, replicate, filter, refl, sym, ap, subst, ◌∙◌, inl, inr, ⊎_elim, arith}
+use Rattle.std.proofs.Common.{◌≡◌, ℕ, ◌<◌, ◌≤◌, true, false, cond, eqb, List, [], ◌∷◌, ◌++◌, length, get_or, set, replicate, refl, sym, ap, subst, ◌∙◌, ⊎_elim, arith}
 use Rattle.std.specs.Prelude.{All}
 use Rattle.std.proofs.lemmas.Bool.{cases_lt, eq-eqb, eqb-true}
 use Rattle.std.proofs.lemmas.List.{append-nil, get_or-replicate, get_or-set_other, get_or-set_same, get_or_past, length-replicate, length-set}
-use Rattle.std.proofs.lemmas.List.Elements.{All-from_get_or, All-filter, All-head, All-tail, filter-append}
+use Rattle.std.proofs.lemmas.List.Elements.{All-from_get_or, All-filter, All-head, All-tail, All-weaker, filter-append}
 use Rattle.due_model.specs.declared.config.Config.{Config}
 use Rattle.due_model.specs.declared.config.Dependency.{Dependency}
 use Rattle.due_model.specs.Accepted.{DependencyFits, IsAccepted}
-use Rattle.dependency.specs.Order.{AreOf, EntryFits, HasEntries, IsOrder, IsOrderOf, entries_of}
+use Rattle.dependency.specs.Order.{AreOf, EntryFits, HasEntries, HasPeriod, IsOrder, IsOrderOf, entries_of}
 
 pub AreOf-none : (objects : ℕ) → AreOf objects [] (replicate objects [])
 AreOf-none objects = record {
@@ -53,3 +53,23 @@ pub fits-all : (objects periods : ℕ) (dependencies : List Dependency) (lists :
 fits-all objects periods dependencies lists fit has =
     All-from_get_or (All (EntryFits objects periods)) lists [] (λ i low. rw (has.each i (omega (arith, low, has.count)))
     (All-filter (λ (x : Dependency). eqb x.dependent.0 i) (EntryFits objects periods) dependencies fit))
+
+-- what is made of an accepted configuration
+module _ (c : Config) (accepted : IsAccepted c) (lists : List (List Dependency)) (are : AreOf (length c.objects) c.dependencies lists) where
+  pub IsOrder-made : (periods objects : ℕ) → periods ≡ length c.periods → objects ≡ length c.objects → IsOrder lists periods objects
+  IsOrder-made periods objects as_many all = record {
+    as_many = all ∙ sym are.count;
+    fit = subst (λ (n : ℕ). All (All (EntryFits n periods)) lists) (sym are.count)
+        (fits-all (length c.objects) periods c.dependencies lists
+        (All-weaker (DependencyFits c) (EntryFits (length c.objects) periods) (λ d fits. record {
+          master = fits.master;
+          period = subst (λ (n : ℕ). HasPeriod n d.period) (sym as_many) fits.period;
+        }) c.dependencies accepted.dependencies) are);
+  }
+
+  pub IsOrderOf-made : (periods : ℕ) → periods ≡ length c.periods → IsOrderOf c (record { entries = lists; periods = periods })
+  IsOrderOf-made periods as_many = record {
+    objects = are.count;
+    periods = as_many;
+    entries = HasEntries-all c lists (All-weaker (DependencyFits c) (λ (x : Dependency). x.dependent.0 < length c.objects) (λ d fits. fits.dependent) c.dependencies accepted.dependencies) are;
+  }

@@ -7,7 +7,7 @@ use Rattle.std.proofs.lemmas.Bool.Decides.{Decides-eqb}
 use Rattle.std.proofs.lemmas.Map.Made.{IsDistinct-from_AllPairs}
 use Rattle.std.proofs.lemmas.Map.Steps.{length-le_from_distinct_below}
 use Rattle.std.proofs.lemmas.Map.Views.{Contains-from_any}
-use Rattle.std.proofs.lemmas.List.{length-replicate, append-nil, append_assoc, length-set, length-append, length-take-le, get_or-set_same, get_or-set_other, get_or_past, get_or-replicate, get_or-take, take_more_set}
+use Rattle.std.proofs.lemmas.List.{length-replicate, append-nil, append_assoc, length-set, length-append, length-take-le, get_or-set_same, get_or-set_other, get_or_past, get_or-take, take_more_set}
 use Rattle.std.proofs.lemmas.List.Elements.{All-from_get_or, All-get_or, Contains-get_or, Contains-push, Contains-push_cases, Contains-append_left, Contains-append_right, Contains-append_cases}
 use Rattle.std.proofs.lemmas.List.Quantifiers.{all_pairs_push}
 use Rattle.graph.specs.Reach.{Found, IsMarked, IsSearch, Gains}

@@ -1,11 +1,11 @@
 -- A walk through the entries that an object's chains reach, and that it answers as the definition does.
-use Rattle.std.proofs.Common.{◌≡◌, ℕ, zero, suc, ◌+◌, ◌<◌, ◌≤◌, Bool, true, false, cond, ◌==◌, ◌&&◌, ◌||◌, List, [], ◌∷◌, ◌++◌, length, map, filter, get_or, take, refl, sym, ap, subst, ◌∙◌, inl, inr, ⊎_elim, arith}
-use Rattle.std.specs.Prelude.{Contains, All}
+use Rattle.std.proofs.Common.{◌≡◌, ℕ, zero, suc, ◌+◌, ◌<◌, ◌≤◌, Bool, true, false, cond, ◌==◌, ◌&&◌, ◌||◌, List, [], ◌∷◌, ◌++◌, length, map, filter, get_or, take, refl, sym, ap, subst, ◌∙◌, ⊎_elim, arith}
+use Rattle.std.specs.Prelude.{Contains}
 use Rattle.std.specs.List.{list_any}
 use Rattle.std.proofs.lemmas.Bool.{cases_lt, or_left, or_right}
 use Rattle.std.proofs.lemmas.List.{get_or_append_left, get_or_default, get_or_past, map-append, take_more}
 use Rattle.std.proofs.lemmas.List.Elements.{Contains-get_or, Contains-append_left, filter-append}
-use Rattle.std.proofs.lemmas.List.Folds.{list_any_at, list_any_none}
+use Rattle.std.proofs.lemmas.List.Folds.{list_any-append, list_any_at, list_any_none}
 use Rattle.graph.specs.Reach.{Gains}
 use Rattle.due_model.specs.declared.config.Config.{Config}
 use Rattle.due_model.specs.declared.config.Dependency.{Dependency}
@@ -38,6 +38,19 @@ masters_of-more c zone t entries i d low =
     ap (masters_of c zone t) (take_more entries i d low)
     ∙ ap (map (λ (x : Dependency). x.master.0)) (filter-append (λ (x : Dependency). in_period c zone x.period t && x.inherits) (take i entries) (get_or entries i d ∷ []))
     ∙ map-append (λ (x : Dependency). x.master.0) (filter (λ (x : Dependency). in_period c zone x.period t && x.inherits) (take i entries)) (filter (λ (x : Dependency). in_period c zone x.period t && x.inherits) (get_or entries i d ∷ []))
+
+-- the masters to which one entry leads on, where its period holds
+pub masters_of-one : (c : Config) (zone : Zone) (t : ℕ) (e : Dependency) (inherits : Bool) → in_period c zone e.period t ≡ true → e.inherits ≡ inherits
+    → masters_of c zone t (e ∷ []) ≡ cond inherits (e.master.0 ∷ []) []
+masters_of-one c zone t e inherits valid is =
+    ap (λ b. map (λ (x : Dependency). x.master.0) (cond b (e ∷ []) [])) (ap (λ b. b && e.inherits) valid ∙ is)
+    ∙ elim inherits as (λ b. map (λ (x : Dependency). x.master.0) (cond b (e ∷ []) []) ≡ cond b (e.master.0 ∷ []) []) [ true ↦ refl | false ↦ refl ]
+
+-- one element more that doesn't pass
+pub any_none-more : {X : Type 0} (f : X → Bool) (xs : List X) (i : ℕ) (d : X) → i < length xs → list_any f (take i xs) ≡ false → f (get_or xs i d) ≡ false
+    → list_any f (take (i + 1) xs) ≡ false
+any_none-more f xs i d low before now =
+    ap (list_any f) (take_more xs i d low) ∙ list_any-append f (take i xs) (get_or xs i d ∷ []) ∙ rw (before, now) refl
 
 module _ (c : Config) (zone : Zone) (states : ℕ → State) (t : ℕ) where
   abbrev fails_at : ℕ → ℕ → Bool

@@ -1,5 +1,5 @@
 -- The entries of a configuration's dependencies, as an order keeps them, and how a walk through them goes.
-use Rattle.std.specs.Prelude.{◌≡◌, ◌==◌, ℕ, ◌<◌, ◌≤◌, ◌^◌, Bool, true, false, ◌&&◌, List, [], length, map, filter, slice_index, slice_index_or, All, Contains, Option, IfSome}
+use Rattle.std.specs.Prelude.{◌≡◌, ◌==◌, ℕ, ◌<◌, Bool, true, false, ◌&&◌, List, [], length, map, filter, slice_index, slice_index_or, All, Contains, Option, IfSome}
 use Rattle.std.specs.List.{list_any}
 use Rattle.due_model.specs.declared.config.Config.{Config}
 use Rattle.due_model.specs.declared.config.Dependency.{Dependency}
