@@ -7,7 +7,8 @@ use Rattle.std.proofs.lemmas.List.Elements.{All-from_get_or, All-filter, All-hea
 use Rattle.due_model.specs.declared.config.Config.{Config}
 use Rattle.due_model.specs.declared.config.Dependency.{Dependency}
 use Rattle.due_model.specs.Accepted.{DependencyFits, IsAccepted}
-use Rattle.dependency.specs.Order.{AreOf, EntryFits, HasEntries, HasPeriod, IsOrder, IsOrderOf, entries_of}
+use Rattle.dependency.specs.Entry.{EntryFits, HasEntries, HasPeriod, entries_of}
+use Rattle.dependency.specs.Order.{AreOf, IsOrder, IsOrderOf}
 
 pub AreOf-none : (objects : ℕ) → AreOf objects [] (replicate objects [])
 AreOf-none objects = record {

@@ -14,7 +14,8 @@ use Rattle.due_model.specs.declared.zone.Zone.{Zone}
 use Rattle.due_model.specs.Dependencies.{dependency_fails, entry_fails, has_state}
 use Rattle.due_model.specs.Periods.{in_period}
 use Rattle.lemmas.proofs.Dependencies.{fails_at_any_depth}
-use Rattle.dependency.specs.Order.{Fails, HasEntries, IsWalk, entries_of, fails_by, masters_of}
+use Rattle.dependency.specs.Entry.{HasEntries, entries_of, fails_by, masters_of}
+use Rattle.dependency.specs.Search.{Fails, IsWalk}
 
 any_of_filter : {X : Type 0} (p q r : X → Bool) (xs : List X) → list_any (λ x. p x && q x && r x) xs ≡ list_any (λ x. q x && r x) (filter p xs)
 any_of_filter p q r [] = refl

@@ -5,7 +5,8 @@ ghost use Rattle.due_model.specs.declared.config.Config.{Config};
 ghost use Rattle.due_model.specs.Accepted.{IsAccepted};
 ghost use Rattle.due_model.specs.Dependencies.{dependency_fails};
 ghost use Rattle.due_model.specs.Limits.{last_moment};
-ghost use Rattle.dependency.specs.Order.{AreOf, IsOrderOf, state_of};
+ghost use Rattle.dependency.specs.Entry.{state_of};
+ghost use Rattle.dependency.specs.Order.{AreOf, IsOrderOf};
 ghost use Rattle.time_period.specs.Days.{AreCompiled};
 
 use crate::search::Search;
@@ -80,7 +81,8 @@ impl Order {
         if (object.0 as usize) >= self.entries.len() {
             return false;
         }
-        self.search.fails(&self.entries, states, periods, zone, t, object.0)
+        self.search
+            .fails(&self.entries, states, periods, zone, t, object.0)
     }
 }
 

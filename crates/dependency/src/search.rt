@@ -6,7 +6,7 @@ ghost use Rattle.graph.specs.Reach.{Gains};
 ghost use Rattle.due_model.specs.declared.config.Config.{Config};
 ghost use Rattle.due_model.specs.Dependencies.{dependency_fails};
 ghost use Rattle.due_model.specs.Limits.{last_moment, max_objects};
-ghost use Rattle.dependency.specs.Order.{EntryFits, HasEntries, fails_by, masters_of, state_of};
+ghost use Rattle.dependency.specs.Entry.{EntryFits, HasEntries, fails_by, masters_of, state_of};
 ghost use Rattle.time_period.specs.Days.{AreCompiled};
 
 use crate::entry::is_valid;

@@ -1,5 +1,6 @@
 use Rattle.std.proofs.Common.{◌≤◌, length, ap, arith, sym}
-use Rattle.dependency.specs.Order.{Kept, state_of}
+use Rattle.dependency.specs.Entry.{state_of}
+use Rattle.dependency.specs.Order.{Kept}
 use Rattle.dependency.proofs.WalkLemmas.{fails-outside}
 use Rattle.dependency.proofs.order.Order.fails.Goals as goal
 

@@ -1,7 +1,7 @@
 use Rattle.std.proofs.Common.{◌≡◌, ◌<◌, ◌≤◌, length, get_or, take, arith, ◌∙◌, ◌∷◌, [], List, ℕ, sym, ap, subst, refl}
 use Rattle.std.proofs.lemmas.List.{get_or_default, get_or-take, length-take-le}
 use Rattle.graph.specs.Reach.{Found, Gains}
-use Rattle.dependency.specs.Order.{state_of}
+use Rattle.dependency.specs.Entry.{state_of}
 use Rattle.dependency.proofs.SearchLemmas.{IsSearch-node}
 use Rattle.dependency.proofs.WalkLemmas.{IsWalk-start, IsWalk-more, IsWalk-fails, IsWalk-end}
 use Rattle.dependency.proofs.search.Search.fails.Goals as goal

@@ -1,6 +1,7 @@
 use Rattle.std.proofs.Common.{◌≡◌, ◌-◌}
 use Rattle.due_model.specs.declared.config.Config.{Config}
-use Rattle.dependency.specs.Order.{HasEntries, IsWalk, state_of}
+use Rattle.dependency.specs.Entry.{HasEntries, state_of}
+use Rattle.dependency.specs.Search.{IsWalk}
 use Rattle.time_period.specs.Days.{AreCompiled}
 use Rattle.dependency.proofs.search.Search.fails.Given as goal
 

@@ -1,6 +1,6 @@
 use Rattle.std.proofs.Common.{◌∙◌, List, ℕ, sym, subst, take}
 use Rattle.graph.specs.Reach.{Gains}
-use Rattle.dependency.specs.Order.{fails_by, masters_of, state_of}
+use Rattle.dependency.specs.Entry.{fails_by, masters_of, state_of}
 use Rattle.dependency.proofs.SearchLemmas.{Gains-append}
 use Rattle.dependency.proofs.WalkLemmas.{masters_of-more, any_none-more}
 use Rattle.dependency.proofs.search.Search.follow.Goals as goal

@@ -2,7 +2,7 @@ use Rattle.std.proofs.Common.{◌≡◌, take, false}
 use Rattle.std.specs.List.{list_any}
 use Rattle.graph.specs.Reach.{Gains}
 use Rattle.due_model.specs.declared.config.Config.{Config}
-use Rattle.dependency.specs.Order.{fails_by, masters_of, state_of}
+use Rattle.dependency.specs.Entry.{fails_by, masters_of, state_of}
 use Rattle.time_period.specs.Days.{AreCompiled}
 use Rattle.dependency.proofs.search.Search.follow.Given as goal
 
