@@ -1,6 +1,7 @@
 //! What tests are run on: configurations, texts and readers that the tests of more than one crate need.
 #![tactic(auto)]
 
+pub mod accepted;
 pub mod configs;
 pub mod periods;
 pub mod plain;

@@ -1,9 +1,9 @@
 //! Configurations of time periods alone.
 
-ghost use Rattle.std.specs.Prelude.{◌≡◌, ◌<◌, ◌≤◌, All, IfOk, IsTrue, length};
-ghost use Rattle.due_model.specs.Accepted.{IsAccepted, RangeFits};
-ghost use Rattle.acceptance_inputs.specs.Ladder.{IsLadder, IsStep};
+ghost use Rattle.std.specs.Prelude.{◌≡◌, IfOk, length};
+ghost use Rattle.due_model.specs.Accepted.{IsAccepted};
 
+use crate::accepted::is_accepted;
 use due_model::config::{Config, Period, PeriodId, Range};
 use due_model::objects::Objects;
 use due_model::sequence::Sequence;
@@ -24,23 +24,24 @@ pub struct Row {
 
 /// The configuration of these periods, which has nothing else. Rows that can't be accepted are refused as memory is.
 pub fn periods(alloc: Global, rows: &[Row]) -> Result<Config, AllocError>
-    ensures { IfOk result (λ config. IsAccepted config) }
+    ensures accepted { IfOk result (λ config. IsAccepted config) }
+    ensures periods { IfOk result (λ config. length config.periods ≡ length rows.now) }
 {
     let mut made = Vec::new(alloc);
-    for (number, row) in rows.iter().enumerate() {
-        made.push(period(alloc, number, row)?)?;
+    for row in rows {
+        made.push(period(alloc, row)?)?;
     }
-    if made.len() > 4096 {
-        return Err(AllocError);
+    let config = only(alloc, made)?;
+    if is_accepted(&config) {
+        Ok(config)
+    } else {
+        Err(AllocError)
     }
-    only(alloc, made)
 }
 
 /// The configuration of these periods.
 fn only(alloc: Global, made: Vec<Period>) -> Result<Config, AllocError>
-    requires few { length made.items ≤ 4096 }
-    requires ladder { IsLadder made.items }
-    ensures { IfOk result (λ config. IsAccepted config) }
+    ensures { IfOk result (λ config. config.periods ≡ made.items) }
 {
     Ok(Config {
         objects: Objects::new(alloc, Vec::new(alloc))?,
@@ -52,13 +53,8 @@ fn only(alloc: Global, made: Vec<Period>) -> Result<Config, AllocError>
     })
 }
 
-/// The period of a row at this place.
-fn period(alloc: Global, place: usize, row: &Row) -> Result<Period, AllocError>
-    ensures { IfOk result (λ period. IsStep place period) }
-{
-    if !are_fitting(row.ranges) || !are_below(row.excludes, place) {
-        return Err(AllocError);
-    }
+/// The period of a row.
+fn period(alloc: Global, row: &Row) -> Result<Period, AllocError> {
     let mut days = [
         Sequence::new(Vec::new(alloc)),
         Sequence::new(Vec::new(alloc)),
@@ -78,20 +74,4 @@ fn period(alloc: Global, place: usize, row: &Row) -> Result<Period, AllocError>
         days,
         excludes: Sequence::new(Vec::from_slice(alloc, row.excludes)?),
     })
-}
-
-fn are_fitting(ranges: &[Range]) -> bool
-    ensures { IsTrue result → All RangeFits ranges.now }
-{
-    ranges
-        .iter()
-        .all(|range| range.start <= range.end && range.end <= 86_400)
-}
-
-fn are_below(excludes: &[PeriodId], place: usize) -> bool
-    ensures { IsTrue result → All (λ excluded. excluded.0 < place) excludes.now }
-{
-    excludes
-        .iter()
-        .all(|excluded| usize::from(excluded.0) < place)
 }

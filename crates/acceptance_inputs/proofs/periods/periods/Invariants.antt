@@ -1,9 +1,5 @@
 use Rattle.std.proofs.Common.{◌≡◌, length}
-use Rattle.acceptance_inputs.specs.Ladder.{IsLadder}
 use Rattle.acceptance_inputs.proofs.periods.periods.Given as goal
 
-abbrev pub invariant-loop-number : goal.invariant-loop-number
-invariant-loop-number l = record {
-  ladder : IsLadder l.made.items;
-  as_many : length l.made.items ≡ l.number;
-}
+abbrev pub invariant-loop-row : goal.invariant-loop-row
+invariant-loop-row l = length l.made.items ≡ l.row-index
