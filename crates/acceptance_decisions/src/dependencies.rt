@@ -221,7 +221,10 @@ const WORKED: [State; 4] = [
 
 #[test]
 fn worked_chain_inherits(rt: HostRuntime) -> Result<(), Fail> {
-    let entries = [entry(3, 2, true, ON_CRITICAL), entry(2, 1, false, ON_CRITICAL)];
+    let entries = [
+        entry(3, 2, true, ON_CRITICAL),
+        entry(2, 1, false, ON_CRITICAL),
+    ];
     let cases = [
         (WORKED.as_slice(), 1000, 3, true),
         (WORKED.as_slice(), 1000, 2, true),
@@ -234,10 +237,120 @@ fn worked_chain_inherits(rt: HostRuntime) -> Result<(), Fail> {
 
 #[test]
 fn worked_chain_does_not_inherit(rt: HostRuntime) -> Result<(), Fail> {
-    let entries = [entry(3, 2, false, ON_CRITICAL), entry(2, 1, true, ON_CRITICAL)];
+    let entries = [
+        entry(3, 2, false, ON_CRITICAL),
+        entry(2, 1, true, ON_CRITICAL),
+    ];
     let cases = [
         (WORKED.as_slice(), 1000, 3, false),
         (WORKED.as_slice(), 1000, 2, true),
     ];
     given(&rt, rt.alloc(), 4, &entries, &cases)
+}
+
+/// B was never heard of, so an entry with the criteria `p` or `a` fails, and one with `n` doesn't.
+#[test]
+fn criteria(rt: HostRuntime) -> Result<(), Fail> {
+    let entries = [
+        entry(1, 0, false, NONE),
+        entry(2, 0, false, ON_PENDING),
+        entry(3, 0, false, ON_ALL),
+        entry(4, 0, false, ON_CRITICAL),
+        entry(5, 0, false, NONE),
+        entry(5, 0, false, ON_ALL),
+    ];
+    let never = [State::Pending; 6];
+    let up = [State::Up; 6];
+    let critical = [State::Critical; 6];
+    let cases = [
+        (never.as_slice(), 0, 1, false),
+        (never.as_slice(), 0, 2, true),
+        (never.as_slice(), 0, 3, true),
+        (never.as_slice(), 0, 4, false),
+        (never.as_slice(), 0, 5, true),
+        (up.as_slice(), 0, 2, false),
+        (up.as_slice(), 0, 3, true),
+        (critical.as_slice(), 0, 1, false),
+        (critical.as_slice(), 0, 4, true),
+    ];
+    given(&rt, rt.alloc(), 6, &entries, &cases)
+}
+
+/// From object 2 the second link is valid from 09:00 to 10:00, from object 4 the first one; object 5's never is.
+/// 1970-01-01 was a Thursday.
+#[test]
+fn links_in_their_periods(rt: HostRuntime) -> Result<(), Fail> {
+    let entries = [
+        entry_in(2, 1, 0),
+        entry_in(0, 2, 1),
+        entry_in(0, 3, 0),
+        entry_in(2, 4, 3),
+        entry_in(1, 5, 0),
+    ];
+    let mut states = [State::Fine; 6];
+    states[0] = State::Critical;
+    let cases = [
+        (states.as_slice(), 32_399, 2, false),
+        (states.as_slice(), 32_400, 2, true),
+        (states.as_slice(), 35_999, 2, true),
+        (states.as_slice(), 36_000, 2, false),
+        (states.as_slice(), 32_399, 4, false),
+        (states.as_slice(), 32_400, 4, true),
+        (states.as_slice(), 36_000, 4, false),
+        (states.as_slice(), 36_000, 3, true),
+        (states.as_slice(), 32_400, 5, false),
+        (states.as_slice(), 118_800, 4, false),
+        (states.as_slice(), LAST_MOMENT, 3, true),
+    ];
+    given(&rt, rt.alloc(), 6, &entries, &cases)
+}
+
+/// States change between the questions to one order.
+#[test]
+fn states_that_change(rt: HostRuntime) -> Result<(), Fail> {
+    let entries = [
+        entry(2, 1, true, ON_CRITICAL),
+        entry(1, 0, true, ON_CRITICAL),
+    ];
+    let fine = [State::Fine; 3];
+    let critical = [State::Critical, State::Fine, State::Warning];
+    let cases = [
+        (fine.as_slice(), 0, 2, false),
+        (critical.as_slice(), 0, 2, true),
+        (fine.as_slice(), 0, 2, false),
+        (fine.as_slice(), 0, 1, false),
+        (critical.as_slice(), 0, 1, true),
+        (critical.as_slice(), 0, 2, true),
+        (critical.as_slice(), 0, 0, false),
+    ];
+    given(&rt, rt.alloc(), 3, &entries, &cases)
+}
+
+#[test]
+fn chain_of_ten_thousand(rt: HostRuntime) -> Result<(), Fail> {
+    let config = config_of(rt.alloc(), LONG + 1, long_chain(rt.alloc())?)?;
+    let critical = one_and_others(rt.alloc(), State::Critical, LONG, State::Fine)?;
+    let fine = one_and_others(rt.alloc(), State::Fine, LONG, State::Warning)?;
+    let cases = [
+        (critical.as_slice(), 0, LONG, true),
+        (fine.as_slice(), 0, LONG, false),
+        (critical.as_slice(), 0, 1, true),
+        (critical.as_slice(), 0, 0, false),
+    ];
+    answers(&rt, rt.alloc(), &config, &cases)
+}
+
+/// From the last layer two to the power of 2,000 chains lead to the first one.
+#[test]
+fn diamond_of_two_thousand_layers(rt: HostRuntime) -> Result<(), Fail> {
+    let config = config_of(rt.alloc(), LAYERS * 2, diamond(rt.alloc())?)?;
+    let critical = one_and_others(rt.alloc(), State::Critical, LAYERS * 2 - 1, State::Fine)?;
+    let fine = one_and_others(rt.alloc(), State::Fine, LAYERS * 2 - 1, State::Pending)?;
+    let cases = [
+        (critical.as_slice(), 0, LAYERS * 2 - 1, true),
+        (fine.as_slice(), 0, LAYERS * 2 - 1, false),
+        (critical.as_slice(), 0, 3, true),
+        (critical.as_slice(), 0, 1, false),
+    ];
+    answers(&rt, rt.alloc(), &config, &cases)
 }
