@@ -4,6 +4,8 @@
 #[cfg(test)]
 mod books;
 #[cfg(test)]
+mod dependencies;
+#[cfg(test)]
 mod escalations;
 #[cfg(test)]
 mod filters_rows;

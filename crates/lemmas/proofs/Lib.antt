@@ -3,3 +3,4 @@ pub mod Writes
 pub mod Numbers
 pub mod Notices
 pub mod Coverage
+pub mod Dependencies

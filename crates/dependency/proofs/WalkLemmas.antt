@@ -1,0 +1,167 @@
+-- A walk through the entries that an object's chains reach, and that it answers as the definition does.
+use Rattle.std.proofs.Common.{◌≡◌, ℕ, zero, suc, ◌+◌, ◌<◌, ◌≤◌, Bool, true, false, cond, ◌==◌, ◌&&◌, ◌||◌, List, [], ◌∷◌, ◌++◌, length, map, filter, get_or, take, refl, sym, ap, subst, ◌∙◌, ⊎_elim, arith}
+use Rattle.std.specs.Prelude.{Contains}
+use Rattle.std.specs.List.{list_any}
+use Rattle.std.proofs.lemmas.Bool.{cases_lt, or_left, or_right}
+use Rattle.std.proofs.lemmas.List.{get_or_append_left, get_or_default, get_or_past, map-append, take_more}
+use Rattle.std.proofs.lemmas.List.Elements.{Contains-get_or, Contains-append_left, filter-append}
+use Rattle.std.proofs.lemmas.List.Folds.{list_any-append, list_any_at, list_any_none}
+use Rattle.graph.specs.Reach.{Gains}
+use Rattle.due_model.specs.declared.config.Config.{Config}
+use Rattle.due_model.specs.declared.config.Dependency.{Dependency}
+use Rattle.due_model.specs.declared.state.State.{State}
+use Rattle.due_model.specs.declared.zone.Zone.{Zone}
+use Rattle.due_model.specs.Dependencies.{dependency_fails, entry_fails, has_state}
+use Rattle.due_model.specs.Periods.{in_period}
+use Rattle.lemmas.proofs.Dependencies.{fails_at_any_depth}
+use Rattle.dependency.specs.Entry.{HasEntries, entries_of, fails_by, masters_of}
+use Rattle.dependency.specs.Search.{Fails, IsWalk}
+
+any_of_filter : {X : Type 0} (p q r : X → Bool) (xs : List X) → list_any (λ x. p x && q x && r x) xs ≡ list_any (λ x. q x && r x) (filter p xs)
+any_of_filter p q r [] = refl
+any_of_filter p q r (x ∷ xs) = elim (p x) as (λ b. (b && q x && r x || list_any (λ y. p y && q y && r y) xs) ≡ list_any (λ y. q y && r y) (cond b (x ∷ filter p xs) (filter p xs))) [
+  | true ↦ ap (λ b. q x && r x || b) (any_of_filter p q r xs)
+  | false ↦ any_of_filter p q r xs
+]
+
+parted : (t l i m a b : Bool) → (t && (l || i && m) || (a || b)) ≡ (t && l || a || cond (t && i) (m || b) b)
+parted false l i m a b = refl
+parted true true i m a b = refl
+parted true false false m a b = refl
+parted true false true m false b = refl
+parted true false true true true b = refl
+parted true false true false true b = refl
+
+-- masters, one entry more
+pub masters_of-more : (c : Config) (zone : Zone) (t : ℕ) (entries : List Dependency) (i : ℕ) (d : Dependency) → i < length entries
+    → masters_of c zone t (take (i + 1) entries) ≡ masters_of c zone t (take i entries) ++ masters_of c zone t (get_or entries i d ∷ [])
+masters_of-more c zone t entries i d low =
+    ap (masters_of c zone t) (take_more entries i d low)
+    ∙ ap (map (λ (x : Dependency). x.master.0)) (filter-append (λ (x : Dependency). in_period c zone x.period t && x.inherits) (take i entries) (get_or entries i d ∷ []))
+    ∙ map-append (λ (x : Dependency). x.master.0) (filter (λ (x : Dependency). in_period c zone x.period t && x.inherits) (take i entries)) (filter (λ (x : Dependency). in_period c zone x.period t && x.inherits) (get_or entries i d ∷ []))
+
+-- the masters to which one entry leads on, where its period holds
+pub masters_of-one : (c : Config) (zone : Zone) (t : ℕ) (e : Dependency) (inherits : Bool) → in_period c zone e.period t ≡ true → e.inherits ≡ inherits
+    → masters_of c zone t (e ∷ []) ≡ cond inherits (e.master.0 ∷ []) []
+masters_of-one c zone t e inherits valid is =
+    ap (λ b. map (λ (x : Dependency). x.master.0) (cond b (e ∷ []) [])) (ap (λ b. b && e.inherits) valid ∙ is)
+    ∙ elim inherits as (λ b. map (λ (x : Dependency). x.master.0) (cond b (e ∷ []) []) ≡ cond b (e.master.0 ∷ []) []) [ true ↦ refl | false ↦ refl ]
+
+-- one element more that doesn't pass
+pub any_none-more : {X : Type 0} (f : X → Bool) (xs : List X) (i : ℕ) (d : X) → i < length xs → list_any f (take i xs) ≡ false → f (get_or xs i d) ≡ false
+    → list_any f (take (i + 1) xs) ≡ false
+any_none-more f xs i d low before now =
+    ap (list_any f) (take_more xs i d low) ∙ list_any-append f (take i xs) (get_or xs i d ∷ []) ∙ rw (before, now) refl
+
+module _ (c : Config) (zone : Zone) (states : ℕ → State) (t : ℕ) where
+  abbrev fails_at : ℕ → ℕ → Bool
+  fails_at depth = entry_fails depth c zone states t
+
+  masters-cons : (f : ℕ → Bool) (e : Dependency) (es : List Dependency)
+      → list_any f (masters_of c zone t (e ∷ es)) ≡ cond (in_period c zone e.period t && e.inherits) (f e.master.0 || list_any f (masters_of c zone t es)) (list_any f (masters_of c zone t es))
+  masters-cons f e es = elim (in_period c zone e.period t && e.inherits) as (λ b.
+      list_any f (map (λ (x : Dependency). x.master.0) (cond b (e ∷ filter (λ (x : Dependency). in_period c zone x.period t && x.inherits) es) (filter (λ (x : Dependency). in_period c zone x.period t && x.inherits) es)))
+      ≡ cond b (f e.master.0 || list_any f (masters_of c zone t es)) (list_any f (masters_of c zone t es))) [ true ↦ refl | false ↦ refl ]
+
+  any_parted : (f : ℕ → Bool) (es : List Dependency)
+      → list_any (λ e. in_period c zone e.period t && (has_state e.states (states e.master.0) || e.inherits && f e.master.0)) es
+      ≡ (list_any (fails_by c zone states t) es || list_any f (masters_of c zone t es))
+  any_parted f [] = refl
+  any_parted f (e ∷ es) =
+      ap (λ b. in_period c zone e.period t && (has_state e.states (states e.master.0) || e.inherits && f e.master.0) || b) (any_parted f es)
+      ∙ parted (in_period c zone e.period t) (has_state e.states (states e.master.0)) e.inherits (f e.master.0) (list_any (fails_by c zone states t) es) (list_any f (masters_of c zone t es))
+      ∙ ap (λ b. fails_by c zone states t e || list_any (fails_by c zone states t) es || b) (sym (masters-cons f e es))
+
+  module _ (entries : List (List Dependency)) (has : HasEntries c entries) where
+    -- one entry, and then a chain that is one shorter
+    fails-step : (depth p : ℕ) → fails_at (suc depth) p ≡ (list_any (fails_by c zone states t) (get_or entries p []) || list_any (fails_at depth) (masters_of c zone t (get_or entries p [])))
+    fails-step depth p =
+        any_of_filter (λ (e : Dependency). e.dependent.0 == p) (λ e. in_period c zone e.period t) (λ e. has_state e.states (states e.master.0) || e.inherits && fails_at depth e.master.0) c.dependencies
+        ∙ any_parted (fails_at depth) (entries_of c.dependencies p)
+        ∙ ap (λ es. list_any (fails_by c zone states t) es || list_any (fails_at depth) (masters_of c zone t es)) (sym (has p))
+
+    Fails-one : (p : ℕ) → list_any (fails_by c zone states t) (get_or entries p []) ≡ true → Fails c zone states t p
+    Fails-one p is = (1, fails-step 0 p ∙ or_left (list_any (fails_by c zone states t) (get_or entries p [])) (list_any (fails_at 0) (masters_of c zone t (get_or entries p []))) is)
+
+    Fails-on : (p q : ℕ) → Contains (masters_of c zone t (get_or entries p [])) q → Fails c zone states t q → Fails c zone states t p
+    Fails-on p q at (depth, is) =
+        let masters = masters_of c zone t (get_or entries p []) in
+        let one : list_any (fails_at depth) masters ≡ true = list_any_at (fails_at depth) masters at.0 q at.1 (ap (fails_at depth) at.2 ∙ is) in
+        (suc depth, fails-step depth p ∙ or_right (list_any (fails_by c zone states t) (get_or entries p [])) (list_any (fails_at depth) masters) one)
+
+    -- an object that isn't there has no dependencies
+    pub fails-outside : (p : ℕ) → length entries ≤ p → dependency_fails c zone states t p ≡ false
+    fails-outside p past = at_depth (length c.dependencies)
+      where
+        at_depth : (depth : ℕ) → fails_at depth p ≡ false
+        at_depth zero = refl
+        at_depth (suc depth) = fails-step depth p
+            ∙ ap (λ es. list_any (fails_by c zone states t) es || list_any (fails_at depth) (masters_of c zone t es)) (get_or_past entries p [] past)
+
+    pub IsWalk-start : (from : ℕ) (found : List ℕ) → Gains [] (from ∷ []) found → IsWalk c zone states t entries from 0 found
+    IsWalk-start from found gains = record {
+      start = gains.each from (0, omega arith, refl);
+      reached = λ q at fails. ⊎_elim
+          (λ (none : Contains [] q). absurd (omega (arith, none.1)))
+          (λ (one : Contains (from ∷ []) q). subst (λ (x : ℕ). Fails c zone states t x) (sym (only_one q one)) fails)
+          (gains.only q at);
+      passed = λ k low. absurd (omega (arith, low));
+      seen = λ k q low at. absurd (omega (arith, low));
+    }
+      where
+        only_one : (q : ℕ) → Contains (from ∷ []) q → from ≡ q
+        only_one q (zero, within, at) = at
+        only_one q (suc k, within, at) = absurd (omega (arith, within))
+
+    module _ (from turn : ℕ) (found : List ℕ) (own : List Dependency) (low : turn < length found) (are : own ≡ get_or entries (get_or found turn 0) [])
+        (is : IsWalk c zone states t entries from turn found) where
+      -- the object that has its turn fails by itself
+      pub IsWalk-fails : list_any (fails_by c zone states t) own ≡ true → dependency_fails c zone states t from ≡ true
+      IsWalk-fails fails =
+          let here : Fails c zone states t (get_or found turn 0) = Fails-one (get_or found turn 0) (ap (list_any (fails_by c zone states t)) (sym are) ∙ fails) in
+          let there = is.reached (get_or found turn 0) (Contains-get_or found turn 0 low) here in
+          fails_at_any_depth c zone states t there.0 from there.1
+
+      -- it doesn't
+      pub IsWalk-more : (new : List ℕ) → list_any (fails_by c zone states t) own ≡ false → Gains found (masters_of c zone t own) new → IsWalk c zone states t entries from (turn + 1) new
+      IsWalk-more new none gains =
+          let stays : (q : ℕ) → Contains found q → Contains new q = λ q at. rw gains.front.1 (Contains-append_left found gains.front.0 q at) in
+          let same : (k : ℕ) → k < length found → get_or new k 0 ≡ get_or found k 0 =
+          λ k within. ap (λ (xs : List ℕ). get_or xs k 0) gains.front.1 ∙ get_or_append_left found gains.front.0 0 k within in
+          record {
+            start = stays from is.start;
+            reached = λ q at fails. ⊎_elim
+                (λ (old : Contains found q). is.reached q old fails)
+                (λ (master : Contains (masters_of c zone t own) q).
+                is.reached (get_or found turn 0) (Contains-get_or found turn 0 low)
+                (Fails-on (get_or found turn 0) q (subst (λ (es : List Dependency). Contains (masters_of c zone t es) q) are master) fails))
+                (gains.only q at);
+            passed = λ k before. ⊎_elim
+                (λ (early : k < turn). ap (λ (p : ℕ). list_any (fails_by c zone states t) (get_or entries p [])) (same k (omega arith)) ∙ is.passed k early)
+                (λ (late : turn ≤ k).
+                let now : k ≡ turn = omega arith in
+                ap (λ (p : ℕ). list_any (fails_by c zone states t) (get_or entries p [])) (same k (omega arith) ∙ ap (λ (i : ℕ). get_or found i 0) now)
+                ∙ ap (list_any (fails_by c zone states t)) (sym are) ∙ none)
+                (cases_lt k turn);
+            seen = λ k q before at. ⊎_elim
+                (λ (early : k < turn). stays q (is.seen k q early (subst (λ (p : ℕ). Contains (masters_of c zone t (get_or entries p [])) q) (same k (omega arith)) at)))
+                (λ (late : turn ≤ k).
+                let now : k ≡ turn = omega arith in
+                gains.each q (rw are (subst (λ (p : ℕ). Contains (masters_of c zone t (get_or entries p [])) q) (same k (omega arith) ∙ ap (λ (i : ℕ). get_or found i 0) now) at)))
+                (cases_lt k turn);
+          }
+
+    -- all that was found had its turn
+    pub IsWalk-end : (from turn : ℕ) (found : List ℕ) → IsWalk c zone states t entries from turn found → length found ≤ turn → dependency_fails c zone states t from ≡ false
+    IsWalk-end from turn found is over = at_depth (length c.dependencies) from is.start
+      where
+        at_depth : (depth p : ℕ) → Contains found p → fails_at depth p ≡ false
+        at_depth zero p at = refl
+        at_depth (suc depth) p at =
+            let here : get_or found at.0 0 ≡ p = get_or_default found at.0 0 p at.1 ∙ at.2 in
+            let before : at.0 < turn = omega (arith, at.1) in
+            let own : list_any (fails_by c zone states t) (get_or entries p []) ≡ false = subst (λ (x : ℕ). list_any (fails_by c zone states t) (get_or entries x []) ≡ false) here (is.passed at.0 before) in
+            let masters = masters_of c zone t (get_or entries p []) in
+            let more : list_any (fails_at depth) masters ≡ false = list_any_none (fails_at depth) masters (λ k d within. at_depth depth (get_or masters k d)
+            (is.seen at.0 (get_or masters k d) before (subst (λ (x : ℕ). Contains (masters_of c zone t (get_or entries x [])) (get_or masters k d)) (sym here) (Contains-get_or masters k d within)))) in
+            fails-step depth p ∙ ap (λ b. b || list_any (fails_at depth) masters) own ∙ more
