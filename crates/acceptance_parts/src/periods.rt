@@ -1,5 +1,7 @@
 //! Periods, as they are worked out, in several zones. Values are those of worked examples, or reckoned by hand.
 
+ghost use Rattle.std.specs.Prelude.{◌≤◌};
+
 use acceptance_inputs::periods::{Row, periods};
 use due_model::config::{PeriodId, Range};
 use due_model::limits::LAST_MOMENT;
@@ -182,6 +184,89 @@ const NEW_YORK: [u8; 74] = [
     185, 176, 0, 0, 255, 255, 199, 192, 1, 4, 69, 83, 84, 0, 69, 68, 84, 0,
 ];
 
+/// When New York's clocks were changed in 2024, and Lord Howe's.
+const CHANGES_OF_NEW_YORK: [u64; 2] = [1_710_054_000, 1_730_613_600];
+
+const CHANGES_OF_LORD_HOWE: [u64; 2] = [1_712_415_600, 1_728_142_200];
+
+/// Each weekday by itself, from 00:00 to 24:00, by UTC: from the epoch on, in its last second, and at its end.
+const WEEKDAYS: [Case; 21] = [
+    (0, 0, Some(259_200)),
+    (0, 345_599, Some(345_599)),
+    (0, 345_600, Some(864_000)),
+    (1, 0, Some(345_600)),
+    (1, 431_999, Some(431_999)),
+    (1, 432_000, Some(950_400)),
+    (2, 0, Some(432_000)),
+    (2, 518_399, Some(518_399)),
+    (2, 518_400, Some(1_036_800)),
+    (3, 0, Some(518_400)),
+    (3, 604_799, Some(604_799)),
+    (3, 604_800, Some(1_123_200)),
+    (4, 0, Some(0)),
+    (4, 86_399, Some(86_399)),
+    (4, 86_400, Some(604_800)),
+    (5, 0, Some(86_400)),
+    (5, 172_799, Some(172_799)),
+    (5, 172_800, Some(691_200)),
+    (6, 0, Some(172_800)),
+    (6, 259_199, Some(259_199)),
+    (6, 259_200, Some(777_600)),
+];
+
+/// Ranges of whole steps of ten minutes that meet, lie one in another, are empty, and end a day.
+const SPANS: [Range; 13] = [
+    Range {
+        start: 0,
+        end: 3_600,
+    },
+    Range {
+        start: 3_600,
+        end: 7_200,
+    },
+    Range {
+        start: 1_800,
+        end: 43_200,
+    },
+    Range {
+        start: 43_200,
+        end: 43_200,
+    },
+    Range {
+        start: 39_600,
+        end: 60_000,
+    },
+    Range {
+        start: 60_000,
+        end: 61_200,
+    },
+    Range {
+        start: 85_800,
+        end: 86_400,
+    },
+    Range {
+        start: 0,
+        end: 86_400,
+    },
+    Range {
+        start: 50_400,
+        end: 54_000,
+    },
+    Range {
+        start: 7_200,
+        end: 7_800,
+    },
+    Range {
+        start: 79_800,
+        end: 86_400,
+    },
+    Range { start: 0, end: 600 },
+    Range {
+        start: 45_000,
+        end: 46_200,
+    },
+];
+
 /// How many pairs stand one above the other.
 const LEVELS: usize = 20;
 
@@ -267,15 +352,108 @@ fn given(
     }
 }
 
-/// Goes back second by second from 2024-03-10 07:00:50 UTC over the change of New York's clocks.
-fn walk(rt: &impl Abort, period: &Compiled, zone: &Zone) {
-    let mut wanted = period.next(zone, 1_710_054_050);
+/// Goes back second by second over a moment at which a zone's clocks are changed.
+fn walk(rt: &impl Abort, period: &Compiled, zone: &Zone, change: u64) {
+    let end = change.saturating_add(50).min(LAST_MOMENT);
+    let mut wanted = period.next(zone, end);
     for back in 1..100u64 {
-        let t = 1_710_054_050 - back;
+        let t = end.saturating_sub(back);
         if period.contains(zone, t) {
             wanted = Some(t);
         }
         assert_eq!(rt; period.next(zone, t), wanted, "from {t}");
+    }
+}
+
+/// The same for each period of `ROWS` and each of these moments.
+fn walks(
+    rt: &impl Abort,
+    alloc: Global,
+    rule: Option<&str>,
+    file: Option<&[u8]>,
+    changes: &[u64],
+) -> Result<(), Fail> {
+    let all = worked_out(alloc, &ROWS)?;
+    match zone_given(alloc, rule, file) {
+        Ok(zone) => {
+            for change in changes {
+                for period in all.as_slice() {
+                    walk(rt, period, &zone, *change);
+                }
+            }
+        }
+        Err(fault) => panic!(rt; "{fault:?}"),
+    }
+    Ok(())
+}
+
+/// A number from 0 to `most`.
+fn pick(state: &mut u64, most: u8) -> u8
+    ensures { result ≤ most }
+{
+    *state = state
+        .wrapping_mul(6_364_136_223_846_793_005)
+        .wrapping_add(1_442_695_040_888_963_407);
+    ((*state >> 33) % (u64::from(most) + 1)) as u8
+}
+
+/// A period of some of `SPANS`, on Thursday and days beside it, that excludes some of the periods before it.
+fn generated(state: &mut u64, number: u8) -> Row
+    requires { number ≤ 38 }
+{
+    let from = usize::from(pick(state, 10));
+    let count = usize::from(pick(state, 3));
+    let low = pick(state, number);
+    let high = low + pick(state, number - low);
+    Row {
+        first: pick(state, 4),
+        last: 4 + pick(state, 2),
+        ranges: &SPANS[from..from + count],
+        excludes: &PAIRS[usize::from(low)..usize::from(high)],
+    }
+}
+
+/// Whether a moment of UTC is in the ranges of a row.
+fn is_in(row: &Row, t: u64) -> bool {
+    let weekday = (t / 86_400 + 4) % 7;
+    let second = t % 86_400;
+    u64::from(row.first) <= weekday
+        && weekday <= u64::from(row.last)
+        && row.ranges.iter().any(|range| u64::from(range.start) <= second
+            && second < u64::from(range.end))
+}
+
+fn has_bit(bits: u64, place: usize) -> bool {
+    (bits >> (place % 64)) & 1 == 1
+}
+
+/// A bit for each row: whether its period holds at a moment of UTC. Rows exclude rows before them alone.
+fn held(rows: &[Row], t: u64) -> u64 {
+    let mut bits = 0u64;
+    for (number, row) in rows.iter().enumerate() {
+        let excluded = row
+            .excludes
+            .iter()
+            .any(|period| has_bit(bits, usize::from(period.0)));
+        if is_in(row, t) && !excluded {
+            bits |= 1u64 << (number % 64);
+        }
+    }
+    bits
+}
+
+/// Goes back in steps of ten minutes over a Thursday and a Friday.
+fn walk_rows(rt: &impl Abort, rows: &[Row], all: &[Compiled], number: usize) {
+    let mut wanted = match all.get(number) {
+        Some(period) => period.next(&Zone::Utc, 172_800),
+        None => panic!(rt; "no period {number}"),
+    };
+    for back in 1..289u64 {
+        let t = 172_800 - back * 600;
+        if has_bit(held(rows, t), number) {
+            wanted = Some(t);
+        }
+        gives(rt, all, &Zone::Utc, (number, t, wanted));
     }
 }
 
@@ -308,15 +486,53 @@ fn seconds_in_the_offset(rt: HostRuntime) -> Result<(), Fail> {
 }
 
 #[test]
-fn beside_a_plain_walk(rt: HostRuntime) -> Result<(), Fail> {
-    let all = worked_out(rt.alloc(), &ROWS)?;
-    match zone_given(rt.alloc(), None, Some(&NEW_YORK)) {
-        Ok(zone) => {
-            for period in all.as_slice() {
-                walk(&rt, period, &zone);
-            }
+fn walks_by_rule(rt: HostRuntime) -> Result<(), Fail> {
+    let rule = Some("EST5EDT,M3.2.0,M11.1.0");
+    walks(&rt, rt.alloc(), rule, None, &CHANGES_OF_NEW_YORK)
+}
+
+#[test]
+fn walks_by_file(rt: HostRuntime) -> Result<(), Fail> {
+    walks(&rt, rt.alloc(), None, Some(&NEW_YORK), &CHANGES_OF_NEW_YORK)
+}
+
+#[test]
+fn walks_in_the_south(rt: HostRuntime) -> Result<(), Fail> {
+    let rule = Some("<+1030>-10:30<+11>-11,M10.1.0,M4.1.0");
+    walks(&rt, rt.alloc(), rule, None, &CHANGES_OF_LORD_HOWE)
+}
+
+#[test]
+fn each_weekday(rt: HostRuntime) -> Result<(), Fail> {
+    let mut rows = Vec::new(rt.alloc());
+    for weekday in 0..7u8 {
+        rows.push(Row {
+            first: weekday,
+            last: weekday,
+            ranges: &ROWS[7].ranges,
+            excludes: &[],
+        })?;
+    }
+    let all = worked_out(rt.alloc(), rows.as_slice())?;
+    for case in &WEEKDAYS {
+        gives(&rt, all.as_slice(), &Zone::Utc, *case);
+    }
+    Ok(())
+}
+
+/// Periods that exclude periods before them, some of which exclude others.
+#[test]
+fn generated_nests(rt: HostRuntime) -> Result<(), Fail> {
+    let mut state = 20;
+    for _nest in 0..4u8 {
+        let mut rows = Vec::new(rt.alloc());
+        for number in 0..8u8 {
+            rows.push(generated(&mut state, number))?;
         }
-        Err(fault) => panic!(&rt; "{fault:?}"),
+        let all = worked_out(rt.alloc(), rows.as_slice())?;
+        for number in 0..8usize {
+            walk_rows(&rt, rows.as_slice(), all.as_slice(), number);
+        }
     }
     Ok(())
 }
