@@ -90,7 +90,7 @@ order_of graph walk None is fits all =
     IsOrder-reverse graph walk fits all (λ p q leads back. subst (λ (least : Option ℕ). AtMost least p) is (on_loop-told graph walk fits all p q leads back))
 order_of graph walk (Some least) is fits all = tt
 
-pub Fits-over : (graph : List (List ℕ)) (walk : Walk) → Fits graph walk → walk.path.items ≡ [] → walk.next ≡ length graph → IsOver graph walk
+pub Fits-over : (graph : List (List ℕ)) (walk : Walk) → Fits graph walk → walk.path.items ≡ [] → walk.next ≡ length graph → IsOver graph walk.done.items walk.least
 Fits-over graph walk fits empty next =
     let all : (p : ℕ) → p < length graph → slice_get walk.marks.items p ≡ Some Done = all_done graph walk fits empty next in
     let told : (p : ℕ) → IsOnLoop (Leads graph) p → AtMost walk.least p = λ p loop. on_loop-told graph walk fits all p loop.1.0 loop.1.1 (loop.0, loop.1.2) in

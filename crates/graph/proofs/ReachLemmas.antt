@@ -77,6 +77,39 @@ IsSearch-new marks queue nodes stamp low some marked queued =
       };
     })
 
+-- the next search has the next stamp
+pub IsSearch-again : (marks : List ℕ) (stamp : ℕ) (queue : List ℕ) (count : ℕ) → IsSearch marks stamp queue count → IsSearch marks (stamp + 1) queue 0
+IsSearch-again marks stamp queue count is = record {
+  few = is.few;
+  long = is.long;
+  room = omega arith;
+  marked = record {
+    some = omega arith;
+    below = λ k. omega (arith, is.marked.below k);
+    marked = λ k same. absurd (omega (arith, is.marked.below k, same));
+    stamped = λ k at. absurd (omega (arith, at.1));
+    once = λ i j d before few. absurd (omega (arith, few));
+  };
+}
+
+-- or the first one, once all marks are cleared
+pub IsSearch-cleared : (marks cleared : List ℕ) (stamp : ℕ) (queue : List ℕ) (count : ℕ) → IsSearch marks stamp queue count → cleared ≡ replicate (length marks) 0
+    → IsSearch cleared 1 queue 0
+IsSearch-cleared marks cleared stamp queue count is clear =
+    let long : length (replicate {A = ℕ} (length marks) 0) ≡ length marks = length-replicate {A = ℕ} (length marks) 0 in
+    rw clear (record {
+      few = omega (arith, long, is.few);
+      long = omega (arith, long, is.long);
+      room = omega arith;
+      marked = record {
+        some = omega arith;
+        below = λ k. omega (arith, zeros (length marks) k);
+        marked = λ k same. absurd (omega (arith, zeros (length marks) k, same));
+        stamped = λ k at. absurd (omega (arith, at.1));
+        once = λ i j d before few. absurd (omega (arith, few));
+      };
+    })
+
 -- no more than the nodes were found, so that one that isn't found has room
 pub IsSearch-room : (marks : List ℕ) (stamp : ℕ) (queue : List ℕ) (count node : ℕ) → IsSearch marks stamp queue count → node < length marks → (get_or marks node 0 ≡ stamp → ⊥) → count < length queue
 IsSearch-room marks stamp queue count node is within unmarked =

@@ -89,10 +89,10 @@ pub record Fits (graph : List (List ℕ)) (walk : Walk) : Type 0 where
   pub begun : IsBegun graph walk.marks.items walk.next
 
 -- the walk is over: the least node on a loop or, if there is none, an order
-pub record IsOver (graph : List (List ℕ)) (walk : Walk) : Type 0 where
-  pub first : IfSome walk.least (IsFirstOnLoop graph)
-  pub no_loop : IfNone walk.least (HasNoLoop (Leads graph))
-  pub order : IfNone walk.least (IsOrder graph (reverse walk.done.items))
+pub record IsOver (graph : List (List ℕ)) (done : List ℕ) (least : Option ℕ) : Type 0 where
+  pub first : IfSome least (IsFirstOnLoop graph)
+  pub no_loop : IfNone least (HasNoLoop (Leads graph))
+  pub order : IfNone least (IsOrder graph (reverse done))
 
 -- ---- how many steps are left, at most
 

@@ -104,10 +104,11 @@ impl<T: Copy> ListsBuilder<T> {
     pub fn build(self, alloc: Global) -> Result<Lists<T>, AllocError>
         ensures { IfOk result (λ lists. lists ≡ self) }
     {
-        let mut starts = Vec::with_capacity(alloc, self.lists.len().saturating_add(1))?;
+        let lists = self.lists.as_slice();
+        let mut starts = Vec::with_capacity(alloc, lists.len().saturating_add(1))?;
         let mut values = Vec::new(alloc);
         starts.push(0)?;
-        for list in self.lists.as_slice() {
+        for list in lists {
             values.extend_from_slice(list.as_slice())?;
             starts.push(values.len())?;
         }

@@ -18,11 +18,10 @@ pub fn order(alloc: Global, graph: &Graph) -> Result<Option<Vec<u32>>, AllocErro
     ensures no_loop { IfOk result (λ found. IfSome found (λ _. HasNoLoop (Leads graph.now))) }
     ensures a_loop { IfOk result (λ found. IfNone found (HasLoop graph.now)) }
 {
-    let walk = Walk::along(alloc, graph)?;
-    if walk.least.is_some() {
+    let mut walked = Walk::along(alloc, graph)?;
+    if walked.least.is_some() {
         return Ok(None);
     }
-    let mut order = walk.into_done();
-    order.as_mut_slice().reverse();
-    Ok(Some(order))
+    walked.done.as_mut_slice().reverse();
+    Ok(Some(walked.done))
 }

@@ -47,13 +47,22 @@ pub(crate) struct Walk {
     /// The paths began at nodes below this one.
     next: u32,
     /// The least node so far that lies on a loop.
+    least: Option<u32>,
+}
+
+/// What a whole walk found.
+#[derive(Drop)]
+pub(crate) struct Walked {
+    /// All nodes, in the order in which they were done.
+    pub(crate) done: Vec<u32>,
+    /// The least node that lies on a loop.
     pub(crate) least: Option<u32>,
 }
 
 impl Walk {
     /// The whole walk. The time grows with the nodes and edges.
-    pub(crate) fn along(alloc: Global, graph: &Graph) -> Result<Self, AllocError>
-        ensures { IfOk result (IsOver graph.now) }
+    pub(crate) fn along(alloc: Global, graph: &Graph) -> Result<Walked, AllocError>
+        ensures { IfOk result (λ walked. IsOver graph.now walked.done.items walked.least) }
     {
         let mut walk = Walk::new(alloc, graph)?;
         loop {
@@ -62,7 +71,10 @@ impl Walk {
                 Step::Over => break,
             }
         }
-        Ok(walk)
+        Ok(Walked {
+            done: walk.done,
+            least: walk.least,
+        })
     }
 
     fn new(alloc: Global, graph: &Graph) -> Result<Self, AllocError>
@@ -79,22 +91,6 @@ impl Walk {
             next: 0,
             least: None,
         })
-    }
-
-    pub(crate) fn into_done(self) -> Vec<u32>
-        ensures { result ≡ self.done }
-    {
-        let Walk {
-            marks: _marks,
-            turns: _turns,
-            live: _live,
-            path: _path,
-            roots: _roots,
-            done,
-            next: _next,
-            least: _least,
-        } = self;
-        done
     }
 
     /// One step.
@@ -151,10 +147,10 @@ impl Walk {
                 if to < root {
                     self.merge(root)
                 } else {
-                    self.pass_back(node)
+                    self.pass(node, Some(least_with(self.least, node)))
                 }
             }
-            Mark::Done => self.pass(node),
+            Mark::Done => self.pass(node, self.least),
         }
         Ok(())
     }
@@ -205,23 +201,24 @@ impl Walk {
         let _ = self.roots.pop();
     }
 
-    /// Passes one of the node's ends.
-    fn pass(&mut self, node: u32)
+    /// Passes one of the node's ends. The least node on a loop is now this one.
+    fn pass(&mut self, node: u32, least: Option<u32>)
         requires within { node < length self.old.turns.items }
         requires room { slice_index self.old.turns.items node < 2 ^ 63 }
-        ensures { Passes node self.old.least self.old self.new }
+        ensures { Passes node least self.old self.new }
     {
         self.turns[node as usize] += 1;
+        self.least = least;
     }
+}
 
-    /// Passes one of the node's ends, which leads back to the node: it lies on a loop.
-    fn pass_back(&mut self, node: u32)
-        requires within { node < length self.old.turns.items }
-        requires room { slice_index self.old.turns.items node < 2 ^ 63 }
-        ensures { Passes node (Some (least_of self.old.least node)) self.old self.new }
-    {
-        self.turns[node as usize] += 1;
-        self.least = Some(self.least.map_or(node, |least| least.min(node)));
+/// The lesser one of this node and the least one so far.
+fn least_with(least: Option<u32>, node: u32) -> u32
+    ensures { result ≡ least_of least node }
+{
+    match least {
+        None => node,
+        Some(least) => least.min(node),
     }
 }
 

@@ -8,15 +8,15 @@ use Rattle.graph.proofs.OverLemmas.{first-HasLoop, at_none}
 use Rattle.graph.proofs.order.order.Goals as goal
 
 pub returns-then-is_some-clause-a_loop : goal.returns-then-is_some-clause-a_loop
-returns-then-is_some-clause-a_loop c = first-HasLoop c.args.graph.now c.in_ok-walk.walk.least (sym c.is_some.ensures ∙ c.if-is_some.true) c.in_ok-walk.ensures.first
+returns-then-is_some-clause-a_loop c = first-HasLoop c.args.graph.now c.in_ok-walked.walked.least (sym c.is_some.ensures ∙ c.if-is_some.true) c.in_ok-walked.ensures.first
 
 pub returns-clause-order : goal.returns-clause-order
 returns-clause-order c =
-    let walk = c.in_ok-walk.walk in
-    let written : c.reverse.new.self ≡ reverse walk.done.items =
-    c.reverse.ensures.after ∙ ap (λ (xs : List ℕ). reverse xs) (c.as_mut_slice.ensures.value ∙ ap (λ (done : Vec ℕ Global). done.items) c.into_done-order.ensures) in
-    subst (λ (xs : List ℕ). IsOrder c.args.graph.now xs) (sym (take_at c.reverse.new.self _ c.into_done-order.result.len (c.reverse.ensures.len ∙ c.as_mut_slice.ensures.len) ∙ written))
-    (at_none walk.least (IsOrder c.args.graph.now (reverse walk.done.items)) (sym c.is_some.ensures ∙ c.if-is_some.false) c.in_ok-walk.ensures.order)
+    let walked = c.in_ok-walked.walked in
+    let written : c.reverse.new.self ≡ reverse walked.done.items =
+    c.reverse.ensures.after ∙ ap (λ (xs : List ℕ). reverse xs) (c.as_mut_slice.ensures.value) in
+    subst (λ (xs : List ℕ). IsOrder c.args.graph.now xs) (sym (take_at c.reverse.new.self _ c.in_ok-walked.walked.done.len (c.reverse.ensures.len ∙ c.as_mut_slice.ensures.len) ∙ written))
+    (at_none walked.least (IsOrder c.args.graph.now (reverse walked.done.items)) (sym c.is_some.ensures ∙ c.if-is_some.false) c.in_ok-walked.ensures.order)
 
 pub returns-clause-no_loop : goal.returns-clause-no_loop
-returns-clause-no_loop c = at_none c.in_ok-walk.walk.least (HasNoLoop (Leads c.args.graph.now)) (sym c.is_some.ensures ∙ c.if-is_some.false) c.in_ok-walk.ensures.no_loop
+returns-clause-no_loop c = at_none c.in_ok-walked.walked.least (HasNoLoop (Leads c.args.graph.now)) (sym c.is_some.ensures ∙ c.if-is_some.false) c.in_ok-walked.ensures.no_loop

@@ -4,7 +4,7 @@ use Rattle.std.specs.Option.{unwrap_or}
 use Rattle.std.proofs.lemmas.Option.{slice_get-get_or, slice_get_within, unwrap_or-slice_get}
 use Rattle.std.proofs.lemmas.Result.{IfOk-weaker}
 use Rattle.graph.specs.declared.walk.Mark.TheVariants.{Unseen, Live, Done}
-use Rattle.graph.specs.Walk.{Closes, Goes}
+use Rattle.graph.specs.Walk.{Closes, Goes, Passes}
 use Rattle.graph.proofs.TopLemmas.{mark-is, place_low, node_low, turn_is, turn_low, end_low, root_last, top-leave, top-close, top-enter, top-merge, top-pass, top-pass_back}
 use Rattle.graph.proofs.walk.Walk.go_on.Goals as goal
 
@@ -74,12 +74,12 @@ enter-requires c =
     let more : c.index-turn.result.now < length (get_or c.args.graph.now c.index-node.result.now []) = subst (λ (ends : List ℕ). c.index-turn.result.now < length ends) c.ends-ends.ensures.value low in
     end_low c.args.graph.now c.args.self.now c.args.place c.index-node.result.now c.requires.fits c.requires.last c.index-node.ensures c.index-turn.result.now end turn more (ap (λ (ends : List ℕ). get_or ends c.index-turn.result.now 0) c.ends-ends.ensures.value)
 
-pub pass_back-requires-clause-within : goal.pass_back-requires-clause-within
-pass_back-requires-clause-within c =
-    omega (arith, c.requires.fits.turns.as_many, node_low c.args.graph.now c.args.self.now c.args.place c.index-node.result.now c.requires.fits c.requires.last c.index-node.ensures)
-
 pub pass-requires-clause-within : goal.pass-requires-clause-within
 pass-requires-clause-within c =
+    omega (arith, c.requires.fits.turns.as_many, node_low c.args.graph.now c.args.self.now c.args.place c.index-node.result.now c.requires.fits c.requires.last c.index-node.ensures)
+
+pub pass-requires-in-Done-clause-within : goal.pass-requires-in-Done-clause-within
+pass-requires-in-Done-clause-within c =
     omega (arith, c.requires.fits.turns.as_many, node_low c.args.graph.now c.args.self.now c.args.place c.index-node.result.now c.requires.fits c.requires.last c.index-node.ensures)
 
 pub returns-in_ok-enter-in-Unseen : goal.returns-in_ok-enter-in-Unseen
@@ -108,7 +108,8 @@ returns-else-to-root c =
     let more : c.index-turn.result.now < length (get_or c.args.graph.now c.index-node.result.now []) = subst (λ (ends : List ℕ). c.index-turn.result.now < length ends) c.ends-ends.ensures.value low in
     let within : end < length c.args.self.now.marks.items = end_low c.args.graph.now c.args.self.now c.args.place c.index-node.result.now c.requires.fits c.requires.last c.index-node.ensures c.index-turn.result.now end turn more (ap (λ (ends : List ℕ). get_or ends c.index-turn.result.now 0) c.ends-ends.ensures.value) in
     let root : c.unwrap_or-root.result ≡ get_or c.args.self.now.roots.items (length c.args.self.now.roots.items - 1) 0 = c.unwrap_or-root.ensures ∙ ap (λ (o : Option ℕ). unwrap_or o 0) (c.copied.ensures ∙ c.last.ensures.value ∙ ap (λ (xs : List ℕ). slice_get xs (length xs - 1)) c.deref.ensures.value) ∙ unwrap_or-slice_get c.args.self.now.roots.items (length c.args.self.now.roots.items - 1) 0 in
-    top-pass_back c.args.graph.now c.args.self.now c.args.place c.index-node.result.now c.requires.fits c.requires.last c.index-node.ensures c.index-turn.result.now end turn more (ap (λ (ends : List ℕ). get_or ends c.index-turn.result.now 0) c.ends-ends.ensures.value) c.pass_back.new.self c.unwrap_or-root.result c.in-Live.to root (omega (arith, c.if-to-root.false)) (mark-is c.args.self.now.marks.items end c.index.result.now (Live c.in-Live.to) within c.index.ensures c.in-Live.is) c.pass_back.ensures
+    top-pass_back c.args.graph.now c.args.self.now c.args.place c.index-node.result.now c.requires.fits c.requires.last c.index-node.ensures c.index-turn.result.now end turn more (ap (λ (ends : List ℕ). get_or ends c.index-turn.result.now 0) c.ends-ends.ensures.value) c.pass.new.self c.unwrap_or-root.result c.in-Live.to root (omega (arith, c.if-to-root.false)) (mark-is c.args.self.now.marks.items end c.index.result.now (Live c.in-Live.to) within c.index.ensures c.in-Live.is)
+    (subst (λ (told : ℕ). Passes c.index-node.result.now (Some told) c.args.self.now c.pass.new.self) c.least_with.ensures c.pass.ensures)
 
 pub returns-in-Done : goal.returns-in-Done
 returns-in-Done c =
@@ -117,4 +118,4 @@ returns-in-Done c =
     let end = get_or c.ends-ends.result.now c.index-turn.result.now 0 in
     let more : c.index-turn.result.now < length (get_or c.args.graph.now c.index-node.result.now []) = subst (λ (ends : List ℕ). c.index-turn.result.now < length ends) c.ends-ends.ensures.value low in
     let within : end < length c.args.self.now.marks.items = end_low c.args.graph.now c.args.self.now c.args.place c.index-node.result.now c.requires.fits c.requires.last c.index-node.ensures c.index-turn.result.now end turn more (ap (λ (ends : List ℕ). get_or ends c.index-turn.result.now 0) c.ends-ends.ensures.value) in
-    top-pass c.args.graph.now c.args.self.now c.args.place c.index-node.result.now c.requires.fits c.requires.last c.index-node.ensures c.index-turn.result.now end turn more (ap (λ (ends : List ℕ). get_or ends c.index-turn.result.now 0) c.ends-ends.ensures.value) c.pass.new.self c.pass.ensures (mark-is c.args.self.now.marks.items end c.index.result.now Done within c.index.ensures c.in-Done.is)
+    top-pass c.args.graph.now c.args.self.now c.args.place c.index-node.result.now c.requires.fits c.requires.last c.index-node.ensures c.index-turn.result.now end turn more (ap (λ (ends : List ℕ). get_or ends c.index-turn.result.now 0) c.ends-ends.ensures.value) c.pass-in-Done.new.self c.pass-in-Done.ensures (mark-is c.args.self.now.marks.items end c.index.result.now Done within c.index.ensures c.in-Done.is)
