@@ -23,6 +23,7 @@ pub record IsOrder (entries : List (List Dependency)) (periods objects : ℕ) : 
   pub fit : All (All (EntryFits (length entries) periods)) entries
 
 -- so many objects, each with its entries
-pub record AreOf (objects : ℕ) (dependencies : List Dependency) (entries : List (List Dependency)) : Type 0 where
+pub record AreOf (objects : ℕ) (dependencies : List Dependency)
+    (entries : List (List Dependency)) : Type 0 where
   pub count : length entries ≡ objects
   pub each : (p : ℕ) → p < objects → slice_index_or entries p [] ≡ entries_of dependencies p

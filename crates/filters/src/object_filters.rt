@@ -1,6 +1,7 @@
 //! The filters of an object.
 
-ghost use Rattle.std.specs.Prelude.{◌≡◌, ◌+◌, ◌*◌, ◌≤◌, ◌==◌, ◌&&◌, not, nat_lt, IfSome};
+ghost use Rattle.std.specs.Prelude.{◌≡◌, ◌+◌, ◌*◌, ◌≤◌, ◌==◌, ◌&&◌, not};
+ghost use Rattle.std.specs.Prelude.{nat_lt, IfSome};
 ghost use Rattle.std.specs.Result.{result_err};
 ghost use Rattle.due_model.specs.declared.config.Config.{Config};
 ghost use Rattle.due_model.specs.Limits.{last_moment, max_number};

@@ -50,7 +50,8 @@ fn part_at<'a, T>(starts: &[usize], values: &'a [T], number: usize) -> &'a [T]
     requires ordered { slice_index starts.now number ≤ slice_index starts.now (number + 1) }
     requires inside { slice_index starts.now (number + 1) ≤ length values.now }
     ensures { result.now
-        ≡ slice_range values.now (slice_index starts.now number) (slice_index starts.now (number + 1)) }
+        ≡ slice_range values.now (slice_index starts.now number)
+        (slice_index starts.now (number + 1)) }
 {
     &values[starts[number]..starts[number + 1]]
 }

@@ -126,7 +126,8 @@ impl Walk {
     /// A step at the path's last node.
     fn go_on(&mut self, graph: &Graph, place: usize) -> Result<(), AllocError>
         requires fits { Fits graph.now self.old }
-        requires last { slice_get self.old.path.items (length self.old.path.items - 1) ≡ Some place }
+        requires last { slice_get self.old.path.items (length self.old.path.items - 1)
+            ≡ Some place }
         ensures { OnOk result (Goes graph.now self.old self.new) }
     {
         let node = self.live[place];
@@ -180,8 +181,10 @@ impl Walk {
     fn close(&mut self, place: usize) -> Result<(), AllocError>
         requires within { place ≤ length self.old.live.items }
         requires nodes { All (λ node. node < length self.old.marks.items) self.old.live.items }
-        requires path { slice_get self.old.path.items (length self.old.path.items - 1) ≡ Some place }
-        requires root { slice_get self.old.roots.items (length self.old.roots.items - 1) ≡ Some place }
+        requires path { slice_get self.old.path.items (length self.old.path.items - 1)
+            ≡ Some place }
+        requires root { slice_get self.old.roots.items (length self.old.roots.items - 1)
+            ≡ Some place }
         ensures { OnOk result (Closes place self.old self.new) }
     {
         let nodes = &self.live[place..];
