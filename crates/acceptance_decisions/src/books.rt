@@ -1,8 +1,5 @@
 //! Books of one object through the worked examples.
 
-ghost use Rattle.std.specs.Prelude.{◌≡◌, true};
-ghost use Rattle.due_model.specs.Readings.{is_problem_state};
-
 use due_model::limits::LAST_MOMENT;
 use due_model::notice::Filter;
 use due_model::rules::Last;

@@ -93,7 +93,8 @@ SentFits t gap old new =
 abbrev pub IsNextMoment : Config → Zone → Object → (began : ℕ) → Filter → (t : ℕ)
     → (next : Option ℕ) → Type 0
 IsNextMoment c zone object began filter.Period t next = next ≡ next_in c zone object.period t
-IsNextMoment c zone object began filter.FirstDelay t next = next ≡ Some (began + 60 * object.delay)
+IsNextMoment c zone object began filter.FirstDelay t next =
+    next ≡ Some (began + 60 * object.delay)
 IsNextMoment c zone object began why t next = Unit {0}
 
 -- Whatever event the old book fits within, at which this filter stops a problem at t, the new one fits after it.

@@ -1,14 +1,13 @@
 //! A book: the problem of one object, told event by event what became of it.
 
-ghost use Rattle.std.specs.Prelude.{◌≡◌, ◌+◌, ◌*◌, ◌^◌, ◌<◌, ◌≤◌, true, None};
-ghost use Rattle.std.specs.Prelude.{Some, IfSome};
+ghost use Rattle.std.specs.Prelude.{◌≡◌, ◌+◌, ◌^◌, ◌<◌, ◌≤◌, true, Some};
 ghost use Rattle.due_model.specs.Limits.{last_moment};
 ghost use Rattle.due_model.specs.Readings.{is_problem_state};
 ghost use Rattle.due_model.specs.Rules.{next_notice};
-ghost use Rattle.problem_count.specs.Book.{longest_gap, LastIsInRange, after_hard, new_book, number_of};
-ghost use Rattle.problem_count.specs.Book.{retry_by};
-ghost use Rattle.problem_count.specs.Fits.{DueIsReady, FitsNothing, HardFits, NumberIsNext, SentFits};
-ghost use Rattle.problem_count.specs.Fits.{SuppressedFits};
+ghost use Rattle.problem_count.specs.Book.{longest_gap, LastIsInRange, new_book};
+ghost use Rattle.problem_count.specs.Book.{after_hard, number_of, retry_by};
+ghost use Rattle.problem_count.specs.Fits.{FitsNothing, HardFits, SentFits, SuppressedFits};
+ghost use Rattle.problem_count.specs.Fits.{DueIsReady, NumberIsNext};
 
 use due_model::notice::Filter;
 use due_model::rules::{Last, next_notice};

@@ -2,8 +2,8 @@
 //! events one by one. Each is the contract of a function with nothing to do.
 
 ghost use Rattle.problem_count.specs.Laws.{OtherEventsFit, OtherOutcomesFit, UntouchedFit};
-ghost use Rattle.problem_count.specs.Laws.{OutcomesAreByDue, ClockAttemptsByDue, ProblemsRun, CountsAreFew};
-ghost use Rattle.problem_count.specs.Laws.{CountsWithinAreFew};
+ghost use Rattle.problem_count.specs.Laws.{OutcomesAreByDue, ClockAttemptsByDue, ProblemsRun};
+ghost use Rattle.problem_count.specs.Laws.{CountsAreFew, CountsWithinAreFew};
 
 /// A book fits on within an event that gives its object no hard state, and after an event that becomes no attempt
 /// as a problem. So does a book whose object an event doesn't touch: it isn't named, and isn't due at the clock's.
