@@ -248,7 +248,7 @@ fn worked_chain_does_not_inherit(rt: HostRuntime) -> Result<(), Fail> {
     given(&rt, rt.alloc(), 4, &entries, &cases)
 }
 
-/// B was never heard of, so an entry with the criteria `p` or `a` fails, and one with `n` doesn't.
+/// Where the master never had a state, an entry with the criteria `p` or `a` fails, and one with `n` does not.
 #[test]
 fn criteria(rt: HostRuntime) -> Result<(), Fail> {
     let entries = [
