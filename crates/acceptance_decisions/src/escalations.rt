@@ -329,6 +329,17 @@ fn periods_options_and_zero(rt: HostRuntime) -> Result<(), Fail> {
     are_as_told(&rt, rt.alloc(), &MIXED)
 }
 
+/// The own contacts of each object, one after the other.
+fn own_of_each(alloc: Global, config: &Config) -> Result<Vec<ContactId>, AllocError>
+    requires { IsAccepted config.now }
+{
+    let mut told = Vec::new(alloc);
+    for number in 0..config.objects.len() {
+        own_contacts(alloc, config, ObjectId(number as u16), &mut told)?;
+    }
+    Ok(told)
+}
+
 /// Each host's own contacts are added to those of the host before.
 #[test]
 fn own_alone(rt: HostRuntime) -> Result<(), Fail> {
@@ -336,10 +347,7 @@ fn own_alone(rt: HostRuntime) -> Result<(), Fail> {
     if !is_accepted(&config) {
         panic!(&rt; "not accepted");
     }
-    let mut told = Vec::new(rt.alloc());
-    for number in 0..config.objects.len() {
-        own_contacts(rt.alloc(), &config, ObjectId(number as u16), &mut told)?;
-    }
+    let told = own_of_each(rt.alloc(), &config)?;
     assert_eq!(&rt; told.as_slice(), [ANN, BOB, DAN, CAT].as_slice());
     Ok(())
 }

@@ -1,13 +1,9 @@
--- A dependency fails where a chain of entries leads to a listed state. A chain is kept as the places of its entries in the list; one
--- that comes to a place twice is cut short, so that it has no more entries than the list.
-use Rattle.std.proofs.Common.{◌≡◌, ◌↔◌, ℕ, zero, suc, ◌<◌, ◌≤◌, Bool, true, false, eqb, ◌==◌, ◌&&◌, ◌||◌, List, [], ◌∷◌, ◌++◌, length, slice_get, Contains, Some, refl, ap, ap₂, ◌∙◌, subst, arith, eqb-true, eq-eqb, ◌⊎◌, inl, inr}
-use Rattle.std.specs.List.{list_any, IsDistinct}
-use Rattle.std.proofs.lemmas.Bool.{and_parts, and_from, or_cases, or_left, or_right, cases_Bool}
+-- A dependency fails exactly where a chain of entries leads to a listed state. A chain is kept as the places of its entries in the list.
+use Rattle.std.proofs.Common.{◌≡◌, ◌↔◌, ℕ, zero, suc, Bool, true, ◌==◌, ◌&&◌, ◌||◌, List, [], ◌∷◌, ◌++◌, length, slice_get, Contains, Some, refl, ap, ap₂, ◌∙◌, eqb-true, ◌⊎◌, inl, inr}
+use Rattle.std.proofs.lemmas.Bool.{and_parts, or_cases}
 use Rattle.std.proofs.lemmas.List.Elements.{All-nil, All-cons, All-head, All-tail}
 use Rattle.std.proofs.lemmas.List.Folds.{Any-from_list_any}
-use Rattle.std.proofs.lemmas.Map.Keys.{any_passes_from_place}
-use Rattle.std.proofs.lemmas.Map.Steps.{length-le_from_distinct_below}
-use Rattle.std.proofs.lemmas.Option.{slice_get_within, slice_get-get_or}
+use Rattle.std.proofs.lemmas.Option.{slice_get-get_or}
 use Rattle.due_model.specs.declared.config.Config.{Config}
 use Rattle.due_model.specs.declared.config.Dependency.{Dependency}
 use Rattle.due_model.specs.declared.state.State.{State}
@@ -15,17 +11,13 @@ use Rattle.due_model.specs.declared.zone.Zone.{Zone}
 use Rattle.due_model.specs.Dependencies.{dependency_fails, entry_fails, has_state}
 use Rattle.due_model.specs.Periods.{in_period}
 use Rattle.due_laws.specs.Dependencies.{IsFailingChain}
-use Rattle.due_laws.proofs.ShortChains.{each_fails}
+use Rattle.lemmas.proofs.Dependencies.{Leads as LeadsAlong, leads_fails}
 
 head_is : {x y : ℕ} {xs ys : List ℕ} → x ∷ xs ≡ y ∷ ys → x ≡ y
 head_is h = cc
 
 tail_is : {x y : ℕ} {xs ys : List ℕ} → x ∷ xs ≡ y ∷ ys → xs ≡ ys
 tail_is h = cc
-
-distinct_cons : (n : ℕ) (ns : List ℕ) → list_any (eqb n) ns ≡ false → IsDistinct eqb ns → IsDistinct eqb (n ∷ ns)
-unfolding IsDistinct
-distinct_cons n ns new distinct = (each_fails (eqb n) ns new, distinct)
 
 module _ (c : Config) (zone : Zone) (states : ℕ → State) (t : ℕ) where
   abbrev in_time : Dependency → Bool
@@ -40,88 +32,7 @@ module _ (c : Config) (zone : Zone) (states : ℕ → State) (t : ℕ) where
 
   -- the entries at these places are a chain from object o
   abbrev Leads : ℕ → List ℕ → Type 0
-  Leads o [] = ⊥
-  Leads o (n ∷ ns) = (e : Dependency) × (slice_get c.dependencies n ≡ Some e) × (e.dependent.0 ≡ o) × (in_time e ≡ true)
-      × (((ns ≡ []) × (listed e ≡ true)) ⊎ ((e.inherits ≡ true) × Leads e.master.0 ns))
-
-  fails_why : (depth : ℕ) (e : Dependency) (ns : List ℕ) → (((ns ≡ []) × (listed e ≡ true)) ⊎ ((e.inherits ≡ true) × Leads e.master.0 ns))
-      → (Leads e.master.0 ns → entry_fails depth c zone states t e.master.0 ≡ true) → (listed e || e.inherits && entry_fails depth c zone states t e.master.0) ≡ true
-  fails_why depth e ns (inl (last, is)) further = or_left (listed e) (e.inherits && entry_fails depth c zone states t e.master.0) is
-  fails_why depth e ns (inr (inherits, more)) further =
-      or_right (listed e) (e.inherits && entry_fails depth c zone states t e.master.0) (and_from e.inherits (entry_fails depth c zone states t e.master.0) inherits (further more))
-
-  -- a chain makes the definition fail, at a depth of its length
-  fails_from : (depth o : ℕ) (ns : List ℕ) → length ns ≤ depth → Leads o ns → entry_fails depth c zone states t o ≡ true
-  fails_from zero o [] few h = absurd h
-  fails_from zero o (n ∷ ns) few h = absurd (omega (arith, few))
-  fails_from (suc depth) o [] few h = absurd h
-  fails_from (suc depth) o (n ∷ ns) few (e, at, of, now, why) =
-      any_passes_from_place (fails_by (entry_fails depth c zone states t) o) c.dependencies n e at
-      (and_from (e.dependent.0 == o && in_time e) (listed e || e.inherits && entry_fails depth c zone states t e.master.0)
-      (and_from (e.dependent.0 == o) (in_time e) (eq-eqb e.dependent.0 o of) now)
-      (fails_why depth e ns why (fails_from depth e.master.0 ns (omega (arith, few)))))
-
-  -- the part of a chain from one of its places on
-  record PartFrom (n : ℕ) : Type 0 where
-    pub entry : Dependency
-    pub at : slice_get c.dependencies n ≡ Some entry
-    pub places : List ℕ
-    pub leads : Leads entry.dependent.0 places
-    pub distinct : IsDistinct eqb places
-
-  part_here : (o n m : ℕ) (ns : List ℕ) → n ≡ m → Leads o (m ∷ ns) → IsDistinct eqb (m ∷ ns) → PartFrom n
-  part_here o n m ns same (e, at, of, now, why) distinct =
-      record { entry = e; at = ap (slice_get c.dependencies) same ∙ at; places = m ∷ ns; leads = (e, at, refl, now, why); distinct = distinct }
-
-  part_on : (o n m : ℕ) (ns : List ℕ) → ((o' : ℕ) → Leads o' ns → IsDistinct eqb ns → list_any (eqb n) ns ≡ true → PartFrom n)
-      → (b : Bool) → eqb n m ≡ b → Leads o (m ∷ ns) → IsDistinct eqb (m ∷ ns) → (b || list_any (eqb n) ns) ≡ true → PartFrom n
-  unfolding IsDistinct
-  part_on o n m ns further true is leads distinct found = part_here o n m ns (eqb-true n m is) leads distinct
-  part_on o n m ns further false is (e, at, of, now, inl (last, ends)) distinct found =
-      let none : list_any (eqb n) ns ≡ false = ap (list_any (eqb n)) last in cc
-  part_on o n m ns further false is (e, at, of, now, inr (inherits, more)) distinct found = further e.master.0 more distinct.1 found
-
-  part_from : (n : ℕ) (ns : List ℕ) (o : ℕ) → Leads o ns → IsDistinct eqb ns → list_any (eqb n) ns ≡ true → PartFrom n
-  part_from n [] o leads distinct found = absurd leads
-  part_from n (m ∷ ns) o leads distinct found = part_on o n m ns (part_from n ns) (eqb n m) refl leads distinct found
-
-  -- a chain that comes to no place twice
-  abbrev Short : ℕ → Type 0
-  Short o = (ns : List ℕ) × Leads o ns × IsDistinct eqb ns
-
-  one_more : (o n : ℕ) (e : Dependency) → slice_get c.dependencies n ≡ Some e → e.dependent.0 ≡ o → in_time e ≡ true → e.inherits ≡ true → Short e.master.0
-      → Short o
-  one_more o n e at of now inherits (ns, leads, distinct) = by_place (cases_Bool (list_any (eqb n) ns))
-    where
-      by_place : (list_any (eqb n) ns ≡ true) ⊎ (list_any (eqb n) ns ≡ false) → Short o
-      by_place (inl found) =
-          let part = part_from n ns e.master.0 leads distinct found in
-          let found_at = part.at in
-          let one : part.entry ≡ e = cc in
-          (part.places, subst (λ (x : ℕ). Leads x part.places) (ap (λ (d : Dependency). d.dependent.0) one ∙ of) part.leads, part.distinct)
-      by_place (inr new) = (n ∷ ns, (e, at, of, now, inr (inherits, leads)), distinct_cons n ns new distinct)
-
-  shortened : (ns : List ℕ) (o : ℕ) → Leads o ns → Short o
-  unfolding IsDistinct
-  shortened [] o leads = absurd leads
-  shortened (n ∷ ns) o (e, at, of, now, inl (last, ends)) = (n ∷ [], (e, at, of, now, inl (refl, ends)), (tt, tt))
-  shortened (n ∷ ns) o (e, at, of, now, inr (inherits, more)) = one_more o n e at of now inherits (shortened ns e.master.0 more)
-
-  -- each place is one of the list
-  place_on : (o q m : ℕ) (ns : List ℕ) → ((o' : ℕ) → Leads o' ns → list_any (eqb q) ns ≡ true → q < length c.dependencies)
-      → (b : Bool) → eqb q m ≡ b → Leads o (m ∷ ns) → (b || list_any (eqb q) ns) ≡ true → q < length c.dependencies
-  place_on o q m ns further true is (e, at, of, now, why) found = let same = eqb-true q m is in let within = slice_get_within c.dependencies m e at in omega (arith, same, within)
-  place_on o q m ns further false is (e, at, of, now, inl (last, ends)) found = let none : list_any (eqb q) ns ≡ false = ap (list_any (eqb q)) last in cc
-  place_on o q m ns further false is (e, at, of, now, inr (inherits, more)) found = further e.master.0 more found
-
-  place_within : (q : ℕ) (ns : List ℕ) (o : ℕ) → Leads o ns → list_any (eqb q) ns ≡ true → q < length c.dependencies
-  place_within q [] o leads found = absurd leads
-  place_within q (m ∷ ns) o leads found = place_on o q m ns (place_within q ns) (eqb q m) refl leads found
-
-  leads_fails : (o : ℕ) (ns : List ℕ) → Leads o ns → dependency_fails c zone states t o ≡ true
-  leads_fails o ns leads =
-      let (ms, short, distinct) = shortened ns o leads in
-      fails_from (length c.dependencies) o ms (length-le_from_distinct_below ms (length c.dependencies) distinct (λ q. place_within q ms o short)) short
+  Leads o ns = LeadsAlong c zone states t o ns
 
   -- the places of the entries of a chain
   place_of : (e : Dependency) → Contains c.dependencies e → (n : ℕ) × (slice_get c.dependencies n ≡ Some e)

@@ -15,7 +15,8 @@ use Rattle.due_model.specs.Local.{Local, local}
 use Rattle.due_model.specs.Periods.{holds, in_period, in_range, ranges_on}
 use Rattle.lemmas.proofs.Lists.{All-slice_get}
 use Rattle.due_laws.specs.Periods.{HoldsByRanges}
-use Rattle.due_laws.proofs.ShortChains.{each_fails, short}
+use Rattle.lemmas.proofs.Dependencies.{each_fails}
+use Rattle.due_laws.proofs.ShortChains.{short}
 
 -- two tests that agree at each element of a list
 any_alike : {X : Type 0} (f g : X → Bool) (xs : List X) → ((x : X) → Contains xs x → f x ≡ g x) → list_any f xs ≡ list_any g xs

@@ -1,14 +1,10 @@
 -- A chain of steps between numbers below n, where no step leads back, has fewer than n steps.
 use Rattle.std.proofs.Common.{◌≡◌, ℕ, zero, suc, ◌<◌, ◌≤◌, Bool, true, false, eqb, ◌||◌, List, [], ◌∷◌, length, refl, sym, ap, subst, arith, eqb-true}
-use Rattle.std.specs.List.{list_any, IsDistinct, AllByRecursion}
-use Rattle.std.proofs.lemmas.Bool.{or_parts, false_from_ne_true}
+use Rattle.std.specs.List.{list_any, IsDistinct}
+use Rattle.std.proofs.lemmas.Bool.{false_from_ne_true}
 use Rattle.std.proofs.lemmas.Map.Steps.{length-le_from_distinct_below}
 use Rattle.due_model.specs.Accepted.{Chain, HasNoLoop}
-
--- what no element passes, each fails
-pub each_fails : {X : Type 0} (test : X → Bool) (xs : List X) → list_any test xs ≡ false → AllByRecursion (λ x. test x ≡ false) xs
-each_fails test [] h = tt
-each_fails test (x ∷ xs) h = let parts = or_parts (test x) (list_any test xs) h in (parts.0, each_fails test xs parts.1)
+use Rattle.lemmas.proofs.Dependencies.{each_fails}
 
 module _ (Step : ℕ → ℕ → Type 0) (n : ℕ) (from_below : (p q : ℕ) → Step p q → p < n) (to_below : (p q : ℕ) → Step p q → q < n) (free : HasNoLoop Step) where
   -- the numbers that a chain goes through

@@ -15,7 +15,7 @@ use Rattle.due_model.specs.Dependencies.{dependency_fails, entry_fails, has_stat
 use Rattle.due_model.specs.Periods.{in_period}
 
 -- what no element passes, each fails
-each_fails : {X : Type 0} (test : X → Bool) (xs : List X) → list_any test xs ≡ false → AllByRecursion (λ x. test x ≡ false) xs
+pub each_fails : {X : Type 0} (test : X → Bool) (xs : List X) → list_any test xs ≡ false → AllByRecursion (λ x. test x ≡ false) xs
 each_fails test [] h = tt
 each_fails test (x ∷ xs) h = let parts = or_parts (test x) (list_any test xs) h in (parts.0, each_fails test xs parts.1)
 
@@ -35,7 +35,7 @@ module _ (c : Config) (zone : Zone) (states : ℕ → State) (t : ℕ) where
   fails_by inner o e = e.dependent.0 == o && in_time e && (listed e || e.inherits && inner e.master.0)
 
   -- the entries at these places are a chain from object o
-  abbrev Leads : ℕ → List ℕ → Type 0
+  abbrev pub Leads : ℕ → List ℕ → Type 0
   Leads o [] = ⊥
   Leads o (n ∷ ns) = (e : Dependency) × (slice_get c.dependencies n ≡ Some e) × (e.dependent.0 ≡ o) × (in_time e ≡ true)
       × (((ns ≡ []) × (listed e ≡ true)) ⊎ ((e.inherits ≡ true) × Leads e.master.0 ns))
@@ -114,7 +114,8 @@ module _ (c : Config) (zone : Zone) (states : ℕ → State) (t : ℕ) where
   place_within q [] o leads found = absurd leads
   place_within q (m ∷ ns) o leads found = place_on o q m ns (place_within q ns) (eqb q m) refl leads found
 
-  leads_fails : (o : ℕ) (ns : List ℕ) → Leads o ns → dependency_fails c zone states t o ≡ true
+  -- where there is a chain, a dependency fails
+  pub leads_fails : (o : ℕ) (ns : List ℕ) → Leads o ns → dependency_fails c zone states t o ≡ true
   leads_fails o ns leads =
       let (ms, short, distinct) = shortened ns o leads in
       fails_from (length c.dependencies) o ms (length-le_from_distinct_below ms (length c.dependencies) distinct (λ q. place_within q ms o short)) short
