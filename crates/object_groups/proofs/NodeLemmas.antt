@@ -21,7 +21,7 @@ abbrev ToNode : (names entries : List (List ℕ)) (first all k : ℕ) → Type 0
 ToNode names entries first all k =
     Contains (nodes_of names entries first all) all ⊎ Contains (nodes_of names entries first all) (first + k)
 
-listed-within : (names entries : List (List ℕ)) (k : ℕ) → Lists names entries k → k < length names
+pub listed-within : (names entries : List (List ℕ)) (k : ℕ) → Lists names entries k → k < length names
 listed-within names entries k (inl every) = every.1
 listed-within names entries k (inr named) = numbers-within names entries k named
 

@@ -1,5 +1,5 @@
 -- The groups that blocks define.
-use Rattle.std.specs.Prelude.{◌≡◌, ℕ, List, codes, length}
+use Rattle.std.specs.Prelude.{◌≡◌, ℕ, ◌^◌, ◌<◌, List, codes, length}
 use Rattle.object_reader.specs.declared.block.Block.{Block}
 use Rattle.object_reader.specs.declared.block.BlockKind.{BlockKind}
 use Rattle.object_reader.specs.declared.block.BlockKind.TheVariants.{Host, HostGroup, Contact, ContactGroup}
@@ -47,7 +47,8 @@ pub record GroupsOf : Type 0 where
 -- what is kept: the objects and the groups, and a graph in which members are found, with a search for it
 pub record AreGroups (blocks : List Block) (kind : GroupKind) (objects groups : ObjectsOf)
     (graph : List (List ℕ)) (searched : ℕ) : Type 0 where
-  pub objects : objects ≡ record { blocks = blocks; kind = object_kind kind }
-  pub groups : groups ≡ record { blocks = blocks; kind = group_kind kind }
-  pub graph : IsGraphOf (grouping blocks kind) graph
-  pub searched : searched ≡ length graph
+  pub object_table : objects ≡ record { blocks = blocks; kind = object_kind kind }
+  pub group_table : groups ≡ record { blocks = blocks; kind = group_kind kind }
+  pub has_graph : IsGraphOf (grouping blocks kind) graph
+  pub few : length graph < 2 ^ 32
+  pub has_search : searched ≡ length graph

@@ -64,5 +64,5 @@ pub record ObjectsOf : Type 0 where
 -- the places and the names are those of the objects
 pub record AreObjects (blocks : List Block) (kind : BlockKind) (places : List ℕ)
     (names : List (List ℕ)) : Type 0 where
-  pub places : places ≡ objects_in blocks kind
-  pub names : names ≡ names_in blocks kind
+  pub listed : places ≡ objects_in blocks kind
+  pub named : names ≡ names_in blocks kind

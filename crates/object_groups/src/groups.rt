@@ -29,7 +29,7 @@ pub enum GroupKind {
 
 impl GroupKind {
     /// The type of the objects.
-    pub fn object_kind(self) -> BlockKind
+    pub(crate) fn object_kind(self) -> BlockKind
         ensures { result ≡ object_kind self }
     {
         match self {
@@ -39,7 +39,7 @@ impl GroupKind {
     }
 
     /// The type of the groups.
-    pub fn group_kind(self) -> BlockKind
+    pub(crate) fn group_kind(self) -> BlockKind
         ensures { result ≡ group_kind self }
     {
         match self {
@@ -49,7 +49,7 @@ impl GroupKind {
     }
 
     /// The directive by which a group lists groups.
-    pub fn subgroups_directive(self) -> &'static str
+    pub(crate) fn subgroups_directive(self) -> &'static str
         ensures { result.now ≡ subgroups_directive self }
     {
         match self {
@@ -59,7 +59,7 @@ impl GroupKind {
     }
 
     /// The directive by which an object names groups.
-    pub fn own_groups_directive(self) -> &'static str
+    pub(crate) fn own_groups_directive(self) -> &'static str
         ensures { result.now ≡ own_groups_directive self }
     {
         match self {
@@ -236,17 +236,19 @@ impl<'a> Groups<'a> {
         &self.groups
     }
 
-    /// The members of the group of that number: the objects to whose lists a chain of groups leads, by their
-    /// numbers, each once and in order. The time grows with what the group reaches, each group once. A refused
-    /// growth changes nothing.
-    pub fn members(&mut self, alloc: Global, group: u32) -> Result<Vec<u32>, AllocError>
-        requires { group < length (names_in self.old.blocks (group_kind self.old.kind)) }
+    /// The members of the group of that number, by their numbers, each once and in order: the objects to which
+    /// a chain of groups leads. A number that no group has has none. The time grows with what the group
+    /// reaches, each group once. A refused growth changes nothing.
+    pub fn members(&mut self, alloc: Global, group: usize) -> Result<Vec<u32>, AllocError>
         ensures same { self.new ≡ self.old }
         ensures members { IfOk result (λ members.
             AreMembers (grouping self.old.blocks self.old.kind) group members.items) }
     {
         let objects = self.objects.names().len();
-        self.search.reach(&self.graph, objects as u32 + group);
+        if group >= self.groups.names().len() {
+            return Ok(Vec::new(alloc));
+        }
+        self.search.reach(&self.graph, (objects + group) as u32);
         objects_among(alloc, self.search.found(), objects)
     }
 }

@@ -82,11 +82,11 @@ impl<'a> Model for Names<'a> {
 impl<'a> Names<'a> {
     /// These names, in this order. A refused growth leaves nothing.
     pub fn new(alloc: Global, names: Vec<&'a [u8]>) -> Result<Names<'a>, AllocError>
-        ensures { IfOk result (λ made. made ≡ texts names.items) }
+        ensures { IfOk result (λ made. made ≡ texts names.entry.items) }
     {
         let mut numbers = IndexMap::new(alloc);
-        for (number, name) in names.as_slice().iter().enumerate() {
-            note(&mut numbers, *name, number)?;
+        for number in 0..names.len() {
+            note(&mut numbers, names[number], number)?;
         }
         Ok(Names { names, numbers })
     }
@@ -98,12 +98,15 @@ impl<'a> Names<'a> {
         self.names.len()
     }
 
-    /// The name of that number.
+    /// The name of that number; empty where there are fewer.
     pub fn name(&self, number: usize) -> &'a [u8]
-        requires { number < length self.now }
         ensures { result.now ≡ slice_index_or self.now number [] }
     {
-        self.names[number]
+        if number < self.names.len() {
+            self.names[number]
+        } else {
+            &[]
+        }
     }
 
     /// The number of a name; the first, where it stands there twice.
@@ -116,7 +119,6 @@ impl<'a> Names<'a> {
 
     /// Whether the name of that number stands before it too.
     pub fn is_doubled(&self, number: usize) -> bool
-        requires { number < length self.now }
         ensures { result ≡ is_doubled self.now number }
     {
         match self.find(self.name(number)) {

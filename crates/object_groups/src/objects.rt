@@ -40,7 +40,7 @@ fn kind_number(kind: BlockKind) -> u8
 
 /// Whether a block with this `register` is an object: it isn't the number 0.
 fn registers(text: Option<&[u8]>) -> bool
-    ensures { result ≡ registers (option_copied text) }
+    ensures { result ≡ registers (option_copied text.entry) }
 {
     match text {
         None => true,
@@ -52,7 +52,7 @@ fn registers(text: Option<&[u8]>) -> bool
 }
 
 /// Whether a block is an object of the type: it isn't a template alone, with `register 0`.
-pub fn is_object(kind: BlockKind, block: &Block) -> bool
+fn is_object(kind: BlockKind, block: &Block) -> bool
     ensures { result ≡ is_object kind block.now }
 {
     kind_number(block.kind) == kind_number(kind)
@@ -63,7 +63,7 @@ pub fn is_object(kind: BlockKind, block: &Block) -> bool
 }
 
 /// The directive that names an object of the type; none where such objects have no name of their own.
-pub fn name_directive(kind: BlockKind) -> &'static str
+fn name_directive(kind: BlockKind) -> &'static str
     ensures { result.now ≡ name_directive kind }
 {
     match kind {
@@ -123,7 +123,7 @@ fn names_at<'a>(
 
 /// The entries of a list that the object at a place has, where the values are those of the list's directive;
 /// none where it has no such list. A refused growth leaves nothing.
-pub fn list_at<'a>(
+pub(crate) fn list_at<'a>(
     alloc: Global,
     values: &Values<'a>,
     place: usize,

@@ -1,0 +1,93 @@
+-- The groups of blocks: their lists by numbers, their edges, and their members.
+use Rattle.std.proofs.Common.{◌≡◌, ℕ, zero, suc, ◌+◌, ◌<◌, ◌≤◌, ◌^◌, Bool, true, false, List, [], ◌∷◌, ◌++◌, length, map, get_or, refl, sym, ap, subst, ◌∙◌, ◌⊎◌, inl, inr, ⊎_elim, arith}
+use Rattle.std.specs.Prelude.{All, Contains, ◌↔◌}
+use Rattle.std.specs.List.{flat_map, range_with_len}
+use Rattle.std.specs.List.Sorted.{IsStrictlyIncreasing}
+use Rattle.std.proofs.lemmas.Bool.{false≢true}
+use Rattle.std.proofs.lemmas.List.{flat_map_more, get_or-map, get_or_past, length-map}
+use Rattle.std.proofs.lemmas.List.Elements.{All-from_get_or, Contains-get_or}
+use Rattle.graph.specs.declared.edges.Edge.{Edge}
+use Rattle.graph.specs.Chains.{Chain, Reaches}
+use Rattle.graph.specs.Edges.{HasEdges, IsWithin, Leads}
+use Rattle.graph.specs.Reach.{IsReached}
+use Rattle.object_reader.specs.declared.block.Block.{Block}
+use Rattle.object_reader.specs.declared.block.BlockKind.{BlockKind}
+use Rattle.object_groups.specs.declared.groups.GroupKind.{GroupKind}
+use Rattle.object_groups.specs.Groups.{grouping}
+use Rattle.object_groups.specs.Members.{AreMembers, Grouping, Holds, Includes, IsMember}
+use Rattle.object_groups.specs.Names.{Lists}
+use Rattle.object_groups.specs.Nodes.{AreBelow, edge, edges_in, group_edges, group_node, IsGraphOf, node_count, object_edges}
+use Rattle.object_groups.specs.Objects.{list_at, lists_in, name_at, names_in, objects_in}
+use Rattle.object_groups.proofs.NodeLemmas.{edge-within, listed-within, member-from_reached, reached-from_member}
+use Rattle.object_groups.proofs.NumberLemmas.{range_more}
+use Rattle.object_groups.proofs.PlaceLemmas.{Contains-none}
+
+-- ---- lists by numbers
+
+pub names-long : (blocks : List Block) (kind : BlockKind) → length (names_in blocks kind) ≡ length (objects_in blocks kind)
+unfolding names_in
+names-long blocks kind = length-map (objects_in blocks kind) (name_at blocks kind)
+
+pub lists-long : (blocks : List Block) (kind : BlockKind) (directive : List ℕ) → length (lists_in blocks kind directive) ≡ length (names_in blocks kind)
+unfolding lists_in
+lists-long blocks kind directive = length-map (objects_in blocks kind) (list_at blocks directive) ∙ sym (names-long blocks kind)
+
+pub list-is : (blocks : List Block) (kind : BlockKind) (directive : List ℕ) (number place : ℕ) → number < length (objects_in blocks kind) → place ≡ get_or (objects_in blocks kind) number place
+    → get_or (lists_in blocks kind directive) number [] ≡ list_at blocks directive place
+unfolding lists_in
+list-is blocks kind directive number place within is =
+    get_or-map (list_at blocks directive) (objects_in blocks kind) number place [] within ∙ ap (list_at blocks directive) (sym is)
+
+-- ---- edges
+
+pub edges-more : (f : ℕ → List Edge) (first : List Edge) (n : ℕ) (old new one : List Edge) → old ≡ first ++ flat_map f (range_with_len 0 n) → new ≡ old ++ one → one ≡ f n
+    → new ≡ first ++ flat_map f (range_with_len 0 (n + 1))
+edges-more f first n old new one before more is =
+    more ∙ ap (λ edges. edges ++ one) before ∙ ap (λ edges. (first ++ flat_map f (range_with_len 0 n)) ++ edges) is
+    ∙ flat_map_more f first (range_with_len 0 n) n ∙ ap (λ numbers. first ++ flat_map f numbers) (sym (range_more n))
+
+pub edges-are : (g : Grouping) (first all : List Edge) → first ≡ [] ++ flat_map (group_edges g) (range_with_len 0 (length g.groups))
+    → all ≡ first ++ flat_map (object_edges g) (range_with_len 0 (length g.objects)) → all ≡ edges_in g
+unfolding edges_in
+edges-are g first all groups objects = objects ∙ ap (λ edges. edges ++ flat_map (object_edges g) (range_with_len 0 (length g.objects))) groups
+
+pub edges-within : (g : Grouping) (edges : List Edge) (count : ℕ) → edges ≡ edges_in g → count ≡ node_count g.objects g.groups → All (IsWithin count) edges
+edges-within g edges count are is = All-from_get_or (IsWithin count) edges (edge 0 0)
+    (λ i low. subst (λ (n : ℕ). IsWithin n (get_or edges i (edge 0 0))) (sym is) (edge-within g (get_or edges i (edge 0 0))
+    (subst (λ es. Contains es (get_or edges i (edge 0 0))) are (Contains-get_or edges i (edge 0 0) low))))
+
+pub graph-is : (g : Grouping) (edges : List Edge) (count : ℕ) (graph : List (List ℕ)) → edges ≡ edges_in g → count ≡ node_count g.objects g.groups
+    → HasEdges count edges graph → ((p q : ℕ) → Leads graph p q ↔ Contains edges (record { from = p; to = q })) → IsGraphOf g graph
+graph-is g edges count graph are is has leads = record {
+  count = has.count ∙ is;
+  leads = λ from to. subst (λ es. Leads graph from to ↔ Contains es (edge from to)) are (leads from to);
+}
+
+-- ---- members
+
+pub members-are : (g : Grouping) (graph : List (List ℕ)) (group : ℕ) (found members : List ℕ) → length g.own_groups ≡ length g.objects → group < length g.groups → IsGraphOf g graph
+    → IsReached graph (group_node g.objects group) found → AreBelow (length g.objects) found members → AreMembers g group members
+members-are g graph group found members long low has reached below = record {
+  rising = below.rising;
+  exactly = λ k. (
+      (λ at. let both = (below.exactly k).0 at in member-from_reached g k both.1 graph has group low ((reached.exactly k).0 both.0)),
+      (λ member. let both = reached-from_member g graph has long group k low member in (below.exactly k).1 ((reached.exactly k).1 both.1, both.0)));
+}
+
+none-listed : (names : List (List ℕ)) (k : ℕ) → Lists names [] k → ⊥
+none-listed names k (inl every) = false≢true every.0
+none-listed names k (inr named) = Contains-none k named
+
+module _ (g : Grouping) (group : ℕ) (members : length g.members ≡ length g.groups) (subgroups : length g.subgroups ≡ length g.groups) (past : length g.groups ≤ group) where
+  none_member : (k : ℕ) → IsMember g group k → ⊥
+  none_member k (last, (zero, chain), inl listed) =
+      none-listed g.objects k (subst (λ entries. Lists g.objects entries k) (get_or_past g.members last [] (omega (arith, members, past, chain))) listed)
+  none_member k (last, (zero, chain), inr own) = omega (arith, past, chain, listed-within g.groups (get_or g.own_groups k []) last own)
+  none_member k (last, (suc steps, (middle, includes, rest)), holds) =
+      none-listed g.groups middle (subst (λ entries. Lists g.groups entries middle) (get_or_past g.subgroups group [] (omega (arith, subgroups, past))) includes)
+
+  pub none-are : AreMembers g group []
+  none-are = record {
+    rising = λ k low. absurd (omega (arith, low));
+    exactly = λ k. ((λ at. absurd (Contains-none k at)), (λ member. absurd (none_member k member)));
+  }
