@@ -12,7 +12,7 @@ use Rattle.std.proofs.lemmas.Bool.{false≢true, cases_lt, lt-ltb, le-ltb, ltb-t
 use Rattle.std.proofs.lemmas.Cmp.{nat_list_eq_equiv}
 use Rattle.std.proofs.lemmas.List.{append-nil, map-append, take_more}
 use Rattle.std.proofs.lemmas.List.Elements.{filter-append, filter_map-append}
-use Rattle.std.proofs.lemmas.List.Folds.{position_or_len_push}
+use Rattle.std.proofs.lemmas.List.Folds.{list_any-append, position_or_len_push}
 use Rattle.std.proofs.lemmas.List.Sums.{prefix_len-le-length}
 use Rattle.std.proofs.lemmas.List.Kept.{Contains-dedup_nat, Contains-from_dedup}
 use Rattle.std.proofs.lemmas.List.Sorted.{Contains-permutation, IsPermutation-sym}
@@ -103,6 +103,17 @@ module _ (names : List (List ℕ)) (name : Bor (List ℕ)) (old : List (Bor (Lis
 pub texts-more : (xs : List (Bor (List ℕ))) (i : ℕ) (d : Bor (List ℕ)) → i < length xs → texts (take (i + 1) xs) ≡ texts (take i xs) ++ (get_or xs i d).now ∷ []
 texts-more xs i d within = ap texts (take_more xs i d within) ∙ map-append (λ text. text.now) (take i xs) (get_or xs i d ∷ [])
 
+or-false : (a b : Bool) → a ≡ false → b ≡ false → (a || (b || false)) ≡ false
+or-false true b first second = absurd (false≢true (sym first))
+or-false false true first second = absurd (false≢true (sym second))
+or-false false false first second = refl
+
+pub none-more : (p : List ℕ → Bool) (xs : List (Bor (List ℕ))) (i : ℕ) (d : Bor (List ℕ)) → i < length xs → list_any p (texts (take i xs)) ≡ false → p ((get_or xs i d).now) ≡ false
+    → list_any p (texts (take (i + 1) xs)) ≡ false
+none-more p xs i d within before is =
+    ap (list_any p) (texts-more xs i d within) ∙ list_any-append p (texts (take i xs)) ((get_or xs i d).now ∷ [])
+    ∙ or-false (list_any p (texts (take i xs))) (p ((get_or xs i d).now)) before is
+
 listed-one : (found : Option ℕ) → cons_option found [] ≡ option_to_list found
 listed-one None = refl
 listed-one (Some k) = refl
@@ -125,7 +136,10 @@ range-more a zero = ap (λ (k : ℕ). k ∷ []) (omega arith)
 range-more a (suc n) = ap (λ more. a ∷ more) (range-more (a + 1) n ∙ ap (λ (k : ℕ). range_with_len (a + 1) n ++ k ∷ []) (omega arith))
 
 pub range_more : (n : ℕ) → range_with_len 0 (n + 1) ≡ range_with_len 0 n ++ n ∷ []
-range_more n = ap (range_with_len 0) (omega arith) ∙ range-more 0 n ∙ ap (λ (k : ℕ). range_with_len 0 n ++ k ∷ []) (omega arith)
+range_more n =
+    let next : n + 1 ≡ suc n = omega arith in
+    let none : 0 + n ≡ n = omega arith in
+    ap (λ (m : ℕ). range_with_len 0 m) next ∙ range-more 0 n ∙ ap (λ (k : ℕ). range_with_len 0 n ++ k ∷ []) none
 
 pub filter-range : (p : ℕ → Bool) (n : ℕ) (b : Bool) → p n ≡ b → filter p (range_with_len 0 (n + 1)) ≡ filter p (range_with_len 0 n) ++ cond b (n ∷ []) []
 filter-range p n b is = ap (filter p) (range_more n) ∙ filter-append p (range_with_len 0 n) (n ∷ []) ∙ ap (λ (c : Bool). filter p (range_with_len 0 n) ++ cond c (n ∷ []) []) is
@@ -134,24 +148,30 @@ filter-range p n b is = ap (filter p) (range_more n) ∙ filter-append p (range_
 
 Contains-filter : (p : ℕ → Bool) (xs : List ℕ) (k : ℕ) → Contains xs k → p k ≡ true → Contains (filter p xs) k
 Contains-filter p [] k at is = absurd (Contains-none k at)
-Contains-filter p (x ∷ xs) k at is = by_test (p x) refl (Contains-cases x k xs at)
+Contains-filter p (x ∷ xs) k at is = ⊎_elim
+    (λ (here : x ≡ k). kept (p x) refl here)
+    (λ (later : Contains xs k). more (p x) refl (Contains-filter p xs k later is))
+    (Contains-cases x k xs at)
   where
-    by_test : (b : Bool) → p x ≡ b → (x ≡ k) ⊎ Contains xs k → Contains (filter p (x ∷ xs)) k
-    by_test true passes (inl here) = rw passes (subst (λ y. Contains (x ∷ filter p xs) y) here (Contains-here x (filter p xs)))
-    by_test true passes (inr later) = rw passes (Contains-later x k (filter p xs) (Contains-filter p xs k later is))
-    by_test false fails (inl here) = absurd (false≢true (sym fails ∙ ap p here ∙ is))
-    by_test false fails (inr later) = rw fails (Contains-filter p xs k later is)
+    kept : (b : Bool) → p x ≡ b → x ≡ k → Contains (filter p (x ∷ xs)) k
+    kept true passes here = rw passes (subst (λ y. Contains (x ∷ filter p xs) y) here (Contains-here x (filter p xs)))
+    kept false fails here = absurd (false≢true (sym fails ∙ ap p here ∙ is))
 
-Contains-from_filter : (p : ℕ → Bool) (xs : List ℕ) (k : ℕ) → Contains (filter p xs) k → Contains xs k × (p k ≡ true)
+    more : (b : Bool) → p x ≡ b → Contains (filter p xs) k → Contains (filter p (x ∷ xs)) k
+    more true passes rest = rw passes (Contains-later x k (filter p xs) rest)
+    more false fails rest = rw fails rest
+
+pub Contains-from_filter : (p : ℕ → Bool) (xs : List ℕ) (k : ℕ) → Contains (filter p xs) k → Contains xs k × (p k ≡ true)
 Contains-from_filter p [] k at = absurd (Contains-none k at)
-Contains-from_filter p (x ∷ xs) k at = by_test (p x) refl at
+Contains-from_filter p (x ∷ xs) k at = by_test (p x) refl at (λ later. Contains-from_filter p xs k later)
   where
-    by_test : (b : Bool) → p x ≡ b → Contains (cond b (x ∷ filter p xs) (filter p xs)) k → Contains (x ∷ xs) k × (p k ≡ true)
-    by_test true passes on = ⊎_elim
+    by_test : (b : Bool) → p x ≡ b → Contains (cond b (x ∷ filter p xs) (filter p xs)) k → (Contains (filter p xs) k → Contains xs k × (p k ≡ true))
+        → Contains (x ∷ xs) k × (p k ≡ true)
+    by_test true passes on rest = ⊎_elim
         (λ (here : x ≡ k). (subst (λ y. Contains (x ∷ xs) y) here (Contains-here x xs), ap p (sym here) ∙ passes))
-        (λ (later : Contains (filter p xs) k). let rest = Contains-from_filter p xs k later in (Contains-later x k xs rest.0, rest.1))
+        (λ (later : Contains (filter p xs) k). (Contains-later x k xs (rest later).0, (rest later).1))
         (Contains-cases x k (filter p xs) on)
-    by_test false fails on = let rest = Contains-from_filter p xs k on in (Contains-later x k xs rest.0, rest.1)
+    by_test false fails on rest = (Contains-later x k xs (rest on).0, (rest on).1)
 
 pub below-from_sorted : (objects : ℕ) (nodes ys zs : List ℕ) → IsPermutation (filter (λ node. nat_lt node objects) nodes) ys → IsSorted nat_cmp ys → zs ≡ dedup eqb ys
     → AreBelow objects nodes zs

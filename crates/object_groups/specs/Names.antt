@@ -1,5 +1,5 @@
 -- Names by their numbers, and lists of names (chapter "Object Definitions").
-use Rattle.std.specs.Prelude.{◌≡◌, ℕ, ◌<◌, ◌==◌, Bool, true, false, not, ◌&&◌, nat_lt, List, [], ◌∷◌, filter_map, codes, position, Option, Contains, slice_index_or, ◌⊎◌, length}
+use Rattle.std.specs.Prelude.{◌≡◌, ℕ, ◌<◌, ◌==◌, Bool, true, false, not, ◌&&◌, nat_lt, List, [], ◌∷◌, filter_map, codes, is_none, position, Option, Contains, slice_index_or, ◌⊎◌, length}
 use Rattle.std.proofs.Common.{Bor}
 use Rattle.std.specs.List.{list_any}
 use Rattle.std.specs.Map.{lookup}
@@ -30,7 +30,7 @@ is_exclusion (b ∷ bs) = b == 33
 -- whether a list has an entry that none of the names is
 abbrev pub has_unknown : (names entries : List (List ℕ)) → Bool
 has_unknown names entries =
-    not (is_all entries) && list_any (λ entry. not (list_any (bytes_eq entry) names)) entries
+    not (is_all entries) && list_any (λ entry. is_none (number_of names entry)) entries
 
 -- the numbers of the names that a list has
 abbrev pub numbers_of : (names entries : List (List ℕ)) → List ℕ

@@ -5,8 +5,8 @@ ghost use Rattle.std.specs.List.{flat_map, range_with_len};
 ghost use Rattle.graph.specs.Edges.{IsWithin};
 ghost use Rattle.object_groups.specs.Groups.{group_kind, grouping, object_kind, own_groups_directive, subgroups_directive};
 ghost use Rattle.object_groups.specs.Members.{AreMembers};
-ghost use Rattle.object_groups.specs.Nodes.{AreBelow, edges_in, group_edges, IsGraphOf, node_count, object_edges};
-ghost use Rattle.object_groups.specs.Objects.{names_in};
+ghost use Rattle.object_groups.specs.Nodes.{AreBelow, edges_in, edges_of_group, edges_of_object, group_edges, IsGraphOf, node_count, object_edges};
+ghost use Rattle.object_groups.specs.Objects.{list_at, names_in};
 
 use crate::nodes::{push_group, push_object};
 use crate::objects::{Objects, list_at};
@@ -47,26 +47,81 @@ impl GroupKind {
             GroupKind::ContactGroups => BlockKind::ContactGroup,
         }
     }
+}
 
-    /// The directive by which a group lists groups.
-    pub(crate) fn subgroups_directive(self) -> &'static str
-        ensures { result.now ≡ subgroups_directive self }
-    {
-        match self {
-            GroupKind::HostGroups => "hostgroup_members",
-            GroupKind::ContactGroups => "contactgroup_members",
-        }
-    }
+/// What the blocks have for a directive.
+fn values_of<'a>(
+    alloc: Global,
+    templates: &Templates<'a>,
+    directive: &'a str,
+) -> Result<Values<'a>, AllocError>
+    ensures { IfOk result (λ values. values
+        ≡ record { blocks = templates.now; directive = directive.now }) }
+{
+    Values::new(alloc, templates, directive.as_bytes())
+}
 
-    /// The directive by which an object names groups.
-    pub(crate) fn own_groups_directive(self) -> &'static str
-        ensures { result.now ≡ own_groups_directive self }
-    {
-        match self {
-            GroupKind::HostGroups => "hostgroups",
-            GroupKind::ContactGroups => "contactgroups",
-        }
+/// What the blocks have for the directive by which a group lists groups.
+fn subgroups_of<'a>(
+    alloc: Global,
+    templates: &Templates<'a>,
+    kind: GroupKind,
+) -> Result<Values<'a>, AllocError>
+    ensures { IfOk result (λ values. values
+        ≡ record { blocks = templates.now; directive = subgroups_directive kind }) }
+{
+    match kind {
+        GroupKind::HostGroups => values_of(alloc, templates, "hostgroup_members"),
+        GroupKind::ContactGroups => values_of(alloc, templates, "contactgroup_members"),
     }
+}
+
+/// What the blocks have for the directive by which an object names groups.
+fn own_groups_of<'a>(
+    alloc: Global,
+    templates: &Templates<'a>,
+    kind: GroupKind,
+) -> Result<Values<'a>, AllocError>
+    ensures { IfOk result (λ values. values
+        ≡ record { blocks = templates.now; directive = own_groups_directive kind }) }
+{
+    match kind {
+        GroupKind::HostGroups => values_of(alloc, templates, "hostgroups"),
+        GroupKind::ContactGroups => values_of(alloc, templates, "contactgroups"),
+    }
+}
+
+/// Adds the edges of the group of that number, whose block stands at the place.
+fn push_group_at<'a>(
+    alloc: Global,
+    edges: &mut Vec<Edge>,
+    objects: &Objects<'a>,
+    groups: &Objects<'a>,
+    members: &Values<'a>,
+    subgroups: &Values<'a>,
+    group: usize,
+    place: usize,
+) -> Result<(), AllocError>
+    requires few { node_count (names_in objects.now.blocks objects.now.kind)
+        (names_in groups.now.blocks groups.now.kind) < 2 ^ 32 }
+    requires within { group < length (names_in groups.now.blocks groups.now.kind) }
+    ensures { OnOk result (edges.new.items ≡ edges.old.items
+        ++ edges_of_group (names_in objects.now.blocks objects.now.kind)
+        (names_in groups.now.blocks groups.now.kind) group
+        (list_at members.now.blocks members.now.directive place)
+        (list_at subgroups.now.blocks subgroups.now.directive place)) }
+{
+    let listed = list_at(alloc, members, place)?;
+    let included = list_at(alloc, subgroups, place)?;
+    push_group(
+        alloc,
+        edges,
+        objects.names(),
+        groups.names(),
+        group,
+        listed.as_slice(),
+        included.as_slice(),
+    )
 }
 
 /// Adds the edges of all groups.
@@ -86,20 +141,43 @@ fn push_groups<'a>(
         ++ flat_map (group_edges (grouping templates.now kind))
         (range_with_len 0 (length (names_in templates.now (group_kind kind))))) }
 {
-    let members = Values::new(alloc, templates, "members".as_bytes())?;
-    let subgroups = Values::new(alloc, templates, kind.subgroups_directive().as_bytes())?;
+    let members = values_of(alloc, templates, "members")?;
+    let subgroups = subgroups_of(alloc, templates, kind)?;
     for (group, place) in groups.places().iter().enumerate() {
-        push_group(
-            alloc,
-            edges,
-            objects.names(),
-            groups.names(),
-            group,
-            list_at(alloc, &members, *place)?.as_slice(),
-            list_at(alloc, &subgroups, *place)?.as_slice(),
+        push_group_at(
+            alloc, edges, objects, groups, &members, &subgroups, group, *place,
         )?;
     }
     Ok(())
+}
+
+/// Adds the edges of the object of that number, whose block stands at the place.
+fn push_object_at<'a>(
+    alloc: Global,
+    edges: &mut Vec<Edge>,
+    objects: &Objects<'a>,
+    groups: &Objects<'a>,
+    own: &Values<'a>,
+    object: usize,
+    place: usize,
+) -> Result<(), AllocError>
+    requires few { node_count (names_in objects.now.blocks objects.now.kind)
+        (names_in groups.now.blocks groups.now.kind) < 2 ^ 32 }
+    requires within { object < length (names_in objects.now.blocks objects.now.kind) }
+    ensures { OnOk result (edges.new.items ≡ edges.old.items
+        ++ edges_of_object (names_in objects.now.blocks objects.now.kind)
+        (names_in groups.now.blocks groups.now.kind) object
+        (list_at own.now.blocks own.now.directive place)) }
+{
+    let named = list_at(alloc, own, place)?;
+    push_object(
+        alloc,
+        edges,
+        objects.names(),
+        groups.names(),
+        object,
+        named.as_slice(),
+    )
 }
 
 /// Adds the edges of all objects.
@@ -119,16 +197,9 @@ fn push_objects<'a>(
         ++ flat_map (object_edges (grouping templates.now kind))
         (range_with_len 0 (length (names_in templates.now (object_kind kind))))) }
 {
-    let own = Values::new(alloc, templates, kind.own_groups_directive().as_bytes())?;
+    let own = own_groups_of(alloc, templates, kind)?;
     for (object, place) in objects.places().iter().enumerate() {
-        push_object(
-            alloc,
-            edges,
-            objects.names(),
-            groups.names(),
-            object,
-            list_at(alloc, &own, *place)?.as_slice(),
-        )?;
+        push_object_at(alloc, edges, objects, groups, &own, object, *place)?;
     }
     Ok(())
 }
@@ -151,7 +222,8 @@ fn graph_of<'a>(
     let mut edges = Vec::new(alloc);
     push_groups(alloc, &mut edges, templates, kind, objects, groups)?;
     push_objects(alloc, &mut edges, templates, kind, objects, groups)?;
-    Graph::new(alloc, count as u32, edges.as_slice())
+    let graph = Graph::new(alloc, count as u32, edges.as_slice())?;
+    Ok(graph)
 }
 
 /// Those of the nodes that are objects, each once and in order.

@@ -1,8 +1,7 @@
 //! Names by their numbers, and lists of names (chapter "Object Definitions").
 
-ghost use Rattle.std.specs.Prelude.{◌≡◌, ℕ, ◌<◌, ◌++◌, ◌∷◌, List, [], not, length, slice_index_or, IfOk, IfSome, OnOk};
+ghost use Rattle.std.specs.Prelude.{◌≡◌, ℕ, ◌<◌, ◌++◌, ◌∷◌, List, [], is_none, length, slice_index_or, IfOk, IfSome, OnOk};
 ghost use Rattle.std.specs.List.{list_any};
-ghost use Rattle.std.specs.Str.{bytes_eq};
 ghost use Rattle.object_groups.specs.Names.{has_unknown, HasNumbers, is_all, is_doubled, is_exclusion, number_of};
 ghost use Rattle.object_values.specs.Values.{texts};
 
@@ -129,7 +128,7 @@ impl<'a> Names<'a> {
 
     /// Whether none of the names is the entry.
     fn lacks(&self, entry: &'a [u8]) -> bool
-        ensures { result ≡ not (list_any (bytes_eq entry.now) self.now) }
+        ensures { result ≡ is_none (number_of self.now entry.now) }
     {
         self.find(entry).is_none()
     }

@@ -1,7 +1,7 @@
 //! The objects of one type among blocks, numbered in file order (chapters "Object Definitions" and "Object
 //! Inheritance").
 
-ghost use Rattle.std.specs.Prelude.{◌≡◌, ◌<◌, [], length, map, unwrap_or, All, IfOk};
+ghost use Rattle.std.specs.Prelude.{◌≡◌, ◌<◌, ◌++◌, ◌∷◌, [], length, map, unwrap_or, All, IfOk, OnOk, if◌then◌else◌};
 ghost use Rattle.std.specs.Option.{option_copied};
 ghost use Rattle.object_groups.specs.Objects.{is_object, list_at, name_at, name_directive, names_in, objects_in, registers};
 ghost use Rattle.object_inheritance.specs.Inherited.{value};
@@ -78,6 +78,17 @@ fn name_directive(kind: BlockKind) -> &'static str
     }
 }
 
+/// Adds a place, where it is that of an object.
+fn push_place(places: &mut Vec<usize>, place: usize, object: bool) -> Result<(), AllocError>
+    ensures { OnOk result (places.new.items
+        ≡ places.old.items ++ (if object then place ∷ [] else [])) }
+{
+    if object {
+        places.push(place)?;
+    }
+    Ok(())
+}
+
 /// The places of the objects of the type.
 fn places_of(
     alloc: Global,
@@ -88,9 +99,7 @@ fn places_of(
 {
     let mut places = Vec::new(alloc);
     for (place, block) in blocks.iter().enumerate() {
-        if is_object(kind, block) {
-            places.push(place)?;
-        }
+        push_place(&mut places, place, is_object(kind, block))?;
     }
     Ok(places)
 }

@@ -6,4 +6,4 @@ use Rattle.object_groups.proofs.groups.push_groups.Given as goal
 
 -- The edges so far.
 abbrev pub invariant-loop-group : goal.invariant-loop-group
-invariant-loop-group l = l.edges.items ≡ l.initial.edges.items ++ flat_map (group_edges (grouping l.templates l.kind)) (range_with_len 0 l.group)
+invariant-loop-group l = l.edges.items ≡ l.initial.edges.items ++ flat_map (group_edges (grouping l.templates l.fn.kind)) (range_with_len 0 l.group)

@@ -6,4 +6,4 @@ use Rattle.object_groups.proofs.groups.push_objects.Given as goal
 
 -- The edges so far.
 abbrev pub invariant-loop-object : goal.invariant-loop-object
-invariant-loop-object l = l.edges.items ≡ l.initial.edges.items ++ flat_map (object_edges (grouping l.templates l.kind)) (range_with_len 0 l.object)
+invariant-loop-object l = l.edges.items ≡ l.initial.edges.items ++ flat_map (object_edges (grouping l.templates l.fn.kind)) (range_with_len 0 l.object)
