@@ -1,24 +1,22 @@
 -- The groups of blocks: their lists by numbers, their edges, and their members.
-use Rattle.std.proofs.Common.{◌≡◌, ℕ, zero, suc, ◌+◌, ◌<◌, ◌≤◌, ◌^◌, Bool, true, false, List, [], ◌∷◌, ◌++◌, length, map, get_or, refl, sym, ap, subst, ◌∙◌, ◌⊎◌, inl, inr, ⊎_elim, arith}
+use Rattle.std.proofs.Common.{◌≡◌, ℕ, zero, suc, ◌+◌, ◌<◌, ◌≤◌, false, List, [], ◌++◌, length, map, get_or, refl, sym, ap, subst, ◌∙◌, inl, inr, arith}
 use Rattle.std.specs.Prelude.{All, Contains, codes, unwrap_or, ◌↔◌}
 use Rattle.std.specs.Option.{option_map_or}
 use Rattle.std.proofs.lemmas.Option.{slice_get_read}
 use Rattle.object_inheritance.specs.Columns.{Column}
 use Rattle.object_inheritance.specs.Inherited.{value}
 use Rattle.std.specs.List.{flat_map, range_with_len}
-use Rattle.std.specs.List.Sorted.{IsStrictlyIncreasing}
 use Rattle.std.proofs.lemmas.Bool.{false≢true}
-use Rattle.std.proofs.lemmas.List.{flat_map_more, get_or-map, get_or_past, length-map}
+use Rattle.std.proofs.lemmas.List.{flat_map_more, get_or_default, get_or-map, get_or_past, length-map}
 use Rattle.std.proofs.lemmas.List.Elements.{All-from_get_or, Contains-get_or}
 use Rattle.graph.specs.declared.edges.Edge.{Edge}
-use Rattle.graph.specs.Chains.{Chain, Reaches}
 use Rattle.graph.specs.Edges.{HasEdges, IsWithin, Leads}
 use Rattle.graph.specs.Reach.{IsReached}
 use Rattle.object_reader.specs.declared.block.Block.{Block}
 use Rattle.object_reader.specs.declared.block.BlockKind.{BlockKind}
 use Rattle.object_groups.specs.declared.groups.GroupKind.{GroupKind}
 use Rattle.object_groups.specs.Groups.{group_kind, grouping, object_kind, own_groups_directive, subgroups_directive}
-use Rattle.object_groups.specs.Members.{AreMembers, Grouping, Holds, Includes, IsMember}
+use Rattle.object_groups.specs.Members.{AreMembers, Grouping, IsMember}
 use Rattle.object_groups.specs.Names.{Lists}
 use Rattle.object_groups.specs.Nodes.{AreBelow, edge, edges_in, edges_of_group, edges_of_object, group_edges, group_node, IsGraphOf, node_count, object_edges}
 use Rattle.object_groups.specs.Objects.{is_object, is_object_at, list_at, lists_in, name_at, name_directive, names_in, objects_in, ObjectsOf}
@@ -89,6 +87,9 @@ graph-is g edges count graph are is has leads = record {
   leads = λ from to. subst (λ es. Leads graph from to ↔ Contains es (edge from to)) are (leads from to);
 }
 
+pub place-is : (items places : List ℕ) (i d e : ℕ) → items ≡ places → i < length places → get_or items i d ≡ get_or places i e
+place-is items places i d e same within = ap (λ (xs : List ℕ). get_or xs i d) same ∙ get_or_default places i d e within
+
 -- the edges of the group at a place
 pub group-is : (blocks : List Block) (kind : GroupKind) (objects groups : ObjectsOf) (members subgroups : Column) (group place : ℕ)
     → objects ≡ record { blocks = blocks; kind = object_kind kind } → groups ≡ record { blocks = blocks; kind = group_kind kind }
@@ -124,8 +125,9 @@ pub members-are : (g : Grouping) (graph : List (List ℕ)) (group : ℕ) (found 
 members-are g graph group found members long low has reached below = record {
   rising = below.rising;
   exactly = λ k. (
-      (λ at. let both = (below.exactly k).0 at in member-from_reached g k both.1 graph has group low ((reached.exactly k).0 both.0)),
-      (λ member. let both = reached-from_member g graph has long group k low member in (below.exactly k).1 ((reached.exactly k).1 both.1, both.0)));
+    (λ at. let both = (below.exactly k).0 at in member-from_reached g k both.1 graph has group low ((reached.exactly k).0 both.0)),
+    (λ member. let both = reached-from_member g graph has long group k low member in (below.exactly k).1 ((reached.exactly k).1 both.1, both.0)),
+  );
 }
 
 none-listed : (names : List (List ℕ)) (k : ℕ) → Lists names [] k → ⊥

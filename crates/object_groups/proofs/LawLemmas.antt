@@ -1,5 +1,5 @@
 -- That a loop among groups adds nothing.
-use Rattle.std.proofs.Common.{◌≡◌, ℕ, zero, suc, refl, sym, subst, ◌⊎◌, inl, inr, ⊎_elim}
+use Rattle.std.proofs.Common.{◌≡◌, ℕ, zero, suc, refl, sym, subst, inl, ⊎_elim}
 use Rattle.graph.specs.Chains.{Chain, Reaches}
 use Rattle.object_groups.specs.Laws.{AddsInclusion, LoopAddsNothing}
 use Rattle.object_groups.specs.Members.{Grouping, Includes, IsMember}

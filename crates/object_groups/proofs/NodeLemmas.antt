@@ -1,7 +1,7 @@
 -- The graph in which members are found: what its edges are, and that a chain in it leads from a group to an
 -- object exactly where the object is a member.
 use Rattle.std.proofs.Common.{◌≡◌, ℕ, zero, suc, ◌+◌, ◌<◌, ◌≤◌, Bool, true, false, cond, List, [], ◌∷◌, ◌++◌, length, map, get_or, refl, sym, ap, subst, ◌∙◌, ◌⊎◌, inl, inr, ⊎_elim, arith}
-use Rattle.std.specs.Prelude.{Contains, slice_index_or, ◌↔◌}
+use Rattle.std.specs.Prelude.{Contains}
 use Rattle.std.specs.List.{flat_map, range_with_len}
 use Rattle.std.proofs.lemmas.Bool.{cases_lt, false≢true}
 use Rattle.std.proofs.lemmas.List.{get_or_past}
@@ -87,12 +87,22 @@ link_group g p from to low at =
     (λ (lists : Contains (map (edge here) members ++ map (edge here) subgroups) (edge from to)). ⊎_elim
     (λ (first : Contains (map (edge here) members) (edge from to)).
     let on = Contains-from_map (edge here) members (edge from to) first in
-    inl (p, low, edge-from here on.0 from to on.2, inl (subst (λ node. FromNode g.objects (get_or g.members p []) 0 (all_objects g.objects g.groups) node) (sym (edge-to here on.0 from to on.2))
-    (from_node g.objects (get_or g.members p []) 0 (all_objects g.objects g.groups) on.0 on.1))))
+    inl (
+      p,
+      low,
+      edge-from here on.0 from to on.2,
+      inl (subst (λ node. FromNode g.objects (get_or g.members p []) 0 (all_objects g.objects g.groups) node) (sym (edge-to here on.0 from to on.2))
+          (from_node g.objects (get_or g.members p []) 0 (all_objects g.objects g.groups) on.0 on.1)),
+    ))
     (λ (second : Contains (map (edge here) subgroups) (edge from to)).
     let on = Contains-from_map (edge here) subgroups (edge from to) second in
-    inl (p, low, edge-from here on.0 from to on.2, inr (inl (subst (λ node. FromNode g.groups (get_or g.subgroups p []) (length g.objects) (all_groups g.objects g.groups) node) (sym (edge-to here on.0 from to on.2))
-    (from_node g.groups (get_or g.subgroups p []) (length g.objects) (all_groups g.objects g.groups) on.0 on.1)))))
+    inl (
+      p,
+      low,
+      edge-from here on.0 from to on.2,
+      inr (inl (subst (λ node. FromNode g.groups (get_or g.subgroups p []) (length g.objects) (all_groups g.objects g.groups) node) (sym (edge-to here on.0 from to on.2))
+          (from_node g.groups (get_or g.subgroups p []) (length g.objects) (all_groups g.objects g.groups) on.0 on.1))),
+    ))
     (Contains-append_cases (map (edge here) members) (map (edge here) subgroups) (edge from to) lists))
     (λ (end : Contains (last ∷ back ∷ []) (edge from to)). ⊎_elim
     (λ (is : last ≡ edge from to). inl (p, low, edge-from here (of_all_groups g.objects g.groups) from to is, inr (inr (edge-to here (of_all_groups g.objects g.groups) from to is))))
@@ -110,8 +120,13 @@ link_object g k from to low at =
     ⊎_elim
     (λ (first : Contains (map (λ node. edge node k) own) (edge from to)).
     let on = Contains-from_map (λ node. edge node k) own (edge from to) first in
-    inr (inr (k, low, edge-to on.0 k from to on.2, inl (subst (λ node. FromNode g.groups (get_or g.own_groups k []) (length g.objects) (of_all_groups g.objects g.groups) node) (sym (edge-from on.0 k from to on.2))
-    (from_node g.groups (get_or g.own_groups k []) (length g.objects) (of_all_groups g.objects g.groups) on.0 on.1)))))
+    inr (inr (
+      k,
+      low,
+      edge-to on.0 k from to on.2,
+      inl (subst (λ node. FromNode g.groups (get_or g.own_groups k []) (length g.objects) (of_all_groups g.objects g.groups) node) (sym (edge-from on.0 k from to on.2))
+          (from_node g.groups (get_or g.own_groups k []) (length g.objects) (of_all_groups g.objects g.groups) on.0 on.1)),
+    )))
     (λ (rest : Contains (all ∷ []) (edge from to)). ⊎_elim
     (λ (is : all ≡ edge from to). inr (inr (k, low, edge-to (all_objects g.objects g.groups) k from to is, inr (edge-from (all_objects g.objects g.groups) k from to is))))
     (λ (none : Contains [] (edge from to)). absurd (Contains-none (edge from to) none))

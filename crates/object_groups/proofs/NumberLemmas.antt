@@ -1,7 +1,7 @@
 -- One name, one entry, one place or one node more.
-use Rattle.std.proofs.Common.{◌≡◌, ℕ, zero, suc, ◌+◌, ◌<◌, ◌≤◌, nat_lt, Bool, true, false, not, cond, ◌&&◌, ◌||◌, List, [], ◌∷◌, ◌++◌, append_assoc, length, map, filter, take, get_or, Option, Some, None, refl, sym, ap, subst, eqb, eqb-true, eq-eqb, ◌⊎◌, inl, inr, ⊎_elim, ◌∙◌, Bor, arith}
-use Rattle.std.specs.Prelude.{Contains, filter_map, is_some, ◌↔◌}
-use Rattle.std.specs.List.{cons_option, dedup, flat_map, list_any, position, position_or_len, range_with_len}
+use Rattle.std.proofs.Common.{◌≡◌, ℕ, zero, suc, ◌+◌, ◌<◌, ◌≤◌, nat_lt, Bool, true, false, not, cond, ◌||◌, List, [], ◌∷◌, ◌++◌, length, map, filter, take, get_or, Option, Some, None, refl, sym, ap, subst, eqb, eqb-true, eq-eqb, ⊎_elim, ◌∙◌, Bor, arith}
+use Rattle.std.specs.Prelude.{Contains, is_some}
+use Rattle.std.specs.List.{cons_option, dedup, list_any, position, position_or_len, range_with_len}
 use Rattle.std.specs.List.Sorted.{IsPermutation, IsSorted, IsStrictlyIncreasing}
 use Rattle.std.specs.Map.{lookup}
 use Rattle.std.specs.Option.{option_or, option_to_list}
@@ -10,7 +10,7 @@ use Rattle.std.specs.Str.{bytes_eq}
 use Rattle.std.specs.HashMap.Eq.{lookup_congr}
 use Rattle.std.proofs.lemmas.Bool.{false≢true, cases_lt, lt-ltb, le-ltb, ltb-true}
 use Rattle.std.proofs.lemmas.Cmp.{nat_list_eq_equiv}
-use Rattle.std.proofs.lemmas.List.{append-nil, map-append, take_more}
+use Rattle.std.proofs.lemmas.List.{map-append, take_more}
 use Rattle.std.proofs.lemmas.List.Elements.{filter-append, filter_map-append}
 use Rattle.std.proofs.lemmas.List.Folds.{list_any-append, position_or_len_push}
 use Rattle.std.proofs.lemmas.List.Sums.{prefix_len-le-length}
@@ -178,8 +178,9 @@ pub below-from_sorted : (objects : ℕ) (nodes ys zs : List ℕ) → IsPermutati
 below-from_sorted objects nodes ys zs moved sorted is = record {
   rising = subst IsStrictlyIncreasing (sym is) (IsStrictlyIncreasing-dedup ys sorted);
   exactly = λ k. (
-      (λ here. let on = Contains-from_filter (λ node. nat_lt node objects) nodes k (Contains-permutation ys (filter (λ node. nat_lt node objects) nodes) k (IsPermutation-sym (filter (λ node. nat_lt node objects) nodes) ys moved)
-      (Contains-from_dedup eqb ys k (subst (λ set. Contains set k) is here))) in (on.0, ltb-true k objects on.1)),
-      (λ both. subst (λ set. Contains set k) (sym is) (Contains-dedup_nat ys k (Contains-permutation (filter (λ node. nat_lt node objects) nodes) ys k moved
-      (Contains-filter (λ node. nat_lt node objects) nodes k both.0 (lt-ltb k objects both.1))))));
+    (λ here. let on = Contains-from_filter (λ node. nat_lt node objects) nodes k (Contains-permutation ys (filter (λ node. nat_lt node objects) nodes) k (IsPermutation-sym (filter (λ node. nat_lt node objects) nodes) ys moved)
+        (Contains-from_dedup eqb ys k (subst (λ set. Contains set k) is here))) in (on.0, ltb-true k objects on.1)),
+    (λ both. subst (λ set. Contains set k) (sym is) (Contains-dedup_nat ys k (Contains-permutation (filter (λ node. nat_lt node objects) nodes) ys k moved
+        (Contains-filter (λ node. nat_lt node objects) nodes k both.0 (lt-ltb k objects both.1))))),
+  );
 }

@@ -39,7 +39,7 @@ abbrev pub edges_of_group : (objects groups : List (List ℕ)) → ℕ
 edges_of_group objects groups group members subgroups =
     map (edge (group_node objects group)) (nodes_of objects members 0 (all_objects objects groups))
     ++ map (edge (group_node objects group))
-        (nodes_of groups subgroups (length objects) (all_groups objects groups))
+    (nodes_of groups subgroups (length objects) (all_groups objects groups))
     ++ edge (group_node objects group) (of_all_groups objects groups)
     ∷ edge (all_groups objects groups) (group_node objects group) ∷ []
 
@@ -47,7 +47,7 @@ edges_of_group objects groups group members subgroups =
 abbrev pub edges_of_object : (objects groups : List (List ℕ)) → ℕ → List (List ℕ) → List Edge
 edges_of_object objects groups object own =
     map (λ from. edge from object)
-        (nodes_of groups own (length objects) (of_all_groups objects groups))
+    (nodes_of groups own (length objects) (of_all_groups objects groups))
     ++ edge (all_objects objects groups) object ∷ []
 
 -- the edges of the group, and of the object, of that number

@@ -1,6 +1,6 @@
 -- The objects of one type among blocks: what is registered, its name and its lists (chapters
 -- "Object Definitions" and "Object Inheritance").
-use Rattle.std.specs.Prelude.{◌≡◌, ℕ, Bool, true, false, not, ◌&&◌, ◌==◌, List, [], length, map, filter, codes, unwrap_or, Option, None, Some, slice_get}
+use Rattle.std.specs.Prelude.{◌≡◌, ℕ, Bool, false, not, ◌&&◌, ◌==◌, List, [], length, map, filter, codes, unwrap_or, Option, slice_get}
 use Rattle.std.specs.List.{range_with_len}
 use Rattle.std.specs.Option.{option_and_then, option_map_or}
 use Rattle.object_reader.specs.declared.block.Block.{Block}

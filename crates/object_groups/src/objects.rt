@@ -56,10 +56,7 @@ fn is_object(kind: BlockKind, block: &Block) -> bool
     ensures { result ≡ is_object kind block.now }
 {
     kind_number(block.kind) == kind_number(kind)
-        && registers(value_in(
-            block.directives.as_slice(),
-            "register".as_bytes(),
-        ))
+        && registers(value_in(block.directives.as_slice(), "register".as_bytes()))
 }
 
 /// The directive that names an object of the type; none where such objects have no name of their own.
@@ -90,11 +87,7 @@ fn push_place(places: &mut Vec<usize>, place: usize, object: bool) -> Result<(),
 }
 
 /// The places of the objects of the type.
-fn places_of(
-    alloc: Global,
-    blocks: &[Block],
-    kind: BlockKind,
-) -> Result<Vec<usize>, AllocError>
+fn places_of(alloc: Global, blocks: &[Block], kind: BlockKind) -> Result<Vec<usize>, AllocError>
     ensures { IfOk result (λ places. places.items ≡ objects_in blocks.now kind) }
 {
     let mut places = Vec::new(alloc);

@@ -1,6 +1,6 @@
 use Rattle.std.proofs.Common.{◌≡◌, ◌+◌, ◌∙◌, List, ap, arith, length, ℕ}
 use Rattle.object_groups.specs.Groups.{grouping}
-use Rattle.object_groups.specs.Nodes.{edges_in, node_count}
+use Rattle.object_groups.specs.Nodes.{edges_in}
 use Rattle.object_groups.specs.Objects.{names_in, ObjectsOf}
 use Rattle.object_groups.proofs.GroupLemmas.{edges-are, edges-within, graph-is}
 use Rattle.object_groups.proofs.groups.graph_of.Goals as goal

@@ -1,10 +1,9 @@
 use Rattle.std.proofs.Common.{◌≡◌, ◌<◌, ◌^◌, ◌++◌, ◌∙◌, List, ap, arith, get_or, length, subst, sym, ℕ}
 use Rattle.std.specs.List.{flat_map, range_with_len}
-use Rattle.graph.specs.declared.edges.Edge.{Edge}
 use Rattle.object_groups.specs.Groups.{group_kind, grouping, object_kind}
 use Rattle.object_groups.specs.Nodes.{group_edges, node_count}
 use Rattle.object_groups.specs.Objects.{names_in, objects_in, ObjectsOf}
-use Rattle.object_groups.proofs.GroupLemmas.{edges-more, group-is, names-long}
+use Rattle.object_groups.proofs.GroupLemmas.{edges-more, group-is, names-long, place-is}
 use Rattle.object_groups.proofs.groups.push_groups.Goals as goal
 
 pub push_group_at-requires-clause-few : goal.push_group_at-requires-clause-few
@@ -26,10 +25,10 @@ loop-group-preserved c =
     c.places-place-items.ensures.places ∙ ap (λ (o : ObjectsOf). objects_in o.blocks o.kind) c.requires.groups in
     let long = ap (λ (places : List ℕ). length places) listed in
     let within : i < length (objects_in blocks (group_kind kind)) = omega (arith, long, c.loop-group-test.true) in
-    let is : c.place-item.result ≡ get_or (objects_in blocks (group_kind kind)) i c.place-item.result =
-    c.place-item.is ∙ ap (λ (places : List ℕ). get_or places i c.place-item.result) listed in
+    let place = get_or c.places-place-items.result.now i 0 in
+    let is : place ≡ get_or (objects_in blocks (group_kind kind)) i place = place-is c.places-place-items.result.now (objects_in blocks (group_kind kind)) i 0 place listed within in
     edges-more (group_edges (grouping blocks kind)) c.args.edges.now.items i c.loop-group.edges.items _ _ c.loop-group.invariant c.in_ok-push_group_at.ensures
-    (group-is blocks kind c.args.objects.now c.args.groups.now c.in_ok-members.members c.in_ok-subgroups.subgroups i c.place-item.result c.requires.objects c.requires.groups c.in_ok-members.ensures c.in_ok-subgroups.ensures within is)
+    (group-is blocks kind c.args.objects.now c.args.groups.now c.in_ok-members.members c.in_ok-subgroups.subgroups i place c.requires.objects c.requires.groups c.in_ok-members.ensures c.in_ok-subgroups.ensures within is)
 
 pub returns : goal.returns
 returns c =
