@@ -3,9 +3,11 @@
 ghost use Rattle.std.specs.Prelude.{◌≡◌, ◌+◌, ◌<◌, ◌++◌, ◌^◌, length, All, IfOk, OnOk};
 ghost use Rattle.std.specs.List.{flat_map, range_with_len};
 ghost use Rattle.graph.specs.Edges.{IsWithin};
-ghost use Rattle.object_groups.specs.Groups.{group_kind, grouping, object_kind, own_groups_directive, subgroups_directive};
+ghost use Rattle.object_groups.specs.Groups.{group_kind, grouping, object_kind, own_groups_directive};
+ghost use Rattle.object_groups.specs.Groups.{subgroups_directive};
 ghost use Rattle.object_groups.specs.Members.{AreMembers};
-ghost use Rattle.object_groups.specs.Nodes.{AreBelow, edges_in, edges_of_group, edges_of_object, group_edges, IsGraphOf, node_count, object_edges};
+ghost use Rattle.object_groups.specs.Nodes.{AreBelow, edges_in, edges_of_group, edges_of_object};
+ghost use Rattle.object_groups.specs.Nodes.{group_edges, IsGraphOf, node_count, object_edges};
 ghost use Rattle.object_groups.specs.Objects.{list_at, names_in};
 
 use crate::nodes::{push_group, push_object};
@@ -263,7 +265,8 @@ impl<'a> Model for Groups<'a> {
       kind = s.kind;
     } };
 
-    ghost invariant = { λ s. AreGroups s.blocks.now s.kind s.objects s.groups s.graph s.search.nodes };
+    ghost invariant = { λ s.
+        AreGroups s.blocks.now s.kind s.objects s.groups s.graph s.search.nodes };
 }
 
 impl<'a> Groups<'a> {
@@ -275,7 +278,8 @@ impl<'a> Groups<'a> {
         templates: &Templates<'a>,
         kind: GroupKind,
     ) -> Result<Groups<'a>, AllocError>
-        ensures { IfOk result (λ groups. groups ≡ record { blocks = templates.now; kind = kind }) }
+        ensures { IfOk result (λ groups. groups
+            ≡ record { blocks = templates.now; kind = kind }) }
     {
         let objects = Objects::new(alloc, templates, kind.object_kind())?;
         let groups = Objects::new(alloc, templates, kind.group_kind())?;
@@ -296,14 +300,16 @@ impl<'a> Groups<'a> {
 
     /// The objects.
     pub fn objects(&self) -> &Objects<'a>
-        ensures { result.now ≡ record { blocks = self.now.blocks; kind = object_kind self.now.kind } }
+        ensures { result.now
+            ≡ record { blocks = self.now.blocks; kind = object_kind self.now.kind } }
     {
         &self.objects
     }
 
     /// The groups.
     pub fn groups(&self) -> &Objects<'a>
-        ensures { result.now ≡ record { blocks = self.now.blocks; kind = group_kind self.now.kind } }
+        ensures { result.now
+            ≡ record { blocks = self.now.blocks; kind = group_kind self.now.kind } }
     {
         &self.groups
     }

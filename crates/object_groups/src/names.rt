@@ -1,8 +1,10 @@
 //! Names by their numbers, and lists of names (chapter "Object Definitions").
 
-ghost use Rattle.std.specs.Prelude.{◌≡◌, ℕ, ◌<◌, ◌++◌, ◌∷◌, List, [], is_none, length, slice_index_or, IfOk, IfSome, OnOk};
+ghost use Rattle.std.specs.Prelude.{◌≡◌, ℕ, ◌<◌, ◌++◌, ◌∷◌, List, [], is_none};
+ghost use Rattle.std.specs.Prelude.{length, slice_index_or, IfOk, IfSome, OnOk};
 ghost use Rattle.std.specs.List.{list_any};
-ghost use Rattle.object_groups.specs.Names.{has_unknown, HasNumbers, is_all, is_doubled, is_exclusion, number_of};
+ghost use Rattle.object_groups.specs.Names.{has_unknown, HasNumbers, is_all, is_doubled, is_exclusion};
+ghost use Rattle.object_groups.specs.Names.{number_of};
 ghost use Rattle.object_values.specs.Values.{texts};
 
 use indexmap::IndexMap;

@@ -1,9 +1,11 @@
 //! The edges of the graph in which members are found.
 
-ghost use Rattle.std.specs.Prelude.{◌≡◌, ◌+◌, ◌<◌, ◌^◌, ◌++◌, ◌∷◌, [], length, map, IfOk, IfSome, OnOk};
+ghost use Rattle.std.specs.Prelude.{◌≡◌, ◌+◌, ◌<◌, ◌^◌, ◌++◌, ◌∷◌, [], length};
+ghost use Rattle.std.specs.Prelude.{map, IfOk, IfSome, OnOk};
 ghost use Rattle.std.specs.Option.{option_to_list};
 ghost use Rattle.object_groups.specs.Names.{numbers_of};
-ghost use Rattle.object_groups.specs.Nodes.{all_groups, all_objects, edge, edges_of_group, edges_of_object, group_node, node_count, nodes_of, of_all_groups};
+ghost use Rattle.object_groups.specs.Nodes.{all_groups, all_objects, edge, edges_of_group, edges_of_object};
+ghost use Rattle.object_groups.specs.Nodes.{group_node, node_count, nodes_of, of_all_groups};
 ghost use Rattle.object_values.specs.Values.{texts};
 
 use crate::names::{Names, is_all};
@@ -31,7 +33,8 @@ fn nodes_of<'a>(
     all: u32,
 ) -> Result<Vec<u32>, AllocError>
     requires { first + length names.now < 2 ^ 32 }
-    ensures { IfOk result (λ nodes. nodes.items ≡ nodes_of names.now (texts entries.now) first all) }
+    ensures { IfOk result (λ nodes. nodes.items
+        ≡ nodes_of names.now (texts entries.now) first all) }
 {
     let mut nodes = Vec::new(alloc);
     if is_all(entries) {

@@ -1,9 +1,11 @@
 //! The objects of one type among blocks, numbered in file order (chapters "Object Definitions" and "Object
 //! Inheritance").
 
-ghost use Rattle.std.specs.Prelude.{◌≡◌, ◌<◌, ◌++◌, ◌∷◌, [], length, map, unwrap_or, All, IfOk, OnOk, if◌then◌else◌};
+ghost use Rattle.std.specs.Prelude.{◌≡◌, ◌<◌, ◌++◌, ◌∷◌, [], length, map, unwrap_or};
+ghost use Rattle.std.specs.Prelude.{All, IfOk, OnOk, if◌then◌else◌};
 ghost use Rattle.std.specs.Option.{option_copied};
-ghost use Rattle.object_groups.specs.Objects.{is_object, list_at, name_at, name_directive, names_in, objects_in, registers};
+ghost use Rattle.object_groups.specs.Objects.{is_object, list_at, name_at, name_directive, names_in};
+ghost use Rattle.object_groups.specs.Objects.{objects_in, registers};
 ghost use Rattle.object_inheritance.specs.Inherited.{value};
 ghost use Rattle.object_inheritance.specs.Templates.{kind_number};
 ghost use Rattle.object_values.specs.Values.{texts};
@@ -114,7 +116,8 @@ fn names_at<'a>(
     places: &[usize],
 ) -> Result<Vec<&'a [u8]>, AllocError>
     ensures { IfOk result (λ names. texts names.items
-        ≡ map (λ place. unwrap_or (value values.now.blocks values.now.directive place) []) places.now) }
+        ≡ map (λ place. unwrap_or (value values.now.blocks values.now.directive place) [])
+        places.now) }
 {
     let mut names = Vec::new(alloc);
     for place in places {
@@ -170,7 +173,8 @@ impl<'a> Objects<'a> {
         templates: &Templates<'a>,
         kind: BlockKind,
     ) -> Result<Objects<'a>, AllocError>
-        ensures { IfOk result (λ objects. objects ≡ record { blocks = templates.now; kind = kind }) }
+        ensures { IfOk result (λ objects. objects
+            ≡ record { blocks = templates.now; kind = kind }) }
     {
         let blocks = templates.blocks();
         let places = places_of(alloc, blocks, kind)?;
