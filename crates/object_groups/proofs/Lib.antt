@@ -1,0 +1,5 @@
+mod PlaceLemmas
+mod NumberLemmas
+mod NodeLemmas
+mod GroupLemmas
+mod LawLemmas

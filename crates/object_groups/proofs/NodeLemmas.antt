@@ -1,0 +1,366 @@
+-- The graph in which members are found: what its edges are, and that a chain in it leads from a group to an
+-- object exactly where the object is a member.
+use Rattle.std.proofs.Common.{◌≡◌, ℕ, zero, suc, ◌+◌, ◌<◌, ◌≤◌, Bool, true, false, cond, List, [], ◌∷◌, ◌++◌, length, map, get_or, refl, sym, ap, subst, ◌∙◌, ◌⊎◌, inl, inr, ⊎_elim, arith}
+use Rattle.std.specs.Prelude.{Contains}
+use Rattle.std.specs.List.{flat_map, range_with_len}
+use Rattle.std.proofs.lemmas.Bool.{cases_lt, false≢true}
+use Rattle.std.proofs.lemmas.List.{get_or_past}
+use Rattle.std.proofs.lemmas.List.Elements.{Contains-append_left, Contains-append_right, Contains-append_cases}
+use Rattle.graph.specs.declared.edges.Edge.{Edge}
+use Rattle.graph.specs.Chains.{Chain, Reaches}
+use Rattle.graph.specs.Edges.{IsWithin, Leads}
+use Rattle.object_groups.specs.Members.{Grouping, Holds, Includes, IsMember}
+use Rattle.object_groups.specs.Names.{is_all, Lists, numbers_of}
+use Rattle.object_groups.specs.Nodes.{all_groups, all_objects, edge, edges_in, group_edges, group_node, IsGraphOf, node_count, nodes_of, object_edges, of_all_groups}
+use Rattle.object_groups.proofs.PlaceLemmas.{Contains-cases, Contains-flat_map, Contains-from_flat_map, Contains-from_map, Contains-from_range, Contains-here, Contains-later, Contains-map, Contains-none, Contains-range, numbers-within}
+
+-- ---- the nodes that a list names
+
+-- a list names one: by the node of all, or by its own
+abbrev ToNode : (names entries : List (List ℕ)) (first all k : ℕ) → Type 0
+ToNode names entries first all k =
+    Contains (nodes_of names entries first all) all ⊎ Contains (nodes_of names entries first all) (first + k)
+
+pub listed-within : (names entries : List (List ℕ)) (k : ℕ) → Lists names entries k → k < length names
+listed-within names entries k (inl every) = every.1
+listed-within names entries k (inr named) = numbers-within names entries k named
+
+to_node : (names entries : List (List ℕ)) (first all k : ℕ) → Lists names entries k → ToNode names entries first all k
+to_node names entries first all k lists = by_all (is_all entries) refl lists
+  where
+    by_all : (b : Bool) → is_all entries ≡ b → Lists names entries k → ToNode names entries first all k
+    by_all true is lists = inl (rw is (Contains-here all []))
+    by_all false is (inl every) = absurd (false≢true (sym is ∙ every.0))
+    by_all false is (inr named) = inr (rw is (Contains-map (λ number. first + number) (numbers_of names entries) k named))
+
+-- a node is that of all, or that of one that the list names
+abbrev FromNode : (names entries : List (List ℕ)) (first all node : ℕ) → Type 0
+FromNode names entries first all node = ((node ≡ all) × (is_all entries ≡ true))
+    ⊎ ((k : ℕ) × (k < length names) × (node ≡ first + k) × Contains (numbers_of names entries) k)
+
+from_node : (names entries : List (List ℕ)) (first all node : ℕ) → Contains (nodes_of names entries first all) node → FromNode names entries first all node
+from_node names entries first all node at = by_all (is_all entries) refl
+  where
+    given : (b : Bool) → is_all entries ≡ b → Contains (cond b (all ∷ []) (map (λ number. first + number) (numbers_of names entries))) node
+    given b is = subst (λ c. Contains (cond c (all ∷ []) (map (λ number. first + number) (numbers_of names entries))) node) is at
+
+    by_all : (b : Bool) → is_all entries ≡ b → FromNode names entries first all node
+    by_all true is = ⊎_elim
+        (λ (here : all ≡ node). inl (sym here, is))
+        (λ (later : Contains [] node). absurd (Contains-none node later))
+        (Contains-cases all node [] (given true is))
+    by_all false is =
+        let on = Contains-from_map (λ number. first + number) (numbers_of names entries) node (given false is) in
+        inr (on.0, numbers-within names entries on.0 on.1, sym on.2, on.1)
+
+-- ---- edges
+
+abbrev FromGroup : Grouping → ℕ → ℕ → Type 0
+FromGroup g p to = FromNode g.objects (get_or g.members p []) 0 (all_objects g.objects g.groups) to
+    ⊎ (FromNode g.groups (get_or g.subgroups p []) (length g.objects) (all_groups g.objects g.groups) to
+    ⊎ (to ≡ of_all_groups g.objects g.groups))
+
+abbrev ToObject : Grouping → ℕ → ℕ → Type 0
+ToObject g k from = FromNode g.groups (get_or g.own_groups k []) (length g.objects) (of_all_groups g.objects g.groups) from
+    ⊎ (from ≡ all_objects g.objects g.groups)
+
+-- what an edge is
+abbrev Link : Grouping → ℕ → ℕ → Type 0
+Link g from to = ((p : ℕ) × (p < length g.groups) × (from ≡ group_node g.objects p) × FromGroup g p to)
+    ⊎ (((p : ℕ) × (p < length g.groups) × (from ≡ all_groups g.objects g.groups) × (to ≡ group_node g.objects p))
+    ⊎ ((k : ℕ) × (k < length g.objects) × (to ≡ k) × ToObject g k from))
+
+edge-from : (a b from to : ℕ) → edge a b ≡ edge from to → from ≡ a
+edge-from a b from to is = sym (ap (λ (e : Edge). e.from) is)
+
+edge-to : (a b from to : ℕ) → edge a b ≡ edge from to → to ≡ b
+edge-to a b from to is = sym (ap (λ (e : Edge). e.to) is)
+
+link_group : (g : Grouping) (p from to : ℕ) → p < length g.groups → Contains (group_edges g p) (edge from to) → Link g from to
+link_group g p from to low at =
+    let here = group_node g.objects p in
+    let members = nodes_of g.objects (get_or g.members p []) 0 (all_objects g.objects g.groups) in
+    let subgroups = nodes_of g.groups (get_or g.subgroups p []) (length g.objects) (all_groups g.objects g.groups) in
+    let last = edge here (of_all_groups g.objects g.groups) in
+    let back = edge (all_groups g.objects g.groups) here in
+    ⊎_elim
+    (λ (lists : Contains (map (edge here) members ++ map (edge here) subgroups) (edge from to)). ⊎_elim
+    (λ (first : Contains (map (edge here) members) (edge from to)).
+    let on = Contains-from_map (edge here) members (edge from to) first in
+    inl (
+      p,
+      low,
+      edge-from here on.0 from to on.2,
+      inl (subst (λ node. FromNode g.objects (get_or g.members p []) 0 (all_objects g.objects g.groups) node) (sym (edge-to here on.0 from to on.2))
+          (from_node g.objects (get_or g.members p []) 0 (all_objects g.objects g.groups) on.0 on.1)),
+    ))
+    (λ (second : Contains (map (edge here) subgroups) (edge from to)).
+    let on = Contains-from_map (edge here) subgroups (edge from to) second in
+    inl (
+      p,
+      low,
+      edge-from here on.0 from to on.2,
+      inr (inl (subst (λ node. FromNode g.groups (get_or g.subgroups p []) (length g.objects) (all_groups g.objects g.groups) node) (sym (edge-to here on.0 from to on.2))
+          (from_node g.groups (get_or g.subgroups p []) (length g.objects) (all_groups g.objects g.groups) on.0 on.1))),
+    ))
+    (Contains-append_cases (map (edge here) members) (map (edge here) subgroups) (edge from to) lists))
+    (λ (end : Contains (last ∷ back ∷ []) (edge from to)). ⊎_elim
+    (λ (is : last ≡ edge from to). inl (p, low, edge-from here (of_all_groups g.objects g.groups) from to is, inr (inr (edge-to here (of_all_groups g.objects g.groups) from to is))))
+    (λ (other : Contains (back ∷ []) (edge from to)). ⊎_elim
+    (λ (is : back ≡ edge from to). inr (inl (p, low, edge-from (all_groups g.objects g.groups) here from to is, edge-to (all_groups g.objects g.groups) here from to is)))
+    (λ (none : Contains [] (edge from to)). absurd (Contains-none (edge from to) none))
+    (Contains-cases back (edge from to) [] other))
+    (Contains-cases last (edge from to) (back ∷ []) end))
+    (Contains-append_cases (map (edge here) members ++ map (edge here) subgroups) (last ∷ back ∷ []) (edge from to) at)
+
+link_object : (g : Grouping) (k from to : ℕ) → k < length g.objects → Contains (object_edges g k) (edge from to) → Link g from to
+link_object g k from to low at =
+    let own = nodes_of g.groups (get_or g.own_groups k []) (length g.objects) (of_all_groups g.objects g.groups) in
+    let all = edge (all_objects g.objects g.groups) k in
+    ⊎_elim
+    (λ (first : Contains (map (λ node. edge node k) own) (edge from to)).
+    let on = Contains-from_map (λ node. edge node k) own (edge from to) first in
+    inr (inr (
+      k,
+      low,
+      edge-to on.0 k from to on.2,
+      inl (subst (λ node. FromNode g.groups (get_or g.own_groups k []) (length g.objects) (of_all_groups g.objects g.groups) node) (sym (edge-from on.0 k from to on.2))
+          (from_node g.groups (get_or g.own_groups k []) (length g.objects) (of_all_groups g.objects g.groups) on.0 on.1)),
+    )))
+    (λ (rest : Contains (all ∷ []) (edge from to)). ⊎_elim
+    (λ (is : all ≡ edge from to). inr (inr (k, low, edge-to (all_objects g.objects g.groups) k from to is, inr (edge-from (all_objects g.objects g.groups) k from to is))))
+    (λ (none : Contains [] (edge from to)). absurd (Contains-none (edge from to) none))
+    (Contains-cases all (edge from to) [] rest))
+    (Contains-append_cases (map (λ node. edge node k) own) (all ∷ []) (edge from to) at)
+
+link : (g : Grouping) (from to : ℕ) → Contains (edges_in g) (edge from to) → Link g from to
+unfolding edges_in
+link g from to at = ⊎_elim
+    (λ (first : Contains (flat_map (group_edges g) (range_with_len 0 (length g.groups))) (edge from to)).
+    let on = Contains-from_flat_map (group_edges g) (range_with_len 0 (length g.groups)) (edge from to) first in
+    link_group g on.0 from to (Contains-from_range (length g.groups) on.0 on.1) on.2)
+    (λ (second : Contains (flat_map (object_edges g) (range_with_len 0 (length g.objects))) (edge from to)).
+    let on = Contains-from_flat_map (object_edges g) (range_with_len 0 (length g.objects)) (edge from to) second in
+    link_object g on.0 from to (Contains-from_range (length g.objects) on.0 on.1) on.2)
+    (Contains-append_cases (flat_map (group_edges g) (range_with_len 0 (length g.groups))) (flat_map (object_edges g) (range_with_len 0 (length g.objects))) (edge from to) at)
+
+of_group : (g : Grouping) (p : ℕ) (e : Edge) → p < length g.groups → Contains (group_edges g p) e → Contains (edges_in g) e
+unfolding edges_in
+of_group g p e low at = Contains-append_left (flat_map (group_edges g) (range_with_len 0 (length g.groups))) (flat_map (object_edges g) (range_with_len 0 (length g.objects))) e
+    (Contains-flat_map (group_edges g) (range_with_len 0 (length g.groups)) p e (Contains-range (length g.groups) p low) at)
+
+of_object : (g : Grouping) (k : ℕ) (e : Edge) → k < length g.objects → Contains (object_edges g k) e → Contains (edges_in g) e
+unfolding edges_in
+of_object g k e low at = Contains-append_right (flat_map (group_edges g) (range_with_len 0 (length g.groups))) (flat_map (object_edges g) (range_with_len 0 (length g.objects))) e
+    (Contains-flat_map (object_edges g) (range_with_len 0 (length g.objects)) k e (Contains-range (length g.objects) k low) at)
+
+-- ---- every end is a node
+
+node-within : (g : Grouping) (names entries : List (List ℕ)) (first all node : ℕ) → all < node_count g.objects g.groups → first + length names < node_count g.objects g.groups
+    → FromNode names entries first all node → node < node_count g.objects g.groups
+node-within g names entries first all node low few (inl every) = omega (arith, low, every.0)
+node-within g names entries first all node low few (inr named) = omega (arith, few, named.1, named.2)
+
+pub edge-within : (g : Grouping) (e : Edge) → Contains (edges_in g) e → IsWithin (node_count g.objects g.groups) e
+edge-within g e at = by_link (link g e.from e.to at)
+  where
+    by_link : Link g e.from e.to → IsWithin (node_count g.objects g.groups) e
+    by_link (inl (p, low, is, inl members)) = record { from = omega (arith, low, is); to = node-within g _ _ _ _ e.to (omega arith) (omega arith) members }
+    by_link (inl (p, low, is, inr (inl subgroups))) = record { from = omega (arith, low, is); to = node-within g _ _ _ _ e.to (omega arith) (omega arith) subgroups }
+    by_link (inl (p, low, is, inr (inr last))) = record { from = omega (arith, low, is); to = omega (arith, last) }
+    by_link (inr (inl (p, low, is, to))) = record { from = omega (arith, is); to = omega (arith, low, to) }
+    by_link (inr (inr (k, low, is, inl own))) = record { from = node-within g _ _ _ _ e.from (omega arith) (omega arith) own; to = omega (arith, low, is) }
+    by_link (inr (inr (k, low, is, inr all))) = record { from = omega (arith, all); to = omega (arith, low, is) }
+
+-- ---- from chains to members
+
+module _ (g : Grouping) (object : ℕ) (there : object < length g.objects) where
+  -- what it means that a node leads to the object
+  record Means (node : ℕ) : Type 0 where
+    pub at_object : node < length g.objects → node ≡ object
+    pub at_group : (p : ℕ) → p < length g.groups → node ≡ group_node g.objects p → IsMember g p object
+    pub at_all_groups : node ≡ all_groups g.objects g.groups → (p : ℕ) × (p < length g.groups) × IsMember g p object
+    pub at_of_all : node ≡ of_all_groups g.objects g.groups → is_all (get_or g.own_groups object []) ≡ true
+
+  means_itself : Means object
+  means_itself = record {
+    at_object = λ low. refl;
+    at_group = λ p low is. absurd (omega (arith, there, is));
+    at_all_groups = λ is. absurd (omega (arith, there, is));
+    at_of_all = λ is. absurd (omega (arith, there, is));
+  }
+
+  means_group : (node p : ℕ) → p < length g.groups → node ≡ group_node g.objects p → IsMember g p object → Means node
+  means_group node p low is member = record {
+    at_object = λ below. absurd (omega (arith, below, is));
+    at_group = λ q few same. let alike : p ≡ q = omega (arith, is, same) in subst (λ r. IsMember g r object) alike member;
+    at_all_groups = λ same. absurd (omega (arith, low, is, same));
+    at_of_all = λ same. absurd (omega (arith, low, is, same));
+  }
+
+  means_all_groups : (node p : ℕ) → p < length g.groups → node ≡ all_groups g.objects g.groups → IsMember g p object → Means node
+  means_all_groups node p low is member = record {
+    at_object = λ below. absurd (omega (arith, below, is));
+    at_group = λ q few same. absurd (omega (arith, few, is, same));
+    at_all_groups = λ same. (p, low, member);
+    at_of_all = λ same. absurd (omega (arith, is, same));
+  }
+
+  means_of_all : (node : ℕ) → node ≡ of_all_groups g.objects g.groups → is_all (get_or g.own_groups object []) ≡ true → Means node
+  means_of_all node is every = record {
+    at_object = λ below. absurd (omega (arith, below, is));
+    at_group = λ q few same. absurd (omega (arith, few, is, same));
+    at_all_groups = λ same. absurd (omega (arith, is, same));
+    at_of_all = λ same. every;
+  }
+
+  means_all_objects : (node : ℕ) → node ≡ all_objects g.objects g.groups → Means node
+  means_all_objects node is = record {
+    at_object = λ below. absurd (omega (arith, below, is));
+    at_group = λ q few same. absurd (omega (arith, few, is, same));
+    at_all_groups = λ same. absurd (omega (arith, is, same));
+    at_of_all = λ same. absurd (omega (arith, is, same));
+  }
+
+  member_held : (p : ℕ) → Holds g p object → IsMember g p object
+  member_held p holds = (p, (0, refl), holds)
+
+  member_through : (p q : ℕ) → Includes g p q → IsMember g q object → IsMember g p object
+  member_through p q includes (last, (steps, chain), holds) = (last, (suc steps, (q, includes, chain)), holds)
+
+  means_step : (from to : ℕ) → Link g from to → Means to → Means from
+  means_step from to (inl (p, low, is, inl (inl every))) means = means_group from p low is (member_held p (inl (inl (every.1, there))))
+  means_step from to (inl (p, low, is, inl (inr (k, few, at, named)))) means =
+      let same : k ≡ object = (let alike : to ≡ object = means.at_object (omega (arith, few, at)) in omega (arith, alike, at)) in
+      means_group from p low is (member_held p (inl (inr (subst (λ number. Contains (numbers_of g.objects (get_or g.members p [])) number) same named))))
+  means_step from to (inl (p, low, is, inr (inl (inl every)))) means =
+      let on = means.at_all_groups every.0 in
+      means_group from p low is (member_through p on.0 (inl (every.1, on.1)) on.2)
+  means_step from to (inl (p, low, is, inr (inl (inr (q, few, at, named))))) means =
+      means_group from p low is (member_through p q (inr named) (means.at_group q few at))
+  means_step from to (inl (p, low, is, inr (inr last))) means =
+      means_group from p low is (member_held p (inr (inl (means.at_of_all last, low))))
+  means_step from to (inr (inl (p, low, is, at))) means = means_all_groups from p low is (means.at_group p low at)
+  means_step from to (inr (inr (k, low, is, inl (inl every)))) means =
+      let same : k ≡ object = (let alike : to ≡ object = means.at_object (omega (arith, low, is)) in omega (arith, alike, is)) in
+      means_of_all from every.0 (subst (λ number. is_all (get_or g.own_groups number []) ≡ true) same every.1)
+  means_step from to (inr (inr (k, low, is, inl (inr (q, few, at, named))))) means =
+      let same : k ≡ object = (let alike : to ≡ object = means.at_object (omega (arith, low, is)) in omega (arith, alike, is)) in
+      means_group from q few at (member_held q (inr (inr (subst (λ number. Contains (numbers_of g.groups (get_or g.own_groups number [])) q) same named))))
+  means_step from to (inr (inr (k, low, is, inr all))) means = means_all_objects from all
+
+  module _ (graph : List (List ℕ)) (has : IsGraphOf g graph) where
+    means_chain : (steps node : ℕ) → Chain (Leads graph) steps node object → Means node
+    means_chain zero node chain = subst Means (sym chain) means_itself
+    means_chain (suc steps) node (middle, leads, chain) = means_step node middle (link g node middle ((has.leads node middle).0 leads)) (means_chain steps middle chain)
+
+    pub member-from_reached : (p : ℕ) → p < length g.groups → Reaches (Leads graph) (group_node g.objects p) object → IsMember g p object
+    member-from_reached p low reaches = (means_chain reaches.0 (group_node g.objects p) reaches.1).at_group p low refl
+
+-- ---- from members to chains
+
+Chain-join : (R : ℕ → ℕ → Type 0) (a b p q r : ℕ) → Chain R a p q → Chain R b q r → Chain R (a + b) p r
+Chain-join R zero b p q r same chain = let none : 0 + b ≡ b = omega arith in rw none (subst (λ (x : ℕ). Chain R b x r) (sym same) chain)
+Chain-join R (suc a) b p q r first chain = let shift : suc a + b ≡ suc (a + b) = omega arith in rw shift (first.0, first.1, Chain-join R a b first.0 q r first.2 chain)
+
+pub Reaches-join : (R : ℕ → ℕ → Type 0) (p q r : ℕ) → Reaches R p q → Reaches R q r → Reaches R p r
+Reaches-join R p q r first second = (first.0 + second.0, Chain-join R first.0 second.0 p q r first.1 second.1)
+
+module _ (g : Grouping) (graph : List (List ℕ)) (has : IsGraphOf g graph) where
+  led : (from to : ℕ) → Contains (edges_in g) (edge from to) → Reaches (Leads graph) from to
+  led from to at = (1, (to, (has.leads from to).1 at, refl))
+
+  abbrev members_of : ℕ → List Edge
+  members_of p = map (edge (group_node g.objects p)) (nodes_of g.objects (get_or g.members p []) 0 (all_objects g.objects g.groups))
+
+  abbrev subgroups_of : ℕ → List Edge
+  subgroups_of p = map (edge (group_node g.objects p)) (nodes_of g.groups (get_or g.subgroups p []) (length g.objects) (all_groups g.objects g.groups))
+
+  abbrev last_of : ℕ → List Edge
+  last_of p = edge (all_groups g.objects g.groups) (group_node g.objects p) ∷ []
+
+  abbrev own_of : ℕ → List Edge
+  own_of k = map (λ node. edge node k) (nodes_of g.groups (get_or g.own_groups k []) (length g.objects) (of_all_groups g.objects g.groups))
+
+  from_members : (p to : ℕ) → p < length g.groups → Contains (nodes_of g.objects (get_or g.members p []) 0 (all_objects g.objects g.groups)) to
+      → Reaches (Leads graph) (group_node g.objects p) to
+  from_members p to low at = led (group_node g.objects p) to (of_group g p (edge (group_node g.objects p) to) low
+      (Contains-append_left (members_of p ++ subgroups_of p) (edge (group_node g.objects p) (of_all_groups g.objects g.groups) ∷ last_of p) (edge (group_node g.objects p) to)
+      (Contains-append_left (members_of p) (subgroups_of p) (edge (group_node g.objects p) to)
+      (Contains-map (edge (group_node g.objects p)) (nodes_of g.objects (get_or g.members p []) 0 (all_objects g.objects g.groups)) to at))))
+
+  from_subgroups : (p to : ℕ) → p < length g.groups → Contains (nodes_of g.groups (get_or g.subgroups p []) (length g.objects) (all_groups g.objects g.groups)) to
+      → Reaches (Leads graph) (group_node g.objects p) to
+  from_subgroups p to low at = led (group_node g.objects p) to (of_group g p (edge (group_node g.objects p) to) low
+      (Contains-append_left (members_of p ++ subgroups_of p) (edge (group_node g.objects p) (of_all_groups g.objects g.groups) ∷ last_of p) (edge (group_node g.objects p) to)
+      (Contains-append_right (members_of p) (subgroups_of p) (edge (group_node g.objects p) to)
+      (Contains-map (edge (group_node g.objects p)) (nodes_of g.groups (get_or g.subgroups p []) (length g.objects) (all_groups g.objects g.groups)) to at))))
+
+  from_each : (p : ℕ) → p < length g.groups → Reaches (Leads graph) (group_node g.objects p) (of_all_groups g.objects g.groups)
+  from_each p low = led (group_node g.objects p) (of_all_groups g.objects g.groups) (of_group g p (edge (group_node g.objects p) (of_all_groups g.objects g.groups)) low
+      (Contains-append_right (members_of p ++ subgroups_of p) (edge (group_node g.objects p) (of_all_groups g.objects g.groups) ∷ last_of p) (edge (group_node g.objects p) (of_all_groups g.objects g.groups))
+      (Contains-here (edge (group_node g.objects p) (of_all_groups g.objects g.groups)) (last_of p))))
+
+  to_each : (p : ℕ) → p < length g.groups → Reaches (Leads graph) (all_groups g.objects g.groups) (group_node g.objects p)
+  to_each p low = led (all_groups g.objects g.groups) (group_node g.objects p) (of_group g p (edge (all_groups g.objects g.groups) (group_node g.objects p)) low
+      (Contains-append_right (members_of p ++ subgroups_of p) (edge (group_node g.objects p) (of_all_groups g.objects g.groups) ∷ last_of p) (edge (all_groups g.objects g.groups) (group_node g.objects p))
+      (Contains-later (edge (group_node g.objects p) (of_all_groups g.objects g.groups)) (edge (all_groups g.objects g.groups) (group_node g.objects p)) (last_of p)
+      (Contains-here (edge (all_groups g.objects g.groups) (group_node g.objects p)) []))))
+
+  from_own : (k from : ℕ) → k < length g.objects → Contains (nodes_of g.groups (get_or g.own_groups k []) (length g.objects) (of_all_groups g.objects g.groups)) from
+      → Reaches (Leads graph) from k
+  from_own k from low at = led from k (of_object g k (edge from k) low (Contains-append_left (own_of k) (edge (all_objects g.objects g.groups) k ∷ []) (edge from k)
+      (Contains-map (λ node. edge node k) (nodes_of g.groups (get_or g.own_groups k []) (length g.objects) (of_all_groups g.objects g.groups)) from at)))
+
+  to_each_object : (k : ℕ) → k < length g.objects → Reaches (Leads graph) (all_objects g.objects g.groups) k
+  to_each_object k low = led (all_objects g.objects g.groups) k (of_object g k (edge (all_objects g.objects g.groups) k) low
+      (Contains-append_right (own_of k) (edge (all_objects g.objects g.groups) k ∷ []) (edge (all_objects g.objects g.groups) k)
+      (Contains-here (edge (all_objects g.objects g.groups) k) [])))
+
+  reached_group : (p q : ℕ) → p < length g.groups → Includes g p q → Reaches (Leads graph) (group_node g.objects p) (group_node g.objects q)
+  reached_group p q low includes = ⊎_elim
+      (λ (every : Contains (nodes_of g.groups (get_or g.subgroups p []) (length g.objects) (all_groups g.objects g.groups)) (all_groups g.objects g.groups)).
+      Reaches-join (Leads graph) _ (all_groups g.objects g.groups) _ (from_subgroups p _ low every) (to_each q (listed-within g.groups (get_or g.subgroups p []) q includes)))
+      (λ (named : Contains (nodes_of g.groups (get_or g.subgroups p []) (length g.objects) (all_groups g.objects g.groups)) (length g.objects + q)).
+      from_subgroups p (group_node g.objects q) low named)
+      (to_node g.groups (get_or g.subgroups p []) (length g.objects) (all_groups g.objects g.groups) q includes)
+
+  reached_last : (steps p q : ℕ) → p < length g.groups → Chain (Includes g) steps p q → (q < length g.groups) × Reaches (Leads graph) (group_node g.objects p) (group_node g.objects q)
+  reached_last zero p q low chain = (omega (arith, low, chain), subst (λ r. Reaches (Leads graph) (group_node g.objects p) (group_node g.objects r)) chain (0, refl))
+  reached_last (suc steps) p q low (middle, includes, chain) =
+      let rest = reached_last steps middle q (listed-within g.groups (get_or g.subgroups p []) middle includes) chain in
+      (rest.0, Reaches-join (Leads graph) _ (group_node g.objects middle) _ (reached_group p middle low includes) rest.1)
+
+  module _ (lists : length g.own_groups ≡ length g.objects) where
+    own-within : (k q : ℕ) → Lists g.groups (get_or g.own_groups k []) q → k < length g.objects
+    own-within k q listed = ⊎_elim
+        (λ (low : k < length g.objects). low)
+        (λ (past : length g.objects ≤ k). absurd (none (subst (λ entries. Lists g.groups entries q) (get_or_past g.own_groups k [] (omega (arith, past, lists))) listed)))
+        (cases_lt k (length g.objects))
+      where
+        none : Lists g.groups [] q → ⊥
+        none (inl every) = false≢true every.0
+        none (inr named) = Contains-none q named
+
+    held-within : (q k : ℕ) → Holds g q k → k < length g.objects
+    held-within q k (inl lists) = listed-within g.objects (get_or g.members q []) k lists
+    held-within q k (inr own) = own-within k q own
+
+    reached_object : (q k : ℕ) → q < length g.groups → Holds g q k → Reaches (Leads graph) (group_node g.objects q) k
+    reached_object q k low (inl listed) = ⊎_elim
+        (λ (every : Contains (nodes_of g.objects (get_or g.members q []) 0 (all_objects g.objects g.groups)) (all_objects g.objects g.groups)).
+        Reaches-join (Leads graph) _ (all_objects g.objects g.groups) _ (from_members q _ low every) (to_each_object k (listed-within g.objects (get_or g.members q []) k listed)))
+        (λ (named : Contains (nodes_of g.objects (get_or g.members q []) 0 (all_objects g.objects g.groups)) (0 + k)). from_members q k low (let same : 0 + k ≡ k = omega arith in subst (λ (x : ℕ). Contains (nodes_of g.objects (get_or g.members q []) 0 (all_objects g.objects g.groups)) x) same named))
+        (to_node g.objects (get_or g.members q []) 0 (all_objects g.objects g.groups) k listed)
+    reached_object q k low (inr own) =
+        let there = own-within k q own in
+        ⊎_elim
+        (λ (every : Contains (nodes_of g.groups (get_or g.own_groups k []) (length g.objects) (of_all_groups g.objects g.groups)) (of_all_groups g.objects g.groups)).
+        Reaches-join (Leads graph) _ (of_all_groups g.objects g.groups) _ (from_each q low) (from_own k _ there every))
+        (λ (named : Contains (nodes_of g.groups (get_or g.own_groups k []) (length g.objects) (of_all_groups g.objects g.groups)) (length g.objects + q)). from_own k (group_node g.objects q) there named)
+        (to_node g.groups (get_or g.own_groups k []) (length g.objects) (of_all_groups g.objects g.groups) q own)
+
+    pub reached-from_member : (p k : ℕ) → p < length g.groups → IsMember g p k → (k < length g.objects) × Reaches (Leads graph) (group_node g.objects p) k
+    reached-from_member p k low (last, (steps, chain), holds) =
+        let on = reached_last steps p last low chain in
+        (held-within last k holds, Reaches-join (Leads graph) _ (group_node g.objects last) _ on.1 (reached_object last k on.0 holds))

@@ -1,0 +1,186 @@
+-- One name, one entry, one place or one node more.
+use Rattle.std.proofs.Common.{◌≡◌, ℕ, zero, suc, ◌+◌, ◌<◌, ◌≤◌, nat_lt, Bool, true, false, not, cond, ◌||◌, List, [], ◌∷◌, ◌++◌, length, map, filter, take, get_or, Option, Some, None, refl, sym, ap, subst, eqb, eqb-true, eq-eqb, ⊎_elim, ◌∙◌, Bor, arith}
+use Rattle.std.specs.Prelude.{Contains, is_some}
+use Rattle.std.specs.List.{cons_option, dedup, list_any, position, position_or_len, range_with_len}
+use Rattle.std.specs.List.Sorted.{IsPermutation, IsSorted, IsStrictlyIncreasing}
+use Rattle.std.specs.Map.{lookup}
+use Rattle.std.specs.Option.{option_or, option_to_list}
+use Rattle.std.specs.Ordering.{nat_cmp}
+use Rattle.std.specs.Str.{bytes_eq}
+use Rattle.std.specs.HashMap.Eq.{lookup_congr}
+use Rattle.std.proofs.lemmas.Bool.{false≢true, cases_lt, lt-ltb, le-ltb, ltb-true}
+use Rattle.std.proofs.lemmas.Cmp.{nat_list_eq_equiv}
+use Rattle.std.proofs.lemmas.List.{map-append, take_more}
+use Rattle.std.proofs.lemmas.List.Elements.{filter-append, filter_map-append}
+use Rattle.std.proofs.lemmas.List.Folds.{list_any-append, position_or_len_push}
+use Rattle.std.proofs.lemmas.List.Sums.{prefix_len-le-length}
+use Rattle.std.proofs.lemmas.List.Kept.{Contains-dedup_nat, Contains-from_dedup}
+use Rattle.std.proofs.lemmas.List.Sorted.{Contains-permutation, IsPermutation-sym}
+use Rattle.std.proofs.lemmas.Map.Keys.{IsStrictlyIncreasing-dedup}
+use Rattle.object_groups.specs.Names.{HasNumbers, name_eq, number_of, numbers_of}
+use Rattle.object_groups.specs.Nodes.{AreBelow}
+use Rattle.object_values.specs.Values.{texts}
+use Rattle.object_groups.proofs.PlaceLemmas.{Contains-cases, Contains-here, Contains-later, Contains-none}
+
+-- ---- one name more
+
+-- by where the first that passes stands among `l`, and whether one more passes
+seam : (b : Bool) (n l : ℕ) → n ≤ l
+    → cond (nat_lt (cond (eqb n l) (l + cond b 0 1) n) (l + 1)) (Some (cond (eqb n l) (l + cond b 0 1) n)) None
+    ≡ option_or (cond (nat_lt n l) (Some n) None) (cond b (Some l) None)
+seam b n l few = ⊎_elim
+    (λ (low : n < l). let other : eqb n l ≡ false = differs (eqb n l) refl low in
+    rw (other, lt-ltb n l low, lt-ltb n (l + 1) (omega arith)) refl)
+    (λ (past : l ≤ n). let same : n ≡ l = omega arith in
+    rw (eq-eqb n l same, le-ltb n l past) (at_end b))
+    (cases_lt n l)
+  where
+    differs : (c : Bool) → eqb n l ≡ c → n < l → c ≡ false
+    differs false is low = refl
+    differs true is low = absurd (let same : n ≡ l = eqb-true n l is in omega arith)
+
+    at_end : (c : Bool) → cond (nat_lt (l + cond c 0 1) (l + 1)) (Some (l + cond c 0 1)) None ≡ cond c (Some l) None
+    at_end true = rw (lt-ltb (l + 0) (l + 1) (omega arith)) (ap (λ (k : ℕ). Some k) (omega arith))
+    at_end false = rw (le-ltb (l + 1) (l + 1) (omega arith)) refl
+
+position-snoc : {X : Type 0} (p : X → Bool) (xs : List X) (x : X)
+    → position p (xs ++ x ∷ []) ≡ option_or (position p xs) (cond (p x) (Some (length xs)) None)
+position-snoc p xs x =
+    rw (position_or_len_push p xs x, length_snoc xs x)
+    (seam (p x) (position_or_len p xs) (length xs) (prefix_len-le-length (λ y. not (p y)) xs))
+  where
+    length_snoc : {Y : Type 0} (ys : List Y) (y : Y) → length (ys ++ y ∷ []) ≡ length ys + 1
+    length_snoc [] y = refl
+    length_snoc (z ∷ ys) y = let more = length_snoc ys y in omega arith
+
+alike : (x y z : Bor (List ℕ)) → name_eq x y ≡ true → name_eq x z ≡ name_eq y z
+alike x y z is = nat_list_eq_equiv.congr x.now y.now z.now is
+
+or-none : {X : Type 0} (found : Option X) → option_or found None ≡ found
+or-none None = refl
+or-none (Some x) = refl
+
+or-some : {X : Type 0} (found other : Option X) → is_some found ≡ true → option_or found other ≡ found
+or-some None other is = absurd (false≢true is)
+or-some (Some x) other is = refl
+
+is_none-from : {X : Type 0} (found : Option X) → is_some found ≡ false → found ≡ None
+is_none-from None is = refl
+is_none-from (Some x) is = absurd (false≢true (sym is))
+
+module _ (names : List (List ℕ)) (name : Bor (List ℕ)) (old : List (Bor (List ℕ) × ℕ)) (has : HasNumbers names old) where
+  same_name : (other : Bor (List ℕ)) → name_eq name other ≡ true → lookup (name_eq name) old ≡ number_of names other.now
+  same_name other same = lookup_congr name_eq alike old name other same ∙ has other
+
+  one_more : (other : Bor (List ℕ)) → number_of (names ++ name.now ∷ []) other.now
+      ≡ option_or (number_of names other.now) (cond (name_eq name other) (Some (length names)) None)
+  one_more other = position-snoc (bytes_eq other.now) names name.now
+      ∙ ap (λ (b : Bool). option_or (number_of names other.now) (cond b (Some (length names)) None)) (nat_list_eq_equiv.symm other.now name.now)
+
+  -- a name that stands before
+  pub numbers-kept : is_some (lookup (name_eq name) old) ≡ true → HasNumbers (names ++ name.now ∷ []) old
+  numbers-kept there other = has other ∙ sym (one_more other ∙ by_name (name_eq name other) refl)
+    where
+      by_name : (b : Bool) → name_eq name other ≡ b
+          → option_or (number_of names other.now) (cond b (Some (length names)) None) ≡ number_of names other.now
+      by_name true same = or-some (number_of names other.now) (Some (length names)) (ap is_some (sym (same_name other same)) ∙ there)
+      by_name false differs = or-none (number_of names other.now)
+
+  -- a new name
+  pub numbers-new : (new : List (Bor (List ℕ) × ℕ)) (number : ℕ) → is_some (lookup (name_eq name) old) ≡ false → length names ≡ number
+      → ((other : Bor (List ℕ)) → lookup (name_eq other) new ≡ cond (name_eq name other) (Some number) (lookup (name_eq other) old))
+      → HasNumbers (names ++ name.now ∷ []) new
+  numbers-new new number absent long updates other = updates other ∙ by_name (name_eq name other) refl ∙ sym (one_more other)
+    where
+      by_name : (b : Bool) → name_eq name other ≡ b → cond b (Some number) (lookup (name_eq other) old)
+          ≡ option_or (number_of names other.now) (cond b (Some (length names)) None)
+      by_name true same = ap (λ (n : ℕ). Some n) (sym long)
+          ∙ ap (λ (found : Option ℕ). option_or found (Some (length names))) (sym (is_none-from _ absent) ∙ same_name other same)
+      by_name false differs = has other ∙ sym (or-none (number_of names other.now))
+
+-- ---- one entry more
+
+pub texts-more : (xs : List (Bor (List ℕ))) (i : ℕ) (d : Bor (List ℕ)) → i < length xs → texts (take (i + 1) xs) ≡ texts (take i xs) ++ (get_or xs i d).now ∷ []
+texts-more xs i d within = ap texts (take_more xs i d within) ∙ map-append (λ text. text.now) (take i xs) (get_or xs i d ∷ [])
+
+or-false : (a b : Bool) → a ≡ false → b ≡ false → (a || (b || false)) ≡ false
+or-false true b first second = absurd (false≢true (sym first))
+or-false false true first second = absurd (false≢true (sym second))
+or-false false false first second = refl
+
+pub none-more : (p : List ℕ → Bool) (xs : List (Bor (List ℕ))) (i : ℕ) (d : Bor (List ℕ)) → i < length xs → list_any p (texts (take i xs)) ≡ false → p ((get_or xs i d).now) ≡ false
+    → list_any p (texts (take (i + 1) xs)) ≡ false
+none-more p xs i d within before is =
+    ap (list_any p) (texts-more xs i d within) ∙ list_any-append p (texts (take i xs)) ((get_or xs i d).now ∷ [])
+    ∙ or-false (list_any p (texts (take i xs))) (p ((get_or xs i d).now)) before is
+
+listed-one : (found : Option ℕ) → cons_option found [] ≡ option_to_list found
+listed-one None = refl
+listed-one (Some k) = refl
+
+pub nodes-more : (first : ℕ) (names : List (List ℕ)) (xs : List (Bor (List ℕ))) (i : ℕ) (d : Bor (List ℕ)) (old new : List ℕ) (found : Option ℕ) → i < length xs
+    → old ≡ map (λ number. first + number) (numbers_of names (texts (take i xs))) → found ≡ number_of names ((get_or xs i d).now)
+    → new ≡ old ++ map (λ number. first + number) (option_to_list found)
+    → new ≡ map (λ number. first + number) (numbers_of names (texts (take (i + 1) xs)))
+nodes-more first names xs i d old new found within before is more =
+    let all : numbers_of names (texts (take (i + 1) xs)) ≡ numbers_of names (texts (take i xs)) ++ option_to_list found =
+    ap (numbers_of names) (texts-more xs i d within) ∙ filter_map-append (number_of names) (texts (take i xs)) ((get_or xs i d).now ∷ [])
+    ∙ ap (λ one. numbers_of names (texts (take i xs)) ++ one) (listed-one (number_of names ((get_or xs i d).now)) ∙ ap option_to_list (sym is)) in
+    more ∙ ap (λ nodes. nodes ++ map (λ number. first + number) (option_to_list found)) before
+    ∙ sym (map-append (λ number. first + number) (numbers_of names (texts (take i xs))) (option_to_list found)) ∙ ap (map (λ number. first + number)) (sym all)
+
+-- ---- one number more
+
+range-more : (a n : ℕ) → range_with_len a (suc n) ≡ range_with_len a n ++ (a + n) ∷ []
+range-more a zero = ap (λ (k : ℕ). k ∷ []) (omega arith)
+range-more a (suc n) = ap (λ more. a ∷ more) (range-more (a + 1) n ∙ ap (λ (k : ℕ). range_with_len (a + 1) n ++ k ∷ []) (omega arith))
+
+pub range_more : (n : ℕ) → range_with_len 0 (n + 1) ≡ range_with_len 0 n ++ n ∷ []
+range_more n =
+    let next : n + 1 ≡ suc n = omega arith in
+    let none : 0 + n ≡ n = omega arith in
+    ap (λ (m : ℕ). range_with_len 0 m) next ∙ range-more 0 n ∙ ap (λ (k : ℕ). range_with_len 0 n ++ k ∷ []) none
+
+pub filter-range : (p : ℕ → Bool) (n : ℕ) (b : Bool) → p n ≡ b → filter p (range_with_len 0 (n + 1)) ≡ filter p (range_with_len 0 n) ++ cond b (n ∷ []) []
+filter-range p n b is = ap (filter p) (range_more n) ∙ filter-append p (range_with_len 0 n) (n ∷ []) ∙ ap (λ (c : Bool). filter p (range_with_len 0 n) ++ cond c (n ∷ []) []) is
+
+-- ---- the objects among the nodes
+
+Contains-filter : (p : ℕ → Bool) (xs : List ℕ) (k : ℕ) → Contains xs k → p k ≡ true → Contains (filter p xs) k
+Contains-filter p [] k at is = absurd (Contains-none k at)
+Contains-filter p (x ∷ xs) k at is = ⊎_elim
+    (λ (here : x ≡ k). kept (p x) refl here)
+    (λ (later : Contains xs k). more (p x) refl (Contains-filter p xs k later is))
+    (Contains-cases x k xs at)
+  where
+    kept : (b : Bool) → p x ≡ b → x ≡ k → Contains (filter p (x ∷ xs)) k
+    kept true passes here = rw passes (subst (λ y. Contains (x ∷ filter p xs) y) here (Contains-here x (filter p xs)))
+    kept false fails here = absurd (false≢true (sym fails ∙ ap p here ∙ is))
+
+    more : (b : Bool) → p x ≡ b → Contains (filter p xs) k → Contains (filter p (x ∷ xs)) k
+    more true passes rest = rw passes (Contains-later x k (filter p xs) rest)
+    more false fails rest = rw fails rest
+
+pub Contains-from_filter : (p : ℕ → Bool) (xs : List ℕ) (k : ℕ) → Contains (filter p xs) k → Contains xs k × (p k ≡ true)
+Contains-from_filter p [] k at = absurd (Contains-none k at)
+Contains-from_filter p (x ∷ xs) k at = by_test (p x) refl at (λ later. Contains-from_filter p xs k later)
+  where
+    by_test : (b : Bool) → p x ≡ b → Contains (cond b (x ∷ filter p xs) (filter p xs)) k → (Contains (filter p xs) k → Contains xs k × (p k ≡ true))
+        → Contains (x ∷ xs) k × (p k ≡ true)
+    by_test true passes on rest = ⊎_elim
+        (λ (here : x ≡ k). (subst (λ y. Contains (x ∷ xs) y) here (Contains-here x xs), ap p (sym here) ∙ passes))
+        (λ (later : Contains (filter p xs) k). (Contains-later x k xs (rest later).0, (rest later).1))
+        (Contains-cases x k (filter p xs) on)
+    by_test false fails on rest = (Contains-later x k xs (rest on).0, (rest on).1)
+
+pub below-from_sorted : (objects : ℕ) (nodes ys zs : List ℕ) → IsPermutation (filter (λ node. nat_lt node objects) nodes) ys → IsSorted nat_cmp ys → zs ≡ dedup eqb ys
+    → AreBelow objects nodes zs
+below-from_sorted objects nodes ys zs moved sorted is = record {
+  rising = subst IsStrictlyIncreasing (sym is) (IsStrictlyIncreasing-dedup ys sorted);
+  exactly = λ k. (
+    (λ here. let on = Contains-from_filter (λ node. nat_lt node objects) nodes k (Contains-permutation ys (filter (λ node. nat_lt node objects) nodes) k (IsPermutation-sym (filter (λ node. nat_lt node objects) nodes) ys moved)
+        (Contains-from_dedup eqb ys k (subst (λ set. Contains set k) is here))) in (on.0, ltb-true k objects on.1)),
+    (λ both. subst (λ set. Contains set k) (sym is) (Contains-dedup_nat ys k (Contains-permutation (filter (λ node. nat_lt node objects) nodes) ys k moved
+        (Contains-filter (λ node. nat_lt node objects) nodes k both.0 (lt-ltb k objects both.1))))),
+  );
+}

@@ -1,0 +1,84 @@
+-- What lists made of other lists contain, and names among names.
+use Rattle.std.proofs.Common.{◌≡◌, ℕ, zero, suc, ◌<◌, nat_lt, Bool, true, false, cond, List, [], ◌∷◌, length, map, Option, Some, None, refl, sym, subst, ◌⊎◌, inl, inr, ⊎_elim, arith}
+use Rattle.std.specs.Prelude.{All, Contains, filter_map}
+use Rattle.std.specs.List.{cons_option, flat_map, position, position_or_len, range_with_len}
+use Rattle.std.specs.Option.{IfSome}
+use Rattle.std.specs.Str.{bytes_eq}
+use Rattle.std.proofs.lemmas.Bool.{ltb-true}
+use Rattle.std.proofs.lemmas.List.Concat.{flat_map-cons}
+use Rattle.std.proofs.lemmas.List.Elements.{All-nil, All-cons, All-contains, Contains-append_left, Contains-append_right, Contains-append_cases}
+use Rattle.std.proofs.lemmas.List.FromFn.{get_or-range_with_len, length-range_with_len}
+use Rattle.object_groups.specs.Names.{number_of, numbers_of}
+
+pub Contains-here : {X : Type 0} (x : X) (xs : List X) → Contains (x ∷ xs) x
+Contains-here x xs = (0, omega arith, refl)
+
+pub Contains-later : {X : Type 0} (x y : X) (xs : List X) → Contains xs y → Contains (x ∷ xs) y
+Contains-later x y xs at = (suc at.0, omega (arith, at.1), at.2)
+
+pub Contains-cases : {X : Type 0} (x y : X) (xs : List X) → Contains (x ∷ xs) y → (x ≡ y) ⊎ Contains xs y
+Contains-cases x y xs (zero, within, at) = inl at
+Contains-cases x y xs (suc k, within, at) = inr (k, omega arith, at)
+
+pub Contains-none : {X : Type 0} (x : X) → Contains [] x → ⊥
+Contains-none x at = omega (arith, at.1)
+
+pub Contains-map : {X Y : Type 0} (f : X → Y) (xs : List X) (x : X) → Contains xs x → Contains (map f xs) (f x)
+Contains-map f [] x at = absurd (Contains-none x at)
+Contains-map f (y ∷ ys) x at = ⊎_elim
+    (λ (here : y ≡ x). subst (λ z. Contains (map f (y ∷ ys)) (f z)) here (Contains-here (f y) (map f ys)))
+    (λ (later : Contains ys x). Contains-later (f y) (f x) (map f ys) (Contains-map f ys x later))
+    (Contains-cases y x ys at)
+
+pub Contains-from_map : {X Y : Type 0} (f : X → Y) (xs : List X) (y : Y) → Contains (map f xs) y → (x : X) × Contains xs x × (f x ≡ y)
+Contains-from_map f [] y at = absurd (Contains-none y at)
+Contains-from_map f (x ∷ xs) y at = ⊎_elim
+    (λ (here : f x ≡ y). (x, Contains-here x xs, here))
+    (λ (later : Contains (map f xs) y). let more = Contains-from_map f xs y later in (more.0, Contains-later x more.0 xs more.1, more.2))
+    (Contains-cases (f x) y (map f xs) at)
+
+pub Contains-flat_map : {X Y : Type 0} (f : X → List Y) (xs : List X) (x : X) (y : Y) → Contains xs x → Contains (f x) y → Contains (flat_map f xs) y
+Contains-flat_map f [] x y at on = absurd (Contains-none x at)
+Contains-flat_map f (z ∷ zs) x y at on = rw (flat_map-cons f z zs) (⊎_elim
+    (λ (here : z ≡ x). Contains-append_left (f z) (flat_map f zs) y (subst (λ w. Contains (f w) y) (sym here) on))
+    (λ (later : Contains zs x). Contains-append_right (f z) (flat_map f zs) y (Contains-flat_map f zs x y later on))
+    (Contains-cases z x zs at))
+
+pub Contains-from_flat_map : {X Y : Type 0} (f : X → List Y) (xs : List X) (y : Y) → Contains (flat_map f xs) y → (x : X) × Contains xs x × Contains (f x) y
+Contains-from_flat_map f [] y at = absurd (Contains-none y at)
+Contains-from_flat_map f (x ∷ xs) y at = ⊎_elim
+    (λ (here : Contains (f x) y). (x, Contains-here x xs, here))
+    (λ (later : Contains (flat_map f xs) y). let more = Contains-from_flat_map f xs y later in (more.0, Contains-later x more.0 xs more.1, more.2))
+    (Contains-append_cases (f x) (flat_map f xs) y (subst (λ ys. Contains ys y) (flat_map-cons f x xs) at))
+
+pub Contains-range : (n k : ℕ) → k < n → Contains (range_with_len 0 n) k
+Contains-range n k low = (k, (let long = length-range_with_len 0 n in omega (arith, long, low)), (let at = get_or-range_with_len 0 n k k low in omega (arith, at)))
+
+pub Contains-from_range : (n k : ℕ) → Contains (range_with_len 0 n) k → k < n
+Contains-from_range n k at =
+    let long = length-range_with_len 0 n in
+    let low : at.0 < n = omega (arith, long, at.1) in
+    let is = get_or-range_with_len 0 n at.0 k low in
+    omega (arith, is, at.2, low)
+
+-- ---- where a search ends
+
+found-within : (b : Bool) (a n : ℕ) → nat_lt a n ≡ b → IfSome (cond b (Some a) None) (λ k. k < n)
+found-within true a n is = ltb-true a n is
+found-within false a n is = tt
+
+pub position-within : {X : Type 0} (p : X → Bool) (xs : List X) → IfSome (position p xs) (λ k. k < length xs)
+position-within p xs = found-within _ (position_or_len p xs) (length xs) refl
+
+All-one : (P : ℕ → Type 0) (found : Option ℕ) (others : List ℕ) → IfSome found P → All P others → All P (cons_option found others)
+All-one P None others here rest = rest
+All-one P (Some k) others here rest = All-cons P k others here rest
+
+All-found : (f : List ℕ → Option ℕ) (P : ℕ → Type 0) → ((name : List ℕ) → IfSome (f name) P) → (names : List (List ℕ)) → All P (filter_map f names)
+All-found f P each [] = All-nil P
+All-found f P each (name ∷ names) = All-one P (f name) (filter_map f names) (each name) (All-found f P each names)
+
+pub numbers-within : (names entries : List (List ℕ)) (k : ℕ) → Contains (numbers_of names entries) k → k < length names
+numbers-within names entries k at =
+    All-contains (λ number. number < length names) (numbers_of names entries) k
+    (All-found (number_of names) (λ number. number < length names) (λ name. position-within (bytes_eq name) names) entries) at

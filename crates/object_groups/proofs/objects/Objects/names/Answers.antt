@@ -1,0 +1,9 @@
+use Rattle.std.proofs.Common.{◌∙◌, List, ap, length, ℕ}
+use Rattle.object_groups.specs.Objects.{objects_in, ObjectsOf}
+use Rattle.object_groups.proofs.GroupLemmas.{names-long}
+use Rattle.object_groups.proofs.objects.Objects.names.Goals as goal
+
+pub returns-clause-long : goal.returns-clause-long
+returns-clause-long c =
+    ap (λ (names : List (List ℕ)). length names) c.self.invariant.named ∙ names-long c.self.inside.blocks.now c.self.inside.kind
+    ∙ ap (λ (o : ObjectsOf). length (objects_in o.blocks o.kind)) c.self.view_is

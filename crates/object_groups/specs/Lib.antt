@@ -1,0 +1,6 @@
+pub mod Names
+pub mod Members
+pub mod Objects
+pub mod Groups
+pub mod Nodes
+pub mod Laws

@@ -1,0 +1,53 @@
+-- Names by their numbers, and lists of names (chapter "Object Definitions").
+use Rattle.std.specs.Prelude.{◌≡◌, ℕ, ◌<◌, ◌==◌, Bool, true, false, not, ◌&&◌, nat_lt, List, [], ◌∷◌, filter_map, codes, is_none, position, Option, Contains, slice_index_or, ◌⊎◌, length}
+use Rattle.std.proofs.Common.{Bor}
+use Rattle.std.specs.List.{list_any}
+use Rattle.std.specs.Map.{lookup}
+use Rattle.std.specs.Option.{option_map_or}
+use Rattle.std.specs.Str.{bytes_eq}
+
+-- the number of a name: the place of the first that is the same
+abbrev pub number_of : List (List ℕ) → List ℕ → Option ℕ
+number_of names name = position (bytes_eq name) names
+
+-- whether the name of that number stands before it too
+abbrev pub is_doubled : List (List ℕ) → ℕ → Bool
+is_doubled names number = option_map_or (λ first. nat_lt first number)
+    (number_of names (slice_index_or names number [])) false
+
+-- ---- lists of names
+
+-- whether a list names all: it is `*` alone
+abbrev pub is_all : List (List ℕ) → Bool
+is_all (entry ∷ []) = bytes_eq entry (codes "*")
+is_all entries = false
+
+-- whether an entry leaves something out: it begins with !
+abbrev pub is_exclusion : List ℕ → Bool
+is_exclusion [] = false
+is_exclusion (b ∷ bs) = b == 33
+
+-- whether a list has an entry that none of the names is
+abbrev pub has_unknown : (names entries : List (List ℕ)) → Bool
+has_unknown names entries =
+    not (is_all entries) && list_any (λ entry. is_none (number_of names entry)) entries
+
+-- the numbers of the names that a list has
+abbrev pub numbers_of : (names entries : List (List ℕ)) → List ℕ
+numbers_of names entries = filter_map (number_of names) entries
+
+-- A list names what has one of its names; and all that there are, where it is * alone.
+abbrev pub Lists : (names entries : List (List ℕ)) → ℕ → Type 0
+Lists names entries number =
+    ((is_all entries ≡ true) × (number < length names)) ⊎ Contains (numbers_of names entries) number
+
+-- ---- how names are kept
+
+-- whether two borrowed names are the same
+abbrev pub name_eq : Bor (List ℕ) → Bor (List ℕ) → Bool
+name_eq a b = bytes_eq a.now b.now
+
+-- the entries say which number each name has
+abbrev pub HasNumbers : List (List ℕ) → List (Bor (List ℕ) × ℕ) → Type 0
+HasNumbers names entries =
+    (name : Bor (List ℕ)) → lookup (name_eq name) entries ≡ number_of names name.now

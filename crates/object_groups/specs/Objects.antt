@@ -1,0 +1,68 @@
+-- The objects of one type among blocks: what is registered, its name and its lists (chapters
+-- "Object Definitions" and "Object Inheritance").
+use Rattle.std.specs.Prelude.{◌≡◌, ℕ, Bool, false, not, ◌&&◌, ◌==◌, List, [], length, map, filter, codes, unwrap_or, Option, slice_get}
+use Rattle.std.specs.List.{range_with_len}
+use Rattle.std.specs.Option.{option_and_then, option_map_or}
+use Rattle.object_reader.specs.declared.block.Block.{Block}
+use Rattle.object_reader.specs.declared.block.BlockKind.{BlockKind}
+use Rattle.object_reader.specs.declared.block.BlockKind.TheVariants.{Host, HostGroup, ServiceGroup, Contact, ContactGroup, TimePeriod, Command}
+use Rattle.object_inheritance.specs.Inherited.{list, value}
+use Rattle.object_inheritance.specs.Templates.{kind_number}
+use Rattle.object_values.specs.Values.{number_in, value_in}
+
+-- whether the value of a block's own `register` makes it an object: none does, and any but 0
+abbrev pub registers : Option (List ℕ) → Bool
+registers text = not (option_map_or (λ number. number == 0) (option_and_then number_in text) false)
+
+-- whether a block is an object of the type
+abbrev pub is_object : BlockKind → Block → Bool
+is_object kind block = kind_number block.kind == kind_number kind
+    && registers (value_in block.directives (codes "register"))
+
+-- the same of the block at a place
+abbrev pub is_object_at : List Block → BlockKind → ℕ → Bool
+is_object_at blocks kind place = option_map_or (is_object kind) (slice_get blocks place) false
+
+-- The places of the objects of the type. An object's number is its place in this list.
+unfoldable pub objects_in : List Block → BlockKind → List ℕ
+objects_in blocks kind = filter (is_object_at blocks kind) (range_with_len 0 (length blocks))
+
+-- the directive that names an object; none for types whose objects have no name of their own
+abbrev pub name_directive : BlockKind → List ℕ
+name_directive Host = codes "host_name"
+name_directive HostGroup = codes "hostgroup_name"
+name_directive ServiceGroup = codes "servicegroup_name"
+name_directive Contact = codes "contact_name"
+name_directive ContactGroup = codes "contactgroup_name"
+name_directive TimePeriod = codes "timeperiod_name"
+name_directive Command = codes "command_name"
+name_directive _ = []
+
+-- the name of the object at a place, empty where it has none
+abbrev pub name_at : List Block → BlockKind → ℕ → List ℕ
+name_at blocks kind place = unwrap_or (value blocks (name_directive kind) place) []
+
+-- the names of the objects of the type, by their numbers
+unfoldable pub names_in : List Block → BlockKind → List (List ℕ)
+names_in blocks kind = map (name_at blocks kind) (objects_in blocks kind)
+
+-- the entries that the object at a place has for a directive
+abbrev pub list_at : List Block → List ℕ → ℕ → List (List ℕ)
+list_at blocks directive place = unwrap_or (list blocks directive place) []
+
+-- the same of each object of the type, by their numbers
+unfoldable pub lists_in : List Block → BlockKind → List ℕ → List (List (List ℕ))
+lists_in blocks kind directive = map (list_at blocks directive) (objects_in blocks kind)
+
+-- ---- how they are kept
+
+-- blocks, and a type of their objects
+pub record ObjectsOf : Type 0 where
+  pub blocks : List Block
+  pub kind : BlockKind
+
+-- the places and the names are those of the objects
+pub record AreObjects (blocks : List Block) (kind : BlockKind) (places : List ℕ)
+    (names : List (List ℕ)) : Type 0 where
+  pub listed : places ≡ objects_in blocks kind
+  pub named : names ≡ names_in blocks kind

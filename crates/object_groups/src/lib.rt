@@ -1,0 +1,9 @@
+//! The groups of object text and their members (chapter "Object Definitions"): the objects of each type by
+//! their numbers and names, lists of names, and which objects are members of each group of hosts or contacts.
+#![tactic(auto)]
+
+pub mod groups;
+pub mod laws;
+pub mod names;
+mod nodes;
+pub mod objects;
