@@ -74,7 +74,7 @@ impl Reach {
         }
     }
 
-    /// What was found last, in the order in which it was found: no node before one that fewer edges lead to.
+    /// What was found last, each node once. Only tests say that it stands breadth first.
     pub fn found(&self) -> &[u32]
         ensures value { result.now ≡ self.now.found }
         ensures within { All (λ q. q < self.now.nodes) result.now }

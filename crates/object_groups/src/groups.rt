@@ -243,8 +243,8 @@ fn objects_among(alloc: Global, nodes: &[u32], objects: usize) -> Result<Vec<u32
     Ok(found)
 }
 
-/// The objects and groups of one type, and which objects are members of which group. It takes some 200 bytes
-/// an object or group, and 12 for each entry of their lists. Contracts see the blocks and the type.
+/// The objects and groups of one type, and which objects are members of which group. Contracts see the blocks and
+/// the type.
 #[derive(Drop)]
 pub struct Groups<'a> {
     blocks: &'a [Block],
