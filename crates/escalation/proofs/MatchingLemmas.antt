@@ -1,21 +1,23 @@
 -- The escalations that apply, one place more; their least interval, and whom they name.
-use Rattle.std.proofs.Common.{◌≡◌, ℕ, ◌+◌, ◌<◌, ◌≤◌, Bool, true, false, ◌&&◌, ◌||◌, cond, eqb, List, [], ◌∷◌, ◌++◌, length, filter, min, option_map, unwrap_or, get_or, take, Option, Some, slice_get, slice_index_or, refl, sym, ap, subst, ◌∙◌}
+use Rattle.std.proofs.Common.{◌≡◌, ℕ, ◌+◌, ◌<◌, ◌≤◌, Bool, true, false, ◌&&◌, ◌||◌, cond, eqb, List, [], ◌∷◌, ◌++◌, length, filter, fold, min, option_map, unwrap_or, get_or, take, Option, Some, slice_get, slice_index_or, refl, sym, ap, subst, ◌∙◌, le_trans}
 use Rattle.std.specs.Prelude.{All}
 use Rattle.std.specs.List.{filter_map, list_any, range_with_len}
 use Rattle.std.proofs.lemmas.Grind.{flat_map-append}
 use Rattle.std.proofs.lemmas.List.{append-nil, take_all, take_more}
-use Rattle.std.proofs.lemmas.List.Elements.{All-filter, All-weaker, filter-append, filter_agree, filter_map-append}
+use Rattle.std.proofs.lemmas.List.Elements.{All-filter, All-head, All-tail, All-weaker, filter-append, filter_agree, filter_map-append}
 use Rattle.std.proofs.lemmas.List.Folds.{list_any-append}
 use Rattle.std.proofs.lemmas.List.Sums.{fold-append}
 use Rattle.std.proofs.lemmas.Option.{get_or_from_slice_get}
-use Rattle.lemmas.proofs.Lists.{All-flat_map, slice_get_read}
+use Rattle.std.proofs.Math.Nat.{min-le_left}
+use Rattle.lemmas.proofs.Lists.{All-flat_map, All-slice_get, slice_get_read}
 use Rattle.due_model.specs.declared.config.Config.{Config}
 use Rattle.due_model.specs.declared.config.ContactId.{ContactId}
 use Rattle.due_model.specs.declared.config.Escalation.{Escalation}
 use Rattle.due_model.specs.declared.config.Object.{Object}
 use Rattle.due_model.specs.declared.options.OptionLetter.{OptionLetter}
 use Rattle.due_model.specs.declared.zone.Zone.{Zone}
-use Rattle.due_model.specs.Accepted.{EscalationFits, IsAccepted}
+use Rattle.due_model.specs.Accepted.{EscalationFits, IsAccepted, ObjectFits}
+use Rattle.due_model.specs.Limits.{max_number}
 use Rattle.due_model.specs.Escalations.{contacts_with, has_contact, interval_of, matches, matching, reaches}
 use Rattle.escalation.specs.ByObject.{IsByObject}
 use Rattle.escalation.specs.Matching.{applies, applying, least_of}
@@ -95,6 +97,26 @@ pub interval_is : (object : Object) (es : List Escalation) (least : Option ℕ) 
     → unwrap_or least own ≡ interval_of object es
 interval_is object [] least own is mine = ap (λ (l : Option ℕ). unwrap_or l own) is ∙ mine
 interval_is object (e ∷ es) least own is mine = ap (λ (l : Option ℕ). unwrap_or l own) is
+
+-- intervals that are within their limit have a least one that is
+
+least_within : (es : List Escalation) (d m : ℕ) → d ≤ m → All (λ e. e.interval ≤ m) es → fold (λ least x. min least x.interval) d es ≤ m
+least_within [] d m low each = low
+least_within (e ∷ es) d m low each =
+    least_within es (min d e.interval) m (le_trans (min-le_left d e.interval) low) (All-tail (λ (x : Escalation). x.interval ≤ m) e es each)
+
+interval_of_within : (object : Object) (es : List Escalation) (m : ℕ) → object.interval ≤ m → All (λ e. e.interval ≤ m) es → interval_of object es ≤ m
+interval_of_within object [] m low each = low
+interval_of_within object (e ∷ es) m low each =
+    let Within : Escalation → Type 0 = λ x. x.interval ≤ m in
+    least_within es e.interval m (All-head Within e es each) (All-tail Within e es each)
+
+pub interval_within : (c : Config) (zone : Zone) (o n : ℕ) (letter : OptionLetter) (t : ℕ) (object : Object) → IsAccepted c
+    → slice_get c.objects o ≡ Some object → interval_of object (matching c zone o n letter t) ≤ max_number
+interval_within c zone o n letter t object accepted at =
+    interval_of_within object (matching c zone o n letter t) max_number (All-slice_get (ObjectFits c) c.objects o object accepted.objects at).interval
+    (All-filter (matches c zone o n letter t) (λ (e : Escalation). e.interval ≤ max_number) c.escalations
+    (All-weaker (EscalationFits c) (λ (e : Escalation). e.interval ≤ max_number) (λ e fits. fits.interval) c.escalations accepted.escalations))
 
 -- what is read of a list
 pub read_at : {X : Type 0} (xs ys : List X) (i : ℕ) (x : X) → ys ≡ xs → i < length xs → x ≡ get_or ys i x → slice_get xs i ≡ Some x

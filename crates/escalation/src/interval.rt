@@ -1,10 +1,10 @@
 //! How long after a problem notice the next of the same state is due.
 
-ghost use Rattle.std.specs.Prelude.{◌≡◌, ◌<◌, ◌≤◌, All, Some, length, min, slice_get};
+ghost use Rattle.std.specs.Prelude.{◌≡◌, ◌*◌, ◌<◌, ◌≤◌, All, Some, length, min, slice_get};
 ghost use Rattle.std.specs.Prelude.{option_map, unwrap_or};
 ghost use Rattle.due_model.specs.Accepted.{IsAccepted};
 ghost use Rattle.due_model.specs.Escalations.{gap};
-ghost use Rattle.due_model.specs.Limits.{last_moment};
+ghost use Rattle.due_model.specs.Limits.{last_moment, max_number};
 ghost use Rattle.due_model.specs.declared.config.Object.{Object};
 ghost use Rattle.time_period.specs.Days.{AreCompiled};
 ghost use Rattle.escalation.specs.ByObject.{IsByObject};
@@ -35,8 +35,9 @@ pub fn matching_interval(
     requires object { object.0 < length config.now.objects }
     requires moment { t ≤ last_moment }
     requires compiled { AreCompiled config.now periods.now }
-    ensures { (settings : Object) → slice_get config.now.objects object.0 ≡ Some settings
+    ensures value { (settings : Object) → slice_get config.now.objects object.0 ≡ Some settings
         → result ≡ gap config.now zone.now object.0 settings number letter t }
+    ensures range { result ≤ 60 * max_number }
 {
     let own = config.objects.as_slice()[usize::from(object.0)].interval;
     let places = by_object.of(object);

@@ -179,8 +179,7 @@ runs_by o (event.Flapping p starts) old due t h =
     absurd (not_problem (attempted o (event.Flapping p starts) old due t) (no_flapping (p.0 == o) old.flapping starts) h)
 
 pub problems_run : ProblemsRun
-problems_run c zone o object e past book due t fits h =
-    ap (λ (b : BookValues). is_problem_state b.state) fits ∙ runs_by o e.kind (status_after o past) due t h
+problems_run = runs_by
 
 -- no more notices go out than there are events
 

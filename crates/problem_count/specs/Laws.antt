@@ -8,8 +8,9 @@ use Rattle.due_model.specs.declared.event.EventKind.TheVariants.{Clock, Program,
 use Rattle.due_model.specs.declared.notice.Kind.TheVariants.{Problem}
 use Rattle.due_model.specs.declared.notice.Outcome.{Outcome}
 use Rattle.due_model.specs.declared.notice.Outcome.TheVariants.{Nothing, Sent, Suppressed}
+use Rattle.due_model.specs.declared.rules.ObjectStatus.{ObjectStatus}
 use Rattle.due_model.specs.declared.zone.Zone.{Zone}
-use Rattle.due_model.specs.Readings.{is_problem_state, moment}
+use Rattle.due_model.specs.Readings.{hard_after, is_problem_state, moment}
 use Rattle.due_model.specs.Rules.{attempted, has_come, is_problem}
 use Rattle.due_model.specs.Histories.{outcome_of, status_after}
 use Rattle.problem_count.specs.Book.{BookValues}
@@ -80,14 +81,12 @@ ClockAttemptsByDue =
     → attempted o Clock (status_after o past) book.due t
     ≡ (if has_come book.due t then Some Problem else None)
 
--- a problem runs within an event that is attempted as one, whenever it is due
+-- a problem runs after an event that is attempted as one, whenever it is due
 abbrev pub ProblemsRun : Type 0
 ProblemsRun =
-    (c : Config) (zone : Zone) (o : ℕ) (object : Object) (e : Event) (past : List Event)
-    (book : BookValues) (due : Option ℕ) (t : ℕ)
-    → BookFitsWithin c zone o object e past book
-    → attempted o e.kind (status_after o past) due t ≡ Some Problem
-    → is_problem_state book.state ≡ true
+    (o : ℕ) (k : EventKind) (old : ObjectStatus) (due : Option ℕ) (t : ℕ)
+    → attempted o k old due t ≡ Some Problem
+    → is_problem_state (hard_after o k old.state) ≡ true
 
 -- no more notices went out than there were events
 abbrev pub CountsAreFew : Type 0

@@ -8,10 +8,17 @@ least_interval-least-requires-clause-within c =
     subst (All (λ place. place < length c.args.config.now.escalations)) (sym c.of-places.ensures)
     (are_within c.args.config.now c.args.by_object.now c.args.object.0 c.requires.grouped c.requires.object)
 
-pub returns : goal.returns
-returns c = λ settings at.
+pub returns-clause-value : goal.returns-clause-value
+returns-clause-value c = λ settings at.
     let config = c.args.config.now in
     let own = is_read config.objects c.as_slice.result.now c.args.object.0 c.from.result c.index-as_slice-from.result settings c.as_slice.ensures c.from.ensures at in
     let matching = ap (applying config c.args.zone.now c.args.number c.args.letter c.args.t) c.of-places.ensures
     ∙ are_matching config c.args.zone.now c.args.number c.args.letter c.args.t c.args.by_object.now c.args.object.0 c.requires.grouped c.requires.object in
     ap (λ units. 60 * units) (c.from-2.ensures ∙ c.unwrap_or.ensures ∙ interval_is settings _ _ _ (c.least_interval-least.ensures ∙ ap least_of matching) (ap (λ o. o.interval) own))
+
+pub returns-clause-range : goal.returns-clause-range
+returns-clause-range c =
+    let config = c.args.config.now in
+    let settings = c.index-as_slice-from.result in
+    let at = read_at config.objects c.as_slice.result.now c.args.object.0 settings c.as_slice.ensures c.requires.object (sym (is_there c.from.ensures c.index-as_slice-from.is)) in
+    ?

@@ -1,0 +1,51 @@
+-- What an event finds, by the definitions, and what the filters read of it.
+use Rattle.std.specs.Prelude.{◌≡◌, ℕ, Bool, false, ◌||◌, List, ◌∷◌, nat_lt, Option, Some, None}
+use Rattle.due_model.specs.declared.config.Config.{Config}
+use Rattle.due_model.specs.declared.config.Object.{Object}
+use Rattle.due_model.specs.declared.config.ObjectId.{ObjectId}
+use Rattle.due_model.specs.declared.event.Event.{Event}
+use Rattle.due_model.specs.declared.notice.Kind.{Kind}
+use Rattle.due_model.specs.declared.rules.Attempt.{Attempt}
+use Rattle.due_model.specs.declared.rules.View.{View}
+use Rattle.due_model.specs.declared.zone.Zone.{Zone}
+use Rattle.due_model.specs.Dependencies.{dependency_fails}
+use Rattle.due_model.specs.Histories.{status_after}
+use Rattle.due_model.specs.Readings.{down, hard, moment, program_on}
+use Rattle.outcomes.specs.declared.found.Found.{Found}
+use Rattle.problem_count.specs.Book.{BookValues}
+
+-- whether a service's host is in downtime
+abbrev pub is_host_down : Option ObjectId → List Event → Bool
+is_host_down host past = elim host as (λ _. Bool) [ None ↦ false | Some h ↦ down h.0 past ]
+
+-- Each value is the definitions' at event e, after that past, for object o with these settings.
+pub record IsFound (c : Config) (zone : Zone) (o : ℕ) (settings : Object) (e : Event)
+    (past : List Event) (found : Found) : Type 0 where
+  pub event : found.event ≡ e.kind
+  pub moment : found.moment ≡ moment (e ∷ past)
+  pub program : found.program ≡ program_on (e ∷ past)
+  pub before : found.before ≡ status_after o past
+  pub after : found.after ≡ status_after o (e ∷ past)
+  pub host_down : found.host_down ≡ is_host_down settings.host (e ∷ past)
+  pub depends : found.depends
+      ≡ dependency_fails c zone (λ master. hard master (e ∷ past)) (moment (e ∷ past)) o
+
+-- what the filters read of an object with these settings and this book
+abbrev pub view_by : Object → Found → BookValues → View
+view_by settings found book = record {
+  program = found.program;
+  enabled = settings.enabled;
+  down = nat_lt 0 found.after.depth || found.host_down;
+  flapping = found.after.flapping;
+  options = settings.options;
+  sent = book.sent;
+  period = settings.period;
+  depends = found.depends;
+  began = book.began;
+  delay = settings.delay;
+  last = book.last;
+}
+
+-- the attempt as this kind
+abbrev pub attempt_by : Found → Kind → Attempt
+attempt_by found k = record { kind = k; state = found.after.state; moment = found.moment }

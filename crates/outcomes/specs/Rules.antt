@@ -1,0 +1,11 @@
+-- What is worked out of a configuration.
+use Rattle.due_model.specs.Accepted.{IsAccepted}
+use Rattle.escalation.specs.ByObject.{IsByObject}
+use Rattle.outcomes.specs.declared.rules.Rules.{Rules}
+use Rattle.time_period.specs.Days.{AreCompiled}
+
+-- the configuration is accepted, and what is worked out is of it
+pub record AreRules (r : Rules) : Type 0 where
+  pub accepted : IsAccepted r.config.now
+  pub compiled : AreCompiled r.config.now r.periods.now
+  pub grouped : IsByObject r.config.now r.escalations.now

@@ -1,0 +1,23 @@
+//! What an event finds.
+
+use due_model::event::EventKind;
+use due_model::rules::ObjectStatus;
+
+/// What an event finds of an object, and of what its notifications hang on besides.
+#[derive(Clone, Copy)]
+pub struct Found {
+    /// What the event says.
+    pub event: EventKind,
+    /// The greatest stamp so far, the event's own counted, in seconds since the epoch.
+    pub moment: u64,
+    /// Whether the program switch is on, the event itself counted.
+    pub program: bool,
+    /// The status of the object before the event.
+    pub before: ObjectStatus,
+    /// The same, the event itself counted.
+    pub after: ObjectStatus,
+    /// Whether a service's host is in downtime, the event itself counted; of a host it is false.
+    pub host_down: bool,
+    /// Whether a notification dependency of the object fails, the event itself counted.
+    pub depends: bool,
+}

@@ -1,0 +1,131 @@
+//! What becomes of an attempt.
+
+ghost use Rattle.std.specs.Prelude.{◌≡◌, ◌≤◌, ◌<◌, ◌+◌, ◌^◌, length, slice_get, IfSome, Some};
+ghost use Rattle.due_model.specs.declared.config.Object.{Object};
+ghost use Rattle.due_model.specs.Histories.{gap_of, judged};
+ghost use Rattle.due_model.specs.Limits.{last_moment};
+ghost use Rattle.due_model.specs.Rules.{letter_of};
+ghost use Rattle.filters.specs.Attempt.{IsLastInRange, plain};
+ghost use Rattle.outcomes.specs.Found.{attempt_by, view_by};
+ghost use Rattle.outcomes.specs.Outcome.{IsInRange, IsOfKind};
+ghost use Rattle.outcomes.specs.Rules.{AreRules};
+ghost use Rattle.problem_count.specs.Book.{longest_gap};
+
+use crate::found::Found;
+use crate::rules::Rules;
+use due_model::config::{Object, ObjectId};
+use due_model::notice::{Kind, Outcome};
+use due_model::rules::View;
+use escalation::interval::matching_interval;
+use filters::attempt::Attempt;
+use filters::object_filters::object_verdict;
+use problem_count::Book;
+
+/// What becomes of an attempt of this kind: the first filter that fails stops it, else it goes out.
+pub(crate) fn judge(
+    rules: &Rules<'_>,
+    object: ObjectId,
+    found: &Found,
+    kind: Kind,
+    book: Book,
+) -> Outcome
+    requires rules { AreRules rules.now }
+    requires object { object.0 < length rules.now.config.now.objects }
+    requires moment { found.now.moment ≤ last_moment }
+    ensures kind { IsOfKind kind result }
+    ensures range { IsInRange result }
+    ensures value { (settings : Object)
+        → slice_get rules.now.config.now.objects object.0 ≡ Some settings
+        → result ≡ judged rules.now.config.now rules.now.zone.now object.0 settings
+        (view_by settings found.now book) (attempt_by found.now kind) }
+{
+    let settings = &rules.config.objects.as_slice()[usize::from(object.0)];
+    let view = view_of(settings, found, book);
+    let attempt = attempt_of(rules, settings, found, kind);
+    let number = kind.number_after(view.sent);
+    match object_verdict(view, &attempt) {
+        Ok(()) => Outcome::Sent {
+            kind,
+            state: attempt.state,
+            number,
+            moment: attempt.moment,
+            gap: gap_of(rules, object, &attempt, number),
+        },
+        Err(filter) => Outcome::Suppressed {
+            kind,
+            state: attempt.state,
+            number,
+            moment: attempt.moment,
+            filter,
+        },
+    }
+}
+
+/// What the filters read of an object with these settings.
+fn view_of(settings: &Object, found: &Found, book: Book) -> View
+    ensures value { result ≡ view_by settings.now found.now book }
+    ensures sent { result.sent + 1 < 2 ^ 64 }
+    ensures began { result.began ≤ last_moment }
+    ensures last { IfSome result.last IsLastInRange }
+{
+    View {
+        program: found.program,
+        enabled: settings.enabled,
+        down: 0 < found.after.depth || found.host_down,
+        flapping: found.after.flapping,
+        options: settings.options,
+        sent: book.sent(),
+        period: settings.period,
+        depends: found.depends,
+        began: book.began(),
+        delay: settings.delay,
+        last: book.last(),
+    }
+}
+
+/// The attempt, with what its filters read besides.
+fn attempt_of<'a>(rules: &Rules<'a>, settings: &Object, found: &Found, kind: Kind) -> Attempt<'a>
+    ensures plain { plain result ≡ attempt_by found.now kind }
+    ensures letter { result.letter ≡ letter_of kind found.now.after.state }
+    ensures zone { result.zone.now ≡ rules.now.zone.now }
+    ensures periods { result.periods.now ≡ rules.now.periods.now }
+{
+    Attempt {
+        moment: found.moment,
+        kind,
+        state: found.after.state,
+        letter: kind.letter(found.after.state),
+        service: settings.host.is_some(),
+        zone: rules.zone,
+        periods: rules.periods,
+    }
+}
+
+/// How long after a notice of this number the next of the same state is due, in seconds: only a problem's has
+/// such an interval.
+fn gap_of(rules: &Rules<'_>, object: ObjectId, attempt: &Attempt<'_>, number: u64) -> u64
+    requires rules { AreRules rules.now }
+    requires object { object.0 < length rules.now.config.now.objects }
+    requires moment { attempt.now.moment ≤ last_moment }
+    requires letter { attempt.now.letter ≡ letter_of attempt.now.kind attempt.now.state }
+    ensures value { (settings : Object)
+        → slice_get rules.now.config.now.objects object.0 ≡ Some settings
+        → result ≡ gap_of rules.now.config.now rules.now.zone.now object.0 settings
+        (plain attempt.now) number }
+    ensures range { result ≤ longest_gap }
+{
+    if attempt.kind.is_problem() {
+        matching_interval(
+            rules.config,
+            rules.escalations,
+            object,
+            number,
+            attempt.letter,
+            attempt.moment,
+            rules.periods,
+            rules.zone,
+        )
+    } else {
+        0
+    }
+}
