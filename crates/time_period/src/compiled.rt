@@ -3,7 +3,7 @@
 ghost use Rattle.std.specs.Prelude.{◌≡◌, ℕ, ◌<◌, ◌≤◌, ◌^◌, All, Some};
 ghost use Rattle.due_model.specs.declared.config.Config.{Config};
 ghost use Rattle.due_model.specs.declared.config.PeriodId.{PeriodId};
-ghost use Rattle.due_model.specs.Limits.{last_moment};
+ghost use Rattle.due_model.specs.Limits.{day, last_moment};
 ghost use Rattle.due_model.specs.Periods.{in_period, next_in};
 ghost use Rattle.time_period.specs.Days.{AreCompiled, IsCompiled, IsDay, holds_at, passes};
 ghost use Rattle.time_period.specs.Stretches.{IsStretch, Stays};
@@ -58,7 +58,7 @@ impl Compiled {
 
     /// Whether the period holds at a second of a weekday, and a second up to which that stays.
     pub(crate) fn stretch(&self, weekday: u8, second: u32) -> Stretch
-        requires { second < 86400 }
+        requires { second < day }
         ensures { IsStretch (holds_at self.now weekday) second result }
     {
         match self.days.as_slice().get(usize::from(weekday)) {
