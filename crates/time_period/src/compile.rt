@@ -14,7 +14,7 @@ use crate::stretch::{DAY, Stretch};
 use due_model::config::{Config, Period, PeriodId, Range};
 use due_model::sequence::Sequence;
 use graph::edges::{Edge, Graph};
-use graph::order::order;
+use graph_order::order::order;
 use std::alloc::{AllocError, Global};
 
 /// Works out one period of the configuration. Want of memory is the only error. Where more than one is wanted,
