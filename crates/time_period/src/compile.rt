@@ -16,7 +16,7 @@ use due_model::config::{Config, Period, PeriodId, Range};
 use due_model::limits::DAY;
 use due_model::sequence::Sequence;
 use graph::edges::{Edge, Graph};
-use graph::order::order;
+use graph_order::order::order;
 use std::alloc::{AllocError, Global};
 
 /// Works out one period of the configuration. Want of memory is the only error. Where more than one is wanted,
