@@ -45,8 +45,9 @@ is_open flags (Some period) = flag_at flags period.0
 abbrev pub state_of : List State → ℕ → State
 state_of states o = slice_index_or states o state.Pending
 
--- an entry fails, where the periods are open by these flags, and the objects that fail are those of these flags
-abbrev pub entry_flag : (periods : List Bool) → List State → (before : List Bool) → Dependency → Bool
+-- an entry fails, where these flags say which periods hold, and those which objects fail
+abbrev pub entry_flag : (periods : List Bool) → List State → (before : List Bool) → Dependency
+    → Bool
 entry_flag periods states before entry =
     is_open periods entry.period
     && (has_state entry.states (state_of states entry.master.0)

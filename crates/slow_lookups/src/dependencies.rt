@@ -2,6 +2,7 @@
 
 ghost use Rattle.std.specs.Prelude.{◌≡◌, ℕ, ◌<◌, ◌≤◌, All, IfOk, false, length};
 ghost use Rattle.due_model.specs.Accepted.{IsAccepted};
+ghost use Rattle.due_model.specs.declared.zone.Zone.{Zone};
 ghost use Rattle.due_model.specs.Dependencies.{dependency_fails};
 ghost use Rattle.due_model.specs.Limits.{last_moment};
 ghost use Rattle.slow_lookups.specs.Flags.{flag_at};
@@ -44,13 +45,15 @@ fn rounds(
     states: &[State],
 ) -> Result<Vec<bool>, AllocError>
     requires { IsAccepted config.now }
-    ensures { (zone : Zone) (t : ℕ) → ArePeriodsAt config.now zone t periods.now
-        → IfOk result (λ flags. AreObjectFlags (length config.now.dependencies) config.now zone
-        (state_of states.now) t flags.items) }
+    ensures { IfOk result (λ flags. (zone : Zone) (t : ℕ)
+        → ArePeriodsAt config.now zone t periods.now
+        → AreObjectFlags (length config.now.dependencies) config.now zone (state_of states.now) t
+        flags.items) }
 {
     let mut flags = Vec::new(alloc);
     for _round in 0..config.dependencies.len() {
-        flags = round(alloc, config, periods, states, flags.as_slice())?;
+        let next = round(alloc, config, periods, states, flags.as_slice())?;
+        flags = next;
     }
     Ok(flags)
 }

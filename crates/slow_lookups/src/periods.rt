@@ -5,7 +5,8 @@ ghost use Rattle.std.specs.List.{list_any};
 ghost use Rattle.due_model.specs.Limits.{last_moment};
 ghost use Rattle.due_model.specs.Periods.{in_period, in_range, next_in};
 ghost use Rattle.slow_lookups.specs.Flags.{flag_at};
-ghost use Rattle.slow_lookups.specs.Rounds.{ArePeriodFlags, ArePeriodsAt, is_open, own_ranges_hold, period_flag};
+ghost use Rattle.slow_lookups.specs.Rounds.{ArePeriodFlags, ArePeriodsAt, is_open};
+ghost use Rattle.slow_lookups.specs.Rounds.{own_ranges_hold, period_flag};
 
 use crate::flags::flag_at;
 use due_model::config::{Config, Period, PeriodId, Range};
@@ -46,10 +47,10 @@ pub fn next_in(
     requires { t ≤ last_moment }
     ensures { IfOk result (λ next. next ≡ next_in config.now zone.now period t) }
 {
-    for later in 0..MOMENTS {
-        let flags = flags_at(alloc, config, zone, t + later)?;
+    for at in t..t + MOMENTS {
+        let flags = flags_at(alloc, config, zone, at)?;
         if is_open(flags.as_slice(), period) {
-            return Ok(Some(t + later));
+            return Ok(Some(at));
         }
     }
     Ok(None)
@@ -86,6 +87,7 @@ pub(crate) fn is_open(flags: &[bool], period: Option<PeriodId>) -> bool
 
 /// A flag for each period: whether it holds at a second of a weekday. Each round lets chains of exclusions have one
 /// period more.
+#[tactic(auto, using(crate::proofs::RoundLemmas::periods_more))]
 fn rounds(
     alloc: Global,
     periods: &[Period],
@@ -97,7 +99,8 @@ fn rounds(
 {
     let mut flags = Vec::new(alloc);
     for _round in 0..periods.len() {
-        flags = round(alloc, periods, flags.as_slice(), weekday, second)?;
+        let next = round(alloc, periods, flags.as_slice(), weekday, second)?;
+        flags = next;
     }
     Ok(flags)
 }
@@ -111,7 +114,8 @@ fn round(
     second: u32,
 ) -> Result<Vec<bool>, AllocError>
     ensures { IfOk result (λ flags. flags.items
-        ≡ map (period_flag before.now (record { weekday = weekday; second = second })) periods.now) }
+        ≡ map (period_flag before.now (record { weekday = weekday; second = second }))
+        periods.now) }
 {
     let mut flags = Vec::new(alloc);
     for period in periods {
