@@ -1,8 +1,8 @@
 //! Whom the escalations of an object notify, and when again (chapter "Notification Escalations"): by a look at
 //! each escalation of the configuration.
 
-ghost use Rattle.std.specs.Prelude.{◌≡◌, ℕ, ◌≤◌, ◌&&◌, ◌||◌, ◌==◌, ◌++◌, nat_le, min};
-ghost use Rattle.std.specs.Prelude.{IfOk, OnOk};
+ghost use Rattle.std.specs.Prelude.{◌≡◌, ℕ, ◌≤◌, ◌&&◌, ◌||◌, ◌==◌, ◌++◌};
+ghost use Rattle.std.specs.Prelude.{nat_le, min, IfOk, OnOk};
 ghost use Rattle.std.specs.Prelude.{option_map, unwrap_or};
 ghost use Rattle.due_model.specs.Limits.{last_moment};
 ghost use Rattle.due_model.specs.Escalations.{gap, has_contact, matches, matching, reaches};

@@ -2,7 +2,8 @@
 
 ghost use Rattle.std.specs.Prelude.{◌≡◌, ◌≤◌, ◌<◌, ◌+◌, ◌^◌, ◌&&◌, ◌∷◌, not};
 ghost use Rattle.std.specs.Prelude.{length, reverse};
-ghost use Rattle.due_model.specs.Readings.{moment, program_on, hard, began, is_problem_of, is_problem_state};
+ghost use Rattle.due_model.specs.Readings.{moment, program_on, hard, began};
+ghost use Rattle.due_model.specs.Readings.{is_problem_of, is_problem_state};
 ghost use Rattle.due_model.specs.Readings.{depth, depth_after, down, flapping, flapping_after};
 
 use due_model::config::ObjectId;
