@@ -1,7 +1,7 @@
 //! What the events so far say, read by going over all of them.
 
-ghost use Rattle.std.specs.Prelude.{◌≡◌, ◌≤◌, ◌<◌, ◌+◌, ◌^◌, ◌&&◌, ◌∷◌, not};
-ghost use Rattle.std.specs.Prelude.{length, reverse};
+ghost use Rattle.std.specs.Prelude.{◌≡◌, ◌≤◌, ◌<◌, ◌+◌, ◌^◌, ◌&&◌, ◌∷◌};
+ghost use Rattle.std.specs.Prelude.{not, length, reverse};
 ghost use Rattle.due_model.specs.Readings.{moment, program_on, hard, began};
 ghost use Rattle.due_model.specs.Readings.{is_problem_of, is_problem_state};
 ghost use Rattle.due_model.specs.Readings.{depth, depth_after, down, flapping, flapping_after};
