@@ -6,6 +6,4 @@ mod comparison;
 #[cfg(test)]
 mod slow_program;
 #[cfg(test)]
-mod slow_rows;
-#[cfg(test)]
 mod worlds;
