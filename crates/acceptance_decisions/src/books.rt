@@ -1,4 +1,4 @@
-//! Books of one object through the worked examples.
+//! Books of one object through the worked examples, and through each filter.
 
 use due_model::limits::LAST_MOMENT;
 use due_model::notice::Filter;
@@ -78,6 +78,47 @@ const NEXT_PROBLEM: [Step; 10] = [
     (1120, Told::Hard(State::Down), 1, None),
 ];
 
+/// When a problem is attempted again after each filter; never, where its period never holds or an interval is 0.
+const EACH_FILTER: [Step; 12] = [
+    (1000, Told::Hard(State::Down), 1, None),
+    (1000, Told::Stopped(Filter::Program, Some(7)), 1, Some(1060)),
+    (1010, Told::Stopped(Filter::Disabled, None), 1, Some(1070)),
+    (
+        1020,
+        Told::Stopped(Filter::Downtime, Some(7)),
+        1,
+        Some(1080),
+    ),
+    (
+        1030,
+        Told::Stopped(Filter::Flapping, Some(7)),
+        1,
+        Some(1090),
+    ),
+    (1040, Told::Stopped(Filter::Options, None), 1, Some(1100)),
+    (
+        1050,
+        Told::Stopped(Filter::Dependency, Some(7)),
+        1,
+        Some(1110),
+    ),
+    (1060, Told::Stopped(Filter::Period, None), 1, None),
+    (
+        1070,
+        Told::Stopped(Filter::FirstDelay, Some(1120)),
+        1,
+        Some(1120),
+    ),
+    (1120, Told::Sent(0), 2, None),
+    (1130, Told::Stopped(Filter::Interval, Some(7)), 2, None),
+    (
+        1140,
+        Told::Stopped(Filter::Period, Some(9000)),
+        2,
+        Some(9000),
+    ),
+];
+
 /// The book after a step.
 fn after_step(rt: &impl Abort, book: Book, t: u64, what: Told) -> Book {
     let mut book = book;
@@ -112,6 +153,7 @@ fn worked_rows(rt: HostRuntime) -> Result<(), Fail> {
         RENOTIFY.as_slice(),
         FIRST_DELAY.as_slice(),
         WORK_HOURS.as_slice(),
+        EACH_FILTER.as_slice(),
     ] {
         let _book = goes(&rt, steps);
     }

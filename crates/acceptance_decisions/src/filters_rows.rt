@@ -97,8 +97,8 @@ struct Only {
     passed: &'static [Kind],
 }
 
-/// Views that one filter alone refuses.
-const ONLY: [Only; 11] = [
+/// Views that one filter alone refuses, or that it lets pass.
+const ONLY: [Only; 12] = [
     Only {
         view: View {
             program: false,
@@ -191,6 +191,12 @@ const ONLY: [Only; 11] = [
         filter: Filter::FirstDelay,
         stopped: &[Kind::Problem],
         passed: &OTHERS,
+    },
+    Only {
+        view: View { delay: 16, ..OPEN },
+        filter: Filter::FirstDelay,
+        stopped: &[],
+        passed: &ALL,
     },
     Only {
         view: View {
@@ -468,7 +474,7 @@ const FREE: Held = Held {
     other: None,
 };
 
-const HELD: [Held; 8] = [
+const HELD: [Held; 9] = [
     FREE,
     Held {
         period: THURSDAYS,
@@ -492,6 +498,16 @@ const HELD: [Held; 8] = [
             ..NO_LETTER
         },
         other: Some(Filter::ContactOptions),
+        ..FREE
+    },
+    Held {
+        options: OptionLetters {
+            recovery: true,
+            flapping: true,
+            downtime: true,
+            ..NO_LETTER
+        },
+        problem: Some(Filter::ContactOptions),
         ..FREE
     },
     Held {

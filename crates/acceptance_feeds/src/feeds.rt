@@ -14,14 +14,27 @@ use std::process::Abort;
 use std::test::Fail;
 use text_lines::{AnyReader, Input, LineReader, NextLine, Stop};
 
+/// What a line gives.
+type Given = Result<Event, FeedFault>;
+
+/// The number of a line, and what it gives.
+type Answer = (u64, Given);
+
+/// A line, and what it gives.
+type Row = (&'static str, Given);
+
 /// Host 0 is `web`, host 1 is `my host`.
+fn hosts(alloc: Global) -> Result<Objects, AllocError> {
+    let web = object(alloc, "web", None)?;
+    let other = object(alloc, "my host", None)?;
+    Objects::new(alloc, vec![in alloc; web, other]?)
+}
+
+/// The configuration of these hosts.
 fn config(alloc: Global) -> Result<Config, AllocError> {
-    let hosts = vec![in alloc;
-        object(alloc, "web", None)?,
-        object(alloc, "my host", None)?,
-    ]?;
+    let objects = hosts(alloc)?;
     Ok(Config {
-        objects: Objects::new(alloc, hosts)?,
+        objects,
         contacts: Sequence::new(Vec::new(alloc)),
         lanes: Sequence::new(Vec::new(alloc)),
         periods: Sequence::new(Vec::new(alloc)),
@@ -30,346 +43,464 @@ fn config(alloc: Global) -> Result<Config, AllocError> {
     })
 }
 
-fn clock(moment: u64) -> Result<Event, FeedFault> {
-    Ok(Event {
-        moment,
-        kind: EventKind::Clock,
-    })
+/// Compares what one line gives.
+fn line_gives(rt: &impl Abort, config: &Config, line: &[u8], given: Given) {
+    assert_eq!(rt; read_line(config, line), given, "{line:?}");
 }
 
-fn program(moment: u64, on: bool) -> Result<Event, FeedFault> {
-    Ok(Event {
-        moment,
-        kind: EventKind::Program(on),
-    })
-}
-
-fn hard(moment: u64, host: u16, state: State) -> Result<Event, FeedFault> {
-    Ok(Event {
-        moment,
-        kind: EventKind::Hard(ObjectId(host), state),
-    })
-}
-
-/// What a line answered.
-#[derive(Clone, Copy, Debug, PartialEq, Eq)]
-struct LineAnswer {
-    line: u64,
-    given: Result<Event, FeedFault>,
-}
-
-fn answer(line: u64, given: Result<Event, FeedFault>) -> LineAnswer {
-    LineAnswer { line, given }
-}
-
-/// All answers of a feed, and why it is over.
-fn answers<R: Read + Drop>(
-    alloc: Global,
-    config: &Config,
-    reader: R,
-) -> Result<(Vec<LineAnswer>, Option<Stop>), AllocError> {
-    let mut feeder = Feeder::new(LineReader::new(alloc, AnyReader::new(reader))?);
-    let mut all = Vec::new(alloc);
-    for _ in 0..1_000_000u64 {
-        match feeder.next(config) {
-            Ok(None) => break,
-            Ok(Some(event)) => all.push(answer(feeder.line(), Ok(event)))?,
-            Err(fault) => all.push(answer(fault.line, Err(fault.fault)))?,
-        }
+/// Compares what each line of a table gives.
+fn lines_give(rt: &impl Abort, config: &Config, rows: &[Row]) {
+    for row in rows {
+        let (line, given) = *row;
+        line_gives(rt, config, line.as_bytes(), given);
     }
-    Ok((all, feeder.stop()))
+}
+
+/// The next answer of a feed, if it isn't over.
+fn next_answer<R: Input + Drop>(config: &Config, feeder: &mut Feeder<R>) -> Option<Answer> {
+    match feeder.next(config) {
+        Ok(None) => None,
+        Ok(Some(event)) => Some((feeder.line(), Ok(event))),
+        Err(fault) => Some((fault.line, Err(fault.fault))),
+    }
+}
+
+/// Compares the next answers of a feed.
+fn answers_are<R: Input + Drop>(
+    rt: &impl Abort,
+    config: &Config,
+    feeder: &mut Feeder<R>,
+    answers: &[Answer],
+) {
+    for answer in answers {
+        assert_eq!(rt; next_answer(config, feeder), Some(*answer));
+    }
+}
+
+/// A feed has no further answer, and this is why.
+fn is_over<R: Input + Drop>(rt: &impl Abort, config: &Config, feeder: &mut Feeder<R>, why: Stop) {
+    assert_eq!(rt;
+        (next_answer(config, feeder), feeder.stop()),
+        (None, Some(why))
+    );
 }
 
 /// Compares the answers of a feed, and why it is over.
 fn gives<R: Read + Drop>(
     rt: &impl Abort,
     alloc: Global,
+    config: &Config,
     reader: R,
-    expected: &[LineAnswer],
-    over: Stop,
-    name: &str,
+    answers: &[Answer],
+    why: Stop,
 ) -> Result<(), Fail> {
-    let config = config(alloc)?;
-    let (all, stop) = answers(alloc, &config, reader)?;
-    assert_eq!(rt; all.as_slice(), expected, "{name}");
-    assert_eq!(rt; stop, Some(over), "{name}");
+    let mut feeder = Feeder::new(LineReader::new(alloc, AnyReader::new(reader))?);
+    answers_are(rt, config, &mut feeder, answers);
+    is_over(rt, config, &mut feeder, why);
     Ok(())
 }
+
+const LINES: [Row; 22] = [
+    (
+        "[0] CLOCK",
+        Ok(Event {
+            moment: 0,
+            kind: EventKind::Clock,
+        }),
+    ),
+    (
+        "[32503679999] CLOCK",
+        Ok(Event {
+            moment: 32_503_679_999,
+            kind: EventKind::Clock,
+        }),
+    ),
+    ("[32503680000] CLOCK", Err(FeedFault::BadStamp)),
+    (
+        "[0000000000000000000000000000000000000007] CLOCK",
+        Ok(Event {
+            moment: 7,
+            kind: EventKind::Clock,
+        }),
+    ),
+    (
+        "[9999999999999999999999999999999999999999] CLOCK",
+        Err(FeedFault::BadStamp),
+    ),
+    ("", Err(FeedFault::BadStamp)),
+    ("CLOCK", Err(FeedFault::BadStamp)),
+    ("[] CLOCK", Err(FeedFault::BadStamp)),
+    ("[1", Err(FeedFault::BadStamp)),
+    ("[1]CLOCK", Err(FeedFault::BadStamp)),
+    ("[ 1] CLOCK", Err(FeedFault::BadStamp)),
+    ("[-1] CLOCK", Err(FeedFault::BadStamp)),
+    ("[1x] CLOCK", Err(FeedFault::BadStamp)),
+    ("[1] ", Err(FeedFault::UnknownKind)),
+    ("[1]  CLOCK", Err(FeedFault::UnknownKind)),
+    ("[1] clock", Err(FeedFault::UnknownKind)),
+    ("[1] CLOCK\r", Err(FeedFault::UnknownKind)),
+    ("[1] SERVICE_STATE;web;disk;OK", Err(FeedFault::UnknownKind)),
+    ("[1] CLOCK;", Err(FeedFault::BadState)),
+    ("[1] ENABLE_NOTIFICATIONS;1", Err(FeedFault::BadState)),
+    (
+        "[1] ENABLE_NOTIFICATIONS",
+        Ok(Event {
+            moment: 1,
+            kind: EventKind::Program(true),
+        }),
+    ),
+    (
+        "[1] DISABLE_NOTIFICATIONS",
+        Ok(Event {
+            moment: 1,
+            kind: EventKind::Program(false),
+        }),
+    ),
+];
 
 #[test]
 fn reads_lines(rt: HostRuntime) -> Result<(), Fail> {
-    let config = config(rt.alloc())?;
-    let rows = [
-        ("[0] CLOCK", clock(0)),
-        ("[32503679999] CLOCK", clock(32_503_679_999)),
-        ("[32503680000] CLOCK", Err(FeedFault::BadStamp)),
-        ("[0000000000000000000000000000000000000007] CLOCK", clock(7)),
-        (
-            "[9999999999999999999999999999999999999999] CLOCK",
-            Err(FeedFault::BadStamp),
-        ),
-        ("", Err(FeedFault::BadStamp)),
-        ("CLOCK", Err(FeedFault::BadStamp)),
-        ("[] CLOCK", Err(FeedFault::BadStamp)),
-        ("[1", Err(FeedFault::BadStamp)),
-        ("[1]CLOCK", Err(FeedFault::BadStamp)),
-        ("[ 1] CLOCK", Err(FeedFault::BadStamp)),
-        ("[-1] CLOCK", Err(FeedFault::BadStamp)),
-        ("[1x] CLOCK", Err(FeedFault::BadStamp)),
-        ("[1] ", Err(FeedFault::UnknownKind)),
-        ("[1]  CLOCK", Err(FeedFault::UnknownKind)),
-        ("[1] clock", Err(FeedFault::UnknownKind)),
-        ("[1] CLOCK\r", Err(FeedFault::UnknownKind)),
-        ("[1] SERVICE_STATE;web;disk;OK", Err(FeedFault::UnknownKind)),
-        ("[1] CLOCK;", Err(FeedFault::BadState)),
-        ("[1] ENABLE_NOTIFICATIONS;1", Err(FeedFault::BadState)),
-        ("[1] ENABLE_NOTIFICATIONS", program(1, true)),
-        ("[1] DISABLE_NOTIFICATIONS", program(1, false)),
-    ];
-    for (line, given) in rows {
-        assert_eq!(rt; read_line(&config, line.as_bytes()), given, "{line}");
-    }
-    Ok(())
+    try_case(&rt, rt.alloc(), Case::Lines(&LINES))
 }
+
+const HOST_STATES: [Row; 13] = [
+    (
+        "[1] HOST_STATE;web;UP",
+        Ok(Event {
+            moment: 1,
+            kind: EventKind::Hard(ObjectId(0), State::Up),
+        }),
+    ),
+    (
+        "[1] HOST_STATE;web;DOWN",
+        Ok(Event {
+            moment: 1,
+            kind: EventKind::Hard(ObjectId(0), State::Down),
+        }),
+    ),
+    (
+        "[1] HOST_STATE;my host;UNREACHABLE",
+        Ok(Event {
+            moment: 1,
+            kind: EventKind::Hard(ObjectId(1), State::Unreachable),
+        }),
+    ),
+    ("[1] HOST_STATE; web;UP", Err(FeedFault::UnknownObject)),
+    ("[1] HOST_STATE;;UP", Err(FeedFault::UnknownObject)),
+    ("[1] HOST_STATE;db;CRITICAL", Err(FeedFault::UnknownObject)),
+    ("[1] HOST_STATE;web;CRITICAL", Err(FeedFault::BadState)),
+    ("[1] HOST_STATE;web;PENDING", Err(FeedFault::BadState)),
+    ("[1] HOST_STATE;web;", Err(FeedFault::BadState)),
+    ("[1] HOST_STATE;web;UP\r", Err(FeedFault::BadState)),
+    ("[1] HOST_STATE;db", Err(FeedFault::BadState)),
+    ("[1] HOST_STATE", Err(FeedFault::BadState)),
+    ("[1] HOST_STATE;db;UP;", Err(FeedFault::BadState)),
+];
 
 #[test]
 fn reads_host_states(rt: HostRuntime) -> Result<(), Fail> {
-    let config = config(rt.alloc())?;
-    let rows = [
-        ("[1] HOST_STATE;web;UP", hard(1, 0, State::Up)),
-        ("[1] HOST_STATE;web;DOWN", hard(1, 0, State::Down)),
-        (
-            "[1] HOST_STATE;my host;UNREACHABLE",
-            hard(1, 1, State::Unreachable),
-        ),
-        ("[1] HOST_STATE; web;UP", Err(FeedFault::UnknownObject)),
-        ("[1] HOST_STATE;;UP", Err(FeedFault::UnknownObject)),
-        ("[1] HOST_STATE;db;CRITICAL", Err(FeedFault::UnknownObject)),
-        ("[1] HOST_STATE;web;CRITICAL", Err(FeedFault::BadState)),
-        ("[1] HOST_STATE;web;PENDING", Err(FeedFault::BadState)),
-        ("[1] HOST_STATE;web;", Err(FeedFault::BadState)),
-        ("[1] HOST_STATE;web;UP\r", Err(FeedFault::BadState)),
-        ("[1] HOST_STATE;db", Err(FeedFault::BadState)),
-        ("[1] HOST_STATE", Err(FeedFault::BadState)),
-        ("[1] HOST_STATE;db;UP;", Err(FeedFault::BadState)),
-    ];
-    for (line, given) in rows {
-        assert_eq!(rt; read_line(&config, line.as_bytes()), given, "{line}");
-    }
-    Ok(())
+    try_case(&rt, rt.alloc(), Case::Lines(&HOST_STATES))
 }
 
 /// The second is refused before its stamp is looked for.
+fn bytes_that_are_no_text(rt: &impl Abort, config: &Config) {
+    line_gives(rt, config, b"[1] \xff", Err(FeedFault::NotUtf8));
+    line_gives(rt, config, b"\xff", Err(FeedFault::NotUtf8));
+}
+
 #[test]
 fn refuses_bytes_that_are_no_text(rt: HostRuntime) -> Result<(), Fail> {
-    let config = config(rt.alloc())?;
-    for line in [b"[1] \xff".as_slice(), b"\xff".as_slice()] {
-        assert_eq!(rt; read_line(&config, line), Err(FeedFault::NotUtf8));
-    }
+    try_case(&rt, rt.alloc(), Case::NoText)
+}
+
+/// So many bytes that are no text give this fault.
+fn no_text_gives(
+    rt: &impl Abort,
+    alloc: Global,
+    config: &Config,
+    count: usize,
+    fault: FeedFault,
+) -> Result<(), Fail> {
+    let line = vec![in alloc; 0xff; count]?;
+    line_gives(rt, config, line.as_slice(), Err(fault));
     Ok(())
 }
 
 /// One byte over the limit is refused before the text is looked at.
+fn long_lines(rt: &impl Abort, alloc: Global, config: &Config) -> Result<(), Fail> {
+    no_text_gives(rt, alloc, config, 4096, FeedFault::NotUtf8)?;
+    no_text_gives(rt, alloc, config, 4097, FeedFault::LineTooLong)
+}
+
 #[test]
 fn reads_long_lines(rt: HostRuntime) -> Result<(), Fail> {
-    let config = config(rt.alloc())?;
-    let mut line = vec![in rt.alloc(); 0xff; 4096]?;
-    for fault in [FeedFault::NotUtf8, FeedFault::LineTooLong] {
-        assert_eq!(rt; read_line(&config, &line), Err(fault));
-        line.push(0xff)?;
-    }
-    Ok(())
+    try_case(&rt, rt.alloc(), Case::LongLines)
 }
+
+const REFUSED: &[u8] =
+    b"[x] CLOCK\n[1] NOPE\n[1] HOST_STATE;db;DOWN\n[1] HOST_STATE;web;CRITICAL\n[32503680000] CLOCK\n";
+
+const REFUSED_ANSWERS: [Answer; 5] = [
+    (1, Err(FeedFault::BadStamp)),
+    (2, Err(FeedFault::UnknownKind)),
+    (3, Err(FeedFault::UnknownObject)),
+    (4, Err(FeedFault::BadState)),
+    (5, Err(FeedFault::BadStamp)),
+];
 
 #[test]
 fn refuses_lines_by_number(rt: HostRuntime) -> Result<(), Fail> {
-    let feed =
-        b"[x] CLOCK\n[1] NOPE\n[1] HOST_STATE;db;DOWN\n[1] HOST_STATE;web;CRITICAL\n[32503680000] CLOCK\n";
-    let expected = [
-        answer(1, Err(FeedFault::BadStamp)),
-        answer(2, Err(FeedFault::UnknownKind)),
-        answer(3, Err(FeedFault::UnknownObject)),
-        answer(4, Err(FeedFault::BadState)),
-        answer(5, Err(FeedFault::BadStamp)),
-    ];
-    gives(
-        &rt,
-        rt.alloc(),
-        feed.as_slice(),
-        &expected,
-        Stop::InputEnded,
-        "refused lines",
-    )
+    let feed = Case::Feed(REFUSED, &REFUSED_ANSWERS, Stop::InputEnded);
+    try_case(&rt, rt.alloc(), feed)
 }
+
+const CUT: &[u8] = b"[1000] HOST_STATE;web;DOWN\n[990] HOST_STATE;web;UP\n[10";
+
+const CUT_ANSWERS: [Answer; 3] = [
+    (
+        1,
+        Ok(Event {
+            moment: 1000,
+            kind: EventKind::Hard(ObjectId(0), State::Down),
+        }),
+    ),
+    (
+        2,
+        Ok(Event {
+            moment: 1000,
+            kind: EventKind::Hard(ObjectId(0), State::Up),
+        }),
+    ),
+    (3, Err(FeedFault::Cut)),
+];
 
 #[test]
 fn raises_stamps_up_to_the_cut(rt: HostRuntime) -> Result<(), Fail> {
-    let feed = b"[1000] HOST_STATE;web;DOWN\n[990] HOST_STATE;web;UP\n[10";
-    let expected = [
-        answer(1, hard(1000, 0, State::Down)),
-        answer(2, hard(1000, 0, State::Up)),
-        answer(3, Err(FeedFault::Cut)),
-    ];
-    gives(
-        &rt,
-        rt.alloc(),
-        feed.as_slice(),
-        &expected,
-        Stop::CutLine,
-        "a cut line",
-    )
+    let feed = Case::Feed(CUT, &CUT_ANSWERS, Stop::CutLine);
+    try_case(&rt, rt.alloc(), feed)
 }
 
 /// Empty lines, a refused line after a great stamp, and lines of 4,096, 4,097 and 60,004 bytes.
 fn mixed_feed(alloc: Global) -> Result<Vec<u8>, AllocError> {
     let mut feed = b"\n\n[5] CLOCK\n[9] NOPE\n\n[4] DISABLE_NOTIFICATIONS\n[1] ".to_vec(alloc)?;
     for count in [4092usize, 4093, 60_000] {
-        for _ in 0..count {
-            feed.push(b'x')?;
-        }
+        let exes = feed.len().saturating_add(count);
+        feed.resize(exes, b'x')?;
         feed.extend_from_slice(b"\n[1] ")?;
     }
     feed.extend_from_slice(b"ENABLE_NOTIFICATIONS\n\n")?;
     Ok(feed)
 }
 
-#[test]
-fn reads_in_any_pieces(rt: HostRuntime) -> Result<(), Fail> {
-    let feed = mixed_feed(rt.alloc())?;
-    let expected = [
-        answer(3, clock(5)),
-        answer(4, Err(FeedFault::UnknownKind)),
-        answer(6, program(5, false)),
-        answer(7, Err(FeedFault::UnknownKind)),
-        answer(8, Err(FeedFault::LineTooLong)),
-        answer(9, Err(FeedFault::LineTooLong)),
-        answer(10, program(5, true)),
-    ];
+const MIXED_ANSWERS: [Answer; 7] = [
+    (
+        3,
+        Ok(Event {
+            moment: 5,
+            kind: EventKind::Clock,
+        }),
+    ),
+    (4, Err(FeedFault::UnknownKind)),
+    (
+        6,
+        Ok(Event {
+            moment: 5,
+            kind: EventKind::Program(false),
+        }),
+    ),
+    (7, Err(FeedFault::UnknownKind)),
+    (8, Err(FeedFault::LineTooLong)),
+    (9, Err(FeedFault::LineTooLong)),
+    (
+        10,
+        Ok(Event {
+            moment: 5,
+            kind: EventKind::Program(true),
+        }),
+    ),
+];
+
+/// The mixed feed in pieces of several sizes.
+fn pieces_give(rt: &impl Abort, alloc: Global, config: &Config, feed: &[u8]) -> Result<(), Fail> {
     for size in [1usize, 2, 3, 7, 4096, 100_000] {
-        let reader = in_pieces(&feed, size);
-        gives(
-            &rt,
-            rt.alloc(),
-            reader,
-            &expected,
-            Stop::InputEnded,
-            "pieces",
-        )?;
+        let reader = in_pieces(feed, size);
+        gives(rt, alloc, config, reader, &MIXED_ANSWERS, Stop::InputEnded)?;
     }
     Ok(())
+}
+
+/// The mixed feed in any pieces.
+fn mixed_gives(rt: &impl Abort, alloc: Global, config: &Config) -> Result<(), Fail> {
+    let feed = mixed_feed(alloc)?;
+    pieces_give(rt, alloc, config, feed.as_slice())
+}
+
+#[test]
+fn reads_in_any_pieces(rt: HostRuntime) -> Result<(), Fail> {
+    try_case(&rt, rt.alloc(), Case::Mixed)
 }
 
 const SHORT_FEED: &[u8] = b"[5] CLOCK\n\n[4] NOPE\n[3] CLOCK\n";
 
-/// What the short feed answers where only so many of its bytes come, and the end is this fault.
-fn short_answers(
-    alloc: Global,
-    count: usize,
-    fault: FeedFault,
-) -> Result<Vec<LineAnswer>, AllocError> {
-    let mut all = Vec::new(alloc);
-    if count >= 10 {
-        all.push(answer(1, clock(5)))?;
+/// What the lines of the short feed give, where all of it comes.
+const SHORT_ANSWERS: [Answer; 3] = [
+    (
+        1,
+        Ok(Event {
+            moment: 5,
+            kind: EventKind::Clock,
+        }),
+    ),
+    (3, Err(FeedFault::UnknownKind)),
+    (
+        4,
+        Ok(Event {
+            moment: 5,
+            kind: EventKind::Clock,
+        }),
+    ),
+];
+
+/// Of the short feed, where so many of its bytes come: how many answers whole lines give, and the number of the line
+/// that is then begun or comes next.
+fn short_places(count: usize) -> (usize, u64) {
+    match count {
+        0..10 => (0, 1),
+        10 => (1, 2),
+        11..20 => (1, 3),
+        20..30 => (2, 4),
+        _ => (3, 5),
     }
-    if count >= 20 {
-        all.push(answer(3, Err(FeedFault::UnknownKind)))?;
-    }
-    if count >= 30 {
-        all.push(answer(4, clock(5)))?;
-    }
-    let line = match count {
-        0..10 => 1,
-        10 => 2,
-        11..20 => 3,
-        20..30 => 4,
-        _ => 5,
-    };
-    let is_begun = !matches!(count, 0 | 10 | 11 | 20 | 30);
-    if fault == FeedFault::Read || is_begun {
-        all.push(answer(line, Err(fault)))?;
-    }
-    Ok(all)
 }
 
-/// The short feed ends after each number of bytes: after a whole line, or within one.
-#[test]
-fn ends_at_each_place(rt: HostRuntime) -> Result<(), Fail> {
+/// Whether so many bytes of the short feed end within a line.
+fn is_begun(count: usize) -> bool {
+    !matches!(count, 0 | 10 | 11 | 20 | 30)
+}
+
+/// Compares the answers of the short feed, where so many of its bytes come.
+fn short_answers_are<R: Input + Drop>(
+    rt: &impl Abort,
+    config: &Config,
+    feeder: &mut Feeder<R>,
+    count: usize,
+    last: Option<FeedFault>,
+) {
+    let (whole, line) = short_places(count);
+    let answers = &SHORT_ANSWERS[..whole.min(SHORT_ANSWERS.len())];
+    answers_are(rt, config, feeder, answers);
+    if let Some(fault) = last {
+        assert_eq!(rt; next_answer(config, feeder), Some((line, Err(fault))));
+    }
+}
+
+/// The same of a reader, with the fault that comes last, if one does, and why the feed is over.
+fn short_gives(
+    rt: &impl Abort,
+    alloc: Global,
+    config: &Config,
+    reader: Pieces<'_>,
+    count: usize,
+    last: Option<FeedFault>,
+    why: Stop,
+) -> Result<(), Fail> {
+    let mut feeder = Feeder::new(LineReader::new(alloc, AnyReader::new(reader))?);
+    short_answers_are(rt, config, &mut feeder, count, last);
+    is_over(rt, config, &mut feeder, why);
+    Ok(())
+}
+
+/// The short feed ends after so many bytes: after a whole line, or within one.
+fn ends_at(rt: &impl Abort, alloc: Global, config: &Config, count: usize) -> Result<(), Fail> {
+    let reader = in_pieces(&SHORT_FEED[..count.min(SHORT_FEED.len())], 1);
+    let (last, why) = if is_begun(count) {
+        (Some(FeedFault::Cut), Stop::CutLine)
+    } else {
+        (None, Stop::InputEnded)
+    };
+    short_gives(rt, alloc, config, reader, count, last, why)
+}
+
+/// The same after each number of bytes.
+fn ends_at_each(rt: &impl Abort, alloc: Global, config: &Config) -> Result<(), Fail> {
     for count in 0..31usize {
-        let reader = in_pieces(&SHORT_FEED[..count.min(SHORT_FEED.len())], 1);
-        let expected = short_answers(rt.alloc(), count, FeedFault::Cut)?;
-        let over = match count {
-            0 | 10 | 11 | 20 | 30 => Stop::InputEnded,
-            _ => Stop::CutLine,
-        };
-        gives(&rt, rt.alloc(), reader, &expected, over, "the end")?;
+        ends_at(rt, alloc, config, count)?;
     }
     Ok(())
 }
 
-/// The reader of the short feed fails after each number of bytes.
+#[test]
+fn ends_at_each_place(rt: HostRuntime) -> Result<(), Fail> {
+    try_case(&rt, rt.alloc(), Case::Ends)
+}
+
+/// The reader of the short feed fails after so many bytes.
+fn fails_at(rt: &impl Abort, alloc: Global, config: &Config, calls: usize) -> Result<(), Fail> {
+    let reader = Pieces {
+        bytes: SHORT_FEED,
+        size: 1,
+        calls,
+    };
+    let last = Some(FeedFault::Read);
+    short_gives(rt, alloc, config, reader, calls, last, Stop::ReaderFailed)
+}
+
+/// The same after each number of bytes.
+fn fails_at_each(rt: &impl Abort, alloc: Global, config: &Config) -> Result<(), Fail> {
+    for calls in 0..31usize {
+        fails_at(rt, alloc, config, calls)?;
+    }
+    Ok(())
+}
+
 #[test]
 fn fails_at_each_place(rt: HostRuntime) -> Result<(), Fail> {
-    for calls in 0..31usize {
-        let reader = Pieces {
-            bytes: SHORT_FEED,
-            size: 1,
-            calls,
-        };
-        let expected = short_answers(rt.alloc(), calls, FeedFault::Read)?;
-        gives(
-            &rt,
-            rt.alloc(),
-            reader,
-            &expected,
-            Stop::ReaderFailed,
-            "a fault",
-        )?;
+    try_case(&rt, rt.alloc(), Case::Fails)
+}
+
+/// So many bytes, what comes after them, how many come at a call; the fault, and why the feed is over.
+type Long = (usize, &'static [u8], usize, FeedFault, Stop);
+
+const LONG_LINES: [Long; 7] = [
+    (usize::MAX, b"\n", 1, FeedFault::Read, Stop::TooManyCalls),
+    (usize::MAX, b"\n", 4096, FeedFault::Read, Stop::TooManyBytes),
+    (
+        1_048_577,
+        b"\n",
+        100_000,
+        FeedFault::Read,
+        Stop::TooManyBytes,
+    ),
+    (
+        1_048_576,
+        b"\n",
+        100_000,
+        FeedFault::LineTooLong,
+        Stop::InputEnded,
+    ),
+    (4097, b"\n", 4096, FeedFault::LineTooLong, Stop::InputEnded),
+    (4096, b"\n", 4096, FeedFault::BadStamp, Stop::InputEnded),
+    (1_048_576, b"", 4096, FeedFault::Cut, Stop::CutLine),
+];
+
+/// Compares the answers of a long line.
+fn long_gives(rt: &impl Abort, alloc: Global, config: &Config, long: Long) -> Result<(), Fail> {
+    let (left, after, size, fault, why) = long;
+    let reader = Exes { left, after, size };
+    gives(rt, alloc, config, reader, &[(1, Err(fault))], why)
+}
+
+/// Compares the answers of each long line.
+fn each_long_gives(rt: &impl Abort, alloc: Global, config: &Config) -> Result<(), Fail> {
+    for long in &LONG_LINES {
+        long_gives(rt, alloc, config, *long)?;
     }
     Ok(())
 }
 
 #[test]
 fn stops_at_lines_without_end(rt: HostRuntime) -> Result<(), Fail> {
-    let newline = b"\n".as_slice();
-    let rows = [
-        (usize::MAX, newline, 1, FeedFault::Read, Stop::TooManyCalls),
-        (
-            usize::MAX,
-            newline,
-            4096,
-            FeedFault::Read,
-            Stop::TooManyBytes,
-        ),
-        (
-            1_048_577,
-            newline,
-            100_000,
-            FeedFault::Read,
-            Stop::TooManyBytes,
-        ),
-        (
-            1_048_576,
-            newline,
-            100_000,
-            FeedFault::LineTooLong,
-            Stop::InputEnded,
-        ),
-        (
-            4097,
-            newline,
-            4096,
-            FeedFault::LineTooLong,
-            Stop::InputEnded,
-        ),
-        (4096, newline, 4096, FeedFault::BadStamp, Stop::InputEnded),
-        (1_048_576, b"", 4096, FeedFault::Cut, Stop::CutLine),
-    ];
-    for (left, after, size, fault, over) in rows {
-        let reader = Exes { left, after, size };
-        let expected = [answer(1, Err(fault))];
-        gives(&rt, rt.alloc(), reader, &expected, over, "a long line")?;
-    }
-    Ok(())
+    try_case(&rt, rt.alloc(), Case::WithoutEnd)
 }
 
 /// Compares the line that a feeder read last, and whether one more is at hand.
@@ -380,41 +511,92 @@ fn is_at<R: Input + Drop>(rt: &impl Abort, feeder: &Feeder<R>, line: u64, text: 
     );
 }
 
-/// The lines after a feed have one line "post" and an empty one.
-fn goes_on<R: Input + Drop>(
-    rt: &impl Abort,
-    config: &Config,
-    lines: LineReader<R>,
-) -> Result<(), Fail> {
-    let mut lines = lines;
-    assert_eq!(rt; lines.next_line(), NextLine::Line);
+/// A feeder has no line at first; it gives an event and a fault, and the text of each.
+fn gives_texts<R: Input + Drop>(rt: &impl Abort, config: &Config, feeder: &mut Feeder<R>) {
+    assert!(rt; !feeder.has_line());
+    let clock = Event {
+        moment: 5,
+        kind: EventKind::Clock,
+    };
+    answers_are(rt, config, feeder, &[(2, Ok(clock))]);
+    is_at(rt, feeder, 2, b"[5] CLOCK", true);
+    assert!(rt; feeder.next(config).is_err());
+    is_at(rt, feeder, 4, b"%steps", true);
+}
+
+/// The line that was read is "post", and none is at hand behind it.
+fn is_at_post<R: Input + Drop>(rt: &impl Abort, lines: &LineReader<R>) {
     assert_eq!(rt;
         (lines.line(), lines.has_line()),
         (b"post".as_slice(), false)
     );
+}
+
+/// A feed has no event, and one line.
+fn is_one_empty_line<R: Input + Drop>(rt: &impl Abort, config: &Config, feeder: &mut Feeder<R>) {
+    is_over(rt, config, feeder, Stop::InputEnded);
+    assert_eq!(rt; feeder.line(), 1);
+}
+
+/// The lines after a feed have one line "post" and an empty one.
+fn goes_on<R: Input + Drop>(rt: &impl Abort, config: &Config, lines: LineReader<R>) {
+    let mut lines = lines;
+    assert_eq!(rt; lines.next_line(), NextLine::Line);
+    is_at_post(rt, &lines);
     let mut feeder = Feeder::new(lines);
-    assert_eq!(rt; feeder.next(config), Ok(None));
-    assert_eq!(rt; (feeder.line(), feeder.stop()), (1, Some(Stop::InputEnded)));
+    is_one_empty_line(rt, config, &mut feeder);
+}
+
+/// A feed with steps after it.
+const WITH_STEPS: &[u8] = b"\n[5] CLOCK\n\n%steps\npost\n\n";
+
+/// Compares each line and text of a feed, and the lines after it.
+fn gives_all_texts(rt: &impl Abort, alloc: Global, config: &Config) -> Result<(), Fail> {
+    let mut feeder = Feeder::new(LineReader::new(alloc, WITH_STEPS)?);
+    gives_texts(rt, config, &mut feeder);
+    goes_on(rt, config, feeder.into_lines());
     Ok(())
 }
 
 #[test]
 fn gives_each_line_and_text(rt: HostRuntime) -> Result<(), Fail> {
-    let config = config(rt.alloc())?;
-    let bytes = b"\n[5] CLOCK\n\n%steps\npost\n\n";
-    let mut feeder = Feeder::new(LineReader::new(rt.alloc(), bytes.as_slice())?);
-    assert!(rt; !feeder.has_line());
-    assert_eq!(rt;
-        feeder.next(&config),
-        Ok(Some(Event {
-            moment: 5,
-            kind: EventKind::Clock
-        }))
-    );
-    is_at(&rt, &feeder, 2, b"[5] CLOCK", true);
-    assert!(rt; feeder.next(&config).is_err());
-    is_at(&rt, &feeder, 4, b"%steps", true);
-    goes_on(&rt, &config, feeder.into_lines())
+    try_case(&rt, rt.alloc(), Case::Texts)
+}
+
+/// What a test tries of a configuration.
+#[derive(Clone, Copy)]
+enum Case {
+    Lines(&'static [Row]),
+    NoText,
+    LongLines,
+    Feed(&'static [u8], &'static [Answer], Stop),
+    Mixed,
+    Ends,
+    Fails,
+    WithoutEnd,
+    Texts,
+}
+
+/// Tries one case.
+fn try_in(rt: &impl Abort, alloc: Global, config: &Config, case: Case) -> Result<(), Fail> {
+    match case {
+        Case::Lines(rows) => lines_give(rt, config, rows),
+        Case::NoText => bytes_that_are_no_text(rt, config),
+        Case::LongLines => long_lines(rt, alloc, config)?,
+        Case::Feed(feed, answers, why) => gives(rt, alloc, config, feed, answers, why)?,
+        Case::Mixed => mixed_gives(rt, alloc, config)?,
+        Case::Ends => ends_at_each(rt, alloc, config)?,
+        Case::Fails => fails_at_each(rt, alloc, config)?,
+        Case::WithoutEnd => each_long_gives(rt, alloc, config)?,
+        Case::Texts => gives_all_texts(rt, alloc, config)?,
+    }
+    Ok(())
+}
+
+/// Tries one case with the configuration. This function alone owns one: each that does takes long to prove.
+fn try_case(rt: &impl Abort, alloc: Global, case: Case) -> Result<(), Fail> {
+    let config = config(alloc)?;
+    try_in(rt, alloc, &config, case)
 }
 
 #[test]

@@ -1,11 +1,14 @@
 //! Configurations that tests are run on.
 
-ghost use Rattle.std.specs.Prelude.{◌≡◌, ◌<◌, All, IfOk, codes, length, replicate};
+ghost use Rattle.std.specs.Prelude.{◌≡◌, ◌<◌, ◌∷◌, [], All, IfOk, codes, length, replicate};
 ghost use Rattle.due_model.specs.Accepted.{IsAccepted};
 ghost use Rattle.due_model.specs.Covered.{IsCovered, AreFullRights};
 ghost use Rattle.due_laws.specs.Rows.{base, web, on_mail, by_mail};
+ghost use Rattle.acceptance_inputs.specs.Parts.{of_parts};
 
-use due_model::config::{Config, Contact, ContactId, Lane, LaneId, Object, ObjectId, Rights};
+use due_model::config::{
+    Config, Contact, ContactId, Lane, LaneId, Object, ObjectId, Period, Rights,
+};
 use due_model::objects::Objects;
 use due_model::options::OptionLetters;
 use due_model::sequence::{Sequence, Text};
@@ -76,26 +79,73 @@ pub fn object(alloc: Global, name: &str, host: Option<ObjectId>) -> Result<Objec
     })
 }
 
+/// A list of this item alone.
+fn one<T: Drop>(alloc: Global, item: T) -> Result<Vec<T>, AllocError>
+    ensures { IfOk result (λ made. made.items ≡ item ∷ []) }
+{
+    let mut made = Vec::new(alloc);
+    made.push(item)?;
+    Ok(made)
+}
+
+/// The configuration of these parts, without escalations and dependencies.
+pub(crate) fn of_parts(
+    alloc: Global,
+    objects: Objects,
+    contacts: Vec<Contact>,
+    lanes: Vec<Lane>,
+    periods: Vec<Period>,
+) -> Config
+    ensures { result ≡ of_parts objects contacts.items lanes.items periods.items }
+{
+    Config {
+        objects,
+        contacts: Sequence::new(contacts),
+        lanes: Sequence::new(lanes),
+        periods: Sequence::new(periods),
+        escalations: Sequence::new(Vec::new(alloc)),
+        dependencies: Sequence::new(Vec::new(alloc)),
+    }
+}
+
+/// Web alone.
+fn one_host(alloc: Global) -> Result<Objects, AllocError>
+    ensures { IfOk result (λ objects. objects ≡ web ∷ []) }
+{
+    Objects::new(alloc, one(alloc, web(alloc)?)?)
+}
+
+/// Ann alone.
+fn one_contact(alloc: Global) -> Result<Vec<Contact>, AllocError>
+    ensures { IfOk result (λ made. made.items ≡ by_mail (codes "ann") ∷ []) }
+{
+    one(alloc, ann(alloc)?)
+}
+
+/// A command.
+fn lane(alloc: Global) -> Result<Lane, AllocError>
+    ensures { IfOk result (λ lane. lane ≡ record { name = codes "mail" }) }
+{
+    Ok(Lane {
+        name: text(alloc, b"mail")?,
+    })
+}
+
+/// The command alone.
+fn one_lane(alloc: Global) -> Result<Vec<Lane>, AllocError>
+    ensures { IfOk result (λ made. made.items ≡ record { name = codes "mail" } ∷ []) }
+{
+    one(alloc, lane(alloc)?)
+}
+
 /// One host, its contact and a command.
 pub fn base(alloc: Global) -> Result<Config, AllocError>
     ensures { IfOk result (λ c. c ≡ base) }
 {
-    let mut objects = Vec::new(alloc);
-    objects.push(web(alloc)?)?;
-    let mut contacts = Vec::new(alloc);
-    contacts.push(ann(alloc)?)?;
-    let mut lanes = Vec::new(alloc);
-    lanes.push(Lane {
-        name: text(alloc, b"mail")?,
-    })?;
-    Ok(Config {
-        objects: Objects::new(alloc, objects)?,
-        contacts: Sequence::new(contacts),
-        lanes: Sequence::new(lanes),
-        periods: Sequence::new(Vec::new(alloc)),
-        escalations: Sequence::new(Vec::new(alloc)),
-        dependencies: Sequence::new(Vec::new(alloc)),
-    })
+    let lanes = one_lane(alloc)?;
+    let contacts = one_contact(alloc)?;
+    let objects = one_host(alloc)?;
+    Ok(of_parts(alloc, objects, contacts, lanes, Vec::new(alloc)))
 }
 
 /// Eight hosts with one contact.
@@ -115,9 +165,7 @@ fn commands(alloc: Global) -> Result<Vec<Lane>, AllocError>
 {
     let mut made = Vec::new(alloc);
     for _lane in 0..16u64 {
-        made.push(Lane {
-            name: text(alloc, b"mail")?,
-        })?;
+        made.push(lane(alloc)?)?;
     }
     Ok(made)
 }
@@ -146,6 +194,21 @@ fn on_every_lane(alloc: Global) -> Result<Rights, AllocError>
     })
 }
 
+/// Ann, notified of everything on each of sixteen lanes.
+fn loud_contact(alloc: Global) -> Result<Contact, AllocError>
+    ensures hosts { IfOk result (λ contact. AreFullRights contact.hosts) }
+    ensures services { IfOk result (λ contact. AreFullRights contact.services) }
+    ensures host_lanes { IfOk result (λ contact. All (λ lane. lane.0 < 16) contact.hosts.lanes) }
+    ensures service_lanes { IfOk result (λ contact.
+        All (λ lane. lane.0 < 16) contact.services.lanes) }
+{
+    Ok(Contact {
+        name: text(alloc, b"ann")?,
+        hosts: on_every_lane(alloc)?,
+        services: on_every_lane(alloc)?,
+    })
+}
+
 /// Eight hosts, and a contact who is notified of them on each of sixteen lanes.
 pub fn wide(alloc: Global) -> Result<Config, AllocError>
     ensures accepted { IfOk result (λ config. IsAccepted config) }
@@ -153,21 +216,8 @@ pub fn wide(alloc: Global) -> Result<Config, AllocError>
     ensures lanes { IfOk result (λ config. length config.lanes ≡ 16) }
     ensures objects { IfOk result (λ config. length config.objects ≡ 8) }
 {
-    let name = text(alloc, b"ann")?;
-    let hosts_rights = on_every_lane(alloc)?;
-    let services_rights = on_every_lane(alloc)?;
-    let mut contacts = Vec::new(alloc);
-    contacts.push(Contact {
-        name,
-        hosts: hosts_rights,
-        services: services_rights,
-    })?;
-    Ok(Config {
-        objects: Objects::new(alloc, hosts(alloc)?)?,
-        contacts: Sequence::new(contacts),
-        lanes: Sequence::new(commands(alloc)?),
-        periods: Sequence::new(Vec::new(alloc)),
-        escalations: Sequence::new(Vec::new(alloc)),
-        dependencies: Sequence::new(Vec::new(alloc)),
-    })
+    let lanes = commands(alloc)?;
+    let contacts = one(alloc, loud_contact(alloc)?)?;
+    let objects = Objects::new(alloc, hosts(alloc)?)?;
+    Ok(of_parts(alloc, objects, contacts, lanes, Vec::new(alloc)))
 }

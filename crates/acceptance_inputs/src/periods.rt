@@ -4,6 +4,7 @@ ghost use Rattle.std.specs.Prelude.{◌≡◌, IfOk, length};
 ghost use Rattle.due_model.specs.Accepted.{IsAccepted};
 
 use crate::accepted::is_accepted;
+use crate::configs::of_parts;
 use due_model::config::{Config, Period, PeriodId, Range};
 use due_model::objects::Objects;
 use due_model::sequence::Sequence;
@@ -27,11 +28,14 @@ pub fn periods(alloc: Global, rows: &[Row]) -> Result<Config, AllocError>
     ensures accepted { IfOk result (λ config. IsAccepted config) }
     ensures periods { IfOk result (λ config. length config.periods ≡ length rows.now) }
 {
-    let mut made = Vec::new(alloc);
-    for row in rows {
-        made.push(period(alloc, row)?)?;
-    }
-    let config = only(alloc, made)?;
+    accepted(only(alloc, each_period(alloc, rows)?)?)
+}
+
+/// The configuration, if it is seen to be accepted.
+fn accepted(config: Config) -> Result<Config, AllocError>
+    ensures accepted { IfOk result (λ config. IsAccepted config) }
+    ensures same { IfOk result (λ given. given ≡ config) }
+{
     if is_accepted(&config) {
         Ok(config)
     } else {
@@ -39,23 +43,28 @@ pub fn periods(alloc: Global, rows: &[Row]) -> Result<Config, AllocError>
     }
 }
 
+/// The period of each row.
+fn each_period(alloc: Global, rows: &[Row]) -> Result<Vec<Period>, AllocError>
+    ensures { IfOk result (λ made. length made.items ≡ length rows.now) }
+{
+    let mut made = Vec::new(alloc);
+    for row in rows {
+        made.push(period(alloc, row)?)?;
+    }
+    Ok(made)
+}
+
 /// The configuration of these periods.
 fn only(alloc: Global, made: Vec<Period>) -> Result<Config, AllocError>
     ensures { IfOk result (λ config. config.periods ≡ made.items) }
 {
-    Ok(Config {
-        objects: Objects::new(alloc, Vec::new(alloc))?,
-        contacts: Sequence::new(Vec::new(alloc)),
-        lanes: Sequence::new(Vec::new(alloc)),
-        periods: Sequence::new(made),
-        escalations: Sequence::new(Vec::new(alloc)),
-        dependencies: Sequence::new(Vec::new(alloc)),
-    })
+    let objects = Objects::new(alloc, Vec::new(alloc))?;
+    Ok(of_parts(alloc, objects, Vec::new(alloc), Vec::new(alloc), made))
 }
 
-/// The period of a row.
-fn period(alloc: Global, row: &Row) -> Result<Period, AllocError> {
-    let mut days = [
+/// A week without ranges.
+fn no_days(alloc: Global) -> [Sequence<Range>; 7] {
+    [
         Sequence::new(Vec::new(alloc)),
         Sequence::new(Vec::new(alloc)),
         Sequence::new(Vec::new(alloc)),
@@ -63,15 +72,26 @@ fn period(alloc: Global, row: &Row) -> Result<Period, AllocError> {
         Sequence::new(Vec::new(alloc)),
         Sequence::new(Vec::new(alloc)),
         Sequence::new(Vec::new(alloc)),
-    ];
+    ]
+}
+
+/// The ranges of each weekday of a row.
+fn days(alloc: Global, row: &Row) -> Result<[Sequence<Range>; 7], AllocError> {
+    let mut days = no_days(alloc);
     for weekday in 0..7u8 {
         if row.first <= weekday && weekday <= row.last {
             days[usize::from(weekday)] = Sequence::new(Vec::from_slice(alloc, row.ranges)?);
         }
     }
+    Ok(days)
+}
+
+/// The period of a row.
+fn period(alloc: Global, row: &Row) -> Result<Period, AllocError> {
+    let excludes = Sequence::new(Vec::from_slice(alloc, row.excludes)?);
     Ok(Period {
         name: Sequence::new(Vec::new(alloc)),
-        days,
-        excludes: Sequence::new(Vec::from_slice(alloc, row.excludes)?),
+        days: days(alloc, row)?,
+        excludes,
     })
 }

@@ -3,9 +3,9 @@
 ghost use Rattle.std.specs.Prelude.{◌≡◌, length, IfOk};
 
 use graph::edges::{Edge, Graph};
-use graph::loops::first_on_loop;
-use graph::order::order;
 use graph::reach::Reach;
+use graph_order::loops::first_on_loop;
+use graph_order::order::order;
 use std::alloc::{AllocError, Global};
 use std::process::Abort;
 use std::test::Fail;

@@ -1,11 +1,13 @@
-//! Tests of what the rules and the engine are built of: names, graphs, logs, records and due times. There is no
-//! code here.
+//! Tests of what the rules and the engine are built of: names, graphs, look-ups, logs, records and due times. There is
+//! no code here.
 #![tactic(auto)]
 
 #[cfg(test)]
 mod graphs;
 #[cfg(test)]
 mod kept;
+#[cfg(test)]
+mod lookups;
 #[cfg(test)]
 mod objects;
 #[cfg(test)]

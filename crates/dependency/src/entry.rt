@@ -9,7 +9,7 @@ ghost use Rattle.time_period.specs.Days.{AreCompiled};
 
 use due_model::config::PeriodId;
 use due_model::zone::Zone;
-use time_period::compiled::Compiled;
+use time_period::compiled::{Compiled, is_in_period};
 
 /// Whether an entry of this period is valid at the moment: its period holds, or it has none.
 pub(crate) fn is_valid(period: Option<PeriodId>, periods: &[Compiled], zone: &Zone, t: u64) -> bool
@@ -17,8 +17,5 @@ pub(crate) fn is_valid(period: Option<PeriodId>, periods: &[Compiled], zone: &Zo
     requires moment { t ≤ last_moment }
     ensures { (c : Config) → AreCompiled c periods.now → result ≡ in_period c zone.now period t }
 {
-    match period {
-        None => true,
-        Some(period) => periods[period.0 as usize].contains(zone, t),
-    }
+    is_in_period(periods, period, zone, t)
 }

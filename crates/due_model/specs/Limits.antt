@@ -1,6 +1,6 @@
 -- The limits, each named once: those of the code are its constants.
 use Rattle.std.specs.Prelude.{ℕ}
-use Rattle.due_model.specs.declared.limits.TheConstants.{MAX_OBJECTS, MAX_CONTACTS, MAX_LANES, MAX_PERIODS, MAX_ESCALATIONS, MAX_DEPENDENCIES, MAX_NUMBER, LAST_MOMENT, MAX_EVENTS, MAX_DECIDERS, MAX_QUEUE, MAX_TRIES}
+use Rattle.due_model.specs.declared.limits.TheConstants.{MAX_OBJECTS, MAX_CONTACTS, MAX_LANES, MAX_PERIODS, MAX_ESCALATIONS, MAX_DEPENDENCIES, MAX_NUMBER, LAST_MOMENT, DAY, TEXT_LIMIT, LINE_LIMIT, MAX_EVENTS, MAX_DECIDERS, MAX_QUEUE, MAX_TRIES}
 
 -- how many objects, contacts, lanes, periods, escalations and dependencies a configuration may have
 abbrev pub max_objects : ℕ
@@ -29,6 +29,17 @@ max_number = MAX_NUMBER
 abbrev pub last_moment : ℕ
 last_moment = LAST_MOMENT
 
+-- how many seconds a day has
+abbrev pub day : ℕ
+day = DAY
+
+-- how many bytes object text may have, and how many a line of it or of a feed
+abbrev pub text_limit : ℕ
+text_limit = TEXT_LIMIT
+
+abbrev pub line_limit : ℕ
+line_limit = LINE_LIMIT
+
 -- how many events a feed may have
 abbrev pub max_events : ℕ
 max_events = MAX_EVENTS
@@ -42,7 +53,3 @@ max_queue = MAX_QUEUE
 
 abbrev pub max_tries : ℕ
 max_tries = MAX_TRIES
-
--- how many seconds a day has
-abbrev pub day : ℕ
-day = 86400

@@ -1,4 +1,4 @@
-//! The limits: of what a configuration holds, of a feed, and of what runs. Each stands here once.
+//! The limits: of what a configuration holds, of what is read, of a feed, and of what runs. Each stands here once.
 
 /// How many hosts and services a configuration may have.
 pub const MAX_OBJECTS: usize = 65_535;
@@ -23,6 +23,15 @@ pub const MAX_NUMBER: u32 = 1_000_000;
 
 /// The greatest stamp of an event, in seconds since the epoch: the end of the year 2999 in UTC.
 pub const LAST_MOMENT: u64 = 32_503_679_999;
+
+/// How many seconds a day has.
+pub const DAY: u32 = 86_400;
+
+/// The most bytes of object text, newlines counted.
+pub const TEXT_LIMIT: usize = 16_777_216;
+
+/// The most bytes of a line of object text or of a feed, without its newline.
+pub const LINE_LIMIT: usize = 4_096;
 
 /// How many events a feed may have: 2^32.
 pub const MAX_EVENTS: u64 = 4_294_967_296;

@@ -101,7 +101,7 @@ fn name_applying(
     let mut some = false;
     for place in places {
         let escalation = &config.escalations.as_slice()[*place as usize];
-        if applies(config, escalation, number, letter, t, periods, zone) {
+        if applies(escalation, number, letter, t, periods, zone) {
             named.extend_from_slice(escalation.contacts.as_slice())?;
             some = true;
         }

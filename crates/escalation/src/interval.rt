@@ -64,7 +64,7 @@ fn least_interval(
     let mut least = None;
     for place in places {
         let escalation = &config.escalations.as_slice()[*place as usize];
-        if applies(config, escalation, number, letter, t, periods, zone) {
+        if applies(escalation, number, letter, t, periods, zone) {
             least = Some(lesser(least, escalation.interval));
         }
     }

@@ -14,9 +14,9 @@ ghost use Rattle.event_feed.specs.Line.{digits_number, stamp_of, state_reading};
 use crate::fault::FeedFault;
 use due_model::config::{Config, ObjectId};
 use due_model::event::{Event, EventKind};
-use due_model::limits::LAST_MOMENT;
+use due_model::limits::{LAST_MOMENT, LINE_LIMIT};
 use due_model::state::State;
-use text_lines::{LINE_LIMIT, find_byte};
+use text_lines::find_byte;
 
 /// What the name of a line says that happened.
 #[derive(Clone, Copy, Debug, PartialEq, Eq)]

@@ -12,7 +12,7 @@ use due_model::notice::Kind;
 use due_model::options::{OptionLetter, OptionLetters};
 use due_model::state::State;
 use due_model::zone::Zone;
-use time_period::compiled::Compiled;
+use time_period::compiled::{Compiled, is_in_period};
 
 /// A notification that is attempted, with all that filters read besides the object's view. Definitions speak of
 /// `due_model`'s plain attempt: the kind, the state and the moment. It borrows the zone and the periods.
@@ -47,12 +47,6 @@ impl Attempt<'_> {
         ensures { (c : Config) → AreCompiled c self.now.periods.now
             → result ≡ not (in_period c self.now.zone.now period self.now.moment) }
     {
-        match period {
-            Some(number) => match self.periods.get(usize::from(number.0)) {
-                Some(compiled) => !compiled.contains(self.zone, self.moment),
-                None => true,
-            },
-            None => false,
-        }
+        !is_in_period(self.periods, period, self.zone, self.moment)
     }
 }

@@ -1,9 +1,3 @@
 pub mod PartLemmas
-pub mod ListLemmas
 pub mod EdgeLemmas
 pub mod ReachLemmas
-pub mod WalkLemmas
-pub mod CloseLemmas
-pub mod MoveLemmas
-pub mod OverLemmas
-pub mod TopLemmas

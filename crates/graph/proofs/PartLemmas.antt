@@ -76,17 +76,11 @@ pub items-low : {X : Type 0} (lists : List (Vec X Global)) (all : List (List X))
 items-low {X} lists all number are low = omega (arith, low, sym (length-map lists items_of), ap (λ (some : List (List X)). length some) are)
 
 -- one list more is taken
-pub take-item : {X : Type 0} (lists slice : List (Vec X Global)) (all : List (List X)) (i : ℕ) (list : Vec X Global) (xs : List X) → map items_of lists ≡ all → slice ≡ lists
-    → i < length slice → list ≡ get_or slice i list → xs ≡ list.items → take (i + 1) all ≡ take i all ++ xs ∷ []
-take-item {X} lists slice all i list xs are same low is read =
-    let within : i < length lists = rw same at low in
-    let long : i < length all = omega (arith, within, sym (length-map lists items_of), ap (λ (some : List (List X)). length some) are) in
-    let here : get_or all i [] ≡ xs =
-    ap (λ (some : List (List X)). get_or some i []) (sym are) ∙ get_or-map items_of lists i list [] within
-    ∙ ap items_of (ap (λ (some : List (Vec X Global)). get_or some i list) (sym same) ∙ sym is) ∙ sym read in
-    take_more all i [] long ∙ ap (λ (x : List X). take i all ++ x ∷ []) here
+pub take-item : {X : Type 0} (lists : List (Vec X Global)) (i : ℕ) (list : Vec X Global) (xs : List X) → i < length lists → list ≡ get_or lists i list → xs ≡ list.items
+    → take (i + 1) (map items_of lists) ≡ take i (map items_of lists) ++ xs ∷ []
+take-item {X} lists i list xs low is read =
+    let here : get_or (map items_of lists) i [] ≡ xs = get_or-map items_of lists i list [] low ∙ ap items_of (sym is) ∙ sym read in
+    take_more (map items_of lists) i [] (omega (arith, low, length-map lists items_of)) ∙ ap (λ (x : List X). take i (map items_of lists) ++ x ∷ []) here
 
-pub take-items : {X : Type 0} (lists slice : List (Vec X Global)) (all : List (List X)) (i : ℕ) → map items_of lists ≡ all → slice ≡ lists → length slice ≤ i → take i all ≡ all
-take-items {X} lists slice all i are same over =
-    let past : length lists ≤ i = rw same at over in
-    take_all i all (omega (arith, past, sym (length-map lists items_of), ap (λ (some : List (List X)). length some) are))
+pub take-items : {X : Type 0} (lists : List (Vec X Global)) (i : ℕ) → length lists ≤ i → take i (map items_of lists) ≡ map items_of lists
+take-items {X} lists i over = take_all i (map items_of lists) (omega (arith, over, length-map lists items_of))

@@ -13,10 +13,14 @@ use Rattle.std.proofs.lemmas.List.Elements.{All-from_get_or, All-get_or, Contain
 use Rattle.std.proofs.lemmas.List.Quantifiers.{all_pairs_push}
 use Rattle.graph.specs.Chains.{Chain, Reaches}
 use Rattle.graph.specs.Edges.{Leads}
-use Rattle.graph.proofs.ListLemmas.{zeros}
 use Rattle.graph.specs.Reach.{Found, IsReached, IsMarked, IsSearch, Gains, IsTurn}
 
 -- ---- marks
+
+zeros : (count k : ℕ) → get_or (replicate {A = ℕ} count 0) k 0 ≡ 0
+zeros zero k = refl
+zeros (suc count) zero = refl
+zeros (suc count) (suc k) = zeros count k
 
 -- what was found is a node
 pub IsMarked-within : (marks : List ℕ) (stamp : ℕ) (found : List ℕ) (k : ℕ) → IsMarked marks stamp found → Contains found k → k < length marks

@@ -2,6 +2,3 @@ pub mod Lists
 pub mod Chains
 pub mod Edges
 pub mod Reach
-pub mod Order
-pub mod Loops
-pub mod Walk

@@ -105,14 +105,42 @@ impl<T: Copy> ListsBuilder<T> {
     pub fn build(self, alloc: Global) -> Result<Lists<T>, AllocError>
         ensures { IfOk result (λ lists. lists ≡ self) }
     {
-        let lists = self.lists.as_slice();
-        let mut starts = Vec::with_capacity(alloc, lists.len().saturating_add(1))?;
-        let mut values = Vec::new(alloc);
-        starts.push(0)?;
-        for list in lists {
-            values.extend_from_slice(list.as_slice())?;
-            starts.push(values.len())?;
-        }
-        Ok(Lists { starts, values })
+        joined(alloc, self.lists.as_slice())
     }
+}
+
+/// The lists, one after another.
+fn joined<T: Copy>(alloc: Global, lists: &[Vec<T>]) -> Result<Lists<T>, AllocError>
+    ensures { IfOk result (λ joined. joined ≡ map (λ list. list.items) lists.now) }
+{
+    let mut starts = first_start(alloc, lists.len().saturating_add(1))?;
+    let mut values = Vec::new(alloc);
+    for list in lists {
+        add_list(&mut starts, &mut values, list.as_slice())?;
+    }
+    Ok(Lists { starts, values })
+}
+
+/// Where the first list begins, with room for so many places.
+fn first_start(alloc: Global, room: usize) -> Result<Vec<usize>, AllocError>
+    ensures { IfOk result (λ starts. starts.items ≡ 0 ∷ []) }
+{
+    let mut starts = Vec::with_capacity(alloc, room)?;
+    starts.push(0)?;
+    Ok(starts)
+}
+
+/// Adds a list's values at the end, and the place where they end.
+fn add_list<T: Copy>(
+    starts: &mut Vec<usize>,
+    values: &mut Vec<T>,
+    list: &[T],
+) -> Result<(), AllocError>
+    ensures values { OnOk result (values.new.items ≡ values.old.items ++ list.now) }
+    ensures starts { OnOk result (starts.new.items
+        ≡ starts.old.items ++ length values.new.items ∷ []) }
+{
+    values.extend_from_slice(list)?;
+    starts.push(values.len())?;
+    Ok(())
 }

@@ -1,4 +1,5 @@
 pub mod Lists
+pub mod Searches
 pub mod Writes
 pub mod Numbers
 pub mod Notices

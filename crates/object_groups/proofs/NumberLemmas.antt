@@ -1,22 +1,22 @@
 -- One name, one entry, one place or one node more.
-use Rattle.std.proofs.Common.{◌≡◌, ℕ, zero, suc, ◌+◌, ◌<◌, ◌≤◌, nat_lt, Bool, true, false, not, cond, ◌||◌, List, [], ◌∷◌, ◌++◌, length, map, filter, take, get_or, Option, Some, None, refl, sym, ap, subst, eqb, eqb-true, eq-eqb, ⊎_elim, ◌∙◌, Bor, arith}
+use Rattle.std.proofs.Common.{◌≡◌, ℕ, zero, suc, ◌+◌, ◌<◌, nat_lt, Bool, true, false, cond, ◌||◌, List, [], ◌∷◌, ◌++◌, length, map, filter, take, get_or, Option, Some, None, refl, sym, ap, subst, eqb, ⊎_elim, ◌∙◌, Bor, arith}
 use Rattle.std.specs.Prelude.{Contains, is_some}
-use Rattle.std.specs.List.{cons_option, dedup, list_any, position, position_or_len, range_with_len}
+use Rattle.std.specs.List.{dedup, list_any, range_with_len}
 use Rattle.std.specs.List.Sorted.{IsPermutation, IsSorted, IsStrictlyIncreasing}
 use Rattle.std.specs.Map.{lookup}
 use Rattle.std.specs.Option.{option_or, option_to_list}
 use Rattle.std.specs.Ordering.{nat_cmp}
 use Rattle.std.specs.Str.{bytes_eq}
 use Rattle.std.specs.HashMap.Eq.{lookup_congr}
-use Rattle.std.proofs.lemmas.Bool.{false≢true, cases_lt, lt-ltb, le-ltb, ltb-true}
+use Rattle.std.proofs.lemmas.Bool.{false≢true, lt-ltb, ltb-true}
 use Rattle.std.proofs.lemmas.Cmp.{nat_list_eq_equiv}
-use Rattle.std.proofs.lemmas.List.{map-append, take_more}
+use Rattle.std.proofs.lemmas.List.{map-append}
 use Rattle.std.proofs.lemmas.List.Elements.{filter-append, filter_map-append}
-use Rattle.std.proofs.lemmas.List.Folds.{list_any-append, position_or_len_push}
-use Rattle.std.proofs.lemmas.List.Sums.{prefix_len-le-length}
+use Rattle.std.proofs.lemmas.List.Folds.{list_any-append}
 use Rattle.std.proofs.lemmas.List.Kept.{Contains-dedup_nat, Contains-from_dedup}
 use Rattle.std.proofs.lemmas.List.Sorted.{Contains-permutation, IsPermutation-sym}
 use Rattle.std.proofs.lemmas.Map.Keys.{IsStrictlyIncreasing-dedup}
+use Rattle.lemmas.proofs.Searches.{found-one, is_none-from, or-none, or-some, position-snoc, texts-more}
 use Rattle.object_groups.specs.Names.{HasNumbers, name_eq, number_of, numbers_of}
 use Rattle.object_groups.specs.Nodes.{AreBelow}
 use Rattle.object_values.specs.Values.{texts}
@@ -24,49 +24,8 @@ use Rattle.object_groups.proofs.PlaceLemmas.{Contains-cases, Contains-here, Cont
 
 -- ---- one name more
 
--- by where the first that passes stands among `l`, and whether one more passes
-seam : (b : Bool) (n l : ℕ) → n ≤ l
-    → cond (nat_lt (cond (eqb n l) (l + cond b 0 1) n) (l + 1)) (Some (cond (eqb n l) (l + cond b 0 1) n)) None
-    ≡ option_or (cond (nat_lt n l) (Some n) None) (cond b (Some l) None)
-seam b n l few = ⊎_elim
-    (λ (low : n < l). let other : eqb n l ≡ false = differs (eqb n l) refl low in
-    rw (other, lt-ltb n l low, lt-ltb n (l + 1) (omega arith)) refl)
-    (λ (past : l ≤ n). let same : n ≡ l = omega arith in
-    rw (eq-eqb n l same, le-ltb n l past) (at_end b))
-    (cases_lt n l)
-  where
-    differs : (c : Bool) → eqb n l ≡ c → n < l → c ≡ false
-    differs false is low = refl
-    differs true is low = absurd (let same : n ≡ l = eqb-true n l is in omega arith)
-
-    at_end : (c : Bool) → cond (nat_lt (l + cond c 0 1) (l + 1)) (Some (l + cond c 0 1)) None ≡ cond c (Some l) None
-    at_end true = rw (lt-ltb (l + 0) (l + 1) (omega arith)) (ap (λ (k : ℕ). Some k) (omega arith))
-    at_end false = rw (le-ltb (l + 1) (l + 1) (omega arith)) refl
-
-position-snoc : {X : Type 0} (p : X → Bool) (xs : List X) (x : X)
-    → position p (xs ++ x ∷ []) ≡ option_or (position p xs) (cond (p x) (Some (length xs)) None)
-position-snoc p xs x =
-    rw (position_or_len_push p xs x, length_snoc xs x)
-    (seam (p x) (position_or_len p xs) (length xs) (prefix_len-le-length (λ y. not (p y)) xs))
-  where
-    length_snoc : {Y : Type 0} (ys : List Y) (y : Y) → length (ys ++ y ∷ []) ≡ length ys + 1
-    length_snoc [] y = refl
-    length_snoc (z ∷ ys) y = let more = length_snoc ys y in omega arith
-
 alike : (x y z : Bor (List ℕ)) → name_eq x y ≡ true → name_eq x z ≡ name_eq y z
 alike x y z is = nat_list_eq_equiv.congr x.now y.now z.now is
-
-or-none : {X : Type 0} (found : Option X) → option_or found None ≡ found
-or-none None = refl
-or-none (Some x) = refl
-
-or-some : {X : Type 0} (found other : Option X) → is_some found ≡ true → option_or found other ≡ found
-or-some None other is = absurd (false≢true is)
-or-some (Some x) other is = refl
-
-is_none-from : {X : Type 0} (found : Option X) → is_some found ≡ false → found ≡ None
-is_none-from None is = refl
-is_none-from (Some x) is = absurd (false≢true (sym is))
 
 module _ (names : List (List ℕ)) (name : Bor (List ℕ)) (old : List (Bor (List ℕ) × ℕ)) (has : HasNumbers names old) where
   same_name : (other : Bor (List ℕ)) → name_eq name other ≡ true → lookup (name_eq name) old ≡ number_of names other.now
@@ -100,9 +59,6 @@ module _ (names : List (List ℕ)) (name : Bor (List ℕ)) (old : List (Bor (Lis
 
 -- ---- one entry more
 
-pub texts-more : (xs : List (Bor (List ℕ))) (i : ℕ) (d : Bor (List ℕ)) → i < length xs → texts (take (i + 1) xs) ≡ texts (take i xs) ++ (get_or xs i d).now ∷ []
-texts-more xs i d within = ap texts (take_more xs i d within) ∙ map-append (λ text. text.now) (take i xs) (get_or xs i d ∷ [])
-
 or-false : (a b : Bool) → a ≡ false → b ≡ false → (a || (b || false)) ≡ false
 or-false true b first second = absurd (false≢true (sym first))
 or-false false true first second = absurd (false≢true (sym second))
@@ -114,10 +70,6 @@ none-more p xs i d within before is =
     ap (list_any p) (texts-more xs i d within) ∙ list_any-append p (texts (take i xs)) ((get_or xs i d).now ∷ [])
     ∙ or-false (list_any p (texts (take i xs))) (p ((get_or xs i d).now)) before is
 
-listed-one : (found : Option ℕ) → cons_option found [] ≡ option_to_list found
-listed-one None = refl
-listed-one (Some k) = refl
-
 pub nodes-more : (first : ℕ) (names : List (List ℕ)) (xs : List (Bor (List ℕ))) (i : ℕ) (d : Bor (List ℕ)) (old new : List ℕ) (found : Option ℕ) → i < length xs
     → old ≡ map (λ number. first + number) (numbers_of names (texts (take i xs))) → found ≡ number_of names ((get_or xs i d).now)
     → new ≡ old ++ map (λ number. first + number) (option_to_list found)
@@ -125,7 +77,7 @@ pub nodes-more : (first : ℕ) (names : List (List ℕ)) (xs : List (Bor (List �
 nodes-more first names xs i d old new found within before is more =
     let all : numbers_of names (texts (take (i + 1) xs)) ≡ numbers_of names (texts (take i xs)) ++ option_to_list found =
     ap (numbers_of names) (texts-more xs i d within) ∙ filter_map-append (number_of names) (texts (take i xs)) ((get_or xs i d).now ∷ [])
-    ∙ ap (λ one. numbers_of names (texts (take i xs)) ++ one) (listed-one (number_of names ((get_or xs i d).now)) ∙ ap option_to_list (sym is)) in
+    ∙ ap (λ one. numbers_of names (texts (take i xs)) ++ one) (found-one (number_of names ((get_or xs i d).now)) ∙ ap option_to_list (sym is)) in
     more ∙ ap (λ nodes. nodes ++ map (λ number. first + number) (option_to_list found)) before
     ∙ sym (map-append (λ number. first + number) (numbers_of names (texts (take i xs))) (option_to_list found)) ∙ ap (map (λ number. first + number)) (sym all)
 

@@ -1,13 +1,12 @@
 -- What lists made of other lists contain, and names among names.
-use Rattle.std.proofs.Common.{◌≡◌, ℕ, zero, suc, ◌<◌, nat_lt, Bool, true, false, cond, List, [], ◌∷◌, length, map, Option, Some, None, refl, sym, subst, ◌⊎◌, inl, inr, ⊎_elim, arith}
-use Rattle.std.specs.Prelude.{All, Contains, filter_map}
-use Rattle.std.specs.List.{cons_option, flat_map, position, position_or_len, range_with_len}
-use Rattle.std.specs.Option.{IfSome}
+use Rattle.std.proofs.Common.{◌≡◌, ℕ, zero, suc, ◌<◌, List, [], ◌∷◌, length, map, refl, sym, subst, ◌⊎◌, inl, inr, ⊎_elim, arith}
+use Rattle.std.specs.Prelude.{Contains}
+use Rattle.std.specs.List.{flat_map, range_with_len}
 use Rattle.std.specs.Str.{bytes_eq}
-use Rattle.std.proofs.lemmas.Bool.{ltb-true}
 use Rattle.std.proofs.lemmas.List.Concat.{flat_map-cons}
-use Rattle.std.proofs.lemmas.List.Elements.{All-nil, All-cons, All-contains, Contains-append_left, Contains-append_right, Contains-append_cases}
+use Rattle.std.proofs.lemmas.List.Elements.{All-contains, Contains-append_left, Contains-append_right, Contains-append_cases}
 use Rattle.std.proofs.lemmas.List.FromFn.{get_or-range_with_len, length-range_with_len}
+use Rattle.lemmas.proofs.Searches.{All-found, position-within}
 use Rattle.object_groups.specs.Names.{number_of, numbers_of}
 
 pub Contains-here : {X : Type 0} (x : X) (xs : List X) → Contains (x ∷ xs) x
@@ -60,23 +59,6 @@ Contains-from_range n k at =
     let low : at.0 < n = omega (arith, long, at.1) in
     let is = get_or-range_with_len 0 n at.0 k low in
     omega (arith, is, at.2, low)
-
--- ---- where a search ends
-
-found-within : (b : Bool) (a n : ℕ) → nat_lt a n ≡ b → IfSome (cond b (Some a) None) (λ k. k < n)
-found-within true a n is = ltb-true a n is
-found-within false a n is = tt
-
-pub position-within : {X : Type 0} (p : X → Bool) (xs : List X) → IfSome (position p xs) (λ k. k < length xs)
-position-within p xs = found-within _ (position_or_len p xs) (length xs) refl
-
-All-one : (P : ℕ → Type 0) (found : Option ℕ) (others : List ℕ) → IfSome found P → All P others → All P (cons_option found others)
-All-one P None others here rest = rest
-All-one P (Some k) others here rest = All-cons P k others here rest
-
-All-found : (f : List ℕ → Option ℕ) (P : ℕ → Type 0) → ((name : List ℕ) → IfSome (f name) P) → (names : List (List ℕ)) → All P (filter_map f names)
-All-found f P each [] = All-nil P
-All-found f P each (name ∷ names) = All-one P (f name) (filter_map f names) (each name) (All-found f P each names)
 
 pub numbers-within : (names entries : List (List ℕ)) (k : ℕ) → Contains (numbers_of names entries) k → k < length names
 numbers-within names entries k at =

@@ -5,7 +5,7 @@ use Rattle.std.specs.List.{range_with_len}
 use Rattle.std.specs.Option.{option_and_then, option_map_or}
 use Rattle.object_reader.specs.declared.block.Block.{Block}
 use Rattle.object_reader.specs.declared.block.BlockKind.{BlockKind}
-use Rattle.object_reader.specs.declared.block.BlockKind.TheVariants.{Host, HostGroup, ServiceGroup, Contact, ContactGroup, TimePeriod, Command}
+use Rattle.object_reader.specs.declared.block.BlockKind.TheVariants.{Host, HostGroup, Service, ServiceGroup, Contact, ContactGroup, TimePeriod, Command}
 use Rattle.object_inheritance.specs.Inherited.{list, value}
 use Rattle.object_inheritance.specs.Templates.{kind_number}
 use Rattle.object_values.specs.Values.{number_in, value_in}
@@ -27,10 +27,12 @@ is_object_at blocks kind place = option_map_or (is_object kind) (slice_get block
 unfoldable pub objects_in : List Block → BlockKind → List ℕ
 objects_in blocks kind = filter (is_object_at blocks kind) (range_with_len 0 (length blocks))
 
--- the directive that names an object; none for types whose objects have no name of their own
+-- The directive that names an object; none for types whose objects have no name of their own. What a
+-- service block names is each of its services, beside their hosts.
 abbrev pub name_directive : BlockKind → List ℕ
 name_directive Host = codes "host_name"
 name_directive HostGroup = codes "hostgroup_name"
+name_directive Service = codes "service_description"
 name_directive ServiceGroup = codes "servicegroup_name"
 name_directive Contact = codes "contact_name"
 name_directive ContactGroup = codes "contactgroup_name"

@@ -61,13 +61,15 @@ fn is_object(kind: BlockKind, block: &Block) -> bool
         && registers(value_in(block.directives.as_slice(), "register".as_bytes()))
 }
 
-/// The directive that names an object of the type; none where such objects have no name of their own.
+/// The directive that names an object of the type; none where such objects have no name of their own. A
+/// service block's is the description of each of its services.
 fn name_directive(kind: BlockKind) -> &'static str
     ensures { result.now ≡ name_directive kind }
 {
     match kind {
         BlockKind::Host => "host_name",
         BlockKind::HostGroup => "hostgroup_name",
+        BlockKind::Service => "service_description",
         BlockKind::ServiceGroup => "servicegroup_name",
         BlockKind::Contact => "contact_name",
         BlockKind::ContactGroup => "contactgroup_name",
@@ -128,7 +130,7 @@ fn names_at<'a>(
 
 /// The entries of a list that the object at a place has, where the values are those of the list's directive;
 /// none where it has no such list. A refused growth leaves nothing.
-pub(crate) fn list_at<'a>(
+pub fn list_at<'a>(
     alloc: Global,
     values: &Values<'a>,
     place: usize,

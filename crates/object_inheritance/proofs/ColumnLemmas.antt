@@ -7,7 +7,7 @@ use Rattle.std.proofs.lemmas.Option.{slice_get-get_or}
 use Rattle.std.proofs.lemmas.Grind.{get_or_default_zero}
 use Rattle.std.proofs.lemmas.List.{get_or-set_other, get_or-set_same, length-set, map-append, reverse-append, reverse-reverse}
 use Rattle.graph.specs.Edges.{Leads}
-use Rattle.graph.specs.Order.{IsOrder}
+use Rattle.graph_order.specs.Order.{IsOrder}
 use Rattle.object_reader.specs.declared.block.Block.{Block}
 use Rattle.object_inheritance.specs.Columns.{given_from, HasGiven, HasGivenFrom, IsGivenAt, line_of}
 use Rattle.object_inheritance.specs.Inherited.{AreInherited, first_given, given, own, own_entries, is_additive, joined_entries, list_given, sources}

@@ -7,8 +7,8 @@ use Rattle.std.proofs.lemmas.List.{length-map}
 use Rattle.std.proofs.lemmas.Option.{slice_get-get_or, slice_get_within}
 use Rattle.graph.specs.Chains.{HasNoLoop}
 use Rattle.graph.specs.Edges.{Leads}
-use Rattle.graph.specs.Loops.{IsFirstOnLoop}
-use Rattle.graph.specs.Order.{HasLoop}
+use Rattle.graph_order.specs.Loops.{IsFirstOnLoop}
+use Rattle.graph_order.specs.Order.{HasLoop}
 use Rattle.object_reader.specs.declared.block.Block.{Block}
 use Rattle.object_inheritance.specs.Faults.{AreFree, AreFreeBefore, fault_by, IsFaultAt, IsLooped}
 use Rattle.object_inheritance.specs.Templates.{template_graph, templates_of}

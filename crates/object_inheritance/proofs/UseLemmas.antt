@@ -1,42 +1,19 @@
 -- The graph of templates, one block and one name more.
-use Rattle.std.proofs.Common.{◌≡◌, ℕ, zero, suc, ◌+◌, ◌<◌, ◌≤◌, Bool, true, false, cond, ◌||◌, List, [], ◌∷◌, ◌++◌, append_assoc, length, length-take-le, map, filter, take, get_or, Option, Some, None, refl, sym, ap, subst, eqb, eqb-true, eq-eqb, ⊎_elim, ◌∙◌, Bor, arith}
+use Rattle.std.proofs.Common.{◌≡◌, ℕ, zero, suc, ◌+◌, ◌<◌, ◌≤◌, Bool, true, false, cond, List, [], ◌∷◌, ◌++◌, append_assoc, length, length-take-le, map, filter, take, get_or, Option, refl, sym, ap, subst, eqb, eqb-true, eq-eqb, ⊎_elim, ◌∙◌, Bor, arith}
 use Rattle.std.specs.Prelude.{All, Contains, filter_map}
-use Rattle.std.specs.List.{cons_option, list_any}
-use Rattle.std.specs.Option.{IfSome, option_to_list}
+use Rattle.std.specs.Option.{option_to_list}
 use Rattle.std.proofs.lemmas.Bool.{false≢true, cases_lt}
 use Rattle.std.proofs.lemmas.List.{append-nil, length-map, map-append, take_more, get_or_past, get_or_append_left, ext_get_or}
-use Rattle.std.proofs.lemmas.List.Elements.{filter-append, filter_map-append, All-nil, All-cons, All-append, All-map, All-weaker, All-contains}
-use Rattle.std.proofs.lemmas.List.Folds.{list_any-append}
+use Rattle.std.proofs.lemmas.List.Elements.{filter-append, filter_map-append, All-nil, All-append, All-map, All-weaker, All-contains}
 use Rattle.std.proofs.Math.Seq.{get_or-append_seam}
+use Rattle.lemmas.proofs.Searches.{All-found, found-one, position-within, texts-more}
 use Rattle.graph.specs.declared.edges.Edge.{Edge}
 use Rattle.graph.specs.Edges.{ends_of, HasEdges, IsWithin, Leads}
 use Rattle.object_reader.specs.declared.block.Block.{Block}
 use Rattle.object_inheritance.specs.Templates.{edge_from, is_template, template_graph, template_place, templates_of, used_names}
 use Rattle.object_values.specs.Values.{texts}
-use Rattle.object_inheritance.proofs.NameLemmas.{position-within}
 
 -- ---- one name more
-
-pub any-at : (p : List ℕ → Bool) (xs : List (Bor (List ℕ))) (i : ℕ) (d : Bor (List ℕ)) → i < length xs → true ≡ p ((get_or xs i d).now) → true ≡ list_any p (texts xs)
-any-at p [] i d within is = absurd (omega arith)
-any-at p (x ∷ xs) zero d within is = rw (← is) refl
-any-at p (x ∷ xs) (suc i) d within is =
-    elim (p x.now) as (λ b. true ≡ (b || list_any p (texts xs))) [ true ↦ refl | false ↦ any-at p xs i d (omega arith) is ]
-
-texts-more : (xs : List (Bor (List ℕ))) (i : ℕ) (d : Bor (List ℕ)) → i < length xs → texts (take (i + 1) xs) ≡ texts (take i xs) ++ (get_or xs i d).now ∷ []
-texts-more xs i d within = ap texts (take_more xs i d within) ∙ map-append (λ text. text.now) (take i xs) (get_or xs i d ∷ [])
-
-or-false : (a b : Bool) → (a || (b || false)) ≡ (a || b)
-or-false a b = elim a as (λ x. (x || (b || false)) ≡ (x || b)) [ true ↦ refl | false ↦ elim b as (λ y. (y || false) ≡ y) [ true ↦ refl | false ↦ refl ] ]
-
-pub any-more : (p : List ℕ → Bool) (xs : List (Bor (List ℕ))) (i : ℕ) (d : Bor (List ℕ)) → i < length xs
-    → list_any p (texts (take (i + 1) xs)) ≡ (list_any p (texts (take i xs)) || p ((get_or xs i d).now))
-any-more p xs i d within =
-    ap (list_any p) (texts-more xs i d within) ∙ list_any-append p (texts (take i xs)) ((get_or xs i d).now ∷ []) ∙ or-false (list_any p (texts (take i xs))) (p ((get_or xs i d).now))
-
-listed-one : (found : Option ℕ) → cons_option found [] ≡ option_to_list found
-listed-one None = refl
-listed-one (Some k) = refl
 
 -- the edges to the templates of the names so far, and of one more
 pub edges-more : (place : ℕ) (f : List ℕ → Option ℕ) (xs : List (Bor (List ℕ))) (i : ℕ) (d : Bor (List ℕ)) (first old new : List Edge) (found : Option ℕ) → i < length xs
@@ -45,19 +22,11 @@ pub edges-more : (place : ℕ) (f : List ℕ → Option ℕ) (xs : List (Bor (Li
 edges-more place f xs i d first old new found within before is more =
     let all : filter_map f (texts (take (i + 1) xs)) ≡ filter_map f (texts (take i xs)) ++ option_to_list found =
     ap (filter_map f) (texts-more xs i d within) ∙ filter_map-append f (texts (take i xs)) ((get_or xs i d).now ∷ [])
-    ∙ ap (λ one. filter_map f (texts (take i xs)) ++ one) (listed-one (f ((get_or xs i d).now)) ∙ ap option_to_list (sym is)) in
+    ∙ ap (λ one. filter_map f (texts (take i xs)) ++ one) (found-one (f ((get_or xs i d).now)) ∙ ap option_to_list (sym is)) in
     more ∙ ap (λ edges. edges ++ map (edge_from place) (option_to_list found)) before
     ∙ append_assoc first _ _ ∙ ap (λ edges. first ++ edges) (sym (map-append (edge_from place) (filter_map f (texts (take i xs))) (option_to_list found)) ∙ ap (map (edge_from place)) (sym all))
 
 -- ---- templates stand among the blocks
-
-All-one : (P : ℕ → Type 0) (found : Option ℕ) (others : List ℕ) → IfSome found P → All P others → All P (cons_option found others)
-All-one P None others here rest = rest
-All-one P (Some k) others here rest = All-cons P k others here rest
-
-All-found : (f : List ℕ → Option ℕ) (P : ℕ → Type 0) → ((name : List ℕ) → IfSome (f name) P) → (names : List (List ℕ)) → All P (filter_map f names)
-All-found f P each [] = All-nil P
-All-found f P each (name ∷ names) = All-one P (f name) (filter_map f names) (each name) (All-found f P each names)
 
 pub templates-within : (blocks : List Block) (block : Block) → All (λ q. q < length blocks) (templates_of blocks block)
 unfolding template_place

@@ -4,7 +4,7 @@ use Rattle.std.specs.List.{list_any}
 use Rattle.std.specs.Option.{option_map_or}
 use Rattle.graph.specs.Chains.{IsOnLoop}
 use Rattle.graph.specs.Edges.{Leads}
-use Rattle.graph.specs.Order.{IsOrder}
+use Rattle.graph_order.specs.Order.{IsOrder}
 use Rattle.object_reader.specs.declared.block.Block.{Block}
 use Rattle.object_inheritance.specs.declared.templates.TemplateFault.{TemplateFault}
 use Rattle.object_inheritance.specs.declared.templates.TemplateFault.TheVariants.{UnknownTemplate, TemplateLoop, Doubled}

@@ -1,6 +1,7 @@
 -- Blocks and their directives, one statement at a time.
 use Rattle.std.proofs.Common.{◌≡◌, ℕ, ◌<◌, ◌≤◌, true, false, List, [], ◌∷◌, ◌++◌, Result, Ok, Err, length, nat_lt, refl, sym, ap, subst, ◌∙◌, append_assoc, arith, tests}
 use Rattle.std.proofs.lemmas.List.{append-nil}
+use Rattle.due_model.specs.Limits.{text_limit}
 use Rattle.object_reader.specs.declared.block.BlockKind.{BlockKind}
 use Rattle.object_reader.specs.declared.block.Directive.{Directive}
 use Rattle.object_reader.specs.declared.block.Block.{Block}
@@ -149,10 +150,10 @@ module _ (front : List Block) (ss : List Statement) (whole : Result (List Block)
       block_outside directives after h = so_far ∙ ap (with_blocks front) (ap blocks_of next ∙ blocks_of-block n text rest after kind directives opens h) ∙ with_blocks-push front ((record { kind = kind; line = n; directives = directives }) ∷ []) (blocks_of after)
 
 -- a text within its limit
-pub read_text-blocks : (text : List ℕ) → length text ≤ 16777216 → read_text text ≡ blocks_of (statements_of text)
+pub read_text-blocks : (text : List ℕ) → length text ≤ text_limit → read_text text ≡ blocks_of (statements_of text)
 unfolding read_text
-read_text-blocks text h = let e : nat_lt 16777216 (length text) ≡ false = search (arith, tests) in rw e refl
+read_text-blocks text h = let e : nat_lt text_limit (length text) ≡ false = search (arith, tests) in rw e refl
 
-pub read_text-large : (text : List ℕ) → 16777216 < length text → read_text text ≡ Err TooLarge
+pub read_text-large : (text : List ℕ) → text_limit < length text → read_text text ≡ Err TooLarge
 unfolding read_text
-read_text-large text h = let e : nat_lt 16777216 (length text) ≡ true = search (arith, tests) in rw e refl
+read_text-large text h = let e : nat_lt text_limit (length text) ≡ true = search (arith, tests) in rw e refl

@@ -2,6 +2,7 @@
 use Rattle.std.proofs.Common.{◌≡◌, ℕ, ◌<◌, ◌≤◌, ◌⊎◌, inl, inr, Bool, true, false, List, [], ◌∷◌, ◌++◌, Option, None, Some, Result, Ok, Err, length, refl, sym, ap, subst, ◌∙◌, MatchResult, IfOk, IfErr, append_assoc}
 use Rattle.std.proofs.lemmas.Bool.{cases_lt}
 use Rattle.std.proofs.lemmas.List.{append-nil}
+use Rattle.due_model.specs.Limits.{text_limit}
 use Rattle.object_reader.specs.declared.block.BlockKind.{BlockKind}
 use Rattle.object_reader.specs.declared.block.Directive.{Directive}
 use Rattle.object_reader.specs.declared.block.Block.{Block}
@@ -287,7 +288,7 @@ fault_has_line ss fault (inl h) = faulty_has_line h.3 h.1 fault h.6
 fault_has_line ss fault (inr h) = record { line = h.0.line; kind = Unclosed; is = h.2 }
 
 -- what is read of a text is written so
-read_written : (text : List ℕ) (r : Result (List Block) ReadFault) → (16777216 < length text) ⊎ (length text ≤ 16777216) → read_text text ≡ r
+read_written : (text : List ℕ) (r : Result (List Block) ReadFault) → (text_limit < length text) ⊎ (length text ≤ text_limit) → read_text text ≡ r
     → MatchResult r (IsObjectText text) (IsRefused text)
 read_written text (Ok bs) (inl large) e = let n = read_text-large text large in cc
 read_written text (Ok bs) (inr fits) e =
@@ -303,14 +304,14 @@ read_written text (Err NoMemory) (inr fits) e =
 
 -- what is answered is written so
 pub answered_blocks : (text : List ℕ) (r : Result (List Block) ReadFault) → Gives {A = List Block} r (read_text text) → IfOk r (IsObjectText text)
-answered_blocks text (Ok bs) h = read_written text (Ok bs) (cases_lt 16777216 (length text)) h
+answered_blocks text (Ok bs) h = read_written text (Ok bs) (cases_lt text_limit (length text)) h
 answered_blocks text (Err fault) h = tt
 
 pub answered_fault : (text : List ℕ) (r : Result (List Block) ReadFault) → Gives {A = List Block} r (read_text text)
     → IfErr r (λ fault. (fault ≡ NoMemory) ⊎ IsRefused text fault)
 answered_fault text (Ok bs) h = tt
-answered_fault text (Err TooLarge) h = inr (read_written text (Err TooLarge) (cases_lt 16777216 (length text)) h)
-answered_fault text (Err (AtLine n fault)) h = inr (read_written text (Err (AtLine n fault)) (cases_lt 16777216 (length text)) h)
+answered_fault text (Err TooLarge) h = inr (read_written text (Err TooLarge) (cases_lt text_limit (length text)) h)
+answered_fault text (Err (AtLine n fault)) h = inr (read_written text (Err (AtLine n fault)) (cases_lt text_limit (length text)) h)
 answered_fault text (Err NoMemory) h = inl refl
 
 -- what is written so is answered, or memory runs out

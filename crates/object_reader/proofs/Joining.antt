@@ -6,6 +6,7 @@ use Rattle.std.proofs.lemmas.Str.{IsUtf8-from_is_utf8, is_utf8-from_IsUtf8}
 use Rattle.std.proofs.Math.Seq.{take-append_seam, get_or-append_seam}
 use Rattle.std.specs.List.{before_first}
 use Rattle.std.specs.Str.{is_utf8}
+use Rattle.due_model.specs.Limits.{line_limit}
 use Rattle.object_reader.specs.declared.fault.LineFault.{LineFault}
 use Rattle.object_reader.specs.declared.fault.LineFault.TheVariants.{NotUtf8, LineTooLong}
 use Rattle.object_reader.specs.Blanks.{is_blank, trim_start}
@@ -88,16 +89,16 @@ piece_written bs = by_last (ends_in_backslash bs) refl where
 
 faulty_piece : (l : Line) (f : LineFault) → IsFaultOf l f → line_piece l ≡ Err f
 unfolding line_piece
-faulty_piece l f (inl (long, is)) = let e : nat_lt 4096 (length l.bytes) ≡ true = search (arith, tests) in rw e (ap Err (sym is))
+faulty_piece l f (inl (long, is)) = let e : nat_lt line_limit (length l.bytes) ≡ true = search (arith, tests) in rw e (ap Err (sym is))
 faulty_piece l f (inr (short, bad, is)) =
-    let e : nat_lt 4096 (length l.bytes) ≡ false = search (arith, tests) in
+    let e : nat_lt line_limit (length l.bytes) ≡ false = search (arith, tests) in
     let u : is_utf8 l.bytes ≡ false = false_from_ne_true _ (λ t. bad (IsUtf8-from_is_utf8 l.bytes t)) in
     rw (e, u) (ap Err (sym is))
 
 sound_piece : (l : Line) → HasNoFault l → line_piece l ≡ Ok (piece_of (content l))
 unfolding line_piece
 sound_piece l (short, text) =
-    let e : nat_lt 4096 (length l.bytes) ≡ false = search (arith, tests) in
+    let e : nat_lt line_limit (length l.bytes) ≡ false = search (arith, tests) in
     let u : is_utf8 l.bytes ≡ true = is_utf8-from_IsUtf8 l.bytes text in
     rw (e, u) refl
 
@@ -105,8 +106,8 @@ abbrev FaultyOrNot : Line → Type 0
 FaultyOrNot l = ((f : LineFault) × IsFaultOf l f) ⊎ HasNoFault l
 
 faulty_or_not : (l : Line) → FaultyOrNot l
-faulty_or_not l = by_length (cases_lt 4096 (length l.bytes)) where
-  by_length : (4096 < length l.bytes) ⊎ (length l.bytes ≤ 4096) → FaultyOrNot l
+faulty_or_not l = by_length (cases_lt line_limit (length l.bytes)) where
+  by_length : (line_limit < length l.bytes) ⊎ (length l.bytes ≤ line_limit) → FaultyOrNot l
   by_length (inl long) = inl (LineTooLong, inl (long, refl))
   by_length (inr short) = by_text (is_utf8 l.bytes) refl where
     by_text : (t : Bool) → is_utf8 l.bytes ≡ t → FaultyOrNot l

@@ -1,5 +1,6 @@
 -- The blocks of object text (chapter "Object Configuration Overview").
 use Rattle.std.specs.Prelude.{◌≡◌, ℕ, Bool, true, false, nat_lt, ◌==◌, List, [], ◌∷◌, ◌++◌, length, Result, Ok, Err, if◌then◌else◌}
+use Rattle.due_model.specs.Limits.{text_limit}
 use Rattle.object_reader.specs.declared.block.Directive.{Directive}
 use Rattle.object_reader.specs.declared.block.Block.{Block}
 use Rattle.object_reader.specs.declared.fault.LineFault.{LineFault}
@@ -82,7 +83,7 @@ unfoldable mutual
 -- The text of an object file: at most 16,777,216 bytes, newlines counted, that are blocks.
 unfoldable pub read_text : List ℕ → Result (List Block) ReadFault
 read_text text =
-    if nat_lt 16777216 (length text) then Err TooLarge else blocks_of (statements_of text)
+    if nat_lt text_limit (length text) then Err TooLarge else blocks_of (statements_of text)
 
 -- What a function gives is what the definition gives, unless memory ran out.
 abbrev pub Gives : {A : Type 0} → Result A ReadFault → Result A ReadFault → Type 0

@@ -2,6 +2,7 @@
 use Rattle.std.specs.Prelude.{◌≡◌, ℕ, ◌<◌, ◌≤◌, ◌⊎◌, false, true, List, [], ◌∷◌, ◌++◌, length, Option, None, Some, Ok, Err}
 use Rattle.std.specs.List.{All}
 use Rattle.std.specs.Str.{IsUtf8}
+use Rattle.due_model.specs.Limits.{text_limit}
 use Rattle.object_reader.specs.declared.block.BlockKind.{BlockKind}
 use Rattle.object_reader.specs.declared.block.Directive.{Directive}
 use Rattle.object_reader.specs.declared.block.Block.{Block}
@@ -94,7 +95,7 @@ pub record HasStatements (text : List ℕ) (statements : List Statement) : Type 
 -- The text is that of the blocks: at most 16,777,216 bytes, newlines counted, and its statements are the blocks.
 pub record IsObjectText (text : List ℕ) (blocks : List Block) : Type 0 where
   pub statements : List Statement
-  pub fits : length text ≤ 16777216
+  pub fits : length text ≤ text_limit
   pub has : HasStatements text statements
   pub parts : AreBlocks statements blocks
 
@@ -136,8 +137,8 @@ IsFirstFault ss fault =
 
 -- The text is refused with this fault: it is too large, or it isn't and this is its first fault.
 abbrev pub IsRefused : List ℕ → ReadFault → Type 0
-IsRefused text TooLarge = 16777216 < length text
+IsRefused text TooLarge = text_limit < length text
 IsRefused text (AtLine n fault) =
-    (statements : List Statement) × (length text ≤ 16777216) × HasStatements text statements
+    (statements : List Statement) × (length text ≤ text_limit) × HasStatements text statements
     × IsFirstFault statements (AtLine n fault)
 IsRefused text NoMemory = ⊥

@@ -1,6 +1,7 @@
 -- How physical lines make joined lines (chapter "Object Configuration Overview").
 use Rattle.std.specs.Prelude.{◌≡◌, ℕ, ◌+◌, ◌-◌, ◌<◌, ◌≤◌, ◌⊎◌, Bool, true, false, not, ◌==◌, nat_lt, List, [], ◌∷◌, ◌++◌, length, take, slice_index, Result, Ok, Err, if◌then◌else◌}
 use Rattle.std.specs.Str.{IsUtf8, is_utf8}
+use Rattle.due_model.specs.Limits.{line_limit}
 use Rattle.object_reader.specs.declared.fault.LineFault.{LineFault}
 use Rattle.object_reader.specs.declared.fault.LineFault.TheVariants.{NotUtf8, LineTooLong}
 use Rattle.object_reader.specs.Blanks.{AreBlanks, BeginsTight, trim_start}
@@ -14,12 +15,12 @@ pub record JoinedLine : Type 0 where
 
 -- The fault is that of a physical line by itself: it has more than 4,096 bytes, or else it isn't UTF-8.
 abbrev pub IsFaultOf : Line → LineFault → Type 0
-IsFaultOf l f = ((4096 < length l.bytes) × (f ≡ LineTooLong))
-    ⊎ ((length l.bytes ≤ 4096) × (IsUtf8 l.bytes → ⊥) × (f ≡ NotUtf8))
+IsFaultOf l f = ((line_limit < length l.bytes) × (f ≡ LineTooLong))
+    ⊎ ((length l.bytes ≤ line_limit) × (IsUtf8 l.bytes → ⊥) × (f ≡ NotUtf8))
 
 -- The physical line has no such fault.
 abbrev pub HasNoFault : Line → Type 0
-HasNoFault l = (length l.bytes ≤ 4096) × IsUtf8 l.bytes
+HasNoFault l = (length l.bytes ≤ line_limit) × IsUtf8 l.bytes
 
 -- The last byte is a backslash.
 abbrev pub EndsInBackslash : List ℕ → Type 0
@@ -80,7 +81,7 @@ piece_of bs = if ends_in_backslash bs
 
 -- A physical line has at most 4,096 bytes without its newline and is UTF-8. Then its content is a piece.
 unfoldable pub line_piece : Line → Result Piece LineFault
-line_piece l = if nat_lt 4096 (length l.bytes) then Err LineTooLong
+line_piece l = if nat_lt line_limit (length l.bytes) then Err LineTooLong
     else if not (is_utf8 l.bytes) then Err NotUtf8
     else Ok (piece_of (content l))
 

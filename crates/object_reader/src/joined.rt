@@ -5,6 +5,7 @@ ghost use Rattle.std.specs.Prelude.{◌≡◌, ◌∷◌, [], true, length, ◌�
 ghost use Rattle.std.specs.Prelude.{IfSome, MatchResult, MatchOption};
 ghost use Rattle.std.specs.Cow.{cow_slice_items};
 ghost use Rattle.std.specs.Str.{is_utf8};
+ghost use Rattle.due_model.specs.Limits.{text_limit};
 ghost use Rattle.object_reader.specs.Blocks.{BreaksFirst};
 ghost use Rattle.object_reader.specs.Joined.{JoinedLine, Piece, ends_in_backslash, piece_of, line_piece};
 ghost use Rattle.object_reader.specs.Joined.{onto_first, joined_from};
@@ -13,12 +14,10 @@ ghost use Rattle.object_reader.specs.Lines.{Line, lines_of, HasNoSemicolon};
 use crate::blanks::trim_start;
 use crate::fault::{LineFault, ReadFault};
 use crate::line::{TextLine, content, split_line};
+use due_model::limits::LINE_LIMIT;
 use std::alloc::Global;
 use std::borrow::CowSlice;
 use std::marker::Model;
-
-/// The longest physical line, in bytes without its newline.
-const LINE_LIMIT: usize = 4096;
 
 /// What a physical line gives to its joined line, and whether that goes on in the next line.
 #[derive(Clone, Copy)]
@@ -121,7 +120,7 @@ impl<'a> Model for JoinedReader<'a> {
 impl<'a> JoinedReader<'a> {
     /// All joined lines of a text.
     pub(crate) fn new(text: &'a [u8]) -> JoinedReader<'a>
-        requires { length text.now ≤ 16777216 }
+        requires { length text.now ≤ text_limit }
         ensures { result ≡ joined_from 1 (lines_of text.now) }
     {
         JoinedReader {

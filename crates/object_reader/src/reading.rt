@@ -19,11 +19,9 @@ use crate::joined::JoinedReader;
 use crate::statement::{is_close, is_define, opened, statement};
 use crate::text::LineText;
 use crate::words::Words;
+pub use due_model::limits::TEXT_LIMIT;
 use due_model::sequence::Sequence;
 use std::alloc::{AllocError, Global};
-
-/// The longest text, in bytes, newlines counted.
-pub const TEXT_LIMIT: usize = 16_777_216;
 
 /// The next statement of the lines. Lines that say nothing are skipped.
 fn next_statement<'a>(

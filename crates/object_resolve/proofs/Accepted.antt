@@ -28,7 +28,8 @@ use Rattle.object_resolve.specs.Limits.{is_lane, lanes_in}
 use Rattle.object_resolve.specs.Resolve.{IsRefusal, IsResolved}
 use Rattle.object_resolve.proofs.FaultLemmas.{none-refused}
 use Rattle.object_resolve.proofs.LimitLemmas.{within-unrefused}
-use Rattle.object_resolve.proofs.ListLemmas.{All-paired, length-paired, position-within}
+use Rattle.lemmas.proofs.Searches.{position-within}
+use Rattle.object_resolve.proofs.ListLemmas.{All-paired, length-paired}
 
 -- ---- numbers within their lists
 

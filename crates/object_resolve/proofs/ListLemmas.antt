@@ -1,27 +1,24 @@
 -- Facts about lists: what a test finds among what a function makes of a list, and one more element of a list
 -- that is filtered or whose parts are taken.
-use Rattle.std.proofs.Common.{◌≡◌, ℕ, suc, ◌+◌, ◌-◌, ◌<◌, ◌≤◌, nat_lt, Bool, true, false, not, cond, ◌||◌, List, [], ◌∷◌, ◌++◌, append_assoc, zero, Bor, length, map, filter, take, drop, get_or, Option, Some, None, refl, sym, ap, subst, eqb, Contains, length-append, length-take-le, take_all, ◌∙◌, arith}
-use Rattle.std.specs.List.{All, AllZip, list_any, position, position_or_len, slice_split, before_first}
-use Rattle.std.specs.List.{after_first, cons_option, dedup, filter_map, onto_first}
-use Rattle.std.specs.Option.{IfSome, option_to_list}
-use Rattle.std.proofs.lemmas.Bool.{ltb-true}
+use Rattle.std.proofs.Common.{◌≡◌, ℕ, suc, ◌+◌, ◌-◌, ◌<◌, ◌≤◌, Bool, true, false, not, cond, ◌||◌, List, [], ◌∷◌, ◌++◌, Bor, length, map, filter, take, get_or, Option, refl, sym, ap, subst, eqb, Contains, length-append, take_all, ◌∙◌, arith}
+use Rattle.std.specs.List.{All, AllZip, list_any, position, position_or_len}
+use Rattle.std.specs.List.{dedup, filter_map}
+use Rattle.std.specs.Option.{option_to_list}
 use Rattle.std.proofs.lemmas.Cmp.{nat_list_eq_equiv}
 use Rattle.std.proofs.lemmas.List.Folds.{list_any-append}
 use Rattle.std.proofs.lemmas.Map.Steps.{list_any_congr}
 use Rattle.std.proofs.lemmas.List.Elements.{filter_map-append}
-use Rattle.std.proofs.Math.Seq.{take-length}
-use Rattle.object_reader.specs.Blanks.{trimmed}
+use Rattle.lemmas.proofs.Searches.{found-one, or-false, texts-more}
 use Rattle.object_resolve.specs.Build.{AreSetOf}
-use Rattle.object_values.specs.Values.{entries, is_comma, texts}
+use Rattle.object_values.specs.Values.{entries, texts}
 use Rattle.std.specs.List.Sorted.{IsPermutation, IsSorted, IsStrictlyIncreasing}
 use Rattle.std.specs.Ordering.{nat_cmp}
 use Rattle.std.proofs.lemmas.List.Kept.{Contains-dedup_nat, Contains-from_dedup}
 use Rattle.std.proofs.lemmas.List.Sorted.{Contains-permutation, IsPermutation-sym}
 use Rattle.std.proofs.lemmas.Map.Keys.{IsStrictlyIncreasing-dedup}
-use Rattle.std.proofs.lemmas.List.{append-nil, length-map, map-append, take_more, take_rest}
+use Rattle.std.proofs.lemmas.List.{append-nil, length-map, map-append, take_more}
 use Rattle.std.proofs.lemmas.List.Elements.{filter-append, All-nil, All-cons, All-push, All-same}
 use Rattle.std.specs.Str.{bytes_eq}
-use Rattle.std.proofs.lemmas.List.Splits.{slice_split_first}
 
 pub list_any-of_map : {X Y : Type 0} (p : Y → Bool) (h : X → Y) (xs : List X) → list_any p (map h xs) ≡ list_any (λ x. p (h x)) xs
 list_any-of_map p h [] = refl
@@ -122,36 +119,14 @@ pub pairs-skip : {X Y : Type 0} (R : X → Y → Type 0) (p : X → Bool) (xs : 
     → AllZip R (filter p (take i xs)) ys → AllZip R (filter p (take (i + 1) xs)) ys
 pairs-skip R p xs ys i x within is fails pairs = rw (filter-skip p xs i x within is fails) pairs
 
--- ---- where a search ends
-
-found-within : (b : Bool) (a n : ℕ) → nat_lt a n ≡ b → IfSome (cond b (Some a) None) (λ k. k < n)
-found-within true a n is = ltb-true a n is
-found-within false a n is = tt
-
-pub position-within : {X : Type 0} (p : X → Bool) (xs : List X) → IfSome (position p xs) (λ k. k < length xs)
-position-within p xs = found-within _ (position_or_len p xs) (length xs) refl
-
 -- ---- the texts of borrowed entries
-
-pub any-at : (p : List ℕ → Bool) (xs : List (Bor (List ℕ))) (i : ℕ) (d : Bor (List ℕ)) → i < length xs → true ≡ p ((get_or xs i d).now) → true ≡ list_any p (texts xs)
-any-at p [] i d within is = absurd (omega arith)
-any-at p (x ∷ xs) zero d within is = rw (← is) refl
-any-at p (x ∷ xs) (suc i) d within is =
-    elim (p x.now) as (λ b. true ≡ (b || list_any p (texts xs))) [ true ↦ refl | false ↦ any-at p xs i d (omega arith) is ]
-
-texts-more : (xs : List (Bor (List ℕ))) (i : ℕ) (d : Bor (List ℕ)) → i < length xs → texts (take (i + 1) xs) ≡ texts (take i xs) ++ (get_or xs i d).now ∷ []
-texts-more xs i d within = ap texts (take_more xs i d within) ∙ map-append (λ text. text.now) (take i xs) (get_or xs i d ∷ [])
-
-listed-one : (found : Option ℕ) → cons_option found [] ≡ option_to_list found
-listed-one None = refl
-listed-one (Some k) = refl
 
 -- one more entry of those whose numbers are found
 pub found-more : (f : List ℕ → Option ℕ) (xs : List (Bor (List ℕ))) (i : ℕ) (d : Bor (List ℕ)) (old new : List ℕ) (found : Option ℕ) → i < length xs
     → old ≡ filter_map f (texts (take i xs)) → found ≡ f ((get_or xs i d).now) → new ≡ old ++ option_to_list found → new ≡ filter_map f (texts (take (i + 1) xs))
 found-more f xs i d old new found within before is more =
     more ∙ ap (λ numbers. numbers ++ option_to_list found) before
-    ∙ ap (λ one. filter_map f (texts (take i xs)) ++ one) (ap option_to_list is ∙ sym (listed-one (f ((get_or xs i d).now))))
+    ∙ ap (λ one. filter_map f (texts (take i xs)) ++ one) (ap option_to_list is ∙ sym (found-one (f ((get_or xs i d).now))))
     ∙ sym (filter_map-append f (texts (take i xs)) ((get_or xs i d).now ∷ [])) ∙ ap (filter_map f) (sym (texts-more xs i d within))
 
 -- ---- sets of numbers
@@ -175,9 +150,6 @@ or-right a b both = elim a as (λ x. (b ≡ true → x ≡ true) → x ≡ (x ||
     none true here = here refl
     none false here = refl
 
-or-false : (a b : Bool) → (a || (b || false)) ≡ (a || b)
-or-false a b = elim a as (λ x. (x || (b || false)) ≡ (x || b)) [ true ↦ refl | false ↦ elim b as (λ y. (y || false) ≡ y) [ true ↦ refl | false ↦ refl ] ]
-
 pub or-assoc : (a b c : Bool) → ((a || b) || c) ≡ (a || (b || c))
 or-assoc a b c = elim a as (λ x. ((x || b) || c) ≡ (x || (b || c))) [ true ↦ refl | false ↦ refl ]
 
@@ -189,12 +161,6 @@ has-added old new added name is = ap (list_any (bytes_eq name)) is ∙ one (list
     one : (b : Bool) → list_any (bytes_eq added) old ≡ b → list_any (bytes_eq name) (cond b old (old ++ added ∷ [])) ≡ (list_any (bytes_eq name) old || bytes_eq name added)
     one true there = or-right (list_any (bytes_eq name) old) (bytes_eq name added) (λ same. list_any_congr nat_list_eq_equiv name added old same ∙ there)
     one false there = list_any-append (bytes_eq name) old (added ∷ []) ∙ or-false (list_any (bytes_eq name) old) (bytes_eq name added)
-
--- one more entry
-pub any-more : (p : List ℕ → Bool) (xs : List (Bor (List ℕ))) (i : ℕ) (d : Bor (List ℕ)) → i < length xs
-    → list_any p (texts (take (i + 1) xs)) ≡ (list_any p (texts (take i xs)) || p ((get_or xs i d).now))
-any-more p xs i d within =
-    ap (list_any p) (texts-more xs i d within) ∙ list_any-append p (texts (take i xs)) ((get_or xs i d).now ∷ []) ∙ or-false (list_any p (texts (take i xs))) (p ((get_or xs i d).now))
 
 -- one more block that passes
 pub any-item : {X : Type 0} (q p : X → Bool) (xs : List X) (i : ℕ) (x : X) → i < length xs → x ≡ get_or xs i x → p x ≡ true

@@ -7,12 +7,12 @@ use Rattle.std.proofs.Math.Seq.{take-length}
 use Rattle.object_reader.specs.Blanks.{trimmed}
 use Rattle.object_values.specs.Values.{entries, is_comma}
 
-position_or_len-le : (bytes : List ℕ) → position_or_len is_comma bytes ≤ length bytes
+pub position_or_len-le : (bytes : List ℕ) → position_or_len is_comma bytes ≤ length bytes
 position_or_len-le [] = omega arith
 position_or_len-le (x ∷ xs) =
     elim (is_comma x) as (λ b. cond (not b) (1 + position_or_len is_comma xs) 0 ≤ length (x ∷ xs)) [ true ↦ omega arith | false ↦ let few = position_or_len-le xs in omega (arith, few) ]
 
-split-whole : (value : List ℕ) → position_or_len is_comma value ≡ length value → slice_split is_comma value ≡ value ∷ []
+pub split-whole : (value : List ℕ) → position_or_len is_comma value ≡ length value → slice_split is_comma value ≡ value ∷ []
 split-whole [] none = refl
 split-whole (x ∷ xs) none =
     elim (is_comma x) as (λ b. cond (not b) (1 + position_or_len is_comma xs) 0 ≡ length (x ∷ xs) → cond b ([] ∷ slice_split is_comma xs) (onto_first x (slice_split is_comma xs)) ≡ (x ∷ xs) ∷ []) [
@@ -25,7 +25,7 @@ one_entry : (part : List ℕ) (others : List (List ℕ))
 one_entry part others =
     elim (eqb (length (trimmed part)) 0) as (λ b. cond (not b) (trimmed part ∷ filter (λ e. not (eqb (length e) 0)) (map trimmed others)) (filter (λ e. not (eqb (length e) 0)) (map trimmed others)) ≡ cond b [] (trimmed part ∷ []) ++ filter (λ e. not (eqb (length e) 0)) (map trimmed others)) [ true ↦ refl | false ↦ refl ]
 
-first_long : (value : List ℕ) → length (before_first is_comma value) ≡ position_or_len is_comma value
+pub first_long : (value : List ℕ) → length (before_first is_comma value) ≡ position_or_len is_comma value
 first_long value = let few = position_or_len-le value in length-take-le (position_or_len is_comma value) value few
 
 -- the last part

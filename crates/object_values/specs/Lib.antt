@@ -1,3 +1,5 @@
 pub mod Values
+pub mod Options
+pub mod Ranges
 pub mod Fault
 pub mod Blocks

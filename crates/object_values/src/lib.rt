@@ -4,4 +4,6 @@
 
 pub mod blocks;
 pub mod fault;
+pub mod options;
+pub mod ranges;
 pub mod values;

@@ -1,2 +1,4 @@
+pub mod EscalatedLemmas
+pub mod MasterLemmas
 pub mod ProblemLemmas
 pub mod SlowLemmas

@@ -1,13 +1,13 @@
 -- The ranges of the values that the histories of the slow program hold.
-use Rattle.std.specs.Prelude.{ℕ, ◌*◌, ◌≤◌}
+use Rattle.std.specs.Prelude.{ℕ, ◌*◌, ◌^◌, ◌≤◌}
 use Rattle.due_model.specs.declared.notice.Outcome.{Outcome}
 use Rattle.due_model.specs.declared.notice.Outcome.TheVariants.{Nothing, Sent, Suppressed}
 use Rattle.due_model.specs.declared.rules.Last.{Last}
-use Rattle.due_model.specs.Limits.{last_moment, max_number}
+use Rattle.due_model.specs.Limits.{last_moment}
 
--- the greatest gap, in seconds
+-- no gap is longer, in seconds
 abbrev pub longest_gap : ℕ
-longest_gap = 60 * max_number
+longest_gap = 60 * 2 ^ 32
 
 -- the moment and the gap of an outcome are within their limits
 abbrev pub IsInRange : Outcome → Type 0

@@ -1,2 +1,4 @@
+pub mod Escalated
 pub mod Histories
 pub mod Notices
+pub mod Retries

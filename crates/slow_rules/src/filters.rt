@@ -1,102 +1,107 @@
 //! The filters of an object and of a contact, tried in their order (chapter "Notifications", "What Filters
 //! Must Be Passed In Order For Notifications To Be Sent?").
 
-ghost use Rattle.std.specs.Prelude.{◌≡◌, ◌<◌, ◌≤◌, ◌^◌, length, reverse, None, All};
-ghost use Rattle.std.specs.Prelude.{IfSome, option_map};
-ghost use Rattle.due_model.specs.Limits.{last_moment, max_number};
-ghost use Rattle.due_model.specs.Rules.{is_problem, is_recovery, is_of_downtime, is_of_problem, failing};
-ghost use Rattle.due_model.specs.Rules.{contact_failing};
+ghost use Rattle.std.specs.Prelude.{◌≡◌, ◌≤◌, ◌+◌, ◌*◌, ◌==◌, ◌&&◌, nat_lt};
+ghost use Rattle.std.specs.Prelude.{IfOk, IfSome};
+ghost use Rattle.due_model.specs.Limits.{last_moment};
+ghost use Rattle.due_model.specs.Rules.{contact_failing, failing, is_problem, is_too_soon};
 ghost use Rattle.slow_rules.specs.Histories.{IsLastInRange};
 
-use crate::periods::in_period;
-use due_model::config::{Config, Rights};
-use due_model::notice::{Filter, Kind};
+use crate::subject::Subject;
+use due_model::config::Rights;
+use due_model::notice::Filter;
 use due_model::rules::{Attempt, View, is_too_soon};
-use due_model::zone::Zone;
+use slow_lookups::periods::in_period;
+use std::alloc::{AllocError, Global};
 
-/// Whether this is a problem notification.
-pub(crate) fn is_problem(kind: Kind) -> bool
-    ensures { result ≡ is_problem kind }
+/// Whether no notice of the problem went out yet and its first delay hasn't passed.
+fn is_within_delay(view: View, attempt: Attempt) -> bool
+    requires { view.began ≤ last_moment }
+    ensures { result ≡ (is_problem attempt.kind && view.sent == 0
+        && nat_lt attempt.moment (view.began + 60 * view.delay)) }
 {
-    matches!(kind, Kind::Problem)
+    let first_moment = view.began + 60 * u64::from(view.delay);
+    attempt.kind.is_problem() && view.sent == 0 && attempt.moment < first_moment
 }
 
-/// Whether this is a recovery notification.
-pub(crate) fn is_recovery(kind: Kind) -> bool
-    ensures { result ≡ is_recovery kind }
+/// Whether the last problem notice reported the same state, and its gap is 0 or hasn't passed.
+fn is_within_gap(view: View, attempt: Attempt) -> bool
+    requires { IfSome view.last IsLastInRange }
+    ensures { result ≡ (is_problem attempt.kind
+        && is_too_soon view.last attempt.state attempt.moment) }
 {
-    matches!(kind, Kind::Recovery)
-}
-
-/// Whether this notification is about a downtime.
-pub(crate) fn is_of_downtime(kind: Kind) -> bool
-    ensures { result ≡ is_of_downtime kind }
-{
-    matches!(
-        kind,
-        Kind::DowntimeStart | Kind::DowntimeEnd | Kind::DowntimeCancelled
-    )
-}
-
-/// Whether this notification is about a problem, or the recovery from one.
-pub(crate) fn is_of_problem(kind: Kind) -> bool
-    ensures { result ≡ is_of_problem kind }
-{
-    is_problem(kind) || is_recovery(kind)
+    attempt.kind.is_problem() && is_too_soon(view.last, attempt.state, attempt.moment)
 }
 
 /// The first of an object's filters that fails, in their order.
-pub(crate) fn failing(config: &Config, zone: &Zone, view: View, attempt: Attempt) -> Option<Filter>
-    requires period { view.period ≡ None }
+pub(crate) fn failing(
+    alloc: Global,
+    subject: &Subject<'_>,
+    view: View,
+    attempt: Attempt,
+) -> Result<Option<Filter>, AllocError>
+    requires moment { attempt.moment ≤ last_moment }
     requires began { view.began ≤ last_moment }
-    requires delay { view.delay ≤ max_number }
     requires last { IfSome view.last IsLastInRange }
-    ensures { result ≡ failing config.now zone.now view attempt }
+    ensures { IfOk result (λ filter. filter
+        ≡ failing subject.now.config.now subject.now.zone.now view attempt) }
 {
     let kind = attempt.kind;
-    let first_moment = view.began + 60 * u64::from(view.delay);
     if !view.program {
-        Some(Filter::Program)
+        Ok(Some(Filter::Program))
     } else if !view.enabled {
-        Some(Filter::Disabled)
-    } else if !is_of_downtime(kind) && view.down {
-        Some(Filter::Downtime)
-    } else if is_of_problem(kind) && view.flapping {
-        Some(Filter::Flapping)
+        Ok(Some(Filter::Disabled))
+    } else if !kind.is_of_downtime() && view.down {
+        Ok(Some(Filter::Downtime))
+    } else if kind.is_of_problem() && view.flapping {
+        Ok(Some(Filter::Flapping))
     } else if !view.options.contains(kind.letter(attempt.state)) {
-        Some(Filter::Options)
-    } else if is_recovery(kind) && view.sent == 0 {
-        Some(Filter::NoProblem)
-    } else if !in_period(config, zone, view.period, attempt.moment) {
-        Some(Filter::Period)
-    } else if is_of_problem(kind) && view.depends {
-        Some(Filter::Dependency)
-    } else if is_problem(kind) && view.sent == 0 && attempt.moment < first_moment {
-        Some(Filter::FirstDelay)
-    } else if is_problem(kind) && is_too_soon(view.last, attempt.state, attempt.moment) {
-        Some(Filter::Interval)
+        Ok(Some(Filter::Options))
+    } else if kind.is_recovery() && view.sent == 0 {
+        Ok(Some(Filter::NoProblem))
+    } else if !in_period(
+        alloc,
+        subject.config,
+        subject.zone,
+        view.period,
+        attempt.moment,
+    )? {
+        Ok(Some(Filter::Period))
+    } else if kind.is_of_problem() && view.depends {
+        Ok(Some(Filter::Dependency))
+    } else if is_within_delay(view, attempt) {
+        Ok(Some(Filter::FirstDelay))
+    } else if is_within_gap(view, attempt) {
+        Ok(Some(Filter::Interval))
     } else {
-        None
+        Ok(None)
     }
 }
 
 /// The first of a contact's filters that fails, in their order.
 pub(crate) fn contact_failing(
-    config: &Config,
-    zone: &Zone,
+    alloc: Global,
+    subject: &Subject<'_>,
     rights: &Rights,
     attempt: Attempt,
-) -> Option<Filter>
-    requires { rights.now.period ≡ None }
-    ensures { result ≡ contact_failing config.now zone.now rights.now attempt }
+) -> Result<Option<Filter>, AllocError>
+    requires moment { attempt.moment ≤ last_moment }
+    ensures { IfOk result (λ filter. filter
+        ≡ contact_failing subject.now.config.now subject.now.zone.now rights.now attempt) }
 {
     if !rights.enabled {
-        Some(Filter::ContactDisabled)
+        Ok(Some(Filter::ContactDisabled))
     } else if !rights.options.contains(attempt.kind.letter(attempt.state)) {
-        Some(Filter::ContactOptions)
-    } else if !in_period(config, zone, rights.period, attempt.moment) {
-        Some(Filter::ContactPeriod)
+        Ok(Some(Filter::ContactOptions))
+    } else if !in_period(
+        alloc,
+        subject.config,
+        subject.zone,
+        rights.period,
+        attempt.moment,
+    )? {
+        Ok(Some(Filter::ContactPeriod))
     } else {
-        None
+        Ok(None)
     }
 }

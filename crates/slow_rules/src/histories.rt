@@ -1,22 +1,23 @@
 //! What the outcomes so far say of the object's problem, read by going over all of them.
 
 ghost use Rattle.std.specs.Prelude.{◌≡◌, ◌<◌, ◌≤◌, ◌^◌, length, reverse, None, All};
-ghost use Rattle.std.specs.Prelude.{IfSome, option_map, count_by, is_some, List, ◌∷◌};
-ghost use Rattle.due_model.specs.Limits.{last_moment, max_number};
+ghost use Rattle.std.specs.Prelude.{IfOk, IfSome, option_map, count_by, is_some, List, ◌∷◌};
+ghost use Rattle.due_model.specs.Limits.{last_moment};
 ghost use Rattle.due_model.specs.declared.notice.Outcome.{Outcome};
 ghost use Rattle.due_model.specs.Histories.{before, of_problem, notice_of, notices_sent, last_notice};
 ghost use Rattle.due_model.specs.Histories.{after_last, retry_after, ready};
-ghost use Rattle.due_model.specs.Periods.{next_in};
-ghost use Rattle.slow_rules.specs.Histories.{longest_gap, IsInRange, IsLastInRange};
+ghost use Rattle.slow_rules.specs.Histories.{IsInRange, IsLastInRange};
+ghost use Rattle.slow_rules.specs.Retries.{IsRetryInRange, retry_moment};
 
-use crate::periods::next_in;
 use crate::readings::{begins, hard};
-use due_model::config::{Config, Object, ObjectId, PeriodId};
+use crate::subject::Subject;
+use due_model::config::ObjectId;
 use due_model::event::Event;
 use due_model::notice::{Filter, Kind, Outcome};
 use due_model::rules::{Last, next_notice};
 use due_model::state::State;
-use due_model::zone::Zone;
+use slow_lookups::periods::next_in;
+use std::alloc::{AllocError, Global};
 
 /// The outcomes of the object's last problem: those from the event on with which it began.
 pub(crate) fn of_problem<'a>(
@@ -95,52 +96,61 @@ pub(crate) fn after_last(last: Option<Last>) -> Option<u64>
     }
 }
 
-/// When a problem is attempted again by the clock, in seconds since the epoch, after an attempt at `moment`
-/// that this filter stopped; none is never.
-pub(crate) fn retry_after(
-    config: &Config,
-    zone: &Zone,
-    settings: &Object,
+/// When a problem is attempted again by the clock.
+#[derive(Clone, Copy)]
+pub(crate) enum Retry {
+    /// At this moment, in seconds since the epoch; none is never.
+    At(Option<u64>),
+    /// At the next moment of the object's period, from this one on.
+    InPeriod(u64),
+}
+
+/// When a problem is attempted again, after an attempt at `moment` that this filter stopped.
+fn retry_after(
+    subject: &Subject<'_>,
     began: u64,
     last: Option<Last>,
     moment: u64,
     filter: Filter,
-) -> Option<u64>
-    requires period { settings.now.period ≡ None }
-    requires delay { settings.now.delay ≤ max_number }
+) -> Retry
     requires began { began ≤ last_moment }
     requires moment { moment ≤ last_moment }
     requires last { IfSome last IsLastInRange }
-    ensures { result ≡ retry_after config.now zone.now settings.now began last moment filter }
+    ensures value { retry_moment subject.now.config.now subject.now.zone.now subject.now.object.now
+        result
+        ≡ retry_after subject.now.config.now subject.now.zone.now subject.now.object.now began last
+        moment
+        filter }
+    ensures in_range { IsRetryInRange result }
 {
     match filter {
-        Filter::Period => next_in(config, zone, settings.period, moment),
-        Filter::FirstDelay => Some(began + 60 * u64::from(settings.delay)),
-        Filter::Interval => after_last(last),
-        _ => Some(moment + 60),
+        Filter::Period => Retry::InPeriod(moment),
+        Filter::FirstDelay => Retry::At(Some(began + 60 * u64::from(subject.object.delay))),
+        Filter::Interval => Retry::At(after_last(last)),
+        _ => Retry::At(Some(moment + 60)),
     }
 }
 
-/// When the clock next attempts a problem, after the outcome `now`, where it was `earlier` before it and
-/// `last` was the last notice.
-fn ready_after(
-    config: &Config,
-    zone: &Zone,
-    settings: &Object,
+/// When a problem is attempted again after the outcome `now`, where it was `earlier` before it and `last` was
+/// the last notice.
+fn retry_with(
+    subject: &Subject<'_>,
     began: u64,
     now: Outcome,
     last: Option<Last>,
-    earlier: Option<u64>,
-) -> Option<u64>
-    requires period { settings.now.period ≡ None }
-    requires delay { settings.now.delay ≤ max_number }
+    earlier: Retry,
+) -> Retry
     requires began { began ≤ last_moment }
     requires now { IsInRange now }
     requires last { IfSome last IsLastInRange }
-    ensures { (history : List Outcome)
-        → earlier ≡ ready config.now zone.now settings.now began history
+    ensures value { (history : List Outcome)
+        → retry_moment subject.now.config.now subject.now.zone.now subject.now.object.now earlier
+        ≡ ready subject.now.config.now subject.now.zone.now subject.now.object.now began history
         → last ≡ last_notice history
-        → result ≡ ready config.now zone.now settings.now began (now ∷ history) }
+        → retry_moment subject.now.config.now subject.now.zone.now subject.now.object.now result
+        ≡ ready subject.now.config.now subject.now.zone.now subject.now.object.now began (now ∷
+        history) }
+    ensures in_range { IsRetryInRange earlier → IsRetryInRange result }
 {
     match now {
         Outcome::Sent {
@@ -148,39 +158,60 @@ fn ready_after(
             moment,
             gap,
             ..
-        } => next_notice(moment, gap),
+        } => Retry::At(next_notice(moment, gap)),
         Outcome::Suppressed {
             kind: Kind::Problem,
             moment,
             filter,
             ..
-        } => { retry_after(config, zone, settings, began, last, moment, filter) }
+        } => retry_after(subject, began, last, moment, filter),
         _ => earlier,
     }
 }
 
-/// When the clock next attempts a problem, by its last attempt as a problem, in seconds since the epoch;
-/// none is never.
-pub(crate) fn ready(
-    config: &Config,
-    zone: &Zone,
-    settings: &Object,
-    began: u64,
-    history: &[Outcome],
-) -> Option<u64>
-    requires period { settings.now.period ≡ None }
-    requires delay { settings.now.delay ≤ max_number }
+/// When a problem is attempted again, by the last attempt as a problem among these outcomes.
+fn last_retry(subject: &Subject<'_>, began: u64, history: &[Outcome]) -> Retry
     requires began { began ≤ last_moment }
     requires in_range { All IsInRange history.now }
-    ensures { result ≡ ready config.now zone.now settings.now began (reverse history.now) }
+    ensures value { retry_moment subject.now.config.now subject.now.zone.now subject.now.object.now
+        result
+        ≡ ready subject.now.config.now subject.now.zone.now subject.now.object.now began
+        (reverse history.now) }
+    ensures in_range { IsRetryInRange result }
 {
-    let mut ready = None;
+    let mut retry = Retry::At(None);
     let mut last = None;
     for outcome in history {
-        ready = ready_after(config, zone, settings, began, *outcome, last, ready);
+        retry = retry_with(subject, began, *outcome, last, retry);
         last = notice_of(*outcome).or(last);
     }
-    ready
+    retry
+}
+
+/// When the clock next attempts a problem, by its last attempt as a problem, in seconds since the epoch;
+/// none is never. After an attempt outside the object's period it goes over the seconds until it holds.
+pub(crate) fn ready(
+    alloc: Global,
+    subject: &Subject<'_>,
+    began: u64,
+    history: &[Outcome],
+) -> Result<Option<u64>, AllocError>
+    requires began { began ≤ last_moment }
+    requires in_range { All IsInRange history.now }
+    ensures { IfOk result (λ moment. moment
+        ≡ ready subject.now.config.now subject.now.zone.now subject.now.object.now began
+        (reverse history.now)) }
+{
+    match last_retry(subject, began, history) {
+        Retry::At(moment) => Ok(moment),
+        Retry::InPeriod(moment) => next_in(
+            alloc,
+            subject.config,
+            subject.zone,
+            subject.object.period,
+            moment,
+        ),
+    }
 }
 
 /// The outcomes of the problem that runs at an event, or ends there, from before that event, where `problem`

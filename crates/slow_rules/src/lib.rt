@@ -7,6 +7,6 @@ mod filters;
 mod histories;
 mod notices;
 mod outcomes;
-mod periods;
 mod readings;
 pub mod slow;
+mod subject;

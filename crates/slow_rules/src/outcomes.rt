@@ -1,86 +1,88 @@
 //! What becomes of an object at an event: what is attempted, and the first filter that stops it.
 
-ghost use Rattle.std.specs.Prelude.{◌≡◌, ◌≤◌, ◌<◌, ◌+◌, ◌^◌, [], ◌∷◌, All};
-ghost use Rattle.std.specs.Prelude.{IfSome, length, reverse, None};
-ghost use Rattle.due_model.specs.Accepted.{ObjectFits};
-ghost use Rattle.due_model.specs.Limits.{last_moment, max_number};
-ghost use Rattle.due_model.specs.Covered.{IsCovered, IsPlainEvent, IsPlainObject};
-ghost use Rattle.due_model.specs.Histories.{status_after, view, gap_of, judged, outcome};
-ghost use Rattle.due_model.specs.Readings.{moment};
+ghost use Rattle.std.specs.Prelude.{◌≡◌, ◌≤◌, ◌<◌, ◌+◌, ◌^◌, ◌∷◌, All};
+ghost use Rattle.std.specs.Prelude.{IfOk, IfSome};
+ghost use Rattle.std.specs.Prelude.{length, reverse, map};
+ghost use Rattle.std.specs.List.{range_with_len};
+ghost use Rattle.due_model.specs.Accepted.{IsAccepted};
+ghost use Rattle.due_model.specs.Dependencies.{dependency_fails};
+ghost use Rattle.due_model.specs.Histories.{status_after, down_with_host, view, gap_of, judged};
+ghost use Rattle.due_model.specs.Histories.{outcome, ready};
+ghost use Rattle.due_model.specs.Rules.{attempted};
+ghost use Rattle.due_model.specs.Limits.{last_moment, max_objects};
+ghost use Rattle.due_model.specs.Proper.{IsProper};
+ghost use Rattle.due_model.specs.Readings.{began, hard, moment};
 ghost use Rattle.slow_rules.specs.Histories.{IsInRange, IsLastInRange, longest_gap};
 
-use crate::escalations::gap;
-use crate::filters::{failing, is_problem};
+use crate::escalations::{Numbered, gap};
+use crate::filters::failing;
 use crate::histories::{before, last_notice, notices_sent, of_problem, ready};
-use crate::readings::{began, began_at, hard, moment_at, program_on};
-use due_model::config::{Config, Object, ObjectId};
+use crate::readings::{
+    began, began_at, depth, flapping, hard, hard_at, is_down_at, is_flapping_at, moment_at,
+    program_on,
+};
+use crate::subject::Subject;
+use due_model::config::{Config, ObjectId};
 use due_model::event::Event;
-use due_model::notice::Outcome;
+use due_model::notice::{Kind, Outcome};
 use due_model::rules::{Attempt, ObjectStatus, View, attempted};
-use due_model::zone::Zone;
+use due_model::state::State;
+use slow_lookups::dependencies::dependency_fails;
+use std::alloc::{AllocError, Global};
 
-/// The status of the object after the events. So far no downtime runs and nothing is flapping.
-pub(crate) fn status(config: &Config, object: ObjectId, past: &[Event]) -> ObjectStatus
-    requires { All (IsPlainEvent config.now) past.now }
+/// The status of the object after the events.
+fn status(object: ObjectId, past: &[Event]) -> ObjectStatus
     ensures value { result ≡ status_after object.0 (reverse past.now) }
-    ensures no_downtime { result.depth ≡ 0 }
+    ensures few { result.depth ≤ length past.now }
 {
     ObjectStatus {
         state: hard(object, past),
-        depth: 0,
-        flapping: false,
+        depth: depth(object, past),
+        flapping: flapping(object, past),
     }
 }
 
 /// The gap of a notice in seconds: only a problem's has one.
-pub(crate) fn gap_of(
-    config: &Config,
-    zone: &Zone,
-    object: ObjectId,
-    settings: &Object,
+fn gap_of(
+    alloc: Global,
+    subject: &Subject<'_>,
     attempt: Attempt,
     number: u64,
-) -> u64
-    requires escalations { config.now.escalations ≡ [] }
-    requires interval { settings.now.interval ≤ max_number }
-    ensures value { result ≡ gap_of config.now zone.now object.0 settings.now attempt number }
-    ensures in_range { result ≤ longest_gap }
+) -> Result<u64, AllocError>
+    requires moment { attempt.moment ≤ last_moment }
+    ensures value { IfOk result (λ seconds. seconds
+        ≡ gap_of subject.now.config.now subject.now.zone.now subject.now.id.0
+        subject.now.object.now attempt
+        number) }
+    ensures in_range { IfOk result (λ seconds. seconds ≤ longest_gap) }
 {
-    if is_problem(attempt.kind) {
-        let letter = attempt.kind.letter(attempt.state);
-        gap(
-            config,
-            zone,
-            object,
-            settings,
-            number,
-            letter,
-            attempt.moment,
-        )
-    } else {
-        0
+    if !attempt.kind.is_problem() {
+        return Ok(0);
     }
+    let notification = Numbered {
+        number,
+        letter: attempt.kind.letter(attempt.state),
+        moment: attempt.moment,
+    };
+    gap(alloc, subject, notification)
 }
 
 /// What becomes of an attempt: the first failing filter suppresses it, else it goes out.
-pub(crate) fn judged(
-    config: &Config,
-    zone: &Zone,
-    object: ObjectId,
-    settings: &Object,
+fn judged(
+    alloc: Global,
+    subject: &Subject<'_>,
     view: View,
     attempt: Attempt,
-) -> Outcome
-    requires escalations { config.now.escalations ≡ [] }
-    requires interval { settings.now.interval ≤ max_number }
-    requires period { view.period ≡ None }
+) -> Result<Outcome, AllocError>
     requires began { view.began ≤ last_moment }
-    requires delay { view.delay ≤ max_number }
     requires last { IfSome view.last IsLastInRange }
     requires sent { view.sent + 1 < 2 ^ 64 }
     requires moment { attempt.moment ≤ last_moment }
-    ensures value { result ≡ judged config.now zone.now object.0 settings.now view attempt }
-    ensures in_range { IsInRange result }
+    ensures value { IfOk result (λ now. now
+        ≡ judged subject.now.config.now subject.now.zone.now subject.now.id.0
+        subject.now.object.now view
+        attempt) }
+    ensures in_range { IfOk result IsInRange }
 {
     let Attempt {
         kind,
@@ -88,104 +90,177 @@ pub(crate) fn judged(
         moment,
     } = attempt;
     let number = kind.number_after(view.sent);
-    match failing(config, zone, view, attempt) {
+    match failing(alloc, subject, view, attempt)? {
         None => {
-            let gap = gap_of(config, zone, object, settings, attempt, number);
-            Outcome::Sent {
+            let gap = gap_of(alloc, subject, attempt, number)?;
+            Ok(Outcome::Sent {
                 kind,
                 state,
                 number,
                 moment,
                 gap,
-            }
+            })
         }
-        Some(filter) => Outcome::Suppressed {
+        Some(filter) => Ok(Outcome::Suppressed {
             kind,
             state,
             number,
             moment,
             filter,
-        },
+        }),
     }
 }
 
-/// What the filters read at an event, the event itself counted; `earlier` has the outcomes of the problem
-/// before it. So far no downtime runs, nothing is flapping, and no dependency fails.
-pub(crate) fn view(
+/// Whether the object, or a service's host, is in downtime at an event, the event itself counted.
+fn is_down(subject: &Subject<'_>, event: &Event, past: &[Event]) -> bool
+    ensures { result ≡ down_with_host subject.now.id.0 subject.now.object.now
+        (event.now ∷ reverse past.now) }
+{
+    if is_down_at(subject.id, event, past) {
+        return true;
+    }
+    match subject.object.host {
+        None => false,
+        Some(host) => is_down_at(host, event, past),
+    }
+}
+
+/// The hard state of each object at an event, the event itself counted.
+fn states(
+    alloc: Global,
     config: &Config,
-    zone: &Zone,
-    object: ObjectId,
-    settings: &Object,
+    event: &Event,
+    past: &[Event],
+) -> Result<Vec<State>, AllocError>
+    requires { length config.now.objects ≤ max_objects }
+    ensures { IfOk result (λ v. v.items ≡ map (λ o. hard o (event.now ∷ reverse past.now))
+        (range_with_len 0 (length config.now.objects))) }
+{
+    let mut states = Vec::new(alloc);
+    for number in 0..config.objects.len() {
+        states.push(hard_at(ObjectId(number as u16), event, past))?;
+    }
+    Ok(states)
+}
+
+/// Whether a dependency of the object fails at an event, the event itself counted.
+fn depends(
+    alloc: Global,
+    subject: &Subject<'_>,
+    event: &Event,
+    past: &[Event],
+) -> Result<bool, AllocError>
+    requires accepted { IsAccepted subject.now.config.now }
+    requires now { IsProper subject.now.config.now event.now }
+    requires past { All (IsProper subject.now.config.now) past.now }
+    ensures { IfOk result (λ fails. fails ≡ dependency_fails subject.now.config.now
+        subject.now.zone.now
+        (λ master. hard master (event.now ∷ reverse past.now))
+        (moment (event.now ∷ reverse past.now)) subject.now.id.0) }
+{
+    let states = states(alloc, subject.config, event, past)?;
+    let moment = moment_at(event, past);
+    dependency_fails(
+        alloc,
+        subject.config,
+        subject.zone,
+        states.as_slice(),
+        moment,
+        subject.id,
+    )
+}
+
+/// What the filters read at an event, the event itself counted; `earlier` has the outcomes of the problem
+/// before it.
+fn view(
+    alloc: Global,
+    subject: &Subject<'_>,
     event: &Event,
     past: &[Event],
     earlier: &[Outcome],
-) -> View
-    requires covered { IsCovered config.now }
-    requires known { IsPlainObject config.now object.0 settings.now }
-    requires now { IsPlainEvent config.now event.now }
-    requires past { All (IsPlainEvent config.now) past.now }
+) -> Result<View, AllocError>
+    requires accepted { IsAccepted subject.now.config.now }
+    requires now { IsProper subject.now.config.now event.now }
+    requires past { All (IsProper subject.now.config.now) past.now }
     requires in_range { All IsInRange earlier.now }
-    ensures value { result ≡ view config.now zone.now object.0 settings.now event.now
-        (reverse past.now) (reverse earlier.now) }
-    ensures period { result.period ≡ None }
-    ensures began { result.began ≤ last_moment }
-    ensures delay { result.delay ≡ settings.now.delay }
-    ensures last { IfSome result.last IsLastInRange }
-    ensures sent { result.sent ≤ length earlier.now }
+    ensures value { IfOk result (λ v. v ≡ view subject.now.config.now subject.now.zone.now
+        subject.now.id.0
+        subject.now.object.now event.now (reverse past.now) (reverse earlier.now)) }
+    ensures began { IfOk result (λ v. v.began ≤ last_moment) }
+    ensures last { IfOk result (λ v. IfSome v.last IsLastInRange) }
+    ensures sent { IfOk result (λ v. v.sent ≤ length earlier.now) }
 {
-    View {
+    let depends = depends(alloc, subject, event, past)?;
+    Ok(View {
         program: event.kind.switch_after(program_on(past)),
-        enabled: settings.enabled,
-        down: false,
-        flapping: false,
-        options: settings.options,
+        enabled: subject.object.enabled,
+        down: is_down(subject, event, past),
+        flapping: is_flapping_at(subject.id, event, past),
+        options: subject.object.options,
         sent: notices_sent(earlier),
-        period: settings.period,
-        depends: false,
-        began: began_at(object, event, past),
-        delay: settings.delay,
+        period: subject.object.period,
+        depends,
+        began: began_at(subject.id, event, past),
+        delay: subject.object.delay,
         last: last_notice(earlier),
-    }
+    })
+}
+
+/// What an event attempts on the object, after the events before it and the outcomes of the last problem
+/// among them; none is nothing.
+fn attempted_at(
+    alloc: Global,
+    subject: &Subject<'_>,
+    event: &Event,
+    past: &[Event],
+    problem: &[Outcome],
+) -> Result<Option<Kind>, AllocError>
+    requires past { All (IsProper subject.now.config.now) past.now }
+    requires in_range { All IsInRange problem.now }
+    ensures { IfOk result (λ kind. kind ≡ attempted subject.now.id.0 event.now.kind
+        (status_after subject.now.id.0 (reverse past.now))
+        (ready subject.now.config.now subject.now.zone.now subject.now.object.now
+        (began subject.now.id.0 (reverse past.now)) (reverse problem.now))
+        (moment (event.now ∷ reverse past.now))) }
+{
+    let ready = ready(alloc, subject, began(subject.id, past), problem)?;
+    let old = status(subject.id, past);
+    Ok(attempted(subject.id, event.kind, old, ready, moment_at(event, past)))
 }
 
 /// What becomes of the object at an event, after the events before it and their outcomes. `history` has one
 /// outcome for each of those events.
 pub(crate) fn outcome(
-    config: &Config,
-    zone: &Zone,
-    object: ObjectId,
-    settings: &Object,
+    alloc: Global,
+    subject: &Subject<'_>,
     event: &Event,
     past: &[Event],
     history: &[Outcome],
-) -> Outcome
-    requires covered { IsCovered config.now }
-    requires known { IsPlainObject config.now object.0 settings.now }
-    requires fits { ObjectFits config.now settings.now }
-    requires now { IsPlainEvent config.now event.now }
-    requires past { All (IsPlainEvent config.now) past.now }
+) -> Result<Outcome, AllocError>
+    requires accepted { IsAccepted subject.now.config.now }
+    requires now { IsProper subject.now.config.now event.now }
+    requires past { All (IsProper subject.now.config.now) past.now }
     requires length { length past.now ≡ length history.now }
     requires in_range { All IsInRange history.now }
-    ensures value { result ≡ outcome config.now zone.now object.0 settings.now event.now
-        (reverse past.now) (reverse history.now) }
-    ensures in_range { IsInRange result }
+    ensures value { IfOk result (λ now. now ≡ outcome subject.now.config.now subject.now.zone.now
+        subject.now.id.0 subject.now.object.now event.now (reverse past.now)
+        (reverse history.now)) }
+    ensures in_range { IfOk result IsInRange }
 {
-    let old = status(config, object, past);
-    let problem = of_problem(object, past, history);
-    let ready = ready(config, zone, settings, began(object, past), problem);
-    let moment = moment_at(event, past);
-    match attempted(object, event.kind, old, ready, moment) {
-        None => Outcome::Nothing,
+    let problem = of_problem(subject.id, past, history);
+    match attempted_at(alloc, subject, event, past, problem)? {
+        None => Ok(Outcome::Nothing),
         Some(kind) => {
-            let earlier = before(object, event, past, problem);
-            let view = view(config, zone, object, settings, event, past, earlier);
-            let state = event.kind.hard_after(object, old.state);
+            let earlier = before(subject.id, event, past, problem);
+            let view = view(alloc, subject, event, past, earlier)?;
+            let state = hard_at(subject.id, event, past);
+            let moment = moment_at(event, past);
             let attempt = Attempt {
                 kind,
                 state,
                 moment,
             };
-            judged(config, zone, object, settings, view, attempt)
+            judged(alloc, subject, view, attempt)
         }
     }
 }

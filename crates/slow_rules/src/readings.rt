@@ -1,7 +1,10 @@
 //! What the events so far say, read by going over all of them.
 
-ghost use Rattle.std.specs.Prelude.{◌≡◌, ◌&&◌, not, reverse, ◌∷◌};
-ghost use Rattle.due_model.specs.Readings.{moment, program_on, hard, began, is_problem_of, is_problem_state};
+ghost use Rattle.std.specs.Prelude.{◌≡◌, ◌≤◌, ◌<◌, ◌+◌, ◌^◌, ◌&&◌, ◌∷◌};
+ghost use Rattle.std.specs.Prelude.{not, length, reverse};
+ghost use Rattle.due_model.specs.Readings.{moment, program_on, hard, began};
+ghost use Rattle.due_model.specs.Readings.{is_problem_of, is_problem_state};
+ghost use Rattle.due_model.specs.Readings.{depth, depth_after, down, flapping, flapping_after};
 
 use due_model::config::ObjectId;
 use due_model::event::{Event, EventKind};
@@ -38,6 +41,85 @@ pub(crate) fn hard(object: ObjectId, events: &[Event]) -> State
         state = event.kind.hard_after(object, state);
     }
     state
+}
+
+/// How many downtimes of the object run after an event, of `depth` before it (chapter "Scheduled Downtime").
+fn depth_after(object: ObjectId, event: EventKind, depth: u64) -> u64
+    requires { depth + 1 < 2 ^ 64 }
+    ensures value { result ≡ depth_after object.0 event depth }
+    ensures few { result ≤ depth + 1 }
+{
+    match event {
+        EventKind::Downtime(named, change) => {
+            if named.0 == object.0 {
+                change.depth_after(depth)
+            } else {
+                depth
+            }
+        }
+        _ => depth,
+    }
+}
+
+/// How many downtimes of the object run after the events.
+pub(crate) fn depth(object: ObjectId, events: &[Event]) -> u64
+    ensures value { result ≡ depth object.0 (reverse events.now) }
+    ensures few { result ≤ length events.now }
+{
+    let mut depth = 0;
+    for event in events {
+        depth = depth_after(object, event.kind, depth);
+    }
+    depth
+}
+
+/// Whether the object is in downtime after an event and those before it.
+pub(crate) fn is_down_at(object: ObjectId, event: &Event, past: &[Event]) -> bool
+    ensures { result ≡ down object.0 (event.now ∷ reverse past.now) }
+{
+    0 < depth_after(object, event.kind, depth(object, past))
+}
+
+/// Whether the object is flapping after an event, where it was `flapping` or not before it (chapter "State
+/// Flapping").
+fn flapping_after(object: ObjectId, event: EventKind, flapping: bool) -> bool
+    ensures { result ≡ flapping_after object.0 event flapping }
+{
+    match event {
+        EventKind::Flapping(named, starts) => {
+            if named.0 == object.0 {
+                starts
+            } else {
+                flapping
+            }
+        }
+        _ => flapping,
+    }
+}
+
+/// Whether the object is flapping after the events.
+pub(crate) fn flapping(object: ObjectId, events: &[Event]) -> bool
+    ensures { result ≡ flapping object.0 (reverse events.now) }
+{
+    let mut flapping = false;
+    for event in events {
+        flapping = flapping_after(object, event.kind, flapping);
+    }
+    flapping
+}
+
+/// Whether the object is flapping after an event and those before it.
+pub(crate) fn is_flapping_at(object: ObjectId, event: &Event, past: &[Event]) -> bool
+    ensures { result ≡ flapping object.0 (event.now ∷ reverse past.now) }
+{
+    flapping_after(object, event.kind, flapping(object, past))
+}
+
+/// The last hard state of the object after an event and those before it.
+pub(crate) fn hard_at(object: ObjectId, event: &Event, past: &[Event]) -> State
+    ensures { result ≡ hard object.0 (event.now ∷ reverse past.now) }
+{
+    event.kind.hard_after(object, hard(object, past))
 }
 
 /// Whether a problem of the object begins with this event, of which the hard state was `old` before it

@@ -1,6 +1,7 @@
 -- What a reader of lines stands for, and what the reading of a line says of the bytes.
 use Rattle.std.specs.Prelude.{◌≡◌, ℕ, ◌+◌, ◌<◌, ◌≤◌, List, [], ◌∷◌, ◌++◌, length, nat_lt, if◌then◌else◌, ⊤, Option}
 use Rattle.std.specs.Io.KnownBytes.{Consumes, IsAtEnd, Keeps, prepend_known}
+pub use Rattle.due_model.specs.Limits.{line_limit}
 use Rattle.text_lines.specs.CountedReader.{calls_after}
 use Rattle.text_lines.specs.Lines.{BeginsWithLine, IsUnbroken, Known}
 use Rattle.text_lines.specs.declared.line_reader.Filled.{Filled}
@@ -21,10 +22,7 @@ pub record Reading : Type 0 where
 abbrev pub to_come : Reading → Option (List ℕ)
 to_come reading = prepend_known reading.held reading.unread
 
--- the most bytes of a line, of one that is read over, and the most calls of a reader for one line
-abbrev pub line_limit : ℕ
-line_limit = 4096
-
+-- the most bytes of a line that is read over, and the most calls of a reader for one line
 abbrev pub byte_limit : ℕ
 byte_limit = 1_048_576
 

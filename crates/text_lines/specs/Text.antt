@@ -2,15 +2,13 @@
 use Rattle.std.specs.Prelude.{◌≡◌, ℕ, ◌+◌, ◌-◌, ◌<◌, ◌≤◌, Bool, false, List, [], ◌∷◌, ◌++◌, length, take, drop, if◌then◌else◌, Option, None, Some}
 use Rattle.std.specs.List.{join_with_byte}
 use Rattle.std.specs.Str.{bytes_eq}
+pub use Rattle.due_model.specs.Limits.{text_limit}
 use Rattle.text_lines.specs.Lines.{IsUnbroken, pieces}
 use Rattle.text_lines.specs.LineReader.{Reading}
 use Rattle.text_lines.specs.declared.text.Parting.{Parting}
 use Rattle.text_lines.specs.declared.text.Search.{Search}
 
--- the most bytes of a text, and the most calls of a reader for it
-abbrev pub text_limit : ℕ
-text_limit = 16_777_216
-
+-- the most calls of a reader for a text
 abbrev pub text_call_limit : ℕ
 text_call_limit = 33_554_432
 

@@ -10,5 +10,5 @@ pub mod text;
 
 pub use bytes::find_byte;
 pub use input::{AnyReader, Input};
-pub use line_reader::{BYTE_LIMIT, CALL_LIMIT, LINE_LIMIT, LineReader, NextLine, Stop};
-pub use text::{TEXT_CALL_LIMIT, TEXT_LIMIT, TextFault};
+pub use line_reader::{BYTE_LIMIT, CALL_LIMIT, LineReader, NextLine, Stop};
+pub use text::{TEXT_CALL_LIMIT, TextFault};

@@ -3,20 +3,19 @@
 ghost use Rattle.std.specs.Prelude.{◌≡◌, ◌≢◌, ◌+◌, ◌-◌, ◌<◌, ◌≤◌, [], false};
 ghost use Rattle.std.specs.Prelude.{length, take, drop, slice_index, slice_range, IfOk, IsOk, IsTrue};
 ghost use Rattle.std.specs.Io.KnownBytes.{ReadConsumes};
+ghost use Rattle.due_model.specs.Limits.{line_limit};
 ghost use Rattle.text_lines.specs.CountedReader.{calls_after};
 ghost use Rattle.text_lines.specs.Lines.{IsUnbroken, has_line, has_newline};
 ghost use Rattle.text_lines.specs.LineReader.{Fills, MakesRoom, ReadsHeld, ReadsLine, SpendsCalls};
-ghost use Rattle.text_lines.specs.LineReader.{byte_limit, cut_text, ending, line_limit};
+ghost use Rattle.text_lines.specs.LineReader.{byte_limit, cut_text, ending};
 
 use crate::bytes::{find_byte, has_line};
 use crate::counted_reader::CountedReader;
 use crate::input::Input;
+use due_model::limits::LINE_LIMIT;
 use std::alloc::{AllocError, Global};
 use std::io::{self, Read};
 use std::marker::Model;
-
-/// The most bytes of a line, without its newline.
-pub const LINE_LIMIT: usize = 4096;
 
 /// The most bytes of a line that is read over.
 pub const BYTE_LIMIT: usize = 1_048_576;

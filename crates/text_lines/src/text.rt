@@ -3,18 +3,17 @@
 ghost use Rattle.std.specs.Prelude.{◌≡◌, ◌<◌, ◌≤◌, ◌+◌, ℕ, List, [], ◌++◌, false};
 ghost use Rattle.std.specs.Prelude.{length, IfErr, IfOk, IsErrOf, IfSome, IsTrue, take};
 ghost use Rattle.std.specs.Option.{option_copied};
+ghost use Rattle.due_model.specs.Limits.{text_limit};
 ghost use Rattle.text_lines.specs.LineReader.{to_come};
 ghost use Rattle.text_lines.specs.Lines.{Known};
 ghost use Rattle.text_lines.specs.Text.{FindsMark, IsParting, IsSearched, MovesHeld, is_mark, rest_after};
-ghost use Rattle.text_lines.specs.Text.{mark_length, split_text, text_before, text_call_limit, text_limit};
+ghost use Rattle.text_lines.specs.Text.{mark_length, split_text, text_before, text_call_limit};
 
 use crate::bytes::find_byte;
 use crate::input::Input;
 use crate::line_reader::{Filled, LineReader};
+use due_model::limits::TEXT_LIMIT;
 use std::alloc::{AllocError, Global};
-
-/// The most bytes of a text, newlines counted.
-pub const TEXT_LIMIT: usize = 16_777_216;
 
 /// The most calls of a reader for one text.
 pub const TEXT_CALL_LIMIT: u64 = 33_554_432;

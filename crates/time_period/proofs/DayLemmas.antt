@@ -10,6 +10,7 @@ use Rattle.lemmas.proofs.Lists.{slice_get_read}
 use Rattle.due_model.specs.declared.config.Period.{Period}
 use Rattle.due_model.specs.declared.config.PeriodId.{PeriodId}
 use Rattle.due_model.specs.declared.config.Range.{Range}
+use Rattle.due_model.specs.Limits.{day}
 use Rattle.due_model.specs.Periods.{in_range, ranges_on}
 use Rattle.time_period.specs.Days.{AreWorkedOut, IsDay, IsDayOf, IsMade, holds_any, holds_at, holds_without, in_ranges}
 use Rattle.time_period.specs.Stretches.{Stays}
@@ -28,9 +29,9 @@ differ e = cc
 inside : (k : ℕ) (r : Range) → r.start ≤ k → k < r.end → in_range k r ≡ true
 inside k r low high = grind (arith, nat_tests)
 
-module _ (test : ℕ → Bool) (start end next : ℕ) (ranges : List Range) (made : IsMade test start ranges) (some : start < 86400)
-    (up : start ≤ end) (on : (k : ℕ) → start ≤ k → k < end → test k ≡ true) (in_day : end ≤ 86400) (over : end < 86400 → test end ≡ false)
-    (on_up : end ≤ next) (off : (k : ℕ) → end ≤ k → k < next → test k ≡ false) (next_in_day : next ≤ 86400) (begins : next < 86400 → test next ≡ true) where
+module _ (test : ℕ → Bool) (start end next : ℕ) (ranges : List Range) (made : IsMade test start ranges) (some : start < day)
+    (up : start ≤ end) (on : (k : ℕ) → start ≤ k → k < end → test k ≡ true) (in_day : end ≤ day) (over : end < day → test end ≡ false)
+    (on_up : end ≤ next) (off : (k : ℕ) → end ≤ k → k < next → test k ≡ false) (next_in_day : next ≤ day) (begins : next < day → test next ≡ true) where
   the_range : Range
   the_range = record { start = start; end = end }
 
@@ -43,7 +44,7 @@ module _ (test : ℕ → Bool) (start end next : ℕ) (ranges : List Range) (mad
   ]
 
   -- and a gap is before the next one
-  gap : next < 86400 → end < next
+  gap : next < day → end < next
   gap less = elim (leb_tells next end) [
     | inl under ↦ let same : next ≡ end = omega (arith, on_up, under.1) in
         absurd (differ (sym (begins less) ∙ ap test same ∙ over (omega (arith, same, less))))
@@ -70,10 +71,10 @@ module _ (test : ℕ → Bool) (start end next : ℕ) (ranges : List Range) (mad
   unfolding the_range
   made_more = record {
     low = next_in_day;
-    day = record {
-      some = All-push (λ r. r.start < r.end) ranges the_range made.day.some is_some;
-      apart = all_pairs_push (λ a b. a.end < b.start) ranges the_range made.day.apart (λ k d within. made.before some k d within);
-      within = All-push (λ r. r.end ≤ 86400) ranges the_range made.day.within in_day;
+    is_day = record {
+      some = All-push (λ r. r.start < r.end) ranges the_range made.is_day.some is_some;
+      apart = all_pairs_push (λ a b. a.end < b.start) ranges the_range made.is_day.apart (λ k d within. made.before some k d within);
+      within = All-push (λ r. r.end ≤ day) ranges the_range made.is_day.within in_day;
     };
     before = λ less. All-push (λ r. r.end < next) ranges the_range (λ k d within. later (made.before some k d within)) (gap less);
     holds = begins;
@@ -88,7 +89,7 @@ pub worked_out_more : (period : Period) (done : List (List (List Range))) (count
     → AreWorkedOut period done count days → IsDayOf (holds_without period done count) day → AreWorkedOut period done (count + 1) (days ++ day ∷ [])
 worked_out_more period done count days day out is = record {
   as_many = length-append days (day ∷ []) ∙ ap (λ n. n + 1) out.as_many;
-  each = All-push IsDay days day out.each is.day;
+  each = All-push IsDay days day out.each is.is_day;
   alike = λ weekday second within in_day. elim (leb_tells count weekday) [
     | inr early ↦ ap (λ ranges. in_ranges ranges second) (get_or_append_left days (day ∷ []) [] weekday (omega (arith, early.1, out.as_many)))
         ∙ out.alike weekday second early.1 in_day

@@ -11,7 +11,7 @@ use Rattle.std.proofs.lemmas.Option.{slice_get_within}
 use Rattle.graph.specs.declared.edges.Edge.{Edge}
 use Rattle.graph.specs.Chains.{Chain}
 use Rattle.graph.specs.Edges.{IsWithin, Leads}
-use Rattle.graph.specs.Order.{HasLoop, IsOrder}
+use Rattle.graph_order.specs.Order.{HasLoop, IsOrder}
 use Rattle.due_model.specs.declared.config.Config.{Config}
 use Rattle.due_model.specs.declared.config.Period.{Period}
 use Rattle.due_model.specs.declared.config.PeriodId.{PeriodId}

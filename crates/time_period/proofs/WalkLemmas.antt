@@ -6,6 +6,7 @@ use Rattle.due_model.specs.declared.config.Config.{Config}
 use Rattle.due_model.specs.declared.config.PeriodId.{PeriodId}
 use Rattle.due_model.specs.declared.config.Range.{Range}
 use Rattle.due_model.specs.declared.zone.Zone.{Zone}
+use Rattle.due_model.specs.Limits.{day}
 use Rattle.due_model.specs.Local.{Local, local, local_second}
 use Rattle.due_model.specs.Periods.{first_passing, in_period, next_in, reach_of_next}
 use Rattle.zone_times.specs.Clock.{GoesOn}
@@ -75,10 +76,10 @@ rem_below (pos a) n h = omega arith
 rem_below (negsuc a) n h = omega arith
 
 pub in_week : (zone : Zone) (t : ℕ) → (local zone t).weekday < 7
-in_week zone t = rem_below (int_div_euclid (local_second zone t) (pos 86400) +ℤ pos 4) 7 (omega arith)
+in_week zone t = rem_below (int_div_euclid (local_second zone t) (pos day) +ℤ pos 4) 7 (omega arith)
 
-pub in_day : (zone : Zone) (t : ℕ) → (local zone t).second < 86400
-in_day zone t = rem_below (local_second zone t) 86400 (omega arith)
+pub in_day : (zone : Zone) (t : ℕ) → (local zone t).second < day
+in_day zone t = rem_below (local_second zone t) day (omega arith)
 
 -- a worked-out period passes where the period of the configuration holds
 pub passes_in : (c : Config) (zone : Zone) (period : PeriodId) (days : List (List Range)) → IsCompiled c period days

@@ -6,6 +6,7 @@ use Rattle.due_model.specs.declared.config.Period.{Period}
 use Rattle.due_model.specs.declared.config.PeriodId.{PeriodId}
 use Rattle.due_model.specs.declared.config.Range.{Range}
 use Rattle.due_model.specs.declared.zone.Zone.{Zone}
+use Rattle.due_model.specs.Limits.{day}
 use Rattle.due_model.specs.Local.{local}
 use Rattle.due_model.specs.Periods.{holds, in_range, ranges_on}
 
@@ -23,7 +24,7 @@ passes days zone t = holds_at days (local zone t).weekday (local zone t).second
 
 -- a worked-out period holds where the period of the configuration does
 abbrev pub IsCompiled : Config → PeriodId → List (List Range) → Type 0
-IsCompiled c period days = (weekday second : ℕ) → weekday < 7 → second < 86400
+IsCompiled c period days = (weekday second : ℕ) → weekday < 7 → second < day
     → holds_at days weekday second
     ≡ holds (length c.periods) c.periods period.0
     (record { weekday = weekday; second = second })
@@ -40,7 +41,7 @@ AreCompiled c all =
 pub record IsDay (ranges : List Range) : Type 0 where
   pub some : All (λ r. r.start < r.end) ranges
   pub apart : AllPairs (λ a b. a.end < b.start) ranges
-  pub within : All (λ r. r.end ≤ 86400) ranges
+  pub within : All (λ r. r.end ≤ day) ranges
 
 -- whether some of these periods holds, of those that are done
 abbrev pub holds_any : List PeriodId → (done : List (List (List Range))) → (weekday second : ℕ)
@@ -56,21 +57,21 @@ holds_without period done weekday second =
 
 -- a day whose ranges hold exactly where the test passes
 pub record IsDayOf (test : ℕ → Bool) (ranges : List Range) : Type 0 where
-  pub day : IsDay ranges
-  pub alike : (second : ℕ) → second < 86400 → in_ranges ranges second ≡ test second
+  pub is_day : IsDay ranges
+  pub alike : (second : ℕ) → second < day → in_ranges ranges second ≡ test second
 
 -- such days, of the first `count` weekdays
 pub record AreWorkedOut (period : Period) (done : List (List (List Range))) (count : ℕ)
     (days : List (List Range)) : Type 0 where
   pub as_many : length days ≡ count
   pub each : All IsDay days
-  pub alike : (weekday second : ℕ) → weekday < count → second < 86400
+  pub alike : (weekday second : ℕ) → weekday < count → second < day
       → holds_at days weekday second ≡ holds_without period done weekday second
 
 -- a day that is made up to a second, from which the test passes
 pub record IsMade (test : ℕ → Bool) (start : ℕ) (ranges : List Range) : Type 0 where
-  pub low : start ≤ 86400
-  pub day : IsDay ranges
-  pub before : start < 86400 → All (λ r. r.end < start) ranges
-  pub holds : start < 86400 → test start ≡ true
+  pub low : start ≤ day
+  pub is_day : IsDay ranges
+  pub before : start < day → All (λ r. r.end < start) ranges
+  pub holds : start < day → test start ≡ true
   pub alike : (second : ℕ) → second < start → in_ranges ranges second ≡ test second

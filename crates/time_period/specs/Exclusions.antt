@@ -6,6 +6,7 @@ use Rattle.due_model.specs.declared.config.Period.{Period}
 use Rattle.due_model.specs.declared.config.PeriodId.{PeriodId}
 use Rattle.due_model.specs.declared.config.Range.{Range}
 use Rattle.due_model.specs.Accepted.{Excludes}
+use Rattle.due_model.specs.Limits.{day}
 use Rattle.due_model.specs.Periods.{holds}
 use Rattle.time_period.specs.Days.{holds_at}
 
@@ -29,7 +30,7 @@ pub record InOrder (c : Config) (order : List ℕ) : Type 0 where
 
 -- these days hold where the period does, if chains of exclusions are followed so far at least
 abbrev pub IsRight : Config → (deep p : ℕ) → List (List Range) → Type 0
-IsRight c deep p days = (depth weekday second : ℕ) → deep ≤ depth → weekday < 7 → second < 86400
+IsRight c deep p days = (depth weekday second : ℕ) → deep ≤ depth → weekday < 7 → second < day
     → holds_at days weekday second
     ≡ holds depth c.periods p (record { weekday = weekday; second = second })
 

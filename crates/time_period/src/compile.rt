@@ -3,6 +3,7 @@
 ghost use Rattle.std.specs.Prelude.{◌≡◌, ℕ, ◌<◌, ◌≤◌, ◌++◌, not, length, IfOk, OnOk};
 ghost use Rattle.std.specs.Prelude.{All, map, vec_len};
 ghost use Rattle.due_model.specs.Accepted.{IsAccepted};
+ghost use Rattle.due_model.specs.Limits.{day, max_periods};
 ghost use Rattle.time_period.specs.Days.{AreCompiled, AreWorkedOut, IsCompiled, IsDay, IsDayOf, holds_any};
 ghost use Rattle.time_period.specs.Days.{holds_without};
 ghost use Rattle.time_period.specs.Exclusions.{InOrder, edges_of, exclusion_edges};
@@ -10,11 +11,12 @@ ghost use Rattle.time_period.specs.Stretches.{IsStretch};
 
 use crate::compiled::Compiled;
 use crate::day::stretch_of;
-use crate::stretch::{DAY, Stretch};
+use crate::stretch::Stretch;
 use due_model::config::{Config, Period, PeriodId, Range};
+use due_model::limits::DAY;
 use due_model::sequence::Sequence;
 use graph::edges::{Edge, Graph};
-use graph::order::order;
+use graph_order::order::order;
 use std::alloc::{AllocError, Global};
 
 /// Works out one period of the configuration. Want of memory is the only error. Where more than one is wanted,
@@ -72,7 +74,7 @@ fn order_of(alloc: Global, config: &Config) -> Result<Vec<u32>, AllocError>
 
 /// An edge from each period to each one that it excludes.
 fn exclusions(alloc: Global, periods: &[Period]) -> Result<Vec<Edge>, AllocError>
-    requires { length periods.now ≤ 4096 }
+    requires { length periods.now ≤ max_periods }
     ensures { IfOk result (λ edges. edges.items ≡ exclusion_edges 0 periods.now) }
 {
     let mut edges = Vec::new(alloc);
@@ -140,12 +142,12 @@ fn stays_until(period: &Period, done: &[Compiled], weekday: u8, from: u32, holds
     requires week { length period.now.days ≡ 7 }
     requires known { All (λ excluded. excluded.0 < length done.now) period.now.excludes }
     requires weekday { weekday < 7 }
-    requires from { from ≤ 86400 }
+    requires from { from ≤ day }
     ensures low { from ≤ result }
-    ensures high { result ≤ 86400 }
+    ensures high { result ≤ day }
     ensures alike { (k : ℕ) → from ≤ k → k < result
         → holds_without period.now done.now weekday k ≡ holds }
-    ensures over { result < 86400 → holds_without period.now done.now weekday result ≡ not holds }
+    ensures over { result < day → holds_without period.now done.now weekday result ≡ not holds }
 {
     let mut end = from;
     while end < DAY {
@@ -163,7 +165,7 @@ fn stretch_at(period: &Period, done: &[Compiled], weekday: u8, second: u32) -> S
     requires week { length period.now.days ≡ 7 }
     requires known { All (λ excluded. excluded.0 < length done.now) period.now.excludes }
     requires weekday { weekday < 7 }
-    requires second { second < 86400 }
+    requires second { second < day }
     ensures { IsStretch (holds_without period.now done.now weekday) second result }
 {
     let own = stretch_of(period.days[usize::from(weekday)].as_slice(), second);
@@ -173,7 +175,7 @@ fn stretch_at(period: &Period, done: &[Compiled], weekday: u8, second: u32) -> S
 /// The same of the periods that are excluded: whether any of them holds.
 fn excluded(excludes: &[PeriodId], done: &[Compiled], weekday: u8, second: u32) -> Stretch
     requires known { All (λ excluded. excluded.0 < length done.now) excludes.now }
-    requires second { second < 86400 }
+    requires second { second < day }
     ensures { IsStretch (λ k. holds_any excludes.now done.now weekday k) second result }
 {
     let mut stretch = Stretch::never();

@@ -3,14 +3,14 @@
 ghost use Rattle.std.specs.Prelude.{◌≡◌, ℕ, ◌<◌, ◌≤◌, ◌^◌, All, Some};
 ghost use Rattle.due_model.specs.declared.config.Config.{Config};
 ghost use Rattle.due_model.specs.declared.config.PeriodId.{PeriodId};
-ghost use Rattle.due_model.specs.Limits.{last_moment};
+ghost use Rattle.due_model.specs.Limits.{day, last_moment};
 ghost use Rattle.due_model.specs.Periods.{in_period, next_in};
-ghost use Rattle.time_period.specs.Days.{IsCompiled, IsDay, holds_at, passes};
+ghost use Rattle.time_period.specs.Days.{AreCompiled, IsCompiled, IsDay, holds_at, passes};
 ghost use Rattle.time_period.specs.Stretches.{IsStretch, Stays};
 
 use crate::day::stretch_in;
 use crate::stretch::Stretch;
-use due_model::config::Range;
+use due_model::config::{PeriodId, Range};
 use due_model::sequence::Sequence;
 use due_model::zone::Zone;
 use std::alloc::Global;
@@ -58,7 +58,7 @@ impl Compiled {
 
     /// Whether the period holds at a second of a weekday, and a second up to which that stays.
     pub(crate) fn stretch(&self, weekday: u8, second: u32) -> Stretch
-        requires { second < 86400 }
+        requires { second < day }
         ensures { IsStretch (holds_at self.now weekday) second result }
     {
         match self.days.as_slice().get(usize::from(weekday)) {
@@ -104,5 +104,21 @@ impl Compiled {
         let stretch = self.stretch(local.weekday, local.second);
         let left = u64::from(stretch.end - local.second);
         (stretch.holds, clock_until(zone, t).min(t + left))
+    }
+}
+
+/// Whether a moment, in seconds since the epoch, is in a period (chapter "Time Periods"). No period is always; one whose
+/// number isn't among those worked out never holds. The periods are the configuration's, in the order of their numbers.
+/// It takes no memory.
+pub fn is_in_period(periods: &[Compiled], period: Option<PeriodId>, zone: &Zone, t: u64) -> bool
+    requires { t ≤ last_moment }
+    ensures { (c : Config) → AreCompiled c periods.now → result ≡ in_period c zone.now period t }
+{
+    match period {
+        Some(number) => match periods.get(usize::from(number.0)) {
+            Some(compiled) => compiled.contains(zone, t),
+            None => false,
+        },
+        None => true,
     }
 }

@@ -1,6 +1,7 @@
 //! The ranges of one day.
 
 ghost use Rattle.std.specs.Prelude.{◌<◌};
+ghost use Rattle.due_model.specs.Limits.{day};
 ghost use Rattle.time_period.specs.Days.{IsDay, in_ranges};
 ghost use Rattle.time_period.specs.Stretches.{IsStretch};
 
@@ -9,7 +10,7 @@ use due_model::config::Range;
 
 /// Whether some range holds the second, and a second up to which that stays. The ranges stand in any order.
 pub(crate) fn stretch_of(ranges: &[Range], second: u32) -> Stretch
-    requires { second < 86400 }
+    requires { second < day }
     ensures { IsStretch (in_ranges ranges.now) second result }
 {
     let mut stretch = Stretch::never();
@@ -20,13 +21,13 @@ pub(crate) fn stretch_of(ranges: &[Range], second: u32) -> Stretch
 }
 
 /// The same of a day's ranges, which stand in order: a binary search.
-pub(crate) fn stretch_in(day: &[Range], second: u32) -> Stretch
-    requires day { IsDay day.now }
-    requires second { second < 86400 }
-    ensures { IsStretch (in_ranges day.now) second result }
+pub(crate) fn stretch_in(ranges: &[Range], second: u32) -> Stretch
+    requires day { IsDay ranges.now }
+    requires second { second < day }
+    ensures { IsStretch (in_ranges ranges.now) second result }
 {
-    let place = day.partition_point(|range| range.end <= second);
-    match day.get(place) {
+    let place = ranges.partition_point(|range| range.end <= second);
+    match ranges.get(place) {
         Some(range) => Stretch::of_range(*range, second),
         None => Stretch::never(),
     }

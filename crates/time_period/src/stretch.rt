@@ -2,18 +2,17 @@
 
 ghost use Rattle.std.specs.Prelude.{◌≡◌, ℕ, ◌<◌, ◌≤◌, ◌&&◌, ◌||◌, Bool, true};
 ghost use Rattle.std.specs.Prelude.{false, not, nat_le, nat_lt};
+ghost use Rattle.due_model.specs.Limits.{day};
 
 use due_model::config::Range;
-
-/// How many seconds a day has.
-pub(crate) const DAY: u32 = 86_400;
+use due_model::limits::DAY;
 
 /// Whether something holds at a second of the day, and a second up to which that stays.
 #[derive(Clone, Copy)]
 pub(crate) struct Stretch {
     pub(crate) holds: bool,
     pub(crate) end: u32,
-    ghost in_day: { end ≤ 86400 },
+    ghost in_day: { end ≤ day },
 }
 
 impl Stretch {
@@ -23,7 +22,7 @@ impl Stretch {
     /// Up to the end of the day it doesn't hold.
     pub(crate) fn never() -> Stretch
         ensures holds { result.holds ≡ false }
-        ensures end { result.end ≡ 86400 }
+        ensures end { result.end ≡ day }
     {
         Stretch {
             holds: false,
@@ -33,7 +32,7 @@ impl Stretch {
 
     /// A range holds its start, and not its end.
     pub(crate) fn of_range(range: Range, second: u32) -> Stretch
-        requires { second < 86400 }
+        requires { second < day }
         ensures stretch { IsStretch (λ k. in_range k range) second result }
         ensures ends { range.start ≤ range.end → second < range.end → result.end ≤ range.end }
     {

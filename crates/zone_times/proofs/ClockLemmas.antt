@@ -3,26 +3,27 @@ use Rattle.std.proofs.Common.{◌≡◌, ℕ, ◌+◌, ◌-◌, ◌<◌, ◌≤�
 use Rattle.std.specs.Int.{int_div_euclid, int_rem_euclid}
 use Rattle.jiff_core.proofs.SignedLemmas.{signed_arith}
 use Rattle.due_model.specs.declared.zone.Zone.{Zone}
+use Rattle.due_model.specs.Limits.{day}
 use Rattle.due_model.specs.Local.{Local, local, local_second, offset}
 use Rattle.zone_times.specs.Clock.{later, GoesOn}
 
 -- what a clock shows
 abbrev weekday_at : ℤ → ℕ
-weekday_at second = unsigned_abs (int_rem_euclid (int_div_euclid second (pos 86400) +ℤ pos 4) (pos 7))
+weekday_at second = unsigned_abs (int_rem_euclid (int_div_euclid second (pos day) +ℤ pos 4) (pos 7))
 
 abbrev second_at : ℤ → ℕ
-second_at second = unsigned_abs (int_rem_euclid second (pos 86400))
+second_at second = unsigned_abs (int_rem_euclid second (pos day))
 
-same_day : (a b : ℤ) (d : ℕ) → b ≡ a +ℤ pos d → second_at a + d < 86400 → int_div_euclid b (pos 86400) ≡ int_div_euclid a (pos 86400)
+same_day : (a b : ℤ) (d : ℕ) → b ≡ a +ℤ pos d → second_at a + d < day → int_div_euclid b (pos day) ≡ int_div_euclid a (pos day)
 same_day a b d e h = omega (arith, signed_arith)
 
-same_second : (a b : ℤ) (d : ℕ) → b ≡ a +ℤ pos d → second_at a + d < 86400 → second_at b ≡ second_at a + d
+same_second : (a b : ℤ) (d : ℕ) → b ≡ a +ℤ pos d → second_at a + d < day → second_at b ≡ second_at a + d
 same_second a b d e h = let same = same_day a b d e h in omega (arith, signed_arith)
 
-on_clock : (a b : ℤ) (d : ℕ) → b ≡ a +ℤ pos d → second_at a + d < 86400
+on_clock : (a b : ℤ) (d : ℕ) → b ≡ a +ℤ pos d → second_at a + d < day
     → record { weekday = weekday_at b; second = second_at b } ≡ later (record { weekday = weekday_at a; second = second_at a }) d
 on_clock a b d e h =
-    ap₂ (λ (w : ℕ) (s : ℕ). the_local w s) (ap (λ day. unsigned_abs (int_rem_euclid (day +ℤ pos 4) (pos 7))) (same_day a b d e h)) (same_second a b d e h)
+    ap₂ (λ (w : ℕ) (s : ℕ). the_local w s) (ap (λ days. unsigned_abs (int_rem_euclid (days +ℤ pos 4) (pos 7))) (same_day a b d e h)) (same_second a b d e h)
   where
     the_local : ℕ → ℕ → Local
     the_local w s = record { weekday = w; second = s }
@@ -30,7 +31,7 @@ on_clock a b d e h =
 moved : (t k : ℕ) (o p : ℤ) → t ≤ k → p ≡ o → pos k +ℤ p ≡ (pos t +ℤ o) +ℤ pos (k - t)
 moved t k o p h e = rw e (omega (arith, signed_arith))
 
-pub goes_on_in_day : (zone : Zone) (t end day_end : ℕ) → day_end ≤ t + (86400 - (local zone t).second) → (local zone t).second < 86400 → end ≤ day_end
+pub goes_on_in_day : (zone : Zone) (t end day_end : ℕ) → day_end ≤ t + (day - (local zone t).second) → (local zone t).second < day → end ≤ day_end
     → ((k : ℕ) → t ≤ k → k < end → offset zone k ≡ offset zone t) → GoesOn zone t end
 goes_on_in_day zone t end day_end late in_day within steady = λ k low high.
     on_clock (local_second zone t) (local_second zone k) (k - t) (moved t k (offset zone t) (offset zone k) low (steady k low high)) (omega (arith, late, in_day, within, low, high))

@@ -6,6 +6,7 @@ use Rattle.jiff_core.proofs.SignedLemmas.{signed_arith}
 use Rattle.jiff_core.specs.Calendar.{days_of_years}
 use Rattle.jiff_tz.specs.Year.{years_within, year_of_day, year_of_nanos}
 use Rattle.zone_times.specs.Changes.{SameYear, nanos}
+use Rattle.due_model.specs.Limits.{day}
 
 within_most : (n count : ℕ) → years_within n count ≤ n
 unfolding years_within
@@ -47,13 +48,13 @@ day_at t = (t * 1_000_000_000) / 86_400_000_000_000
 days_rise : (t k : ℕ) → t ≤ k → day_at t ≤ day_at k
 days_rise t k h = omega (arith, h)
 
-day_below : (k last : ℕ) → k < (last + 1) * 86400 → day_at k ≤ last
+day_below : (k last : ℕ) → k < (last + 1) * day → day_at k ≤ last
 day_below k last h = omega (arith, h)
 
 same_count : (x y : ℕ) → (pos x -ℤ pos 10000) ≡ (pos y -ℤ pos 10000) → x ≡ y
 same_count x y e = omega (arith, signed_arith)
 
-pub year_stays : (t k : ℕ) (last : ℤ) → year_of_day last ≡ year_of_nanos (nanos t) → t ≤ k → pos k <ℤ ((last +ℤ pos 1) *ℤ pos 86400) → SameYear t k
+pub year_stays : (t k : ℕ) (last : ℤ) → year_of_day last ≡ year_of_nanos (nanos t) → t ≤ k → pos k <ℤ ((last +ℤ pos 1) *ℤ pos day) → SameYear t k
 unfolding years_at
 year_stays t k (pos last) same low high =
     ap (λ (n : ℕ). pos n -ℤ pos 10000)
@@ -63,16 +64,16 @@ year_stays t k (negsuc last) same low high = absurd (omega (arith, signed_arith,
 
 -- what the code computes of a day in range
 pub last_second : (k : ℕ) (last wide : ℤ) → IsEpochDay last → wide ≡ to_z w32 (of_z w32 last)
-    → pos k <ℤ to_z w64 (of_z w64 (to_z w64 (of_z w64 (to_z w64 (of_z w64 wide) +ℤ pos 1)) *ℤ pos 86400)) → pos k <ℤ ((last +ℤ pos 1) *ℤ pos 86400)
+    → pos k <ℤ to_z w64 (of_z w64 (to_z w64 (of_z w64 (to_z w64 (of_z w64 wide) +ℤ pos 1)) *ℤ pos day)) → pos k <ℤ ((last +ℤ pos 1) *ℤ pos day)
 last_second k last wide in_range same below =
     let low = in_range.0 in
     let high = in_range.1 in
     let one : to_z w32 (of_z w32 last) ≡ last = omega (arith, signed_arith) in
     let two : to_z w64 (of_z w64 last) ≡ last = omega (arith, signed_arith) in
     let three : to_z w64 (of_z w64 (last +ℤ pos 1)) ≡ last +ℤ pos 1 = omega (arith, signed_arith) in
-    let four : to_z w64 (of_z w64 ((last +ℤ pos 1) *ℤ pos 86400)) ≡ (last +ℤ pos 1) *ℤ pos 86400 = omega (arith, signed_arith) in
+    let four : to_z w64 (of_z w64 ((last +ℤ pos 1) *ℤ pos day)) ≡ (last +ℤ pos 1) *ℤ pos day = omega (arith, signed_arith) in
     let is = same ∙ one in
     subst (λ (z : ℤ). pos k <ℤ z)
-    (ap (λ (z : ℤ). to_z w64 (of_z w64 (to_z w64 (of_z w64 (to_z w64 (of_z w64 z) +ℤ pos 1)) *ℤ pos 86400))) is
-    ∙ ap (λ (z : ℤ). to_z w64 (of_z w64 (to_z w64 (of_z w64 (z +ℤ pos 1)) *ℤ pos 86400))) two
-    ∙ ap (λ (z : ℤ). to_z w64 (of_z w64 (z *ℤ pos 86400))) three ∙ four) below
+    (ap (λ (z : ℤ). to_z w64 (of_z w64 (to_z w64 (of_z w64 (to_z w64 (of_z w64 z) +ℤ pos 1)) *ℤ pos day))) is
+    ∙ ap (λ (z : ℤ). to_z w64 (of_z w64 (to_z w64 (of_z w64 (z +ℤ pos 1)) *ℤ pos day))) two
+    ∙ ap (λ (z : ℤ). to_z w64 (of_z w64 (z *ℤ pos day))) three ∙ four) below

@@ -2,13 +2,12 @@
 
 ghost use Rattle.std.specs.Prelude.{◌≡◌, ◌^◌, ◌<◌, pos, ◌*ℤ◌, ◌+ℤ◌, unsigned_abs};
 ghost use Rattle.std.specs.Int.{int_div_euclid, int_rem_euclid};
+ghost use Rattle.due_model.specs.Limits.{day};
 ghost use Rattle.due_model.specs.Local.{local, offset};
 
+use due_model::limits::DAY;
 use due_model::zone::Zone;
 use jiff::Timestamp;
-
-/// How many seconds a day has.
-pub const DAY: u32 = 86_400;
 
 /// What a clock and a calendar on the wall show.
 #[derive(Clone, Copy, Debug, PartialEq, Eq)]
@@ -18,7 +17,7 @@ pub struct LocalTime {
     /// Of the day.
     pub second: u32,
     ghost in_week: { weekday < 7 },
-    ghost in_day: { second < 86400 },
+    ghost in_day: { second < day },
 }
 
 /// Local time at a moment, in seconds since the epoch (chapter "Time Periods").
@@ -58,11 +57,11 @@ pub(crate) fn instant(t: u64) -> Timestamp
 fn clock_at(second: i64) -> LocalTime
     requires { unsigned_abs second < 2 ^ 36 }
     ensures weekday { result.weekday
-        ≡ unsigned_abs (int_rem_euclid (int_div_euclid second (pos 86400) +ℤ pos 4) (pos 7)) }
-    ensures second { result.second ≡ unsigned_abs (int_rem_euclid second (pos 86400)) }
+        ≡ unsigned_abs (int_rem_euclid (int_div_euclid second (pos day) +ℤ pos 4) (pos 7)) }
+    ensures second { result.second ≡ unsigned_abs (int_rem_euclid second (pos day)) }
 {
     LocalTime {
-        weekday: (second.div_euclid(86_400) + 4).rem_euclid(7) as u8,
-        second: second.rem_euclid(86_400) as u32,
+        weekday: (second.div_euclid(DAY as i64) + 4).rem_euclid(7) as u8,
+        second: second.rem_euclid(DAY as i64) as u32,
     }
 }

@@ -5,7 +5,8 @@ ghost use Rattle.due_model.specs.Local.{offset};
 ghost use Rattle.zone_times.specs.Changes.{SameYear, next_change};
 ghost use Rattle.zone_times.specs.Clock.{GoesOn};
 
-use crate::local::{DAY, instant, local_time};
+use crate::local::{instant, local_time};
+use due_model::limits::DAY;
 use due_model::zone::Zone;
 use jiff::Timestamp;
 use jiff_core::Offset;
@@ -65,7 +66,7 @@ fn year_end(t: u64) -> u64
 {
     let date = Offset::UTC.to_datetime(instant(t).to_plain()).date;
     let last = Date::constrain(date.year, 12, 31).to_unix_epoch_day();
-    seconds_below((i64::from(last) + 1) * 86_400).min(HORIZON)
+    seconds_below((i64::from(last) + 1) * DAY as i64).min(HORIZON)
 }
 
 /// How many seconds of the epoch lie before this one.

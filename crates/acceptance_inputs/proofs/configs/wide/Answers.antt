@@ -1,4 +1,4 @@
-use Rattle.std.proofs.Common.{◌≡◌, ◌<◌, List, [], ◌∷◌, ◌++◌, length, replicate, slice_get, All, refl, sym, ap, ◌∙◌, subst, arith}
+use Rattle.std.proofs.Common.{◌≡◌, ◌<◌, List, [], ◌∷◌, length, replicate, slice_get, All, refl, sym, ap, ◌∙◌, subst, arith}
 use Rattle.std.proofs.lemmas.List.Elements.{All-nil, All-cons, All-same, All-replicate, All-weaker}
 use Rattle.std.proofs.lemmas.Option.{none-some}
 use Rattle.due_model.specs.declared.config.Config.{Config}
@@ -77,28 +77,22 @@ wide_is_covered c k wide = record {
 }
 
 -- what is built
-abbrev config_of : goal.After-new-9 → Config
-config_of c = record { objects = c.in_ok-new.field-0; contacts = c.new-2.result; lanes = c.new-3.result; periods = c.new-5.result; escalations = c.new-7.result; dependencies = c.new-9.result }
-
-abbrev contact_of : goal.After-new-9 → Contact
-contact_of c = record { name = c.in_ok-name.name; hosts = c.in_ok-hosts_rights.hosts_rights; services = c.in_ok-services_rights.services_rights }
-
-is_wide : (c : goal.After-new-9) → IsWide (config_of c) (contact_of c)
+is_wide : (c : goal.After-of_parts) → IsWide c.of_parts.result c.in_ok-loud_contact.field-0
 is_wide c = record {
-  objects = c.in_ok-new.ensures ∙ c.in_ok-hosts.ensures;
-  contacts = c.new-2.ensures ∙ c.in_ok-push.ensures.items ∙ ap (λ (ks : List Contact). ks ++ contact_of c ∷ []) c.new-contacts.ensures.items;
-  lanes = ap length c.new-3.ensures ∙ c.in_ok-commands.ensures;
-  hosts = c.in_ok-hosts_rights.ensures.full;
-  services = c.in_ok-services_rights.ensures.full;
-  host_lanes = c.in_ok-hosts_rights.ensures.lanes;
-  service_lanes = c.in_ok-services_rights.ensures.lanes;
-  periods = c.new-5.ensures ∙ c.new-4.ensures.items;
-  escalations = c.new-7.ensures ∙ c.new-6.ensures.items;
-  dependencies = c.new-9.ensures ∙ c.new-8.ensures.items;
+  objects = ap (λ (b : Config). b.objects) c.of_parts.ensures ∙ c.in_ok-objects.ensures ∙ c.in_ok-hosts.ensures;
+  contacts = ap (λ (b : Config). b.contacts) c.of_parts.ensures ∙ c.in_ok-contacts.ensures;
+  lanes = ap (λ (b : Config). length b.lanes) c.of_parts.ensures ∙ c.in_ok-lanes.ensures;
+  hosts = c.in_ok-loud_contact.ensures.hosts;
+  services = c.in_ok-loud_contact.ensures.services;
+  host_lanes = c.in_ok-loud_contact.ensures.host_lanes;
+  service_lanes = c.in_ok-loud_contact.ensures.service_lanes;
+  periods = ap (λ (b : Config). b.periods) c.of_parts.ensures ∙ c.new-2.ensures.items;
+  escalations = ap (λ (b : Config). b.escalations) c.of_parts.ensures;
+  dependencies = ap (λ (b : Config). b.dependencies) c.of_parts.ensures;
 }
 
 pub returns-clause-accepted : goal.returns-clause-accepted
-returns-clause-accepted c = wide_is_accepted (config_of c) (contact_of c) (is_wide c)
+returns-clause-accepted c = wide_is_accepted c.of_parts.result c.in_ok-loud_contact.field-0 (is_wide c)
 
 pub returns-clause-covered : goal.returns-clause-covered
-returns-clause-covered c = wide_is_covered (config_of c) (contact_of c) (is_wide c)
+returns-clause-covered c = wide_is_covered c.of_parts.result c.in_ok-loud_contact.field-0 (is_wide c)

@@ -18,7 +18,7 @@ loop-place-preserved c =
     let turn = c.loop-place.invariant in
     elim c.if-applies.branch [
       | then-applies+in_ok-extend_from_slice w ↦
-          let more = after_one config c.args.zone.now c.args.number c.args.letter c.args.t places i e low at (sym c.applies.ensures ∙ w.if-applies.true) in
+          let more = after_one config c.args.zone.now c.args.number c.args.letter c.args.t places i e low at (sym (c.applies.ensures config c.requires.compiled) ∙ w.if-applies.true) in
           record {
             some = w.some-is ∙ sym (ap has_some more ∙ some_push so_far e);
             named = ap (λ named. named.items) w.named-is ∙ w.in_ok-extend_from_slice.ensures.items ∙ ap (λ contacts. c.loop-place.named.items ++ contacts) w.as_slice-then-applies.ensures
@@ -26,7 +26,7 @@ loop-place-preserved c =
                 ∙ ap (λ named. c.args.named.now.items ++ named) (sym (ap named_by more ∙ named_push so_far e));
           }
       | else-applies w ↦
-          let same = after_other config c.args.zone.now c.args.number c.args.letter c.args.t places i e low at (sym c.applies.ensures ∙ w.if-applies.false) in
+          let same = after_other config c.args.zone.now c.args.number c.args.letter c.args.t places i e low at (sym (c.applies.ensures config c.requires.compiled) ∙ w.if-applies.false) in
           record {
             some = w.some-is ∙ turn.some ∙ sym (ap has_some same);
             named = ap (λ named. named.items) w.named-is ∙ turn.named ∙ ap (λ named. c.args.named.now.items ++ named) (sym (ap named_by same));

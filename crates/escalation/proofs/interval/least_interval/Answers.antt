@@ -14,7 +14,7 @@ loop-place-preserved c =
     let at = read_at config.escalations c.as_slice.result.now (get_or places i 0) e c.as_slice.ensures (c.requires.within i 0 low) c.index-as_slice-place.is in
     elim c.if-applies.branch [
       | then-applies w ↦ w.least-is ∙ ap Some (w.lesser.ensures ∙ ap (λ least. unwrap_or (option_map (λ other. min other e.interval) least) e.interval) c.loop-place.invariant)
-          ∙ sym (ap least_of (after_one config c.args.zone.now c.args.number c.args.letter c.args.t places i e low at (sym c.applies.ensures ∙ w.if-applies.true)) ∙ least_push _ e)
+          ∙ sym (ap least_of (after_one config c.args.zone.now c.args.number c.args.letter c.args.t places i e low at (sym (c.applies.ensures config c.requires.compiled) ∙ w.if-applies.true)) ∙ least_push _ e)
       | else-applies w ↦ w.least-is ∙ c.loop-place.invariant
-          ∙ sym (ap least_of (after_other config c.args.zone.now c.args.number c.args.letter c.args.t places i e low at (sym c.applies.ensures ∙ w.if-applies.false)))
+          ∙ sym (ap least_of (after_other config c.args.zone.now c.args.number c.args.letter c.args.t places i e low at (sym (c.applies.ensures config c.requires.compiled) ∙ w.if-applies.false)))
     ]

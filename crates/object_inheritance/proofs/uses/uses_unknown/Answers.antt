@@ -2,7 +2,7 @@ use Rattle.std.proofs.Common.{List, ◌∙◌, Bor, Option, ap, is_none, not, sy
 use Rattle.std.specs.List.{list_any}
 use Rattle.object_inheritance.specs.Templates.{template_place}
 use Rattle.object_values.specs.Values.{texts}
-use Rattle.object_inheritance.proofs.UseLemmas.{any-at}
+use Rattle.lemmas.proofs.Searches.{any-at}
 use Rattle.object_inheritance.proofs.uses.uses_unknown.Goals as goal
 
 pub returns-then-is_none : goal.returns-then-is_none

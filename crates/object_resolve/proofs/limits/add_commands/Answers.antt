@@ -4,7 +4,8 @@ use Rattle.std.specs.Str.{bytes_eq}
 use Rattle.object_reader.specs.declared.block.BlockKind.TheVariants.{Contact}
 use Rattle.object_values.specs.Blocks.{entries_read}
 use Rattle.object_values.specs.Values.{command_name, texts}
-use Rattle.object_resolve.proofs.ListLemmas.{any-more, has-added, or-assoc}
+use Rattle.lemmas.proofs.Searches.{any-more}
+use Rattle.object_resolve.proofs.ListLemmas.{has-added, or-assoc}
 use Rattle.object_resolve.proofs.limits.add_commands.Goals as goal
 
 pub loop-entry-preserved : goal.loop-entry-preserved

@@ -2,10 +2,11 @@ use Rattle.std.proofs.Common.{◌≡◌, ◌++◌, ◌+◌, ◌∷◌, [], rever
 use Rattle.std.proofs.lemmas.List.Elements.{All-same, All-nil, All-push}
 use Rattle.due_model.specs.declared.event.Event.{Event}
 use Rattle.due_model.specs.declared.event.EventKind.TheVariants.{Clock}
-use Rattle.due_model.specs.Due.{notices, suppressions}
+use Rattle.due_model.specs.Due.{due_for, notices, suppressed_for, suppressions}
 use Rattle.due_model.specs.Histories.{hist, outcome}
+use Rattle.lemmas.proofs.Lists.{past_all}
 use Rattle.slow_rules.specs.Histories.{IsInRange}
-use Rattle.slow_rules.proofs.SlowLemmas.{hist_more, due_more, due_all, suppressed_more, sup_all}
+use Rattle.slow_rules.proofs.SlowLemmas.{hist_more, due_more, suppressed_more}
 use Rattle.slow_rules.proofs.slow.find_answers.Goals as goal
 
 pub loop-index-init : goal.loop-index-init
@@ -20,33 +21,36 @@ loop-index-init c = record {
 
 pub loop-index-preserved : goal.loop-index-preserved
 loop-index-preserved c =
-    let config = c.args.config.now in
-    let zone = c.args.zone.now in
-    let o = c.args.object.0 in
-    let settings = c.settings_of-settings.result.now in
+    let s = c.args.subject.now in
+    let config = s.config.now in
+    let zone = s.zone.now in
+    let o = s.id.0 in
+    let settings = s.object.now in
     let events = c.args.events.now in
     let i = c.loop-index.index in
     let none : Event = record { moment = 0; kind = Clock } in
-    let now = c.outcome-now.result in
+    let now = c.in_ok-now.now in
     let so_far = c.loop-index.invariant in
     let history = c.loop-index.history.items in
     let value : now ≡ outcome config zone o settings (get_or events i none) (reverse (take i events)) (reverse history) =
-    c.outcome-now.ensures.value ∙ ap (λ xs. outcome config zone o settings (get_or events i none) (reverse (take i events)) (reverse xs)) c.as_slice.ensures.value
+    c.in_ok-now.ensures.value ∙ ap (λ xs. outcome config zone o settings (get_or events i none) (reverse (take i events)) (reverse xs)) c.as_slice.ensures.value
     in
     record {
       due = c.in_ok-add_answers.ensures.due ∙ ap (λ xs. xs ++ notices config zone o settings c.args.lane.0 i now) so_far.due ∙ due_more config zone o settings c.args.lane.0 events i none history now c.loop-index-test.true so_far.history value;
       suppressed = c.in_ok-add_answers.ensures.suppressed ∙ ap (λ xs. xs ++ suppressions config zone o settings i now) so_far.suppressed ∙ suppressed_more config zone o settings events i none history now c.loop-index-test.true so_far.history value;
       history = ap reverse c.in_ok-push.ensures.items ∙ hist_more config zone o settings events i none history now c.loop-index-test.true so_far.history value;
       length = c.in_ok-push.ensures.len ∙ ap (λ n. n + 1) so_far.length;
-      in_range = All-same IsInRange c.push.new.self.items (history ++ now ∷ []) c.in_ok-push.ensures.items (All-push IsInRange history now so_far.in_range c.outcome-now.ensures.in_range);
+      in_range = All-same IsInRange c.push.new.self.items (history ++ now ∷ []) c.in_ok-push.ensures.items (All-push IsInRange history now so_far.in_range c.in_ok-now.ensures.in_range);
     }
 
 pub returns-clause-due : goal.returns-clause-due
 returns-clause-due c =
+    let s = c.args.subject.now in
     c.loop-index.invariant.due
-    ∙ due_all c.args.config.now c.args.zone.now c.args.object.0 c.settings_of-settings.result.now c.args.lane.0 c.args.events.now c.loop-index.index c.loop-index-test.false c.settings_of-settings.ensures.known.at
+    ∙ ap (due_for s.config.now s.zone.now s.id.0 s.object.now c.args.lane.0) (past_all c.args.events.now c.loop-index.index c.loop-index-test.false)
 
 pub returns-clause-suppressed : goal.returns-clause-suppressed
 returns-clause-suppressed c =
+    let s = c.args.subject.now in
     c.loop-index.invariant.suppressed
-    ∙ sup_all c.args.config.now c.args.zone.now c.args.object.0 c.settings_of-settings.result.now c.args.events.now c.loop-index.index c.loop-index-test.false c.settings_of-settings.ensures.known.at
+    ∙ ap (suppressed_for s.config.now s.zone.now s.id.0 s.object.now) (past_all c.args.events.now c.loop-index.index c.loop-index-test.false)

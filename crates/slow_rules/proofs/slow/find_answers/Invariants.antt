@@ -6,9 +6,9 @@ use Rattle.slow_rules.proofs.slow.find_answers.Given as goal
 
 abbrev pub invariant-loop-index : goal.invariant-loop-index
 invariant-loop-index l = record {
-  due : l.answers.due.items ≡ due_for l.config l.zone l.object.0 l.settings l.lane.0 (reverse (take l.index l.events));
-  suppressed : l.answers.suppressed.items ≡ suppressed_for l.config l.zone l.object.0 l.settings (reverse (take l.index l.events));
-  history : reverse l.history.items ≡ hist l.config l.zone l.object.0 l.settings (reverse (take l.index l.events));
+  due : l.answers.due.items ≡ due_for l.subject.config.now l.subject.zone.now l.subject.id.0 l.subject.object.now l.lane.0 (reverse (take l.index l.events));
+  suppressed : l.answers.suppressed.items ≡ suppressed_for l.subject.config.now l.subject.zone.now l.subject.id.0 l.subject.object.now (reverse (take l.index l.events));
+  history : reverse l.history.items ≡ hist l.subject.config.now l.subject.zone.now l.subject.id.0 l.subject.object.now (reverse (take l.index l.events));
   length : vec_len l.history ≡ l.index;
   in_range : All IsInRange l.history.items;
 }

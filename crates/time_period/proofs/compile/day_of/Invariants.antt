@@ -1,4 +1,5 @@
 use Rattle.std.proofs.Common.{◌-◌}
+use Rattle.due_model.specs.Limits.{day}
 use Rattle.time_period.specs.Days.{IsMade, holds_without}
 use Rattle.time_period.proofs.compile.day_of.Given as goal
 
@@ -6,4 +7,4 @@ abbrev pub invariant-loop-start : goal.invariant-loop-start
 invariant-loop-start l = IsMade (holds_without l.period l.done l.weekday) l.start l.day.items
 
 abbrev pub decreases-loop-start : goal.decreases-loop-start
-decreases-loop-start l = 86400 - l.start
+decreases-loop-start l = day - l.start

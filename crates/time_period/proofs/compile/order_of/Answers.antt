@@ -1,7 +1,7 @@
 use Rattle.std.proofs.Common.{ℕ, ◌∙◌, sym, subst, ap, All}
 use Rattle.std.specs.Prelude.{IfNone, IfSome}
 use Rattle.graph.specs.Edges.{IsWithin}
-use Rattle.graph.specs.Order.{HasLoop, IsOrder}
+use Rattle.graph_order.specs.Order.{HasLoop, IsOrder}
 use Rattle.time_period.specs.Exclusions.{exclusion_edges}
 use Rattle.time_period.proofs.ExclusionLemmas.{edges_within, no_loop, in_order}
 use Rattle.time_period.proofs.compile.order_of.Goals as goal

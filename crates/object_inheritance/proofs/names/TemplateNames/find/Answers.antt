@@ -3,7 +3,7 @@ use Rattle.std.specs.List.{position}
 use Rattle.object_reader.specs.declared.block.Block.{Block}
 use Rattle.object_inheritance.specs.Names.{has_key}
 use Rattle.object_inheritance.specs.Templates.{is_template, template_place}
-use Rattle.object_inheritance.proofs.NameLemmas.{position-within}
+use Rattle.lemmas.proofs.Searches.{position-within}
 use Rattle.object_inheritance.proofs.names.TemplateNames.find.Goals as goal
 
 pub returns-clause-place : goal.returns-clause-place

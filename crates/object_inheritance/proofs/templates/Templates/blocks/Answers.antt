@@ -1,5 +1,5 @@
 use Rattle.std.proofs.Common.{subst}
-use Rattle.graph.specs.Order.{IsOrder}
+use Rattle.graph_order.specs.Order.{IsOrder}
 use Rattle.object_inheritance.specs.Inherited.{AreInherited, AreShort}
 use Rattle.object_inheritance.proofs.InheritedLemmas.{are-inherited, are-short}
 use Rattle.object_inheritance.proofs.templates.Templates.blocks.Goals as goal

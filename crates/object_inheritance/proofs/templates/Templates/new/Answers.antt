@@ -2,7 +2,7 @@ use Rattle.std.proofs.Common.{List, ℕ, subst}
 use Rattle.std.specs.Prelude.{IfNone}
 use Rattle.graph.specs.Chains.{HasNoLoop}
 use Rattle.graph.specs.Edges.{Leads}
-use Rattle.graph.specs.Order.{HasLoop}
+use Rattle.graph_order.specs.Order.{HasLoop}
 use Rattle.object_inheritance.proofs.FaultLemmas.{free-no_loop}
 use Rattle.object_inheritance.proofs.templates.Templates.new.Goals as goal
 

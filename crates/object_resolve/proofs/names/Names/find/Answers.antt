@@ -1,7 +1,8 @@
 use Rattle.std.proofs.Common.{◌<◌, ◌∙◌, IfSome, ap, length, subst, sym}
 use Rattle.std.specs.List.{position}
 use Rattle.std.specs.Str.{bytes_eq}
-use Rattle.object_resolve.proofs.ListLemmas.{position-of_map, position-within}
+use Rattle.lemmas.proofs.Searches.{position-within}
+use Rattle.object_resolve.proofs.ListLemmas.{position-of_map}
 use Rattle.object_resolve.proofs.names.Names.find.Goals as goal
 
 pub returns-clause-place : goal.returns-clause-place

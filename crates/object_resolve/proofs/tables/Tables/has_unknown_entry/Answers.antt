@@ -1,7 +1,7 @@
 use Rattle.std.proofs.Common.{◌∙◌, not, sym}
 use Rattle.std.proofs.lemmas.Bool.{not_from_false}
 use Rattle.object_resolve.specs.Tables.{is_known}
-use Rattle.object_resolve.proofs.ListLemmas.{any-at}
+use Rattle.lemmas.proofs.Searches.{any-at}
 use Rattle.object_resolve.proofs.tables.Tables.has_unknown_entry.Goals as goal
 
 pub returns-then-not-is_known : goal.returns-then-not-is_known

@@ -1,8 +1,0 @@
-use Rattle.graph.specs.Walk.{Fits, steps_left}
-use Rattle.graph.proofs.walk.Walk.along.Given as goal
-
-abbrev pub invariant-loop-walk : goal.invariant-loop-walk
-invariant-loop-walk l = Fits l.graph l.walk
-
-abbrev pub decreases-loop-walk : goal.decreases-loop-walk
-decreases-loop-walk l = steps_left l.graph l.walk

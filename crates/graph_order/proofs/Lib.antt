@@ -1,0 +1,6 @@
+pub mod ListLemmas
+pub mod WalkLemmas
+pub mod CloseLemmas
+pub mod MoveLemmas
+pub mod OverLemmas
+pub mod TopLemmas

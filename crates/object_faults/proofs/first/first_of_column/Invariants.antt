@@ -1,0 +1,7 @@
+use Rattle.std.proofs.Common.{◌≡◌, ℕ, ◌<◌, None}
+use Rattle.object_faults.specs.Columns.{fault_at}
+use Rattle.object_faults.proofs.first.first_of_column.Given as goal
+
+-- None of the blocks so far has a fault.
+abbrev pub invariant-loop-place : goal.invariant-loop-place
+invariant-loop-place l = (k : ℕ) → k < l.place → fault_at l.fn.templates l.column k ≡ None

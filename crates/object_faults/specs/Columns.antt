@@ -1,0 +1,183 @@
+-- The same directive by directive: what each must be, by the type of the block, and the first block
+-- that breaks one of them.
+use Rattle.std.specs.Prelude.{◌≡◌, ℕ, ◌<◌, Bool, true, false, not, List, [], ◌∷◌, map, codes, nat_le, Option, None, Some, slice_get, if◌then◌else◌}
+use Rattle.std.specs.Option.{option_and_then, option_or}
+use Rattle.object_reader.specs.declared.block.Block.{Block}
+use Rattle.object_reader.specs.declared.block.BlockKind.{BlockKind}
+use Rattle.object_reader.specs.declared.block.BlockKind.TheVariants.{Host, Service, Contact, TimePeriod, HostEscalation, ServiceEscalation, HostDependency, ServiceDependency}
+use Rattle.object_values.specs.Blocks.{means_nothing}
+use Rattle.object_values.specs.declared.options.OptionKind.TheVariants as lists
+use Rattle.object_values.specs.declared.options.CriteriaKind.TheVariants.{OfHosts, OfServices}
+use Rattle.object_faults.specs.declared.column.Check.{Check}
+use Rattle.object_faults.specs.declared.column.Check.TheVariants.{Number, Options, Criteria, Ranges, Zero}
+use Rattle.object_faults.specs.declared.column.Column.{Column}
+use Rattle.object_faults.specs.declared.column.Column.TheVariants.{Register, Interval, Enabled, Delay, HostEnabled, ServiceEnabled, First, Last, Inherits, IsVolatile, NotificationOptions, HostOptions, ServiceOptions, EscalationOptions, FailureCriteria, Sunday, Monday, Tuesday, Wednesday, Thursday, Friday, Saturday, VolatileZero}
+use Rattle.object_faults.specs.declared.fault.ValueFault.{ValueFault}
+use Rattle.object_faults.specs.declared.fault.ValueFault.TheVariants.{BadNumber, BadOption, BadRange, Volatile}
+use Rattle.object_faults.specs.declared.first.Found.{Found}
+use Rattle.object_faults.specs.Faults.{breaks, is_broken, is_registered}
+
+-- the name of a directive
+abbrev pub directive_of : Column → List ℕ
+directive_of Register = codes "register"
+directive_of Interval = codes "notification_interval"
+directive_of Enabled = codes "notifications_enabled"
+directive_of Delay = codes "first_notification_delay"
+directive_of HostEnabled = codes "host_notifications_enabled"
+directive_of ServiceEnabled = codes "service_notifications_enabled"
+directive_of First = codes "first_notification"
+directive_of Last = codes "last_notification"
+directive_of Inherits = codes "inherits_parent"
+directive_of IsVolatile = codes "is_volatile"
+directive_of NotificationOptions = codes "notification_options"
+directive_of HostOptions = codes "host_notification_options"
+directive_of ServiceOptions = codes "service_notification_options"
+directive_of EscalationOptions = codes "escalation_options"
+directive_of FailureCriteria = codes "notification_failure_criteria"
+directive_of Sunday = codes "sunday"
+directive_of Monday = codes "monday"
+directive_of Tuesday = codes "tuesday"
+directive_of Wednesday = codes "wednesday"
+directive_of Thursday = codes "thursday"
+directive_of Friday = codes "friday"
+directive_of Saturday = codes "saturday"
+directive_of VolatileZero = codes "is_volatile"
+
+-- ---- the types that have them
+
+abbrev pub is_host_or_service : BlockKind → Bool
+is_host_or_service Host = true
+is_host_or_service Service = true
+is_host_or_service _ = false
+
+abbrev pub is_service : BlockKind → Bool
+is_service Service = true
+is_service _ = false
+
+abbrev pub is_contact : BlockKind → Bool
+is_contact Contact = true
+is_contact _ = false
+
+abbrev pub is_escalation : BlockKind → Bool
+is_escalation HostEscalation = true
+is_escalation ServiceEscalation = true
+is_escalation _ = false
+
+abbrev pub has_interval : BlockKind → Bool
+has_interval Host = true
+has_interval Service = true
+has_interval HostEscalation = true
+has_interval ServiceEscalation = true
+has_interval _ = false
+
+abbrev pub is_dependency : BlockKind → Bool
+is_dependency HostDependency = true
+is_dependency ServiceDependency = true
+is_dependency _ = false
+
+abbrev pub is_period : BlockKind → Bool
+is_period TimePeriod = true
+is_period _ = false
+
+-- ---- what they must be
+
+abbrev pub when : Bool → Check → Option Check
+when has check = if has then Some check else None
+
+abbrev pub options_check : BlockKind → Option Check
+options_check Host = Some (Options lists.Host)
+options_check Service = Some (Options lists.Service)
+options_check _ = None
+
+abbrev pub escalation_check : BlockKind → Option Check
+escalation_check HostEscalation = Some (Options lists.HostEscalation)
+escalation_check ServiceEscalation = Some (Options lists.ServiceEscalation)
+escalation_check _ = None
+
+abbrev pub criteria_check : BlockKind → Option Check
+criteria_check HostDependency = Some (Criteria OfHosts)
+criteria_check ServiceDependency = Some (Criteria OfServices)
+criteria_check _ = None
+
+-- what a directive must be in blocks of the type; none where it says nothing there
+abbrev pub check_of : Column → BlockKind → Option Check
+check_of Register kind = when (not (means_nothing kind)) Number
+check_of Interval kind = when (has_interval kind) Number
+check_of Enabled kind = when (is_host_or_service kind) Number
+check_of Delay kind = when (is_host_or_service kind) Number
+check_of HostEnabled kind = when (is_contact kind) Number
+check_of ServiceEnabled kind = when (is_contact kind) Number
+check_of First kind = when (is_escalation kind) Number
+check_of Last kind = when (is_escalation kind) Number
+check_of Inherits kind = when (is_dependency kind) Number
+check_of IsVolatile kind = when (is_service kind) Number
+check_of NotificationOptions kind = options_check kind
+check_of HostOptions kind = when (is_contact kind) (Options lists.Host)
+check_of ServiceOptions kind = when (is_contact kind) (Options lists.Service)
+check_of EscalationOptions kind = escalation_check kind
+check_of FailureCriteria kind = criteria_check kind
+check_of Sunday kind = when (is_period kind) Ranges
+check_of Monday kind = when (is_period kind) Ranges
+check_of Tuesday kind = when (is_period kind) Ranges
+check_of Wednesday kind = when (is_period kind) Ranges
+check_of Thursday kind = when (is_period kind) Ranges
+check_of Friday kind = when (is_period kind) Ranges
+check_of Saturday kind = when (is_period kind) Ranges
+check_of VolatileZero kind = when (is_service kind) Zero
+
+-- the fault of a text that breaks what it must be
+abbrev pub fault_name : Check → ValueFault
+fault_name Number = BadNumber
+fault_name (Options kind) = BadOption
+fault_name (Criteria kind) = BadOption
+fault_name Ranges = BadRange
+fault_name Zero = Volatile
+
+abbrev pub check_fault : Check → List ℕ → Option ValueFault
+check_fault check text = if breaks check text then Some (fault_name check) else None
+
+-- the fault of what the block at the place, of the type, has for one directive
+abbrev pub column_fault : List Block → ℕ → BlockKind → Column → Option ValueFault
+column_fault blocks place kind column = option_and_then
+    (λ check. if is_broken blocks place check (directive_of column)
+    then Some (fault_name check) else None)
+    (check_of column kind)
+
+-- the same, if the block is registered
+abbrev pub registered_fault : List Block → ℕ → Column → Block → Option ValueFault
+registered_fault blocks place column block =
+    if is_registered block then column_fault blocks place block.kind column else None
+
+abbrev pub fault_at : List Block → Column → ℕ → Option ValueFault
+fault_at blocks column place =
+    option_and_then (registered_fault blocks place column) (slice_get blocks place)
+
+-- the first of the faults
+abbrev pub first_of : List (Option ValueFault) → Option ValueFault
+first_of [] = None
+first_of (fault ∷ faults) = option_or fault (first_of faults)
+
+-- What is found is the first of so many places that has a fault, and the fault that it has.
+abbrev pub IsFirst : ℕ → (ℕ → Option ValueFault) → Option Found → Type 0
+IsFirst count fault None = (k : ℕ) → k < count → fault k ≡ None
+IsFirst count fault (Some found) = (found.place < count) × (fault found.place ≡ Some found.fault)
+    × ((k : ℕ) → k < found.place → fault k ≡ None)
+
+-- of two that are found the earlier, and the first where they are the same
+abbrev pub earlier : Option Found → Option Found → Option Found
+earlier None second = second
+earlier (Some one) None = Some one
+earlier (Some one) (Some other) =
+    if nat_le one.place other.place then Some one else Some other
+
+-- the first fault of the columns that the block at the place has
+abbrev pub first_at : List Block → List Column → ℕ → Option ValueFault
+first_at blocks columns place = first_of (map (λ column. fault_at blocks column place) columns)
+
+-- every directive that is looked at, in the order of the faults
+abbrev pub every_column : List Column
+every_column = Register ∷ Interval ∷ Enabled ∷ Delay ∷ IsVolatile
+    ∷ HostEnabled ∷ ServiceEnabled ∷ First ∷ Last ∷ Inherits
+    ∷ NotificationOptions ∷ HostOptions ∷ ServiceOptions ∷ EscalationOptions ∷ FailureCriteria
+    ∷ Sunday ∷ Monday ∷ Tuesday ∷ Wednesday
+    ∷ Thursday ∷ Friday ∷ Saturday ∷ VolatileZero ∷ []

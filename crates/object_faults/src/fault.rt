@@ -1,0 +1,36 @@
+//! What is wrong with the values of a block.
+
+ghost use Rattle.std.specs.Prelude.{◌≡◌};
+ghost use Rattle.object_faults.specs.declared.fault.PassFault.TheVariants.{NoMemory};
+
+use std::alloc::AllocError;
+
+/// What is wrong with a value of a block. Of several faults of one block the first counts.
+#[derive(Clone, Copy, Debug, PartialEq, Eq)]
+pub enum ValueFault {
+    /// A number isn't decimal digits of 0 to 1,000,000.
+    BadNumber,
+    /// An option list, or failure criteria, have a word that is no option or state of their kind.
+    BadOption,
+    /// A weekday's line isn't ranges of times.
+    BadRange,
+    /// A service is volatile.
+    Volatile,
+}
+
+/// Why blocks are refused.
+#[derive(Clone, Copy, Debug, PartialEq, Eq)]
+pub enum PassFault {
+    /// The fault of a block, with the line of its `define`.
+    AtLine { line: u64, fault: ValueFault },
+    /// Memory ran out. It says nothing of the blocks.
+    NoMemory,
+}
+
+impl From<AllocError> for PassFault {
+    ghost from_gives = { λ _ fault. fault ≡ NoMemory };
+
+    fn from(_error: AllocError) -> PassFault {
+        PassFault::NoMemory
+    }
+}

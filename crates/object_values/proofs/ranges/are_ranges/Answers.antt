@@ -1,0 +1,13 @@
+use Rattle.std.proofs.Common.{rules, tests}
+use Rattle.std.specs.Prelude.{is_some}
+use Rattle.std.proofs.lemmas.Iterator.Search.{all_from_yields_List}
+use Rattle.std.proofs.lemmas.Iterator.Splits.{YieldsList-from_slice_split}
+use Rattle.object_values.specs.Ranges.{range_in}
+use Rattle.object_values.specs.Values.{is_comma}
+use Rattle.object_values.proofs.ranges.are_ranges.Goals as goal
+
+pub returns : goal.returns
+returns c =
+    all_from_yields_List (λ part. is_some (range_in part)) _ _ _ c.all.ensures.ran
+    (YieldsList-from_slice_split _ is_comma c.args.text.now c.split.ensures.rest c.split.ensures.done c.split.ensures.closure (λ x r q k. search (rules, tests)))
+    (λ x b q k. search (rules, tests))
