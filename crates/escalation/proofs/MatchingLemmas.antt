@@ -1,5 +1,5 @@
 -- The escalations that apply, one place more; their least interval, and whom they name.
-use Rattle.std.proofs.Common.{◌≡◌, ℕ, ◌+◌, ◌<◌, ◌≤◌, Bool, true, false, ◌&&◌, ◌||◌, cond, eqb, List, [], ◌∷◌, ◌++◌, length, filter, fold, min, option_map, unwrap_or, get_or, take, Option, Some, slice_get, slice_index_or, refl, sym, ap, subst, ◌∙◌, le_trans}
+use Rattle.std.proofs.Common.{◌≡◌, ℕ, ◌+◌, ◌*◌, ◌<◌, ◌≤◌, Bool, true, false, ◌&&◌, ◌||◌, cond, eqb, List, [], ◌∷◌, ◌++◌, length, filter, fold, min, option_map, unwrap_or, get_or, take, Option, Some, slice_get, slice_index_or, refl, sym, ap, subst, ◌∙◌, le_trans, arith}
 use Rattle.std.specs.Prelude.{All}
 use Rattle.std.specs.List.{filter_map, list_any, range_with_len}
 use Rattle.std.proofs.lemmas.Grind.{flat_map-append}
@@ -117,6 +117,9 @@ interval_within c zone o n letter t object accepted at =
     interval_of_within object (matching c zone o n letter t) max_number (All-slice_get (ObjectFits c) c.objects o object accepted.objects at).interval
     (All-filter (matches c zone o n letter t) (λ (e : Escalation). e.interval ≤ max_number) c.escalations
     (All-weaker (EscalationFits c) (λ (e : Escalation). e.interval ≤ max_number) (λ e fits. fits.interval) c.escalations accepted.escalations))
+
+pub times_within : (n m : ℕ) → n ≤ m → 60 * n ≤ 60 * m
+times_within n m low = omega arith
 
 -- what is read of a list
 pub read_at : {X : Type 0} (xs ys : List X) (i : ℕ) (x : X) → ys ≡ xs → i < length xs → x ≡ get_or ys i x → slice_get xs i ≡ Some x

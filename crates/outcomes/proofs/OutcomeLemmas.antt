@@ -1,25 +1,23 @@
 -- What an event finds is what the definitions read, and what becomes of it is told to the book.
-use Rattle.std.proofs.Common.{◌≡◌, ℕ, ◌+◌, ◌≤◌, ◌<◌, ◌&&◌, ◌||◌, ◌==◌, Bool, true, false, List, ◌∷◌, Option, Some, None, if◌then◌else◌, refl, sym, ap, subst, ◌∙◌, arith}
+use Rattle.std.proofs.Common.{◌≡◌, ℕ, ◌≤◌, get_or, slice_get, Bool, true, false, List, ◌∷◌, Option, Some, None, if◌then◌else◌, refl, sym, ap, subst, ◌∙◌, arith}
 use Rattle.due_model.specs.declared.config.Config.{Config}
 use Rattle.due_model.specs.declared.config.Object.{Object}
 use Rattle.due_model.specs.declared.event.Event.{Event}
-use Rattle.due_model.specs.declared.event.EventKind.{EventKind}
 use Rattle.due_model.specs.declared.notice.Filter.{Filter}
 use Rattle.due_model.specs.declared.notice.Kind.{Kind}
 use Rattle.due_model.specs.declared.notice.Kind.TheVariants as kind
 use Rattle.due_model.specs.declared.notice.Outcome.{Outcome}
 use Rattle.due_model.specs.declared.notice.Outcome.TheVariants.{Nothing, Sent, Suppressed}
-use Rattle.due_model.specs.declared.rules.Attempt.{Attempt}
-use Rattle.due_model.specs.declared.rules.ObjectStatus.{ObjectStatus}
-use Rattle.due_model.specs.declared.rules.View.{View}
 use Rattle.due_model.specs.declared.state.State.{State}
 use Rattle.due_model.specs.declared.zone.Zone.{Zone}
 use Rattle.due_model.specs.Histories.{judged, outcome_of, status_after, view}
-use Rattle.due_model.specs.Readings.{hard, hard_after, is_problem_state, moment}
+use Rattle.std.proofs.lemmas.Option.{get_or_from_slice_get}
+use Rattle.due_model.specs.Periods.{first_passing, next_in}
+use Rattle.due_model.specs.Readings.{hard, moment}
 use Rattle.due_model.specs.Rules.{attempted, is_problem}
 use Rattle.outcomes.specs.declared.found.Found.{Found}
 use Rattle.outcomes.specs.Found.{IsFound, attempt_by, view_by}
-use Rattle.outcomes.specs.Outcome.{Begins, IsOfKind}
+use Rattle.outcomes.specs.Outcome.{IsOfKind}
 use Rattle.problem_count.specs.Book.{BookValues, after_hard, begins_problem}
 use Rattle.problem_count.specs.Fits.{BookFits, BookFitsWithin, outcome_at, problem_before}
 use Rattle.problem_count.specs.Laws.{OutcomesAreByDue, is_of_problem_attempt}
@@ -52,13 +50,13 @@ view_is c zone o settings e past found book is fits = rw (is.program, is.after, 
 pub attempt_is : (c : Config) (zone : Zone) (o : ℕ) (settings : Object) (e : Event) (past : List Event) (found : Found) (k : Kind)
     → IsFound c zone o settings e past found
     → attempt_by found k ≡ record { kind = k; state = hard o (e ∷ past); moment = moment (e ∷ past) }
-attempt_is c zone o settings e past found k is = rw (is.after, is.moment) refl
+attempt_is c zone o settings e past found k is = rw (is.after, is.at) refl
 
 -- what is attempted by what was found and kept is attempted by the definitions
 pub attempted_is : (c : Config) (zone : Zone) (o : ℕ) (settings : Object) (e : Event) (past : List Event) (found : Found) (due : Option ℕ)
     → IsFound c zone o settings e past found
     → attempted o found.event found.before due found.moment ≡ attempted o e.kind (status_after o past) due (moment (e ∷ past))
-attempted_is c zone o settings e past found due is = rw (is.event, is.before, is.moment) refl
+attempted_is c zone o settings e past found due is = rw (is.event, is.before, is.at) refl
 
 -- what becomes of an attempt
 pub outcome_is : (c : Config) (zone : Zone) (o : ℕ) (settings : Object) (e : Event) (past : List Event) (found : Found) (book begun : BookValues) (k : Kind)
@@ -92,5 +90,29 @@ is_the_problem kind.DowntimeEnd h = cc
 is_the_problem kind.DowntimeCancelled h = cc
 
 pub of_no_problem : (k : Kind) (outcome : Outcome) → is_problem k ≡ false → IsOfKind k outcome → is_of_problem_attempt outcome ≡ false
+of_no_problem k Nothing none is = elim is [ ]
 of_no_problem k (Sent l s n t gap) none is = ap is_problem is ∙ none
 of_no_problem k (Suppressed l s n t why) none is = ap is_problem is ∙ none
+
+pub sent_is : (k l : Kind) (outcome : Outcome) (s : State) (n t gap : ℕ) → outcome ≡ Sent l s n t gap → is_problem k ≡ true → IsOfKind k outcome
+    → outcome ≡ Sent kind.Problem s n t gap
+sent_is k l outcome s n t gap is problem of =
+    let same : l ≡ k = subst (IsOfKind k) is of in
+    is ∙ ap (λ (j : Kind). Sent j s n t gap) (same ∙ is_the_problem k problem)
+
+pub suppressed_is : (k l : Kind) (outcome : Outcome) (s : State) (n t : ℕ) (why : Filter) → outcome ≡ Suppressed l s n t why → is_problem k ≡ true → IsOfKind k outcome
+    → outcome ≡ Suppressed kind.Problem s n t why
+suppressed_is k l outcome s n t why is problem of =
+    let same : l ≡ k = subst (IsOfKind k) is of in
+    is ∙ ap (λ (j : Kind). Suppressed j s n t why) (same ∙ is_the_problem k problem)
+
+-- ---- the settings of an object
+
+pub is_read : (xs ys : List Object) (i k : ℕ) (d x : Object) → ys ≡ xs → k ≡ i → slice_get xs i ≡ Some x → get_or ys k d ≡ x
+is_read xs ys i k d x same place at =
+    ap (λ (zs : List Object). get_or zs k d) same ∙ ap (λ (m : ℕ). get_or xs m d) place ∙ get_or_from_slice_get xs i x d at
+
+-- without a period the next moment is this one
+pub always_now : (c : Config) (zone : Zone) (t : ℕ) → Some t ≡ next_in c zone None t
+unfolding next_in first_passing
+always_now c zone t = refl

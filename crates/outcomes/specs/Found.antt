@@ -22,7 +22,7 @@ is_host_down host past = elim host as (λ _. Bool) [ None ↦ false | Some h ↦
 pub record IsFound (c : Config) (zone : Zone) (o : ℕ) (settings : Object) (e : Event)
     (past : List Event) (found : Found) : Type 0 where
   pub event : found.event ≡ e.kind
-  pub moment : found.moment ≡ moment (e ∷ past)
+  pub at : found.moment ≡ moment (e ∷ past)
   pub program : found.program ≡ program_on (e ∷ past)
   pub before : found.before ≡ status_after o past
   pub after : found.after ≡ status_after o (e ∷ past)

@@ -2,7 +2,6 @@
 
 ghost use Rattle.std.specs.Prelude.{◌≡◌, ◌≤◌, ◌<◌, ◌+◌, ◌^◌, length};
 ghost use Rattle.due_model.specs.Limits.{last_moment};
-ghost use Rattle.outcomes.specs.Found.{IsNamed};
 ghost use Rattle.outcomes.specs.Outcome.{Begins, Decides};
 ghost use Rattle.outcomes.specs.Rules.{AreRules};
 
