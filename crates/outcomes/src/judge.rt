@@ -1,6 +1,7 @@
 //! What becomes of an attempt.
 
-ghost use Rattle.std.specs.Prelude.{◌≡◌, ◌≤◌, ◌<◌, ◌+◌, ◌^◌, length, slice_get, IfSome, Some};
+ghost use Rattle.std.specs.Prelude.{◌≡◌, ◌≤◌, ◌<◌, ◌+◌, ◌^◌};
+ghost use Rattle.std.specs.Prelude.{length, slice_get, IfSome, Some};
 ghost use Rattle.due_model.specs.declared.config.Object.{Object};
 ghost use Rattle.due_model.specs.Histories.{gap_of, judged};
 ghost use Rattle.due_model.specs.Limits.{last_moment};

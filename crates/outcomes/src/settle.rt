@@ -1,6 +1,7 @@
 //! What is kept of a problem once it is known what became of an attempt.
 
-ghost use Rattle.std.specs.Prelude.{◌≡◌, ◌≤◌, ◌<◌, ◌+◌, ◌^◌, true, length, slice_get, Some};
+ghost use Rattle.std.specs.Prelude.{◌≡◌, ◌≤◌, ◌<◌, ◌+◌, ◌^◌};
+ghost use Rattle.std.specs.Prelude.{true, length, slice_get, Some};
 ghost use Rattle.due_model.specs.declared.config.Object.{Object};
 ghost use Rattle.due_model.specs.Accepted.{ObjectFits};
 ghost use Rattle.due_model.specs.Limits.{last_moment};
