@@ -6,4 +6,5 @@ pub mod configs;
 pub mod periods;
 pub mod plain;
 pub mod readers;
+pub mod rows;
 pub mod texts;

@@ -2,6 +2,7 @@
 
 ghost use Rattle.std.specs.Prelude.{All, IsTrue};
 ghost use Rattle.due_model.specs.Covered.{IsPlainEvent};
+ghost use Rattle.due_model.specs.Proper.{IsProper};
 
 use due_model::config::Config;
 use due_model::event::Event;
@@ -14,4 +15,11 @@ pub fn are_plain(config: &Config, events: &[Event]) -> bool
     events
         .iter()
         .all(|e| is_proper(config, e) && e.kind.is_supported())
+}
+
+/// Whether each event is proper.
+pub fn are_proper(config: &Config, events: &[Event]) -> bool
+    ensures { IsTrue result → All (IsProper config.now) events.now }
+{
+    events.iter().all(|event| is_proper(config, event))
 }

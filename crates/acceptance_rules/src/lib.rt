@@ -6,4 +6,6 @@ mod comparison;
 #[cfg(test)]
 mod slow_program;
 #[cfg(test)]
+mod slow_rows;
+#[cfg(test)]
 mod worlds;
