@@ -13,6 +13,24 @@ use std::process::Abort;
 use std::test::Fail;
 use text_lines::AnyReader;
 
+/// Replays what a reader gives, and compares how it ends.
+fn ends<R: Read + Drop>(
+    rt: &impl Abort,
+    alloc: Global,
+    reader: R,
+    out: &mut Vec<u8>,
+    ending: Ending,
+    name: &str,
+) {
+    let ended = replay(alloc, AnyReader::new(reader), out);
+    assert_eq!(rt; ended, Ok(ending), "{name}");
+}
+
+/// Compares what was written.
+fn is_written(rt: &impl Abort, out: &[u8], report: &str, name: &str) {
+    assert_eq!(rt; out, report.as_bytes(), "{name}");
+}
+
 /// Replays what a reader gives, and compares what is written and how it ends.
 fn gives_of<R: Read + Drop>(
     rt: &impl Abort,
@@ -21,96 +39,107 @@ fn gives_of<R: Read + Drop>(
     report: &str,
     ending: Ending,
     name: &str,
-) -> Result<(), Fail> {
+) {
     let mut out = Vec::new(alloc);
-    let ended = replay(alloc, AnyReader::new(reader), &mut out);
-    assert_eq!(rt; ended, Ok(ending), "{name}");
-    assert_eq!(rt; out.as_slice(), report.as_bytes(), "{name}");
-    Ok(())
+    ends(rt, alloc, reader, &mut out, ending, name);
+    is_written(rt, out.as_slice(), report, name);
 }
 
 /// Replays BASE with this feed, and compares what is written and how it ends.
-fn gives(
-    rt: &impl Abort,
-    alloc: Global,
-    feed: &str,
-    report: &str,
-    ending: Ending,
-) -> Result<(), Fail> {
+fn gives(rt: &impl Abort, alloc: Global, example: Example) -> Result<(), Fail> {
+    let (feed, report, ending) = example;
     let text = input(alloc, feed)?;
-    gives_of(rt, alloc, text.as_bytes(), report, ending, feed)
+    gives_of(rt, alloc, text.as_bytes(), report, ending, feed);
+    Ok(())
 }
+
+/// A feed, what is written, and how it ends.
+type Example = (&'static str, &'static str, Ending);
+
+const ONE_HOST_DOWN: Example = (
+    "[1000] HOST_STATE;web;DOWN\n",
+    "N;0;1000;web;PROBLEM;DOWN;1;ann;mail\n",
+    Ending::Whole,
+);
 
 #[test]
 fn one_host_down(rt: HostRuntime) -> Result<(), Fail> {
-    gives(
-        &rt,
-        rt.alloc(),
-        "[1000] HOST_STATE;web;DOWN\n",
-        "N;0;1000;web;PROBLEM;DOWN;1;ann;mail\n",
-        Ending::Whole,
-    )
+    gives(&rt, rt.alloc(), ONE_HOST_DOWN)
 }
+
+const FEEDS: [Example; 6] = [
+    ("", "", Ending::Whole),
+    (
+        "[1000] HOST_STATE;web;DOWN\n[1059] CLOCK\n[1060] CLOCK\n",
+        "N;0;1000;web;PROBLEM;DOWN;1;ann;mail\nN;2;1060;web;PROBLEM;DOWN;2;ann;mail\n",
+        Ending::Whole,
+    ),
+    (
+        "[1000] HOST_STATE;web;DOWN\n[1030] HOST_STATE;web;DOWN\n[1059] CLOCK\n[1060] CLOCK\n",
+        "N;0;1000;web;PROBLEM;DOWN;1;ann;mail\nS;1;1030;web;PROBLEM;DOWN;Interval\nN;3;1060;web;PROBLEM;DOWN;2;ann;mail\n",
+        Ending::Whole,
+    ),
+    (
+        "[1000] DISABLE_NOTIFICATIONS\n[1000] HOST_STATE;web;DOWN\n[1005] ENABLE_NOTIFICATIONS\n[1010] HOST_STATE;web;UP\n",
+        "S;1;1000;web;PROBLEM;DOWN;Program\nS;3;1010;web;RECOVERY;UP;NoProblem\n",
+        Ending::Whole,
+    ),
+    (
+        "[1000] HOST_STATE;web;DOWN\n[990] HOST_STATE;web;UP\n[10",
+        "N;0;1000;web;PROBLEM;DOWN;1;ann;mail\nN;1;1000;web;RECOVERY;UP;2;ann;mail\nR;3;Cut\n",
+        Ending::Short,
+    ),
+    (
+        "[x] CLOCK\n[1] NOPE\n[1] HOST_STATE;db;DOWN\n[1] HOST_STATE;web;CRITICAL\n[32503680000] CLOCK\n",
+        "R;1;BadStamp\nR;2;UnknownKind\nR;3;UnknownObject\nR;4;BadState\nR;5;BadStamp\n",
+        Ending::Whole,
+    ),
+];
 
 #[test]
 fn worked_feeds(rt: HostRuntime) -> Result<(), Fail> {
-    let feeds = [
-        ("", "", Ending::Whole),
-        (
-            "[1000] HOST_STATE;web;DOWN\n[1059] CLOCK\n[1060] CLOCK\n",
-            "N;0;1000;web;PROBLEM;DOWN;1;ann;mail\nN;2;1060;web;PROBLEM;DOWN;2;ann;mail\n",
-            Ending::Whole,
-        ),
-        (
-            "[1000] HOST_STATE;web;DOWN\n[1030] HOST_STATE;web;DOWN\n[1059] CLOCK\n[1060] CLOCK\n",
-            "N;0;1000;web;PROBLEM;DOWN;1;ann;mail\nS;1;1030;web;PROBLEM;DOWN;Interval\nN;3;1060;web;PROBLEM;DOWN;2;ann;mail\n",
-            Ending::Whole,
-        ),
-        (
-            "[1000] DISABLE_NOTIFICATIONS\n[1000] HOST_STATE;web;DOWN\n[1005] ENABLE_NOTIFICATIONS\n[1010] HOST_STATE;web;UP\n",
-            "S;1;1000;web;PROBLEM;DOWN;Program\nS;3;1010;web;RECOVERY;UP;NoProblem\n",
-            Ending::Whole,
-        ),
-        (
-            "[1000] HOST_STATE;web;DOWN\n[990] HOST_STATE;web;UP\n[10",
-            "N;0;1000;web;PROBLEM;DOWN;1;ann;mail\nN;1;1000;web;RECOVERY;UP;2;ann;mail\nR;3;Cut\n",
-            Ending::Short,
-        ),
-        (
-            "[x] CLOCK\n[1] NOPE\n[1] HOST_STATE;db;DOWN\n[1] HOST_STATE;web;CRITICAL\n[32503680000] CLOCK\n",
-            "R;1;BadStamp\nR;2;UnknownKind\nR;3;UnknownObject\nR;4;BadState\nR;5;BadStamp\n",
-            Ending::Whole,
-        ),
-    ];
-    for (feed, report, ending) in feeds {
-        gives(&rt, rt.alloc(), feed, report, ending)?;
+    for example in &FEEDS {
+        gives(&rt, rt.alloc(), *example)?;
     }
     Ok(())
 }
 
+/// An object text, and its fault.
+type Refused = (&'static str, LoadFault);
+
+const REFUSED: [Refused; 2] = [
+    (
+        "define host{\n host_name web\n",
+        LoadFault::Line {
+            line: 1,
+            fault: LineFault::Unclosed,
+        },
+    ),
+    (
+        "\ndefine host{\n contacts ann\n}\n",
+        LoadFault::Block {
+            line: 2,
+            fault: BlockFault::MissingDirective,
+        },
+    ),
+];
+
+/// Nothing is replayed, and nothing is written.
+fn is_refused(rt: &impl Abort, alloc: Global, refused: Refused) {
+    let (text, fault) = refused;
+    let mut out = Vec::new(alloc);
+    let ended = replay(alloc, text.as_bytes(), &mut out);
+    assert_eq!(rt;
+        (ended, out.is_empty()),
+        (Err(CommandFault::Objects(fault)), true),
+        "{text}"
+    );
+}
+
 #[test]
 fn refused_objects(rt: HostRuntime) -> Result<(), Fail> {
-    let texts = [
-        (
-            "define host{\n host_name web\n",
-            CommandFault::Objects(LoadFault::Line {
-                line: 1,
-                fault: LineFault::Unclosed,
-            }),
-        ),
-        (
-            "\ndefine host{\n contacts ann\n}\n",
-            CommandFault::Objects(LoadFault::Block {
-                line: 2,
-                fault: BlockFault::MissingDirective,
-            }),
-        ),
-    ];
-    for (text, fault) in texts {
-        let mut out = Vec::new(rt.alloc());
-        let ended = replay(rt.alloc(), text.as_bytes(), &mut out);
-        assert_eq!(rt; ended, Err(fault), "{text}");
-        assert!(rt; out.is_empty());
+    for refused in &REFUSED {
+        is_refused(&rt, rt.alloc(), *refused);
     }
     Ok(())
 }
@@ -143,49 +172,57 @@ impl Write for Stubborn {
     }
 }
 
+/// Replays a text in pieces of several sizes.
+fn gives_in_pieces(rt: &impl Abort, alloc: Global, text: &[u8], report: &str) {
+    for most in [1, 2, 3, 7, 4096] {
+        let reader = readers::in_pieces(text, most);
+        gives_of(rt, alloc, reader, report, Ending::Whole, "in pieces");
+    }
+}
+
 #[test]
 fn in_pieces(rt: HostRuntime) -> Result<(), Fail> {
     let text = input(rt.alloc(), "[1000] HOST_STATE;web;DOWN\n[1060] CLOCK\n")?;
     let report = "N;0;1000;web;PROBLEM;DOWN;1;ann;mail\nN;1;1060;web;PROBLEM;DOWN;2;ann;mail\n";
-    for most in [1, 2, 3, 7, 4096] {
-        let reader = readers::in_pieces(text.as_bytes(), most);
-        gives_of(&rt, rt.alloc(), reader, report, Ending::Whole, "in pieces")?;
-    }
+    gives_in_pieces(&rt, rt.alloc(), text.as_bytes(), report);
     Ok(())
 }
 
+const ONE_NOTICE: &[u8] = b"N;0;1000;web;PROBLEM;DOWN;1;ann;mail\n";
+
+/// A writer has taken what came at so many calls, and the end tells whether that is all.
+fn has_stopped(rt: &impl Abort, calls: usize, ended: Result<Ending, CommandFault>, taken: &[u8]) {
+    let wanted = if calls >= 8 {
+        Ok(Ending::Whole)
+    } else {
+        Err(CommandFault::Output)
+    };
+    let count = calls.saturating_mul(5).min(ONE_NOTICE.len());
+    assert_eq!(rt;
+        (ended, taken),
+        (wanted, &ONE_NOTICE[..count]),
+        "after {calls} calls"
+    );
+}
+
 /// Replays one host down into a writer that stops at a call, and compares how it ends and what was written.
-fn stops_at(rt: &impl Abort, alloc: Global, calls: usize, fails: bool) -> Result<(), Fail> {
-    let text = input(alloc, "[1000] HOST_STATE;web;DOWN\n")?;
-    let report = b"N;0;1000;web;PROBLEM;DOWN;1;ann;mail\n".as_slice();
+fn stops_at(rt: &impl Abort, alloc: Global, text: &[u8], calls: usize, fails: bool) {
     let mut writer = Stubborn {
         calls,
         fails,
         taken: Vec::new(alloc),
     };
-    let ended = replay(alloc, text.as_bytes(), &mut writer);
-    let whole = calls >= 8;
-    let wanted = if whole {
-        Ok(Ending::Whole)
-    } else {
-        Err(CommandFault::Output)
-    };
-    assert_eq!(rt; ended, wanted, "after {calls} calls");
-    let count = calls.saturating_mul(5).min(report.len());
-    assert_eq!(rt;
-        writer.taken.as_slice(),
-        &report[..count],
-        "after {calls} calls"
-    );
-    Ok(())
+    let ended = replay(alloc, text, &mut writer);
+    has_stopped(rt, calls, ended, writer.taken.as_slice());
 }
 
 /// The line has 37 bytes, so that a writer of five bytes a call takes it in eight.
 #[test]
 fn output_fails(rt: HostRuntime) -> Result<(), Fail> {
+    let text = input(rt.alloc(), "[1000] HOST_STATE;web;DOWN\n")?;
     for calls in 0..9 {
-        stops_at(&rt, rt.alloc(), calls, false)?;
-        stops_at(&rt, rt.alloc(), calls, true)?;
+        stops_at(&rt, rt.alloc(), text.as_bytes(), calls, false);
+        stops_at(&rt, rt.alloc(), text.as_bytes(), calls, true);
     }
     Ok(())
 }
@@ -232,20 +269,25 @@ impl Write for Counting<'_> {
 }
 
 /// What an event said is written before the reader is called for more.
-#[test]
-fn as_it_comes(rt: HostRuntime) -> Result<(), Fail> {
-    let text = input(rt.alloc(), "[1000] HOST_STATE;web;DOWN\n[1060] CLOCK\n")?;
+fn writes_at_once(rt: &impl Abort, alloc: Global, text: &[u8]) {
     let written = Cell::new(0);
     let noted = Cell::new(0);
     let reader = Watching {
-        lines: text.as_bytes(),
+        lines: text,
         written: &written,
         noted: &noted,
     };
     let mut writer = Counting { written: &written };
-    let ended = replay(rt.alloc(), AnyReader::new(reader), &mut writer);
-    assert_eq!(rt; ended, Ok(Ending::Whole));
-    assert_eq!(rt; noted.get(), 74);
-    assert_eq!(rt; written.get(), 74);
+    let ended = replay(alloc, AnyReader::new(reader), &mut writer);
+    assert_eq!(rt;
+        (ended, noted.get(), written.get()),
+        (Ok(Ending::Whole), 74, 74)
+    );
+}
+
+#[test]
+fn as_it_comes(rt: HostRuntime) -> Result<(), Fail> {
+    let text = input(rt.alloc(), "[1000] HOST_STATE;web;DOWN\n[1060] CLOCK\n")?;
+    writes_at_once(&rt, rt.alloc(), text.as_bytes());
     Ok(())
 }
