@@ -18,7 +18,7 @@ use std::alloc::{AllocError, Global};
 use std::fmt::Write;
 use std::process::Abort;
 use std::test::Fail;
-use text_lines::LineReader;
+use text_lines::{Input, LineReader};
 
 /// Two commands, a contact who uses both, and one who uses the second.
 const PEOPLE: &str = "\
@@ -51,6 +51,24 @@ const SEEDS: u64 = 5;
 /// How many lanes a configuration has.
 const LANES: u8 = 2;
 
+/// One decider.
+const SOLE: Share = Share {
+    decider: 0,
+    deciders: 1,
+};
+
+/// The first of two deciders.
+const EVEN: Share = Share {
+    decider: 0,
+    deciders: 2,
+};
+
+/// The second of them.
+const ODD: Share = Share {
+    decider: 1,
+    deciders: 2,
+};
+
 /// More notices than wait for a lane.
 const MANY: u32 = 100_000;
 
@@ -60,16 +78,6 @@ struct Host {
     name: &'static str,
     contacts: &'static str,
     interval: u32,
-}
-
-impl Host {
-    const fn new(name: &'static str, contacts: &'static str, interval: u32) -> Host {
-        Host {
-            name,
-            contacts,
-            interval,
-        }
-    }
 }
 
 /// Numbers that look random: a linear congruential generator, of which the high bits count.
@@ -154,15 +162,25 @@ fn config_of(alloc: Global, text: &str) -> Result<Config, Fail>
     Ok(load(alloc, text.as_bytes())?)
 }
 
-/// The events that some lines of a feed give.
-fn read_events(alloc: Global, config: &Config, feed: &str) -> Result<Vec<Event>, Fail> {
-    let mut feeder = Feeder::new(LineReader::new(alloc, feed.as_bytes())?);
-    let mut events = Vec::new(alloc);
+/// Adds the events that some lines of a feed give.
+fn add_events<R: Input + Drop>(
+    config: &Config,
+    feeder: &mut Feeder<R>,
+    events: &mut Vec<Event>,
+) -> Result<(), Fail> {
     for _line in 0..LINES {
         if let Some(event) = feeder.next(config)? {
             events.push(event)?;
         }
     }
+    Ok(())
+}
+
+/// The events that some lines of a feed give.
+fn read_events(alloc: Global, config: &Config, feed: &str) -> Result<Vec<Event>, Fail> {
+    let mut events = Vec::new(alloc);
+    let mut feeder = Feeder::new(LineReader::new(alloc, feed.as_bytes())?);
+    add_events(config, &mut feeder, &mut events)?;
     Ok(events)
 }
 
@@ -219,11 +237,16 @@ impl Said {
     {
         let zone = Zone::Utc;
         let (decider, mut outbox) = decided(alloc, config, &zone, events, share)?;
+        Ok(Said::taken(alloc, decider.log(), &mut outbox)?)
+    }
+
+    /// What a log and an outbox hold.
+    fn taken(alloc: Global, log: &[Suppression], outbox: &mut Outbox) -> Result<Said, AllocError> {
+        let suppressions = Vec::from_slice(alloc, log)?;
         let mut notices = Vec::new(alloc);
         for lane in 0..LANES {
-            take_lane(&mut outbox, LaneId(lane), &mut notices)?;
+            take_lane(outbox, LaneId(lane), &mut notices)?;
         }
-        let suppressions = Vec::from_slice(alloc, decider.log())?;
         Ok(Said {
             notices,
             suppressions,
@@ -377,40 +400,27 @@ fn compare_halves(
     has_suppressions(rt, alloc, half, object, all.as_slice())
 }
 
-/// Compares what is said of each object: by the slow program, by one decider, and by the one of two that
-/// owns it. The two say together no more than the one.
-fn compare(rt: &impl Abort, alloc: Global, config: &Config, events: &[Event]) -> Result<Said, Fail>
+/// Compares what the slow program and one decider say of each object.
+fn compare_slowly(
+    rt: &impl Abort,
+    alloc: Global,
+    config: &Config,
+    events: &[Event],
+    sole: &Said,
+) -> Result<(), Fail>
     requires accepted { IsAccepted config.now }
     requires covered { IsCovered config.now }
     requires plain { All (IsPlainEvent config.now) events.now }
 {
-    let sole = Said::of(
-        alloc,
-        config,
-        events,
-        Share {
-            decider: 0,
-            deciders: 1,
-        },
-    )?;
-    let even = Said::of(
-        alloc,
-        config,
-        events,
-        Share {
-            decider: 0,
-            deciders: 2,
-        },
-    )?;
-    let odd = Said::of(
-        alloc,
-        config,
-        events,
-        Share {
-            decider: 1,
-            deciders: 2,
-        },
-    )?;
+    for number in 0..config.objects.len() {
+        let object = ObjectId(number as u16);
+        compare_slow(rt, alloc, config, events, object, sole)?;
+    }
+    Ok(())
+}
+
+/// Two deciders say together no more than one.
+fn says_no_more(rt: &impl Abort, sole: &Said, even: &Said, odd: &Said) {
     let notices = even.notices.len().saturating_add(odd.notices.len());
     assert_eq!(rt; notices, sole.notices.len());
     let suppressions = even
@@ -418,13 +428,71 @@ fn compare(rt: &impl Abort, alloc: Global, config: &Config, events: &[Event]) ->
         .len()
         .saturating_add(odd.suppressions.len());
     assert_eq!(rt; suppressions, sole.suppressions.len());
+}
+
+/// Compares what one decider says of each object, and the one of two that owns it.
+fn compare_each_half(
+    rt: &impl Abort,
+    alloc: Global,
+    config: &Config,
+    sole: &Said,
+    even: &Said,
+    odd: &Said,
+) -> Result<(), Fail>
+    requires accepted { IsAccepted config.now }
+{
     for number in 0..config.objects.len() {
         let object = ObjectId(number as u16);
-        let half = if number % 2 == 0 { &even } else { &odd };
-        compare_slow(rt, alloc, config, events, object, &sole)?;
-        compare_halves(rt, alloc, object, &sole, half)?;
+        let half = if number % 2 == 0 { even } else { odd };
+        compare_halves(rt, alloc, object, sole, half)?;
     }
+    Ok(())
+}
+
+/// Compares one decider and two, which say together no more than the one.
+fn compare_to_two(
+    rt: &impl Abort,
+    alloc: Global,
+    config: &Config,
+    events: &[Event],
+    sole: &Said,
+) -> Result<(), Fail>
+    requires accepted { IsAccepted config.now }
+    requires covered { IsCovered config.now }
+    requires plain { All (IsPlainEvent config.now) events.now }
+{
+    let even = Said::of(alloc, config, events, EVEN)?;
+    let odd = Said::of(alloc, config, events, ODD)?;
+    says_no_more(rt, sole, &even, &odd);
+    compare_each_half(rt, alloc, config, sole, &even, &odd)
+}
+
+/// Compares what is said of each object: by the slow program, by one decider, and by the one of two that
+/// owns it. The two say together no more than the one.
+fn compare(rt: &impl Abort, alloc: Global, config: &Config, events: &[Event]) -> Result<Said, Fail>
+    requires accepted { IsAccepted config.now }
+    requires covered { IsCovered config.now }
+    requires plain { All (IsPlainEvent config.now) events.now }
+{
+    let sole = Said::of(alloc, config, events, SOLE)?;
+    compare_slowly(rt, alloc, config, events, &sole)?;
+    compare_to_two(rt, alloc, config, events, &sole)?;
     Ok(sole)
+}
+
+/// The events of the feed of a seed.
+fn seed_events(
+    rt: &impl Abort,
+    alloc: Global,
+    config: &Config,
+    hosts: &[Host],
+    seed: u64,
+    step: u32,
+) -> Result<Vec<Event>, Fail>
+    ensures { IfOk result (λ events. All (IsPlainEvent config.now) events.items) }
+{
+    let text = feed(alloc, hosts, seed, step)?;
+    events_of(rt, alloc, config, text.as_str())
 }
 
 /// Compares over the feed of a seed, and counts what came.
@@ -432,19 +500,48 @@ fn compare_seed(
     rt: &impl Abort,
     alloc: Global,
     config: &Config,
-    hosts: &[Host],
-    seed: u64,
-    step: u32,
+    events: &[Event],
     counts: &mut Counts,
 ) -> Result<(), Fail>
     requires accepted { IsAccepted config.now }
     requires covered { IsCovered config.now }
+    requires plain { All (IsPlainEvent config.now) events.now }
 {
-    let text = feed(alloc, hosts, seed, step)?;
-    let events = events_of(rt, alloc, config, text.as_str())?;
-    let said = compare(rt, alloc, config, events.as_slice())?;
+    let said = compare(rt, alloc, config, events)?;
     counts.add(&said);
     Ok(())
+}
+
+/// Compares over feeds of these hosts, one for each seed, and says what came.
+fn compare_seeds(
+    rt: &impl Abort,
+    alloc: Global,
+    config: &Config,
+    hosts: &[Host],
+    step: u32,
+) -> Result<Counts, Fail>
+    requires accepted { IsAccepted config.now }
+    requires covered { IsCovered config.now }
+{
+    let mut counts = Counts {
+        problems: 0,
+        recoveries: 0,
+        stopped: [0; 3],
+    };
+    for seed in 0..SEEDS {
+        let events = seed_events(rt, alloc, config, hosts, seed, step)?;
+        compare_seed(rt, alloc, config, events.as_slice(), &mut counts)?;
+    }
+    Ok(counts)
+}
+
+/// The configuration of these hosts.
+fn config_of_hosts(alloc: Global, hosts: &[Host]) -> Result<Config, Fail>
+    ensures accepted { IfOk result (λ config. IsAccepted config) }
+    ensures covered { IfOk result (λ config. IsCovered config) }
+{
+    let text = objects(alloc, hosts)?;
+    config_of(alloc, text.as_str())
 }
 
 /// Compares over feeds of these hosts, one for each seed, and says what came.
@@ -454,39 +551,80 @@ fn compare_feeds(
     hosts: &[Host],
     step: u32,
 ) -> Result<Counts, Fail> {
-    let config = config_of(alloc, objects(alloc, hosts)?.as_str())?;
-    let mut counts = Counts {
-        problems: 0,
-        recoveries: 0,
-        stopped: [0; 3],
-    };
-    for seed in 0..SEEDS {
-        compare_seed(rt, alloc, &config, hosts, seed, step, &mut counts)?;
-    }
-    Ok(counts)
+    let config = config_of_hosts(alloc, hosts)?;
+    compare_seeds(rt, alloc, &config, hosts, step)
 }
+
+/// There are problems and recoveries.
+fn has_problems(rt: &impl Abort, counts: &Counts) {
+    assert!(rt; counts.problems > 0 && counts.recoveries > 0, "{counts:?}");
+}
+
+/// There are suppressions of each kind.
+fn has_all_stopped(rt: &impl Abort, counts: &Counts) {
+    assert!(rt; counts.stopped.iter().all(|count| *count > 0), "{counts:?}");
+}
+
+/// A host, and so many seconds between the lines of a feed.
+const ONE_HOST: [(Host, u32); 3] = [
+    (
+        Host {
+            name: "web",
+            contacts: "ann,bob",
+            interval: 0,
+        },
+        40,
+    ),
+    (
+        Host {
+            name: "web",
+            contacts: "ann,bob",
+            interval: 1,
+        },
+        40,
+    ),
+    (
+        Host {
+            name: "web",
+            contacts: "ann,bob",
+            interval: 30,
+        },
+        400,
+    ),
+];
 
 /// Each of these configurations gives problems, recoveries, and each kind of suppression.
 #[test]
 fn one_host(rt: HostRuntime) -> Result<(), Fail> {
-    let cases = [(0, 40), (1, 40), (30, 400)];
-    for (interval, step) in cases {
-        let hosts = [Host::new("web", "ann,bob", interval)];
-        let counts = compare_feeds(&rt, rt.alloc(), &hosts, step)?;
-        assert!(rt; counts.problems > 0 && counts.recoveries > 0, "{counts:?}");
-        assert!(rt; counts.stopped.iter().all(|count| *count > 0), "{counts:?}");
+    for (host, step) in &ONE_HOST {
+        let counts = compare_feeds(&rt, rt.alloc(), &[*host], *step)?;
+        has_problems(&rt, &counts);
+        has_all_stopped(&rt, &counts);
     }
     Ok(())
 }
 
+const THREE_HOSTS: [Host; 3] = [
+    Host {
+        name: "web",
+        contacts: "ann,bob",
+        interval: 1,
+    },
+    Host {
+        name: "db",
+        contacts: "bob",
+        interval: 0,
+    },
+    Host {
+        name: "gate",
+        contacts: "ann",
+        interval: 30,
+    },
+];
+
 #[test]
 fn three_hosts(rt: HostRuntime) -> Result<(), Fail> {
-    let hosts = [
-        Host::new("web", "ann,bob", 1),
-        Host::new("db", "bob", 0),
-        Host::new("gate", "ann", 30),
-    ];
-    let counts = compare_feeds(&rt, rt.alloc(), &hosts, 90)?;
-    assert!(rt; counts.problems > 0 && counts.recoveries > 0, "{counts:?}");
+    let counts = compare_feeds(&rt, rt.alloc(), &THREE_HOSTS, 90)?;
+    has_problems(&rt, &counts);
     Ok(())
 }

@@ -12,21 +12,19 @@ use due_model::notice::{Filter, Kind, Notice, Suppression};
 use due_model::state::State;
 use due_model::zone::Zone;
 use slow_rules::slow::{slow_due, slow_sup};
-use std::alloc::{AllocError, Global};
+use std::alloc::Global;
 use std::process::Abort;
 use std::test::Fail;
 
-fn at(moment: u64, kind: EventKind) -> Event {
-    Event { moment, kind }
-}
+/// The number of an event, its moment, the kind and the state, and the number of the notice.
+type Row = (u64, u64, Kind, State, u64);
 
-fn has(state: State) -> EventKind {
-    EventKind::Hard(ObjectId(0), state)
-}
+/// The same, and what stopped it.
+type Stopped = (Row, Filter);
 
 /// A notice to ann by mail about web.
-fn notice(event: u64, moment: u64, kind: Kind, state: State, number: u64) -> Notice {
-    let contact = ContactId(0);
+fn notice(row: Row) -> Notice {
+    let (event, moment, kind, state, number) = row;
     Notice {
         event,
         moment,
@@ -34,30 +32,39 @@ fn notice(event: u64, moment: u64, kind: Kind, state: State, number: u64) -> Not
         kind,
         state,
         number,
-        contact,
+        contact: ContactId(0),
         lane: LaneId(0),
     }
 }
 
 /// A suppression by a filter of web.
-fn stopped(
-    event: u64,
-    moment: u64,
-    kind: Kind,
-    state: State,
-    number: u64,
-    filter: Filter,
-) -> Suppression {
-    let object = ObjectId(0);
+fn suppression(stopped: Stopped) -> Suppression {
+    let ((event, moment, kind, state, number), filter) = stopped;
     Suppression {
         event,
         moment,
-        object,
+        object: ObjectId(0),
         kind,
         state,
         number,
         filter,
         contact: None,
+    }
+}
+
+/// Compares notices to ann by mail about web.
+fn are_notices(rt: &impl Abort, found: &[Notice], rows: &[Row]) {
+    assert_eq!(rt; found.len(), rows.len());
+    for (found, row) in found.iter().zip(rows) {
+        assert_eq!(rt; *found, notice(*row));
+    }
+}
+
+/// Compares suppressions by filters of web.
+fn are_suppressions(rt: &impl Abort, found: &[Suppression], rows: &[Stopped]) {
+    assert_eq!(rt; found.len(), rows.len());
+    for (found, row) in found.iter().zip(rows) {
+        assert_eq!(rt; *found, suppression(*row));
     }
 }
 
@@ -67,13 +74,13 @@ fn gives_notices(
     alloc: Global,
     config: &Config,
     events: &[Event],
-    notices: &[Notice],
+    rows: &[Row],
 ) -> Result<(), Fail>
     requires { config.now ≡ base }
 {
     assert!(rt; are_plain(config, events));
     let due = slow_due(alloc, config, &Zone::Utc, events, ObjectId(0), LaneId(0))?;
-    assert_eq!(rt; due.as_slice(), notices);
+    are_notices(rt, due.as_slice(), rows);
     Ok(())
 }
 
@@ -83,13 +90,13 @@ fn gives_suppressions(
     alloc: Global,
     config: &Config,
     events: &[Event],
-    suppressions: &[Suppression],
+    rows: &[Stopped],
 ) -> Result<(), Fail>
     requires { config.now ≡ base }
 {
     assert!(rt; are_plain(config, events));
     let suppressed = slow_sup(alloc, config, &Zone::Utc, events, ObjectId(0))?;
-    assert_eq!(rt; suppressed.as_slice(), suppressions);
+    are_suppressions(rt, suppressed.as_slice(), rows);
     Ok(())
 }
 
@@ -98,8 +105,8 @@ fn gives(
     rt: &impl Abort,
     alloc: Global,
     events: &[Event],
-    notices: &[Notice],
-    suppressions: &[Suppression],
+    notices: &[Row],
+    suppressions: &[Stopped],
 ) -> Result<(), Fail> {
     let config = base(alloc)?;
     gives_notices(rt, alloc, &config, events, notices)?;
@@ -108,12 +115,20 @@ fn gives(
 
 const DOWN: State = State::Down;
 
+const WEB_DOWN: EventKind = EventKind::Hard(ObjectId(0), State::Down);
+
 const PROBLEM: Kind = Kind::Problem;
+
+const ONE_DOWN: [Event; 1] = [Event {
+    moment: 1000,
+    kind: WEB_DOWN,
+}];
+
+const ONE_NOTICE: [Row; 1] = [(0, 1000, PROBLEM, DOWN, 1)];
 
 #[test]
 fn one_host_down(rt: HostRuntime) -> Result<(), Fail> {
-    let notices = [notice(0, 1000, PROBLEM, DOWN, 1)];
-    gives(&rt, rt.alloc(), &[at(1000, has(DOWN))], &notices, &[])
+    gives(&rt, rt.alloc(), &ONE_DOWN, &ONE_NOTICE, &[])
 }
 
 #[test]
@@ -121,49 +136,89 @@ fn empty_feed(rt: HostRuntime) -> Result<(), Fail> {
     gives(&rt, rt.alloc(), &[], &[], &[])
 }
 
+const TWICE_DUE: [Event; 3] = [
+    Event {
+        moment: 1000,
+        kind: WEB_DOWN,
+    },
+    Event {
+        moment: 1059,
+        kind: EventKind::Clock,
+    },
+    Event {
+        moment: 1060,
+        kind: EventKind::Clock,
+    },
+];
+
+const TWO_NOTICES: [Row; 2] = [(0, 1000, PROBLEM, DOWN, 1), (2, 1060, PROBLEM, DOWN, 2)];
+
 #[test]
 fn renotify(rt: HostRuntime) -> Result<(), Fail> {
-    let events = [
-        at(1000, has(DOWN)),
-        at(1059, EventKind::Clock),
-        at(1060, EventKind::Clock),
-    ];
-    let notices = [
-        notice(0, 1000, PROBLEM, DOWN, 1),
-        notice(2, 1060, PROBLEM, DOWN, 2),
-    ];
-    gives(&rt, rt.alloc(), &events, &notices, &[])
+    gives(&rt, rt.alloc(), &TWICE_DUE, &TWO_NOTICES, &[])
 }
+
+const TOO_SOON: [Event; 4] = [
+    Event {
+        moment: 1000,
+        kind: WEB_DOWN,
+    },
+    Event {
+        moment: 1030,
+        kind: WEB_DOWN,
+    },
+    Event {
+        moment: 1059,
+        kind: EventKind::Clock,
+    },
+    Event {
+        moment: 1060,
+        kind: EventKind::Clock,
+    },
+];
+
+const AFTER_THE_INTERVAL: [Row; 2] = [(0, 1000, PROBLEM, DOWN, 1), (3, 1060, PROBLEM, DOWN, 2)];
+
+const BY_INTERVAL: [Stopped; 1] = [((1, 1030, PROBLEM, DOWN, 2), Filter::Interval)];
 
 #[test]
 fn same_state_too_soon(rt: HostRuntime) -> Result<(), Fail> {
-    let events = [
-        at(1000, has(DOWN)),
-        at(1030, has(DOWN)),
-        at(1059, EventKind::Clock),
-        at(1060, EventKind::Clock),
-    ];
-    let notices = [
-        notice(0, 1000, PROBLEM, DOWN, 1),
-        notice(3, 1060, PROBLEM, DOWN, 2),
-    ];
-    let suppressions = [stopped(1, 1030, PROBLEM, DOWN, 2, Filter::Interval)];
-    gives(&rt, rt.alloc(), &events, &notices, &suppressions)
+    gives(
+        &rt,
+        rt.alloc(),
+        &TOO_SOON,
+        &AFTER_THE_INTERVAL,
+        &BY_INTERVAL,
+    )
 }
+
+const SWITCHED: [Event; 4] = [
+    Event {
+        moment: 1000,
+        kind: EventKind::Program(false),
+    },
+    Event {
+        moment: 1000,
+        kind: WEB_DOWN,
+    },
+    Event {
+        moment: 1005,
+        kind: EventKind::Program(true),
+    },
+    Event {
+        moment: 1010,
+        kind: EventKind::Hard(ObjectId(0), State::Up),
+    },
+];
+
+const BY_THE_SWITCH: [Stopped; 2] = [
+    ((1, 1000, PROBLEM, DOWN, 1), Filter::Program),
+    ((3, 1010, Kind::Recovery, State::Up, 1), Filter::NoProblem),
+];
 
 #[test]
 fn program_switch(rt: HostRuntime) -> Result<(), Fail> {
-    let events = [
-        at(1000, EventKind::Program(false)),
-        at(1000, has(DOWN)),
-        at(1005, EventKind::Program(true)),
-        at(1010, has(State::Up)),
-    ];
-    let suppressions = [
-        stopped(1, 1000, PROBLEM, DOWN, 1, Filter::Program),
-        stopped(3, 1010, Kind::Recovery, State::Up, 1, Filter::NoProblem),
-    ];
-    gives(&rt, rt.alloc(), &events, &[], &suppressions)
+    gives(&rt, rt.alloc(), &SWITCHED, &[], &BY_THE_SWITCH)
 }
 
 #[test]

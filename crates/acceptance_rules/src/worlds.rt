@@ -1,6 +1,6 @@
 //! Runs of worlds: the worked examples, long lists of steps, and a world at its limits.
 
-ghost use Rattle.std.specs.Prelude.{◌≡◌, All, IfOk, IsTrue, length};
+ghost use Rattle.std.specs.Prelude.{◌≡◌, ◌<◌, All, IfOk, IsTrue, length};
 ghost use Rattle.due_laws.specs.Rows.{base};
 ghost use Rattle.due_model.specs.Accepted.{IsAccepted};
 ghost use Rattle.due_model.specs.Covered.{IsCovered};
@@ -92,16 +92,20 @@ const MOST: Settings = Settings {
 
 const MAIL: LaneId = LaneId(0);
 
+/// The last of sixteen lanes.
+const LAST: LaneId = LaneId(15);
+
 /// A step of the lane "mail".
 fn on_mail(step: LaneStep) -> Step {
     Step::Lane(MAIL, step)
 }
 
 /// These notices are of these events.
-fn are_of(rt: &impl Abort, alloc: Global, notices: &[Notice], events: &[u64]) -> Result<(), Fail> {
-    let found: Vec<u64> = notices.iter().map(|notice| notice.event).collect(alloc)?;
-    assert_eq!(rt; found.as_slice(), events);
-    Ok(())
+fn are_of(rt: &impl Abort, notices: &[Notice], events: &[u64]) {
+    assert_eq!(rt; notices.len(), events.len());
+    for (notice, event) in notices.iter().zip(events) {
+        assert_eq!(rt; notice.event, *event);
+    }
 }
 
 /// Steps of which those at these places, counted from 1, aren't enabled.
@@ -122,15 +126,25 @@ fn refuses(
 }
 
 /// What the channel took, what is in its hand and what it gave up are of these events.
-fn has_parts(
+fn has_parts(rt: &impl Abort, parts: &LineParts, line: [&[u64]; 3]) {
+    are_of(rt, &parts.taken, line[0]);
+    are_of(rt, &parts.hand, line[1]);
+    are_of(rt, &parts.undelivered, line[2]);
+}
+
+/// The line of a world has these parts.
+fn has_line(
     rt: &impl Abort,
     alloc: Global,
-    parts: &LineParts,
+    world: &World<'_>,
     line: [&[u64]; 3],
-) -> Result<(), Fail> {
-    are_of(rt, alloc, &parts.taken, line[0])?;
-    are_of(rt, alloc, &parts.hand, line[1])?;
-    are_of(rt, alloc, &parts.undelivered, line[2])
+) -> Result<(), Fail>
+    requires lane { 0 < length (world_setup world.now).config.lanes }
+    requires object { 0 < length (world_setup world.now).config.objects }
+{
+    let parts = world.line(alloc, MAIL, ObjectId(0))?;
+    has_parts(rt, &parts, line);
+    Ok(())
 }
 
 /// A world of this configuration refuses these of the steps, and its line is then this, part by part.
@@ -147,8 +161,7 @@ fn plays_in(
     let zone = Zone::Utc;
     let mut world = World::new(alloc, config, &zone, TWO_TRIES, &[true])?;
     refuses(rt, alloc, config, &mut world, steps, places)?;
-    let parts = world.line(alloc, MAIL, ObjectId(0))?;
-    has_parts(rt, alloc, &parts, line)
+    has_line(rt, alloc, &world, line)
 }
 
 /// A world of BASE with one decider refuses these of the steps, and its line is then this, part by part.
@@ -163,95 +176,140 @@ fn plays(
     plays_in(rt, alloc, &config, steps, places, line)
 }
 
+const ASK_AND_CLOSE: [Step; 12] = [
+    Step::Post(Event {
+        moment: 1000,
+        kind: EventKind::Hard(ObjectId(0), State::Down),
+    }),
+    Step::Decide(0),
+    Step::Put(0, MAIL),
+    Step::Lane(MAIL, LaneStep::Pick),
+    Step::Lane(MAIL, LaneStep::Ask),
+    Step::Lane(MAIL, LaneStep::Settle),
+    Step::Lane(MAIL, LaneStep::Close),
+    Step::Post(Event {
+        moment: 1010,
+        kind: EventKind::Hard(ObjectId(0), State::Up),
+    }),
+    Step::Decide(0),
+    Step::Put(0, MAIL),
+    Step::Lane(MAIL, LaneStep::Pick),
+    Step::Lane(MAIL, LaneStep::Drain),
+];
+
 #[test]
 fn ask_and_close(rt: HostRuntime) -> Result<(), Fail> {
-    let steps = [
-        hard(1000, State::Down),
-        Step::Decide(0),
-        Step::Put(0, MAIL),
-        on_mail(LaneStep::Pick),
-        on_mail(LaneStep::Ask),
-        on_mail(LaneStep::Settle),
-        on_mail(LaneStep::Close),
-        hard(1010, State::Up),
-        Step::Decide(0),
-        Step::Put(0, MAIL),
-        on_mail(LaneStep::Pick),
-        on_mail(LaneStep::Drain),
-    ];
-    plays(&rt, rt.alloc(), &steps, &[11], [&[0], &[], &[1]])
+    plays(&rt, rt.alloc(), &ASK_AND_CLOSE, &[11], [&[0], &[], &[1]])
 }
+
+const ASK_AND_CLOSE_UNSETTLED: [Step; 11] = [
+    Step::Post(Event {
+        moment: 1000,
+        kind: EventKind::Hard(ObjectId(0), State::Down),
+    }),
+    Step::Decide(0),
+    Step::Put(0, MAIL),
+    Step::Lane(MAIL, LaneStep::Pick),
+    Step::Lane(MAIL, LaneStep::Ask),
+    Step::Lane(MAIL, LaneStep::Close),
+    Step::Post(Event {
+        moment: 1010,
+        kind: EventKind::Hard(ObjectId(0), State::Up),
+    }),
+    Step::Decide(0),
+    Step::Put(0, MAIL),
+    Step::Lane(MAIL, LaneStep::Pick),
+    Step::Lane(MAIL, LaneStep::Drain),
+];
 
 #[test]
 fn ask_and_close_unsettled(rt: HostRuntime) -> Result<(), Fail> {
-    let steps = [
-        hard(1000, State::Down),
-        Step::Decide(0),
-        Step::Put(0, MAIL),
-        on_mail(LaneStep::Pick),
-        on_mail(LaneStep::Ask),
-        on_mail(LaneStep::Close),
-        hard(1010, State::Up),
-        Step::Decide(0),
-        Step::Put(0, MAIL),
-        on_mail(LaneStep::Pick),
-        on_mail(LaneStep::Drain),
-    ];
-    plays(&rt, rt.alloc(), &steps, &[10], [&[], &[], &[0, 1]])
+    plays(
+        &rt,
+        rt.alloc(),
+        &ASK_AND_CLOSE_UNSETTLED,
+        &[10],
+        [&[], &[], &[0, 1]],
+    )
 }
+
+const TRIED_TWICE: [Step; 9] = [
+    Step::Post(Event {
+        moment: 1000,
+        kind: EventKind::Hard(ObjectId(0), State::Down),
+    }),
+    Step::Decide(0),
+    Step::Put(0, MAIL),
+    Step::Lane(MAIL, LaneStep::Pick),
+    Step::Lane(MAIL, LaneStep::Close),
+    Step::Lane(MAIL, LaneStep::Fail),
+    Step::Lane(MAIL, LaneStep::Fail),
+    Step::Lane(MAIL, LaneStep::Fail),
+    Step::Lane(MAIL, LaneStep::Close),
+];
 
 #[test]
 fn two_tries(rt: HostRuntime) -> Result<(), Fail> {
-    let steps = [
-        hard(1000, State::Down),
+    plays(&rt, rt.alloc(), &TRIED_TWICE, &[5, 8], [&[], &[], &[0]])
+}
+
+/// A change of web's state at a moment, which is decided, put, picked and settled.
+fn change(moment: u64) -> [Step; 5] {
+    let state = if moment % 2 == 0 {
+        State::Down
+    } else {
+        State::Up
+    };
+    [
+        hard(moment, state),
         Step::Decide(0),
         Step::Put(0, MAIL),
         on_mail(LaneStep::Pick),
-        on_mail(LaneStep::Close),
-        on_mail(LaneStep::Fail),
-        on_mail(LaneStep::Fail),
-        on_mail(LaneStep::Fail),
-        on_mail(LaneStep::Close),
-    ];
-    plays(&rt, rt.alloc(), &steps, &[5, 8], [&[], &[], &[0]])
+        on_mail(LaneStep::Settle),
+    ]
 }
 
-/// So many changes of web's state, each decided, put, picked and settled.
+/// So many changes of web's state.
 fn changes(alloc: Global, count: u64) -> Result<Vec<Step>, AllocError> {
     let mut steps = Vec::new(alloc);
-    for event in 0..count {
-        let state = if event % 2 == 0 {
-            State::Down
-        } else {
-            State::Up
-        };
-        steps.push(hard(event, state))?;
-        steps.push(Step::Decide(0))?;
-        steps.push(Step::Put(0, MAIL))?;
-        steps.push(on_mail(LaneStep::Pick))?;
-        steps.push(on_mail(LaneStep::Settle))?;
+    for moment in 0..count {
+        steps.extend_from_slice(&change(moment))?;
     }
     Ok(steps)
 }
 
-/// A world of this configuration takes each of so many changes to the channel.
-fn takes_changes(rt: &impl Abort, alloc: Global, config: &Config, count: u64) -> Result<(), Fail>
-    requires { config.now ≡ base }
+/// The channel of a world has taken so many notices.
+fn has_taken(rt: &impl Abort, alloc: Global, world: &World<'_>, count: u64) -> Result<(), Fail>
+    requires lane { 0 < length (world_setup world.now).config.lanes }
+    requires object { 0 < length (world_setup world.now).config.objects }
 {
-    let zone = Zone::Utc;
-    let mut world = World::new(alloc, config, &zone, LEAST, &[true])?;
-    let steps = changes(alloc, count)?;
-    assert!(rt; are_plain(config, steps.as_slice()));
-    assert_eq!(rt; world.run(steps.as_slice()), Ok(()));
     let parts = world.line(alloc, MAIL, ObjectId(0))?;
     assert_eq!(rt; parts.taken.len() as u64, count);
     Ok(())
 }
 
+/// A world of this configuration takes each of so many changes to the channel.
+fn takes_changes(
+    rt: &impl Abort,
+    alloc: Global,
+    config: &Config,
+    steps: &[Step],
+    count: u64,
+) -> Result<(), Fail>
+    requires { config.now ≡ base }
+{
+    let zone = Zone::Utc;
+    let mut world = World::new(alloc, config, &zone, LEAST, &[true])?;
+    assert!(rt; are_plain(config, steps));
+    assert_eq!(rt; world.run(steps), Ok(()));
+    has_taken(rt, alloc, &world, count)
+}
+
 #[test]
 fn ten_thousand_steps(rt: HostRuntime) -> Result<(), Fail> {
     let config = base(rt.alloc())?;
-    takes_changes(&rt, rt.alloc(), &config, 2000)
+    let steps = changes(rt.alloc(), 2000)?;
+    takes_changes(&rt, rt.alloc(), &config, steps.as_slice(), 2000)
 }
 
 /// Each of eight hosts is down, and each decider has decided it; each queue has a notice of the first decider.
@@ -282,11 +340,29 @@ fn crowded<'a>(
     requires lanes { length config.now.lanes ≡ 16 }
     ensures { IfOk result (λ world. (world_setup world).config ≡ config.now) }
 {
-    let mut world = World::new(alloc, config, zone, MOST, &[true; 16])?;
     let steps = crowd(alloc)?;
+    let mut world = World::new(alloc, config, zone, MOST, &[true; 16])?;
     assert!(rt; are_plain(config, steps.as_slice()));
     assert_eq!(rt; world.run(steps.as_slice()), Ok(()));
     Ok(world)
+}
+
+/// What waits on the last lane of a world about an object, in the queue and in the outbox, is of these events.
+fn has_waiting(
+    rt: &impl Abort,
+    alloc: Global,
+    world: &World<'_>,
+    object: ObjectId,
+    queue: &[u64],
+    outbox: &[u64],
+) -> Result<(), Fail>
+    requires lane { 15 < length (world_setup world.now).config.lanes }
+    requires object { object.0 < length (world_setup world.now).config.objects }
+{
+    let parts = world.line(alloc, LAST, object)?;
+    are_of(rt, &parts.queue, queue);
+    are_of(rt, &parts.outbox, outbox);
+    Ok(())
 }
 
 /// The last lane has a notice of the first decider in its queue, and one of the last in the outbox.
@@ -297,13 +373,10 @@ fn last_lane_is_full(rt: &impl Abort, alloc: Global, config: &Config) -> Result<
     requires objects { length config.now.objects ≡ 8 }
 {
     let zone = Zone::Utc;
-    let last = LaneId(15);
     let mut world = crowded(rt, alloc, config, &zone)?;
-    assert_eq!(rt; world.apply(Step::Put(7, last)), Err(StepFault::NotEnabled));
-    let first = world.line(alloc, last, ObjectId(0))?;
-    are_of(rt, alloc, &first.queue, &[0])?;
-    let other = world.line(alloc, last, ObjectId(7))?;
-    are_of(rt, alloc, &other.outbox, &[7])
+    assert_eq!(rt; world.apply(Step::Put(7, LAST)), Err(StepFault::NotEnabled));
+    has_waiting(rt, alloc, &world, ObjectId(0), &[0], &[])?;
+    has_waiting(rt, alloc, &world, ObjectId(7), &[], &[7])
 }
 
 #[test]

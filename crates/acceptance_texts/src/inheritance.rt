@@ -1,6 +1,6 @@
 //! What blocks inherit from templates, and the faults of that, as the manual's rules give them.
 
-use crate::shown::text_or_mark;
+use crate::shown::{is_shown, text_or_mark};
 use object_inheritance::inherited::Values;
 use object_inheritance::templates::{InheritanceFault, TemplateFault, Templates};
 use object_reader::block::Block;
@@ -19,6 +19,18 @@ fn fault_name(fault: TemplateFault) -> &'static str {
     }
 }
 
+/// Entries, each with a point after it; or that there are none.
+fn show_entries(out: &mut String, entries: Option<&[&[u8]]>) -> Result<(), AllocError> {
+    let Some(entries) = entries else {
+        return out.push_str("none");
+    };
+    for entry in entries {
+        out.push_str(text_or_mark(entry))?;
+        out.push_str(".")?;
+    }
+    Ok(())
+}
+
 /// What a block has for a directive: the value as it is written, the name, and the entries.
 fn show_block(
     alloc: Global,
@@ -26,52 +38,80 @@ fn show_block(
     values: &Values,
     place: usize,
 ) -> Result<(), AllocError> {
-    out.push_str(text_or_mark(values.value(place).unwrap_or(&[])))?;
-    out.push_str("|")?;
-    out.push_str(text_or_mark(values.name(place).unwrap_or(&[])))?;
-    out.push_str("|")?;
-    match values.list(alloc, place)? {
-        None => out.push_str("none")?,
-        Some(entries) => {
-            for entry in entries.as_slice() {
-                out.push_str(text_or_mark(*entry))?;
-                out.push_str(".")?;
-            }
-        }
-    }
+    let value = text_or_mark(values.value(place).unwrap_or(&[]));
+    let name = text_or_mark(values.name(place).unwrap_or(&[]));
+    write!(out, "{value}|{name}|")?;
+    let entries = values.list(alloc, place)?;
+    show_entries(out, entries.as_deref())?;
     out.push_str("\n")
 }
 
-/// What each block has for a directive, a line each; or the first fault.
-fn show(
+/// What each of so many blocks has for a directive, a line each.
+fn show_values(
     alloc: Global,
     out: &mut String,
-    blocks: &[Block],
+    templates: &Templates,
+    blocks: usize,
     directive: &str,
 ) -> Result<(), AllocError> {
-    let templates = match Templates::new(alloc, blocks) {
-        Ok(templates) => templates,
-        Err(InheritanceFault::NoMemory) => return out.push_str("no memory"),
-        Err(InheritanceFault::AtLine { line, fault }) => {
-            let name = fault_name(fault);
-            return write!(out, "{line}: {name}");
-        }
-    };
-    let values = Values::new(alloc, &templates, directive.as_bytes())?;
-    for place in 0..blocks.len() {
+    let values = Values::new(alloc, templates, directive.as_bytes())?;
+    for place in 0..blocks {
         show_block(alloc, out, &values, place)?;
     }
     Ok(())
 }
 
-/// The same of a text.
-fn result_text(alloc: Global, text: &str, directive: &str) -> Result<String, AllocError> {
-    let mut out = String::new(alloc);
-    match read(alloc, text.as_bytes()) {
-        Ok(blocks) => show(alloc, &mut out, blocks.as_slice(), directive)?,
-        Err(_) => out.push_str("unread")?,
+/// What each of the first of the blocks has for a directive, a line each; or the first fault.
+fn show(
+    alloc: Global,
+    out: &mut String,
+    blocks: &[Block],
+    shown: usize,
+    directive: &str,
+) -> Result<(), AllocError> {
+    match Templates::new(alloc, blocks) {
+        Ok(templates) => show_values(alloc, out, &templates, shown, directive),
+        Err(InheritanceFault::NoMemory) => out.push_str("no memory"),
+        Err(InheritanceFault::AtLine { line, fault }) => {
+            let name = fault_name(fault);
+            write!(out, "{line}: {name}")
+        }
     }
-    Ok(out)
+}
+
+/// The same of a text, and of so many blocks at most.
+fn show_text(
+    alloc: Global,
+    out: &mut String,
+    text: &str,
+    most: usize,
+    directive: &str,
+) -> Result<(), AllocError> {
+    match read(alloc, text.as_bytes()) {
+        Ok(blocks) => show(
+            alloc,
+            out,
+            blocks.as_slice(),
+            blocks.len().min(most),
+            directive,
+        ),
+        Err(_) => out.push_str("unread"),
+    }
+}
+
+/// Compares what the first blocks of a text have for a directive.
+fn gives(
+    rt: &impl Abort,
+    alloc: Global,
+    text: &str,
+    most: usize,
+    directive: &str,
+    wanted: &str,
+) -> Result<(), Fail> {
+    let mut out = String::new(alloc);
+    show_text(alloc, &mut out, text, most, directive)?;
+    is_shown(rt, out.as_str(), wanted, text);
+    Ok(())
 }
 
 /// Texts, a directive, and what each block has for it.
@@ -228,9 +268,31 @@ const CASES: [(&str, &str, &str); 30] = [
 #[test]
 fn blocks_have_what_the_rules_give(rt: HostRuntime) -> Result<(), Fail> {
     for case in &CASES {
-        let text = case.0;
-        let found = result_text(rt.alloc(), text, case.1)?;
-        assert_eq!(rt; found.as_str(), case.2, "{text}");
+        let (text, directive, wanted) = *case;
+        gives(&rt, rt.alloc(), text, usize::MAX, directive, wanted)?;
+    }
+    Ok(())
+}
+
+/// Two templates of a row, which use both templates of the next.
+fn add_row(text: &mut String, row: u32) -> Result<(), AllocError> {
+    let next = row.saturating_add(1);
+    for side in ["a", "b"] {
+        write!(
+            text,
+            "define host{{\nname {side}{row}\nuse a{next},b{next}\n}}\n"
+        )?;
+    }
+    Ok(())
+}
+
+/// The two templates of the last row, which give a contact each.
+fn add_last(text: &mut String, row: u32) -> Result<(), AllocError> {
+    for side in ["a", "b"] {
+        write!(
+            text,
+            "define host{{\nname {side}{row}\ncontacts {side}\n}}\n"
+        )?;
     }
     Ok(())
 }
@@ -240,43 +302,14 @@ fn blocks_have_what_the_rules_give(rt: HostRuntime) -> Result<(), Fail> {
 fn diamonds(alloc: Global, rows: u32) -> Result<String, AllocError> {
     let mut text = String::new(alloc);
     for row in 0..rows {
-        let next = row + 1;
-        for side in ["a", "b"] {
-            write!(
-                text,
-                "define host{{\nname {side}{row}\nuse a{next},b{next}\n}}\n"
-            )?;
-        }
+        add_row(&mut text, row)?;
     }
-    for side in ["a", "b"] {
-        write!(
-            text,
-            "define host{{\nname {side}{rows}\ncontacts {side}\n}}\n"
-        )?;
-    }
+    add_last(&mut text, rows)?;
     Ok(text)
-}
-
-/// The contacts of the first block of a text.
-fn first_contacts(alloc: Global, text: &str) -> Result<String, AllocError> {
-    let mut out = String::new(alloc);
-    let Ok(blocks) = read(alloc, text.as_bytes()) else {
-        return Ok(out);
-    };
-    let Ok(templates) = Templates::new(alloc, blocks.as_slice()) else {
-        return Ok(out);
-    };
-    let values = Values::new(alloc, &templates, "contacts".as_bytes())?;
-    show_block(alloc, &mut out, &values, 0)?;
-    Ok(out)
 }
 
 #[test]
 fn long_chains_and_wide_diamonds_are_resolved(rt: HostRuntime) -> Result<(), Fail> {
     let text = diamonds(rt.alloc(), 10_000)?;
-    assert_eq!(rt;
-        first_contacts(rt.alloc(), text.as_str())?.as_str(),
-        "a|a|a.\n"
-    );
-    Ok(())
+    gives(&rt, rt.alloc(), text.as_str(), 1, "contacts", "a|a|a.\n")
 }

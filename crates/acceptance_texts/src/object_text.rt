@@ -1,6 +1,6 @@
 //! Texts, and what the rules of object text make of each.
 
-use crate::shown::text_or_mark;
+use crate::shown::{is_shown, text_or_mark};
 use acceptance_inputs::texts::BASE;
 use object_reader::block::Block;
 use object_reader::fault::LineFault;
@@ -23,24 +23,27 @@ fn show(out: &mut String, block: &Block) -> Result<(), AllocError> {
     out.push_str("\n")
 }
 
-/// What `read` makes of the bytes: a line for each block, or the fault.
-fn shown(alloc: Global, bytes: &[u8]) -> Result<String, AllocError> {
-    let mut out = String::new(alloc);
-    match read(alloc, bytes) {
-        Ok(blocks) => {
-            for block in blocks.as_slice() {
-                show(&mut out, block)?;
-            }
-        }
-        Err(fault) => write!(out, "{fault}")?,
+/// Each block, a line each.
+fn show_all(out: &mut String, blocks: &[Block]) -> Result<(), AllocError> {
+    for block in blocks {
+        show(out, block)?;
     }
-    Ok(out)
+    Ok(())
+}
+
+/// What `read` makes of the bytes: a line for each block, or the fault.
+fn show_text(alloc: Global, out: &mut String, bytes: &[u8]) -> Result<(), AllocError> {
+    match read(alloc, bytes) {
+        Ok(blocks) => show_all(out, blocks.as_slice()),
+        Err(fault) => write!(out, "{fault}"),
+    }
 }
 
 /// Compares what `read` makes of the bytes.
 fn gives(rt: &impl Abort, alloc: Global, bytes: &[u8], wanted: &str) -> Result<(), Fail> {
-    let name = text_or_mark(bytes);
-    assert_eq!(rt; shown(alloc, bytes)?.as_str(), wanted, "{name}");
+    let mut out = String::new(alloc);
+    show_text(alloc, &mut out, bytes)?;
+    is_shown(rt, out.as_str(), wanted, text_or_mark(bytes));
     Ok(())
 }
 
@@ -259,27 +262,27 @@ ServiceEscalation 28[host_name=web][service_description=*][first_notification=3]
 const CUT: &[u8] =
     b"#c\\\n d\ndefine timeperiod{\n monday 1 \\\r\n\t09:00\n a \\;b\0 ; x\n c \xc3\xa9\\\\\n}\\\n \n";
 
+/// From which length to below which the front of `CUT` gives this.
+const FRONTS: [(usize, usize, &str); 11] = [
+    (0, 8, ""),
+    (8, 25, "line 3: NotADefine"),
+    (25, 28, "line 3: Unclosed"),
+    (28, 35, "line 4: NoValue"),
+    (35, 48, "line 3: Unclosed"),
+    (48, 51, "line 6: NoValue"),
+    (51, 60, "line 3: Unclosed"),
+    (60, 62, "line 7: NoValue"),
+    (62, 63, "line 7: NotUtf8"),
+    (63, 67, "line 3: Unclosed"),
+    (67, 72, "TimePeriod 3[monday 1=09:00][a=;b\0][c=\u{e9}\\]\n"),
+];
+
 #[test]
 fn reads_each_prefix(rt: HostRuntime) -> Result<(), Fail> {
-    let table = [
-        (0, 8, ""),
-        (8, 25, "line 3: NotADefine"),
-        (25, 28, "line 3: Unclosed"),
-        (28, 35, "line 4: NoValue"),
-        (35, 48, "line 3: Unclosed"),
-        (48, 51, "line 6: NoValue"),
-        (51, 60, "line 3: Unclosed"),
-        (60, 62, "line 7: NoValue"),
-        (62, 63, "line 7: NotUtf8"),
-        (63, 67, "line 3: Unclosed"),
-        (67, 72, "TimePeriod 3[monday 1=09:00][a=;b\0][c=\u{e9}\\]\n"),
-    ];
     assert_eq!(rt; CUT.len(), 71);
-    for (from, end, want) in table {
-        for length in from..end {
-            let length: usize = length;
-            let text = &CUT[..length.min(CUT.len())];
-            gives(&rt, rt.alloc(), text, want)?;
+    for (from, end, want) in &FRONTS {
+        for length in *from..*end {
+            gives(&rt, rt.alloc(), &CUT[..length.min(CUT.len())], want)?;
         }
     }
     Ok(())
@@ -365,23 +368,33 @@ fn comment(alloc: Global, length: usize, after: &str) -> Result<Vec<u8>, AllocEr
     Ok(text)
 }
 
+/// The length of a comment, what follows it, and what both give.
+type Long = (usize, &'static str, &'static str);
+
+const LONG_LINES: [Long; 10] = [
+    (4096, "", ""),
+    (4096, "\n", ""),
+    (4095, "\r\n", ""),
+    (4097, "", "line 1: LineTooLong"),
+    (4097, "\n", "line 1: LineTooLong"),
+    (4096, "\r\n", "line 1: LineTooLong"),
+    (4096, "\\\n", "line 1: LineTooLong"),
+    (4096, "\nx", "line 2: NotADefine"),
+    (4095, "\\\nx\n", ""),
+    (2, "\\\nx\nx", "line 3: NotADefine"),
+];
+
+/// Compares what `read` makes of a comment and what follows it.
+fn long_gives(rt: &impl Abort, alloc: Global, long: Long) -> Result<(), Fail> {
+    let (length, after, want) = long;
+    let text = comment(alloc, length, after)?;
+    gives(rt, alloc, text.as_slice(), want)
+}
+
 #[test]
 fn keeps_the_limit_of_lines(rt: HostRuntime) -> Result<(), Fail> {
-    let table = [
-        (4096, "", ""),
-        (4096, "\n", ""),
-        (4095, "\r\n", ""),
-        (4097, "", "line 1: LineTooLong"),
-        (4097, "\n", "line 1: LineTooLong"),
-        (4096, "\r\n", "line 1: LineTooLong"),
-        (4096, "\\\n", "line 1: LineTooLong"),
-        (4096, "\nx", "line 2: NotADefine"),
-        (4095, "\\\nx\n", ""),
-        (2, "\\\nx\nx", "line 3: NotADefine"),
-    ];
-    for (length, after, want) in table {
-        let text = comment(rt.alloc(), length, after)?;
-        gives(&rt, rt.alloc(), text.as_slice(), want)?;
+    for long in &LONG_LINES {
+        long_gives(&rt, rt.alloc(), *long)?;
     }
     Ok(())
 }
@@ -393,12 +406,16 @@ fn measures_before_it_reads(rt: HostRuntime) -> Result<(), Fail> {
     gives(&rt, rt.alloc(), text.as_slice(), "line 1: LineTooLong")
 }
 
+/// So many newlines give this.
+fn newlines_give(rt: &impl Abort, alloc: Global, count: usize, want: &str) -> Result<(), Fail> {
+    let text = vec![in alloc; b'\n'; count]?;
+    gives(rt, alloc, text.as_slice(), want)
+}
+
 #[test]
 fn keeps_the_limit_of_texts(rt: HostRuntime) -> Result<(), Fail> {
-    let mut text = vec![in rt.alloc(); b'\n'; TEXT_LIMIT]?;
-    gives(&rt, rt.alloc(), text.as_slice(), "")?;
-    text.push(b'\n')?;
-    gives(&rt, rt.alloc(), text.as_slice(), "TooLarge")
+    newlines_give(&rt, rt.alloc(), TEXT_LIMIT, "")?;
+    newlines_give(&rt, rt.alloc(), TEXT_LIMIT + 1, "TooLarge")
 }
 
 #[test]

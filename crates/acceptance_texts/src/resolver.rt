@@ -1,8 +1,8 @@
 //! Object texts, and the configuration or the fault that the rules give for each.
 
-use crate::shown::text_or_mark;
+use crate::shown::{is_shown, text_or_mark};
 use acceptance_inputs::texts::BASE;
-use due_model::config::{Config, Contact, LaneId, Object};
+use due_model::config::{Config, Contact, Lane, LaneId, Object};
 use object_resolve::{LoadFault, load};
 use std::alloc::{AllocError, Global};
 use std::fmt::Write;
@@ -40,6 +40,12 @@ fn show_contact(out: &mut String, contact: &Contact) -> Result<(), AllocError> {
     out.push_str("\n")
 }
 
+/// A lane on one line.
+fn show_lane(out: &mut String, lane: &Lane) -> Result<(), AllocError> {
+    let name = text_or_mark(lane.name.as_slice());
+    write!(out, "lane {name}\n")
+}
+
 /// A configuration, a line for each host, contact and lane.
 fn show(out: &mut String, config: &Config) -> Result<(), AllocError> {
     for host in config.objects.as_slice() {
@@ -49,27 +55,31 @@ fn show(out: &mut String, config: &Config) -> Result<(), AllocError> {
         show_contact(out, contact)?;
     }
     for lane in config.lanes.as_slice() {
-        let name = text_or_mark(lane.name.as_slice());
-        write!(out, "lane {name}\n")?;
+        show_lane(out, lane)?;
     }
     Ok(())
 }
 
 /// What the text gives: the configuration, or the fault.
-fn result_text(alloc: Global, text: &str) -> Result<String, AllocError> {
-    let mut out = String::new(alloc);
+fn show_text(alloc: Global, out: &mut String, text: &str) -> Result<(), AllocError> {
     match load(alloc, text.as_bytes()) {
-        Ok(config) => show(&mut out, &config)?,
-        Err(fault) => write!(out, "{fault}")?,
+        Ok(config) => show(out, &config),
+        Err(fault) => write!(out, "{fault}"),
     }
-    Ok(out)
+}
+
+/// Compares what the text gives.
+fn gives(rt: &impl Abort, alloc: Global, text: &str, wanted: &str) -> Result<(), Fail> {
+    let mut out = String::new(alloc);
+    show_text(alloc, &mut out, text)?;
+    is_shown(rt, out.as_str(), wanted, text);
+    Ok(())
 }
 
 #[test]
 fn base_gives_its_configuration(rt: HostRuntime) -> Result<(), Fail> {
     let config = "host web 1: 0\ncontact ann: 0; 0\nlane mail\n";
-    assert_eq!(rt; result_text(rt.alloc(), BASE)?.as_str(), config);
-    Ok(())
+    gives(&rt, rt.alloc(), BASE, config)
 }
 
 /// Texts, and what each gives.
@@ -221,8 +231,8 @@ const CASES: [(&str, &str); 40] = [
 #[test]
 fn each_text_gives_what_the_rules_say(rt: HostRuntime) -> Result<(), Fail> {
     for case in &CASES {
-        let text = case.0;
-        assert_eq!(rt; result_text(rt.alloc(), text)?.as_str(), case.1, "{text}");
+        let (text, wanted) = *case;
+        gives(&rt, rt.alloc(), text, wanted)?;
     }
     Ok(())
 }
@@ -236,18 +246,35 @@ fn text_with(alloc: Global, front: &str, kind: &str, count: u32) -> Result<Strin
     Ok(text)
 }
 
+/// How many hosts, contacts and lanes there are.
+fn show_counts(out: &mut String, config: &Config) -> Result<(), AllocError> {
+    let hosts = config.objects.len();
+    let contacts = config.contacts.len();
+    let lanes = config.lanes.len();
+    write!(out, "{hosts} {contacts} {lanes}")
+}
+
 /// Only the fault of a text, or how many hosts, contacts and lanes it gives.
-fn count_of(alloc: Global, text: &[u8]) -> Result<String, AllocError> {
+fn show_count(alloc: Global, out: &mut String, text: &[u8]) -> Result<(), AllocError> {
     match load(alloc, text) {
-        Ok(config) => {
-            let hosts = config.objects.len();
-            let contacts = config.contacts.len();
-            let lanes = config.lanes.len();
-            format!(in alloc; "{hosts} {contacts} {lanes}")
-        }
-        Err(LoadFault::NoMemory) => String::from_str(alloc, "NoMemory"),
-        Err(fault) => format!(in alloc; "{fault}"),
+        Ok(config) => show_counts(out, &config),
+        Err(LoadFault::NoMemory) => out.push_str("NoMemory"),
+        Err(fault) => write!(out, "{fault}"),
     }
+}
+
+/// Compares how much a text gives.
+fn counts_of(
+    rt: &impl Abort,
+    alloc: Global,
+    text: &[u8],
+    wanted: &str,
+    name: &str,
+) -> Result<(), Fail> {
+    let mut out = String::new(alloc);
+    show_count(alloc, &mut out, text)?;
+    is_shown(rt, out.as_str(), wanted, name);
+    Ok(())
 }
 
 /// Compares what a text of this many blocks gives, after another text.
@@ -260,20 +287,21 @@ fn counts(
     wanted: &str,
 ) -> Result<(), Fail> {
     let text = text_with(alloc, front, kind, count)?;
-    let found = count_of(alloc, text.as_bytes())?;
-    assert_eq!(rt; found.as_str(), wanted, "{count} of {kind}");
-    Ok(())
+    counts_of(rt, alloc, text.as_bytes(), wanted, kind)
 }
+
+/// A type, how many blocks of it there are, and what they give.
+const MANY: [(&str, u32, &str); 4] = [
+    ("host", 65_535, "65535 0 0"),
+    ("host", 65_536, "line 196606: TooMany"),
+    ("contact", 4_096, "0 4096 0"),
+    ("contact", 4_097, "line 12289: TooMany"),
+];
 
 #[test]
 fn limits_are_kept(rt: HostRuntime) -> Result<(), Fail> {
-    let rows = [
-        ("host", 65_535, "65535 0 0"),
-        ("host", 65_536, "line 196606: TooMany"),
-        ("contact", 4_096, "0 4096 0"),
-        ("contact", 4_097, "line 12289: TooMany"),
-    ];
-    for (kind, count, wanted) in rows {
+    for row in &MANY {
+        let (kind, count, wanted) = *row;
         counts(&rt, rt.alloc(), "", kind, count, wanted)?;
     }
     Ok(())
@@ -294,20 +322,25 @@ service_notification_commands n20
 
 #[test]
 fn sixteen_lanes_are_kept(rt: HostRuntime) -> Result<(), Fail> {
-    let rows = [(SIXTEEN, "0 1 16"), (SEVENTEEN, "line 66: TooMany")];
-    for (front, wanted) in rows {
-        counts(&rt, rt.alloc(), front, "command", 30, wanted)?;
-    }
-    Ok(())
+    counts(&rt, rt.alloc(), SIXTEEN, "command", 30, "0 1 16")?;
+    counts(
+        &rt,
+        rt.alloc(),
+        SEVENTEEN,
+        "command",
+        30,
+        "line 66: TooMany",
+    )
+}
+
+/// A text of so many newlines gives this.
+fn newlines_give(rt: &impl Abort, alloc: Global, count: usize, wanted: &str) -> Result<(), Fail> {
+    let text = vec![in alloc; b'\n'; count]?;
+    counts_of(rt, alloc, text.as_slice(), wanted, "newlines")
 }
 
 #[test]
 fn large_texts_are_refused(rt: HostRuntime) -> Result<(), Fail> {
-    let alloc = rt.alloc();
-    let mut text = Vec::new(alloc);
-    text.resize(16_777_216, b'\n')?;
-    assert_eq!(rt; count_of(alloc, text.as_slice())?.as_str(), "0 0 0");
-    text.push(b'\n')?;
-    assert_eq!(rt; count_of(alloc, text.as_slice())?.as_str(), "TooLarge");
-    Ok(())
+    newlines_give(&rt, rt.alloc(), 16_777_216, "0 0 0")?;
+    newlines_give(&rt, rt.alloc(), 16_777_217, "TooLarge")
 }
