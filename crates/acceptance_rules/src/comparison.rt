@@ -2,10 +2,10 @@
 
 ghost use Rattle.std.specs.Prelude.{All, IfOk, ◌<◌, length};
 ghost use Rattle.due_model.specs.Accepted.{IsAccepted};
-ghost use Rattle.due_model.specs.Covered.{IsCovered, IsPlainEvent};
+ghost use Rattle.due_model.specs.Proper.{IsProper};
 ghost use Rattle.decider.specs.Share.{IsShare};
 
-use acceptance_inputs::plain::are_plain;
+use acceptance_inputs::plain::are_proper;
 use decider::{Decider, Outbox, Share};
 use due_model::config::{Config, LaneId, ObjectId};
 use due_model::event::Event;
@@ -157,7 +157,6 @@ fn feed(alloc: Global, hosts: &[Host], seed: u64, step: u32) -> Result<String, A
 /// The configuration that a text gives.
 fn config_of(alloc: Global, text: &str) -> Result<Config, Fail>
     ensures accepted { IfOk result (λ config. IsAccepted config) }
-    ensures covered { IfOk result (λ config. IsCovered config) }
 {
     Ok(load(alloc, text.as_bytes())?)
 }
@@ -191,11 +190,11 @@ fn events_of(
     config: &Config,
     feed: &str,
 ) -> Result<Vec<Event>, Fail>
-    ensures { IfOk result (λ events. All (IsPlainEvent config.now) events.items) }
+    ensures { IfOk result (λ events. All (IsProper config.now) events.items) }
 {
     let events = read_events(alloc, config, feed)?;
     assert_eq!(rt; events.len(), LINES as usize, "{feed}");
-    assert!(rt; are_plain(config, &events));
+    assert!(rt; are_proper(config, &events));
     Ok(events)
 }
 
@@ -208,8 +207,7 @@ fn decided<'a>(
     share: Share,
 ) -> Result<(Decider<'a>, Outbox), Fail>
     requires accepted { IsAccepted config.now }
-    requires covered { IsCovered config.now }
-    requires plain { All (IsPlainEvent config.now) events.now }
+    requires proper { All (IsProper config.now) events.now }
     requires share { IsShare share }
 {
     let mut outbox = Outbox::new(alloc, config.lanes.len())?;
@@ -231,8 +229,7 @@ impl Said {
     /// What a decider of these objects says, lane by lane.
     fn of(alloc: Global, config: &Config, events: &[Event], share: Share) -> Result<Said, Fail>
         requires accepted { IsAccepted config.now }
-        requires covered { IsCovered config.now }
-        requires plain { All (IsPlainEvent config.now) events.now }
+        requires proper { All (IsProper config.now) events.now }
         requires share { IsShare share }
     {
         let zone = Zone::Utc;
@@ -369,8 +366,7 @@ fn compare_slow(
     sole: &Said,
 ) -> Result<(), Fail>
     requires accepted { IsAccepted config.now }
-    requires covered { IsCovered config.now }
-    requires plain { All (IsPlainEvent config.now) events.now }
+    requires proper { All (IsProper config.now) events.now }
     requires object { object.0 < length config.now.objects }
 {
     let zone = Zone::Utc;
@@ -409,8 +405,7 @@ fn compare_slowly(
     sole: &Said,
 ) -> Result<(), Fail>
     requires accepted { IsAccepted config.now }
-    requires covered { IsCovered config.now }
-    requires plain { All (IsPlainEvent config.now) events.now }
+    requires proper { All (IsProper config.now) events.now }
 {
     for number in 0..config.objects.len() {
         let object = ObjectId(number as u16);
@@ -458,8 +453,7 @@ fn compare_to_two(
     sole: &Said,
 ) -> Result<(), Fail>
     requires accepted { IsAccepted config.now }
-    requires covered { IsCovered config.now }
-    requires plain { All (IsPlainEvent config.now) events.now }
+    requires proper { All (IsProper config.now) events.now }
 {
     let even = Said::of(alloc, config, events, EVEN)?;
     let odd = Said::of(alloc, config, events, ODD)?;
@@ -471,8 +465,7 @@ fn compare_to_two(
 /// owns it. The two say together no more than the one.
 fn compare(rt: &impl Abort, alloc: Global, config: &Config, events: &[Event]) -> Result<Said, Fail>
     requires accepted { IsAccepted config.now }
-    requires covered { IsCovered config.now }
-    requires plain { All (IsPlainEvent config.now) events.now }
+    requires proper { All (IsProper config.now) events.now }
 {
     let sole = Said::of(alloc, config, events, SOLE)?;
     compare_slowly(rt, alloc, config, events, &sole)?;
@@ -489,7 +482,7 @@ fn seed_events(
     seed: u64,
     step: u32,
 ) -> Result<Vec<Event>, Fail>
-    ensures { IfOk result (λ events. All (IsPlainEvent config.now) events.items) }
+    ensures { IfOk result (λ events. All (IsProper config.now) events.items) }
 {
     let text = feed(alloc, hosts, seed, step)?;
     events_of(rt, alloc, config, text.as_str())
@@ -504,8 +497,7 @@ fn compare_seed(
     counts: &mut Counts,
 ) -> Result<(), Fail>
     requires accepted { IsAccepted config.now }
-    requires covered { IsCovered config.now }
-    requires plain { All (IsPlainEvent config.now) events.now }
+    requires proper { All (IsProper config.now) events.now }
 {
     let said = compare(rt, alloc, config, events)?;
     counts.add(&said);
@@ -521,7 +513,6 @@ fn compare_seeds(
     step: u32,
 ) -> Result<Counts, Fail>
     requires accepted { IsAccepted config.now }
-    requires covered { IsCovered config.now }
 {
     let mut counts = Counts {
         problems: 0,
@@ -538,7 +529,6 @@ fn compare_seeds(
 /// The configuration of these hosts.
 fn config_of_hosts(alloc: Global, hosts: &[Host]) -> Result<Config, Fail>
     ensures accepted { IfOk result (λ config. IsAccepted config) }
-    ensures covered { IfOk result (λ config. IsCovered config) }
 {
     let text = objects(alloc, hosts)?;
     config_of(alloc, text.as_str())

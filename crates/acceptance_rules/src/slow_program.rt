@@ -4,7 +4,7 @@ ghost use Rattle.std.specs.Prelude.{◌≡◌};
 ghost use Rattle.due_laws.specs.Rows.{base};
 
 use acceptance_inputs::configs::base;
-use acceptance_inputs::plain::are_plain;
+use acceptance_inputs::plain::are_proper;
 use due_model::config::{Config, ContactId, LaneId, ObjectId};
 use due_model::covered::is_covered;
 use due_model::event::{Event, EventKind};
@@ -78,7 +78,7 @@ fn gives_notices(
 ) -> Result<(), Fail>
     requires { config.now ≡ base }
 {
-    assert!(rt; are_plain(config, events));
+    assert!(rt; are_proper(config, events));
     let due = slow_due(alloc, config, &Zone::Utc, events, ObjectId(0), LaneId(0))?;
     are_notices(rt, due.as_slice(), rows);
     Ok(())
@@ -94,7 +94,7 @@ fn gives_suppressions(
 ) -> Result<(), Fail>
     requires { config.now ≡ base }
 {
-    assert!(rt; are_plain(config, events));
+    assert!(rt; are_proper(config, events));
     let suppressed = slow_sup(alloc, config, &Zone::Utc, events, ObjectId(0))?;
     are_suppressions(rt, suppressed.as_slice(), rows);
     Ok(())

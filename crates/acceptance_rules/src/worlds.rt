@@ -3,8 +3,7 @@
 ghost use Rattle.std.specs.Prelude.{◌≡◌, ◌<◌, All, IfOk, IsTrue, length};
 ghost use Rattle.due_laws.specs.Rows.{base};
 ghost use Rattle.due_model.specs.Accepted.{IsAccepted};
-ghost use Rattle.due_model.specs.Covered.{IsCovered};
-ghost use Rattle.world_steps.specs.Steps.{IsPlainStep};
+ghost use Rattle.world_steps.specs.Steps.{IsProperStep};
 ghost use Rattle.world_steps.specs.Views.{world_setup};
 
 use acceptance_inputs::configs::{base, wide};
@@ -20,21 +19,21 @@ use std::test::Fail;
 use world_steps::{LaneStep, LineParts, Settings, Step, StepFault, World};
 
 /// Whether the step posts what may be posted, if it posts.
-fn is_plain(config: &Config, step: Step) -> bool
-    ensures { IsTrue result → IsPlainStep config.now step }
+fn is_proper_step(config: &Config, step: Step) -> bool
+    ensures { IsTrue result → IsProperStep config.now step }
 {
     match step {
-        Step::Post(event) => is_proper(config, &event) && event.kind.is_supported(),
+        Step::Post(event) => is_proper(config, &event),
         _ => true,
     }
 }
 
 /// Whether each step is.
-fn are_plain(config: &Config, steps: &[Step]) -> bool
-    ensures { IsTrue result → All (IsPlainStep config.now) steps.now }
+fn are_proper_steps(config: &Config, steps: &[Step]) -> bool
+    ensures { IsTrue result → All (IsProperStep config.now) steps.now }
 {
     for step in steps {
-        if !is_plain(config, *step) {
+        if !is_proper_step(config, *step) {
             return false;
         }
     }
@@ -54,7 +53,7 @@ fn refused(
 {
     let mut places = Vec::new(alloc);
     for (place, step) in steps.iter().enumerate() {
-        assert!(rt; is_plain(config, *step));
+        assert!(rt; is_proper_step(config, *step));
         match world.apply(*step) {
             Ok(()) => {}
             Err(StepFault::NotEnabled) => places.push(place.saturating_add(1))?,
@@ -300,7 +299,7 @@ fn takes_changes(
 {
     let zone = Zone::Utc;
     let mut world = World::new(alloc, config, &zone, LEAST, &[true])?;
-    assert!(rt; are_plain(config, steps));
+    assert!(rt; are_proper_steps(config, steps));
     assert_eq!(rt; world.run(steps), Ok(()));
     has_taken(rt, alloc, &world, count)
 }
@@ -336,13 +335,12 @@ fn crowded<'a>(
     zone: &'a Zone,
 ) -> Result<World<'a>, Fail>
     requires accepted { IsAccepted config.now }
-    requires covered { IsCovered config.now }
     requires lanes { length config.now.lanes ≡ 16 }
     ensures { IfOk result (λ world. (world_setup world).config ≡ config.now) }
 {
     let steps = crowd(alloc)?;
     let mut world = World::new(alloc, config, zone, MOST, &[true; 16])?;
-    assert!(rt; are_plain(config, steps.as_slice()));
+    assert!(rt; are_proper_steps(config, steps.as_slice()));
     assert_eq!(rt; world.run(steps.as_slice()), Ok(()));
     Ok(world)
 }
@@ -368,7 +366,6 @@ fn has_waiting(
 /// The last lane has a notice of the first decider in its queue, and one of the last in the outbox.
 fn last_lane_is_full(rt: &impl Abort, alloc: Global, config: &Config) -> Result<(), Fail>
     requires accepted { IsAccepted config.now }
-    requires covered { IsCovered config.now }
     requires lanes { length config.now.lanes ≡ 16 }
     requires objects { length config.now.objects ≡ 8 }
 {

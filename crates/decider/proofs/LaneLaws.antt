@@ -18,11 +18,12 @@ use Rattle.due_model.specs.Due.{due_at, notice_to, notices, receivers, refusal_o
 use Rattle.due_model.specs.Histories.{hist, outcome as outcome_of}
 use Rattle.due_model.specs.declared.rules.Attempt.{Attempt}
 use Rattle.lemmas.proofs.Notices.{notice_to_cases}
-use Rattle.decider.specs.declared.entries.Entry.{Entry}
-use Rattle.decider.specs.declared.entries.Entry.TheVariants.{Sent, Withheld}
+use Rattle.messages.specs.declared.entries.Entry.{Entry}
+use Rattle.messages.specs.declared.entries.Entry.TheVariants.{Sent, Withheld}
 use Rattle.decider.specs.declared.share.Share.{Share}
 use Rattle.decider.specs.Decider.{gain, gained, suppressed_gain, suppressed_gained}
-use Rattle.decider.specs.Entries.{contact_entries, event_entries, is_on, notice_in, notices_in, notices_on, object_entries, outcome_entries, share_entries, suppression_in, suppressions_in}
+use Rattle.messages.specs.Entries.{contact_entries, event_entries, is_on, notice_in, notices_in, notices_on, object_entries, outcome_entries, suppression_in, suppressions_in}
+use Rattle.decider.specs.Entries.{share_entries}
 use Rattle.decider.specs.Share.{IsShare, is_owned, owned_numbers}
 use Rattle.lemmas.proofs.Numbers.{flat_flat, flat_alike, flat_nothing}
 

@@ -1,7 +1,8 @@
-pub mod OutboxLaws
-pub mod BookLaws
-pub mod DecisionLaws
+pub mod StatusLaws
 pub mod SettleLaws
-pub mod EntryLaws
-pub mod FitLaws
+pub mod FoundLaws
+pub mod BookLaws
 pub mod LaneLaws
+pub mod OutboxLaws
+pub mod StagingLaws
+pub mod FitLaws

@@ -3,9 +3,9 @@ use Rattle.std.proofs.Common.{◌≡◌, ◌≢◌, ℕ, ◌+◌, ◌<◌, ◌�
 use Rattle.std.proofs.lemmas.Bool.{cases_eq, eq-eqb, ne_eqb}
 use Rattle.std.proofs.lemmas.List.Elements.{filter-append}
 use Rattle.due_model.specs.declared.notice.Notice.{Notice}
-use Rattle.decider.specs.declared.entries.Entry.{Entry}
-use Rattle.decider.specs.declared.entries.Entry.TheVariants.{Sent}
-use Rattle.decider.specs.Entries.{is_for}
+use Rattle.messages.specs.declared.entries.Entry.{Entry}
+use Rattle.messages.specs.declared.entries.Entry.TheVariants.{Sent}
+use Rattle.messages.specs.Entries.{is_for}
 use Rattle.decider.specs.Outbox.{count_for}
 use Rattle.lemmas.proofs.Writes.{kept_at, read_at, written_at}
 

@@ -1,40 +1,38 @@
 -- What a decider keeps, and the past that it fits.
-use Rattle.std.specs.Prelude.{◌≡◌, ℕ, ◌+◌, ◌<◌, ◌≤◌, Bool, true, max, List, [], length, All, flat_map, slice_get, slice_index_or, Some}
+use Rattle.std.specs.Prelude.{◌≡◌, ℕ, ◌+◌, ◌≤◌, Bool, max, List, [], ◌∷◌, length, All}
 use Rattle.due_model.specs.declared.config.Config.{Config}
-use Rattle.due_model.specs.declared.config.Object.{Object}
 use Rattle.due_model.specs.declared.event.Event.{Event}
 use Rattle.due_model.specs.declared.notice.Suppression.{Suppression}
-use Rattle.due_model.specs.declared.state.State.{State}
-use Rattle.due_model.specs.declared.state.State.TheVariants.{Pending}
 use Rattle.due_model.specs.declared.zone.Zone.{Zone}
 use Rattle.due_model.specs.Accepted.{IsAccepted}
-use Rattle.due_model.specs.Covered.{IsCovered, IsSupported}
-use Rattle.due_model.specs.Limits.{last_moment, max_contacts, max_events, max_lanes, max_number, max_objects}
+use Rattle.due_model.specs.Limits.{max_events}
 use Rattle.due_model.specs.Proper.{IsProper}
-use Rattle.due_model.specs.Readings.{moment, program_on, hard, switch_after}
-use Rattle.decider.specs.declared.book.Book.{Book}
-use Rattle.decider.specs.declared.book.Decision.{Decision}
-use Rattle.decider.specs.declared.book.EventContext.{EventContext}
+use Rattle.due_model.specs.Readings.{moment as moment_of, program_on, switch_after}
+use Rattle.messages.specs.declared.entries.Entry.{Entry}
+use Rattle.problem_count.specs.Book.{BookValues}
 use Rattle.decider.specs.declared.decider.Decider.{Decider}
-use Rattle.decider.specs.declared.entries.Entry.{Entry}
 use Rattle.decider.specs.declared.event_decider.EventDecider.{EventDecider}
+use Rattle.decider.specs.declared.reading.EventContext.{EventContext}
 use Rattle.decider.specs.declared.share.Share.{Share}
-use Rattle.decider.specs.Book.{empty_book, book_of, BookFits}
-use Rattle.decider.specs.Decisions.{KindIsWithin, decide_numbers, entries_of_decision, settled, states_after}
-use Rattle.decider.specs.Share.{IsShare, is_owned}
+use Rattle.decider.specs.declared.staging.NewBook.{NewBook}
+use Rattle.decider.specs.Books.{BooksFit, settled}
+use Rattle.decider.specs.Events.{AreTables, TableValues, Values}
+use Rattle.decider.specs.Share.{IsShare}
+use Rattle.decider.specs.Statuses.{StatusLists, StatusesFit, statuses_after}
 
 -- what a decider keeps
 pub record Kept : Type 0 where
   pub config : Config
   pub zone : Zone
   pub share : Share
+  pub tables : TableValues
   -- how many events it has decided
   pub count : ℕ
   pub moment : ℕ
   pub program : Bool
-  -- the hard state of each object, and the book of each
-  pub states : List State
-  pub books : List Book
+  -- the status of each object, and the book of each
+  pub statuses : StatusLists
+  pub books : List BookValues
   -- the suppressions so far; a core keeps none
   pub log : List Suppression
 
@@ -43,10 +41,15 @@ core_kept d = record {
   config = d.config.now;
   zone = d.zone.now;
   share = d.share;
+  tables = record {
+    periods = d.periods.items;
+    escalations = d.escalations;
+    dependencies = d.dependencies;
+  };
   count = d.count;
   moment = d.moment;
   program = d.program;
-  states = d.states.items;
+  statuses = d.statuses;
   books = d.books.items;
   log = [];
 }
@@ -61,75 +64,49 @@ last_entries d = d.entries.items
 -- Fits: each value that is kept is the definitions' value after this past.
 pub record Fits (k : Kept) (past : List Event) : Type 0 where
   pub accepted : IsAccepted k.config
-  pub covered : IsCovered k.config
   pub share : IsShare k.share
+  pub worked_out : AreTables k.config k.tables
   pub proper : All (IsProper k.config) past
-  pub supported : All (λ e. IsSupported e.kind) past
   pub short : length past ≤ max_events
   pub count : k.count ≡ length past
-  pub moment : k.moment ≡ moment past
+  pub moment : k.moment ≡ moment_of past
   pub program : k.program ≡ program_on past
-  pub states : length k.states ≡ length k.config.objects
-  pub books : length k.books ≡ length k.config.objects
-  pub state : (o : ℕ) → o < length k.config.objects
-      → slice_index_or k.states o Pending ≡ hard o past
-  pub book : (o : ℕ) (object : Object) → slice_get k.config.objects o ≡ Some object
-      → is_owned k.share o ≡ true
-      → slice_index_or k.books o empty_book ≡ book_of k.config k.zone o object past
-  pub fit : All (BookFits (length past)) k.books
+  pub statuses : StatusesFit (length k.config.objects) past k.statuses
+  pub books : BooksFit k.config k.zone k.share past k.books
 
--- what an event finds
+-- what an event says, and what it makes of the moment and the switch
 abbrev pub context_of : Kept → Event → EventContext
 context_of k e = record {
+  number = k.count;
   kind = e.kind;
   moment = max k.moment e.moment;
   program = switch_after e.kind k.program;
 }
 
--- the lists are no longer than their limits
-pub record IsWithinLimits (c : Config) : Type 0 where
-  pub contacts : length c.contacts ≤ max_contacts
-  pub lanes : length c.lanes ≤ max_lanes
-
--- the values are within the bounds that deciding an event asks for
-pub record CanDecide (objects : List Object) (share : Share) (context : EventContext)
-    (hard_states : List State) (all_books : List Book) : Type 0 where
-  pub deciders : 0 < share.deciders
-  pub supported : IsSupported context.kind
-  pub named : KindIsWithin (length objects) context.kind
-  pub states : length hard_states ≡ length objects
-  pub books : length all_books ≡ length objects
-  pub few : length objects ≤ max_objects
-  pub moment : context.moment ≤ last_moment
-  pub intervals : All (λ object. object.interval ≤ max_number) objects
-  pub fit : All (BookFits max_events) all_books
-
--- likewise, and the configuration is within its limits
-pub record CanDecideEvent (k : Kept) (e : Event) : Type 0 where
-  pub can : CanDecide k.config.objects k.share (context_of k e) k.states k.books
-  pub limits : IsWithinLimits k.config
-
--- what is decided at an event by what is kept
-abbrev pub decisions_by : Kept → Event → List Decision
-decisions_by k e =
-    decide_numbers k.config.objects k.share (context_of k e) k.states k.books
-    (length k.config.objects)
-
--- the entries of that
-abbrev pub entries_by : Kept → Event → List Entry
-entries_by k e = flat_map (entries_of_decision k.config k.count) (decisions_by k e)
-
--- what is kept after an event at which this was decided
-abbrev pub kept_after : Kept → Event → List Decision → Kept
-kept_after k e decisions = record {
+-- what is read to decide an event
+abbrev pub values_at : Kept → Event → Values
+values_at k e = record {
   config = k.config;
   zone = k.zone;
   share = k.share;
+  tables = k.tables;
+  context = context_of k e;
+  statuses = k.statuses;
+  books = k.books;
+}
+
+-- what is kept after an event at which these books were staged
+abbrev pub kept_after : Kept → Event → List NewBook → Kept
+kept_after k e decided = record {
+  config = k.config;
+  zone = k.zone;
+  share = k.share;
+  tables = k.tables;
   count = k.count + 1;
   moment = max k.moment e.moment;
   program = switch_after e.kind k.program;
-  states = states_after e.kind k.states;
-  books = settled decisions k.books;
+  statuses = statuses_after e.kind k.statuses;
+  books = settled decided k.books;
   log = k.log;
 }
 

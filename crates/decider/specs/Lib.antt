@@ -1,7 +1,9 @@
 pub mod Share
-pub mod Book
+pub mod Statuses
+pub mod Books
+pub mod Events
+pub mod Staging
 pub mod Entries
-pub mod Decisions
 pub mod Log
 pub mod Outbox
 pub mod Decider

@@ -1,8 +1,8 @@
 -- The room of a log.
 use Rattle.std.specs.Prelude.{◌≤◌, List, length, filter}
 use Rattle.suppression_log.specs.Log.{Lines}
-use Rattle.decider.specs.declared.entries.Entry.{Entry}
-use Rattle.decider.specs.Entries.{is_withheld}
+use Rattle.messages.specs.declared.entries.Entry.{Entry}
+use Rattle.messages.specs.Entries.{is_withheld}
 
 -- there is room for the suppressions among these entries
 abbrev pub HasRoomFor : Lines → List Entry → Type 0

@@ -2,9 +2,9 @@
 use Rattle.std.specs.Prelude.{ℕ, ◌-◌, ◌<◌, ◌≤◌, List, [], length, filter, map, slice_index_or}
 use Rattle.std.specs.VecDeque.{deque_items, deque_len, deque_capacity}
 use Rattle.due_model.specs.declared.notice.Notice.{Notice}
-use Rattle.decider.specs.declared.entries.Entry.{Entry}
+use Rattle.messages.specs.declared.entries.Entry.{Entry}
 use Rattle.decider.specs.declared.outbox.Outbox.{Outbox}
-use Rattle.decider.specs.Entries.{is_for}
+use Rattle.messages.specs.Entries.{is_for}
 
 -- the notices that wait, lane by lane, the oldest first
 abbrev pub lists : Outbox → List (List Notice)

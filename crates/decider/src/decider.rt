@@ -6,10 +6,8 @@ ghost use Rattle.due_model.specs.declared.event.Event.{Event};
 ghost use Rattle.due_model.specs.Accepted.{IsAccepted};
 ghost use Rattle.due_model.specs.Limits.{max_events};
 ghost use Rattle.due_model.specs.Proper.{IsProper};
-ghost use Rattle.due_model.specs.Covered.{IsCovered, IsSupported};
 ghost use Rattle.decider.specs.Outbox.{lists, waiting_at};
 
-use crate::entries::suppressions;
 use crate::event_decider::{DecideFault, EventDecider};
 use crate::log::note;
 use crate::outbox::Outbox;
@@ -18,6 +16,8 @@ use due_model::config::Config;
 use due_model::event::Event;
 use due_model::notice::Suppression;
 use due_model::zone::Zone;
+use messages::entries::suppressions;
+use problem_count::laws::fit_on;
 use std::alloc::{AllocError, Global};
 use suppression_log::Log;
 
@@ -44,7 +44,6 @@ impl<'a> Decider<'a> {
         share: Share,
     ) -> Result<Decider<'a>, AllocError>
         requires accepted { IsAccepted config.now }
-        requires covered { IsCovered config.now }
         requires share { IsShare share }
         ensures { IfOk result (λ decider.
             HasDecidedNothing config.now zone.now share (kept decider)) }
@@ -60,7 +59,6 @@ impl<'a> Decider<'a> {
     /// nothing.
     pub fn decide(&mut self, event: Event, outbox: &mut Outbox) -> Result<(), DecideFault>
         requires proper { IsProper (kept self.old).config event }
-        requires supported { IsSupported event.kind }
         requires fits { (past : List Event) × Fits (kept self.old) past }
         requires lanes { length (lists outbox.old) ≡ length (kept self.old).config.lanes }
         // It fits the past with the event.
@@ -85,6 +83,7 @@ impl<'a> Decider<'a> {
         ensures ended { (past : List Event) → Fits (kept self.old) past
             → IsErrOf result DecideFault.Ended ↔ (length past ≡ max_events) }
     {
+        fit_on();
         self.core.stage(event)?;
         outbox.reserve(self.core.staged())?;
         self.log.reserve(suppressions(self.core.staged()))?;

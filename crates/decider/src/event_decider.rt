@@ -1,26 +1,33 @@
 //! The core of a decider: it decides the events one by one, and gives the entries of each in order.
 
-ghost use Rattle.std.specs.Prelude.{◌≡◌, ◌↔◌, ℕ, ◌+◌, ◌^◌, ◌<◌, ◌≤◌, []};
-ghost use Rattle.std.specs.Prelude.{◌∷◌, List, length, OnOk, OnErr, IfOk, IsErrOf};
+ghost use Rattle.std.specs.Prelude.{◌≡◌, ◌↔◌, ◌<◌, ◌≤◌, []};
+ghost use Rattle.std.specs.Prelude.{◌∷◌, List, length, replicate, OnOk, OnErr, IfOk, IsErrOf};
 ghost use Rattle.due_model.specs.declared.event.Event.{Event};
 ghost use Rattle.due_model.specs.Accepted.{IsAccepted};
 ghost use Rattle.due_model.specs.Limits.{max_events};
 ghost use Rattle.due_model.specs.Proper.{IsProper};
-ghost use Rattle.due_model.specs.Covered.{IsCovered, IsSupported};
-ghost use Rattle.decider.specs.Decisions.{states_after};
+ghost use Rattle.problem_count.specs.Book.{new_book};
+ghost use Rattle.problem_count.specs.Fits.{FitsNothing};
 
-use crate::book::{Book, Decision, EventContext};
-use crate::decisions::{decide_owned, settle};
-use crate::entries::{Entry, add_entries};
+use crate::reading::{EventContext, Reading};
 use crate::share::Share;
+use crate::staging::{Staged, settle, stage_event};
+use crate::statuses::Statuses;
+use dependency::order::Order;
 use due_model::config::Config;
-use due_model::event::{Event, EventKind};
+use due_model::event::Event;
 use due_model::limits::MAX_EVENTS;
-use due_model::state::State;
 use due_model::zone::Zone;
+use escalation::by_object::ByObject;
+use messages::entries::Entry;
+use outcomes::rules::Rules;
+use problem_count::Book;
+use problem_count::laws::fit_on;
 use std::alloc::{AllocError, Global};
 use std::mem::swap;
 use thiserror::Error;
+use time_period::compile::compile_all;
+use time_period::compiled::Compiled;
 
 /// Why an event isn't decided. Both change nothing.
 #[derive(Clone, Copy, Debug, PartialEq, Eq, Error)]
@@ -33,38 +40,46 @@ pub enum DecideFault {
     Ended,
 }
 
-/// Decides the events one by one, for the objects of its share, and gives the entries of each.
+/// Decides the events one by one, for the objects of its share, and gives the entries of each. It takes in
+/// the hard states, downtimes and flapping of all objects.
 #[derive(Drop)]
 pub struct EventDecider<'a> {
+    alloc: Global,
     config: &'a Config,
     zone: &'a Zone,
     share: Share,
+    /// The periods of the configuration as they are worked out, in the order of their numbers.
+    periods: Vec<Compiled>,
+    /// The escalations of the configuration, by their objects.
+    escalations: ByObject,
+    /// The dependencies of the configuration, by their dependents.
+    dependencies: Order,
     /// How many events were decided.
     count: u64,
     /// The greatest stamp so far.
     moment: u64,
     /// The program switch.
     program: bool,
-    /// The last hard state of each object, in the share or not.
-    states: Vec<State>,
+    /// The status of each object, in the share or not.
+    statuses: Statuses,
     /// The book of each object; those of objects outside the share are never read.
     books: Vec<Book>,
     /// The entries of the last event decided.
     entries: Vec<Entry>,
     /// What is decided of the event under way, kept for its room.
-    decisions: Vec<Decision>,
-    /// The entries of the event under way, kept for their room.
-    staged: Vec<Entry>,
+    staged: Staged,
 }
 
 impl<'a> EventDecider<'a> {
-    ghost use Rattle.decider.specs.Entries.{event_entries, share_entries};
-    ghost use Rattle.decider.specs.Fits.{Fits, HasDecidedNothing, core_kept, last_entries, CanDecideEvent};
-    ghost use Rattle.decider.specs.Fits.{context_of, decisions_by, entries_by, kept_after, settings};
+    ghost use Rattle.messages.specs.Entries.{event_entries};
+    ghost use Rattle.decider.specs.Books.{share_books};
+    ghost use Rattle.decider.specs.Entries.{share_entries};
+    ghost use Rattle.decider.specs.Fits.{Fits, HasDecidedNothing, context_of, core_kept, last_entries};
+    ghost use Rattle.decider.specs.Fits.{kept_after, settings};
     ghost use Rattle.decider.specs.Share.{IsShare};
 
-    /// A decider of the objects of this share, which has decided no event. A refused growth is the only
-    /// error.
+    /// A decider of the objects of this share, which has decided no event. It works out the periods, the
+    /// escalations and the dependencies of the configuration. A refused growth is the only error.
     pub fn new(
         alloc: Global,
         config: &'a Config,
@@ -72,7 +87,6 @@ impl<'a> EventDecider<'a> {
         share: Share,
     ) -> Result<EventDecider<'a>, AllocError>
         requires accepted { IsAccepted config.now }
-        requires covered { IsCovered config.now }
         requires share { IsShare share }
         ensures decided { IfOk result (λ decider.
             HasDecidedNothing config.now zone.now share (core_kept decider)) }
@@ -80,17 +94,20 @@ impl<'a> EventDecider<'a> {
     {
         let count = config.objects.len();
         Ok(EventDecider {
+            alloc,
             config,
             zone,
             share,
+            periods: compile_all(alloc, config)?,
+            escalations: ByObject::new(alloc, config)?,
+            dependencies: Order::new(alloc, config)?,
             count: 0,
             moment: 0,
             program: true,
-            states: vec![in alloc; State::Pending; count]?,
-            books: vec![in alloc; Book::EMPTY; count]?,
+            statuses: Statuses::new(alloc, count)?,
+            books: new_books(alloc, count)?,
             entries: Vec::new(alloc),
-            decisions: Vec::new(alloc),
-            staged: Vec::new(alloc),
+            staged: Staged::new(alloc),
         })
     }
 
@@ -98,7 +115,6 @@ impl<'a> EventDecider<'a> {
     /// `NoMemory` and `Ended` change nothing.
     pub fn decide(&mut self, event: Event) -> Result<(), DecideFault>
         requires proper { IsProper (core_kept self.old).config event }
-        requires supported { IsSupported event.kind }
         requires fits { (past : List Event) × Fits (core_kept self.old) past }
         // It fits the past with the event.
         ensures fits { OnOk result ((past : List Event)
@@ -118,6 +134,7 @@ impl<'a> EventDecider<'a> {
         ensures ended { (past : List Event) → Fits (core_kept self.old) past
             → IsErrOf result DecideFault.Ended ↔ (length past ≡ max_events) }
     {
+        fit_on();
         self.stage(event)?;
         self.commit(event);
         Ok(())
@@ -137,81 +154,87 @@ impl<'a> EventDecider<'a> {
         self.count
     }
 
-    /// What an event finds.
+    /// What an event says, and what it makes of the moment and the switch.
     fn context(&self, event: Event) -> EventContext
         ensures { result ≡ context_of (core_kept self.now) event }
     {
         EventContext {
+            number: self.count,
             kind: event.kind,
             moment: self.moment.max(event.moment),
             program: event.kind.switch_after(self.program),
         }
     }
 
-    /// Decides an event, and stages its entries. Nothing that counts is changed.
+    /// Decides an event, and stages what that gives. Nothing that counts is changed.
     pub(crate) fn stage(&mut self, event: Event) -> Result<(), DecideFault>
-        requires can { CanDecideEvent (core_kept self.old) event }
+        requires proper { IsProper (core_kept self.old).config event }
+        requires fits { (past : List Event) × Fits (core_kept self.old) past }
         ensures kept { core_kept self.new ≡ core_kept self.old }
         ensures entries { last_entries self.new ≡ last_entries self.old }
-        ensures decisions { OnOk result (self.new.decisions.items
-            ≡ decisions_by (core_kept self.old) event) }
-        ensures staged { OnOk result (self.new.staged.items
-            ≡ entries_by (core_kept self.old) event) }
+        ensures books { OnOk result ((past : List Event) → Fits (core_kept self.old) past
+            → self.new.staged.books.items ≡ share_books (core_kept self.old).config
+            (core_kept self.old).zone (core_kept self.old).share event past) }
+        ensures staged { OnOk result ((past : List Event) → Fits (core_kept self.old) past
+            → self.new.staged.entries.items ≡ share_entries (core_kept self.old).config
+            (core_kept self.old).zone (core_kept self.old).share event past) }
         ensures number { OnOk result (self.old.count < max_events) }
         ensures ended { IsErrOf result DecideFault.Ended ↔ (max_events ≤ self.old.count) }
     {
         if self.count >= MAX_EVENTS {
             return Err(DecideFault::Ended);
         }
-        self.decisions.clear();
-        self.staged.clear();
         let context = self.context(event);
-        let objects = self.config.objects.as_slice();
-        decide_owned(
-            objects,
-            self.share,
+        let reading = Reading {
+            rules: Rules {
+                config: self.config,
+                zone: self.zone,
+                periods: &self.periods,
+                escalations: &self.escalations,
+            },
+            share: self.share,
             context,
-            &self.states,
-            &self.books,
-            &mut self.decisions,
+            books: &self.books,
+        };
+        stage_event(
+            self.alloc,
+            &reading,
+            &mut self.dependencies,
+            &mut self.statuses,
+            &mut self.staged,
         )?;
-        add_entries(self.config, self.count, &self.decisions, &mut self.staged)?;
         Ok(())
     }
 
     /// The entries that are staged.
     pub(crate) fn staged(&self) -> &[Entry]
-        ensures { result.now ≡ self.now.staged.items }
+        ensures { result.now ≡ self.now.staged.entries.items }
     {
-        self.staged.as_slice()
+        self.staged.entries.as_slice()
     }
 
     /// Lets what is staged count.
     pub(crate) fn commit(&mut self, event: Event)
-        requires { self.old.count + 1 < 2 ^ 64 }
+        requires proper { IsProper (core_kept self.old).config event }
+        requires fits { (past : List Event) × Fits (core_kept self.old) past }
         ensures kept { core_kept self.new
-            ≡ kept_after (core_kept self.old) event self.old.decisions.items }
-        ensures entries { last_entries self.new ≡ self.old.staged.items }
+            ≡ kept_after (core_kept self.old) event self.old.staged.books.items }
+        ensures entries { last_entries self.new ≡ self.old.staged.entries.items }
     {
-        swap(&mut self.entries, &mut self.staged);
-        settle(&mut self.books, &self.decisions);
-        note_state(&mut self.states, event.kind);
+        swap(&mut self.entries, &mut self.staged.entries);
+        settle(&mut self.books, &self.staged.books);
+        self.statuses.count(event.kind);
         self.program = event.kind.switch_after(self.program);
         self.moment = self.moment.max(event.moment);
         self.count += 1;
     }
 }
 
-/// The hard states after an event.
-fn note_state(states: &mut Vec<State>, kind: EventKind)
-    ensures { states.new.items ≡ states_after kind states.old.items }
+/// The books of so many objects of which nothing is known yet.
+fn new_books(alloc: Global, objects: usize) -> Result<Vec<Book>, AllocError>
+    ensures { IfOk result (λ books. books.items ≡ replicate objects new_book) }
 {
-    if let EventKind::Hard(object, state) = kind {
-        let number = object.0 as usize;
-        if number < states.len() {
-            states[number] = state;
-        }
-    }
+    vec![in alloc; Book::new(); objects]
 }
 
 impl From<AllocError> for DecideFault {

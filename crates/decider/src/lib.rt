@@ -2,17 +2,17 @@
 //! due and which were suppressed.
 #![tactic(auto)]
 
-mod book;
 mod decider;
-mod decisions;
-mod entries;
 mod event_decider;
+mod find;
 mod log;
 mod outbox;
+mod reading;
 mod share;
+mod staging;
+mod statuses;
 
 pub use decider::Decider;
-pub use entries::Entry;
 pub use event_decider::{DecideFault, EventDecider};
 pub use outbox::Outbox;
 pub use share::Share;

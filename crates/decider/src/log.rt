@@ -1,10 +1,10 @@
 //! What a decider notes in its log.
 
 ghost use Rattle.std.specs.Prelude.{◌≡◌, ◌+◌, ◌≤◌, [], ◌∷◌, ◌++◌, length, filter};
-ghost use Rattle.decider.specs.Entries.{is_withheld, suppression_in, suppressions_in};
+ghost use Rattle.messages.specs.Entries.{is_withheld, suppression_in, suppressions_in};
 ghost use Rattle.decider.specs.Log.{HasRoomFor};
 
-use crate::entries::Entry;
+use messages::entries::Entry;
 use suppression_log::Log;
 
 /// Notes the suppressions among these entries, in their order. It takes no memory.

@@ -1,6 +1,6 @@
 //! The notices of one decider that wait for the queues of their lanes.
 
-use crate::entries::{Entry, notices_for};
+use messages::entries::{Entry, notices_for};
 use due_model::config::LaneId;
 use due_model::notice::Notice;
 use std::alloc::{AllocError, Global};
@@ -17,7 +17,7 @@ impl Outbox {
     ghost use Rattle.std.specs.Prelude.{◌≡◌, ◌≢◌, ℕ, ◌<◌, ◌≤◌, ◌+◌, ◌++◌};
     ghost use Rattle.std.specs.Prelude.{[], ◌∷◌, drop, length, replicate, slice_get, slice_set, IfOk};
     ghost use Rattle.std.specs.Prelude.{OnOk};
-    ghost use Rattle.decider.specs.Entries.{notices_on};
+    ghost use Rattle.messages.specs.Entries.{notices_on};
     ghost use Rattle.decider.specs.Outbox.{lists, spare_at, waiting_at, count_for, HasRoomFor};
 
     /// An outbox for so many lanes, in which nothing waits.

@@ -18,8 +18,8 @@ use Rattle.command_output.specs.declared.outcome.Ending.TheVariants.{Short, Whol
 use Rattle.command_output.specs.ReportLine.{refused_line}
 use Rattle.replay.specs.Report.{WritesPart, PassesLines, Ends, Follows, GoesOn, TakesAnswer, WritesReport, WritesReportFront, answer_text, ending_after, ends_short, entries_text, entry_text, given_text, is_ended, is_short, line_of, past_after, report_from, report_text}
 use Rattle.std.proofs.lemmas.Grind.{flat_map-append}
-use Rattle.decider.specs.declared.entries.Entry.{Entry}
-use Rattle.decider.specs.Entries.{event_entries}
+use Rattle.messages.specs.declared.entries.Entry.{Entry}
+use Rattle.messages.specs.Entries.{event_entries}
 use Rattle.decider.specs.Fits.{Fits, Kept}
 use Rattle.command_output.specs.declared.outcome.Ending.{Ending}
 use Rattle.command_output.specs.declared.output_line.OutputLine.{OutputLine}

@@ -5,10 +5,10 @@ use Rattle.due_model.specs.declared.config.Object.{Object}
 use Rattle.due_model.specs.declared.event.Event.{Event}
 use Rattle.due_model.specs.declared.zone.Zone.{Zone}
 use Rattle.due_model.specs.Limits.{max_events}
-use Rattle.decider.specs.declared.entries.Entry.{Entry}
-use Rattle.decider.specs.declared.entries.Entry.TheVariants.{Sent, Withheld}
+use Rattle.messages.specs.declared.entries.Entry.{Entry}
+use Rattle.messages.specs.declared.entries.Entry.TheVariants.{Sent, Withheld}
 use Rattle.decider.specs.declared.share.Share.{Share}
-use Rattle.decider.specs.Entries.{event_entries}
+use Rattle.messages.specs.Entries.{event_entries}
 use Rattle.decider.specs.Fits.{Fits, Kept}
 use Rattle.event_feed.specs.declared.fault.FeedFault.{FeedFault}
 use Rattle.event_feed.specs.declared.fault.FeedFault.TheVariants.{Ended, Read}

@@ -5,10 +5,9 @@ ghost use Rattle.std.specs.Prelude.{false, true, IfErr, IfNone, IfOk, IfSome, No
 ghost use Rattle.command_output.specs.Outcome.{IsWriteFault};
 ghost use Rattle.command_output.specs.Output.{Leaves, WritesFront};
 ghost use Rattle.command_output.specs.ReportLine.{refused_line};
-ghost use Rattle.decider.specs.Entries.{event_entries};
+ghost use Rattle.messages.specs.Entries.{event_entries};
 ghost use Rattle.decider.specs.Fits.{Fits, core_kept, last_entries, settings};
 ghost use Rattle.due_model.specs.Accepted.{IsAccepted};
-ghost use Rattle.due_model.specs.Covered.{IsCovered, IsSupported};
 ghost use Rattle.due_model.specs.Proper.{IsProper};
 ghost use Rattle.due_model.specs.declared.event.Event.{Event};
 ghost use Rattle.event_feed.specs.Feed.{feed_limit, feed_of};
@@ -17,10 +16,11 @@ ghost use Rattle.replay.specs.Report.{answer_text, entries_text, is_ended, line_
 ghost use Rattle.text_lines.specs.Lines.{has_line};
 
 use command_output::{CommandFault, Ending, Lines, OutputLine};
-use decider::{DecideFault, Entry, EventDecider, Share};
+use decider::{DecideFault, EventDecider, Share};
 use due_model::config::Config;
 use due_model::event::Event;
 use due_model::zone::Zone;
+use messages::entries::Entry;
 use event_feed::{FeedFault, Feeder};
 use std::alloc::{AllocError, Global};
 use std::io::{Read, Write};
@@ -52,7 +52,6 @@ impl<'a, R: Input + Drop> Report<'a, R> {
         lines: LineReader<R>,
     ) -> Result<Self, AllocError>
         requires accepted { IsAccepted config.now }
-        requires covered { IsCovered config.now }
         ensures config { IfOk result (λ report. report.config.now ≡ config.now) }
         ensures zone { IfOk result (λ report. report.zone.now ≡ zone.now) }
         ensures feed { IfOk result (λ report. report.feeder ≡ feed_of lines 0 0 None) }
@@ -141,7 +140,6 @@ impl<'a, R: Input + Drop> Report<'a, R> {
         line: u64,
     ) -> Result<Option<Ending>, CommandFault>
         requires proper { IsProper self.old.config.now event }
-        requires supported { IsSupported event.kind }
         requires fits { (past : List Event) × Fits (core_kept self.old.decider) past }
         ensures config { self.new.config.now ≡ self.old.config.now }
         ensures zone { self.new.zone.now ≡ self.old.zone.now }

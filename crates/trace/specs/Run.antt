@@ -1,7 +1,7 @@
 -- A run of steps in a world, and what a step line does in it.
 use Rattle.std.specs.Prelude.{◌≡◌, ℕ, ◌+◌, ◌≤◌, ◌⊎◌, All, List, [], length, slice_get, Option, Some}
 use Rattle.std.specs.Option.{option_map}
-use Rattle.due_model.specs.Covered.{IsPlainEvent}
+use Rattle.due_model.specs.Proper.{IsProper}
 use Rattle.due_model.specs.Limits.{max_deciders, max_lanes, max_objects}
 use Rattle.due_model.specs.declared.config.Config.{Config}
 use Rattle.due_model.specs.declared.event.Event.{Event}
@@ -10,7 +10,7 @@ use Rattle.command_output.specs.declared.trace_line.StepRefusal.TheVariants.{Bad
 use Rattle.text_lines.specs.LineReader.{line_limit}
 use Rattle.steps.specs.declared.step.Step.{Step}
 use Rattle.steps.specs.declared.step.Step.TheVariants.{Post}
-use Rattle.world_steps.specs.Steps.{IsEnabled, IsPlainStep, after}
+use Rattle.world_steps.specs.Steps.{IsEnabled, IsProperStep, after}
 use Rattle.world_steps.specs.Views.{world_setup, world_state}
 use Rattle.world_steps.specs.Worlds.{Setup, WorldState}
 use Rattle.trace.specs.declared.run.Run.{Run}
@@ -38,12 +38,12 @@ pub record Fits (run : Run) : Type 0 where
   pub count : (1 ≤ run.deciders) × (run.deciders ≤ max_deciders)
   pub lanes : length run.config.now.lanes ≤ max_lanes
   pub objects : length run.config.now.objects ≤ max_objects
-  pub events : All (IsPlainEvent run.config.now) run.events.items
+  pub events : All (IsProper run.config.now) run.events.items
 
 -- a line that says a post posts what a feed gave, and another line says no post
-abbrev pub IsPlainLine : Config → StepLine → Type 0
-IsPlainLine c PostNext = Unit {0}
-IsPlainLine c (Do step) = IsPlainStep c step
+abbrev pub IsProperLine : Config → StepLine → Type 0
+IsProperLine c PostNext = Unit {0}
+IsProperLine c (Do step) = IsProperStep c step
 
 -- the step that a line says: a post is of the next event of the feed, if there is one
 abbrev pub step_said : RunState → StepLine → Option Step

@@ -2,7 +2,7 @@
 
 ghost use Rattle.std.specs.Prelude.{◌≡◌, ◌+◌, ◌<◌, ◌≤◌, ◌↔◌, ◌++◌, true};
 ghost use Rattle.std.specs.Prelude.{IfErr, IfNone, IfOk, IfSome, None, Ok, Err, OnOk};
-ghost use Rattle.due_model.specs.Covered.{IsPlainEvent};
+ghost use Rattle.due_model.specs.Proper.{IsProper};
 ghost use Rattle.command_output.specs.Outcome.{IsWriteFault};
 ghost use Rattle.command_output.specs.Output.{Leaves};
 ghost use Rattle.event_feed.specs.Feed.{feed_limit};
@@ -155,7 +155,7 @@ fn keep_event<W: Write>(
     line: u64,
 ) -> Result<(), CommandFault>
     requires fits { Fits run.old }
-    requires plain { IsPlainEvent run.old.config.now event }
+    requires proper { IsProper run.old.config.now event }
     ensures fits { Fits run.new }
     ensures unmoved { Unmoved run.old run.new }
     ensures events { OnOk result (run.new.events.items

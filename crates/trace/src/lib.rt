@@ -3,7 +3,6 @@
 
 ghost use Rattle.std.specs.Prelude.{IfErr, IfOk, IfSome};
 ghost use Rattle.due_model.specs.Accepted.{IsAccepted};
-ghost use Rattle.due_model.specs.Covered.{IsCovered};
 ghost use Rattle.command_output.specs.Outcome.{IsWriteFault};
 ghost use Rattle.text_lines.specs.LineReader.{to_come};
 ghost use Rattle.trace.specs.Trace.{FailsWith, Traces, TracesFeed};
@@ -60,7 +59,6 @@ fn trace_feed<R: Input + Drop, W: Write>(
     writer: &mut W,
 ) -> Result<Ending, CommandFault>
     requires accepted { IsAccepted config.now }
-    requires covered { IsCovered config.now }
     ensures traces { IfOk result (λ ending. IfSome (to_come source) (λ bytes.
         TracesFeed R.can_fail config.now settings bytes ending
         (W.contents writer.old) (W.contents writer.new))) }

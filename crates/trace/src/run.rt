@@ -5,7 +5,7 @@ ghost use Rattle.command_output.specs.Outcome.{IsWriteFault};
 ghost use Rattle.command_output.specs.Output.{Leaves};
 ghost use Rattle.world_steps.specs.Views.{world_setup, world_state};
 ghost use Rattle.trace.specs.StepLine.{Spells};
-ghost use Rattle.trace.specs.Run.{Does, DoesSaid, Fits, IsEnabledIn, IsPlainLine, run_state};
+ghost use Rattle.trace.specs.Run.{Does, DoesSaid, Fits, IsEnabledIn, IsProperLine, run_state};
 
 use crate::refusal::refuse;
 use crate::step_line::{StepLine, read_step};
@@ -66,7 +66,7 @@ pub(crate) fn do_line<W: Write>(
 /// Does what a step line says. A post of an event that isn't there isn't enabled.
 fn do_step(run: &mut Run<'_>, said: StepLine) -> Result<(), StepFault>
     requires fits { Fits run.old }
-    requires plain { IsPlainLine run.old.config.now said }
+    requires proper { IsProperLine run.old.config.now said }
     ensures fits { Fits run.new }
     ensures refused { IsErrOf result StepFault.NotEnabled
         ↔ ¬ IsEnabledIn (world_setup run.old.world) (run_state run.old) said }

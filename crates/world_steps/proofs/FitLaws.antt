@@ -105,8 +105,7 @@ pub fits_then : {s : Setup} {posted : List Event} {deciders : List KeptDecider} 
     → state_of posted deciders2 lanes2 ≡ w → StateFits s w → Fits s posted deciders2 lanes2
 fits_then {s = s} fits deciders2 lanes2 w each same state = record {
   accepted = fits.accepted;
-  covered = fits.covered;
-  plain = fits.plain;
+  proper = fits.proper;
   short = fits.short;
   each = each;
   state = subst (StateFits s) (sym same) state;

@@ -9,7 +9,7 @@ use Rattle.due_model.specs.declared.event.Event.{Event}
 use Rattle.due_model.specs.declared.notice.Notice.{Notice}
 use Rattle.due_model.specs.declared.zone.Zone.{Zone}
 use Rattle.due_model.specs.Limits.{max_events}
-use Rattle.due_model.specs.Covered.{IsPlainEvent}
+use Rattle.due_model.specs.Proper.{IsProper}
 use Rattle.due_laws.specs.Laws.{NoticesTellOfEvents}
 use Rattle.lemmas.proofs.Lists.{past_more}
 use Rattle.decider.specs.declared.share.Share.{Share}
@@ -37,20 +37,19 @@ module _ (s : Setup) (posted : List Event) (deciders : List KeptDecider) (lanes 
 
   -- ---- posting
 
-  pub fits_posted : (e : Event) → IsPlainEvent s.config e → length posted < max_events → Fits s (posted ++ e ∷ []) deciders lanes
-  fits_posted e plain room = record {
+  pub fits_posted : (e : Event) → IsProper s.config e → length posted < max_events → Fits s (posted ++ e ∷ []) deciders lanes
+  fits_posted e proper room = record {
     accepted = fits.accepted;
-    covered = fits.covered;
-    plain = All-push (IsPlainEvent s.config) posted e fits.plain plain;
+    proper = All-push (IsProper s.config) posted e fits.proper proper;
     short = omega (arith, length-append posted (e ∷ []), room);
     each = λ d x found. fits_more s posted d x e (fits.each d x found);
     state = post_after s w fits.state e;
   }
 
   -- and where the growth may have been refused
-  pub fits_pushed : (e : Event) → IsPlainEvent s.config e → length posted < max_events → (b : Bool) → Fits s (cond b (posted ++ e ∷ []) posted) deciders lanes
-  fits_pushed e plain room true = fits_posted e plain room
-  fits_pushed e plain room false = fits
+  pub fits_pushed : (e : Event) → IsProper s.config e → length posted < max_events → (b : Bool) → Fits s (cond b (posted ++ e ∷ []) posted) deciders lanes
+  fits_pushed e proper room true = fits_posted e proper room
+  fits_pushed e proper room false = fits
 
   -- ---- a step of a lane
 

@@ -14,8 +14,7 @@ use Rattle.due_model.specs.declared.notice.Notice.{Notice}
 use Rattle.due_model.specs.declared.zone.Zone.{Zone}
 use Rattle.due_model.specs.Accepted.{IsAccepted, IsHost}
 use Rattle.due_model.specs.Limits.{max_events}
-use Rattle.due_model.specs.Proper.{KindIsProper, is_state_of}
-use Rattle.due_model.specs.Covered.{IsCovered, IsPlainEvent, IsSupported}
+use Rattle.due_model.specs.Proper.{IsProper, KindIsProper, is_state_of}
 use Rattle.decider.specs.Fits.{Kept, kept, settings}
 use Rattle.decider.specs.Fits as decider
 use Rattle.decider.specs.Outbox.{lists}
@@ -69,8 +68,7 @@ pub record StateFits (s : Setup) (w : WorldState) : Type 0 where
 pub record Fits (s : Setup) (posted : List Event) (deciders : List KeptDecider)
     (lanes : List KeptLane) : Type 0 where
   pub accepted : IsAccepted s.config
-  pub covered : IsCovered s.config
-  pub plain : All (IsPlainEvent s.config) posted
+  pub proper : All (IsProper s.config) posted
   pub short : length posted ≤ max_events
   pub each : (d : ℕ) (x : KeptDecider) → slice_get deciders d ≡ Some x → DeciderFits s posted d x
   pub state : StateFits s (state_of posted deciders lanes)
@@ -111,18 +109,11 @@ KindIsProper-prop c (Hard o state) =
 KindIsProper-prop c (Downtime o change) = hlevel props
 KindIsProper-prop c (Flapping o starts) = hlevel props
 
-IsSupported-prop : (kind : EventKind) → IsProp (IsSupported kind)
-IsSupported-prop Clock = hlevel props
-IsSupported-prop (Program on) = hlevel props
-IsSupported-prop (Hard o state) = hlevel props
-IsSupported-prop (Downtime o change) = hlevel props
-IsSupported-prop (Flapping o starts) = hlevel props
-
 IsAccepted-prop : (c : Config) → IsProp (IsAccepted c)
 IsAccepted-prop c = hlevel (props, IsHost-prop)
 
 past-prop : (k : Kept) (past : List Event) → IsProp (decider.Fits k past)
-past-prop k past = hlevel (props, IsAccepted-prop, KindIsProper-prop, IsSupported-prop)
+past-prop k past = hlevel (props, IsAccepted-prop, KindIsProper-prop)
 
 DeciderFits-prop : (s : Setup) (posted : List Event) (d : ℕ) (x : KeptDecider)
     → IsProp (DeciderFits s posted d x)
@@ -139,7 +130,6 @@ Fits-prop s posted deciders lanes =
       props,
       IsAccepted-prop,
       KindIsProper-prop,
-      IsSupported-prop,
       DeciderFits-prop,
       StateFits-prop,
     )

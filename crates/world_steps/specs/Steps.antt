@@ -6,7 +6,7 @@ use Rattle.due_model.specs.declared.event.Event.{Event}
 use Rattle.due_model.specs.declared.notice.Notice.{Notice}
 use Rattle.due_model.specs.declared.config.Config.{Config}
 use Rattle.due_model.specs.Limits.{max_events}
-use Rattle.due_model.specs.Covered.{IsPlainEvent}
+use Rattle.due_model.specs.Proper.{IsProper}
 use Rattle.decider.specs.declared.share.Share.{Share}
 use Rattle.decider.specs.Decider.{gained}
 use Rattle.steps.specs.declared.step.Step.{Step}
@@ -71,12 +71,12 @@ with_decider w d f = record w { deciders = slice_set w.deciders d (f (decider_at
 abbrev pub past_of : WorldState → ℕ → List Event
 past_of w d = reverse (take (decider_at w d).decided w.posted)
 
--- a step that posts, if it is one, posts what the feed gives and is supported so far
-abbrev pub IsPlainStep : Config → Step → Type 0
-IsPlainStep c (Post e) = IsPlainEvent c e
-IsPlainStep c (Decide d) = Unit {0}
-IsPlainStep c (Put d l) = Unit {0}
-IsPlainStep c (Lane l step) = Unit {0}
+-- a step that posts, if it is one, posts what the feed gives
+abbrev pub IsProperStep : Config → Step → Type 0
+IsProperStep c (Post e) = IsProper c e
+IsProperStep c (Decide d) = Unit {0}
+IsProperStep c (Put d l) = Unit {0}
+IsProperStep c (Lane l step) = Unit {0}
 
 -- THE TABLE: when a step is enabled
 abbrev pub IsEnabled : Setup → WorldState → Step → Type 0

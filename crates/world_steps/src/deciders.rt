@@ -2,7 +2,6 @@
 
 ghost use Rattle.std.specs.Prelude.{◌≡◌, ℕ, [], Some, length, map, replicate, slice_get, IfOk};
 ghost use Rattle.due_model.specs.Accepted.{IsAccepted};
-ghost use Rattle.due_model.specs.Covered.{IsCovered};
 ghost use Rattle.world_steps.specs.declared.deciders.KeptDecider.{KeptDecider as KeptDeciderOf};
 ghost use Rattle.world_steps.specs.Worlds.{new_decider, setup_for};
 ghost use Rattle.world_steps.specs.Fits.{decider_state, DeciderFits};
@@ -28,7 +27,6 @@ pub(crate) fn new_deciders<'a>(
     settings: Settings,
 ) -> Result<Vec<KeptDecider<'a>>, AllocError>
     requires accepted { IsAccepted config.now }
-    requires covered { IsCovered config.now }
     ensures states { IfOk result (λ deciders.
         map decider_state deciders.items
         ≡ replicate settings.deciders (new_decider (length config.now.lanes))) }

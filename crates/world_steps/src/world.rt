@@ -34,10 +34,10 @@ impl<'a> World<'a> {
     ghost use Rattle.std.specs.Prelude.{◌≡◌, ◌↔◌, ◌<◌, length, All, IsTrue, IfOk, OnOk};
     ghost use Rattle.std.specs.Prelude.{OnErr, IfErr, IsErrOf};
     ghost use Rattle.due_model.specs.Accepted.{IsAccepted};
-    ghost use Rattle.due_model.specs.Covered.{IsCovered, IsPlainEvent};
+    ghost use Rattle.due_model.specs.Proper.{IsProper};
     ghost use Rattle.due_model.specs.Due.{due};
     ghost use Rattle.world_steps.specs.Worlds.{lane_at, outbox_at};
-    ghost use Rattle.world_steps.specs.Steps.{CanDecide, CanPut, IsEnabled, IsPlainStep, after, past_of};
+    ghost use Rattle.world_steps.specs.Steps.{CanDecide, CanPut, IsEnabled, IsProperStep, after, past_of};
     ghost use Rattle.steps.specs.Lanes.{about};
     ghost use Rattle.world_steps.specs.Lines.{decider_of, line, LinesAreDue, NoticesStandOnce};
     ghost use Rattle.world_steps.specs.Runs.{new_world, LeadsTo, StopsAt, ShutTakesNothing};
@@ -53,7 +53,6 @@ impl<'a> World<'a> {
         served: &[bool],
     ) -> Result<World<'a>, AllocError>
         requires accepted { IsAccepted config.now }
-        requires covered { IsCovered config.now }
         requires served { length served.now ≡ length config.now.lanes }
         ensures setup { IfOk result (λ world.
             world_setup world ≡ setup_for config.now zone.now settings) }
@@ -179,7 +178,7 @@ impl<'a> World<'a> {
 
     /// Appends an event to the posted ones. A refused growth changes nothing.
     fn post(&mut self, event: Event) -> Result<(), AllocError>
-        requires plain { IsPlainEvent (world_setup self.old).config event }
+        requires proper { IsProper (world_setup self.old).config event }
         requires enabled { IsEnabled (world_setup self.old) (world_state self.old)
             (Step.Post event) }
         ensures ok { OnOk result (world_state self.new
@@ -248,7 +247,7 @@ impl<'a> World<'a> {
 
     /// Does an enabled step. A refused growth changes nothing.
     fn perform(&mut self, step: Step) -> Result<(), AllocError>
-        requires plain { IsPlainStep (world_setup self.old).config step }
+        requires proper { IsProperStep (world_setup self.old).config step }
         requires enabled { IsEnabled (world_setup self.old) (world_state self.old) step }
         ensures ok { OnOk result (world_state self.new
             ≡ after (world_setup self.old) (world_state self.old) step) }
@@ -265,7 +264,7 @@ impl<'a> World<'a> {
 
     /// Does a step. `NotEnabled` comes exactly where the step isn't enabled; it and `NoMemory` change nothing.
     pub fn apply(&mut self, step: Step) -> Result<(), StepFault>
-        requires { IsPlainStep (world_setup self.old).config step }
+        requires { IsProperStep (world_setup self.old).config step }
         // It isn't enabled: that, and nothing else, is what `NotEnabled` says.
         ensures refused { IsErrOf result StepFault.NotEnabled
             ↔ ¬ IsEnabled (world_setup self.old) (world_state self.old) step }
@@ -286,7 +285,7 @@ impl<'a> World<'a> {
 
     /// Does these steps in order, up to the first that is refused, and says which that is and why.
     pub fn run(&mut self, steps: &[Step]) -> Result<(), Stopped>
-        requires { All (IsPlainStep (world_setup self.old).config) steps.now }
+        requires { All (IsProperStep (world_setup self.old).config) steps.now }
         ensures ok { OnOk result
             (LeadsTo (world_setup self.old) (world_state self.old) steps.now
             (world_state self.new)) }

@@ -1,5 +1,5 @@
 use Rattle.std.proofs.Common.{◌≡◌, ◌++◌, drop}
-use Rattle.decider.specs.Entries.{suppressions_in}
+use Rattle.messages.specs.Entries.{suppressions_in}
 use Rattle.decider.specs.Log.{HasRoomFor}
 use Rattle.decider.proofs.log.note.Given as goal
 

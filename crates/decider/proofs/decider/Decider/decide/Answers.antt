@@ -2,8 +2,8 @@ use Rattle.std.proofs.Common.{◌<◌, List, [], ◌∷◌, ◌++◌, length, sl
 use Rattle.due_model.specs.declared.notice.Notice.{Notice}
 use Rattle.due_model.specs.declared.notice.Suppression.{Suppression}
 use Rattle.decider.specs.declared.book.Decision.{Decision}
-use Rattle.decider.specs.declared.entries.Entry.{Entry}
-use Rattle.decider.specs.Entries.{notices_on, suppressions_in}
+use Rattle.messages.specs.declared.entries.Entry.{Entry}
+use Rattle.messages.specs.Entries.{notices_on, suppressions_in}
 use Rattle.decider.specs.Fits.{Kept, Fits, core_kept, kept, kept_after}
 use Rattle.decider.specs.Outbox.{lists, waiting_at}
 use Rattle.decider.proofs.FitLaws.{can_decide, entries_law, fits_after, fits_with_log}

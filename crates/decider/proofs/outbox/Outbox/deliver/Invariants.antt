@@ -1,5 +1,5 @@
 use Rattle.std.proofs.Common.{◌≡◌, ℕ, ◌<◌, ◌++◌, length, drop}
-use Rattle.decider.specs.Entries.{notices_on}
+use Rattle.messages.specs.Entries.{notices_on}
 use Rattle.decider.specs.Outbox.{lists, waiting_at, HasRoomFor}
 use Rattle.decider.proofs.outbox.Outbox.deliver.Given as goal
 

@@ -1,7 +1,7 @@
 use Rattle.std.proofs.Common.{◌≡◌, ◌+◌, ◌-◌, ◌<◌, ◌++◌, [], ◌∷◌, length, map, get_or, set, sym, ap, ◌∙◌, arith, deque_items, deque_len, deque_capacity}
 use Rattle.std.proofs.lemmas.List.{length-map}
-use Rattle.decider.specs.declared.entries.Entry.{Entry}
-use Rattle.decider.specs.Entries.{notices_on}
+use Rattle.messages.specs.declared.entries.Entry.{Entry}
+use Rattle.messages.specs.Entries.{notices_on}
 use Rattle.decider.specs.Outbox.{count_for, waiting_at, lists}
 use Rattle.lemmas.proofs.Writes.{at_longer, map-set_by}
 use Rattle.decider.proofs.OutboxLaws.{has_place, one_less}

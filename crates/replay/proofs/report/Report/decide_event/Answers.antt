@@ -4,9 +4,9 @@ use Rattle.due_model.specs.declared.config.Config.{Config}
 use Rattle.due_model.specs.declared.zone.Zone.{Zone}
 use Rattle.due_model.specs.Limits.{max_events}
 use Rattle.due_model.specs.Proper.{IsProper}
-use Rattle.decider.specs.declared.entries.Entry.{Entry}
+use Rattle.messages.specs.declared.entries.Entry.{Entry}
 use Rattle.decider.specs.declared.share.Share.{Share}
-use Rattle.decider.specs.Entries.{event_entries}
+use Rattle.messages.specs.Entries.{event_entries}
 use Rattle.replay.specs.Report.{entries_text, is_ended}
 use Rattle.replay.proofs.ReportLaws.{event_text, ok_is_no_fault, text_of_end}
 use Rattle.command_output.specs.OutputLaws.{front_longer, front_same, leaves_same}

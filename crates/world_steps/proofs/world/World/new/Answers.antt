@@ -1,7 +1,7 @@
 use Rattle.std.proofs.Common.{◌≡◌, List, [], length, map, replicate, sym, ap, ◌∙◌, subst, arith}
 use Rattle.std.proofs.lemmas.List.Elements.{All-nil}
 use Rattle.due_model.specs.declared.event.Event.{Event}
-use Rattle.due_model.specs.Covered.{IsPlainEvent}
+use Rattle.due_model.specs.Proper.{IsProper}
 use Rattle.steps.specs.Lanes.{LaneState}
 use Rattle.world_steps.specs.Worlds.{DeciderState, new_decider, setup_for}
 use Rattle.world_steps.specs.Runs.{new_world}
@@ -24,8 +24,7 @@ invariant_of-result c =
     record {
       fits = subst (λ (posted : List Event). Fits s posted deciders lanes) (sym none) (record {
         accepted = c.requires.accepted;
-        covered = c.requires.covered;
-        plain = All-nil (IsPlainEvent config);
+        proper = All-nil (IsProper config);
         short = omega arith;
         each = fresh.fits;
         state = subst (StateFits s) (sym state) (new_fits s c.args.served.now c.requires.served);

@@ -10,5 +10,5 @@ invariant_of-self c =
     let w = c.args.self.now in
     record {
       fits = subst (λ (posted : List Event). Fits (world_setup w) posted w.deciders.items w.lanes.items) (sym c.push.ensures.items)
-          (fits_pushed (world_setup w) w.posted.items w.deciders.items w.lanes.items w.fits c.args.event c.requires.plain c.requires.enabled (is_ok c.push.result));
+          (fits_pushed (world_setup w) w.posted.items w.deciders.items w.lanes.items w.fits c.args.event c.requires.proper c.requires.enabled (is_ok c.push.result));
     }

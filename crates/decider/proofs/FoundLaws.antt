@@ -1,0 +1,64 @@
+-- What an event finds of an object is the definitions'.
+use Rattle.std.proofs.Common.{◌≡◌, ℕ, ◌<◌, cond, ◌==◌, List, ◌∷◌, length, set, get_or, Option, Some, None, refl, sym, ap, ◌∙◌, arith}
+use Rattle.due_model.specs.declared.config.Config.{Config}
+use Rattle.due_model.specs.declared.config.ObjectId.{ObjectId}
+use Rattle.due_model.specs.declared.event.Event.{Event}
+use Rattle.due_model.specs.declared.event.EventKind.{EventKind}
+use Rattle.due_model.specs.declared.event.EventKind.TheVariants as event
+use Rattle.due_model.specs.declared.rules.ObjectStatus.{ObjectStatus}
+use Rattle.due_model.specs.declared.state.State.{State}
+use Rattle.due_model.specs.declared.state.State.TheVariants.{Pending}
+use Rattle.due_model.specs.declared.zone.Zone.{Zone}
+use Rattle.due_model.specs.Dependencies.{dependency_fails}
+use Rattle.due_model.specs.Proper.{IsProper}
+use Rattle.due_model.specs.Readings.{hard, hard_after, moment}
+use Rattle.dependency.specs.Entry.{state_of}
+use Rattle.lemmas.proofs.Writes.{at_set}
+use Rattle.decider.specs.Statuses.{StatusLists, StatusesFit, hard_by, named_by, status_at, status_by}
+use Rattle.decider.proofs.StatusLaws.{named_within}
+
+-- an event that gives no hard state leaves them all
+no_hard : (k : EventKind) → hard_by k ≡ None → (m : ℕ) (x : State) → hard_after m k x ≡ x
+no_hard event.Clock is m x = refl
+no_hard (event.Program on) is m x = refl
+no_hard (event.Hard p state) is m x = cc
+no_hard (event.Downtime p change) is m x = refl
+no_hard (event.Flapping p starts) is m x = refl
+
+-- one that gives it to an object changes that of the object alone
+one_hard : (k : EventKind) (p : ObjectId) (state : State) → hard_by k ≡ Some (p, state) → (m : ℕ) (x : State) → hard_after m k x ≡ cond (p.0 == m) state x
+one_hard event.Clock p state is m x = cc
+one_hard (event.Program on) p state is m x = cc
+one_hard (event.Hard q now) p state is m x = cc
+one_hard (event.Downtime q change) p state is m x = cc
+one_hard (event.Flapping q starts) p state is m x = cc
+
+pub hard_named : (k : EventKind) (p : ObjectId) (state : State) → hard_by k ≡ Some (p, state) → named_by k ≡ Some p
+hard_named event.Clock p state is = cc
+hard_named (event.Program on) p state is = cc
+hard_named (event.Hard q now) p state is = cc
+hard_named (event.Downtime q change) p state is = cc
+hard_named (event.Flapping q starts) p state is = cc
+
+-- by states that agree a dependency fails alike
+by_states : (c : Config) (zone : Zone) (f g : ℕ → State) (t o : ℕ) → ((m : ℕ) → f m ≡ g m) → dependency_fails c zone f t o ≡ dependency_fails c zone g t o
+by_states c zone f g t o same = ap (λ (states : ℕ → State). dependency_fails c zone states t o) (λ i m. same m i)
+
+module _ (c : Config) (zone : Zone) (e : Event) (past : List Event) (s : StatusLists) (fit : StatusesFit (length c.objects) past s) (o t : ℕ) (at : t ≡ moment (e ∷ past)) where
+  known : (m : ℕ) → state_of s.states m ≡ hard m past
+  known m = ap (λ (status : ObjectStatus). status.state) (fit.each m)
+
+  -- by the states that are kept, where the event gives none
+  pub depends_without : hard_by e.kind ≡ None
+      → dependency_fails c zone (state_of s.states) t o ≡ dependency_fails c zone (λ master. hard master (e ∷ past)) (moment (e ∷ past)) o
+  depends_without none =
+      by_states c zone (state_of s.states) (λ master. hard master (e ∷ past)) t o (λ m. known m ∙ sym (no_hard e.kind none m (hard m past)))
+      ∙ ap (λ (n : ℕ). dependency_fails c zone (λ master. hard master (e ∷ past)) n o) at
+
+  -- and with the one that it gives
+  pub depends_with : (p : ObjectId) (state : State) → hard_by e.kind ≡ Some (p, state) → p.0 < length c.objects
+      → dependency_fails c zone (state_of (set s.states p.0 state)) t o ≡ dependency_fails c zone (λ master. hard master (e ∷ past)) (moment (e ∷ past)) o
+  depends_with p state given within =
+      by_states c zone (state_of (set s.states p.0 state)) (λ master. hard master (e ∷ past)) t o
+      (λ m. at_set s.states p.0 m state Pending (omega (arith, fit.states, within)) ∙ ap (cond (p.0 == m) state) (known m) ∙ sym (one_hard e.kind p state given m (hard m past)))
+      ∙ ap (λ (n : ℕ). dependency_fails c zone (λ master. hard master (e ∷ past)) n o) at

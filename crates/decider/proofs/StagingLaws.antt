@@ -1,0 +1,109 @@
+-- What is staged is what the definitions say.
+use Rattle.std.proofs.Common.{◌≡◌, ◌≢◌, ℕ, ◌+◌, ◌^◌, ◌<◌, ◌≤◌, Bool, true, false, cond, List, [], ◌∷◌, ◌++◌, length, slice_get, slice_index_or, Option, Some, None, refl, sym, ap, subst, ◌∙◌, arith, inl, inr}
+use Rattle.std.specs.Option.{option_map_or}
+use Rattle.std.proofs.lemmas.Option.{slice_get_cases}
+use Rattle.due_model.specs.declared.config.Object.{Object}
+use Rattle.due_model.specs.declared.config.ObjectId.{ObjectId}
+use Rattle.due_model.specs.declared.event.Event.{Event}
+use Rattle.due_model.specs.declared.event.EventKind.{EventKind}
+use Rattle.due_model.specs.declared.event.EventKind.TheVariants as event
+use Rattle.due_model.specs.declared.notice.Outcome.{Outcome}
+use Rattle.due_model.specs.declared.rules.ObjectStatus.{ObjectStatus}
+use Rattle.due_model.specs.Limits.{last_moment, max_events}
+use Rattle.due_model.specs.Readings.{moment}
+use Rattle.lemmas.proofs.Numbers.{flat_below, flat_none, flat_one}
+use Rattle.messages.specs.Entries.{object_entries, outcome_entries}
+use Rattle.outcomes.specs.declared.found.Found.{Found}
+use Rattle.outcomes.specs.Found.{IsFound}
+use Rattle.problem_count.specs.Book.{BookValues, new_book}
+use Rattle.problem_count.specs.Fits.{BookFits, book_of, outcome_at}
+use Rattle.problem_count.specs.Laws.{CountsAreFew, UntouchedFit, touches}
+use Rattle.decider.specs.declared.staging.NewBook.{NewBook}
+use Rattle.decider.specs.Books.{book_after, is_touched, new_books, share_books}
+use Rattle.decider.specs.Entries.{share_entries}
+use Rattle.decider.specs.Events.{IsAt, Values}
+use Rattle.decider.specs.Share.{is_owned}
+use Rattle.decider.specs.Statuses.{named_by}
+use Rattle.decider.proofs.BookLaws.{no_books, no_entries, touches_other}
+use Rattle.decider.proofs.StatusLaws.{depth_few, named_within}
+
+-- an element within a list
+pub found_at : {X : Type 0} (xs : List X) (i : ℕ) → i < length xs → (x : X) × (slice_get xs i ≡ Some x)
+found_at xs i h = elim (slice_get_cases xs i).1 [
+  | inl within ↦ (within.0, within.2)
+  | inr past ↦ absurd (omega (arith, past.0))
+]
+
+module _ (v : Values) (e : Event) (past : List Event) (is : IsAt v e past) (o : ℕ) (settings : Object) (at : slice_get v.config.objects o ≡ Some settings) where
+  -- the book that is kept of an object of the share fits
+  module _ (owned : is_owned v.share o ≡ true) (book : BookValues) (kept : book ≡ slice_index_or v.books o new_book) where
+    pub book_fits : BookFits v.config v.zone o settings past book
+    book_fits = kept ∙ is.kept.each o settings at owned
+
+    pub number_fits : CountsAreFew → book.sent + 2 < 2 ^ 64
+    number_fits few = omega (arith, few v.config v.zone o settings past book book_fits, is.short)
+
+    -- what is touched by the book is touched
+    pub touched_is : touches o v.context.kind book.due v.context.moment ≡ is_touched v.config v.zone e past o settings
+    touched_is =
+        ap (λ (k : EventKind). touches o k book.due v.context.moment) is.says
+        ∙ ap (λ (t : ℕ). touches o e.kind book.due t) is.at
+        ∙ ap (λ (b : BookValues). touches o e.kind b.due (moment (e ∷ past))) book_fits
+
+    pub state_fits : (found : Found) → IsFound v.config v.zone o settings e past found → book.state ≡ found.before.state
+    state_fits found finds = ap (λ (b : BookValues). b.state) book_fits ∙ sym (ap (λ (s : ObjectStatus). s.state) finds.before)
+
+  -- what is found is within the bounds that deciding asks for
+  module _ (found : Found) (finds : IsFound v.config v.zone o settings e past found) where
+    pub moment_fits : found.moment ≤ last_moment
+    moment_fits = omega (arith, finds.at, is.at, is.in_time)
+
+    pub depth_fits : found.before.depth + 1 < 2 ^ 64
+    depth_fits = omega (arith, ap (λ (s : ObjectStatus). s.depth) finds.before, depth_few o past, is.short)
+
+  -- the entries of the outcome are the object's
+  pub entries_are : (outcome : Outcome) → outcome ≡ outcome_at v.config v.zone o settings e past
+      → outcome_entries v.config v.zone o settings v.context.number outcome ≡ object_entries v.config v.zone e past o
+  entries_are outcome same =
+      ap (λ (n : ℕ). outcome_entries v.config v.zone o settings n outcome) is.number
+      ∙ ap (outcome_entries v.config v.zone o settings (length past)) same
+      ∙ sym (ap (λ (found : Option Object). option_map_or (λ object. outcome_entries v.config v.zone o object (length past) (outcome_at v.config v.zone o object e past)) found []) at)
+
+  -- the new book is the object's
+  pub book_is : (i : ObjectId) (book : BookValues) → i.0 ≡ o → BookFits v.config v.zone o settings (e ∷ past) book
+      → (let new : NewBook = record { object = i; book = book } in new ∷ []) ≡ book_after v.config v.zone e past o
+  book_is i book number fits =
+      ap (λ (n : ℕ). let new : NewBook = record { object = record { 0 = n }; book = book } in new ∷ []) number
+      ∙ ap (λ (b : BookValues). let new : NewBook = record { object = record { 0 = o }; book = b } in new ∷ []) fits
+      ∙ sym (ap (λ (found : Option Object). option_map_or (λ object. let new : NewBook = record { object = record { 0 = o }; book = book_of v.config v.zone o object (e ∷ past) } in new ∷ []) found []) at)
+
+-- ---- all objects of the share
+
+module _ (laws : UntouchedFit) (v : Values) (e : Event) (past : List Event) (is : IsAt v e past) where
+  -- an event that names an object gives entries and books of that one alone
+  pub named_entries : (p : ObjectId) → named_by v.context.kind ≡ Some p
+      → share_entries v.config v.zone v.share e past ≡ cond (is_owned v.share p.0) (object_entries v.config v.zone e past p.0) []
+  named_entries p named =
+      let names : named_by e.kind ≡ Some p = sym (ap named_by is.says) ∙ named in
+      flat_one (object_entries v.config v.zone e past) (is_owned v.share) (length v.config.objects) p.0 (named_within v.config e.kind is.proper.kind p names)
+      (λ o below ne. no_entries laws v.config v.zone e past o (λ settings at. touches_other e.kind p names o ne (book_of v.config v.zone o settings past).due (moment (e ∷ past))))
+
+  pub named_books : (p : ObjectId) → named_by v.context.kind ≡ Some p
+      → share_books v.config v.zone v.share e past ≡ cond (is_owned v.share p.0) (new_books v.config v.zone e past p.0) []
+  named_books p named =
+      let names : named_by e.kind ≡ Some p = sym (ap named_by is.says) ∙ named in
+      flat_one (new_books v.config v.zone e past) (is_owned v.share) (length v.config.objects) p.0 (named_within v.config e.kind is.proper.kind p names)
+      (λ o below ne. no_books laws v.config v.zone e past o (λ settings at. touches_other e.kind p names o ne (book_of v.config v.zone o settings past).due (moment (e ∷ past))))
+
+  -- the program switch touches none
+  pub switch_entries : (on : Bool) → v.context.kind ≡ event.Program on → share_entries v.config v.zone v.share e past ≡ []
+  switch_entries on says =
+      flat_none (object_entries v.config v.zone e past) (is_owned v.share) (length v.config.objects)
+      (λ o below. no_entries laws v.config v.zone e past o (λ settings at.
+      ap (λ (k : EventKind). touches o k (book_of v.config v.zone o settings past).due (moment (e ∷ past))) (sym is.says ∙ says)))
+
+  pub switch_books : (on : Bool) → v.context.kind ≡ event.Program on → share_books v.config v.zone v.share e past ≡ []
+  switch_books on says =
+      flat_none (new_books v.config v.zone e past) (is_owned v.share) (length v.config.objects)
+      (λ o below. no_books laws v.config v.zone e past o (λ settings at.
+      ap (λ (k : EventKind). touches o k (book_of v.config v.zone o settings past).due (moment (e ∷ past))) (sym is.says ∙ says)))

@@ -1,0 +1,71 @@
+-- What is read to decide an event, and the event and the past that it is of.
+use Rattle.std.specs.Prelude.{◌≡◌, ℕ, ◌<◌, ◌≤◌, List, ◌∷◌, length}
+use Rattle.due_model.specs.declared.config.Config.{Config}
+use Rattle.due_model.specs.declared.config.Range.{Range}
+use Rattle.due_model.specs.declared.event.Event.{Event}
+use Rattle.due_model.specs.declared.zone.Zone.{Zone}
+use Rattle.due_model.specs.Accepted.{IsAccepted}
+use Rattle.due_model.specs.Limits.{last_moment, max_events}
+use Rattle.due_model.specs.Proper.{IsProper}
+use Rattle.due_model.specs.Readings.{moment as moment_of, program_on}
+use Rattle.dependency.specs.Order.{IsOrderOf, Kept as Dependencies}
+use Rattle.escalation.specs.ByObject.{IsByObject}
+use Rattle.problem_count.specs.Book.{BookValues}
+use Rattle.time_period.specs.Days.{AreCompiled}
+use Rattle.decider.specs.declared.reading.EventContext.{EventContext}
+use Rattle.decider.specs.declared.reading.Reading.{Reading}
+use Rattle.decider.specs.declared.share.Share.{Share}
+use Rattle.decider.specs.Books.{BooksFit}
+use Rattle.decider.specs.Statuses.{StatusLists, StatusesFit}
+
+-- what is worked out of a configuration once
+pub record TableValues : Type 0 where
+  pub periods : List (List (List Range))
+  pub escalations : List (List ℕ)
+  pub dependencies : Dependencies
+
+-- it is worked out of this one
+pub record AreTables (c : Config) (tables : TableValues) : Type 0 where
+  pub compiled : AreCompiled c tables.periods
+  pub grouped : IsByObject c tables.escalations
+  pub ordered : IsOrderOf c tables.dependencies
+
+-- all that is read
+pub record Values : Type 0 where
+  pub config : Config
+  pub zone : Zone
+  pub share : Share
+  pub tables : TableValues
+  pub context : EventContext
+  pub statuses : StatusLists
+  pub books : List BookValues
+
+abbrev pub values : Reading → Dependencies → StatusLists → Values
+values reading dependencies statuses = record {
+  config = reading.rules.config.now;
+  zone = reading.rules.zone.now;
+  share = reading.share;
+  tables = record {
+    periods = reading.rules.periods.now;
+    escalations = reading.rules.escalations.now;
+    dependencies = dependencies;
+  };
+  context = reading.context;
+  statuses = statuses;
+  books = reading.books.now;
+}
+
+-- What is read is of event e, after that past.
+pub record IsAt (v : Values) (e : Event) (past : List Event) : Type 0 where
+  pub accepted : IsAccepted v.config
+  pub worked_out : AreTables v.config v.tables
+  pub deciders : 0 < v.share.deciders
+  pub proper : IsProper v.config e
+  pub short : length past ≤ max_events
+  pub number : v.context.number ≡ length past
+  pub says : v.context.kind ≡ e.kind
+  pub at : v.context.moment ≡ moment_of (e ∷ past)
+  pub in_time : v.context.moment ≤ last_moment
+  pub switch : v.context.program ≡ program_on (e ∷ past)
+  pub known : StatusesFit (length v.config.objects) past v.statuses
+  pub kept : BooksFit v.config v.zone v.share past v.books

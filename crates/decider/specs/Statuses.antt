@@ -1,0 +1,83 @@
+-- What is kept of the status of each object.
+use Rattle.std.specs.Prelude.{◌≡◌, ℕ, Bool, false, List, length, replicate, slice_index_or, slice_set, Option, Some, None}
+use Rattle.due_model.specs.declared.config.ObjectId.{ObjectId}
+use Rattle.due_model.specs.declared.event.Event.{Event}
+use Rattle.due_model.specs.declared.event.EventKind.{EventKind}
+use Rattle.due_model.specs.declared.event.EventKind.TheVariants.{Clock, Program, Hard, Downtime, Flapping}
+use Rattle.due_model.specs.declared.rules.ObjectStatus.{ObjectStatus}
+use Rattle.due_model.specs.declared.state.State.{State}
+use Rattle.due_model.specs.declared.state.State.TheVariants.{Pending}
+use Rattle.due_model.specs.Histories.{status_after}
+use Rattle.due_model.specs.Readings.{depth_after, flapping_after, hard_after}
+
+-- each object's last hard state, how many of its downtimes run, and whether it is flapping
+pub record StatusLists : Type 0 where
+  pub states : List State
+  pub depths : List ℕ
+  pub flaps : List Bool
+
+-- of so many objects of which nothing is known yet
+abbrev pub no_statuses : (objects : ℕ) → StatusLists
+no_statuses objects = record {
+  states = replicate objects Pending;
+  depths = replicate objects 0;
+  flaps = replicate objects false;
+}
+
+-- the status of object o
+abbrev pub status_at : StatusLists → (o : ℕ) → ObjectStatus
+status_at s o = record {
+  state = slice_index_or s.states o Pending;
+  depth = slice_index_or s.depths o 0;
+  flapping = slice_index_or s.flaps o false;
+}
+
+-- with this status of object o
+abbrev pub with_status : StatusLists → (o : ℕ) → ObjectStatus → StatusLists
+with_status s o status = record {
+  states = slice_set s.states o status.state;
+  depths = slice_set s.depths o status.depth;
+  flaps = slice_set s.flaps o status.flapping;
+}
+
+-- with this hard state of object o
+abbrev pub with_state : StatusLists → (o : ℕ) → State → StatusLists
+with_state s o state = record s { states = slice_set s.states o state }
+
+-- the status of object o after an event that says this, which was so before it
+abbrev pub status_by : (o : ℕ) → EventKind → ObjectStatus → ObjectStatus
+status_by o k old = record {
+  state = hard_after o k old.state;
+  depth = depth_after o k old.depth;
+  flapping = flapping_after o k old.flapping;
+}
+
+-- the object that an event names
+abbrev pub named_by : EventKind → Option ObjectId
+named_by Clock = None
+named_by (Program on) = None
+named_by (Hard o state) = Some o
+named_by (Downtime o change) = Some o
+named_by (Flapping o starts) = Some o
+
+-- the object to which it gives a hard state, and that state
+abbrev pub hard_by : EventKind → Option (ObjectId × State)
+hard_by Clock = None
+hard_by (Program on) = None
+hard_by (Hard o state) = Some (o, state)
+hard_by (Downtime o change) = None
+hard_by (Flapping o starts) = None
+
+-- the statuses after an event that says this
+abbrev pub statuses_after : EventKind → StatusLists → StatusLists
+statuses_after k s = elim (named_by k) as (λ _. StatusLists) [
+  | None ↦ s
+  | Some o ↦ with_status s o.0 (status_by o.0 k (status_at s o.0))
+]
+
+-- Each status is the definitions' after this past, of so many objects.
+pub record StatusesFit (objects : ℕ) (past : List Event) (s : StatusLists) : Type 0 where
+  pub states : length s.states ≡ objects
+  pub depths : length s.depths ≡ objects
+  pub flaps : length s.flaps ≡ objects
+  pub each : (o : ℕ) → status_at s o ≡ status_after o past

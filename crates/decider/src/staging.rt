@@ -1,0 +1,236 @@
+//! What an event decides, before any of it counts: the entries, and the books after it of the objects that it touches.
+
+ghost use Rattle.std.specs.Prelude.{◌≡◌, ◌<◌, ◌++◌, [], true, List, length, slice_set};
+ghost use Rattle.std.specs.Prelude.{if◌then◌else◌, OnOk};
+ghost use Rattle.due_model.specs.declared.event.Event.{Event};
+ghost use Rattle.messages.specs.Entries.{object_entries};
+ghost use Rattle.problem_count.specs.Laws.{touches};
+ghost use Rattle.decider.specs.Entries.{share_entries};
+ghost use Rattle.decider.specs.Events.{IsAt, values};
+ghost use Rattle.decider.specs.Share.{is_owned};
+ghost use Rattle.decider.specs.Books.{book_after, new_books, settled, share_books};
+ghost use Rattle.decider.specs.Staging.{Adds};
+
+use crate::find::find;
+use crate::reading::{EventContext, Reading};
+use crate::statuses::Statuses;
+use dependency::order::Order;
+use due_model::config::{ContactId, ObjectId};
+use due_model::event::EventKind;
+use due_model::rules::has_come;
+use messages::entries::Entry;
+use messages::outcome::add_messages;
+use outcomes::outcome::decide;
+use problem_count::Book;
+use problem_count::laws::{count_few, fit_on};
+use std::alloc::{AllocError, Global};
+
+/// The book of an object after an event.
+#[derive(Clone, Copy)]
+pub(crate) struct NewBook {
+    pub(crate) object: ObjectId,
+    pub(crate) book: Book,
+}
+
+/// What an event decides.
+#[derive(Drop)]
+pub(crate) struct Staged {
+    /// Its entries, by object, then contact, then lane.
+    pub(crate) entries: Vec<Entry>,
+    /// The books after it, of the objects of the share that it touches.
+    pub(crate) books: Vec<NewBook>,
+    /// The receivers of one notice, kept for their room.
+    receivers: Vec<ContactId>,
+}
+
+impl Staged {
+    /// Nothing is decided.
+    pub(crate) fn new(alloc: Global) -> Staged
+        ensures entries { result.entries.items ≡ [] }
+        ensures books { result.books.items ≡ [] }
+    {
+        Staged {
+            entries: Vec::new(alloc),
+            books: Vec::new(alloc),
+            receivers: Vec::new(alloc),
+        }
+    }
+
+    /// Forgets what was decided, and keeps the room.
+    fn clear(&mut self)
+        ensures entries { self.new.entries.items ≡ [] }
+        ensures books { self.new.books.items ≡ [] }
+    {
+        self.entries.clear();
+        self.books.clear();
+    }
+}
+
+/// Stages what an event decides of the objects of the share, in object order. Only the clock's event looks at them
+/// all. A refused growth is the only error.
+pub(crate) fn stage_event(
+    alloc: Global,
+    reading: &Reading<'_>,
+    dependencies: &mut Order,
+    statuses: &mut Statuses,
+    staged: &mut Staged,
+) -> Result<(), AllocError>
+    requires at { (e : Event) × (past : List Event)
+        × IsAt (values reading.now dependencies.old statuses.old) e past }
+    ensures dependencies { dependencies.new ≡ dependencies.old }
+    ensures statuses { statuses.new ≡ statuses.old }
+    ensures entries { OnOk result ((e : Event) (past : List Event)
+        → IsAt (values reading.now dependencies.old statuses.old) e past
+        → staged.new.entries.items ≡ share_entries reading.now.rules.config.now
+        reading.now.rules.zone.now reading.now.share e past) }
+    ensures books { OnOk result ((e : Event) (past : List Event)
+        → IsAt (values reading.now dependencies.old statuses.old) e past
+        → staged.new.books.items ≡ share_books reading.now.rules.config.now
+        reading.now.rules.zone.now reading.now.share e past) }
+{
+    fit_on();
+    staged.clear();
+    match reading.context.kind {
+        EventKind::Clock => stage_each(alloc, reading, dependencies, statuses, staged),
+        EventKind::Program(_) => Ok(()),
+        EventKind::Hard(object, _) =>
+            stage_owned(alloc, reading, dependencies, statuses, object, staged),
+        EventKind::Downtime(object, _) =>
+            stage_owned(alloc, reading, dependencies, statuses, object, staged),
+        EventKind::Flapping(object, _) =>
+            stage_owned(alloc, reading, dependencies, statuses, object, staged),
+    }
+}
+
+/// Stages what becomes of each object of the share that the event touches, in object order.
+fn stage_each(
+    alloc: Global,
+    reading: &Reading<'_>,
+    dependencies: &mut Order,
+    statuses: &mut Statuses,
+    staged: &mut Staged,
+) -> Result<(), AllocError>
+    requires at { (e : Event) × (past : List Event)
+        × IsAt (values reading.now dependencies.old statuses.old) e past }
+    ensures dependencies { dependencies.new ≡ dependencies.old }
+    ensures statuses { statuses.new ≡ statuses.old }
+    ensures staged { OnOk result ((e : Event) (past : List Event)
+        → IsAt (values reading.now dependencies.old statuses.old) e past
+        → Adds (share_entries reading.now.rules.config.now reading.now.rules.zone.now
+        reading.now.share e past)
+        (share_books reading.now.rules.config.now reading.now.rules.zone.now
+        reading.now.share e past) staged.old staged.new) }
+{
+    for number in 0..reading.books.len() {
+        let object = ObjectId(number as u16);
+        stage_owned(alloc, reading, dependencies, statuses, object, staged)?;
+    }
+    Ok(())
+}
+
+/// Stages what becomes of an object, if it is in the share and the event touches it.
+fn stage_owned(
+    alloc: Global,
+    reading: &Reading<'_>,
+    dependencies: &mut Order,
+    statuses: &mut Statuses,
+    object: ObjectId,
+    staged: &mut Staged,
+) -> Result<(), AllocError>
+    requires at { (e : Event) × (past : List Event)
+        × IsAt (values reading.now dependencies.old statuses.old) e past }
+    requires object { object.0 < length reading.now.rules.config.now.objects }
+    ensures dependencies { dependencies.new ≡ dependencies.old }
+    ensures statuses { statuses.new ≡ statuses.old }
+    ensures staged { OnOk result ((e : Event) (past : List Event)
+        → IsAt (values reading.now dependencies.old statuses.old) e past
+        → Adds (if is_owned reading.now.share object.0 then object_entries
+        reading.now.rules.config.now reading.now.rules.zone.now e past object.0 else [])
+        (if is_owned reading.now.share object.0 then new_books
+        reading.now.rules.config.now reading.now.rules.zone.now e past object.0 else [])
+        staged.old staged.new) }
+{
+    if !reading.share.owns(object) {
+        return Ok(());
+    }
+    fit_on();
+    let book = reading.books[usize::from(object.0)];
+    if !touches(&reading.context, object, book) {
+        return Ok(());
+    }
+    stage_touched(alloc, reading, dependencies, statuses, object, staged)
+}
+
+/// Whether an event touches the object with this book: it names it, or it is the clock's and the object is due.
+fn touches(context: &EventContext, object: ObjectId, book: Book) -> bool
+    ensures { result ≡ touches object.0 context.now.kind book.due context.now.moment }
+{
+    match context.kind {
+        EventKind::Clock => has_come(book.due(), context.moment),
+        EventKind::Program(_) => false,
+        EventKind::Hard(named, _) => named.0 == object.0,
+        EventKind::Downtime(named, _) => named.0 == object.0,
+        EventKind::Flapping(named, _) => named.0 == object.0,
+    }
+}
+
+/// Stages what becomes of an object of the share.
+fn stage_touched(
+    alloc: Global,
+    reading: &Reading<'_>,
+    dependencies: &mut Order,
+    statuses: &mut Statuses,
+    object: ObjectId,
+    staged: &mut Staged,
+) -> Result<(), AllocError>
+    requires at { (e : Event) × (past : List Event)
+        × IsAt (values reading.now dependencies.old statuses.old) e past }
+    requires object { object.0 < length reading.now.rules.config.now.objects }
+    requires owned { is_owned reading.now.share object.0 ≡ true }
+    ensures dependencies { dependencies.new ≡ dependencies.old }
+    ensures statuses { statuses.new ≡ statuses.old }
+    ensures staged { OnOk result ((e : Event) (past : List Event)
+        → IsAt (values reading.now dependencies.old statuses.old) e past
+        → Adds (object_entries reading.now.rules.config.now reading.now.rules.zone.now e past
+        object.0)
+        (book_after reading.now.rules.config.now reading.now.rules.zone.now e past object.0)
+        staged.old staged.new) }
+{
+    let found = find(reading, dependencies, statuses, object);
+    let book = reading.books[usize::from(object.0)];
+    count_few();
+    let decision = decide(&reading.rules, object, &found, book);
+    add_messages(
+        alloc,
+        &reading.rules,
+        object,
+        reading.context.number,
+        decision.outcome,
+        &mut staged.receivers,
+        &mut staged.entries,
+    )?;
+    staged.books.push(NewBook {
+        object,
+        book: decision.book,
+    })?;
+    Ok(())
+}
+
+/// The books after an event, by those that were staged.
+pub(crate) fn settle(books: &mut Vec<Book>, decided: &[NewBook])
+    ensures { books.new.items ≡ settled decided.now books.old.items }
+{
+    for new_book in decided {
+        settle_one(books, new_book);
+    }
+}
+
+/// The books after one of them is new.
+fn settle_one(books: &mut Vec<Book>, decided: &NewBook)
+    ensures { books.new.items ≡ slice_set books.old.items decided.now.object.0 decided.now.book }
+{
+    let number = usize::from(decided.object.0);
+    if number < books.len() {
+        books[number] = decided.book;
+    }
+}

@@ -1,0 +1,170 @@
+//! The status of each object.
+
+ghost use Rattle.std.specs.Prelude.{◌≡◌, ◌+◌, ◌^◌, ◌<◌, length, IfOk, IfSome, slice_index_or};
+ghost use Rattle.due_model.specs.declared.state.State.TheVariants.{Pending};
+ghost use Rattle.due_model.specs.Readings.{depth_after, flapping_after};
+ghost use Rattle.decider.specs.Statuses.{hard_by, named_by, no_statuses, status_at, status_by};
+ghost use Rattle.decider.specs.Statuses.{statuses_after, with_state, with_status};
+
+use due_model::config::ObjectId;
+use due_model::event::EventKind;
+use due_model::rules::ObjectStatus;
+use due_model::state::State;
+use std::alloc::{AllocError, Global};
+use std::marker::Model;
+
+/// The status of each object, by its number. It takes 10 bytes an object.
+#[derive(Drop)]
+pub(crate) struct Statuses {
+    /// The last hard state of each.
+    states: Vec<State>,
+    /// How many downtimes of each run.
+    depths: Vec<u64>,
+    /// Whether each is flapping.
+    flaps: Vec<bool>,
+}
+
+impl Model for Statuses {
+    ghost use Rattle.std.specs.Prelude.{◌≡◌, length};
+    ghost use Rattle.decider.specs.Statuses.{StatusLists};
+
+    ghost Value = { StatusLists };
+
+    ghost view = { λ s. record {
+      states = s.states.items;
+      depths = s.depths.items;
+      flaps = s.flaps.items;
+    } };
+
+    // There are as many of each.
+    ghost invariant = { λ s. (length s.depths.items ≡ length s.states.items)
+        × (length s.flaps.items ≡ length s.states.items) };
+}
+
+impl Statuses {
+    /// The statuses of so many objects of which nothing is known yet. A refused growth leaves nothing.
+    pub(crate) fn new(alloc: Global, objects: usize) -> Result<Statuses, AllocError>
+        ensures { IfOk result (λ statuses. statuses ≡ no_statuses objects) }
+    {
+        Ok(Statuses {
+            states: vec![in alloc; State::Pending; objects]?,
+            depths: vec![in alloc; 0; objects]?,
+            flaps: vec![in alloc; false; objects]?,
+        })
+    }
+
+    /// The status of an object.
+    pub(crate) fn at(&self, object: ObjectId) -> ObjectStatus
+        requires { object.0 < length self.now.states }
+        ensures { result ≡ status_at self.now object.0 }
+    {
+        let number = usize::from(object.0);
+        ObjectStatus {
+            state: self.states[number],
+            depth: self.depths[number],
+            flapping: self.flaps[number],
+        }
+    }
+
+    /// The last hard state of each object.
+    pub(crate) fn states(&self) -> &[State]
+        ensures { result.now ≡ self.now.states }
+    {
+        self.states.as_slice()
+    }
+
+    /// Gives an object this hard state. The result is the one that it had.
+    pub(crate) fn replace_state(&mut self, object: ObjectId, state: State) -> State
+        requires { object.0 < length self.old.states }
+        ensures before { result ≡ slice_index_or self.old.states object.0 Pending }
+        ensures after { self.new ≡ with_state self.old object.0 state }
+    {
+        let number = usize::from(object.0);
+        let before = self.states[number];
+        self.states[number] = state;
+        before
+    }
+
+    /// Gives an object this status.
+    fn set(&mut self, object: ObjectId, status: ObjectStatus)
+        requires { object.0 < length self.old.states }
+        ensures { self.new ≡ with_status self.old object.0 status }
+    {
+        let number = usize::from(object.0);
+        self.states[number] = status.state;
+        self.depths[number] = status.depth;
+        self.flaps[number] = status.flapping;
+    }
+
+    /// Counts an event.
+    pub(crate) fn count(&mut self, event: EventKind)
+        requires named { IfSome (named_by event) (λ object. (object.0 < length self.old.states)
+            × ((status_at self.old object.0).depth + 1 < 2 ^ 64)) }
+        ensures { self.new ≡ statuses_after event self.old }
+    {
+        if let Some(object) = named_by(event) {
+            let after = status_by(self.at(object), event, object);
+            self.set(object, after);
+        }
+    }
+}
+
+/// The object that an event names.
+pub(crate) fn named_by(event: EventKind) -> Option<ObjectId>
+    ensures { result ≡ named_by event }
+{
+    match event {
+        EventKind::Clock => None,
+        EventKind::Program(_) => None,
+        EventKind::Hard(object, _) => Some(object),
+        EventKind::Downtime(object, _) => Some(object),
+        EventKind::Flapping(object, _) => Some(object),
+    }
+}
+
+/// The object to which an event gives a hard state, and that state.
+pub(crate) fn hard_by(event: EventKind) -> Option<(ObjectId, State)>
+    ensures { result ≡ hard_by event }
+{
+    match event {
+        EventKind::Hard(object, state) => Some((object, state)),
+        _ => None,
+    }
+}
+
+/// The status of an object after an event, of which `old` was the status before it.
+pub(crate) fn status_by(old: ObjectStatus, event: EventKind, object: ObjectId) -> ObjectStatus
+    requires { old.depth + 1 < 2 ^ 64 }
+    ensures { result ≡ status_by object.0 event old }
+{
+    ObjectStatus {
+        state: event.hard_after(object, old.state),
+        depth: depth_by(old.depth, event, object),
+        flapping: flapping_by(old.flapping, event, object),
+    }
+}
+
+/// How many downtimes of an object run after an event, of which so many ran before it (chapter "Scheduled Downtime").
+fn depth_by(old: u64, event: EventKind, object: ObjectId) -> u64
+    requires { old + 1 < 2 ^ 64 }
+    ensures { result ≡ depth_after object.0 event old }
+{
+    match event {
+        EventKind::Downtime(named, change) => {
+            if named.0 == object.0 { change.depth_after(old) } else { old }
+        }
+        _ => old,
+    }
+}
+
+/// Whether an object is flapping after an event, which was so before it (chapter "State Flapping").
+fn flapping_by(old: bool, event: EventKind, object: ObjectId) -> bool
+    ensures { result ≡ flapping_after object.0 event old }
+{
+    match event {
+        EventKind::Flapping(named, starts) => {
+            if named.0 == object.0 { starts } else { old }
+        }
+        _ => old,
+    }
+}
