@@ -2,7 +2,7 @@
 
 ghost use Rattle.std.specs.Prelude.{◌≡◌, ◌<◌, ◌≤◌, ◌++◌, All, flat_map, length, slice_get, OnOk, Some};
 ghost use Rattle.due_model.specs.declared.config.Object.{Object};
-ghost use Rattle.due_model.specs.declared.notice.Outcome.TheVariants as outcome;
+ghost use Rattle.due_model.specs.declared.notice.Outcome.TheVariants.{Sent};
 ghost use Rattle.due_model.specs.Limits.{last_moment};
 ghost use Rattle.messages.specs.Entries.{outcome_entries};
 ghost use Rattle.messages.specs.Message.{IsMessage, IsReadable, message_entries, outcome_of};
@@ -92,7 +92,7 @@ fn message_of<'a>(
     ensures is { IsMessage rules.now result }
     ensures object { result.object ≡ object }
     ensures event { result.event ≡ event }
-    ensures outcome { outcome_of result ≡ outcome.Sent kind state number moment 0 }
+    ensures outcome { outcome_of result ≡ Sent kind state number moment 0 }
 {
     let settings = &rules.config.objects.as_slice()[usize::from(object.0)];
     let attempt = Attempt {
