@@ -24,13 +24,13 @@ pub(crate) fn add_receivers(
     alloc: Global,
     rules: &Rules<'_>,
     message: &Message<'_>,
-    receivers: &mut Vec<ContactId>,
+    told: &mut Vec<ContactId>,
 ) -> Result<(), AllocError>
     requires rules { AreRules rules.now }
     requires message { IsMessage rules.now message.now }
     ensures { OnOk result ((settings : Object)
         → slice_get rules.now.config.now.objects message.now.object.0 ≡ Some settings
-        → receivers.new.items ≡ receivers.old.items
+        → told.new.items ≡ told.old.items
         ++ contact_ids (receivers rules.now.config.now rules.now.zone.now message.now.object.0
         settings (plain message.now.attempt) message.now.number)) }
 {
@@ -41,7 +41,7 @@ pub(crate) fn add_receivers(
             message,
             message.number,
             message.attempt.letter,
-            receivers,
+            told,
         ),
         Kind::Recovery => add_reached(
             alloc,
@@ -49,9 +49,9 @@ pub(crate) fn add_receivers(
             message,
             message.number.saturating_sub(1),
             OptionLetter::Recovery,
-            receivers,
+            told,
         ),
-        _ => own_contacts(alloc, rules.config, message.object, receivers),
+        _ => own_contacts(alloc, rules.config, message.object, told),
     }
 }
 
@@ -62,13 +62,13 @@ fn add_reached(
     message: &Message<'_>,
     number: u64,
     letter: OptionLetter,
-    receivers: &mut Vec<ContactId>,
+    told: &mut Vec<ContactId>,
 ) -> Result<(), AllocError>
     requires rules { AreRules rules.now }
     requires message { IsMessage rules.now message.now }
     ensures { OnOk result ((settings : Object)
         → slice_get rules.now.config.now.objects message.now.object.0 ≡ Some settings
-        → receivers.new.items ≡ receivers.old.items
+        → told.new.items ≡ told.old.items
         ++ contact_ids (reach rules.now.config.now rules.now.zone.now message.now.object.0
         settings number letter message.now.attempt.moment)) }
 {
@@ -82,6 +82,6 @@ fn add_reached(
         message.attempt.moment,
         rules.periods,
         rules.zone,
-        receivers,
+        told,
     )
 }
