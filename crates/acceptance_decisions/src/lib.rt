@@ -1,4 +1,5 @@
-//! Tests of what a decision is made of: filters, problem counts, escalations, dependencies. There is no code here.
+//! Tests of what a decision is made of: filters, problem counts, escalations, dependencies, messages. There is no code
+//! here.
 #![tactic(auto)]
 
 #[cfg(test)]
@@ -9,3 +10,5 @@ mod dependencies;
 mod escalations;
 #[cfg(test)]
 mod filters_rows;
+#[cfg(test)]
+mod messages_rows;

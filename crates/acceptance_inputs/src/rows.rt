@@ -1,4 +1,4 @@
-//! Small configurations as tables, for the worked rows: one command, and contacts who use it for all.
+//! Small configurations as tables, for the worked rows: the same rights of a contact for hosts and for services.
 
 use due_model::config::{
     Config, Contact, ContactId, Dependency, Escalation, Lane, LaneId, Object, ObjectId, Period,
@@ -10,18 +10,33 @@ use due_model::options::OptionLetters;
 use due_model::sequence::{Sequence, Text};
 use std::alloc::{AllocError, Global};
 
-/// A contact, with the letters of which it is notified.
+/// A contact, with what it is notified of, and on which lanes.
 #[derive(Clone, Copy)]
 pub struct ContactRow {
     pub name: &'static str,
+    pub enabled: bool,
     pub options: OptionLetters,
+    pub period: Option<PeriodId>,
+    pub lanes: &'static [LaneId],
 }
 
-/// A host, or a service of a host, with every letter. Interval and delay are in units of 60 seconds.
+impl ContactRow {
+    /// Notified of everything at all times, on the first lane.
+    pub const FREE: ContactRow = ContactRow {
+        name: "free",
+        enabled: true,
+        options: OptionLetters::ALL,
+        period: None,
+        lanes: &[LaneId(0)],
+    };
+}
+
+/// A host, or a service of a host. Interval and delay are in units of 60 seconds.
 #[derive(Clone, Copy)]
 pub struct ObjectRow {
     pub name: &'static str,
     pub host: Option<ObjectId>,
+    pub options: OptionLetters,
     pub period: Option<PeriodId>,
     pub interval: u32,
     pub delay: u32,
@@ -41,31 +56,33 @@ pub struct EscalationRow {
 
 /// A configuration. Each period has one range, the same on all seven days.
 #[derive(Clone, Copy)]
-pub struct Rows {
-    pub contacts: &'static [ContactRow],
-    pub objects: &'static [ObjectRow],
-    pub periods: &'static [Range],
-    pub escalations: &'static [EscalationRow],
-    pub dependencies: &'static [Dependency],
+pub struct Rows<'a> {
+    /// How many commands there are.
+    pub lanes: u8,
+    pub contacts: &'a [ContactRow],
+    pub objects: &'a [ObjectRow],
+    pub periods: &'a [Range],
+    pub escalations: &'a [EscalationRow],
+    pub dependencies: &'a [Dependency],
 }
 
 fn text(alloc: Global, text: &str) -> Result<Text, AllocError> {
     Ok(Sequence::new(Vec::from_slice(alloc, text.as_bytes())?))
 }
 
-fn rights(alloc: Global, options: OptionLetters) -> Result<Rights, AllocError> {
+fn rights(alloc: Global, row: ContactRow) -> Result<Rights, AllocError> {
     Ok(Rights {
-        enabled: true,
-        options,
-        period: None,
-        lanes: Sequence::new(Vec::from_slice(alloc, &[LaneId(0)])?),
+        enabled: row.enabled,
+        options: row.options,
+        period: row.period,
+        lanes: Sequence::new(Vec::from_slice(alloc, row.lanes)?),
     })
 }
 
 fn contact(alloc: Global, row: ContactRow) -> Result<Contact, AllocError> {
     let name = text(alloc, row.name)?;
-    let hosts = rights(alloc, row.options)?;
-    let services = rights(alloc, row.options)?;
+    let hosts = rights(alloc, row)?;
+    let services = rights(alloc, row)?;
     Ok(Contact {
         name,
         hosts,
@@ -87,7 +104,7 @@ fn object(alloc: Global, row: ObjectRow) -> Result<Object, AllocError> {
         name,
         host: row.host,
         enabled: true,
-        options: OptionLetters::ALL,
+        options: row.options,
         period: row.period,
         interval: row.interval,
         delay: row.delay,
@@ -154,18 +171,20 @@ fn escalations(alloc: Global, rows: &[EscalationRow]) -> Result<Sequence<Escalat
     Ok(Sequence::new(made))
 }
 
-fn lanes(alloc: Global) -> Result<Sequence<Lane>, AllocError> {
-    let name = text(alloc, "mail")?;
+fn lanes(alloc: Global, count: u8) -> Result<Sequence<Lane>, AllocError> {
     let mut made = Vec::new(alloc);
-    made.push(Lane { name })?;
+    for _lane in 0..count {
+        let name = text(alloc, "mail")?;
+        made.push(Lane { name })?;
+    }
     Ok(Sequence::new(made))
 }
 
 /// The configuration of these rows, of the first 65,535 objects. It need not be accepted: `is_accepted` tells.
-pub fn config_of(alloc: Global, rows: Rows) -> Result<Config, AllocError> {
+pub fn config_of(alloc: Global, rows: Rows<'_>) -> Result<Config, AllocError> {
     let objects = objects(alloc, rows.objects)?;
     let contacts = contacts(alloc, rows.contacts)?;
-    let lanes = lanes(alloc)?;
+    let lanes = lanes(alloc, rows.lanes)?;
     let periods = periods(alloc, rows.periods)?;
     let escalations = escalations(alloc, rows.escalations)?;
     let dependencies = Sequence::new(Vec::from_slice(alloc, rows.dependencies)?);

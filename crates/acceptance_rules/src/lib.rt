@@ -4,6 +4,8 @@
 #[cfg(test)]
 mod comparison;
 #[cfg(test)]
+mod generated;
+#[cfg(test)]
 mod slow_program;
 #[cfg(test)]
 mod slow_rows;

@@ -15,6 +15,7 @@ use slow_rules::slow::{slow_due, slow_sup};
 use std::alloc::Global;
 use std::process::Abort;
 use std::test::Fail;
+use zone_times::given::zone_given;
 
 /// A notice in short: event, moment, kind, state, number, contact.
 type Told = (u64, u64, Kind, State, u64, u16);
@@ -45,11 +46,12 @@ fn stopped(suppression: Suppression) -> Stopped {
     )
 }
 
-/// The slow program says this of an object, by the one lane.
+/// The slow program says this of an object in a zone, by the one lane.
 fn says(
     rt: &impl Abort,
     alloc: Global,
     config: &Config,
+    zone: &Zone,
     events: &[Event],
     object: ObjectId,
     notices: &[Told],
@@ -57,12 +59,12 @@ fn says(
 ) -> Result<(), Fail> {
     assert!(rt; is_accepted(config) && has_object(config, object) && are_proper(config, events));
     let mut due = Vec::new(alloc);
-    for notice in slow_due(alloc, config, &Zone::Utc, events, object, LaneId(0))?.as_slice() {
+    for notice in slow_due(alloc, config, zone, events, object, LaneId(0))?.as_slice() {
         due.push(told(*notice))?;
     }
     assert_eq!(rt; due.as_slice(), notices);
     let mut sup = Vec::new(alloc);
-    for suppression in slow_sup(alloc, config, &Zone::Utc, events, object)?.as_slice() {
+    for suppression in slow_sup(alloc, config, zone, events, object)?.as_slice() {
         sup.push(stopped(*suppression))?;
     }
     assert_eq!(rt; sup.as_slice(), suppressions);
@@ -73,7 +75,7 @@ fn says(
 fn gives(
     rt: &impl Abort,
     alloc: Global,
-    rows: Rows,
+    rows: Rows<'_>,
     events: &[Event],
     object: u16,
     notices: &[Told],
@@ -84,6 +86,7 @@ fn gives(
         rt,
         alloc,
         &config,
+        &Zone::Utc,
         events,
         ObjectId(object),
         notices,
@@ -100,28 +103,30 @@ const CAT: &[ContactId] = &[ContactId(2)];
 const PEOPLE: &[ContactRow] = &[
     ContactRow {
         name: "ann",
-        options: OptionLetters::ALL,
+        ..ContactRow::FREE
     },
     ContactRow {
         name: "bob",
-        options: OptionLetters::ALL,
+        ..ContactRow::FREE
     },
     ContactRow {
         name: "cat",
-        options: OptionLetters::ALL,
+        ..ContactRow::FREE
     },
 ];
 
 const WEB: ObjectRow = ObjectRow {
     name: "web",
     host: None,
+    options: OptionLetters::ALL,
     period: None,
     interval: 1,
     delay: 0,
     contacts: ANN,
 };
 
-const BASE: Rows = Rows {
+const BASE: Rows<'static> = Rows {
+    lanes: 1,
     contacts: PEOPLE,
     objects: &[WEB],
     periods: &[],
@@ -209,7 +214,7 @@ fn flapping(rt: HostRuntime) -> Result<(), Fail> {
     )
 }
 
-const THIRD_TO_BOB: Rows = Rows {
+const THIRD_TO_BOB: Rows<'static> = Rows {
     escalations: &[EscalationRow {
         object: ObjectId(0),
         first: 3,
@@ -248,7 +253,7 @@ fn escalation_recovery(rt: HostRuntime) -> Result<(), Fail> {
     )
 }
 
-const OVERLAP: Rows = Rows {
+const OVERLAP: Rows<'static> = Rows {
     objects: &[ObjectRow {
         interval: 10,
         ..WEB
@@ -315,13 +320,14 @@ fn manual_overlap(rt: HostRuntime) -> Result<(), Fail> {
 const PING: ObjectRow = ObjectRow {
     name: "PING",
     host: Some(ObjectId(0)),
+    options: OptionLetters::ALL,
     period: None,
     interval: 1,
     delay: 0,
     contacts: ANN,
 };
 
-const NEVER_AFTER_FOUR: Rows = Rows {
+const NEVER_AFTER_FOUR: Rows<'static> = Rows {
     objects: &[WEB, PING],
     escalations: &[EscalationRow {
         object: ObjectId(1),
@@ -366,7 +372,7 @@ fn interval_zero(rt: HostRuntime) -> Result<(), Fail> {
     )
 }
 
-const AT_WORK: Rows = Rows {
+const AT_WORK: Rows<'static> = Rows {
     objects: &[ObjectRow {
         period: Some(PeriodId(0)),
         ..WEB
@@ -395,6 +401,38 @@ fn work_hours(rt: HostRuntime) -> Result<(), Fail> {
     )
 }
 
+/// The night of 10 March 2024, on which the clocks of New York go on by an hour: work begins at 13:00 UTC.
+fn spring_events() -> [Event; 3] {
+    [
+        hard(1_710_046_800, 0, DOWN),
+        clock(1_710_075_599),
+        clock(1_710_075_600),
+    ]
+}
+
+/// The object's period is read in a zone.
+fn wakes_in_spring(rt: &impl Abort, alloc: Global, config: &Config) -> Result<(), Fail> {
+    let Ok(zone) = zone_given(alloc, Some("EST5EDT,M3.2.0,M11.1.0"), None) else {
+        panic!(rt; "no zone");
+    };
+    says(
+        rt,
+        alloc,
+        config,
+        &zone,
+        &spring_events(),
+        ObjectId(0),
+        &[(2, 1_710_075_600, PROBLEM, DOWN, 1, 0)],
+        &[(0, 1_710_046_800, PROBLEM, DOWN, 1, Filter::Period, None)],
+    )
+}
+
+#[test]
+fn work_hours_in_a_zone(rt: HostRuntime) -> Result<(), Fail> {
+    let config = config_of(rt.alloc(), AT_WORK)?;
+    wakes_in_spring(&rt, rt.alloc(), &config)
+}
+
 const IF_CRITICAL: StateSet = StateSet {
     pending: false,
     up: false,
@@ -407,7 +445,7 @@ const IF_CRITICAL: StateSet = StateSet {
 };
 
 /// Service 3 depends on 2, which depends on 1, and inherits its dependency.
-const CHAIN: Rows = Rows {
+const CHAIN: Rows<'static> = Rows {
     objects: &[WEB, PING, PING, PING],
     dependencies: &[
         Dependency {
@@ -441,7 +479,7 @@ fn dependency_chain(rt: HostRuntime) -> Result<(), Fail> {
     gives(&rt, alloc, CHAIN, &chain_events(), 3, &[], &held)
 }
 
-const DELAYED: Rows = Rows {
+const DELAYED: Rows<'static> = Rows {
     objects: &[ObjectRow { delay: 2, ..WEB }],
     ..BASE
 };
@@ -463,7 +501,7 @@ fn first_delay(rt: HostRuntime) -> Result<(), Fail> {
     )
 }
 
-const DOWN_ALONE: Rows = Rows {
+const DOWN_ALONE: Rows<'static> = Rows {
     contacts: &[ContactRow {
         name: "ann",
         options: OptionLetters {
@@ -476,6 +514,7 @@ const DOWN_ALONE: Rows = Rows {
             flapping: false,
             downtime: false,
         },
+        ..ContactRow::FREE
     }],
     ..BASE
 };
@@ -542,7 +581,7 @@ fn nested_downtimes(rt: HostRuntime) -> Result<(), Fail> {
 }
 
 /// An escalation outside its period reaches nobody.
-const AT_NIGHT: Rows = Rows {
+const AT_NIGHT: Rows<'static> = Rows {
     periods: &[Range {
         start: 0,
         end: 1110,

@@ -37,8 +37,8 @@ pub fn contact_verdict(
     stop_if(attempt.is_outside(rights.period), Filter::ContactPeriod)
 }
 
-/// What a contact is notified of: for services, or for hosts.
-fn rights_of(service: bool, contact: &Contact) -> &Rights
+/// What a contact is notified of, and on which lanes: for services, or for hosts.
+pub fn rights_of(service: bool, contact: &Contact) -> &Rights
     ensures { result.now ≡ rights_of service contact.now }
 {
     if service {

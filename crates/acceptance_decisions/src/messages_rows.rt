@@ -1,0 +1,290 @@
+//! What becomes of each message of an outcome, by the rules of the manual's chapters "Notifications" and "Notification
+//! Escalations". Values are reckoned by hand.
+
+ghost use Rattle.std.specs.Prelude.{◌<◌, length};
+ghost use Rattle.outcomes.specs.Outcome.{IsInRange};
+ghost use Rattle.outcomes.specs.Rules.{AreRules};
+
+use acceptance_inputs::accepted::is_accepted;
+use acceptance_inputs::rows::{ContactRow, EscalationRow, ObjectRow, Rows, config_of};
+use due_model::config::{Config, ContactId, LaneId, ObjectId, PeriodId, Range};
+use due_model::notice::{Filter, Kind, Notice, Outcome, Suppression};
+use due_model::options::OptionLetters;
+use due_model::proper::has_object;
+use due_model::state::State;
+use due_model::zone::Zone;
+use escalation::by_object::ByObject;
+use messages::entries::{Entry, notices_for, suppressions};
+use messages::outcome::add_messages;
+use outcomes::rules::Rules;
+use std::alloc::Global;
+use std::process::Abort;
+use std::test::Fail;
+use time_period::compile::compile_all;
+
+/// When the notifications here are attempted.
+const MOMENT: u64 = 1_000;
+
+/// The number of their event.
+const EVENT: u64 = 7;
+
+/// Ann uses both lanes, bob the second, and is told of a host that is down alone; of cat's period no moment here is.
+const PEOPLE: &[ContactRow] = &[
+    ContactRow {
+        name: "ann",
+        lanes: &[LaneId(1), LaneId(0)],
+        ..ContactRow::FREE
+    },
+    ContactRow {
+        name: "bob",
+        options: OptionLetters {
+            down: true,
+            unreachable: false,
+            warning: false,
+            unknown: false,
+            critical: false,
+            recovery: false,
+            flapping: false,
+            downtime: false,
+        },
+        lanes: &[LaneId(1)],
+        ..ContactRow::FREE
+    },
+    ContactRow {
+        name: "cat",
+        period: Some(PeriodId(0)),
+        ..ContactRow::FREE
+    },
+];
+
+/// Web tells bob and ann, and of its second notification cat and bob.
+const WEB: Rows<'static> = Rows {
+    lanes: 2,
+    contacts: PEOPLE,
+    objects: &[ObjectRow {
+        name: "web",
+        host: None,
+        options: OptionLetters::ALL,
+        period: None,
+        interval: 1,
+        delay: 0,
+        contacts: &[ContactId(1), ContactId(0)],
+    }],
+    periods: &[Range {
+        start: 43_200,
+        end: 46_800,
+    }],
+    escalations: &[EscalationRow {
+        object: ObjectId(0),
+        first: 2,
+        last: 2,
+        interval: 1,
+        period: None,
+        contacts: &[ContactId(2), ContactId(1)],
+    }],
+    dependencies: &[],
+};
+
+/// What becomes of one message.
+#[derive(Clone, Copy)]
+enum Said {
+    /// This contact has a notice on this lane.
+    Told(u16, u8),
+    /// This filter refused the contact, or stopped all where there is none.
+    Stopped(Option<u16>, Filter),
+}
+
+/// A notification about web, the object's filter that stops it, if one does, and what is said of it in this order.
+#[derive(Clone, Copy)]
+struct Row {
+    kind: Kind,
+    state: State,
+    number: u64,
+    stopped: Option<Filter>,
+    said: &'static [Said],
+}
+
+const ROWS: [Row; 6] = [
+    Row {
+        kind: Kind::Problem,
+        state: State::Down,
+        number: 1,
+        stopped: None,
+        said: &[Said::Told(0, 0), Said::Told(0, 1), Said::Told(1, 1)],
+    },
+    Row {
+        kind: Kind::Problem,
+        state: State::Down,
+        number: 2,
+        stopped: None,
+        said: &[
+            Said::Told(1, 1),
+            Said::Stopped(Some(2), Filter::ContactPeriod),
+        ],
+    },
+    // The recovery after two notices goes to those that the second reached.
+    Row {
+        kind: Kind::Recovery,
+        state: State::Up,
+        number: 3,
+        stopped: None,
+        said: &[
+            Said::Stopped(Some(1), Filter::ContactOptions),
+            Said::Stopped(Some(2), Filter::ContactPeriod),
+        ],
+    },
+    // The recovery after one notice goes to the object's own contacts, though the second would reach others.
+    Row {
+        kind: Kind::Recovery,
+        state: State::Up,
+        number: 2,
+        stopped: None,
+        said: &[
+            Said::Told(0, 0),
+            Said::Told(0, 1),
+            Said::Stopped(Some(1), Filter::ContactOptions),
+        ],
+    },
+    Row {
+        kind: Kind::FlappingStart,
+        state: State::Down,
+        number: 2,
+        stopped: None,
+        said: &[
+            Said::Told(0, 0),
+            Said::Told(0, 1),
+            Said::Stopped(Some(1), Filter::ContactOptions),
+        ],
+    },
+    Row {
+        kind: Kind::Problem,
+        state: State::Down,
+        number: 2,
+        stopped: Some(Filter::Interval),
+        said: &[Said::Stopped(None, Filter::Interval)],
+    },
+];
+
+/// The outcome of a row.
+fn outcome(row: Row) -> Outcome
+    ensures { IsInRange result }
+{
+    let Row {
+        kind,
+        state,
+        number,
+        ..
+    } = row;
+    match row.stopped {
+        None => Outcome::Sent {
+            kind,
+            state,
+            number,
+            moment: MOMENT,
+            gap: 60,
+        },
+        Some(filter) => Outcome::Suppressed {
+            kind,
+            state,
+            number,
+            moment: MOMENT,
+            filter,
+        },
+    }
+}
+
+/// What a row says of one message, as an entry.
+fn entry(row: Row, said: Said) -> Entry {
+    match said {
+        Said::Told(contact, lane) => Entry::Sent(Notice {
+            event: EVENT,
+            moment: MOMENT,
+            object: ObjectId(0),
+            kind: row.kind,
+            state: row.state,
+            number: row.number,
+            contact: ContactId(contact),
+            lane: LaneId(lane),
+        }),
+        Said::Stopped(contact, filter) => Entry::Withheld(Suppression {
+            event: EVENT,
+            moment: MOMENT,
+            object: ObjectId(0),
+            kind: row.kind,
+            state: row.state,
+            number: row.number,
+            filter,
+            contact: contact.map(ContactId),
+        }),
+    }
+}
+
+/// Compares entries with what a row says.
+fn are_said(rt: &impl Abort, found: &[Entry], row: Row) {
+    assert_eq!(rt; found.len(), row.said.len());
+    for (found, said) in found.iter().zip(row.said) {
+        assert_eq!(rt; *found, entry(row, *said));
+    }
+}
+
+/// Compares what the outcome of a row adds to what stands there.
+fn adds(rt: &impl Abort, alloc: Global, rules: &Rules<'_>, row: Row) -> Result<(), Fail>
+    requires rules { AreRules rules.now }
+    requires object { 0 < length rules.now.config.now.objects }
+{
+    // What the list of receivers held is no matter.
+    let mut receivers = Vec::from_slice(alloc, &[ContactId(0)])?;
+    let mut entries = Vec::new(alloc);
+    let now = outcome(row);
+    add_messages(
+        alloc,
+        rules,
+        ObjectId(0),
+        EVENT,
+        now,
+        &mut receivers,
+        &mut entries,
+    )?;
+    are_said(rt, entries.as_slice(), row);
+    Ok(())
+}
+
+/// Compares what the outcome of each row adds in a configuration.
+fn each_adds(rt: &impl Abort, alloc: Global, config: &Config, rows: &[Row]) -> Result<(), Fail> {
+    assert!(rt; is_accepted(config) && has_object(config, ObjectId(0)));
+    let by_object = ByObject::new(alloc, config)?;
+    let all = compile_all(alloc, config)?;
+    let zone = Zone::Utc;
+    let rules = Rules {
+        config,
+        zone: &zone,
+        periods: all.as_slice(),
+        escalations: &by_object,
+    };
+    for row in rows {
+        adds(rt, alloc, &rules, *row)?;
+    }
+    Ok(())
+}
+
+#[test]
+fn messages_of_outcomes(rt: HostRuntime) -> Result<(), Fail> {
+    let config = config_of(rt.alloc(), WEB)?;
+    each_adds(&rt, rt.alloc(), &config, &ROWS)
+}
+
+#[test]
+fn counts_of_entries(rt: HostRuntime) {
+    let mut entries = [entry(ROWS[1], Said::Told(1, 1)); 4];
+    entries[1] = entry(ROWS[1], Said::Told(0, 0));
+    entries[2] = entry(ROWS[1], Said::Stopped(Some(2), Filter::ContactPeriod));
+    assert_eq!(&rt;
+        (
+            notices_for(&entries, 0),
+            notices_for(&entries, 1),
+            notices_for(&entries, 2),
+            suppressions(&entries),
+        ),
+        (1, 2, 0, 1)
+    );
+}

@@ -1,0 +1,429 @@
+//! Generated configurations and events, with services, periods, escalations, dependencies, restricted contacts,
+//! downtimes and flapping. On each, what was due or suppressed after some of the events is the front of that after all
+//! of them, and no notice stands twice, as the slow program says it.
+
+ghost use Rattle.std.specs.Prelude.{◌<◌, All, length};
+ghost use Rattle.due_model.specs.Accepted.{IsAccepted};
+ghost use Rattle.due_model.specs.Proper.{IsProper};
+
+use acceptance_inputs::accepted::is_accepted;
+use acceptance_inputs::plain::are_proper;
+use acceptance_inputs::rows::{ContactRow, EscalationRow, ObjectRow, Rows, config_of};
+use due_model::config::{Config, ContactId, Dependency, LaneId, ObjectId, PeriodId, Range};
+use due_model::event::{DowntimeChange, Event, EventKind};
+use due_model::notice::Notice;
+use due_model::options::OptionLetters;
+use due_model::state::{State, StateSet};
+use due_model::zone::Zone;
+use slow_rules::slow::{slow_due, slow_sup};
+use std::alloc::{AllocError, Global};
+use std::process::Abort;
+use std::test::Fail;
+
+/// How many configurations are made.
+const SEEDS: u64 = 40;
+
+/// How many events are made for each.
+const EVENTS: u64 = 30;
+
+/// How many objects each has: two hosts, a service of each, and one more of the second.
+const OBJECTS: u16 = 5;
+
+/// How many commands each has.
+const LANES: u8 = 2;
+
+/// How many periods each has.
+const PERIODS: u16 = 3;
+
+/// The hosts of the objects.
+const HOSTS: [Option<ObjectId>; 5] = [
+    None,
+    None,
+    Some(ObjectId(0)),
+    Some(ObjectId(1)),
+    Some(ObjectId(1)),
+];
+
+/// Whom objects and escalations name.
+const NAMED: [&[ContactId]; 4] = [
+    &[ContactId(0)],
+    &[ContactId(1), ContactId(0)],
+    &[ContactId(2)],
+    &[ContactId(2), ContactId(1), ContactId(2)],
+];
+
+/// On which lanes contacts are told.
+const ON: [&[LaneId]; 4] = [
+    &[LaneId(0)],
+    &[LaneId(1)],
+    &[LaneId(1), LaneId(0)],
+    &[LaneId(0), LaneId(0)],
+];
+
+/// Numbers that look random: a linear congruential generator, of which the high bits count.
+#[derive(Clone, Copy)]
+struct Numbers {
+    state: u64,
+}
+
+impl Numbers {
+    /// The next number.
+    fn next(&mut self) -> u64 {
+        self.state = self
+            .state
+            .wrapping_mul(6_364_136_223_846_793_005)
+            .wrapping_add(1_442_695_040_888_963_407);
+        self.state >> 33
+    }
+
+    /// A number less than this.
+    fn below(&mut self, end: u64) -> u64
+        requires { 0 < end }
+        ensures { result < end }
+    {
+        self.next() % end
+    }
+
+    /// True once in so many times.
+    fn once_in(&mut self, times: u64) -> bool
+        requires { 0 < times }
+    {
+        self.below(times) == 0
+    }
+
+    /// Most of the letters.
+    fn letters(&mut self) -> OptionLetters {
+        OptionLetters {
+            down: !self.once_in(6),
+            unreachable: !self.once_in(6),
+            warning: !self.once_in(6),
+            unknown: !self.once_in(6),
+            critical: !self.once_in(6),
+            recovery: !self.once_in(6),
+            flapping: !self.once_in(6),
+            downtime: !self.once_in(6),
+        }
+    }
+
+    /// A period, or none.
+    fn period(&mut self) -> Option<PeriodId> {
+        if self.once_in(2) {
+            Some(PeriodId(self.below(u64::from(PERIODS)) as u16))
+        } else {
+            None
+        }
+    }
+
+    /// Whom an object or an escalation names.
+    fn named(&mut self) -> &'static [ContactId] {
+        NAMED[self.below(4) as usize]
+    }
+
+    /// On which lanes a contact is told.
+    fn on(&mut self) -> &'static [LaneId] {
+        ON[self.below(4) as usize]
+    }
+
+    /// The states of a dependency's list.
+    fn states(&mut self) -> StateSet {
+        StateSet {
+            pending: self.once_in(3),
+            up: self.once_in(3),
+            down: !self.once_in(3),
+            unreachable: self.once_in(3),
+            fine: self.once_in(3),
+            warning: self.once_in(3),
+            unknown: self.once_in(3),
+            critical: !self.once_in(3),
+        }
+    }
+
+    /// A period of some hours of each day.
+    fn range(&mut self) -> Range {
+        let start = self.below(43_200) as u32;
+        let end = start + 1 + self.below(43_200) as u32;
+        Range { start, end }
+    }
+
+    /// A contact.
+    fn contact(&mut self) -> ContactRow {
+        ContactRow {
+            name: "contact",
+            enabled: !self.once_in(8),
+            options: self.letters(),
+            period: self.period(),
+            lanes: self.on(),
+        }
+    }
+
+    /// The object of this host, or a host.
+    fn object(&mut self, host: Option<ObjectId>) -> ObjectRow {
+        ObjectRow {
+            name: "object",
+            host,
+            options: self.letters(),
+            period: self.period(),
+            interval: self.below(4) as u32,
+            delay: self.below(2) as u32,
+            contacts: self.named(),
+        }
+    }
+
+    /// An escalation of some object.
+    fn escalation(&mut self) -> EscalationRow {
+        let first = self.below(4) as u32;
+        EscalationRow {
+            object: ObjectId(self.below(u64::from(OBJECTS)) as u16),
+            first,
+            last: if self.once_in(2) { 0 } else { first + 1 },
+            interval: self.below(4) as u32,
+            period: self.period(),
+            contacts: self.named(),
+        }
+    }
+
+    /// A dependency of some object on one before it.
+    fn dependency(&mut self) -> Dependency {
+        let dependent = 1 + self.below(u64::from(OBJECTS) - 1);
+        Dependency {
+            dependent: ObjectId(dependent as u16),
+            master: ObjectId(self.below(dependent) as u16),
+            inherits: self.once_in(2),
+            states: self.states(),
+            period: self.period(),
+        }
+    }
+
+    /// A hard state of a host.
+    fn host_state(&mut self) -> State {
+        match self.below(4) {
+            0 => State::Up,
+            1 => State::Unreachable,
+            _ => State::Down,
+        }
+    }
+
+    /// A hard state of a service.
+    fn service_state(&mut self) -> State {
+        match self.below(6) {
+            0 => State::Fine,
+            1 => State::Warning,
+            2 => State::Unknown,
+            _ => State::Critical,
+        }
+    }
+
+    /// A hard state of this object.
+    fn hard(&mut self, object: u16) -> EventKind {
+        let state = if object < 2 {
+            self.host_state()
+        } else {
+            self.service_state()
+        };
+        EventKind::Hard(ObjectId(object), state)
+    }
+
+    /// A change of the downtimes of this object.
+    fn downtime(&mut self, object: u16) -> EventKind {
+        let change = match self.below(5) {
+            0 | 1 => DowntimeChange::Start,
+            2 | 3 => DowntimeChange::End,
+            _ => DowntimeChange::Cancelled,
+        };
+        EventKind::Downtime(ObjectId(object), change)
+    }
+
+    /// What an event says.
+    fn event(&mut self) -> EventKind {
+        let object = self.below(u64::from(OBJECTS)) as u16;
+        match self.below(16) {
+            0 => EventKind::Program(!self.once_in(3)),
+            1 => EventKind::Flapping(ObjectId(object), self.once_in(2)),
+            2 | 3 => self.downtime(object),
+            4..=8 => EventKind::Clock,
+            _ => self.hard(object),
+        }
+    }
+}
+
+/// The escalations of a configuration.
+fn escalations(alloc: Global, numbers: &mut Numbers) -> Result<Vec<EscalationRow>, AllocError> {
+    let mut made = Vec::new(alloc);
+    for _escalation in 0..4u8 {
+        made.push(numbers.escalation())?;
+    }
+    Ok(made)
+}
+
+/// The dependencies of a configuration.
+fn dependencies(alloc: Global, numbers: &mut Numbers) -> Result<Vec<Dependency>, AllocError> {
+    let mut made = Vec::new(alloc);
+    for _dependency in 0..3u8 {
+        made.push(numbers.dependency())?;
+    }
+    Ok(made)
+}
+
+/// The objects of a configuration.
+fn objects(alloc: Global, numbers: &mut Numbers) -> Result<Vec<ObjectRow>, AllocError> {
+    let mut made = Vec::new(alloc);
+    for host in &HOSTS {
+        made.push(numbers.object(*host))?;
+    }
+    Ok(made)
+}
+
+/// The configuration of a seed.
+fn config(alloc: Global, numbers: &mut Numbers) -> Result<Config, AllocError> {
+    let contacts = [numbers.contact(), numbers.contact(), numbers.contact()];
+    let periods = [numbers.range(), numbers.range(), numbers.range()];
+    let objects = objects(alloc, numbers)?;
+    let escalations = escalations(alloc, numbers)?;
+    let dependencies = dependencies(alloc, numbers)?;
+    let rows = Rows {
+        lanes: LANES,
+        contacts: &contacts,
+        objects: objects.as_slice(),
+        periods: &periods,
+        escalations: escalations.as_slice(),
+        dependencies: dependencies.as_slice(),
+    };
+    config_of(alloc, rows)
+}
+
+/// The events of a seed. Their stamps mostly rise, over some hours, and sometimes fall.
+fn events(alloc: Global, numbers: &mut Numbers) -> Result<Vec<Event>, AllocError> {
+    let mut made = Vec::new(alloc);
+    for place in 0..EVENTS {
+        let moment = place * 240 + numbers.below(400);
+        let kind = numbers.event();
+        made.push(Event { moment, kind })?;
+    }
+    Ok(made)
+}
+
+/// How much was compared.
+#[derive(Clone, Copy, Debug)]
+struct Counts {
+    notices: usize,
+    suppressions: usize,
+}
+
+/// No notice stands twice.
+fn stand_once(rt: &impl Abort, notices: &[Notice]) {
+    for (place, notice) in notices.iter().enumerate() {
+        for earlier in notices.iter().take(place) {
+            assert!(rt; *earlier != *notice, "{notice:?} stands twice");
+        }
+    }
+}
+
+/// Of an object and a lane: what was due after some of the events is the front of what is due after all, and no
+/// notice stands twice.
+fn due_grows(
+    rt: &impl Abort,
+    alloc: Global,
+    config: &Config,
+    events: &[Event],
+    some: &[Event],
+    object: ObjectId,
+    lane: LaneId,
+) -> Result<usize, Fail>
+    requires accepted { IsAccepted config.now }
+    requires proper { All (IsProper config.now) events.now }
+    requires some { All (IsProper config.now) some.now }
+    requires object { object.0 < length config.now.objects }
+{
+    let all = slow_due(alloc, config, &Zone::Utc, events, object, lane)?;
+    let front = slow_due(alloc, config, &Zone::Utc, some, object, lane)?;
+    stand_once(rt, all.as_slice());
+    assert!(rt; all.as_slice().starts_with(front.as_slice()), "{object:?} on {lane:?}");
+    Ok(all.len())
+}
+
+/// The same of an object's suppressions.
+fn suppressions_grow(
+    rt: &impl Abort,
+    alloc: Global,
+    config: &Config,
+    events: &[Event],
+    some: &[Event],
+    object: ObjectId,
+) -> Result<usize, Fail>
+    requires accepted { IsAccepted config.now }
+    requires proper { All (IsProper config.now) events.now }
+    requires some { All (IsProper config.now) some.now }
+    requires object { object.0 < length config.now.objects }
+{
+    let all = slow_sup(alloc, config, &Zone::Utc, events, object)?;
+    let front = slow_sup(alloc, config, &Zone::Utc, some, object)?;
+    assert!(rt; all.as_slice().starts_with(front.as_slice()), "{object:?}");
+    Ok(all.len())
+}
+
+/// Compares what is said of each object.
+fn each_grows(
+    rt: &impl Abort,
+    alloc: Global,
+    config: &Config,
+    events: &[Event],
+    some: &[Event],
+    counts: &mut Counts,
+) -> Result<(), Fail>
+    requires accepted { IsAccepted config.now }
+    requires proper { All (IsProper config.now) events.now }
+    requires some { All (IsProper config.now) some.now }
+{
+    for number in 0..config.objects.len() {
+        let object = ObjectId(number as u16);
+        for lane in 0..LANES {
+            let found = due_grows(rt, alloc, config, events, some, object, LaneId(lane))?;
+            counts.notices = counts.notices.saturating_add(found);
+        }
+        let found = suppressions_grow(rt, alloc, config, events, some, object)?;
+        counts.suppressions = counts.suppressions.saturating_add(found);
+    }
+    Ok(())
+}
+
+/// Compares what a configuration says after some events, and after all of them.
+fn compare(
+    rt: &impl Abort,
+    alloc: Global,
+    config: &Config,
+    events: &[Event],
+    some: &[Event],
+    counts: &mut Counts,
+) -> Result<(), Fail> {
+    assert!(rt; is_accepted(config) && are_proper(config, events) && are_proper(config, some));
+    each_grows(rt, alloc, config, events, some, counts)
+}
+
+/// Compares what the configuration of a seed says after its events, and after a part of them.
+fn compare_seed(
+    rt: &impl Abort,
+    alloc: Global,
+    seed: u64,
+    counts: &mut Counts,
+) -> Result<(), Fail> {
+    let mut numbers = Numbers { state: seed };
+    let events = events(alloc, &mut numbers)?;
+    let length = numbers.below(EVENTS) as usize;
+    let (some, _rest) = events.as_slice().split_at(length.min(events.len()));
+    let config = config(alloc, &mut numbers)?;
+    compare(rt, alloc, &config, events.as_slice(), some, counts)
+}
+
+#[test]
+fn what_was_due_stays_due(rt: HostRuntime) -> Result<(), Fail> {
+    let mut counts = Counts {
+        notices: 0,
+        suppressions: 0,
+    };
+    for seed in 0..SEEDS {
+        compare_seed(&rt, rt.alloc(), seed, &mut counts)?;
+    }
+    // Each configuration says something, on the average.
+    assert!(&rt; counts.notices > 1_000 && counts.suppressions > 1_000, "{counts:?}");
+    Ok(())
+}

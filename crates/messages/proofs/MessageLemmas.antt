@@ -1,0 +1,177 @@
+-- What a contact has of a notification is what the definitions say, and receivers are contacts of the configuration.
+use Rattle.std.proofs.Common.{◌≡◌, ℕ, zero, suc, ◌<◌, ◌-◌, All, List, [], ◌∷◌, ◌++◌, length, map, flat_map, slice_get, get_or, Option, Some, None, is_some, Bool, if◌then◌else◌, refl, sym, ap, subst, ◌∙◌, arith}
+use Rattle.std.specs.List.{range_with_len}
+use Rattle.std.specs.Option.{option_map_or}
+use Rattle.std.proofs.lemmas.List.Elements.{All-nil, All-cons, All-head, All-tail, All-filter}
+use Rattle.std.proofs.lemmas.Option.{get_or_from_slice_get}
+use Rattle.std.proofs.lemmas.List.FromFn.{get_or-range_with_len, length-range_with_len}
+use Rattle.due_model.specs.declared.config.Config.{Config}
+use Rattle.due_model.specs.declared.config.Contact.{Contact}
+use Rattle.due_model.specs.declared.config.ContactId.{ContactId}
+use Rattle.due_model.specs.declared.config.Object.{Object}
+use Rattle.due_model.specs.declared.config.ObjectId.{ObjectId}
+use Rattle.due_model.specs.declared.config.Rights.{Rights}
+use Rattle.due_model.specs.declared.notice.Filter.{Filter}
+use Rattle.due_model.specs.declared.notice.Kind.{Kind}
+use Rattle.due_model.specs.declared.notice.Kind.TheVariants as kind
+use Rattle.due_model.specs.declared.notice.Notice.{Notice}
+use Rattle.due_model.specs.declared.notice.Outcome.{Outcome}
+use Rattle.due_model.specs.declared.notice.Suppression.{Suppression}
+use Rattle.due_model.specs.declared.options.OptionLetter.TheVariants as letter
+use Rattle.due_model.specs.declared.rules.Attempt.{Attempt}
+use Rattle.due_model.specs.declared.state.State.{State}
+use Rattle.due_model.specs.declared.zone.Zone.{Zone}
+use Rattle.due_model.specs.Due.{receivers, rights_for, uses_lane}
+use Rattle.due_model.specs.Escalations.{contacts_with, has_contact, matching, reaches}
+use Rattle.due_model.specs.Rules.{contact_failing, state_letter}
+use Rattle.escalation.specs.Named.{contact_ids}
+use Rattle.filters.specs.Attempt.{plain, rights_of}
+use Rattle.lemmas.proofs.Lists.{slice_get_read}
+use Rattle.lemmas.proofs.Numbers.{flat_alike, flat_nothing}
+use Rattle.messages.specs.declared.entries.Entry.{Entry}
+use Rattle.messages.specs.declared.entries.Entry.TheVariants.{Sent, Withheld}
+use Rattle.messages.specs.declared.message.Message.{Message}
+use Rattle.messages.specs.Entries.{contact_entries, outcome_entries}
+use Rattle.messages.specs.Message.{entries_unless, lane_entries, message_entries, outcome_of, suppression_for}
+
+-- ---- what is read of a list
+
+pub read_at : {X : Type 0} (xs ys : List X) (i k : ℕ) (x : X) → ys ≡ xs → k ≡ i → i < length xs → x ≡ get_or ys k x → slice_get xs i ≡ Some x
+read_at {X} xs ys i k x same place low is =
+    slice_get_read xs i x low (is ∙ ap (λ (zs : List X). get_or zs k x) same ∙ ap (λ (j : ℕ). get_or xs j x) place)
+
+pub is_read : {X : Type 0} (xs ys : List X) (i k : ℕ) (d x : X) → ys ≡ xs → k ≡ i → slice_get xs i ≡ Some x → get_or ys k d ≡ x
+is_read {X} xs ys i k d x same place at = ap (λ (zs : List X). get_or zs k d) same ∙ ap (λ (m : ℕ). get_or xs m d) place ∙ get_or_from_slice_get xs i x d at
+
+-- ---- what one contact has
+
+-- where no filter of the contact fails
+pub passed : (c : Config) (m : Message) (k : ℕ) (contact : Contact) → slice_get c.contacts k ≡ Some contact
+    → contact_failing c m.attempt.zone.now (rights_of m.attempt.service contact) (plain m.attempt) ≡ None
+    → message_entries c m k ≡ lane_entries m k (rights_of m.attempt.service contact) (length c.lanes)
+passed c m k contact at none =
+    ap (λ (found : Option Contact). option_map_or (λ (x : Contact). entries_unless c m k (rights_of m.attempt.service x) (contact_failing c m.attempt.zone.now (rights_of m.attempt.service x) (plain m.attempt))) found []) at
+    ∙ ap (entries_unless c m k (rights_of m.attempt.service contact)) none
+
+-- where this one is the first that fails
+pub refused : (c : Config) (m : Message) (k : ℕ) (contact : Contact) (why : Filter) → slice_get c.contacts k ≡ Some contact
+    → contact_failing c m.attempt.zone.now (rights_of m.attempt.service contact) (plain m.attempt) ≡ Some why
+    → message_entries c m k ≡ Withheld (suppression_for m k why) ∷ []
+refused c m k contact why at some =
+    ap (λ (found : Option Contact). option_map_or (λ (x : Contact). entries_unless c m k (rights_of m.attempt.service x) (contact_failing c m.attempt.zone.now (rights_of m.attempt.service x) (plain m.attempt))) found []) at
+    ∙ ap (entries_unless c m k (rights_of m.attempt.service contact)) some
+
+module _ (c : Config) (zone : Zone) (m : Message) (settings : Object) where
+  -- the notice of contact k for lane l, unless this filter stops it
+  abbrev unless : (l k : ℕ) → Rights → Option Filter → List Notice
+  unless l k rights stopped = elim stopped as (λ _. List Notice) [
+    | Some why ↦ []
+    | None ↦ if uses_lane rights l
+        then record { event = m.event; moment = m.attempt.moment; object = record { 0 = m.object.0 }; kind = m.attempt.kind; state = m.attempt.state; number = m.number; contact = record { 0 = k }; lane = record { 0 = l } } ∷ []
+        else []
+  ]
+
+  -- what a contact is refused, by this filter
+  abbrev refusal : (k : ℕ) → Option Filter → List Suppression
+  refusal k stopped = elim stopped as (λ _. List Suppression) [
+    | None ↦ []
+    | Some why ↦ record { event = m.event; moment = m.attempt.moment; object = record { 0 = m.object.0 }; kind = m.attempt.kind; state = m.attempt.state; number = m.number; filter = why; contact = Some (record { 0 = k }) } ∷ []
+  ]
+
+  by_filter : (k : ℕ) (rights : Rights) (stopped : Option Filter)
+      → entries_unless c m k rights stopped ≡ map Withheld (refusal k stopped) ++ flat_map (λ l. map Sent (unless l k rights stopped)) (range_with_len 0 (length c.lanes))
+  by_filter k rights None = refl
+  by_filter k rights (Some why) =
+      ap (λ (xs : List Entry). Withheld (suppression_for m k why) ∷ xs)
+      (sym (flat_nothing (λ (l : ℕ). map Sent []) (λ l. refl) (range_with_len 0 (length c.lanes))))
+
+  -- what contact k has of it, by the definitions
+  pub message_law : m.attempt.zone.now ≡ zone → m.attempt.service ≡ is_some settings.host → (k : ℕ)
+      → message_entries c m k ≡ contact_entries c zone m.object.0 settings m.event m.number (plain m.attempt) k
+  message_law same service k = by_contact (slice_get c.contacts k)
+    where
+      by_contact : (found : Option Contact)
+          → option_map_or (λ (x : Contact). entries_unless c m k (rights_of m.attempt.service x) (contact_failing c m.attempt.zone.now (rights_of m.attempt.service x) (plain m.attempt))) found []
+          ≡ map Withheld (elim found as (λ _. List Suppression) [
+            | None ↦ []
+            | Some contact ↦ refusal k (contact_failing c zone (rights_for settings contact) (plain m.attempt))
+          ]) ++ flat_map (λ l. map Sent (elim found as (λ _. List Notice) [
+            | None ↦ []
+            | Some contact ↦ unless l k (rights_for settings contact) (contact_failing c zone (rights_for settings contact) (plain m.attempt))
+          ])) (range_with_len 0 (length c.lanes))
+      by_contact None = sym (flat_nothing (λ (l : ℕ). map Sent []) (λ l. refl) (range_with_len 0 (length c.lanes)))
+      by_contact (Some contact) =
+          let rights = rights_for settings contact in
+          ap (λ (s : Bool). entries_unless c m k (rights_of s contact) (contact_failing c m.attempt.zone.now (rights_of s contact) (plain m.attempt))) service
+          ∙ ap (λ (z : Zone). entries_unless c m k rights (contact_failing c z rights (plain m.attempt))) same
+          ∙ by_filter k rights (contact_failing c zone rights (plain m.attempt))
+
+-- ---- what the receivers have
+
+pub flat_ids : (f : ℕ → List Entry) (ks : List ℕ) → flat_map (λ (contact : ContactId). f contact.0) (contact_ids ks) ≡ flat_map f ks
+flat_ids f [] = refl
+flat_ids f (k ∷ ks) = ap (λ (xs : List Entry). f k ++ xs) (flat_ids f ks)
+
+-- what they have, by the definitions
+pub receivers_law : (c : Config) (zone : Zone) (m : Message) (settings : Object) (told : List ContactId)
+    → m.attempt.zone.now ≡ zone → m.attempt.service ≡ is_some settings.host
+    → told ≡ contact_ids (receivers c zone m.object.0 settings (plain m.attempt) m.number)
+    → flat_map (λ (contact : ContactId). message_entries c m contact.0) told ≡ outcome_entries c zone m.object.0 settings m.event (outcome_of m)
+receivers_law c zone m settings told same service is =
+    let ks = receivers c zone m.object.0 settings (plain m.attempt) m.number in
+    ap (flat_map (λ (contact : ContactId). message_entries c m contact.0)) is
+    ∙ flat_ids (message_entries c m) ks
+    ∙ flat_alike (message_entries c m) (contact_entries c zone m.object.0 settings m.event m.number (plain m.attempt)) (message_law c zone m settings same service) ks
+
+-- the parts of a notification tell what it adds
+pub parts_law : (c : Config) (zone : Zone) (m : Message) (settings : Object) (o : ObjectId) (event : ℕ) (outcome : Outcome)
+    → m.object ≡ o → m.event ≡ event → outcome_of m ≡ outcome
+    → outcome_entries c zone m.object.0 settings m.event (outcome_of m) ≡ outcome_entries c zone o.0 settings event outcome
+parts_law c zone m settings o event outcome object number is =
+    ap (λ (p : ObjectId). outcome_entries c zone p.0 settings m.event (outcome_of m)) object
+    ∙ ap (λ (n : ℕ). outcome_entries c zone o.0 settings n (outcome_of m)) number
+    ∙ ap (outcome_entries c zone o.0 settings event) is
+
+-- ---- receivers are contacts of the configuration
+
+range_below : (n : ℕ) → All (λ k. k < n) (range_with_len 0 n)
+range_below n = λ i d within.
+    let low : i < n = omega (arith, within, length-range_with_len 0 n) in
+    omega (arith, low, get_or-range_with_len 0 n i d low)
+
+ids_below : (n : ℕ) (ks : List ℕ) → All (λ k. k < n) ks → All (λ (contact : ContactId). contact.0 < n) (contact_ids ks)
+ids_below n [] each = All-nil (λ (contact : ContactId). contact.0 < n)
+ids_below n (k ∷ ks) each =
+    All-cons (λ (contact : ContactId). contact.0 < n) (record { 0 = k }) (contact_ids ks)
+    (All-head (λ j. j < n) k ks each) (ids_below n ks (All-tail (λ j. j < n) k ks each))
+
+module _ (c : Config) (zone : Zone) (o : ℕ) (settings : Object) (number : ℕ) where
+  abbrev AreContacts : List ContactId → Type 0
+  AreContacts told = All (λ (contact : ContactId). contact.0 < length c.contacts) told
+
+  with_test : (test : ℕ → Bool) → AreContacts (contact_ids (contacts_with c test))
+  with_test test =
+      ids_below (length c.contacts) (contacts_with c test)
+      (All-filter test (λ k. k < length c.contacts) (range_with_len 0 (length c.contacts)) (range_below (length c.contacts)))
+
+  of_kind : (k : Kind) (s : State) (t : ℕ) → AreContacts (contact_ids (receivers c zone o settings (record { kind = k; state = s; moment = t }) number))
+  of_kind kind.Problem s t = with_test (reaches settings (matching c zone o number (state_letter s) t))
+  of_kind kind.Recovery s t = with_test (reaches settings (matching c zone o (number - 1) letter.Recovery t))
+  of_kind kind.FlappingStart s t = with_test (has_contact settings.contacts)
+  of_kind kind.FlappingStop s t = with_test (has_contact settings.contacts)
+  of_kind kind.DowntimeStart s t = with_test (has_contact settings.contacts)
+  of_kind kind.DowntimeEnd s t = with_test (has_contact settings.contacts)
+  of_kind kind.DowntimeCancelled s t = with_test (has_contact settings.contacts)
+
+some_at : {X : Type 0} (xs : List X) (i : ℕ) → i < length xs → (x : X) × (slice_get xs i ≡ Some x)
+some_at [] i low = absurd (omega arith)
+some_at (x ∷ xs) zero low = (x, refl)
+some_at (x ∷ xs) (suc i) low = some_at xs i (omega arith)
+
+pub receivers_within : (c : Config) (zone : Zone) (m : Message) (told : List ContactId) → m.object.0 < length c.objects
+    → ((settings : Object) → slice_get c.objects m.object.0 ≡ Some settings → told ≡ contact_ids (receivers c zone m.object.0 settings (plain m.attempt) m.number))
+    → All (λ (contact : ContactId). contact.0 < length c.contacts) told
+receivers_within c zone m told low is =
+    let found = some_at c.objects m.object.0 low in
+    subst (All (λ (contact : ContactId). contact.0 < length c.contacts)) (sym (is found.0 found.1))
+    (of_kind c zone m.object.0 found.0 m.number m.attempt.kind m.attempt.state m.attempt.moment)

@@ -1,0 +1,6 @@
+use Rattle.std.proofs.Common.{◌≡◌, ◌++◌, take, flat_map}
+use Rattle.messages.specs.Message.{message_entries}
+use Rattle.messages.proofs.outcome.add_to_receivers.Given as goal
+
+abbrev pub invariant-loop-contact : goal.invariant-loop-contact
+invariant-loop-contact l = l.entries.items ≡ l.fn.entries.items ++ flat_map (λ contact. message_entries l.config l.message contact.0) (take l.contact-index l.receivers)

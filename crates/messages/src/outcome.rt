@@ -1,0 +1,152 @@
+//! The messages of an outcome.
+
+ghost use Rattle.std.specs.Prelude.{◌≡◌, ◌<◌, ◌≤◌, ◌++◌, All, flat_map, length, slice_get, OnOk, Some};
+ghost use Rattle.due_model.specs.declared.config.Object.{Object};
+ghost use Rattle.due_model.specs.declared.notice.Outcome.TheVariants.{Sent};
+ghost use Rattle.due_model.specs.Limits.{last_moment};
+ghost use Rattle.messages.specs.Entries.{outcome_entries};
+ghost use Rattle.messages.specs.Message.{IsMessage, IsReadable, message_entries, outcome_of};
+ghost use Rattle.outcomes.specs.Outcome.{IsInRange};
+ghost use Rattle.outcomes.specs.Rules.{AreRules};
+
+use crate::contact::add_to_contact;
+use crate::entries::Entry;
+use crate::message::Message;
+use crate::receivers::add_receivers;
+use due_model::config::{Config, ContactId, ObjectId};
+use due_model::notice::{Kind, Outcome, Suppression};
+use due_model::state::State;
+use filters::attempt::Attempt;
+use outcomes::rules::Rules;
+use std::alloc::{AllocError, Global};
+
+/// Appends what becomes of each message of this outcome of an object, at the event of this number: the filter of the
+/// object that stopped it, or for each receiver, in number order, the filter that refused it or its notices, in the
+/// order of the lanes (chapter "Notifications"). `receivers` is a list of the caller's, kept for its room: what it
+/// holds is lost. An error comes only where a growth was refused; some of the entries are then appended.
+pub fn add_messages(
+    alloc: Global,
+    rules: &Rules<'_>,
+    object: ObjectId,
+    event: u64,
+    outcome: Outcome,
+    receivers: &mut Vec<ContactId>,
+    entries: &mut Vec<Entry>,
+) -> Result<(), AllocError>
+    requires rules { AreRules rules.now }
+    requires object { object.0 < length rules.now.config.now.objects }
+    requires range { IsInRange outcome }
+    ensures { OnOk result ((settings : Object)
+        → slice_get rules.now.config.now.objects object.0 ≡ Some settings
+        → entries.new.items ≡ entries.old.items
+        ++ outcome_entries rules.now.config.now rules.now.zone.now object.0 settings event outcome) }
+{
+    match outcome {
+        Outcome::Nothing => Ok(()),
+        Outcome::Sent {
+            kind,
+            state,
+            number,
+            moment,
+            ..
+        } => {
+            let message = message_of(rules, object, event, kind, state, number, moment);
+            add_message(alloc, rules, &message, receivers, entries)
+        }
+        Outcome::Suppressed {
+            kind,
+            state,
+            number,
+            moment,
+            filter,
+        } => {
+            let suppression = Suppression {
+                event,
+                moment,
+                object,
+                kind,
+                state,
+                number,
+                filter,
+                contact: None,
+            };
+            entries.push(Entry::Withheld(suppression))?;
+            Ok(())
+        }
+    }
+}
+
+/// A notification of these parts.
+fn message_of<'a>(
+    rules: &Rules<'a>,
+    object: ObjectId,
+    event: u64,
+    kind: Kind,
+    state: State,
+    number: u64,
+    moment: u64,
+) -> Message<'a>
+    requires rules { AreRules rules.now }
+    requires object { object.0 < length rules.now.config.now.objects }
+    requires moment { moment ≤ last_moment }
+    ensures is { IsMessage rules.now result }
+    ensures object { result.object ≡ object }
+    ensures event { result.event ≡ event }
+    ensures outcome { outcome_of result ≡ Sent kind state number moment 0 }
+{
+    let settings = &rules.config.objects.as_slice()[usize::from(object.0)];
+    let attempt = Attempt {
+        moment,
+        kind,
+        state,
+        letter: kind.letter(state),
+        service: settings.host.is_some(),
+        zone: rules.zone,
+        periods: rules.periods,
+    };
+    Message {
+        event,
+        object,
+        number,
+        attempt,
+    }
+}
+
+/// Appends what each receiver of a notification has.
+fn add_message(
+    alloc: Global,
+    rules: &Rules<'_>,
+    message: &Message<'_>,
+    receivers: &mut Vec<ContactId>,
+    entries: &mut Vec<Entry>,
+) -> Result<(), AllocError>
+    requires rules { AreRules rules.now }
+    requires message { IsMessage rules.now message.now }
+    ensures { OnOk result ((settings : Object)
+        → slice_get rules.now.config.now.objects message.now.object.0 ≡ Some settings
+        → entries.new.items ≡ entries.old.items
+        ++ outcome_entries rules.now.config.now rules.now.zone.now message.now.object.0 settings
+        message.now.event (outcome_of message.now)) }
+{
+    receivers.clear();
+    add_receivers(alloc, rules, message, receivers)?;
+    add_to_receivers(rules.config, message, receivers.as_slice(), entries)
+}
+
+/// Appends what each of these contacts has of a notification, in their order.
+fn add_to_receivers(
+    config: &Config,
+    message: &Message<'_>,
+    receivers: &[ContactId],
+    entries: &mut Vec<Entry>,
+) -> Result<(), AllocError>
+    requires readable { IsReadable config.now message.now }
+    requires within { All (λ contact. contact.0 < length config.now.contacts) receivers.now }
+    ensures { OnOk result (entries.new.items ≡ entries.old.items
+        ++ flat_map (λ contact. message_entries config.now message.now contact.0) receivers.now) }
+{
+    for contact in receivers {
+        add_to_contact(config, message, *contact, entries)?;
+    }
+    Ok(())
+}

@@ -1,0 +1,87 @@
+//! Who receives a notification.
+
+ghost use Rattle.std.specs.Prelude.{◌≡◌, ◌++◌, slice_get, OnOk, Some};
+ghost use Rattle.due_model.specs.declared.config.Object.{Object};
+ghost use Rattle.due_model.specs.Due.{receivers};
+ghost use Rattle.due_model.specs.Escalations.{reach};
+ghost use Rattle.escalation.specs.Named.{contact_ids};
+ghost use Rattle.filters.specs.Attempt.{plain};
+ghost use Rattle.messages.specs.Message.{IsMessage};
+ghost use Rattle.outcomes.specs.Rules.{AreRules};
+
+use crate::message::Message;
+use due_model::config::ContactId;
+use due_model::notice::Kind;
+use due_model::options::OptionLetter;
+use escalation::contacts::{contacts, own_contacts};
+use outcomes::rules::Rules;
+use std::alloc::{AllocError, Global};
+
+/// Appends who receives a notification, each once and in number order. A recovery goes to those that the last
+/// problem notice's number reaches (chapter "Notification Escalations"); flapping and downtimes are no matter of
+/// escalations.
+pub(crate) fn add_receivers(
+    alloc: Global,
+    rules: &Rules<'_>,
+    message: &Message<'_>,
+    told: &mut Vec<ContactId>,
+) -> Result<(), AllocError>
+    requires rules { AreRules rules.now }
+    requires message { IsMessage rules.now message.now }
+    ensures { OnOk result ((settings : Object)
+        → slice_get rules.now.config.now.objects message.now.object.0 ≡ Some settings
+        → told.new.items ≡ told.old.items
+        ++ contact_ids (receivers rules.now.config.now rules.now.zone.now message.now.object.0
+        settings (plain message.now.attempt) message.now.number)) }
+{
+    match message.attempt.kind {
+        Kind::Problem => add_reached(
+            alloc,
+            rules,
+            message,
+            message.number,
+            message.attempt.letter,
+            told,
+        ),
+        Kind::Recovery => add_reached(
+            alloc,
+            rules,
+            message,
+            message.number.saturating_sub(1),
+            OptionLetter::Recovery,
+            told,
+        ),
+        _ => own_contacts(alloc, rules.config, message.object, told),
+    }
+}
+
+/// Appends whom a notification of this number and letter reaches at the message's moment.
+fn add_reached(
+    alloc: Global,
+    rules: &Rules<'_>,
+    message: &Message<'_>,
+    number: u64,
+    letter: OptionLetter,
+    told: &mut Vec<ContactId>,
+) -> Result<(), AllocError>
+    requires rules { AreRules rules.now }
+    requires message { IsMessage rules.now message.now }
+    ensures { OnOk result ((settings : Object)
+        → slice_get rules.now.config.now.objects message.now.object.0 ≡ Some settings
+        → told.new.items ≡ told.old.items
+        ++ contact_ids (reach rules.now.config.now rules.now.zone.now message.now.object.0
+        settings number letter message.now.attempt.moment)) }
+{
+    contacts(
+        alloc,
+        rules.config,
+        rules.escalations,
+        message.object,
+        number,
+        letter,
+        message.attempt.moment,
+        rules.periods,
+        rules.zone,
+        told,
+    )
+}
