@@ -1,10 +1,6 @@
-//! Tests of the rules: the slow program, the deciders against it, and the world of steps. There is no code here.
+//! Tests of the rules: the slow program, and the world of steps. There is no code here.
 #![tactic(auto)]
 
-#[cfg(test)]
-mod comparison;
-#[cfg(test)]
-mod generated;
 #[cfg(test)]
 mod slow_program;
 #[cfg(test)]

@@ -1,19 +1,17 @@
-//! One decider against the slow program, and two deciders against one, over generated feeds.
+//! Comparisons over generated texts: plain hosts, and feeds of them.
 
-ghost use Rattle.std.specs.Prelude.{All, IfOk, ◌<◌, length};
+ghost use Rattle.std.specs.Prelude.{All, IfOk};
 ghost use Rattle.due_model.specs.Accepted.{IsAccepted};
 ghost use Rattle.due_model.specs.Proper.{IsProper};
-ghost use Rattle.decider.specs.Share.{IsShare};
 
+use crate::comparison::compare;
+use crate::said::Said;
 use acceptance_inputs::plain::are_proper;
-use decider::{Decider, Outbox, Share};
-use due_model::config::{Config, LaneId, ObjectId};
+use due_model::config::Config;
 use due_model::event::Event;
-use due_model::notice::{Filter, Kind, Notice, Suppression};
-use due_model::zone::Zone;
+use due_model::notice::{Filter, Kind};
 use event_feed::Feeder;
 use object_resolve::load;
-use slow_rules::slow::{slow_due, slow_sup};
 use std::alloc::{AllocError, Global};
 use std::fmt::Write;
 use std::process::Abort;
@@ -47,30 +45,6 @@ const LINES: u32 = 60;
 
 /// How many feeds are made for a configuration.
 const SEEDS: u64 = 5;
-
-/// How many lanes a configuration has.
-const LANES: u8 = 2;
-
-/// One decider.
-const SOLE: Share = Share {
-    decider: 0,
-    deciders: 1,
-};
-
-/// The first of two deciders.
-const EVEN: Share = Share {
-    decider: 0,
-    deciders: 2,
-};
-
-/// The second of them.
-const ODD: Share = Share {
-    decider: 1,
-    deciders: 2,
-};
-
-/// More notices than wait for a lane.
-const MANY: u32 = 100_000;
 
 /// A host of a generated configuration.
 #[derive(Clone, Copy, Debug)]
@@ -198,108 +172,6 @@ fn events_of(
     Ok(events)
 }
 
-/// The decider of these objects and its outbox after these events.
-fn decided<'a>(
-    alloc: Global,
-    config: &'a Config,
-    zone: &'a Zone,
-    events: &[Event],
-    share: Share,
-) -> Result<(Decider<'a>, Outbox), Fail>
-    requires accepted { IsAccepted config.now }
-    requires proper { All (IsProper config.now) events.now }
-    requires share { IsShare share }
-{
-    let mut outbox = Outbox::new(alloc, config.lanes.len())?;
-    let mut decider = Decider::new(alloc, config, zone, share)?;
-    for event in events {
-        decider.decide(*event, &mut outbox)?;
-    }
-    Ok((decider, outbox))
-}
-
-/// What a decider said of some events: the notices, lane by lane, and the suppressions.
-#[derive(Drop)]
-struct Said {
-    notices: Vec<Notice>,
-    suppressions: Vec<Suppression>,
-}
-
-impl Said {
-    /// What a decider of these objects says, lane by lane.
-    fn of(alloc: Global, config: &Config, events: &[Event], share: Share) -> Result<Said, Fail>
-        requires accepted { IsAccepted config.now }
-        requires proper { All (IsProper config.now) events.now }
-        requires share { IsShare share }
-    {
-        let zone = Zone::Utc;
-        let (decider, mut outbox) = decided(alloc, config, &zone, events, share)?;
-        Ok(Said::taken(alloc, decider.log(), &mut outbox)?)
-    }
-
-    /// What a log and an outbox hold.
-    fn taken(alloc: Global, log: &[Suppression], outbox: &mut Outbox) -> Result<Said, AllocError> {
-        let suppressions = Vec::from_slice(alloc, log)?;
-        let mut notices = Vec::new(alloc);
-        for lane in 0..LANES {
-            take_lane(outbox, LaneId(lane), &mut notices)?;
-        }
-        Ok(Said {
-            notices,
-            suppressions,
-        })
-    }
-
-    /// The notices of an object on a lane.
-    fn notices_of(
-        &self,
-        alloc: Global,
-        object: ObjectId,
-        lane: LaneId,
-    ) -> Result<Vec<Notice>, AllocError> {
-        let mut found = Vec::new(alloc);
-        for notice in self.notices.as_slice() {
-            if notice.object == object && notice.lane == lane {
-                found.push(*notice)?;
-            }
-        }
-        Ok(found)
-    }
-
-    /// The suppressions of an object.
-    fn suppressions_of(
-        &self,
-        alloc: Global,
-        object: ObjectId,
-    ) -> Result<Vec<Suppression>, AllocError> {
-        let mut found = Vec::new(alloc);
-        for suppression in self.suppressions.as_slice() {
-            if suppression.object == object {
-                found.push(*suppression)?;
-            }
-        }
-        Ok(found)
-    }
-}
-
-/// Takes what waits for a lane, if there is such a lane.
-fn take_lane(
-    outbox: &mut Outbox,
-    lane: LaneId,
-    notices: &mut Vec<Notice>,
-) -> Result<(), AllocError> {
-    for _taken in 0..MANY {
-        if lane.0 as usize >= outbox.len() {
-            return Ok(());
-        }
-        match outbox.take_front(lane) {
-            None => return Ok(()),
-            Some(notice) => notices.push(notice)?,
-        }
-    }
-    Ok(())
-}
-
 /// How often which notices and suppressions come.
 #[derive(Clone, Copy, Debug, PartialEq, Eq)]
 struct Counts {
@@ -327,150 +199,6 @@ impl Counts {
             self.stopped[place] = self.stopped[place].saturating_add(1);
         }
     }
-}
-
-/// Compares the notices that are said of an object on a lane.
-fn has_notices(
-    rt: &impl Abort,
-    alloc: Global,
-    said: &Said,
-    object: ObjectId,
-    lane: LaneId,
-    wanted: &[Notice],
-) -> Result<(), Fail> {
-    let found = said.notices_of(alloc, object, lane)?;
-    assert_eq!(rt; found.as_slice(), wanted, "{object:?} on {lane:?}");
-    Ok(())
-}
-
-/// Compares the suppressions that are said of an object.
-fn has_suppressions(
-    rt: &impl Abort,
-    alloc: Global,
-    said: &Said,
-    object: ObjectId,
-    wanted: &[Suppression],
-) -> Result<(), Fail> {
-    let found = said.suppressions_of(alloc, object)?;
-    assert_eq!(rt; found.as_slice(), wanted, "{object:?}");
-    Ok(())
-}
-
-/// Compares what the slow program and one decider say of an object.
-fn compare_slow(
-    rt: &impl Abort,
-    alloc: Global,
-    config: &Config,
-    events: &[Event],
-    object: ObjectId,
-    sole: &Said,
-) -> Result<(), Fail>
-    requires accepted { IsAccepted config.now }
-    requires proper { All (IsProper config.now) events.now }
-    requires object { object.0 < length config.now.objects }
-{
-    let zone = Zone::Utc;
-    for lane in 0..LANES {
-        let lane = LaneId(lane);
-        let due = slow_due(alloc, config, &zone, events, object, lane)?;
-        has_notices(rt, alloc, sole, object, lane, due.as_slice())?;
-    }
-    let stopped = slow_sup(alloc, config, &zone, events, object)?;
-    has_suppressions(rt, alloc, sole, object, stopped.as_slice())
-}
-
-/// Compares what one decider says of an object, and the one of two whose share has it.
-fn compare_halves(
-    rt: &impl Abort,
-    alloc: Global,
-    object: ObjectId,
-    sole: &Said,
-    half: &Said,
-) -> Result<(), Fail> {
-    for lane in 0..LANES {
-        let lane = LaneId(lane);
-        let all = sole.notices_of(alloc, object, lane)?;
-        has_notices(rt, alloc, half, object, lane, all.as_slice())?;
-    }
-    let all = sole.suppressions_of(alloc, object)?;
-    has_suppressions(rt, alloc, half, object, all.as_slice())
-}
-
-/// Compares what the slow program and one decider say of each object.
-fn compare_slowly(
-    rt: &impl Abort,
-    alloc: Global,
-    config: &Config,
-    events: &[Event],
-    sole: &Said,
-) -> Result<(), Fail>
-    requires accepted { IsAccepted config.now }
-    requires proper { All (IsProper config.now) events.now }
-{
-    for number in 0..config.objects.len() {
-        let object = ObjectId(number as u16);
-        compare_slow(rt, alloc, config, events, object, sole)?;
-    }
-    Ok(())
-}
-
-/// Two deciders say together no more than one.
-fn says_no_more(rt: &impl Abort, sole: &Said, even: &Said, odd: &Said) {
-    let notices = even.notices.len().saturating_add(odd.notices.len());
-    assert_eq!(rt; notices, sole.notices.len());
-    let suppressions = even
-        .suppressions
-        .len()
-        .saturating_add(odd.suppressions.len());
-    assert_eq!(rt; suppressions, sole.suppressions.len());
-}
-
-/// Compares what one decider says of each object, and the one of two that owns it.
-fn compare_each_half(
-    rt: &impl Abort,
-    alloc: Global,
-    config: &Config,
-    sole: &Said,
-    even: &Said,
-    odd: &Said,
-) -> Result<(), Fail>
-    requires accepted { IsAccepted config.now }
-{
-    for number in 0..config.objects.len() {
-        let object = ObjectId(number as u16);
-        let half = if number % 2 == 0 { even } else { odd };
-        compare_halves(rt, alloc, object, sole, half)?;
-    }
-    Ok(())
-}
-
-/// Compares one decider and two, which say together no more than the one.
-fn compare_to_two(
-    rt: &impl Abort,
-    alloc: Global,
-    config: &Config,
-    events: &[Event],
-    sole: &Said,
-) -> Result<(), Fail>
-    requires accepted { IsAccepted config.now }
-    requires proper { All (IsProper config.now) events.now }
-{
-    let even = Said::of(alloc, config, events, EVEN)?;
-    let odd = Said::of(alloc, config, events, ODD)?;
-    says_no_more(rt, sole, &even, &odd);
-    compare_each_half(rt, alloc, config, sole, &even, &odd)
-}
-
-/// Compares what is said of each object: by the slow program, by one decider, and by the one of two that
-/// owns it. The two say together no more than the one.
-fn compare(rt: &impl Abort, alloc: Global, config: &Config, events: &[Event]) -> Result<Said, Fail>
-    requires accepted { IsAccepted config.now }
-    requires proper { All (IsProper config.now) events.now }
-{
-    let sole = Said::of(alloc, config, events, SOLE)?;
-    compare_slowly(rt, alloc, config, events, &sole)?;
-    compare_to_two(rt, alloc, config, events, &sole)?;
-    Ok(sole)
 }
 
 /// The events of the feed of a seed.

@@ -6,6 +6,7 @@ ghost use Rattle.std.specs.Prelude.{◌<◌, All, length};
 ghost use Rattle.due_model.specs.Accepted.{IsAccepted};
 ghost use Rattle.due_model.specs.Proper.{IsProper};
 
+use crate::comparison;
 use acceptance_inputs::accepted::is_accepted;
 use acceptance_inputs::plain::are_proper;
 use acceptance_inputs::rows::{ContactRow, EscalationRow, ObjectRow, Rows, config_of};
@@ -396,6 +397,7 @@ fn compare(
     counts: &mut Counts,
 ) -> Result<(), Fail> {
     assert!(rt; is_accepted(config) && are_proper(config, events) && are_proper(config, some));
+    let _said = comparison::compare(rt, alloc, config, events)?;
     each_grows(rt, alloc, config, events, some, counts)
 }
 

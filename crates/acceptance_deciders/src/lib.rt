@@ -1,0 +1,12 @@
+//! Tests of deciders: one against the slow program, and several against one, over generated configurations and feeds.
+//! There is no code here.
+#![tactic(auto)]
+
+#[cfg(test)]
+mod comparison;
+#[cfg(test)]
+mod feeds;
+#[cfg(test)]
+mod generated;
+#[cfg(test)]
+mod said;
