@@ -1,6 +1,7 @@
 -- What is staged is what the definitions say.
-use Rattle.std.proofs.Common.{◌≡◌, ◌≢◌, ℕ, ◌+◌, ◌^◌, ◌<◌, ◌≤◌, Bool, true, false, cond, List, [], ◌∷◌, ◌++◌, length, slice_get, slice_index_or, Option, Some, None, refl, sym, ap, subst, ◌∙◌, arith, inl, inr}
+use Rattle.std.proofs.Common.{◌≡◌, ◌≢◌, ℕ, ◌+◌, ◌^◌, ◌<◌, ◌≤◌, Bool, true, false, cond, List, [], ◌∷◌, ◌++◌, length, slice_get, slice_index_or, Option, Some, None, refl, sym, ap, subst, ◌∙◌, arith, inl, inr, append_assoc, add-one}
 use Rattle.std.specs.Option.{option_map_or}
+use Rattle.std.proofs.lemmas.List.{append-nil}
 use Rattle.std.proofs.lemmas.Option.{slice_get_cases}
 use Rattle.due_model.specs.declared.config.Object.{Object}
 use Rattle.due_model.specs.declared.config.ObjectId.{ObjectId}
@@ -11,19 +12,24 @@ use Rattle.due_model.specs.declared.notice.Outcome.{Outcome}
 use Rattle.due_model.specs.declared.rules.ObjectStatus.{ObjectStatus}
 use Rattle.due_model.specs.Limits.{last_moment, max_events}
 use Rattle.due_model.specs.Readings.{moment}
-use Rattle.lemmas.proofs.Numbers.{flat_below, flat_none, flat_one}
+use Rattle.dependency.specs.Order.{Kept as Dependencies}
+use Rattle.lemmas.proofs.Numbers.{flat_below, flat_more, flat_none, flat_one}
+use Rattle.messages.specs.declared.entries.Entry.{Entry}
 use Rattle.messages.specs.Entries.{object_entries, outcome_entries}
 use Rattle.outcomes.specs.declared.found.Found.{Found}
 use Rattle.outcomes.specs.Found.{IsFound}
 use Rattle.problem_count.specs.Book.{BookValues, new_book}
 use Rattle.problem_count.specs.Fits.{BookFits, book_of, outcome_at}
 use Rattle.problem_count.specs.Laws.{CountsAreFew, UntouchedFit, touches}
+use Rattle.decider.specs.declared.reading.Reading.{Reading}
 use Rattle.decider.specs.declared.staging.NewBook.{NewBook}
+use Rattle.decider.specs.declared.staging.Staged.{Staged}
 use Rattle.decider.specs.Books.{book_after, is_touched, new_books, share_books}
 use Rattle.decider.specs.Entries.{share_entries}
-use Rattle.decider.specs.Events.{IsAt, Values}
+use Rattle.decider.specs.Events.{IsAt, Values, values}
 use Rattle.decider.specs.Share.{is_owned}
-use Rattle.decider.specs.Statuses.{named_by}
+use Rattle.decider.specs.Staging.{Adds}
+use Rattle.decider.specs.Statuses.{StatusLists, named_by}
 use Rattle.decider.proofs.BookLaws.{no_books, no_entries, touches_other}
 use Rattle.decider.proofs.StatusLaws.{depth_few, named_within}
 
@@ -107,3 +113,41 @@ module _ (laws : UntouchedFit) (v : Values) (e : Event) (past : List Event) (is 
       flat_none (new_books v.config v.zone e past) (is_owned v.share) (length v.config.objects)
       (λ o below. no_books laws v.config v.zone e past o (λ settings at.
       ap (λ (k : EventKind). touches o k (book_of v.config v.zone o settings past).due (moment (e ∷ past))) (sym is.says ∙ says)))
+
+-- ---- one object after the other
+
+-- the same, read with statuses and dependencies that are the same
+pub at_same : (r : Reading) (d d' : Dependencies) (s s' : StatusLists) (e : Event) (past : List Event) → d' ≡ d → s' ≡ s → IsAt (values r d s) e past → IsAt (values r d' s') e past
+at_same r d d' s s' e past same_d same_s is =
+    subst (λ (x : Dependencies). IsAt (values r x s') e past) (sym same_d) (subst (λ (x : StatusLists). IsAt (values r d x) e past) (sym same_s) is)
+
+-- what is added to what was added
+pub adds_more : (xs ys : List Entry) (bs cs : List NewBook) (first mid last : Staged) → Adds xs bs first mid → Adds ys cs mid last → Adds (xs ++ ys) (bs ++ cs) first last
+adds_more xs ys bs cs first mid last a b = record {
+  entries = b.entries ∙ ap (λ (zs : List Entry). zs ++ ys) a.entries ∙ append_assoc first.entries.items xs ys;
+  books = b.books ∙ ap (λ (zs : List NewBook). zs ++ cs) a.books ∙ append_assoc first.books.items bs cs;
+}
+
+-- nothing is added
+pub adds_nothing : (a b : Staged) → b.entries.items ≡ a.entries.items → b.books.items ≡ a.books.items → Adds [] [] a b
+adds_nothing a b entries books = record {
+  entries = entries ∙ sym (append-nil a.entries.items);
+  books = books ∙ sym (append-nil a.books.items);
+}
+
+-- the same lists, written otherwise
+pub adds_same : (xs ys : List Entry) (bs cs : List NewBook) (a b : Staged) → xs ≡ ys → bs ≡ cs → Adds xs bs a b → Adds ys cs a b
+adds_same xs ys bs cs a b entries books h = record {
+  entries = h.entries ∙ ap (λ (zs : List Entry). a.entries.items ++ zs) entries;
+  books = h.books ∙ ap (λ (zs : List NewBook). a.books.items ++ zs) books;
+}
+
+-- the objects of the share below a number, and the one of that number
+pub adds_next : (f : ℕ → List Entry) (g : ℕ → List NewBook) (p : ℕ → Bool) (n : ℕ) (first mid last : Staged)
+    → Adds (flat_below f p n) (flat_below g p n) first mid → Adds (cond (p n) (f n) []) (cond (p n) (g n) []) mid last
+    → Adds (flat_below f p (n + 1)) (flat_below g p (n + 1)) first last
+adds_next f g p n first mid last a b =
+    adds_same _ _ _ _ first last
+    (sym (flat_more f p n) ∙ ap (λ (m : ℕ). flat_below f p m) (sym (add-one n)))
+    (sym (flat_more g p n) ∙ ap (λ (m : ℕ). flat_below g p m) (sym (add-one n)))
+    (adds_more _ _ _ _ first mid last a b)

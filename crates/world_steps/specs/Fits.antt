@@ -6,15 +6,18 @@ use mathlib.Core.HLevel.{is_prop→PathP}
 use Rattle.std.proofs.Props.{props}
 use Rattle.std.proofs.lemmas.Option.{same_Some}
 use Rattle.due_model.specs.declared.config.Config.{Config}
+use Rattle.due_model.specs.declared.config.Dependency.{Dependency}
 use Rattle.due_model.specs.declared.config.Object.{Object}
 use Rattle.due_model.specs.declared.event.Event.{Event}
 use Rattle.due_model.specs.declared.event.EventKind.{EventKind}
 use Rattle.due_model.specs.declared.event.EventKind.TheVariants.{Clock, Program, Hard, Downtime, Flapping}
 use Rattle.due_model.specs.declared.notice.Notice.{Notice}
+use Rattle.due_model.specs.declared.rules.ObjectStatus.{ObjectStatus}
 use Rattle.due_model.specs.declared.zone.Zone.{Zone}
 use Rattle.due_model.specs.Accepted.{IsAccepted, IsHost}
 use Rattle.due_model.specs.Limits.{max_events}
 use Rattle.due_model.specs.Proper.{IsProper, KindIsProper, is_state_of}
+use Rattle.problem_count.specs.Book.{BookValues}
 use Rattle.decider.specs.Fits.{Kept, kept, settings}
 use Rattle.decider.specs.Fits as decider
 use Rattle.decider.specs.Outbox.{lists}
@@ -84,6 +87,15 @@ Zone-set = hlevel props
 Notice-set : IsSet Notice
 Notice-set = hlevel props
 
+Dependency-set : IsSet Dependency
+Dependency-set = hlevel props
+
+ObjectStatus-set : IsSet ObjectStatus
+ObjectStatus-set = hlevel props
+
+BookValues-set : IsSet BookValues
+BookValues-set = hlevel props
+
 -- something found, of which a fact is known
 found-prop : {X : Type 0} → IsSet X → (a : Option X) (P : X → Type 0) → ((x : X) → IsProp (P x))
     → IsProp ((x : X) × (a ≡ Some x) × P x)
@@ -113,7 +125,15 @@ IsAccepted-prop : (c : Config) → IsProp (IsAccepted c)
 IsAccepted-prop c = hlevel (props, IsHost-prop)
 
 past-prop : (k : Kept) (past : List Event) → IsProp (decider.Fits k past)
-past-prop k past = hlevel (props, IsAccepted-prop, KindIsProper-prop)
+past-prop k past =
+    hlevel (
+      props,
+      IsAccepted-prop,
+      KindIsProper-prop,
+      Dependency-set,
+      ObjectStatus-set,
+      BookValues-set,
+    )
 
 DeciderFits-prop : (s : Setup) (posted : List Event) (d : ℕ) (x : KeptDecider)
     → IsProp (DeciderFits s posted d x)

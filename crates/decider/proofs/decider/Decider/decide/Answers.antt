@@ -1,31 +1,41 @@
 use Rattle.std.proofs.Common.{◌<◌, List, [], ◌∷◌, ◌++◌, length, slice_index_or, subst, sym, ap, ◌∙◌, arith}
 use Rattle.due_model.specs.declared.notice.Notice.{Notice}
 use Rattle.due_model.specs.declared.notice.Suppression.{Suppression}
-use Rattle.decider.specs.declared.book.Decision.{Decision}
+use Rattle.due_model.specs.Proper.{IsProper}
 use Rattle.messages.specs.declared.entries.Entry.{Entry}
 use Rattle.messages.specs.Entries.{notices_on, suppressions_in}
+use Rattle.decider.specs.declared.staging.NewBook.{NewBook}
 use Rattle.decider.specs.Fits.{Kept, Fits, core_kept, kept, kept_after}
 use Rattle.decider.specs.Outbox.{lists, waiting_at}
-use Rattle.decider.proofs.FitLaws.{can_decide, entries_law, fits_after, fits_with_log}
+use Rattle.decider.proofs.FitLaws.{fits_after, fits_with_log}
 use Rattle.decider.proofs.LaneLaws.{share_notices, share_suppressions}
 use Rattle.decider.proofs.decider.Decider.decide.Goals as goal
 
 pub stage-requires : goal.stage-requires
 stage-requires c = record {
-  can = can_decide (core_kept c.args.self.now.core) c.args.event c.requires.fits.0 (fits_with_log (kept c.args.self.now) [] c.requires.fits.0 c.requires.fits.1)
-      c.requires.proper c.requires.supported;
+  proper = c.requires.proper;
+  fits = (c.requires.fits.0, fits_with_log (kept c.args.self.now) [] c.requires.fits.0 c.requires.fits.1);
 }
+
+pub commit-requires : goal.commit-requires
+commit-requires c =
+    let same = sym c.in_ok-stage.ensures.kept in
+    record {
+      proper = subst (λ (k : Kept). IsProper k.config c.args.event) same c.requires.proper;
+      fits = (c.requires.fits.0, subst (λ (k : Kept). Fits k c.requires.fits.0) same (fits_with_log (kept c.args.self.now) [] c.requires.fits.0 c.requires.fits.1));
+    }
 
 pub returns-clause-fits : goal.returns-clause-fits
 returns-clause-fits c = λ past fits.
     let k = core_kept c.args.self.now.core in
     let e = c.args.event in
+    let before = fits_with_log (kept c.args.self.now) [] past fits in
     fits_with_log (core_kept c.commit.new.self) c.note.new.log.lines (e ∷ past)
     (subst (λ (k : Kept). Fits k (e ∷ past))
     (sym (c.commit.ensures.kept
-    ∙ ap (λ (k : Kept). kept_after k e c.stage.new.self.decisions.items) c.in_ok-stage.ensures.kept
-    ∙ ap (λ (decisions : List Decision). kept_after k e decisions) c.in_ok-stage.ensures.decisions))
-    (fits_after k e past (fits_with_log (kept c.args.self.now) [] past fits) c.requires.proper c.requires.supported (omega (arith, fits.count, c.in_ok-stage.ensures.number))))
+    ∙ ap (λ (k : Kept). kept_after k e c.stage.new.self.staged.books.items) c.in_ok-stage.ensures.kept
+    ∙ ap (λ (books : List NewBook). kept_after k e books) (c.in_ok-stage.ensures.books past before)))
+    (fits_after k e past before c.requires.proper c.fit_on.ensures.untouched (omega (arith, fits.count, c.in_ok-stage.ensures.number))))
 
 pub returns-clause-notices : goal.returns-clause-notices
 returns-clause-notices c = λ past fits l h.
@@ -34,8 +44,7 @@ returns-clause-notices c = λ past fits l h.
     c.deliver.ensures.waiting l there
     ∙ ap (λ (now : List (List Notice)). slice_index_or now l [] ++ notices_on l c.entries.result.now) c.in_ok-reserve.ensures.waiting
     ∙ ap (λ (entries : List Entry). waiting_at c.args.outbox.now l ++ notices_on l entries)
-    (c.entries.ensures ∙ c.commit.ensures.entries ∙ c.in_ok-stage.ensures.staged
-    ∙ entries_law k c.args.event past (fits_with_log (kept c.args.self.now) [] past fits) c.requires.proper c.requires.supported)
+    (c.entries.ensures ∙ c.commit.ensures.entries ∙ c.in_ok-stage.ensures.staged past (fits_with_log (kept c.args.self.now) [] past fits))
     ∙ ap (λ (more : List Notice). waiting_at c.args.outbox.now l ++ more) (share_notices k.config k.zone k.share c.args.event past l (omega (arith, c.requires.lanes, h)))
 
 pub returns-clause-suppressions : goal.returns-clause-suppressions
@@ -44,6 +53,5 @@ returns-clause-suppressions c = λ past fits.
     c.note.ensures
     ∙ ap (λ (lines : List Suppression). lines ++ suppressions_in c.entries-2.result.now) c.in_ok-reserve-2.ensures.lines
     ∙ ap (λ (entries : List Entry). c.args.self.now.log.lines ++ suppressions_in entries)
-    (c.entries-2.ensures ∙ c.commit.ensures.entries ∙ c.in_ok-stage.ensures.staged
-    ∙ entries_law k c.args.event past (fits_with_log (kept c.args.self.now) [] past fits) c.requires.proper c.requires.supported)
+    (c.entries-2.ensures ∙ c.commit.ensures.entries ∙ c.in_ok-stage.ensures.staged past (fits_with_log (kept c.args.self.now) [] past fits))
     ∙ ap (λ (more : List Suppression). c.args.self.now.log.lines ++ more) (share_suppressions k.config k.zone k.share c.args.event past)

@@ -1,12 +1,18 @@
 use Rattle.std.proofs.Common.{List, ◌∷◌, subst, sym, ap, ◌∙◌, arith}
-use Rattle.decider.specs.declared.book.Decision.{Decision}
+use Rattle.due_model.specs.Proper.{IsProper}
+use Rattle.decider.specs.declared.staging.NewBook.{NewBook}
 use Rattle.decider.specs.Fits.{Kept, Fits, core_kept, kept_after}
-use Rattle.decider.proofs.FitLaws.{can_decide, entries_law, fits_after}
+use Rattle.decider.proofs.FitLaws.{fits_after}
 use Rattle.decider.proofs.LaneLaws.{all_entries}
 use Rattle.decider.proofs.event_decider.EventDecider.decide.Goals as goal
 
-pub stage-requires : goal.stage-requires
-stage-requires c = record { can = can_decide (core_kept c.args.self.now) c.args.event c.requires.fits.0 c.requires.fits.1 c.requires.proper c.requires.supported }
+pub commit-requires : goal.commit-requires
+commit-requires c =
+    let same = sym c.in_ok-stage.ensures.kept in
+    record {
+      proper = subst (λ (k : Kept). IsProper k.config c.args.event) same c.requires.proper;
+      fits = (c.requires.fits.0, subst (λ (k : Kept). Fits k c.requires.fits.0) same c.requires.fits.1);
+    }
 
 pub returns-clause-fits : goal.returns-clause-fits
 returns-clause-fits c = λ past fits.
@@ -14,13 +20,12 @@ returns-clause-fits c = λ past fits.
     let e = c.args.event in
     subst (λ (k : Kept). Fits k (e ∷ past))
     (sym (c.commit.ensures.kept
-    ∙ ap (λ (k : Kept). kept_after k e c.stage.new.self.decisions.items) c.in_ok-stage.ensures.kept
-    ∙ ap (λ (decisions : List Decision). kept_after k e decisions) c.in_ok-stage.ensures.decisions))
-    (fits_after k e past fits c.requires.proper c.requires.supported (omega (arith, fits.count, c.in_ok-stage.ensures.number)))
+    ∙ ap (λ (k : Kept). kept_after k e c.stage.new.self.staged.books.items) c.in_ok-stage.ensures.kept
+    ∙ ap (λ (books : List NewBook). kept_after k e books) (c.in_ok-stage.ensures.books past fits)))
+    (fits_after k e past fits c.requires.proper c.fit_on.ensures.untouched (omega (arith, fits.count, c.in_ok-stage.ensures.number)))
 
 pub returns-clause-entries : goal.returns-clause-entries
-returns-clause-entries c = λ past fits.
-    c.commit.ensures.entries ∙ c.in_ok-stage.ensures.staged ∙ entries_law (core_kept c.args.self.now) c.args.event past fits c.requires.proper c.requires.supported
+returns-clause-entries c = λ past fits. c.commit.ensures.entries ∙ c.in_ok-stage.ensures.staged past fits
 
 pub returns-clause-all : goal.returns-clause-all
 returns-clause-all c = λ past fits alone.
