@@ -1,7 +1,8 @@
 -- The books after an event, and the objects that it doesn't touch.
-use Rattle.std.proofs.Common.{◌≡◌, ◌≢◌, ℕ, ◌<◌, Bool, true, false, cond, ◌==◌, List, [], ◌∷◌, length, get_or, slice_get, Option, Some, None, refl, sym, ap, subst, ◌∙◌, arith, inl, inr}
+use Rattle.std.proofs.Common.{◌≡◌, ◌≢◌, ℕ, zero, suc, ◌<◌, Bool, true, false, cond, ◌==◌, List, [], ◌∷◌, length, replicate, get_or, slice_get, Option, Some, None, refl, sym, ap, subst, ◌∙◌, arith, inl, inr}
 use Rattle.std.specs.Option.{option_map_or}
 use Rattle.std.proofs.lemmas.Bool.{ne_eqb}
+use Rattle.std.proofs.lemmas.List.{length-replicate}
 use Rattle.std.proofs.lemmas.Option.{same_Some, slice_get_within}
 use Rattle.due_model.specs.declared.config.Config.{Config}
 use Rattle.due_model.specs.declared.config.Object.{Object}
@@ -10,6 +11,7 @@ use Rattle.due_model.specs.declared.event.Event.{Event}
 use Rattle.due_model.specs.declared.event.EventKind.{EventKind}
 use Rattle.due_model.specs.declared.event.EventKind.TheVariants as event
 use Rattle.due_model.specs.declared.zone.Zone.{Zone}
+use Rattle.due_model.specs.Histories.{hist}
 use Rattle.messages.specs.declared.entries.Entry.{Entry}
 use Rattle.messages.specs.Entries.{object_entries, outcome_entries}
 use Rattle.problem_count.specs.Book.{BookValues, new_book}
@@ -96,3 +98,19 @@ module _ (laws : UntouchedFit) (c : Config) (zone : Zone) (e : Event) (past : Li
         settled_at (new_books c zone e past) (is_owned share) one (length c.objects) o books new_book within (omega (arith, fit.count, within)) owned
         ∙ decided_book o settings (get_or books o new_book) at (fit.each o settings at owned);
   }
+
+-- the books of objects of which nothing is known yet
+all_new : (n o : ℕ) → get_or (replicate n new_book) o new_book ≡ new_book
+all_new zero o = refl
+all_new (suc n) zero = refl
+all_new (suc n) (suc o) = all_new n o
+
+nothing_known : (c : Config) (zone : Zone) (o : ℕ) (settings : Object) → new_book ≡ book_of c zone o settings []
+unfolding hist
+nothing_known c zone o settings = refl
+
+pub new_fit : (c : Config) (zone : Zone) (share : Share) (books : List BookValues) (n : ℕ) → books ≡ replicate n new_book → n ≡ length c.objects → BooksFit c zone share [] books
+new_fit c zone share books n are count = record {
+  count = ap (λ (xs : List BookValues). length xs) are ∙ length-replicate n new_book ∙ count;
+  each = λ o settings at owned. ap (λ (xs : List BookValues). get_or xs o new_book) are ∙ all_new n o ∙ nothing_known c zone o settings;
+}

@@ -1,18 +1,24 @@
 -- What is kept after an event fits the past with the event.
-use Rattle.std.proofs.Common.{◌≡◌, ℕ, ◌+◌, ◌<◌, ◌≤◌, max, List, [], ◌∷◌, length, All, refl, ap, ◌∙◌, arith}
+use Rattle.std.proofs.Common.{◌≡◌, ℕ, ◌+◌, ◌<◌, ◌≤◌, ◌^◌, max, List, [], ◌∷◌, length, replicate, All, Option, Some, None, IfSome, refl, sym, ap, subst, ◌∙◌, arith}
 use Rattle.std.proofs.lemmas.List.Elements.{All-cons, All-head, All-tail}
 use Rattle.due_model.specs.declared.config.Config.{Config}
+use Rattle.due_model.specs.declared.config.ObjectId.{ObjectId}
+use Rattle.due_model.specs.declared.config.Range.{Range}
 use Rattle.due_model.specs.declared.event.Event.{Event}
 use Rattle.due_model.specs.declared.notice.Suppression.{Suppression}
+use Rattle.due_model.specs.declared.rules.ObjectStatus.{ObjectStatus}
 use Rattle.due_model.specs.Limits.{last_moment, max_events}
 use Rattle.due_model.specs.Proper.{IsProper}
 use Rattle.due_model.specs.Readings.{moment, switch_after}
+use Rattle.problem_count.specs.Book.{BookValues}
 use Rattle.problem_count.specs.Laws.{UntouchedFit}
 use Rattle.decider.specs.Books.{share_books}
-use Rattle.decider.specs.Events.{IsAt}
-use Rattle.decider.specs.Fits.{Fits, Kept, kept_after, values_at}
+use Rattle.decider.specs.declared.reading.EventContext.{EventContext}
+use Rattle.decider.specs.Events.{IsAt, Values}
+use Rattle.decider.specs.Fits.{Fits, Kept, context_of, kept_after, values_at}
 use Rattle.decider.proofs.BookLaws.{books_fit}
-use Rattle.decider.proofs.StatusLaws.{statuses_fit}
+use Rattle.decider.specs.Statuses.{named_by, status_at}
+use Rattle.decider.proofs.StatusLaws.{depth_few, named_within, statuses_fit}
 
 -- the greatest stamp of proper events is in range
 moment_fits : (c : Config) (past : List Event) → All (IsProper c) past → moment past ≤ last_moment
@@ -37,6 +43,18 @@ module _ (k : Kept) (e : Event) (past : List Event) (fits : Fits k past) (proper
     kept = fits.books;
   }
 
+  -- the event can be counted
+  pub countable : IfSome (named_by e.kind) (λ p. (p.0 < length k.statuses.states) × ((status_at k.statuses p.0).depth + 1 < 2 ^ 64))
+  countable = by_named (named_by e.kind) refl
+    where
+      by_named : (named : Option ObjectId) → named_by e.kind ≡ named
+          → IfSome named (λ p. (p.0 < length k.statuses.states) × ((status_at k.statuses p.0).depth + 1 < 2 ^ 64))
+      by_named None is = tt
+      by_named (Some p) is = (
+        omega (arith, named_within k.config e.kind proper.kind p is, fits.statuses.states),
+        omega (arith, ap (λ (s : ObjectStatus). s.depth) (fits.statuses.each p.0), depth_few p.0 past, fits.short),
+      )
+
   -- what is kept after the event fits the past with it
   pub fits_after : UntouchedFit → length past < max_events → Fits (kept_after k e (share_books k.config k.zone k.share e past)) (e ∷ past)
   fits_after laws room = record {
@@ -51,6 +69,26 @@ module _ (k : Kept) (e : Event) (past : List Event) (fits : Fits k past) (proper
     statuses = statuses_fit k.config e past k.statuses fits.statuses proper;
     books = books_fit laws k.config k.zone e past k.share k.books fits.books;
   }
+
+-- what is read of a decider, with these periods and books and in this context
+abbrev pub values_with : Kept → List (List (List Range)) → EventContext → List BookValues → Values
+values_with k periods context books = record {
+  config = k.config;
+  zone = k.zone;
+  share = k.share;
+  tables = record { periods = periods; escalations = k.tables.escalations; dependencies = k.tables.dependencies };
+  context = context;
+  statuses = k.statuses;
+  books = books;
+}
+
+-- those that it keeps
+pub at_with : (k : Kept) (e : Event) (past : List Event) (periods : List (List (List Range))) (context : EventContext) (books : List BookValues)
+    → periods ≡ k.tables.periods → context ≡ context_of k e → books ≡ k.books → IsAt (values_at k e) e past → IsAt (values_with k periods context books) e past
+at_with k e past periods context books same_periods same_context same_books is =
+    subst (λ (x : List (List (List Range))). IsAt (values_with k x context books) e past) (sym same_periods)
+    (subst (λ (x : EventContext). IsAt (values_with k k.tables.periods x books) e past) (sym same_context)
+    (subst (λ (x : List BookValues). IsAt (values_with k k.tables.periods (context_of k e) x) e past) (sym same_books) is))
 
 -- what a decider fits doesn't hang on its log
 pub fits_with_log : (k : Kept) (lines : List Suppression) (past : List Event) → Fits k past → Fits (record k { log = lines }) past

@@ -1,6 +1,8 @@
 -- What an event finds of an object is the definitions'.
-use Rattle.std.proofs.Common.{◌≡◌, ℕ, ◌<◌, cond, ◌==◌, List, ◌∷◌, length, set, get_or, Option, Some, None, refl, sym, ap, ◌∙◌, arith}
+use Rattle.std.proofs.Common.{◌≡◌, ℕ, ◌<◌, cond, ◌==◌, List, ◌∷◌, length, set, get_or, slice_get, Option, Some, None, refl, sym, ap, ◌∙◌, arith}
+use Rattle.std.proofs.lemmas.Option.{get_or_from_slice_get, same_Some}
 use Rattle.due_model.specs.declared.config.Config.{Config}
+use Rattle.due_model.specs.declared.config.Object.{Object}
 use Rattle.due_model.specs.declared.config.ObjectId.{ObjectId}
 use Rattle.due_model.specs.declared.event.Event.{Event}
 use Rattle.due_model.specs.declared.event.EventKind.{EventKind}
@@ -29,14 +31,14 @@ no_hard (event.Flapping p starts) is m x = refl
 one_hard : (k : EventKind) (p : ObjectId) (state : State) → hard_by k ≡ Some (p, state) → (m : ℕ) (x : State) → hard_after m k x ≡ cond (p.0 == m) state x
 one_hard event.Clock p state is m x = cc
 one_hard (event.Program on) p state is m x = cc
-one_hard (event.Hard q now) p state is m x = cc
+one_hard (event.Hard q now) p state is m x = ap (λ (given : ObjectId × State). cond (given.0.0 == m) given.1 x) (same_Some (q, now) (p, state) is)
 one_hard (event.Downtime q change) p state is m x = cc
 one_hard (event.Flapping q starts) p state is m x = cc
 
 pub hard_named : (k : EventKind) (p : ObjectId) (state : State) → hard_by k ≡ Some (p, state) → named_by k ≡ Some p
 hard_named event.Clock p state is = cc
 hard_named (event.Program on) p state is = cc
-hard_named (event.Hard q now) p state is = cc
+hard_named (event.Hard q now) p state is = ap (λ (given : ObjectId × State). Some given.0) (same_Some (q, now) (p, state) is)
 hard_named (event.Downtime q change) p state is = cc
 hard_named (event.Flapping q starts) p state is = cc
 
@@ -62,3 +64,8 @@ module _ (c : Config) (zone : Zone) (e : Event) (past : List Event) (s : StatusL
       by_states c zone (state_of (set s.states p.0 state)) (λ master. hard master (e ∷ past)) t o
       (λ m. at_set s.states p.0 m state Pending (omega (arith, fit.states, within)) ∙ ap (cond (p.0 == m) state) (known m) ∙ sym (one_hard e.kind p state given m (hard m past)))
       ∙ ap (λ (n : ℕ). dependency_fails c zone (λ master. hard master (e ∷ past)) n o) at
+
+-- the settings of an object, as they are read
+pub settings_read : (xs ys : List Object) (i k : ℕ) (d settings : Object) → ys ≡ xs → k ≡ i → slice_get xs i ≡ Some settings → get_or ys k d ≡ settings
+settings_read xs ys i k d settings same place at =
+    ap (λ (zs : List Object). get_or zs k d) same ∙ ap (λ (m : ℕ). get_or xs m d) place ∙ get_or_from_slice_get xs i settings d at

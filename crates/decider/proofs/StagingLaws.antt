@@ -1,7 +1,7 @@
 -- What is staged is what the definitions say.
-use Rattle.std.proofs.Common.{◌≡◌, ◌≢◌, ℕ, ◌+◌, ◌^◌, ◌<◌, ◌≤◌, Bool, true, false, cond, List, [], ◌∷◌, ◌++◌, length, slice_get, slice_index_or, Option, Some, None, refl, sym, ap, subst, ◌∙◌, arith, inl, inr, append_assoc, add-one}
+use Rattle.std.proofs.Common.{◌≡◌, ◌≢◌, ℕ, ◌+◌, ◌^◌, ◌<◌, ◌≤◌, Bool, true, false, cond, List, [], ◌∷◌, ◌++◌, length, get_or, slice_get, slice_index_or, Option, Some, None, refl, sym, ap, subst, ◌∙◌, arith, inl, inr, append_assoc, add-one}
 use Rattle.std.specs.Option.{option_map_or}
-use Rattle.std.proofs.lemmas.List.{append-nil}
+use Rattle.std.proofs.lemmas.List.{append-nil, get_or_default}
 use Rattle.std.proofs.lemmas.Option.{slice_get_cases}
 use Rattle.due_model.specs.declared.config.Object.{Object}
 use Rattle.due_model.specs.declared.config.ObjectId.{ObjectId}
@@ -83,6 +83,10 @@ module _ (v : Values) (e : Event) (past : List Event) (is : IsAt v e past) (o : 
       ∙ ap (λ (b : BookValues). let new : NewBook = record { object = record { 0 = o }; book = b } in new ∷ []) fits
       ∙ sym (ap (λ (found : Option Object). option_map_or (λ object. let new : NewBook = record { object = record { 0 = o }; book = book_of v.config v.zone o object (e ∷ past) } in new ∷ []) found []) at)
 
+-- the book of an object, as it is read
+pub book_read : (books : List BookValues) (o i : ℕ) (d : BookValues) → i ≡ o → o < length books → get_or books i d ≡ slice_index_or books o new_book
+book_read books o i d place within = ap (λ (k : ℕ). get_or books k d) place ∙ get_or_default books o d new_book within
+
 -- ---- all objects of the share
 
 module _ (laws : UntouchedFit) (v : Values) (e : Event) (past : List Event) (is : IsAt v e past) where
@@ -127,6 +131,13 @@ adds_more xs ys bs cs first mid last a b = record {
   entries = b.entries ∙ ap (λ (zs : List Entry). zs ++ ys) a.entries ∙ append_assoc first.entries.items xs ys;
   books = b.books ∙ ap (λ (zs : List NewBook). zs ++ cs) a.books ∙ append_assoc first.books.items bs cs;
 }
+
+-- what is added where nothing was
+pub first_entries : (xs : List Entry) (bs : List NewBook) (a b : Staged) → a.entries.items ≡ [] → Adds xs bs a b → b.entries.items ≡ xs
+first_entries xs bs a b empty h = h.entries ∙ ap (λ (zs : List Entry). zs ++ xs) empty
+
+pub first_books : (xs : List Entry) (bs : List NewBook) (a b : Staged) → a.books.items ≡ [] → Adds xs bs a b → b.books.items ≡ bs
+first_books xs bs a b empty h = h.books ∙ ap (λ (zs : List NewBook). zs ++ bs) empty
 
 -- nothing is added
 pub adds_nothing : (a b : Staged) → b.entries.items ≡ a.entries.items → b.books.items ≡ a.books.items → Adds [] [] a b

@@ -20,7 +20,7 @@ use Rattle.decider.specs.Statuses.{StatusLists, StatusesFit, named_by, no_status
 
 -- ---- one status of a list
 
-made : State → ℕ → Bool → ObjectStatus
+abbrev made : State → ℕ → Bool → ObjectStatus
 made state depth flaps = record { state = state; depth = depth; flapping = flaps }
 
 module _ (s : StatusLists) (n p : ℕ) (x : ObjectStatus) (states : length s.states ≡ n) (depths : length s.depths ≡ n) (flaps : length s.flaps ≡ n) (within : p < n) where
@@ -37,10 +37,10 @@ others s p o x ne =
     ∙ ap (λ (flaps : Bool). made (get_or s.states o Pending) (get_or s.depths o 0) flaps) (get_or-set_other s.flaps p o x.flapping false ne)
 
 -- a state that is replaced, and put back
-pub put_back : (s : StatusLists) (p : ℕ) (state : State) → p < length s.states → with_state (with_state s p state) p (get_or s.states p Pending) ≡ s
-put_back s p state within =
+pub put_back : (s : StatusLists) (p : ℕ) (state : State) → with_state (with_state s p state) p (get_or s.states p Pending) ≡ s
+put_back s p state =
     ap (λ (states : List State). let lists : StatusLists = record { states = states; depths = s.depths; flaps = s.flaps } in lists)
-    (set-set s.states p state (get_or s.states p Pending) ∙ set-get_or s.states p Pending within)
+    (set-set s.states p state (get_or s.states p Pending) ∙ set-get_or s.states p Pending)
 
 -- ---- an event
 

@@ -2,7 +2,7 @@
 
 ghost use Rattle.std.specs.Prelude.{◌≡◌, ◌≤◌, ◌<◌, ◌+◌, ◌^◌, length};
 ghost use Rattle.due_model.specs.Limits.{last_moment};
-ghost use Rattle.outcomes.specs.Outcome.{Begins, Decides};
+ghost use Rattle.outcomes.specs.Outcome.{Begins, Decides, IsInRange};
 ghost use Rattle.outcomes.specs.Rules.{AreRules};
 
 use crate::found::Found;
@@ -33,7 +33,8 @@ pub fn decide(rules: &Rules<'_>, object: ObjectId, found: &Found, book: Book) ->
     requires depth { found.now.before.depth + 1 < 2 ^ 64 }
     requires number { book.sent + 2 < 2 ^ 64 }
     requires state { book.state ≡ found.now.before.state }
-    ensures { Decides rules.now object.0 found.now book result }
+    ensures decides { Decides rules.now object.0 found.now book result }
+    ensures range { IsInRange result.outcome }
 {
     attempt_by_due();
     fit_on();

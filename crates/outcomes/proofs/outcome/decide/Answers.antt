@@ -4,8 +4,8 @@ use Rattle.problem_count.specs.Laws.{is_of_problem_attempt}
 use Rattle.outcomes.proofs.OutcomeLemmas.{nothing_is}
 use Rattle.outcomes.proofs.outcome.decide.Goals as goal
 
-pub returns-in-None : goal.returns-in-None
-returns-in-None c = λ settings e past at found fits.
+pub returns-in-None-clause-decides : goal.returns-in-None-clause-decides
+returns-in-None-clause-decides c = λ settings e past at found fits.
     let config = c.args.rules.now.config.now in
     let zone = c.args.rules.now.zone.now in
     let o = c.args.object.0 in

@@ -1,0 +1,27 @@
+use Rattle.std.proofs.Common.{[], length, refl, ap, sym, subst, ◌∙◌, arith}
+use Rattle.std.proofs.lemmas.List.Elements.{All-nil}
+use Rattle.due_model.specs.Proper.{IsProper}
+use Rattle.decider.specs.Statuses.{StatusLists, StatusesFit, no_statuses}
+use Rattle.decider.proofs.BookLaws.{new_fit}
+use Rattle.decider.proofs.StatusLaws.{none_fit}
+use Rattle.decider.proofs.event_decider.EventDecider.new.Goals as goal
+
+pub returns-clause-decided : goal.returns-clause-decided
+returns-clause-decided c =
+    let config = c.args.config.now in
+    record {
+      fits = record {
+        accepted = c.requires.accepted;
+        share = c.requires.share;
+        worked_out = record { compiled = c.in_ok-compile_all.ensures; grouped = c.in_ok-new.ensures; ordered = c.in_ok-new-2.ensures };
+        proper = All-nil (IsProper config);
+        short = omega arith;
+        count = refl;
+        moment = refl;
+        program = refl;
+        statuses = subst (λ (s : StatusLists). StatusesFit (length config.objects) [] s) (sym (c.in_ok-new-3.ensures ∙ ap no_statuses c.len-count.ensures)) (none_fit (length config.objects));
+        books = new_fit config c.args.zone.now c.args.share c.in_ok-new_books.field-0.items c.len-count.result c.in_ok-new_books.ensures c.len-count.ensures;
+      };
+      settings = refl;
+      log = refl;
+    }
