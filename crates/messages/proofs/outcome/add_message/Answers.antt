@@ -1,6 +1,5 @@
-use Rattle.std.proofs.Common.{◌≡◌, ◌++◌, ap, flat_map, ◌∙◌, Some, slice_get}
+use Rattle.std.proofs.Common.{◌++◌, ap, ◌∙◌}
 use Rattle.std.proofs.lemmas.Result.{on_ok_weaker}
-use Rattle.due_model.specs.declared.config.Object.{Object}
 use Rattle.due_model.specs.Due.{receivers}
 use Rattle.escalation.specs.Named.{contact_ids}
 use Rattle.filters.specs.Attempt.{plain}
