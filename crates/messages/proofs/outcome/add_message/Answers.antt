@@ -1,6 +1,5 @@
-use Rattle.std.proofs.Common.{◌≡◌, ◌++◌, ap, flat_map, ◌∙◌, Some, slice_get}
+use Rattle.std.proofs.Common.{◌++◌, ap, ◌∙◌}
 use Rattle.std.proofs.lemmas.Result.{on_ok_weaker}
-use Rattle.due_model.specs.declared.config.Object.{Object}
 use Rattle.due_model.specs.Due.{receivers}
 use Rattle.escalation.specs.Named.{contact_ids}
 use Rattle.filters.specs.Attempt.{plain}
@@ -12,8 +11,8 @@ add_to_receivers-requires-clause-within c =
     let config = c.args.rules.now.config.now in
     let m = c.args.message.now in
     receivers_within config c.args.rules.now.zone.now m c.as_slice.result.now c.requires.message.object
-    (λ settings at. c.as_slice.ensures ∙ c.in_ok-add_receivers.ensures settings at
-    ∙ ap (λ old. old ++ contact_ids (receivers config c.args.rules.now.zone.now m.object.0 settings (plain m.attempt) m.number)) c.clear.ensures)
+    (λ settings at. c.as_slice.ensures.value ∙ c.in_ok-add_receivers.ensures settings at
+    ∙ ap (λ old. old ++ contact_ids (receivers config c.args.rules.now.zone.now m.object.0 settings (plain m.attempt) m.number)) c.clear.ensures.items)
 
 pub returns : goal.returns
 returns c =
@@ -22,5 +21,5 @@ returns c =
     let m = c.args.message.now in
     on_ok_weaker c.add_to_receivers.result (λ e settings at. e
     ∙ ap (λ xs. c.args.entries.now.items ++ xs) (receivers_law config zone m settings c.as_slice.result.now c.requires.message.zone (c.requires.message.service settings at)
-    (c.as_slice.ensures ∙ c.in_ok-add_receivers.ensures settings at
-    ∙ ap (λ old. old ++ contact_ids (receivers config zone m.object.0 settings (plain m.attempt) m.number)) c.clear.ensures))) c.add_to_receivers.ensures
+    (c.as_slice.ensures.value ∙ c.in_ok-add_receivers.ensures settings at
+    ∙ ap (λ old. old ++ contact_ids (receivers config zone m.object.0 settings (plain m.attempt) m.number)) c.clear.ensures.items))) c.add_to_receivers.ensures
