@@ -1,8 +1,8 @@
 //! The notices of one decider that wait for the queues of their lanes.
 
-use messages::entries::{Entry, notices_for};
 use due_model::config::LaneId;
 use due_model::notice::Notice;
+use messages::entries::{Entry, notices_for};
 use std::alloc::{AllocError, Global};
 use std::collections::VecDeque;
 

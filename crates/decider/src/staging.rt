@@ -93,12 +93,30 @@ pub(crate) fn stage_event(
     match reading.context.kind {
         EventKind::Clock => stage_each(alloc, reading, dependencies, statuses, staged),
         EventKind::Program(_) => Ok(()),
-        EventKind::Hard(object, _) =>
-            stage_owned(alloc, reading, dependencies, statuses, object, staged),
-        EventKind::Downtime(object, _) =>
-            stage_owned(alloc, reading, dependencies, statuses, object, staged),
-        EventKind::Flapping(object, _) =>
-            stage_owned(alloc, reading, dependencies, statuses, object, staged),
+        EventKind::Hard(object, _) => stage_owned(
+            alloc,
+            reading,
+            dependencies,
+            statuses,
+            object,
+            staged,
+        ),
+        EventKind::Downtime(object, _) => stage_owned(
+            alloc,
+            reading,
+            dependencies,
+            statuses,
+            object,
+            staged,
+        ),
+        EventKind::Flapping(object, _) => stage_owned(
+            alloc,
+            reading,
+            dependencies,
+            statuses,
+            object,
+            staged,
+        ),
     }
 }
 

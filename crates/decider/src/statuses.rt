@@ -151,7 +151,11 @@ fn depth_by(old: u64, event: EventKind, object: ObjectId) -> u64
 {
     match event {
         EventKind::Downtime(named, change) => {
-            if named.0 == object.0 { change.depth_after(old) } else { old }
+            if named.0 == object.0 {
+                change.depth_after(old)
+            } else {
+                old
+            }
         }
         _ => old,
     }
@@ -162,9 +166,7 @@ fn flapping_by(old: bool, event: EventKind, object: ObjectId) -> bool
     ensures { result ≡ flapping_after object.0 event old }
 {
     match event {
-        EventKind::Flapping(named, starts) => {
-            if named.0 == object.0 { starts } else { old }
-        }
+        EventKind::Flapping(named, starts) => { if named.0 == object.0 { starts } else { old } }
         _ => old,
     }
 }
