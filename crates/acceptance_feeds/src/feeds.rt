@@ -4,6 +4,7 @@ use acceptance_inputs::configs::object;
 use acceptance_inputs::readers::{Exes, Pieces, in_pieces};
 use due_model::config::{Config, ObjectId};
 use due_model::event::{Event, EventKind};
+use due_model::limits::MAX_OBJECTS;
 use due_model::objects::Objects;
 use due_model::sequence::Sequence;
 use due_model::state::State;
@@ -23,16 +24,31 @@ type Answer = (u64, Given);
 /// A line, and what it gives.
 type Row = (&'static str, Given);
 
-/// Host 0 is `web`, host 1 is `my host`.
-fn hosts(alloc: Global) -> Result<Objects, AllocError> {
-    let web = object(alloc, "web", None)?;
-    let other = object(alloc, "my host", None)?;
-    Objects::new(alloc, vec![in alloc; web, other]?)
+/// The objects, by their names, and the host of each that is a service.
+const NAMES: [(&str, Option<ObjectId>); 5] = [
+    ("web", None),
+    ("my host", None),
+    ("disk", Some(ObjectId(0))),
+    ("Größe von /var", Some(ObjectId(1))),
+    ("bücher", None),
+];
+
+/// These objects.
+fn objects(alloc: Global) -> Result<Objects, AllocError> {
+    let mut objects = Vec::new(alloc);
+    for named in &NAMES {
+        let (name, host) = *named;
+        objects.push(object(alloc, name, host)?)?;
+    }
+    if objects.len() > MAX_OBJECTS {
+        return Err(AllocError);
+    }
+    Objects::new(alloc, objects)
 }
 
-/// The configuration of these hosts.
+/// The configuration of these objects.
 fn config(alloc: Global) -> Result<Config, AllocError> {
-    let objects = hosts(alloc)?;
+    let objects = objects(alloc)?;
     Ok(Config {
         objects,
         contacts: Sequence::new(Vec::new(alloc)),
@@ -100,7 +116,7 @@ fn gives<R: Read + Drop>(
     Ok(())
 }
 
-const LINES: [Row; 22] = [
+const LINES: [Row; 26] = [
     (
         "[0] CLOCK",
         Ok(Event {
@@ -140,8 +156,12 @@ const LINES: [Row; 22] = [
     ("[1] clock", Err(FeedFault::UnknownKind)),
     ("[1] CLOCK\r", Err(FeedFault::UnknownKind)),
     ("[1] SERVICE_STATE;web;disk;OK", Err(FeedFault::UnknownKind)),
+    ("[x] NOPE;web", Err(FeedFault::BadStamp)),
+    ("[1] NOPE;web;UP", Err(FeedFault::UnknownKind)),
+    ("[1] ;CLOCK", Err(FeedFault::UnknownKind)),
     ("[1] CLOCK;", Err(FeedFault::BadState)),
     ("[1] ENABLE_NOTIFICATIONS;1", Err(FeedFault::BadState)),
+    ("[1] DISABLE_NOTIFICATIONS;;", Err(FeedFault::BadState)),
     (
         "[1] ENABLE_NOTIFICATIONS",
         Ok(Event {
@@ -163,7 +183,7 @@ fn reads_lines(rt: HostRuntime) -> Result<(), Fail> {
     try_case(&rt, rt.alloc(), Case::Lines(&LINES))
 }
 
-const HOST_STATES: [Row; 13] = [
+const HOST_STATES: [Row; 15] = [
     (
         "[1] HOST_STATE;web;UP",
         Ok(Event {
@@ -185,6 +205,14 @@ const HOST_STATES: [Row; 13] = [
             kind: EventKind::Hard(ObjectId(1), State::Unreachable),
         }),
     ),
+    (
+        "[1] HOST_STATE;bücher;DOWN",
+        Ok(Event {
+            moment: 1,
+            kind: EventKind::Hard(ObjectId(4), State::Down),
+        }),
+    ),
+    ("[1] HOST_STATE;disk;UP", Err(FeedFault::UnknownObject)),
     ("[1] HOST_STATE; web;UP", Err(FeedFault::UnknownObject)),
     ("[1] HOST_STATE;;UP", Err(FeedFault::UnknownObject)),
     ("[1] HOST_STATE;db;CRITICAL", Err(FeedFault::UnknownObject)),

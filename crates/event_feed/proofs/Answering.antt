@@ -302,14 +302,14 @@ GivesEvent-line c before after line last line' None event given goes_on goes cou
       goes_on = refl;
     }
 
-pub GivesFault-line : (objects : List Object) (before after : Reading) (line last line' : ℕ) (stop : Option Stop) (fault : FeedFault) → is_some stop ≡ false
-    → GoesToLine before line Line after line' → CountsLine line Line line' → Err fault ≡ line_reading objects after.line
-    → GivesFault objects (feed_of before line last stop) (record { line = line'; fault = fault }) (feed_of after line' last stop)
-GivesFault-line objects before after line last line' (Some stop) fault goes_on goes counts reading = absurd (true≢false goes_on)
-GivesFault-line objects before after line last line' None fault goes_on goes counts reading =
-    let text : text_reading objects last after.line ≡ Err fault = ap (λ (r : Result Event FeedFault). raised last r) (sym reading) in
+pub GivesFault-line : (c : Config) (before after : Reading) (line last line' : ℕ) (stop : Option Stop) (fault : FeedFault) → is_some stop ≡ false
+    → GoesToLine before line Line after line' → CountsLine line Line line' → Err fault ≡ line_reading c.objects after.line
+    → GivesFault c.objects (feed_of before line last stop) (record { line = line'; fault = fault }) (feed_of after line' last stop)
+GivesFault-line c before after line last line' (Some stop) fault goes_on goes counts reading = absurd (true≢false goes_on)
+GivesFault-line c before after line last line' None fault goes_on goes counts reading =
+    let text : text_reading c.objects last after.line ≡ Err fault = ap (λ (r : Result Event FeedFault). raised last r) (sym reading) in
     record {
-      answers = Known-map (to_come before) (to_come after) _ _ goes (λ bytes rest answers. answers.0 objects last ∙ rw text refl);
+      answers = Known-map (to_come before) (to_come after) _ _ goes (λ bytes rest answers. answers.0 c.objects last ∙ rw text refl);
       place = Known-map (to_come before) (to_come after) _ _ goes (λ bytes rest answers. record {
         text = after.line;
         next = answers.1.0;
@@ -317,7 +317,7 @@ GivesFault-line objects before after line last line' None fault goes_on goes cou
         reading = sym reading;
         stays = λ _. refl;
       });
-      fits = line_reading-fault objects after.line fault (sym reading);
+      fits = line_reading-fault c after.line fault (sym reading);
       said = λ _ _. sym reading;
       number = refl;
       last = refl;
