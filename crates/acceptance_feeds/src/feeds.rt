@@ -22,7 +22,10 @@ type Given = Result<Event, FeedFault>;
 type Answer = (u64, Given);
 
 /// A line, and what it gives.
-type Row = (&'static str, Given);
+pub(crate) type Row = (&'static str, Given);
+
+/// What stands after the stamp of a line, and what happened by it.
+pub(crate) type Said = (&'static str, Result<EventKind, FeedFault>);
 
 /// The objects, by their names, and the host of each that is a service.
 const NAMES: [(&str, Option<ObjectId>); 5] = [
@@ -72,6 +75,22 @@ fn lines_give(rt: &impl Abort, config: &Config, rows: &[Row]) {
     }
 }
 
+/// Compares what the lines of a table say, each with one stamp.
+fn commands_say(
+    rt: &impl Abort,
+    alloc: Global,
+    config: &Config,
+    rows: &[Said],
+) -> Result<(), AllocError> {
+    for row in rows {
+        let (command, said) = *row;
+        let line = format!(in alloc; "[1] {command}")?;
+        let kind = read_line(config, line.as_bytes()).map(|event| event.kind);
+        assert_eq!(rt; kind, said, "{command}");
+    }
+    Ok(())
+}
+
 /// The next answer of a feed, if it isn't over.
 fn next_answer<R: Input + Drop>(config: &Config, feeder: &mut Feeder<R>) -> Option<Answer> {
     match feeder.next(config) {
@@ -116,7 +135,7 @@ fn gives<R: Read + Drop>(
     Ok(())
 }
 
-const LINES: [Row; 26] = [
+const LINES: [Row; 25] = [
     (
         "[0] CLOCK",
         Ok(Event {
@@ -155,7 +174,6 @@ const LINES: [Row; 26] = [
     ("[1]  CLOCK", Err(FeedFault::UnknownKind)),
     ("[1] clock", Err(FeedFault::UnknownKind)),
     ("[1] CLOCK\r", Err(FeedFault::UnknownKind)),
-    ("[1] SERVICE_STATE;web;disk;OK", Err(FeedFault::UnknownKind)),
     ("[x] NOPE;web", Err(FeedFault::BadStamp)),
     ("[1] NOPE;web;UP", Err(FeedFault::UnknownKind)),
     ("[1] ;CLOCK", Err(FeedFault::UnknownKind)),
@@ -593,8 +611,9 @@ fn gives_each_line_and_text(rt: HostRuntime) -> Result<(), Fail> {
 
 /// What a test tries of a configuration.
 #[derive(Clone, Copy)]
-enum Case {
+pub(crate) enum Case {
     Lines(&'static [Row]),
+    Said(&'static [Said]),
     NoText,
     LongLines,
     Feed(&'static [u8], &'static [Answer], Stop),
@@ -609,6 +628,7 @@ enum Case {
 fn try_in(rt: &impl Abort, alloc: Global, config: &Config, case: Case) -> Result<(), Fail> {
     match case {
         Case::Lines(rows) => lines_give(rt, config, rows),
+        Case::Said(rows) => commands_say(rt, alloc, config, rows)?,
         Case::NoText => bytes_that_are_no_text(rt, config),
         Case::LongLines => long_lines(rt, alloc, config)?,
         Case::Feed(feed, answers, why) => gives(rt, alloc, config, feed, answers, why)?,
@@ -622,7 +642,7 @@ fn try_in(rt: &impl Abort, alloc: Global, config: &Config, case: Case) -> Result
 }
 
 /// Tries one case with the configuration. This function alone owns one: each that does takes long to prove.
-fn try_case(rt: &impl Abort, alloc: Global, case: Case) -> Result<(), Fail> {
+pub(crate) fn try_case(rt: &impl Abort, alloc: Global, case: Case) -> Result<(), Fail> {
     let config = config(alloc)?;
     try_in(rt, alloc, &config, case)
 }

@@ -1,5 +1,5 @@
 -- What the reading of lines makes of the answers to come.
-use Rattle.std.proofs.Common.{◌≡◌, ◌≢◌, ◌⊎◌, inl, inr, Bool, IfSome, ℕ, suc, ◌+◌, ◌<◌, ◌≤◌, max, true, false, cond, ltb, leb, eqb, List, [], ◌∷◌, ◌++◌, append_assoc, length, take, drop, replicate, Option, Some, None, Result, Ok, Err, refl, sym, ap, subst, ◌∙◌, arith, one-add}
+use Rattle.std.proofs.Common.{◌≡◌, ◌≢◌, inl, inr, Bool, IfSome, ℕ, suc, ◌+◌, ◌<◌, ◌≤◌, max, true, false, cond, ltb, leb, eqb, List, [], ◌∷◌, ◌++◌, append_assoc, length, take, drop, replicate, Option, Some, None, Result, Ok, Err, refl, sym, ap, subst, ◌∙◌, arith, one-add}
 use Rattle.std.specs.Prelude.{is_some, IsTrue, take_while}
 use Rattle.std.specs.List.{list_any}
 use Rattle.std.proofs.lemmas.List.Folds.{list_any-append}
@@ -22,13 +22,11 @@ use Rattle.text_lines.specs.declared.line_reader.NextLine.{NextLine}
 use Rattle.text_lines.specs.declared.line_reader.NextLine.TheVariants.{Line, Long, Over}
 use Rattle.event_feed.specs.Line.{line_reading}
 use Rattle.text_lines.specs.Lines.{is_newline, IsUnbroken, BeginsWithLine, pieces, Known, has_newline, has_line}
-use Rattle.text_lines.specs.LineReader.{Reading, to_come, line_limit, byte_limit, call_limit, cut_text, BeginsUnbroken, ReadsFrom, ReadsLine, ReadsHeld, TextFits}
-use Rattle.event_feed.specs.Feed.{Answer, AreGiven, AreGivenBy, BreaksOff, HasLong, least_at_read, refusal, answers, feed_limit, is_stopped, text_reading, moment_after, AreFromLine, ComesNext, ComesLong, ComesTo, RefusesLine, FeedComesTo, GivesEvent, GivesFault, feed_of, raised}
+use Rattle.text_lines.specs.LineReader.{Reading, to_come, line_limit, byte_limit, call_limit, ReadsFrom, ReadsLine, ReadsHeld}
+use Rattle.event_feed.specs.Feed.{Answer, AreGiven, AreGivenBy, HasLong, least_at_read, refusal, answers, feed_limit, is_stopped, text_reading, moment_after, AreFromLine, ComesNext, ComesLong, ComesTo, GivesEvent, GivesFault, feed_of, raised}
 use Rattle.event_feed.specs.Feeder.{LineAnswers, GoesToLine, CountsLine, begun_lines}
 use Rattle.lemmas.proofs.Lists.{HasFirst, slice_split-first}
 use Rattle.event_feed.proofs.ProperLines.{line_reading-fault}
-use Rattle.event_feed.proofs.SupportedLines.{supported_line}
-use Rattle.due_model.specs.Covered.{IsSupported}
 
 -- ---- pieces
 
@@ -295,7 +293,6 @@ GivesEvent-line c before after line last line' None event given goes_on goes cou
       place = Known-map (to_come before) (to_come after) _ _ goes (λ bytes rest answers. answers.1);
       said = text;
       proper = subst (IsProper c) (sym same) (record { stamp = omega (arith, proper.stamp); kind = proper.kind });
-      supported = subst (λ (e : Event). IsSupported e.kind) (sym same) (supported_line c.objects after.line event reading);
       later = rw same (omega arith);
       last = refl;
       line = counts.0;

@@ -8,7 +8,7 @@ use Rattle.std.proofs.lemmas.List.Splits.{slice_split_first}
 use Rattle.std.proofs.lemmas.List.Sums.{prefix_len-le-length, prefix_len_is}
 use Rattle.std.proofs.lemmas.Int.Digits.{number_push}
 use Rattle.std.proofs.lemmas.Option.{cond_some, none-some}
-use Rattle.lemmas.proofs.Lists.{HasFirst, slice_split-first}
+use Rattle.lemmas.proofs.Lists.{slice_split-first}
 use Rattle.due_model.specs.declared.event.EventKind.{EventKind}
 use Rattle.event_feed.specs.declared.fault.FeedFault.TheVariants.{BadState}
 use Rattle.event_feed.specs.declared.line.Subject.{Subject}

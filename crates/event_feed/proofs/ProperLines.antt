@@ -1,21 +1,22 @@
 -- What a line gives that is read: a proper event, or a fault that the feed goes on after.
-use Rattle.std.proofs.Common.{◌≡◌, ℕ, ◌<◌, ◌≤◌, Bool, true, false, not, cond, ◌&&◌, leb, ltb, List, [], ◌∷◌, length, get_or, Option, Some, None, Result, Ok, Err, refl, sym, subst, ⊎_elim, arith}
+use Rattle.std.proofs.Common.{◌≡◌, ℕ, ◌<◌, ◌≤◌, Bool, true, false, not, cond, ◌&&◌, leb, ltb, List, [], ◌∷◌, length, get_or, Option, Some, None, Result, Ok, Err, refl, subst, ⊎_elim, arith}
 use Rattle.std.specs.Prelude.{slice_get, is_some, codes}
 use Rattle.std.specs.Option.{option_map, ok_or}
 use Rattle.std.specs.List.{position, position_or_len}
 use Rattle.std.specs.Str.{bytes_eq, is_utf8}
 use Rattle.std.proofs.lemmas.Bool.{and_parts, leb-true, ltb-true, false≢true}
-use Rattle.std.proofs.lemmas.Option.{cond_some, slice_get_cases}
+use Rattle.std.proofs.lemmas.Option.{cond_some, slice_get_cases, slice_get_within}
 use Rattle.std.proofs.lemmas.List.Quantifiers.{position-Some}
-use Rattle.due_model.specs.Proper.{IsProper, KindIsProper, is_state_of}
+use Rattle.due_model.specs.Proper.{KindIsProper, is_state_of}
 use Rattle.due_model.specs.Limits.{last_moment}
 use Rattle.due_model.specs.Objects.{object_id, is_called, is_named, object_named}
 use Rattle.due_model.specs.declared.config.Config.{Config}
 use Rattle.due_model.specs.declared.config.Object.{Object}
 use Rattle.due_model.specs.declared.config.ObjectId.{ObjectId}
+use Rattle.due_model.specs.declared.event.DowntimeChange.TheVariants.{Start, End, Cancelled}
 use Rattle.due_model.specs.declared.event.Event.{Event}
 use Rattle.due_model.specs.declared.event.EventKind.{EventKind}
-use Rattle.due_model.specs.declared.event.EventKind.TheVariants.{Clock, Program, Hard}
+use Rattle.due_model.specs.declared.event.EventKind.TheVariants.{Clock, Program, Hard, Downtime, Flapping}
 use Rattle.due_model.specs.declared.state.State.{State}
 use Rattle.due_model.specs.declared.state.State.TheVariants.{Up, Down, Unreachable, Fine, Warning, Unknown, Critical}
 use Rattle.text_lines.specs.LineReader.{line_limit}
@@ -26,9 +27,9 @@ use Rattle.event_feed.specs.declared.line.Command.TheVariants.{TellTime, Switch,
 use Rattle.event_feed.specs.declared.line.Subject.{Subject}
 use Rattle.event_feed.specs.declared.line.Subject.TheVariants.{Host, Service}
 use Rattle.event_feed.specs.declared.line.Words.{Words}
-use Rattle.event_feed.specs.declared.line.Words.TheVariants.{States}
+use Rattle.event_feed.specs.declared.line.Words.TheVariants.{States, Downtimes, Flaps}
 use Rattle.event_feed.specs.Fault.{is_line_fault}
-use Rattle.event_feed.specs.Line.{stamp_of, digits_number, stamp_digits, is_stamp_shaped, command_of, fields, command_named, host_state_said, service_state_said, said, said_reading, last_reading, service_reading, object_reading, bare_reading, arguments_reading, command_reading, stamped, stamp_reading, line_reading}
+use Rattle.event_feed.specs.Line.{stamp_of, digits_number, stamp_digits, is_stamp_shaped, command_of, fields, command_named, host_state_said, service_state_said, downtime_said, flapping_said, said, said_reading, last_reading, object_reading, bare_reading, arguments_reading, command_reading, stamped, stamp_reading, line_reading}
 
 -- ---- the object
 
@@ -98,6 +99,17 @@ service_state-proper c id word at =
     (or_else c (bytes_eq word (codes "UNKNOWN")) (Hard id Unknown) _ (hard-proper c true id Unknown at refl)
     (or_else c (bytes_eq word (codes "CRITICAL")) (Hard id Critical) None (hard-proper c true id Critical at refl) tt)))
 
+downtime-proper : (c : Config) (id : ObjectId) (word : List ℕ) → id.0 < length c.objects → SaysProper c (downtime_said id word)
+downtime-proper c id word there =
+    or_else c (bytes_eq word (codes "START")) (Downtime id Start) _ there
+    (or_else c (bytes_eq word (codes "END")) (Downtime id End) _ there
+    (or_else c (bytes_eq word (codes "CANCELLED")) (Downtime id Cancelled) None there tt))
+
+flapping-proper : (c : Config) (id : ObjectId) (word : List ℕ) → id.0 < length c.objects → SaysProper c (flapping_said id word)
+flapping-proper c id word there =
+    or_else c (bytes_eq word (codes "START")) (Flapping id true) _ there
+    (or_else c (bytes_eq word (codes "STOP")) (Flapping id false) None there tt)
+
 -- whether such objects are services
 abbrev is_service : Subject → Bool
 is_service Host = false
@@ -106,6 +118,8 @@ is_service Service = true
 said-proper : (c : Config) (words : Words) (subject : Subject) (id : ObjectId) (word : List ℕ) → IsAt c.objects (is_service subject) id → SaysProper c (said words subject id word)
 said-proper c States Host id word at = host_state-proper c id word at
 said-proper c States Service id word at = service_state-proper c id word at
+said-proper c Downtimes subject id word at = downtime-proper c id word (slice_get_within c.objects id.0 at.object at.at)
+said-proper c Flaps subject id word at = flapping-proper c id word (slice_get_within c.objects id.0 at.object at.at)
 
 -- ---- the command and the line
 

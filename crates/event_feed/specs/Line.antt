@@ -9,9 +9,10 @@ use Rattle.due_model.specs.Limits.{last_moment}
 use Rattle.due_model.specs.Objects.{object_named}
 use Rattle.due_model.specs.declared.config.Object.{Object}
 use Rattle.due_model.specs.declared.config.ObjectId.{ObjectId}
+use Rattle.due_model.specs.declared.event.DowntimeChange.TheVariants.{Start, End, Cancelled}
 use Rattle.due_model.specs.declared.event.Event.{Event}
 use Rattle.due_model.specs.declared.event.EventKind.{EventKind}
-use Rattle.due_model.specs.declared.event.EventKind.TheVariants.{Clock, Program, Hard}
+use Rattle.due_model.specs.declared.event.EventKind.TheVariants.{Clock, Program, Hard, Downtime, Flapping}
 use Rattle.due_model.specs.declared.state.State.TheVariants.{Up, Down, Unreachable, Fine, Warning, Unknown, Critical}
 use Rattle.text_lines.specs.LineReader.{line_limit}
 use Rattle.event_feed.specs.declared.fault.FeedFault.{FeedFault}
@@ -21,7 +22,7 @@ use Rattle.event_feed.specs.declared.line.Command.TheVariants.{TellTime, Switch,
 use Rattle.event_feed.specs.declared.line.Subject.{Subject}
 use Rattle.event_feed.specs.declared.line.Subject.TheVariants.{Host, Service}
 use Rattle.event_feed.specs.declared.line.Words.{Words}
-use Rattle.event_feed.specs.declared.line.Words.TheVariants.{States}
+use Rattle.event_feed.specs.declared.line.Words.TheVariants.{States, Downtimes, Flaps}
 
 abbrev pub begins_with : List ℕ → List ℕ → Bool
 begins_with bytes front = bytes_eq (take (length front) bytes) front
@@ -72,6 +73,11 @@ command_named name =
     else if bytes_eq name (codes "ENABLE_NOTIFICATIONS") then Some (Switch true)
     else if bytes_eq name (codes "DISABLE_NOTIFICATIONS") then Some (Switch false)
     else if bytes_eq name (codes "HOST_STATE") then Some (Tell States Host)
+    else if bytes_eq name (codes "SERVICE_STATE") then Some (Tell States Service)
+    else if bytes_eq name (codes "HOST_DOWNTIME") then Some (Tell Downtimes Host)
+    else if bytes_eq name (codes "SERVICE_DOWNTIME") then Some (Tell Downtimes Service)
+    else if bytes_eq name (codes "HOST_FLAPPING") then Some (Tell Flaps Host)
+    else if bytes_eq name (codes "SERVICE_FLAPPING") then Some (Tell Flaps Service)
     else None
 
 -- ---- the words
@@ -93,10 +99,27 @@ service_state_said object word =
     else if bytes_eq word (codes "CRITICAL") then Some (Hard object Critical)
     else None
 
+-- what happens to a downtime (chapter "Scheduled Downtime")
+abbrev pub downtime_said : ObjectId → List ℕ → Option EventKind
+downtime_said object word =
+    if bytes_eq word (codes "START") then Some (Downtime object Start)
+    else if bytes_eq word (codes "END") then Some (Downtime object End)
+    else if bytes_eq word (codes "CANCELLED") then Some (Downtime object Cancelled)
+    else None
+
+-- that flapping starts or stops (chapter "State Flapping")
+abbrev pub flapping_said : ObjectId → List ℕ → Option EventKind
+flapping_said object word =
+    if bytes_eq word (codes "START") then Some (Flapping object true)
+    else if bytes_eq word (codes "STOP") then Some (Flapping object false)
+    else None
+
 -- what a word says of such an object
 abbrev pub said : Words → Subject → ObjectId → List ℕ → Option EventKind
 said States Host object word = host_state_said object word
 said States Service object word = service_state_said object word
+said Downtimes subject object word = downtime_said object word
+said Flaps subject object word = flapping_said object word
 
 -- ---- the arguments
 

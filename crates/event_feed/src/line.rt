@@ -8,13 +8,13 @@ ghost use Rattle.due_model.specs.Proper.{IsProper};
 ghost use Rattle.due_model.specs.Limits.{last_moment};
 ghost use Rattle.std.specs.Char.{is_ascii_digit};
 ghost use Rattle.event_feed.specs.Line.{bare_reading, command_named, command_of, command_reading, digits_number};
-ghost use Rattle.event_feed.specs.Line.{fields, fields_after, host_state_said};
+ghost use Rattle.event_feed.specs.Line.{downtime_said, fields, fields_after, flapping_said, host_state_said};
 ghost use Rattle.event_feed.specs.Line.{last_reading, line_reading, object_reading, said, said_reading};
 ghost use Rattle.event_feed.specs.Line.{service_reading, service_state_said, stamp_of};
 
 use crate::fault::FeedFault;
 use due_model::config::{Config, ObjectId};
-use due_model::event::{Event, EventKind};
+use due_model::event::{DowntimeChange, Event, EventKind};
 use due_model::limits::{LAST_MOMENT, LINE_LIMIT};
 use due_model::state::State;
 
@@ -34,6 +34,10 @@ pub(crate) enum Command {
 pub(crate) enum Words {
     /// The hard states of such an object (chapter "State Types").
     States,
+    /// What happens to a downtime (chapter "Scheduled Downtime").
+    Downtimes,
+    /// Flapping starts or stops (chapter "State Flapping").
+    Flaps,
 }
 
 /// What the arguments of a command name.
@@ -190,6 +194,16 @@ fn find_command(name: &[u8]) -> Option<Command>
         Some(Command::Switch(false))
     } else if name == b"HOST_STATE".as_slice() {
         Some(Command::Tell(Words::States, Subject::Host))
+    } else if name == b"SERVICE_STATE".as_slice() {
+        Some(Command::Tell(Words::States, Subject::Service))
+    } else if name == b"HOST_DOWNTIME".as_slice() {
+        Some(Command::Tell(Words::Downtimes, Subject::Host))
+    } else if name == b"SERVICE_DOWNTIME".as_slice() {
+        Some(Command::Tell(Words::Downtimes, Subject::Service))
+    } else if name == b"HOST_FLAPPING".as_slice() {
+        Some(Command::Tell(Words::Flaps, Subject::Host))
+    } else if name == b"SERVICE_FLAPPING".as_slice() {
+        Some(Command::Tell(Words::Flaps, Subject::Service))
     } else {
         None
     }
@@ -285,6 +299,8 @@ fn find_said(words: Words, subject: Subject, object: ObjectId, word: &[u8]) -> O
             Subject::Host => find_host_state(object, word),
             Subject::Service => find_service_state(object, word),
         },
+        Words::Downtimes => find_downtime(object, word),
+        Words::Flaps => find_flapping(object, word),
     }
 }
 
@@ -315,6 +331,34 @@ fn find_service_state(object: ObjectId, word: &[u8]) -> Option<EventKind>
         Some(EventKind::Hard(object, State::Unknown))
     } else if word == b"CRITICAL".as_slice() {
         Some(EventKind::Hard(object, State::Critical))
+    } else {
+        None
+    }
+}
+
+/// What a word says of a downtime of an object.
+fn find_downtime(object: ObjectId, word: &[u8]) -> Option<EventKind>
+    ensures { result ≡ downtime_said object word.now }
+{
+    if word == b"START".as_slice() {
+        Some(EventKind::Downtime(object, DowntimeChange::Start))
+    } else if word == b"END".as_slice() {
+        Some(EventKind::Downtime(object, DowntimeChange::End))
+    } else if word == b"CANCELLED".as_slice() {
+        Some(EventKind::Downtime(object, DowntimeChange::Cancelled))
+    } else {
+        None
+    }
+}
+
+/// What a word says of an object's flapping.
+fn find_flapping(object: ObjectId, word: &[u8]) -> Option<EventKind>
+    ensures { result ≡ flapping_said object word.now }
+{
+    if word == b"START".as_slice() {
+        Some(EventKind::Flapping(object, true))
+    } else if word == b"STOP".as_slice() {
+        Some(EventKind::Flapping(object, false))
     } else {
         None
     }
