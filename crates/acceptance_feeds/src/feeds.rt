@@ -4,6 +4,7 @@ use acceptance_inputs::configs::object;
 use acceptance_inputs::readers::{Exes, Pieces, in_pieces};
 use due_model::config::{Config, ObjectId};
 use due_model::event::{Event, EventKind};
+use due_model::limits::MAX_OBJECTS;
 use due_model::objects::Objects;
 use due_model::sequence::Sequence;
 use due_model::state::State;
@@ -21,18 +22,36 @@ type Given = Result<Event, FeedFault>;
 type Answer = (u64, Given);
 
 /// A line, and what it gives.
-type Row = (&'static str, Given);
+pub(crate) type Row = (&'static str, Given);
 
-/// Host 0 is `web`, host 1 is `my host`.
-fn hosts(alloc: Global) -> Result<Objects, AllocError> {
-    let web = object(alloc, "web", None)?;
-    let other = object(alloc, "my host", None)?;
-    Objects::new(alloc, vec![in alloc; web, other]?)
+/// What stands after the stamp of a line, and what happened by it.
+pub(crate) type Said = (&'static str, Result<EventKind, FeedFault>);
+
+/// The objects, by their names, and the host of each that is a service.
+const NAMES: [(&str, Option<ObjectId>); 5] = [
+    ("web", None),
+    ("my host", None),
+    ("disk", Some(ObjectId(0))),
+    ("Größe von /var", Some(ObjectId(1))),
+    ("bücher", None),
+];
+
+/// These objects.
+fn objects(alloc: Global) -> Result<Objects, AllocError> {
+    let mut objects = Vec::new(alloc);
+    for named in &NAMES {
+        let (name, host) = *named;
+        objects.push(object(alloc, name, host)?)?;
+    }
+    if objects.len() > MAX_OBJECTS {
+        return Err(AllocError);
+    }
+    Objects::new(alloc, objects)
 }
 
-/// The configuration of these hosts.
+/// The configuration of these objects.
 fn config(alloc: Global) -> Result<Config, AllocError> {
-    let objects = hosts(alloc)?;
+    let objects = objects(alloc)?;
     Ok(Config {
         objects,
         contacts: Sequence::new(Vec::new(alloc)),
@@ -54,6 +73,22 @@ fn lines_give(rt: &impl Abort, config: &Config, rows: &[Row]) {
         let (line, given) = *row;
         line_gives(rt, config, line.as_bytes(), given);
     }
+}
+
+/// Compares what the lines of a table say, each with one stamp.
+fn commands_say(
+    rt: &impl Abort,
+    alloc: Global,
+    config: &Config,
+    rows: &[Said],
+) -> Result<(), AllocError> {
+    for row in rows {
+        let (command, said) = *row;
+        let line = format!(in alloc; "[1] {command}")?;
+        let kind = read_line(config, line.as_bytes()).map(|event| event.kind);
+        assert_eq!(rt; kind, said, "{command}");
+    }
+    Ok(())
 }
 
 /// The next answer of a feed, if it isn't over.
@@ -100,7 +135,7 @@ fn gives<R: Read + Drop>(
     Ok(())
 }
 
-const LINES: [Row; 22] = [
+const LINES: [Row; 25] = [
     (
         "[0] CLOCK",
         Ok(Event {
@@ -139,9 +174,12 @@ const LINES: [Row; 22] = [
     ("[1]  CLOCK", Err(FeedFault::UnknownKind)),
     ("[1] clock", Err(FeedFault::UnknownKind)),
     ("[1] CLOCK\r", Err(FeedFault::UnknownKind)),
-    ("[1] SERVICE_STATE;web;disk;OK", Err(FeedFault::UnknownKind)),
+    ("[x] NOPE;web", Err(FeedFault::BadStamp)),
+    ("[1] NOPE;web;UP", Err(FeedFault::UnknownKind)),
+    ("[1] ;CLOCK", Err(FeedFault::UnknownKind)),
     ("[1] CLOCK;", Err(FeedFault::BadState)),
     ("[1] ENABLE_NOTIFICATIONS;1", Err(FeedFault::BadState)),
+    ("[1] DISABLE_NOTIFICATIONS;;", Err(FeedFault::BadState)),
     (
         "[1] ENABLE_NOTIFICATIONS",
         Ok(Event {
@@ -163,7 +201,7 @@ fn reads_lines(rt: HostRuntime) -> Result<(), Fail> {
     try_case(&rt, rt.alloc(), Case::Lines(&LINES))
 }
 
-const HOST_STATES: [Row; 13] = [
+const HOST_STATES: [Row; 15] = [
     (
         "[1] HOST_STATE;web;UP",
         Ok(Event {
@@ -185,6 +223,14 @@ const HOST_STATES: [Row; 13] = [
             kind: EventKind::Hard(ObjectId(1), State::Unreachable),
         }),
     ),
+    (
+        "[1] HOST_STATE;bücher;DOWN",
+        Ok(Event {
+            moment: 1,
+            kind: EventKind::Hard(ObjectId(4), State::Down),
+        }),
+    ),
+    ("[1] HOST_STATE;disk;UP", Err(FeedFault::UnknownObject)),
     ("[1] HOST_STATE; web;UP", Err(FeedFault::UnknownObject)),
     ("[1] HOST_STATE;;UP", Err(FeedFault::UnknownObject)),
     ("[1] HOST_STATE;db;CRITICAL", Err(FeedFault::UnknownObject)),
@@ -565,8 +611,9 @@ fn gives_each_line_and_text(rt: HostRuntime) -> Result<(), Fail> {
 
 /// What a test tries of a configuration.
 #[derive(Clone, Copy)]
-enum Case {
+pub(crate) enum Case {
     Lines(&'static [Row]),
+    Said(&'static [Said]),
     NoText,
     LongLines,
     Feed(&'static [u8], &'static [Answer], Stop),
@@ -581,6 +628,7 @@ enum Case {
 fn try_in(rt: &impl Abort, alloc: Global, config: &Config, case: Case) -> Result<(), Fail> {
     match case {
         Case::Lines(rows) => lines_give(rt, config, rows),
+        Case::Said(rows) => commands_say(rt, alloc, config, rows)?,
         Case::NoText => bytes_that_are_no_text(rt, config),
         Case::LongLines => long_lines(rt, alloc, config)?,
         Case::Feed(feed, answers, why) => gives(rt, alloc, config, feed, answers, why)?,
@@ -594,7 +642,7 @@ fn try_in(rt: &impl Abort, alloc: Global, config: &Config, case: Case) -> Result
 }
 
 /// Tries one case with the configuration. This function alone owns one: each that does takes long to prove.
-fn try_case(rt: &impl Abort, alloc: Global, case: Case) -> Result<(), Fail> {
+pub(crate) fn try_case(rt: &impl Abort, alloc: Global, case: Case) -> Result<(), Fail> {
     let config = config(alloc)?;
     try_in(rt, alloc, &config, case)
 }

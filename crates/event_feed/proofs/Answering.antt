@@ -1,5 +1,5 @@
 -- What the reading of lines makes of the answers to come.
-use Rattle.std.proofs.Common.{◌≡◌, ◌≢◌, ◌⊎◌, inl, inr, Bool, IfSome, ℕ, suc, ◌+◌, ◌<◌, ◌≤◌, max, true, false, cond, ltb, leb, eqb, List, [], ◌∷◌, ◌++◌, append_assoc, length, take, drop, replicate, Option, Some, None, Result, Ok, Err, refl, sym, ap, subst, ◌∙◌, arith, one-add}
+use Rattle.std.proofs.Common.{◌≡◌, ◌≢◌, inl, inr, Bool, IfSome, ℕ, suc, ◌+◌, ◌<◌, ◌≤◌, max, true, false, cond, ltb, leb, eqb, List, [], ◌∷◌, ◌++◌, append_assoc, length, take, drop, replicate, Option, Some, None, Result, Ok, Err, refl, sym, ap, subst, ◌∙◌, arith, one-add}
 use Rattle.std.specs.Prelude.{is_some, IsTrue, take_while}
 use Rattle.std.specs.List.{list_any}
 use Rattle.std.proofs.lemmas.List.Folds.{list_any-append}
@@ -22,13 +22,11 @@ use Rattle.text_lines.specs.declared.line_reader.NextLine.{NextLine}
 use Rattle.text_lines.specs.declared.line_reader.NextLine.TheVariants.{Line, Long, Over}
 use Rattle.event_feed.specs.Line.{line_reading}
 use Rattle.text_lines.specs.Lines.{is_newline, IsUnbroken, BeginsWithLine, pieces, Known, has_newline, has_line}
-use Rattle.text_lines.specs.LineReader.{Reading, to_come, line_limit, byte_limit, call_limit, cut_text, BeginsUnbroken, ReadsFrom, ReadsLine, ReadsHeld, TextFits}
-use Rattle.event_feed.specs.Feed.{Answer, AreGiven, AreGivenBy, BreaksOff, HasLong, least_at_read, refusal, answers, feed_limit, is_stopped, text_reading, moment_after, AreFromLine, ComesNext, ComesLong, ComesTo, RefusesLine, FeedComesTo, GivesEvent, GivesFault, feed_of, raised}
+use Rattle.text_lines.specs.LineReader.{Reading, to_come, line_limit, byte_limit, call_limit, ReadsFrom, ReadsLine, ReadsHeld}
+use Rattle.event_feed.specs.Feed.{Answer, AreGiven, AreGivenBy, HasLong, least_at_read, refusal, answers, feed_limit, is_stopped, text_reading, moment_after, AreFromLine, ComesNext, ComesLong, ComesTo, GivesEvent, GivesFault, feed_of, raised}
 use Rattle.event_feed.specs.Feeder.{LineAnswers, GoesToLine, CountsLine, begun_lines}
 use Rattle.lemmas.proofs.Lists.{HasFirst, slice_split-first}
 use Rattle.event_feed.proofs.ProperLines.{line_reading-fault}
-use Rattle.event_feed.proofs.SupportedLines.{supported_line}
-use Rattle.due_model.specs.Covered.{IsSupported}
 
 -- ---- pieces
 
@@ -295,21 +293,20 @@ GivesEvent-line c before after line last line' None event given goes_on goes cou
       place = Known-map (to_come before) (to_come after) _ _ goes (λ bytes rest answers. answers.1);
       said = text;
       proper = subst (IsProper c) (sym same) (record { stamp = omega (arith, proper.stamp); kind = proper.kind });
-      supported = subst (λ (e : Event). IsSupported e.kind) (sym same) (supported_line c.objects after.line event reading);
       later = rw same (omega arith);
       last = refl;
       line = counts.0;
       goes_on = refl;
     }
 
-pub GivesFault-line : (objects : List Object) (before after : Reading) (line last line' : ℕ) (stop : Option Stop) (fault : FeedFault) → is_some stop ≡ false
-    → GoesToLine before line Line after line' → CountsLine line Line line' → Err fault ≡ line_reading objects after.line
-    → GivesFault objects (feed_of before line last stop) (record { line = line'; fault = fault }) (feed_of after line' last stop)
-GivesFault-line objects before after line last line' (Some stop) fault goes_on goes counts reading = absurd (true≢false goes_on)
-GivesFault-line objects before after line last line' None fault goes_on goes counts reading =
-    let text : text_reading objects last after.line ≡ Err fault = ap (λ (r : Result Event FeedFault). raised last r) (sym reading) in
+pub GivesFault-line : (c : Config) (before after : Reading) (line last line' : ℕ) (stop : Option Stop) (fault : FeedFault) → is_some stop ≡ false
+    → GoesToLine before line Line after line' → CountsLine line Line line' → Err fault ≡ line_reading c.objects after.line
+    → GivesFault c.objects (feed_of before line last stop) (record { line = line'; fault = fault }) (feed_of after line' last stop)
+GivesFault-line c before after line last line' (Some stop) fault goes_on goes counts reading = absurd (true≢false goes_on)
+GivesFault-line c before after line last line' None fault goes_on goes counts reading =
+    let text : text_reading c.objects last after.line ≡ Err fault = ap (λ (r : Result Event FeedFault). raised last r) (sym reading) in
     record {
-      answers = Known-map (to_come before) (to_come after) _ _ goes (λ bytes rest answers. answers.0 objects last ∙ rw text refl);
+      answers = Known-map (to_come before) (to_come after) _ _ goes (λ bytes rest answers. answers.0 c.objects last ∙ rw text refl);
       place = Known-map (to_come before) (to_come after) _ _ goes (λ bytes rest answers. record {
         text = after.line;
         next = answers.1.0;
@@ -317,7 +314,7 @@ GivesFault-line objects before after line last line' None fault goes_on goes cou
         reading = sym reading;
         stays = λ _. refl;
       });
-      fits = line_reading-fault objects after.line fault (sym reading);
+      fits = line_reading-fault c after.line fault (sym reading);
       said = λ _ _. sym reading;
       number = refl;
       last = refl;

@@ -1,16 +1,21 @@
--- The parts of a list between the elements that pass a test, and the number that digits write.
-use Rattle.std.proofs.Common.{◌≡◌, ℕ, ◌+◌, ◌-◌, ◌*◌, ◌<◌, ◌≤◌, Bool, true, false, not, cond, eqb, List, [], ◌∷◌, length, map, take, drop, get_or, Err, Option, Some, None, refl, sym, ap, ◌∙◌, arith}
-use Rattle.std.specs.List.{slice_split, onto_first, position_or_len}
-use Rattle.std.proofs.lemmas.Bool.{false_from_ne_true}
+-- The parts of a list between the elements that pass a test, and the number that the digits at its front write.
+use Rattle.std.proofs.Common.{◌≡◌, ℕ, ◌+◌, ◌-◌, ◌*◌, ◌<◌, ◌≤◌, Bool, true, false, not, cond, eqb, ltb, min, List, [], ◌∷◌, length, length-take-le, map, take, drop, get_or, Err, Option, Some, None, refl, sym, ap, ◌∙◌, ⊎_elim, arith}
+use Rattle.std.specs.Char.{is_ascii_digit}
+use Rattle.std.specs.List.{slice_split, onto_first, position, position_or_len, take_while}
+use Rattle.std.proofs.lemmas.Bool.{cases_lt, lt-ltb, ltb-true}
 use Rattle.std.proofs.lemmas.List.{take_more, take_rest, map-append}
 use Rattle.std.proofs.lemmas.List.Splits.{slice_split_first}
-use Rattle.std.proofs.lemmas.List.Sums.{position_or_len_is}
+use Rattle.std.proofs.lemmas.List.Sums.{prefix_len-le-length, prefix_len_is}
 use Rattle.std.proofs.lemmas.Int.Digits.{number_push}
-use Rattle.lemmas.proofs.Lists.{HasFirst, slice_split-first}
+use Rattle.std.proofs.lemmas.Option.{cond_some, none-some}
+use Rattle.lemmas.proofs.Lists.{slice_split-first}
 use Rattle.due_model.specs.declared.event.EventKind.{EventKind}
 use Rattle.event_feed.specs.declared.fault.FeedFault.TheVariants.{BadState}
-use Rattle.event_feed.specs.Line.{fields, fields_after, bare_reading, host_state_reading, digits_number}
+use Rattle.event_feed.specs.declared.line.Subject.{Subject}
+use Rattle.event_feed.specs.declared.line.Words.{Words}
+use Rattle.event_feed.specs.Line.{fields, fields_after, bare_reading, last_reading, digits_number}
 use Rattle.due_model.specs.declared.config.Object.{Object}
+use Rattle.due_model.specs.Limits.{last_moment}
 
 -- where nothing passes, the list is the one part
 pub slice_split-whole : {X : Type 0} (p : X → Bool) (xs : List X) → position_or_len p xs ≡ length xs → slice_split p xs ≡ xs ∷ []
@@ -24,8 +29,8 @@ slice_split-whole p (x ∷ xs) none =
 pub bare_reading-fields : (kind : EventKind) (rest : List ℕ) → bare_reading kind (fields rest) ≡ Err BadState
 bare_reading-fields kind rest = let split = slice_split-first (λ byte. eqb byte 59) rest in rw split.are refl
 
-pub host_state_reading-many : (objects : List Object) (host state more : List ℕ) → host_state_reading objects (host ∷ state ∷ fields more) ≡ Err BadState
-host_state_reading-many objects host state more = let split = slice_split-first (λ byte. eqb byte 59) more in rw split.are refl
+pub last_reading-many : (objects : List Object) (words : Words) (subject : Subject) (host : List ℕ) (service : Option (List ℕ)) (word more : List ℕ) → last_reading objects words subject host service (word ∷ fields more) ≡ Err BadState
+last_reading-many objects words subject host service word more = let split = slice_split-first (λ byte. eqb byte 59) more in rw split.are refl
 
 -- one more digit
 pub digits_number-more : (digits : List ℕ) (at : ℕ) → at < length digits
@@ -34,15 +39,65 @@ digits_number-more digits at within =
     ap digits_number (take_more digits at 0 within)
     ∙ rw (map-append (λ (digit : ℕ). digit - 48) (take at digits) (get_or digits at 0 ∷ [])) (number_push 10 (map (λ digit. digit - 48) (take at digits)) (get_or digits at 0 - 48))
 
--- the first field ends at the first `;`
-pub fields-split : (bytes : List ℕ) (end : ℕ) → end ≡ position_or_len (λ b. eqb b 59) bytes → end ≤ length bytes → (end ≡ length bytes → ⊥)
-    → fields bytes ≡ take end bytes ∷ fields (take (length bytes - (end + 1)) (drop (end + 1) bytes))
-fields-split bytes end place within inside =
-    let before : position_or_len (λ b. eqb b 59) bytes < length bytes = omega arith in
-    rw take_rest (rw place (slice_split_first (λ b. eqb b 59) bytes 0 before))
+-- with no `;` the bytes are one field
+pub fields-whole : (bytes : List ℕ) → position (λ byte. eqb byte 59) bytes ≡ None → fields bytes ≡ bytes ∷ []
+fields-whole bytes none =
+    ⊎_elim
+    (λ (has : position_or_len (λ byte. eqb byte 59) bytes < length bytes).
+    let yes : ltb (position_or_len (λ byte. eqb byte 59) bytes) (length bytes) ≡ true = lt-ltb _ _ has in
+    absurd (none-some (position_or_len (λ byte. eqb byte 59) bytes) (sym none ∙ rw yes refl)))
+    (λ (past : length bytes ≤ position_or_len (λ byte. eqb byte 59) bytes).
+    slice_split-whole (λ byte. eqb byte 59) bytes (omega (arith, past, prefix_len-le-length (λ byte. not (eqb byte 59)) bytes)))
+    (cases_lt (position_or_len (λ byte. eqb byte 59) bytes) (length bytes))
 
-pub too_many : (objects : List Object) (arguments : Option (List ℕ)) (host state more xs rest : List ℕ) (after : Option (List ℕ)) (after' : Option (List ℕ))
-    → arguments ≡ Some xs → fields xs ≡ host ∷ fields_after after → after ≡ Some rest → fields rest ≡ state ∷ fields_after after' → after' ≡ Some more
-    → Err BadState ≡ host_state_reading objects (fields_after arguments)
-too_many objects arguments host state more xs rest after after' is first is' second is'' =
-    rw (is, first, is', second, is'') (sym (host_state_reading-many objects host state more))
+-- the first field ends at the first `;`
+pub fields-split : (bytes : List ℕ) (end : ℕ) → position (λ byte. eqb byte 59) bytes ≡ Some end
+    → fields bytes ≡ take end bytes ∷ fields (take (length bytes - (end + 1)) (drop (end + 1) bytes))
+fields-split bytes end found =
+    let parts = cond_some (ltb (position_or_len (λ byte. eqb byte 59) bytes) (length bytes)) (position_or_len (λ byte. eqb byte 59) bytes) end found in
+    let before : position_or_len (λ byte. eqb byte 59) bytes < length bytes = ltb-true _ _ parts.0 in
+    let place : end ≡ position_or_len (λ byte. eqb byte 59) bytes = sym parts.1 in
+    rw take_rest (rw place (slice_split_first (λ byte. eqb byte 59) bytes 0 before))
+
+pub too_many : (objects : List Object) (words : Words) (subject : Subject) (host : List ℕ) (service arguments : Option (List ℕ)) (word more xs : List ℕ) (after : Option (List ℕ))
+    → arguments ≡ Some xs → fields xs ≡ word ∷ fields_after after → after ≡ Some more
+    → Err BadState ≡ last_reading objects words subject host service (fields_after arguments)
+too_many objects words subject host service arguments word more xs after is first is' =
+    rw (is, first, is') (sym (last_reading-many objects words subject host service word more))
+
+-- ---- the digits of a stamp
+
+-- the first bytes are digits, and this is their number, up to the first after the range
+pub record ReadsDigits (bytes : List ℕ) (at number : ℕ) : Type 0 where
+  pub digits : (k : ℕ) → k < at → is_ascii_digit (get_or bytes k 0) ≡ true
+  pub value : number ≡ min (digits_number (take at bytes)) (last_moment + 1)
+
+pub ReadsDigits-none : (bytes : List ℕ) → ReadsDigits bytes 0 0
+ReadsDigits-none bytes = record {
+  digits = λ k low. absurd (omega (arith, low));
+  value = refl;
+}
+
+pub ReadsDigits-more : (bytes : List ℕ) (at number number' : ℕ) → ReadsDigits bytes at number → at < length bytes → is_ascii_digit (get_or bytes at 0) ≡ true
+    → number' ≡ min (number * 10 + (get_or bytes at 0 - 48)) (last_moment + 1) → ReadsDigits bytes (at + 1) number'
+ReadsDigits-more bytes at number number' reads within digit next = record {
+  digits = λ k low. ⊎_elim
+      (λ (early : k < at). reads.digits k early)
+      (λ (late : at ≤ k). let same : k ≡ at = omega arith in ap (λ (i : ℕ). is_ascii_digit (get_or bytes i 0)) same ∙ digit)
+      (cases_lt k at);
+  value = rw (digits_number-more bytes at within) (omega (arith, next, reads.value));
+}
+
+-- the digits end where there is no further byte, or one that is no digit
+pub ReadsDigits-end : (bytes : List ℕ) (at number : ℕ) → ReadsDigits bytes at number → at ≤ length bytes → (at < length bytes → is_ascii_digit (get_or bytes at 0) ≡ false)
+    → take_while is_ascii_digit bytes ≡ take at bytes
+ReadsDigits-end bytes at number reads within stops = ap (λ (n : ℕ). take n bytes) (prefix_len_is is_ascii_digit bytes at 0 within reads.digits stops)
+
+pub ReadsDigits-count : (bytes : List ℕ) (at number : ℕ) → ReadsDigits bytes at number → at ≤ length bytes → (at < length bytes → is_ascii_digit (get_or bytes at 0) ≡ false)
+    → at ≡ length (take_while is_ascii_digit bytes)
+ReadsDigits-count bytes at number reads within stops = sym (ap (λ (digits : List ℕ). length digits) (ReadsDigits-end bytes at number reads within stops) ∙ length-take-le at bytes within)
+
+pub ReadsDigits-number : (bytes : List ℕ) (at number : ℕ) → ReadsDigits bytes at number → at ≤ length bytes → (at < length bytes → is_ascii_digit (get_or bytes at 0) ≡ false)
+    → number ≡ min (digits_number (take_while is_ascii_digit bytes)) (last_moment + 1)
+ReadsDigits-number bytes at number reads within stops =
+    reads.value ∙ ap (λ (digits : List ℕ). min (digits_number digits) (last_moment + 1)) (sym (ReadsDigits-end bytes at number reads within stops))

@@ -1,7 +1,6 @@
 -- A feed: its lines in order, numbered from 1, and what each answers.
 use Rattle.std.specs.Prelude.{◌≡◌, ◌≢◌, ℕ, ◌+◌, ◌<◌, ◌≤◌, ◌^◌, max, Bool, true, false, All, ◌⊎◌, IfSome, ◌||◌, ◌==◌, if◌then◌else◌, nat_lt, nat_le, List, [], ◌∷◌, ◌++◌, length, replicate, take_while, IsTrue, IsSome, is_some, Option, Some, None, Result, Ok, Err}
 use Rattle.due_model.specs.Proper.{IsProper}
-use Rattle.due_model.specs.Covered.{IsSupported}
 use Rattle.due_model.specs.declared.config.Config.{Config}
 use Rattle.due_model.specs.declared.config.Object.{Object}
 use Rattle.due_model.specs.declared.event.Event.{Event}
@@ -232,14 +231,13 @@ abbrev pub FaultFits : FeedFault → Option Stop → Type 0
 FaultFits fault None = IsTrue (is_line_fault fault)
 FaultFits fault (Some stop) = stop_fault stop ≡ Some fault
 
--- the feed gives an event: proper, of a supported kind, its moment no earlier than the last; it is what the text of the
--- last line read says, and that is the next line that isn't empty
+-- the feed gives an event: proper, its moment no earlier than the last; it is what the text of the last line read says,
+-- and that is the next line that isn't empty
 pub record GivesEvent (c : Config) (old : Feed) (event : Event) (new : Feed) : Type 0 where
   pub answers : AnswersNext c.objects old (record { line = new.line; given = Ok event }) new
   pub place : FeedComesTo Line old new
   pub said : text_reading c.objects old.last new.text ≡ Ok event
   pub proper : IsProper c event
-  pub supported : IsSupported event.kind
   pub later : old.last ≤ event.moment
   pub last : new.last ≡ event.moment
   pub line : old.line < new.line

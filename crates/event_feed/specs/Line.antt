@@ -3,21 +3,26 @@ use Rattle.std.specs.Prelude.{ℕ, ◌-◌, Bool, true, false, not, ◌&&◌, if
 use Rattle.std.specs.Char.{is_ascii_digit}
 use Rattle.std.specs.Int.Digits.{number_from_digits}
 use Rattle.std.specs.List.{slice_split}
+use Rattle.std.specs.Option.{ok_or}
 use Rattle.std.specs.Str.{bytes_eq, is_utf8}
 use Rattle.due_model.specs.Limits.{last_moment}
 use Rattle.due_model.specs.Objects.{object_named}
 use Rattle.due_model.specs.declared.config.Object.{Object}
 use Rattle.due_model.specs.declared.config.ObjectId.{ObjectId}
+use Rattle.due_model.specs.declared.event.DowntimeChange.TheVariants.{Start, End, Cancelled}
 use Rattle.due_model.specs.declared.event.Event.{Event}
 use Rattle.due_model.specs.declared.event.EventKind.{EventKind}
-use Rattle.due_model.specs.declared.event.EventKind.TheVariants.{Clock, Program, Hard}
-use Rattle.due_model.specs.declared.state.State.{State}
-use Rattle.due_model.specs.declared.state.State.TheVariants.{Up, Down, Unreachable}
+use Rattle.due_model.specs.declared.event.EventKind.TheVariants.{Clock, Program, Hard, Downtime, Flapping}
+use Rattle.due_model.specs.declared.state.State.TheVariants.{Up, Down, Unreachable, Fine, Warning, Unknown, Critical}
 use Rattle.text_lines.specs.LineReader.{line_limit}
 use Rattle.event_feed.specs.declared.fault.FeedFault.{FeedFault}
 use Rattle.event_feed.specs.declared.fault.FeedFault.TheVariants.{BadStamp, UnknownKind, UnknownObject, BadState, LineTooLong, NotUtf8}
 use Rattle.event_feed.specs.declared.line.Command.{Command}
-use Rattle.event_feed.specs.declared.line.Command.TheVariants.{TellTime, EnableNotifications, DisableNotifications, HostState}
+use Rattle.event_feed.specs.declared.line.Command.TheVariants.{TellTime, Switch, Tell}
+use Rattle.event_feed.specs.declared.line.Subject.{Subject}
+use Rattle.event_feed.specs.declared.line.Subject.TheVariants.{Host, Service}
+use Rattle.event_feed.specs.declared.line.Words.{Words}
+use Rattle.event_feed.specs.declared.line.Words.TheVariants.{States, Downtimes, Flaps}
 
 abbrev pub begins_with : List ℕ → List ℕ → Bool
 begins_with bytes front = bytes_eq (take (length front) bytes) front
@@ -61,51 +66,104 @@ abbrev pub fields_after : Option (List ℕ) → List (List ℕ)
 fields_after None = []
 fields_after (Some rest) = fields rest
 
+-- the commands, one after another: the name, what it says, and of which sort of object
 abbrev pub command_named : List ℕ → Option Command
 command_named name =
     if bytes_eq name (codes "CLOCK") then Some TellTime
-    else if bytes_eq name (codes "ENABLE_NOTIFICATIONS") then Some EnableNotifications
-    else if bytes_eq name (codes "DISABLE_NOTIFICATIONS") then Some DisableNotifications
-    else if bytes_eq name (codes "HOST_STATE") then Some HostState
+    else if bytes_eq name (codes "ENABLE_NOTIFICATIONS") then Some (Switch true)
+    else if bytes_eq name (codes "DISABLE_NOTIFICATIONS") then Some (Switch false)
+    else if bytes_eq name (codes "HOST_STATE") then Some (Tell States Host)
+    else if bytes_eq name (codes "SERVICE_STATE") then Some (Tell States Service)
+    else if bytes_eq name (codes "HOST_DOWNTIME") then Some (Tell Downtimes Host)
+    else if bytes_eq name (codes "SERVICE_DOWNTIME") then Some (Tell Downtimes Service)
+    else if bytes_eq name (codes "HOST_FLAPPING") then Some (Tell Flaps Host)
+    else if bytes_eq name (codes "SERVICE_FLAPPING") then Some (Tell Flaps Service)
     else None
 
--- the hard states of a host, by name (chapter "State Types")
-abbrev pub host_state_named : List ℕ → Option State
-host_state_named name =
-    if bytes_eq name (codes "UP") then Some Up
-    else if bytes_eq name (codes "DOWN") then Some Down
-    else if bytes_eq name (codes "UNREACHABLE") then Some Unreachable
+-- ---- the words
+
+-- the hard states of a host (chapter "State Types")
+abbrev pub host_state_said : ObjectId → List ℕ → Option EventKind
+host_state_said object word =
+    if bytes_eq word (codes "UP") then Some (Hard object Up)
+    else if bytes_eq word (codes "DOWN") then Some (Hard object Down)
+    else if bytes_eq word (codes "UNREACHABLE") then Some (Hard object Unreachable)
     else None
 
--- an object has a state: first the object must be known, then the state
-abbrev pub state_reading : Option ObjectId → Option State → Result EventKind FeedFault
-state_reading None state = Err UnknownObject
-state_reading (Some object) None = Err BadState
-state_reading (Some object) (Some state) = Ok (Hard object state)
+-- those of a service
+abbrev pub service_state_said : ObjectId → List ℕ → Option EventKind
+service_state_said object word =
+    if bytes_eq word (codes "OK") then Some (Hard object Fine)
+    else if bytes_eq word (codes "WARNING") then Some (Hard object Warning)
+    else if bytes_eq word (codes "UNKNOWN") then Some (Hard object Unknown)
+    else if bytes_eq word (codes "CRITICAL") then Some (Hard object Critical)
+    else None
+
+-- what happens to a downtime (chapter "Scheduled Downtime")
+abbrev pub downtime_said : ObjectId → List ℕ → Option EventKind
+downtime_said object word =
+    if bytes_eq word (codes "START") then Some (Downtime object Start)
+    else if bytes_eq word (codes "END") then Some (Downtime object End)
+    else if bytes_eq word (codes "CANCELLED") then Some (Downtime object Cancelled)
+    else None
+
+-- that flapping starts or stops (chapter "State Flapping")
+abbrev pub flapping_said : ObjectId → List ℕ → Option EventKind
+flapping_said object word =
+    if bytes_eq word (codes "START") then Some (Flapping object true)
+    else if bytes_eq word (codes "STOP") then Some (Flapping object false)
+    else None
+
+-- what a word says of such an object
+abbrev pub said : Words → Subject → ObjectId → List ℕ → Option EventKind
+said States Host object word = host_state_said object word
+said States Service object word = service_state_said object word
+said Downtimes subject object word = downtime_said object word
+said Flaps subject object word = flapping_said object word
+
+-- ---- the arguments
+
+-- a word about an object: first the object must be known, then the word
+abbrev pub said_reading : Words → Subject → Option ObjectId → List ℕ → Result EventKind FeedFault
+said_reading words subject None word = Err UnknownObject
+said_reading words subject (Some object) word = ok_or (said words subject object word) BadState
+
+-- what follows the name of an object: a word, and nothing more
+abbrev pub last_reading : List Object → Words → Subject → (host : List ℕ)
+    → (service : Option (List ℕ)) → List (List ℕ) → Result EventKind FeedFault
+last_reading objects words subject host service (word ∷ []) =
+    said_reading words subject (object_named objects host service) word
+last_reading objects words subject host service arguments = Err BadState
+
+-- what follows the name of a service's host: the service's description, and then a word
+abbrev pub service_reading : List Object → Words → (host : List ℕ) → List (List ℕ)
+    → Result EventKind FeedFault
+service_reading objects words host [] = Err BadState
+service_reading objects words host (service ∷ arguments) =
+    last_reading objects words Service host (Some service) arguments
+
+-- the arguments of a command about an object: the name of a host, and what follows it
+abbrev pub object_reading : List Object → Words → Subject → List (List ℕ)
+    → Result EventKind FeedFault
+object_reading objects words subject [] = Err BadState
+object_reading objects words Host (host ∷ arguments) =
+    last_reading objects words Host host None arguments
+object_reading objects words Service (host ∷ arguments) =
+    service_reading objects words host arguments
 
 -- a command that takes no arguments
 abbrev pub bare_reading : EventKind → List (List ℕ) → Result EventKind FeedFault
 bare_reading kind [] = Ok kind
 bare_reading kind (argument ∷ arguments) = Err BadState
 
--- `HOST_STATE;host;state`
-abbrev pub host_state_reading : List Object → List (List ℕ) → Result EventKind FeedFault
-host_state_reading objects [] = Err BadState
-host_state_reading objects (host ∷ []) = Err BadState
-host_state_reading objects (host ∷ state ∷ []) =
-    state_reading (object_named objects host None) (host_state_named state)
-host_state_reading objects (host ∷ state ∷ more ∷ arguments) = Err BadState
-
 -- what a command says with these arguments
 abbrev pub arguments_reading : List Object → Option Command → List (List ℕ)
     → Result EventKind FeedFault
 arguments_reading objects None arguments = Err UnknownKind
 arguments_reading objects (Some TellTime) arguments = bare_reading Clock arguments
-arguments_reading objects (Some EnableNotifications) arguments =
-    bare_reading (Program true) arguments
-arguments_reading objects (Some DisableNotifications) arguments =
-    bare_reading (Program false) arguments
-arguments_reading objects (Some HostState) arguments = host_state_reading objects arguments
+arguments_reading objects (Some (Switch on)) arguments = bare_reading (Program on) arguments
+arguments_reading objects (Some (Tell words subject)) arguments =
+    object_reading objects words subject arguments
 
 abbrev pub command_reading : List Object → List (List ℕ) → Result EventKind FeedFault
 command_reading objects [] = Err UnknownKind

@@ -1,34 +1,52 @@
 //! One line of the feed.
 
-ghost use Rattle.std.specs.Prelude.{◌≡◌, ◌≤◌, ◌∷◌, Some, None, IfOk, IfSome, nat_le};
-ghost use Rattle.std.specs.Prelude.{length, take_while, if◌then◌else◌};
+ghost use Rattle.std.specs.Prelude.{◌≡◌, ◌+◌, ◌≤◌, ◌∷◌, ◌==◌, Some, None, IfOk, IfSome, nat_le};
+ghost use Rattle.std.specs.Prelude.{length, min, position, take_while, if◌then◌else◌};
 ghost use Rattle.std.specs.Option.{option_copied, option_map};
 ghost use Rattle.std.specs.Str.{is_utf8};
 ghost use Rattle.due_model.specs.Proper.{IsProper};
 ghost use Rattle.due_model.specs.Limits.{last_moment};
 ghost use Rattle.std.specs.Char.{is_ascii_digit};
-ghost use Rattle.event_feed.specs.Line.{bare_reading, command_named, command_of, command_reading, fields};
-ghost use Rattle.event_feed.specs.Line.{fields_after, host_state_named, host_state_reading, line_reading};
-ghost use Rattle.event_feed.specs.Line.{digits_number, stamp_of, state_reading};
+ghost use Rattle.event_feed.specs.Line.{bare_reading, command_named, command_of, command_reading, digits_number};
+ghost use Rattle.event_feed.specs.Line.{downtime_said, fields, fields_after, flapping_said, host_state_said};
+ghost use Rattle.event_feed.specs.Line.{last_reading, line_reading, object_reading, said, said_reading};
+ghost use Rattle.event_feed.specs.Line.{service_reading, service_state_said, stamp_of};
 
 use crate::fault::FeedFault;
 use due_model::config::{Config, ObjectId};
-use due_model::event::{Event, EventKind};
+use due_model::event::{DowntimeChange, Event, EventKind};
 use due_model::limits::{LAST_MOMENT, LINE_LIMIT};
 use due_model::state::State;
-use text_lines::find_byte;
 
 /// What the name of a line says that happened.
-#[derive(Clone, Copy, Debug, PartialEq, Eq)]
-pub enum Command {
-    /// `CLOCK`: the clock has come to the stamp.
+#[derive(Clone, Copy)]
+pub(crate) enum Command {
+    /// The clock has come to the stamp. There are no arguments.
     TellTime,
-    /// `ENABLE_NOTIFICATIONS`
-    EnableNotifications,
-    /// `DISABLE_NOTIFICATIONS`
-    DisableNotifications,
-    /// `HOST_STATE;host;state`
-    HostState,
+    /// The program switch was turned on or off. There are no arguments.
+    Switch(bool),
+    /// Something happened to such an object: the arguments name it, and one of these words comes last.
+    Tell(Words, Subject),
+}
+
+/// Which words a command takes.
+#[derive(Clone, Copy)]
+pub(crate) enum Words {
+    /// The hard states of such an object (chapter "State Types").
+    States,
+    /// What happens to a downtime (chapter "Scheduled Downtime").
+    Downtimes,
+    /// Flapping starts or stops (chapter "State Flapping").
+    Flaps,
+}
+
+/// What the arguments of a command name.
+#[derive(Clone, Copy)]
+pub(crate) enum Subject {
+    /// A host, by its name.
+    Host,
+    /// A service, by the name of its host and its description.
+    Service,
 }
 
 /// The event that a line says, without its newline, or the first reason why it says none: LineTooLong,
@@ -58,6 +76,9 @@ pub fn read_line(config: &Config, line: &[u8]) -> Result<Event, FeedFault>
 fn is_text(bytes: &[u8]) -> bool
     ensures { result ≡ is_utf8 bytes.now }
 {
+    if bytes.is_ascii() {
+        return true;
+    }
     match std::str::from_utf8(bytes) {
         Ok(_) => true,
         Err(_) => false,
@@ -77,23 +98,43 @@ fn read_stamp<'a>(line: &'a [u8]) -> Option<Stamp<'a>>
     ensures command { IfSome result (λ stamp. stamp.command.now ≡ command_of line.now) }
 {
     let after = line.strip_prefix(b"[".as_slice())?;
-    let digits = count_digits(after);
-    let command = after[digits..].strip_prefix(b"] ".as_slice())?;
-    if digits == 0 {
+    let digits = read_digits(after);
+    let command = after[digits.count..].strip_prefix(b"] ".as_slice())?;
+    if digits.count == 0 || digits.number > LAST_MOMENT {
         return None;
     }
-    let moment = read_number(&after[..digits], LAST_MOMENT)?;
-    Some(Stamp { moment, command })
+    Some(Stamp {
+        moment: digits.number,
+        command,
+    })
 }
 
-/// How many decimal digits the bytes begin with.
-fn count_digits(bytes: &[u8]) -> usize
-    ensures { result ≡ length (take_while is_ascii_digit bytes.now) }
+/// The decimal digits at the front of bytes.
+#[derive(Clone, Copy)]
+struct Digits {
+    /// How many there are.
+    count: usize,
+    /// The number that they write, up to the first after the range of stamps.
+    number: u64,
+}
+
+/// The decimal digits that the bytes begin with, read once.
+fn read_digits(bytes: &[u8]) -> Digits
+    ensures count { result.count ≡ length (take_while is_ascii_digit bytes.now) }
+    ensures number { result.number
+        ≡ min (digits_number (take_while is_ascii_digit bytes.now)) (last_moment + 1) }
 {
-    bytes
-        .iter()
-        .take_while(|byte| byte.is_ascii_digit())
-        .count()
+    let mut number = 0;
+    for (at, byte) in bytes.iter().enumerate() {
+        if !byte.is_ascii_digit() {
+            return Digits { count: at, number };
+        }
+        number = (number * 10 + u64::from(*byte - b'0')).min(LAST_MOMENT + 1);
+    }
+    Digits {
+        count: bytes.len(),
+        number,
+    }
 }
 
 /// The number that decimal digits write, where it is at most this one; leading zeros are allowed. Whether the bytes
@@ -119,9 +160,8 @@ fn read_command(config: &Config, command: &[u8]) -> Result<EventKind, FeedFault>
     match find_command(name) {
         None => Err(FeedFault::UnknownKind),
         Some(Command::TellTime) => read_bare(EventKind::Clock, arguments),
-        Some(Command::EnableNotifications) => read_bare(EventKind::Program(true), arguments),
-        Some(Command::DisableNotifications) => read_bare(EventKind::Program(false), arguments),
-        Some(Command::HostState) => read_host_state(config, arguments),
+        Some(Command::Switch(on)) => read_bare(EventKind::Program(on), arguments),
+        Some(Command::Tell(words, subject)) => read_object(config, words, subject, arguments),
     }
 }
 
@@ -129,26 +169,41 @@ fn read_command(config: &Config, command: &[u8]) -> Result<EventKind, FeedFault>
 fn split_field(bytes: &[u8]) -> (&[u8], Option<&[u8]>)
     ensures { fields bytes.now ≡ result.0.now ∷ fields_after (option_copied result.1) }
 {
-    let end = find_byte(b';', bytes);
-    if end == bytes.len() {
-        (bytes, None)
-    } else {
-        (&bytes[..end], Some(&bytes[end + 1..]))
+    match field_end(bytes) {
+        None => (bytes, None),
+        Some(end) => (&bytes[..end], Some(&bytes[end + 1..])),
     }
 }
 
-/// The command of that name.
+/// The place of the first `;`. Fields are short: a search byte by byte is over before one by vectors has begun.
+fn field_end(bytes: &[u8]) -> Option<usize>
+    ensures { result ≡ position (λ byte. byte == 59) bytes.now }
+{
+    bytes.iter().position(|byte| *byte == b';')
+}
+
+/// The commands, one after another: the name, what it names, and its words.
 fn find_command(name: &[u8]) -> Option<Command>
     ensures { result ≡ command_named name.now }
 {
     if name == b"CLOCK".as_slice() {
         Some(Command::TellTime)
     } else if name == b"ENABLE_NOTIFICATIONS".as_slice() {
-        Some(Command::EnableNotifications)
+        Some(Command::Switch(true))
     } else if name == b"DISABLE_NOTIFICATIONS".as_slice() {
-        Some(Command::DisableNotifications)
+        Some(Command::Switch(false))
     } else if name == b"HOST_STATE".as_slice() {
-        Some(Command::HostState)
+        Some(Command::Tell(Words::States, Subject::Host))
+    } else if name == b"SERVICE_STATE".as_slice() {
+        Some(Command::Tell(Words::States, Subject::Service))
+    } else if name == b"HOST_DOWNTIME".as_slice() {
+        Some(Command::Tell(Words::Downtimes, Subject::Host))
+    } else if name == b"SERVICE_DOWNTIME".as_slice() {
+        Some(Command::Tell(Words::Downtimes, Subject::Service))
+    } else if name == b"HOST_FLAPPING".as_slice() {
+        Some(Command::Tell(Words::Flaps, Subject::Host))
+    } else if name == b"SERVICE_FLAPPING".as_slice() {
+        Some(Command::Tell(Words::Flaps, Subject::Service))
     } else {
         None
     }
@@ -164,42 +219,146 @@ fn read_bare(kind: EventKind, arguments: Option<&[u8]>) -> Result<EventKind, Fee
     }
 }
 
-/// `HOST_STATE`, from its arguments.
-fn read_host_state(config: &Config, arguments: Option<&[u8]>) -> Result<EventKind, FeedFault>
-    ensures { result ≡ host_state_reading config.now.objects
+/// A command that tells of an object, from its arguments.
+fn read_object(
+    config: &Config,
+    words: Words,
+    subject: Subject,
+    arguments: Option<&[u8]>,
+) -> Result<EventKind, FeedFault>
+    ensures { result ≡ object_reading config.now.objects words subject
         (fields_after (option_copied arguments.entry)) }
 {
     let Some(arguments) = arguments else {
         return Err(FeedFault::BadState);
     };
-    let (host, Some(rest)) = split_field(arguments) else {
+    let (host, rest) = split_field(arguments);
+    match subject {
+        Subject::Host => read_last(config, words, Subject::Host, host, None, rest),
+        Subject::Service => read_service(config, words, host, rest),
+    }
+}
+
+/// A command that tells of a service of a host, from the arguments after the host's name.
+fn read_service(
+    config: &Config,
+    words: Words,
+    host: &[u8],
+    arguments: Option<&[u8]>,
+) -> Result<EventKind, FeedFault>
+    ensures { result ≡ service_reading config.now.objects words host.now
+        (fields_after (option_copied arguments.entry)) }
+{
+    let Some(arguments) = arguments else {
         return Err(FeedFault::BadState);
     };
-    match split_field(rest) {
-        (state, None) => read_state(config.objects.find(host, None), find_host_state(state)),
+    let (service, rest) = split_field(arguments);
+    read_last(config, words, Subject::Service, host, Some(service), rest)
+}
+
+/// A command that tells of the object of a name, from the arguments after the name: one alone.
+fn read_last(
+    config: &Config,
+    words: Words,
+    subject: Subject,
+    host: &[u8],
+    service: Option<&[u8]>,
+    arguments: Option<&[u8]>,
+) -> Result<EventKind, FeedFault>
+    ensures { result ≡ last_reading config.now.objects words subject host.now
+        (option_copied service.entry) (fields_after (option_copied arguments.entry)) }
+{
+    let Some(arguments) = arguments else {
+        return Err(FeedFault::BadState);
+    };
+    match split_field(arguments) {
+        (word, None) => read_word(words, subject, config.objects.find(host, service), word),
         (_, Some(_)) => Err(FeedFault::BadState),
     }
 }
 
-/// The hard state of an object, of which both are to be known.
-fn read_state(object: Option<ObjectId>, state: Option<State>) -> Result<EventKind, FeedFault>
-    ensures { result ≡ state_reading object state }
+/// What a word says of an object, of which both are to be known.
+fn read_word(
+    words: Words,
+    subject: Subject,
+    object: Option<ObjectId>,
+    word: &[u8],
+) -> Result<EventKind, FeedFault>
+    ensures { result ≡ said_reading words subject object word.now }
 {
     let object = object.ok_or(FeedFault::UnknownObject)?;
-    let state = state.ok_or(FeedFault::BadState)?;
-    Ok(EventKind::Hard(object, state))
+    find_said(words, subject, object, word).ok_or(FeedFault::BadState)
 }
 
-/// The state of a host of that name.
-fn find_host_state(name: &[u8]) -> Option<State>
-    ensures { result ≡ host_state_named name.now }
+/// What one of these words says of an object.
+fn find_said(words: Words, subject: Subject, object: ObjectId, word: &[u8]) -> Option<EventKind>
+    ensures { result ≡ said words subject object word.now }
 {
-    if name == b"UP".as_slice() {
-        Some(State::Up)
-    } else if name == b"DOWN".as_slice() {
-        Some(State::Down)
-    } else if name == b"UNREACHABLE".as_slice() {
-        Some(State::Unreachable)
+    match words {
+        Words::States => match subject {
+            Subject::Host => find_host_state(object, word),
+            Subject::Service => find_service_state(object, word),
+        },
+        Words::Downtimes => find_downtime(object, word),
+        Words::Flaps => find_flapping(object, word),
+    }
+}
+
+/// What a word says of a host's state.
+fn find_host_state(object: ObjectId, word: &[u8]) -> Option<EventKind>
+    ensures { result ≡ host_state_said object word.now }
+{
+    if word == b"UP".as_slice() {
+        Some(EventKind::Hard(object, State::Up))
+    } else if word == b"DOWN".as_slice() {
+        Some(EventKind::Hard(object, State::Down))
+    } else if word == b"UNREACHABLE".as_slice() {
+        Some(EventKind::Hard(object, State::Unreachable))
+    } else {
+        None
+    }
+}
+
+/// What a word says of a service's state.
+fn find_service_state(object: ObjectId, word: &[u8]) -> Option<EventKind>
+    ensures { result ≡ service_state_said object word.now }
+{
+    if word == b"OK".as_slice() {
+        Some(EventKind::Hard(object, State::Fine))
+    } else if word == b"WARNING".as_slice() {
+        Some(EventKind::Hard(object, State::Warning))
+    } else if word == b"UNKNOWN".as_slice() {
+        Some(EventKind::Hard(object, State::Unknown))
+    } else if word == b"CRITICAL".as_slice() {
+        Some(EventKind::Hard(object, State::Critical))
+    } else {
+        None
+    }
+}
+
+/// What a word says of a downtime of an object.
+fn find_downtime(object: ObjectId, word: &[u8]) -> Option<EventKind>
+    ensures { result ≡ downtime_said object word.now }
+{
+    if word == b"START".as_slice() {
+        Some(EventKind::Downtime(object, DowntimeChange::Start))
+    } else if word == b"END".as_slice() {
+        Some(EventKind::Downtime(object, DowntimeChange::End))
+    } else if word == b"CANCELLED".as_slice() {
+        Some(EventKind::Downtime(object, DowntimeChange::Cancelled))
+    } else {
+        None
+    }
+}
+
+/// What a word says of an object's flapping.
+fn find_flapping(object: ObjectId, word: &[u8]) -> Option<EventKind>
+    ensures { result ≡ flapping_said object word.now }
+{
+    if word == b"START".as_slice() {
+        Some(EventKind::Flapping(object, true))
+    } else if word == b"STOP".as_slice() {
+        Some(EventKind::Flapping(object, false))
     } else {
         None
     }

@@ -2,7 +2,7 @@ use Rattle.std.proofs.Common.{◌≡◌, ◌<◌, length, refl, arith}
 use Rattle.std.proofs.lemmas.Bool.Decides.{nat_tests}
 use Rattle.event_feed.specs.Feed.{feed_limit}
 use Rattle.text_lines.specs.declared.line_reader.NextLine.TheVariants.{Line, Long, Over}
-use Rattle.event_feed.proofs.Answering.{CountsLine-over, GoesToLine-from, GoesToLine-long, GoesToLine-over, GoesToLine-end, GoesToLine-many, Skips-more, Skips-none, held-none, held-more, held-calls}
+use Rattle.event_feed.proofs.Answering.{CountsLine-over, GoesToLine-from, GoesToLine-long, GoesToLine-over, GoesToLine-many, Skips-more, held-more, held-calls}
 use Rattle.event_feed.proofs.feeder.next_line.Goals as goal
 
 pub returns-then-not-is_empty-clause-goes : goal.returns-then-not-is_empty-clause-goes

@@ -11,7 +11,7 @@ returns-in-Ok-clause-event g c =
 
 pub returns-in-Err-clause-fault : goal.returns-in-Err-clause-fault
 returns-in-Err-clause-fault g c =
-    rw (← c.self.view_is) (GivesFault-line c.args.config.now.objects c.self.inside.lines c.next_line-how.new.lines c.self.inside.line c.self.inside.last c.next_line-how.new.line
+    rw (← c.self.view_is) (GivesFault-line c.args.config.now c.self.inside.lines c.next_line-how.new.lines c.self.inside.line c.self.inside.last c.next_line-how.new.line
     c.self.inside.stop c.in-Err.fault (sym c.is_some.ensures ∙ c.if-is_some.false) c.in-Line.ensures.goes c.in-Line.ensures.counts
     (rw (← c.line.ensures) c.in-Err.ensures.reading))
 
