@@ -13,7 +13,7 @@ use Rattle.due_model.specs.declared.event.EventKind.{EventKind}
 use Rattle.event_feed.specs.declared.fault.FeedFault.TheVariants.{BadState}
 use Rattle.event_feed.specs.declared.line.Subject.{Subject}
 use Rattle.event_feed.specs.declared.line.Words.{Words}
-use Rattle.event_feed.specs.Line.{fields, fields_after, bare_reading, last_reading, digits_number}
+use Rattle.event_feed.specs.Line.{fields, bare_reading, last_reading, digits_number}
 use Rattle.due_model.specs.declared.config.Object.{Object}
 use Rattle.due_model.specs.Limits.{last_moment}
 
@@ -58,12 +58,6 @@ fields-split bytes end found =
     let before : position_or_len (λ byte. eqb byte 59) bytes < length bytes = ltb-true _ _ parts.0 in
     let place : end ≡ position_or_len (λ byte. eqb byte 59) bytes = sym parts.1 in
     rw take_rest (rw place (slice_split_first (λ byte. eqb byte 59) bytes 0 before))
-
-pub too_many : (objects : List Object) (words : Words) (subject : Subject) (host : List ℕ) (service arguments : Option (List ℕ)) (word more xs : List ℕ) (after : Option (List ℕ))
-    → arguments ≡ Some xs → fields xs ≡ word ∷ fields_after after → after ≡ Some more
-    → Err BadState ≡ last_reading objects words subject host service (fields_after arguments)
-too_many objects words subject host service arguments word more xs after is first is' =
-    rw (is, first, is') (sym (last_reading-many objects words subject host service word more))
 
 -- ---- the digits of a stamp
 

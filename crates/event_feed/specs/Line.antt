@@ -135,6 +135,11 @@ last_reading objects words subject host service (word ∷ []) =
     said_reading words subject (object_named objects host service) word
 last_reading objects words subject host service arguments = Err BadState
 
+-- why an object that isn't known is refused, given what follows its name
+abbrev pub unknown_fault : List (List ℕ) → FeedFault
+unknown_fault (word ∷ []) = UnknownObject
+unknown_fault arguments = BadState
+
 -- what follows the name of a service's host: the service's description, and then a word
 abbrev pub service_reading : List Object → Words → (host : List ℕ) → List (List ℕ)
     → Result EventKind FeedFault

@@ -9,8 +9,8 @@ ghost use Rattle.due_model.specs.Limits.{last_moment};
 ghost use Rattle.std.specs.Char.{is_ascii_digit};
 ghost use Rattle.event_feed.specs.Line.{bare_reading, command_named, command_of, command_reading, digits_number};
 ghost use Rattle.event_feed.specs.Line.{downtime_said, fields, fields_after, flapping_said, host_state_said};
-ghost use Rattle.event_feed.specs.Line.{last_reading, line_reading, object_reading, said, said_reading};
-ghost use Rattle.event_feed.specs.Line.{service_reading, service_state_said, stamp_of};
+ghost use Rattle.event_feed.specs.Line.{last_reading, line_reading, object_reading, said};
+ghost use Rattle.event_feed.specs.Line.{service_reading, service_state_said, stamp_of, unknown_fault};
 
 use crate::fault::FeedFault;
 use due_model::config::{Config, ObjectId};
@@ -256,7 +256,8 @@ fn read_service(
     read_last(config, words, Subject::Service, host, Some(service), rest)
 }
 
-/// A command that tells of the object of a name, from the arguments after the name: one alone.
+/// A command that tells of the object of a name, from what follows the name. No word has a `;`, so of an object that is
+/// known a wrong word and an argument too many are told at once.
 fn read_last(
     config: &Config,
     words: Words,
@@ -271,23 +272,20 @@ fn read_last(
     let Some(arguments) = arguments else {
         return Err(FeedFault::BadState);
     };
-    match split_field(arguments) {
-        (word, None) => read_word(words, subject, config.objects.find(host, service), word),
-        (_, Some(_)) => Err(FeedFault::BadState),
+    match config.objects.find(host, service) {
+        Some(object) => find_said(words, subject, object, arguments).ok_or(FeedFault::BadState),
+        None => Err(unknown_fault(arguments)),
     }
 }
 
-/// What a word says of an object, of which both are to be known.
-fn read_word(
-    words: Words,
-    subject: Subject,
-    object: Option<ObjectId>,
-    word: &[u8],
-) -> Result<EventKind, FeedFault>
-    ensures { result ≡ said_reading words subject object word.now }
+/// Why a line is refused whose object isn't known: an argument too many is told before that.
+fn unknown_fault(arguments: &[u8]) -> FeedFault
+    ensures { result ≡ unknown_fault (fields arguments.now) }
 {
-    let object = object.ok_or(FeedFault::UnknownObject)?;
-    find_said(words, subject, object, word).ok_or(FeedFault::BadState)
+    match split_field(arguments) {
+        (_, None) => FeedFault::UnknownObject,
+        (_, Some(_)) => FeedFault::BadState,
+    }
 }
 
 /// What one of these words says of an object.
