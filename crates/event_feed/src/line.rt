@@ -257,7 +257,8 @@ fn read_service(
 }
 
 /// A command that tells of the object of a name, from what follows the name. No word has a `;`, so of an object that is
-/// known a wrong word and an argument too many are told at once.
+/// known a wrong word and an argument too many are told at once. It is put in line, since it is handed so much.
+#[inline(always)]
 fn read_last(
     config: &Config,
     words: Words,
