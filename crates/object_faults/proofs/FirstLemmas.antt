@@ -1,14 +1,16 @@
 -- The first of the places with a fault, column by column.
-use Rattle.std.proofs.Common.{◌≡◌, ℕ, ◌+◌, ◌<◌, ◌≤◌, Bool, true, false, cond, List, [], ◌∷◌, ◌++◌, length, map, take, get_or, Option, Some, None, refl, sym, ap, ⊎_elim, ◌∙◌, arith, leb-false, leb-true}
+use Rattle.std.proofs.Common.{◌≡◌, ℕ, ◌+◌, ◌<◌, ◌≤◌, Bool, true, false, cond, List, [], ◌∷◌, ◌++◌, length, map, take, get_or, Option, Some, None, refl, sym, ap, subst, ⊎_elim, ◌∙◌, arith, leb-false, leb-true}
 use Rattle.std.specs.Prelude.{nat_le, slice_get}
 use Rattle.std.specs.Option.{option_and_then, option_or}
 use Rattle.std.proofs.lemmas.Bool.{cases_lt}
 use Rattle.std.proofs.lemmas.List.{map-append, take_more}
 use Rattle.object_reader.specs.declared.block.Block.{Block}
-use Rattle.object_faults.specs.Columns.{earlier, fault_at, first_at, first_of, IsFirst, registered_fault}
+use Rattle.object_faults.specs.Columns.{earlier, fault_at, first_at, first_of, IsFirst, registered_fault, side_at, side_fault}
 use Rattle.object_faults.specs.declared.column.Column.{Column}
 use Rattle.object_faults.specs.declared.fault.ValueFault.{ValueFault}
 use Rattle.object_faults.specs.declared.first.Found.{Found}
+use Rattle.object_faults.specs.declared.needs.Side.{Side}
+use Rattle.object_faults.specs.Needs.{NeedsOf}
 
 or-none : (fault other : Option ValueFault) → fault ≡ None → option_or fault other ≡ other
 or-none fault other none = ap (λ found. option_or found other) none
@@ -34,6 +36,11 @@ module _ (count : ℕ) (a b : ℕ → Option ValueFault) where
   first-earlier (Some one) None fa fb =
       (fa.0, or-some _ _ one.fault fa.1, (λ k early. let low = fa.0 in or-none _ _ (fa.2 k early) ∙ fb k (omega (arith, low, early))))
   first-earlier (Some one) (Some other) fa fb = by_order one other fa fb (nat_le one.place other.place) refl
+
+-- the same of what was found to be the earlier
+pub first-both : (count : ℕ) (a b : ℕ → Option ValueFault) (first second found : Option Found) → found ≡ earlier first second → IsFirst count a first → IsFirst count b second
+    → IsFirst count (λ k. option_or (a k) (b k)) found
+first-both count a b first second found is fa fb = subst (λ (f : Option Found). IsFirst count (λ k. option_or (a k) (b k)) f) (sym is) (first-earlier count a b first second fa fb)
 
 -- the same by a test with the same answers
 pub first-same : (count : ℕ) (a b : ℕ → Option ValueFault) (found : Option Found) → ((k : ℕ) → b k ≡ a k) → IsFirst count a found → IsFirst count b found
@@ -75,6 +82,12 @@ pub at-place : (blocks seen : List Block) (column : Column) (i : ℕ) (x : Block
     → fault ≡ registered_fault seen i column x → fault_at blocks column i ≡ fault
 at-place blocks seen column i x fault here same is =
     ap (option_and_then (registered_fault blocks i column)) here ∙ sym (is ∙ ap (λ (all : List Block). registered_fault all i column x) same)
+
+-- the same of a side
+pub at-side : (blocks : List Block) (needs : NeedsOf) (side : Side) (i : ℕ) (x : Block) (fault : Option ValueFault) → slice_get blocks i ≡ Some x
+    → needs ≡ record { blocks = blocks; side = side } → fault ≡ side_fault needs.blocks i needs.side x → side_at blocks side i ≡ fault
+at-side blocks needs side i x fault here same is =
+    ap (option_and_then (side_fault blocks i side)) here ∙ sym (is ∙ ap (λ (n : NeedsOf). side_fault n.blocks i n.side x) same)
 
 -- one more place without a fault
 pub none-more : (fault : ℕ → Option ValueFault) (i : ℕ) → ((k : ℕ) → k < i → fault k ≡ None) → fault i ≡ None → (k : ℕ) → k < i + 1 → fault k ≡ None

@@ -1,2 +1,3 @@
 pub mod FirstLemmas
 pub mod TableLemmas
+pub mod NeedLemmas

@@ -1,24 +1,32 @@
 -- The same directive by directive: what each must be, by the type of the block, and the first block
 -- that breaks one of them.
-use Rattle.std.specs.Prelude.{◌≡◌, ℕ, ◌<◌, Bool, true, false, not, List, [], ◌∷◌, map, codes, nat_le, Option, None, Some, slice_get, if◌then◌else◌}
+use Rattle.std.specs.Prelude.{◌≡◌, ℕ, ◌<◌, Bool, not, ◌==◌, ◌&&◌, List, [], ◌∷◌, map, codes, nat_le, Option, None, Some, slice_get, if◌then◌else◌}
 use Rattle.std.specs.Option.{option_and_then, option_or}
 use Rattle.object_reader.specs.declared.block.Block.{Block}
 use Rattle.object_reader.specs.declared.block.BlockKind.{BlockKind}
-use Rattle.object_reader.specs.declared.block.BlockKind.TheVariants.{Host, Service, Contact, TimePeriod, HostEscalation, ServiceEscalation, HostDependency, ServiceDependency}
+use Rattle.object_reader.specs.declared.block.BlockKind.TheVariants.{Host, HostGroup, Service, ServiceGroup, Contact, ContactGroup, TimePeriod, Command, HostEscalation, ServiceEscalation, HostDependency, ServiceDependency}
+use Rattle.object_groups.specs.Objects.{name_directive}
+use Rattle.object_inheritance.specs.Templates.{kind_number}
 use Rattle.object_values.specs.Blocks.{means_nothing}
 use Rattle.object_values.specs.declared.options.OptionKind.TheVariants as lists
 use Rattle.object_values.specs.declared.options.CriteriaKind.TheVariants.{OfHosts, OfServices}
 use Rattle.object_faults.specs.declared.column.Check.{Check}
-use Rattle.object_faults.specs.declared.column.Check.TheVariants.{Number, Options, Criteria, Ranges, Zero}
+use Rattle.object_faults.specs.declared.column.Check.TheVariants.{Given, Number, Options, Criteria, Ranges, Zero, Names}
 use Rattle.object_faults.specs.declared.column.Column.{Column}
-use Rattle.object_faults.specs.declared.column.Column.TheVariants.{Register, Interval, Enabled, Delay, HostEnabled, ServiceEnabled, First, Last, Inherits, IsVolatile, NotificationOptions, HostOptions, ServiceOptions, EscalationOptions, FailureCriteria, Sunday, Monday, Tuesday, Wednesday, Thursday, Friday, Saturday, VolatileZero}
+use Rattle.object_faults.specs.declared.column.Column.TheVariants.{Name, Register, Interval, Enabled, Delay, HostEnabled, ServiceEnabled, First, Last, Inherits, IsVolatile, NotificationOptions, HostOptions, ServiceOptions, EscalationOptions, FailureCriteria, Sunday, Monday, Tuesday, Wednesday, Thursday, Friday, Saturday, VolatileZero, Listed}
 use Rattle.object_faults.specs.declared.fault.ValueFault.{ValueFault}
-use Rattle.object_faults.specs.declared.fault.ValueFault.TheVariants.{BadNumber, BadOption, BadRange, Volatile}
+use Rattle.object_faults.specs.declared.fault.ValueFault.TheVariants.{MissingDirective, BadNumber, BadOption, BadRange, Volatile, Exclusion}
 use Rattle.object_faults.specs.declared.first.Found.{Found}
-use Rattle.object_faults.specs.Faults.{breaks, is_broken, is_registered}
+use Rattle.object_faults.specs.declared.lists.NameList.TheVariants as entries
+use Rattle.object_faults.specs.declared.needs.Side.{Side}
+use Rattle.object_faults.specs.declared.needs.Side.TheVariants.{Masters, Dependents}
+use Rattle.object_faults.specs.Faults.{is_broken, is_registered, lacks}
+use Rattle.object_faults.specs.Kinds.{has_interval, is_contact, is_dependency, is_escalation, is_host_or_service, is_period, is_service}
+use Rattle.object_faults.specs.Lists.{is_list_of, list_directive}
 
 -- the name of a directive
 abbrev pub directive_of : Column → List ℕ
+directive_of (Name kind) = name_directive kind
 directive_of Register = codes "register"
 directive_of Interval = codes "notification_interval"
 directive_of Enabled = codes "notifications_enabled"
@@ -42,42 +50,7 @@ directive_of Thursday = codes "thursday"
 directive_of Friday = codes "friday"
 directive_of Saturday = codes "saturday"
 directive_of VolatileZero = codes "is_volatile"
-
--- ---- the types that have them
-
-abbrev pub is_host_or_service : BlockKind → Bool
-is_host_or_service Host = true
-is_host_or_service Service = true
-is_host_or_service _ = false
-
-abbrev pub is_service : BlockKind → Bool
-is_service Service = true
-is_service _ = false
-
-abbrev pub is_contact : BlockKind → Bool
-is_contact Contact = true
-is_contact _ = false
-
-abbrev pub is_escalation : BlockKind → Bool
-is_escalation HostEscalation = true
-is_escalation ServiceEscalation = true
-is_escalation _ = false
-
-abbrev pub has_interval : BlockKind → Bool
-has_interval Host = true
-has_interval Service = true
-has_interval HostEscalation = true
-has_interval ServiceEscalation = true
-has_interval _ = false
-
-abbrev pub is_dependency : BlockKind → Bool
-is_dependency HostDependency = true
-is_dependency ServiceDependency = true
-is_dependency _ = false
-
-abbrev pub is_period : BlockKind → Bool
-is_period TimePeriod = true
-is_period _ = false
+directive_of (Listed list) = list_directive list
 
 -- ---- what they must be
 
@@ -101,6 +74,7 @@ criteria_check _ = None
 
 -- what a directive must be in blocks of the type; none where it says nothing there
 abbrev pub check_of : Column → BlockKind → Option Check
+check_of (Name named) kind = when (kind_number kind == kind_number named) Given
 check_of Register kind = when (not (means_nothing kind)) Number
 check_of Interval kind = when (has_interval kind) Number
 check_of Enabled kind = when (is_host_or_service kind) Number
@@ -124,17 +98,17 @@ check_of Thursday kind = when (is_period kind) Ranges
 check_of Friday kind = when (is_period kind) Ranges
 check_of Saturday kind = when (is_period kind) Ranges
 check_of VolatileZero kind = when (is_service kind) Zero
+check_of (Listed list) kind = when (is_list_of list kind) Names
 
--- the fault of a text that breaks what it must be
+-- the fault of what isn't what it must be
 abbrev pub fault_name : Check → ValueFault
+fault_name Given = MissingDirective
 fault_name Number = BadNumber
 fault_name (Options kind) = BadOption
 fault_name (Criteria kind) = BadOption
 fault_name Ranges = BadRange
 fault_name Zero = Volatile
-
-abbrev pub check_fault : Check → List ℕ → Option ValueFault
-check_fault check text = if breaks check text then Some (fault_name check) else None
+fault_name Names = Exclusion
 
 -- the fault of what the block at the place, of the type, has for one directive
 abbrev pub column_fault : List Block → ℕ → BlockKind → Column → Option ValueFault
@@ -151,6 +125,15 @@ registered_fault blocks place column block =
 abbrev pub fault_at : List Block → Column → ℕ → Option ValueFault
 fault_at blocks column place =
     option_and_then (registered_fault blocks place column) (slice_get blocks place)
+
+-- the fault of the block at the place where it lacks what it must list on the side, if it is registered
+abbrev pub side_fault : List Block → ℕ → Side → Block → Option ValueFault
+side_fault blocks place side block =
+    if is_registered block && lacks blocks place block.kind side then Some MissingDirective else None
+
+abbrev pub side_at : List Block → Side → ℕ → Option ValueFault
+side_at blocks side place =
+    option_and_then (side_fault blocks place side) (slice_get blocks place)
 
 -- the first of the faults
 abbrev pub first_of : List (Option ValueFault) → Option ValueFault
@@ -174,10 +157,34 @@ earlier (Some one) (Some other) =
 abbrev pub first_at : List Block → List Column → ℕ → Option ValueFault
 first_at blocks columns place = first_of (map (λ column. fault_at blocks column place) columns)
 
--- every directive that is looked at, in the order of the faults
-abbrev pub every_column : List Column
-every_column = Register ∷ Interval ∷ Enabled ∷ Delay ∷ IsVolatile
+-- the directives that name blocks
+abbrev pub name_columns : List Column
+name_columns = Name Host ∷ Name HostGroup ∷ Name Service ∷ Name ServiceGroup
+    ∷ Name Contact ∷ Name ContactGroup ∷ Name TimePeriod ∷ Name Command ∷ []
+
+-- the directives that must be something where they are given, in the order of the faults
+abbrev pub value_columns : List Column
+value_columns = Register ∷ Interval ∷ Enabled ∷ Delay ∷ IsVolatile
     ∷ HostEnabled ∷ ServiceEnabled ∷ First ∷ Last ∷ Inherits
     ∷ NotificationOptions ∷ HostOptions ∷ ServiceOptions ∷ EscalationOptions ∷ FailureCriteria
     ∷ Sunday ∷ Monday ∷ Tuesday ∷ Wednesday
-    ∷ Thursday ∷ Friday ∷ Saturday ∷ VolatileZero ∷ []
+    ∷ Thursday ∷ Friday ∷ Saturday ∷ VolatileZero
+    ∷ Listed entries.HostGroups ∷ Listed entries.ServiceGroups ∷ Listed entries.ContactGroups
+    ∷ Listed entries.HostNames ∷ Listed entries.HostGroupNames
+    ∷ Listed entries.Descriptions ∷ Listed entries.ServiceGroupNames
+    ∷ Listed entries.DependentHostNames ∷ Listed entries.DependentHostGroupNames
+    ∷ Listed entries.DependentDescriptions ∷ Listed entries.DependentServiceGroupNames
+    ∷ Listed entries.Contacts ∷ Listed entries.GroupsOfContacts
+    ∷ Listed entries.HostCommands ∷ Listed entries.ServiceCommands
+    ∷ Listed entries.Members ∷ Listed entries.HostGroupMembers
+    ∷ Listed entries.ServiceGroupMembers ∷ Listed entries.ContactGroupMembers
+    ∷ Listed entries.Excludes ∷ []
+
+-- what the block at the place lacks, if anything
+abbrev pub lacking_at : List Block → ℕ → Option ValueFault
+lacking_at blocks place = option_or (first_at blocks name_columns place)
+    (option_or (side_at blocks Masters place) (side_at blocks Dependents place))
+
+-- the first fault that the block at the place has
+abbrev pub any_at : List Block → ℕ → Option ValueFault
+any_at blocks place = option_or (lacking_at blocks place) (first_at blocks value_columns place)

@@ -1,21 +1,57 @@
 -- The faults of the values that registered blocks have: which block has the first.
-use Rattle.std.specs.Prelude.{◌≡◌, ℕ, ◌<◌, Bool, false, not, ◌==◌, ◌&&◌, List, codes, is_none, Option, None, Some, slice_get, if◌then◌else◌}
+use Rattle.std.specs.Prelude.{◌≡◌, ℕ, ◌<◌, Bool, false, not, ◌==◌, ◌&&◌, ◌||◌, List, length, codes, is_none, Option, None, Some, slice_get, if◌then◌else◌}
 use Rattle.std.specs.List.{list_any}
-use Rattle.std.specs.Option.{option_and_then, option_map_or}
+use Rattle.std.specs.Option.{option_map_or}
 use Rattle.object_reader.specs.declared.block.Block.{Block}
 use Rattle.object_reader.specs.declared.block.BlockKind.{BlockKind}
+use Rattle.object_groups.specs.Names.{is_exclusion}
+use Rattle.object_groups.specs.Objects.{list_at}
 use Rattle.object_inheritance.specs.Inherited.{value}
+use Rattle.object_inheritance.specs.Registered.{registers}
 use Rattle.object_values.specs.Blocks.{means_nothing}
 use Rattle.object_values.specs.Options.{criteria_in, options_in}
 use Rattle.object_values.specs.Ranges.{are_ranges}
 use Rattle.object_values.specs.Values.{number_in, value_in}
 use Rattle.object_faults.specs.declared.column.Check.{Check}
-use Rattle.object_faults.specs.declared.column.Check.TheVariants.{Number, Options, Criteria, Ranges, Zero}
+use Rattle.object_faults.specs.declared.column.Check.TheVariants.{Given, Number, Options, Criteria, Ranges, Zero, Names}
 use Rattle.object_faults.specs.declared.fault.PassFault.{PassFault}
 use Rattle.object_faults.specs.declared.fault.PassFault.TheVariants.{AtLine, NoMemory}
 use Rattle.object_faults.specs.declared.fault.ValueFault.{ValueFault}
-use Rattle.object_faults.specs.declared.fault.ValueFault.TheVariants.{BadNumber, BadOption, BadRange, Volatile}
-use Rattle.object_faults.specs.Tables.{numbers, option_lists, range_lines, zeros}
+use Rattle.object_faults.specs.declared.fault.ValueFault.TheVariants.{MissingDirective, BadNumber, BadOption, BadRange, Volatile, Exclusion}
+use Rattle.object_faults.specs.declared.needs.Need.{Need}
+use Rattle.object_faults.specs.declared.needs.Need.TheVariants as needs
+use Rattle.object_faults.specs.declared.needs.Side.{Side}
+use Rattle.object_faults.specs.declared.needs.Side.TheVariants.{Masters, Dependents}
+use Rattle.object_faults.specs.Tables.{description_directive, group_directive, host_directive, service_group_directive}
+use Rattle.object_faults.specs.Tables.{name_lists, names, needed, numbers, option_lists, range_lines, zeros}
+
+-- ---- what a block must list
+
+-- whether the block at the place has an entry in its list for the directive
+abbrev pub is_listed : List Block → ℕ → List ℕ → Bool
+is_listed blocks place directive = not (length (list_at blocks directive place) == 0)
+
+-- a host, by itself or by a group
+abbrev pub has_hosts : List Block → ℕ → Side → Bool
+has_hosts blocks place side = is_listed blocks place (host_directive side)
+    || is_listed blocks place (group_directive side)
+
+-- the services of hosts by their descriptions, or those of a group
+abbrev pub has_services : List Block → ℕ → Side → Bool
+has_services blocks place side =
+    (has_hosts blocks place side && is_listed blocks place (description_directive side))
+    || is_listed blocks place (service_group_directive side)
+
+abbrev pub lacks_need : List Block → ℕ → Side → Need → Bool
+lacks_need blocks place side needs.Nothing = false
+lacks_need blocks place side needs.Hosts = not (has_hosts blocks place side)
+lacks_need blocks place side needs.Services = not (has_services blocks place side)
+
+-- whether the block at the place, of the type, lacks what it must list on the side
+abbrev pub lacks : List Block → ℕ → BlockKind → Side → Bool
+lacks blocks place kind side = lacks_need blocks place side (needed kind side)
+
+-- ---- what its directives must be
 
 -- Whether a text isn't what a directive must be. A text that isn't a number isn't one other than 0.
 abbrev pub breaks : Check → List ℕ → Bool
@@ -24,15 +60,16 @@ breaks (Options kind) text = is_none (options_in kind text)
 breaks (Criteria kind) text = is_none (criteria_in kind text)
 breaks Ranges text = not (are_ranges text)
 breaks Zero text = option_map_or (λ number. not (number == 0)) (number_in text) false
+breaks Given text = false
+breaks Names text = false
 
--- whether what the block at the place has for the directive, itself or by a template, breaks it
+-- Whether what the block at the place has for the directive, itself or by a template, isn't what it must be:
+-- where it must be given, nothing; where it is a list of names, one that has an exclusion.
 abbrev pub is_broken : List Block → ℕ → Check → List ℕ → Bool
+is_broken blocks place Given directive = is_none (value blocks directive place)
+is_broken blocks place Names directive = list_any is_exclusion (list_at blocks directive place)
 is_broken blocks place check directive =
     option_map_or (breaks check) (value blocks directive place) false
-
--- whether the value of a block's own `register` makes it an object: none does, and any but 0
-abbrev pub registers : Option (List ℕ) → Bool
-registers text = not (option_map_or (λ number. number == 0) (option_and_then number_in text) false)
 
 -- whether a block is an object: its type means something, and it isn't a template alone
 abbrev pub is_registered : Block → Bool
@@ -40,20 +77,29 @@ is_registered block =
     not (means_nothing block.kind) && registers (value_in block.directives (codes "register"))
 
 -- of several faults the first counts
-abbrev pub fault_by : (number option range volatile : Bool) → Option ValueFault
-fault_by number option range volatile = if number then Some BadNumber
+abbrev pub fault_by : (missing number option range volatile exclusion : Bool) → Option ValueFault
+fault_by missing number option range volatile exclusion = if missing then Some MissingDirective
+    else if number then Some BadNumber
     else if option then Some BadOption
     else if range then Some BadRange
     else if volatile then Some Volatile
+    else if exclusion then Some Exclusion
     else None
+
+-- whether the block at the place, of the type, lacks its name or what it must list
+abbrev pub is_lacking : List Block → ℕ → BlockKind → Bool
+is_lacking blocks place kind = list_any (is_broken blocks place Given) (names kind)
+    || lacks blocks place kind Masters || lacks blocks place kind Dependents
 
 -- the fault of the values that the block at the place, of the type, has
 abbrev pub value_fault : List Block → ℕ → BlockKind → Option ValueFault
 value_fault blocks place kind = fault_by
+    (is_lacking blocks place kind)
     (list_any (is_broken blocks place Number) (numbers kind))
     (list_any (λ row. is_broken blocks place row.0 row.1) (option_lists kind))
     (list_any (is_broken blocks place Ranges) (range_lines kind))
     (list_any (is_broken blocks place Zero) (zeros kind))
+    (list_any (is_broken blocks place Names) (name_lists kind))
 
 -- the same, if it is registered
 abbrev pub fault_of : List Block → ℕ → Block → Option ValueFault

@@ -1,19 +1,39 @@
-//! The first fault of the values of registered blocks.
+//! The first fault of registered blocks by themselves.
 
 ghost use Rattle.std.specs.Prelude.{length, IfErr, IfOk, OnOk, Some};
-ghost use Rattle.object_faults.specs.Columns.{first_at, IsFirst};
-ghost use Rattle.object_faults.specs.Columns.{every_column};
+ghost use Rattle.object_faults.specs.Columns.{any_at, first_at, IsFirst, lacking_at};
+ghost use Rattle.object_faults.specs.Columns.{name_columns, value_columns};
 ghost use Rattle.object_faults.specs.Faults.{AreFree, IsRefusal};
 
 use crate::column::Column;
 use crate::fault::PassFault;
-use crate::first::{Found, first_of_columns};
+use crate::first::{Found, earlier, first_of_columns, first_of_side};
+use crate::lists::NameList;
+use crate::needs::Side;
 use object_inheritance::templates::Templates;
+use object_reader::block::BlockKind;
 use std::alloc::{AllocError, Global};
 
-/// The first block with a fault of any of the directives.
-fn first_fault(alloc: Global, templates: &Templates) -> Result<Option<Found>, AllocError>
-    ensures { IfOk result (IsFirst (length templates.now) (first_at templates.now every_column)) }
+/// The first block that lacks its name.
+fn first_unnamed(alloc: Global, templates: &Templates) -> Result<Option<Found>, AllocError>
+    ensures { IfOk result (IsFirst (length templates.now) (first_at templates.now name_columns)) }
+{
+    let columns = [
+        Column::Name(BlockKind::Host),
+        Column::Name(BlockKind::HostGroup),
+        Column::Name(BlockKind::Service),
+        Column::Name(BlockKind::ServiceGroup),
+        Column::Name(BlockKind::Contact),
+        Column::Name(BlockKind::ContactGroup),
+        Column::Name(BlockKind::TimePeriod),
+        Column::Name(BlockKind::Command),
+    ];
+    first_of_columns(alloc, templates, &columns)
+}
+
+/// The first block with something that isn't what it must be.
+fn first_broken(alloc: Global, templates: &Templates) -> Result<Option<Found>, AllocError>
+    ensures { IfOk result (IsFirst (length templates.now) (first_at templates.now value_columns)) }
 {
     let columns = [
         Column::Register,
@@ -39,13 +59,52 @@ fn first_fault(alloc: Global, templates: &Templates) -> Result<Option<Found>, Al
         Column::Friday,
         Column::Saturday,
         Column::VolatileZero,
+        Column::Listed(NameList::HostGroups),
+        Column::Listed(NameList::ServiceGroups),
+        Column::Listed(NameList::ContactGroups),
+        Column::Listed(NameList::HostNames),
+        Column::Listed(NameList::HostGroupNames),
+        Column::Listed(NameList::Descriptions),
+        Column::Listed(NameList::ServiceGroupNames),
+        Column::Listed(NameList::DependentHostNames),
+        Column::Listed(NameList::DependentHostGroupNames),
+        Column::Listed(NameList::DependentDescriptions),
+        Column::Listed(NameList::DependentServiceGroupNames),
+        Column::Listed(NameList::Contacts),
+        Column::Listed(NameList::GroupsOfContacts),
+        Column::Listed(NameList::HostCommands),
+        Column::Listed(NameList::ServiceCommands),
+        Column::Listed(NameList::Members),
+        Column::Listed(NameList::HostGroupMembers),
+        Column::Listed(NameList::ServiceGroupMembers),
+        Column::Listed(NameList::ContactGroupMembers),
+        Column::Listed(NameList::Excludes),
     ];
     first_of_columns(alloc, templates, &columns)
 }
 
+/// The first block that lacks what it must have.
+fn first_lacking(alloc: Global, templates: &Templates) -> Result<Option<Found>, AllocError>
+    ensures { IfOk result (IsFirst (length templates.now) (lacking_at templates.now)) }
+{
+    let unnamed = first_unnamed(alloc, templates)?;
+    let masters = first_of_side(alloc, templates, Side::Masters)?;
+    let dependents = first_of_side(alloc, templates, Side::Dependents)?;
+    Ok(earlier(unnamed, earlier(masters, dependents)))
+}
+
+/// The first block with a fault.
+fn first_fault(alloc: Global, templates: &Templates) -> Result<Option<Found>, AllocError>
+    ensures { IfOk result (IsFirst (length templates.now) (any_at templates.now)) }
+{
+    let lacking = first_lacking(alloc, templates)?;
+    let broken = first_broken(alloc, templates)?;
+    Ok(earlier(lacking, broken))
+}
+
 /// Refuses the block that was found.
 fn refused(templates: &Templates, found: Found) -> PassFault
-    requires { IsFirst (length templates.now) (first_at templates.now every_column) (Some found) }
+    requires { IsFirst (length templates.now) (any_at templates.now) (Some found) }
     ensures { IsRefusal templates.now result }
 {
     let blocks = templates.blocks();
@@ -57,10 +116,13 @@ fn refused(templates: &Templates, found: Found) -> PassFault
     }
 }
 
-/// Finds the first block, in file order, with a fault of its values, if there is one: a number, an option list,
-/// failure criteria or a weekday's ranges that aren't, or a service that is volatile. Blocks of which `register` is 0
-/// aren't looked at, but their values are where another block takes them. The time grows with the blocks,
-/// their directives and the templates that they use; it takes some 32 bytes a block.
+/// Finds the first block, in file order, that has a fault by itself, if there is one. Of the faults of one block the
+/// lowest counts: it lacks its name, or the hosts or services that it must list; a number, an option list,
+/// failure criteria or a weekday's ranges aren't; a service is volatile; a list of names has an exclusion. A
+/// directive that a template gives counts. Blocks of which `register` is 0 aren't looked at, but what they give is
+/// where another block takes it. The time grows with the blocks, their directives, the templates that they
+/// use, and the entries of each block's lists, those that it inherits too; it takes some 128 bytes a block. Lines
+/// of dates aren't looked at.
 pub fn check(alloc: Global, templates: &Templates) -> Result<(), PassFault>
     ensures free { OnOk result (AreFree templates.now) }
     ensures fault { IfErr result (IsRefusal templates.now) }

@@ -1,22 +1,29 @@
 //! The directives that are looked at, one after another: what each must be, by the type of the block.
 
 ghost use Rattle.std.specs.Prelude.{◌≡◌};
-ghost use Rattle.object_faults.specs.Columns.{check_fault, check_of, criteria_check, directive_of};
-ghost use Rattle.object_faults.specs.Columns.{escalation_check, fault_name, has_interval, is_contact};
-ghost use Rattle.object_faults.specs.Columns.{is_dependency, is_escalation, is_host_or_service, is_period};
-ghost use Rattle.object_faults.specs.Columns.{is_service, options_check, when};
+ghost use Rattle.object_faults.specs.Columns.{check_of, criteria_check, directive_of};
+ghost use Rattle.object_faults.specs.Columns.{escalation_check, fault_name, options_check, when};
 ghost use Rattle.object_faults.specs.Faults.{breaks};
 
 use crate::fault::ValueFault;
+use crate::kinds::{
+    has_interval, is_contact, is_dependency, is_escalation, is_host_or_service, is_period,
+    is_service,
+};
+use crate::lists::{NameList, is_list_of, list_directive};
+use object_groups::objects::name_directive;
+use object_inheritance::kinds::kind_number;
 use object_reader::block::BlockKind;
 use object_values::blocks::means_nothing;
 use object_values::options::{CriteriaKind, OptionKind, criteria_in, options_in};
 use object_values::ranges::are_ranges;
 use object_values::values::number_in;
 
-/// What the value of a directive must be.
+/// What a directive must be.
 #[derive(Clone, Copy)]
 pub enum Check {
+    /// Given.
+    Given,
     /// A number.
     Number,
     /// A list of notification options.
@@ -27,12 +34,16 @@ pub enum Check {
     Ranges,
     /// The number 0.
     Zero,
+    /// A list of names, none of which leaves something out.
+    Names,
 }
 
 /// The directives, in the order of the faults that they may have. `is_volatile` is among them twice: as a
 /// number, and as one that must be 0.
 #[derive(Clone, Copy)]
 pub enum Column {
+    /// The directive that names blocks of this type.
+    Name(BlockKind),
     /// `register`.
     Register,
     /// `notification_interval`.
@@ -79,6 +90,8 @@ pub enum Column {
     Saturday,
     /// `is_volatile`, which must be 0.
     VolatileZero,
+    /// A list of names.
+    Listed(NameList),
 }
 
 /// The name of a directive.
@@ -86,6 +99,7 @@ pub(crate) fn directive_of(column: Column) -> &'static str
     ensures { result.now ≡ directive_of column }
 {
     match column {
+        Column::Name(kind) => name_directive(kind),
         Column::Register => "register",
         Column::Interval => "notification_interval",
         Column::Enabled => "notifications_enabled",
@@ -109,62 +123,8 @@ pub(crate) fn directive_of(column: Column) -> &'static str
         Column::Friday => "friday",
         Column::Saturday => "saturday",
         Column::VolatileZero => "is_volatile",
+        Column::Listed(list) => list_directive(list),
     }
-}
-
-/// Whether blocks of the type are hosts or services.
-fn is_host_or_service(kind: BlockKind) -> bool
-    ensures { result ≡ is_host_or_service kind }
-{
-    matches!(kind, BlockKind::Host | BlockKind::Service)
-}
-
-/// Whether blocks of the type are services.
-fn is_service(kind: BlockKind) -> bool
-    ensures { result ≡ is_service kind }
-{
-    matches!(kind, BlockKind::Service)
-}
-
-/// Whether blocks of the type are contacts.
-fn is_contact(kind: BlockKind) -> bool
-    ensures { result ≡ is_contact kind }
-{
-    matches!(kind, BlockKind::Contact)
-}
-
-/// Whether blocks of the type are escalations.
-fn is_escalation(kind: BlockKind) -> bool
-    ensures { result ≡ is_escalation kind }
-{
-    matches!(
-        kind,
-        BlockKind::HostEscalation | BlockKind::ServiceEscalation
-    )
-}
-
-/// Whether blocks of the type are dependencies.
-fn is_dependency(kind: BlockKind) -> bool
-    ensures { result ≡ is_dependency kind }
-{
-    matches!(
-        kind,
-        BlockKind::HostDependency | BlockKind::ServiceDependency
-    )
-}
-
-/// Whether blocks of the type are time periods.
-fn is_period(kind: BlockKind) -> bool
-    ensures { result ≡ is_period kind }
-{
-    matches!(kind, BlockKind::TimePeriod)
-}
-
-/// Whether blocks of the type have an interval.
-fn has_interval(kind: BlockKind) -> bool
-    ensures { result ≡ has_interval kind }
-{
-    is_host_or_service(kind) || is_escalation(kind)
 }
 
 /// A check, where blocks of the type have the directive.
@@ -219,6 +179,7 @@ pub(crate) fn check_of(column: Column, kind: BlockKind) -> Option<Check>
     ensures { result ≡ check_of column kind }
 {
     match column {
+        Column::Name(named) => when(kind_number(kind) == kind_number(named), Check::Given),
         Column::Register => number_where(!means_nothing(kind)),
         Column::Interval => number_where(has_interval(kind)),
         Column::Enabled => number_where(is_host_or_service(kind)),
@@ -242,11 +203,12 @@ pub(crate) fn check_of(column: Column, kind: BlockKind) -> Option<Check>
         Column::Friday => when(is_period(kind), Check::Ranges),
         Column::Saturday => when(is_period(kind), Check::Ranges),
         Column::VolatileZero => when(is_service(kind), Check::Zero),
+        Column::Listed(list) => when(is_list_of(list, kind), Check::Names),
     }
 }
 
 /// Whether a text isn't what a directive must be.
-fn breaks(check: Check, text: &[u8]) -> bool
+pub(crate) fn breaks(check: Check, text: &[u8]) -> bool
     ensures { result ≡ breaks check text.now }
 {
     match check {
@@ -258,28 +220,21 @@ fn breaks(check: Check, text: &[u8]) -> bool
             None => false,
             Some(number) => number != 0,
         },
+        Check::Given => false,
+        Check::Names => false,
     }
 }
 
-/// The fault of a text that isn't what a directive must be.
-fn fault_name(check: Check) -> ValueFault
+/// The fault of what isn't what a directive must be.
+pub(crate) fn fault_name(check: Check) -> ValueFault
     ensures { result ≡ fault_name check }
 {
     match check {
+        Check::Given => ValueFault::MissingDirective,
         Check::Number => ValueFault::BadNumber,
         Check::Options(_) | Check::Criteria(_) => ValueFault::BadOption,
         Check::Ranges => ValueFault::BadRange,
         Check::Zero => ValueFault::Volatile,
-    }
-}
-
-/// The fault of a text, if it isn't what a directive must be.
-pub(crate) fn check_fault(check: Check, text: &[u8]) -> Option<ValueFault>
-    ensures { result ≡ check_fault check text.now }
-{
-    if breaks(check, text) {
-        Some(fault_name(check))
-    } else {
-        None
+        Check::Names => ValueFault::Exclusion,
     }
 }

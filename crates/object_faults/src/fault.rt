@@ -8,6 +8,8 @@ use std::alloc::AllocError;
 /// What is wrong with a value of a block. Of several faults of one block the first counts.
 #[derive(Clone, Copy, Debug, PartialEq, Eq)]
 pub enum ValueFault {
+    /// The block lacks its name, or has no entry in lists of which it must have one.
+    MissingDirective,
     /// A number isn't decimal digits of 0 to 1,000,000.
     BadNumber,
     /// An option list, or failure criteria, have a word that is no option or state of their kind.
@@ -16,6 +18,8 @@ pub enum ValueFault {
     BadRange,
     /// A service is volatile.
     Volatile,
+    /// A list has an entry that leaves something out: it begins with `!`.
+    Exclusion,
 }
 
 /// Why blocks are refused.

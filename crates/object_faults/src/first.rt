@@ -1,18 +1,26 @@
 //! The first block with a fault, directive by directive.
 
-ghost use Rattle.std.specs.Prelude.{◌≡◌, length, IfOk};
-ghost use Rattle.std.specs.Option.{option_copied};
-ghost use Rattle.object_faults.specs.Columns.{directive_of, earlier, fault_at, first_at, IsFirst};
-ghost use Rattle.object_faults.specs.Columns.{registered_fault, column_fault};
-ghost use Rattle.object_faults.specs.Faults.{is_registered, registers};
+ghost use Rattle.std.specs.Prelude.{◌≡◌, false, length, IfOk};
+ghost use Rattle.std.specs.List.{list_any};
+ghost use Rattle.std.specs.Option.{option_map_or};
+ghost use Rattle.object_faults.specs.Columns.{column_fault, directive_of, earlier, fault_at, first_at, IsFirst};
+ghost use Rattle.object_faults.specs.Columns.{registered_fault, side_at, side_fault};
+ghost use Rattle.object_faults.specs.Faults.{breaks, is_broken, is_registered};
+ghost use Rattle.object_groups.specs.Names.{is_exclusion};
+ghost use Rattle.object_groups.specs.Objects.{list_at};
+ghost use Rattle.object_inheritance.specs.Inherited.{value};
 
-use crate::column::{Column, check_fault, check_of, directive_of};
+use crate::column::{Check, Column, breaks, check_of, directive_of, fault_name};
 use crate::fault::ValueFault;
+use crate::needs::{Needs, Side};
+use object_groups::names::has_exclusion;
+use object_groups::objects::list_at;
 use object_inheritance::inherited::Values;
+use object_inheritance::registered::registers;
 use object_inheritance::templates::Templates;
 use object_reader::block::{Block, BlockKind};
 use object_values::blocks::means_nothing;
-use object_values::values::{number_in, value_in};
+use object_values::values::value_in;
 use std::alloc::{AllocError, Global};
 
 /// A block with a fault, by its place.
@@ -20,19 +28,6 @@ use std::alloc::{AllocError, Global};
 pub(crate) struct Found {
     pub(crate) place: usize,
     pub(crate) fault: ValueFault,
-}
-
-/// Whether a block with this `register` is an object: it isn't the number 0.
-fn registers(text: Option<&[u8]>) -> bool
-    ensures { result ≡ registers (option_copied text.entry) }
-{
-    match text {
-        None => true,
-        Some(text) => match number_in(text) {
-            None => true,
-            Some(number) => number != 0,
-        },
-    }
 }
 
 /// Whether a block is an object: its type means something, and it isn't a template alone.
@@ -43,36 +38,79 @@ fn is_registered(block: &Block) -> bool
         && registers(value_in(block.directives.as_slice(), "register".as_bytes()))
 }
 
+/// Whether what the block at the place has for the directive of the values is given, and isn't what it must be.
+fn breaks_at(values: &Values, check: Check, place: usize) -> bool
+    ensures { result ≡ option_map_or (breaks check)
+        (value values.now.blocks values.now.directive place) false }
+{
+    match values.value(place) {
+        None => false,
+        Some(text) => breaks(check, text),
+    }
+}
+
+/// Whether the block at the place has an exclusion in its list for the directive of the values.
+fn excludes_at(alloc: Global, values: &Values, place: usize) -> Result<bool, AllocError>
+    ensures { IfOk result (λ excludes. excludes
+        ≡ list_any is_exclusion (list_at values.now.blocks values.now.directive place)) }
+{
+    let entries = list_at(alloc, values, place)?;
+    Ok(has_exclusion(entries.as_slice()))
+}
+
+/// Whether what the block at the place has for the directive of the values isn't what it must be.
+fn is_broken(alloc: Global, values: &Values, check: Check, place: usize) -> Result<bool, AllocError>
+    ensures { IfOk result (λ broken. broken
+        ≡ is_broken values.now.blocks place check values.now.directive) }
+{
+    match check {
+        Check::Given => Ok(values.value(place).is_none()),
+        Check::Names => excludes_at(alloc, values, place),
+        Check::Number => Ok(breaks_at(values, Check::Number, place)),
+        Check::Options(kind) => Ok(breaks_at(values, Check::Options(kind), place)),
+        Check::Criteria(kind) => Ok(breaks_at(values, Check::Criteria(kind), place)),
+        Check::Ranges => Ok(breaks_at(values, Check::Ranges, place)),
+        Check::Zero => Ok(breaks_at(values, Check::Zero, place)),
+    }
+}
+
 /// The fault of what a block of the type has for the directive of the values.
 fn column_fault(
+    alloc: Global,
     values: &Values,
     column: Column,
     kind: BlockKind,
     place: usize,
-) -> Option<ValueFault>
+) -> Result<Option<ValueFault>, AllocError>
     requires { values.now.directive ≡ directive_of column }
-    ensures { result ≡ column_fault values.now.blocks place kind column }
+    ensures { IfOk result (λ fault. fault ≡ column_fault values.now.blocks place kind column) }
 {
-    let check = check_of(column, kind)?;
-    let text = values.value(place)?;
-    check_fault(check, text)
+    let Some(check) = check_of(column, kind) else {
+        return Ok(None);
+    };
+    if is_broken(alloc, values, check, place)? {
+        Ok(Some(fault_name(check)))
+    } else {
+        Ok(None)
+    }
 }
 
 /// The same, if the block is registered.
 fn registered_fault(
+    alloc: Global,
     values: &Values,
     column: Column,
     block: &Block,
     place: usize,
-) -> Option<ValueFault>
+) -> Result<Option<ValueFault>, AllocError>
     requires { values.now.directive ≡ directive_of column }
-    ensures { result ≡ registered_fault values.now.blocks place column block.now }
+    ensures { IfOk result (λ fault. fault
+        ≡ registered_fault values.now.blocks place column block.now) }
 {
-    let fault = column_fault(values, column, block.kind, place)?;
     if is_registered(block) {
-        Some(fault)
+        column_fault(alloc, values, column, block.kind, place)
     } else {
-        None
+        Ok(None)
     }
 }
 
@@ -86,7 +124,45 @@ fn first_of_column(
 {
     let values = Values::new(alloc, templates, directive_of(column).as_bytes())?;
     for (place, block) in templates.blocks().iter().enumerate() {
-        match registered_fault(&values, column, block, place) {
+        match registered_fault(alloc, &values, column, block, place)? {
+            None => {}
+            Some(fault) => return Ok(Some(Found { place, fault })),
+        }
+    }
+    Ok(None)
+}
+
+/// The fault of a block that lacks what it must list on the side of the needs, if it is registered.
+fn side_fault(
+    alloc: Global,
+    needs: &Needs,
+    block: &Block,
+    place: usize,
+) -> Result<Option<ValueFault>, AllocError>
+    ensures { IfOk result (λ fault. fault
+        ≡ side_fault needs.now.blocks place needs.now.side block.now) }
+{
+    if !is_registered(block) {
+        return Ok(None);
+    }
+    if needs.lacks(alloc, block.kind, place)? {
+        Ok(Some(ValueFault::MissingDirective))
+    } else {
+        Ok(None)
+    }
+}
+
+/// The first block that lacks what it must list on the side.
+pub(crate) fn first_of_side(
+    alloc: Global,
+    templates: &Templates,
+    side: Side,
+) -> Result<Option<Found>, AllocError>
+    ensures { IfOk result (IsFirst (length templates.now) (side_at templates.now side)) }
+{
+    let needs = Needs::new(alloc, templates, side)?;
+    for (place, block) in templates.blocks().iter().enumerate() {
+        match side_fault(alloc, &needs, block, place)? {
             None => {}
             Some(fault) => return Ok(Some(Found { place, fault })),
         }
@@ -95,7 +171,7 @@ fn first_of_column(
 }
 
 /// Of two blocks with a fault the earlier, and the first of them where they are the same.
-fn earlier(first: Option<Found>, second: Option<Found>) -> Option<Found>
+pub(crate) fn earlier(first: Option<Found>, second: Option<Found>) -> Option<Found>
     ensures { result ≡ earlier first second }
 {
     let Some(one) = first else {

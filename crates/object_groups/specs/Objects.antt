@@ -1,18 +1,15 @@
 -- The objects of one type among blocks: what is registered, its name and its lists (chapters
 -- "Object Definitions" and "Object Inheritance").
-use Rattle.std.specs.Prelude.{◌≡◌, ℕ, Bool, false, not, ◌&&◌, ◌==◌, List, [], length, map, filter, codes, unwrap_or, Option, slice_get}
+use Rattle.std.specs.Prelude.{◌≡◌, ℕ, Bool, false, ◌&&◌, ◌==◌, List, [], length, map, filter, codes, unwrap_or, slice_get}
 use Rattle.std.specs.List.{range_with_len}
-use Rattle.std.specs.Option.{option_and_then, option_map_or}
+use Rattle.std.specs.Option.{option_map_or}
 use Rattle.object_reader.specs.declared.block.Block.{Block}
 use Rattle.object_reader.specs.declared.block.BlockKind.{BlockKind}
 use Rattle.object_reader.specs.declared.block.BlockKind.TheVariants.{Host, HostGroup, Service, ServiceGroup, Contact, ContactGroup, TimePeriod, Command}
 use Rattle.object_inheritance.specs.Inherited.{list, value}
+use Rattle.object_inheritance.specs.Registered.{registers}
 use Rattle.object_inheritance.specs.Templates.{kind_number}
-use Rattle.object_values.specs.Values.{number_in, value_in}
-
--- whether the value of a block's own `register` makes it an object: none does, and any but 0
-abbrev pub registers : Option (List ℕ) → Bool
-registers text = not (option_map_or (λ number. number == 0) (option_and_then number_in text) false)
+use Rattle.object_values.specs.Values.{value_in}
 
 -- whether a block is an object of the type
 abbrev pub is_object : BlockKind → Block → Bool

@@ -3,67 +3,32 @@
 
 ghost use Rattle.std.specs.Prelude.{◌≡◌, ◌<◌, ◌++◌, ◌∷◌, [], length, map, unwrap_or};
 ghost use Rattle.std.specs.Prelude.{All, IfOk, OnOk, if◌then◌else◌};
-ghost use Rattle.std.specs.Option.{option_copied};
 ghost use Rattle.object_groups.specs.Objects.{is_object, list_at, name_at, name_directive, names_in};
-ghost use Rattle.object_groups.specs.Objects.{objects_in, registers};
+ghost use Rattle.object_groups.specs.Objects.{objects_in};
 ghost use Rattle.object_inheritance.specs.Inherited.{value};
-ghost use Rattle.object_inheritance.specs.Templates.{kind_number};
 ghost use Rattle.object_values.specs.Values.{texts};
 
 use crate::names::Names;
 use object_inheritance::inherited::Values;
+use object_inheritance::kinds::kind_number;
+use object_inheritance::registered::registers;
 use object_inheritance::templates::Templates;
 use object_reader::block::{Block, BlockKind};
-use object_values::values::{number_in, value_in};
+use object_values::values::value_in;
 use std::alloc::{AllocError, Global};
 use std::marker::Model;
 
-/// The number of a type.
-fn kind_number(kind: BlockKind) -> u8
-    ensures { result ≡ kind_number kind }
-{
-    match kind {
-        BlockKind::Host => 0,
-        BlockKind::HostGroup => 1,
-        BlockKind::Service => 2,
-        BlockKind::ServiceGroup => 3,
-        BlockKind::Contact => 4,
-        BlockKind::ContactGroup => 5,
-        BlockKind::TimePeriod => 6,
-        BlockKind::Command => 7,
-        BlockKind::HostEscalation => 8,
-        BlockKind::ServiceEscalation => 9,
-        BlockKind::HostDependency => 10,
-        BlockKind::ServiceDependency => 11,
-        BlockKind::HostExtInfo => 12,
-        BlockKind::ServiceExtInfo => 13,
-    }
-}
-
-/// Whether a block with this `register` is an object: it isn't the number 0.
-fn registers(text: Option<&[u8]>) -> bool
-    ensures { result ≡ registers (option_copied text.entry) }
-{
-    match text {
-        None => true,
-        Some(text) => match number_in(text) {
-            None => true,
-            Some(number) => number != 0,
-        },
-    }
-}
-
 /// Whether a block is an object of the type: it isn't a template alone, with `register 0`.
-fn is_object(kind: BlockKind, block: &Block) -> bool
+pub fn is_object(kind: BlockKind, block: &Block) -> bool
     ensures { result ≡ is_object kind block.now }
 {
     kind_number(block.kind) == kind_number(kind)
         && registers(value_in(block.directives.as_slice(), "register".as_bytes()))
 }
 
-/// The directive that names an object of the type; none where such objects have no name of their own. A
+/// The directive that names an object of the type; empty where such objects have no name of their own. A
 /// service block's is the description of each of its services.
-fn name_directive(kind: BlockKind) -> &'static str
+pub fn name_directive(kind: BlockKind) -> &'static str
     ensures { result.now ≡ name_directive kind }
 {
     match kind {

@@ -3,7 +3,9 @@
 #![tactic(auto)]
 
 pub mod inherited;
+pub mod kinds;
 pub mod laws;
 mod names;
+pub mod registered;
 pub mod templates;
 mod uses;

@@ -5,37 +5,16 @@ ghost use Rattle.std.specs.Prelude.{IfOk, IfSome, OnOk};
 ghost use Rattle.std.specs.Option.{option_copied};
 ghost use Rattle.object_reader.specs.declared.block.Block.{Block};
 ghost use Rattle.object_inheritance.specs.Names.{HasFirsts};
-ghost use Rattle.object_inheritance.specs.Templates.{kind_number, template_name, template_place, used_names};
+ghost use Rattle.object_inheritance.specs.Templates.{template_name, template_place, used_names};
 ghost use Rattle.object_values.specs.Values.{texts};
 
+use crate::kinds::kind_number;
 use indexmap::IndexMap;
 use object_reader::block::{Block, BlockKind};
 use object_values::blocks::means_nothing;
 use object_values::values::{entries_in, value_in};
 use std::alloc::{AllocError, Global};
 use std::marker::Model;
-
-/// The number of a type.
-fn kind_number(kind: BlockKind) -> u8
-    ensures { result ≡ kind_number kind }
-{
-    match kind {
-        BlockKind::Host => 0,
-        BlockKind::HostGroup => 1,
-        BlockKind::Service => 2,
-        BlockKind::ServiceGroup => 3,
-        BlockKind::Contact => 4,
-        BlockKind::ContactGroup => 5,
-        BlockKind::TimePeriod => 6,
-        BlockKind::Command => 7,
-        BlockKind::HostEscalation => 8,
-        BlockKind::ServiceEscalation => 9,
-        BlockKind::HostDependency => 10,
-        BlockKind::ServiceDependency => 11,
-        BlockKind::HostExtInfo => 12,
-        BlockKind::ServiceExtInfo => 13,
-    }
-}
 
 /// The name that a block has as a template.
 pub(crate) fn template_name(block: &Block) -> Option<&[u8]>

@@ -1,2 +1,7 @@
 pub mod Hosts
 pub mod Blocks
+pub mod Limits
+pub mod Doubled
+pub mod Alike
+pub mod Unknown
+pub mod Numbers

@@ -21,7 +21,7 @@ returns-in-Some c =
     let is : x ≡ get_or blocks i x = c.block-item.is ∙ ap (λ (list : List Block). get_or list i x) c.blocks-block-items.ensures.value in (
       within,
       at-place blocks c.in_ok-values.values.blocks c.args.column i x (Some c.in-Some.fault) (slice_get_read blocks (length blocks) i x refl within is)
-          (ap (λ values. values.blocks) c.in_ok-values.ensures) (sym c.in-Some.is ∙ c.registered_fault.ensures),
+          (ap (λ values. values.blocks) c.in_ok-values.ensures) (sym c.in-Some.is ∙ c.in_ok-registered_fault.ensures),
       c.loop-place.invariant,
     )
 
@@ -35,7 +35,7 @@ loop-place-preserved c =
     let is : x ≡ get_or blocks i x = c.block-item.is ∙ ap (λ (list : List Block). get_or list i x) c.blocks-block-items.ensures.value in
     none-more (fault_at blocks c.args.column) i c.loop-place.invariant
     (at-place blocks c.in_ok-values.values.blocks c.args.column i x None (slice_get_read blocks (length blocks) i x refl within is)
-    (ap (λ values. values.blocks) c.in_ok-values.ensures) (sym c.in-None.is ∙ c.registered_fault.ensures))
+    (ap (λ values. values.blocks) c.in_ok-values.ensures) (sym c.in-None.is ∙ c.in_ok-registered_fault.ensures))
 
 pub returns : goal.returns
 returns c k low =

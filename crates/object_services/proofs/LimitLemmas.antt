@@ -1,0 +1,104 @@
+-- The hosts of the service blocks so far, and how many objects there are.
+use Rattle.std.proofs.Common.{◌≡◌, ℕ, ◌+◌, ◌<◌, ◌≤◌, Bool, true, false, cond, List, [], ◌∷◌, ◌++◌, length, map, filter, Option, Some, refl, sym, ap, subst, ◌∙◌, arith}
+use Rattle.std.specs.Prelude.{slice_get}
+use Rattle.std.specs.List.{AllZip, range_with_len, sum_by}
+use Rattle.std.specs.Option.{option_map_or}
+use Rattle.std.proofs.lemmas.List.{append-nil, length-append}
+use Rattle.std.proofs.lemmas.List.Sums.{sum_by-append, sum_by-cons}
+use Rattle.lemmas.proofs.Lists.{filter_range_more}
+use Rattle.due_model.specs.Limits.{max_objects}
+use Rattle.object_groups.specs.Objects.{is_object, is_object_at, objects_in}
+use Rattle.object_reader.specs.declared.block.Block.{Block}
+use Rattle.object_reader.specs.declared.block.BlockKind.{BlockKind}
+use Rattle.object_reader.specs.declared.block.BlockKind.TheVariants.{Host, Service}
+use Rattle.object_services.specs.Hosts.{AreHosts}
+use Rattle.object_services.specs.Limits.{AreHostLists, GiveObjects, IsFirstOver, IsSoFar, Noted, objects_below}
+
+lists-more : {X Y : Type 0} (R : X → Y → Type 0) (xs : List X) (ys : List Y) (x : X) (y : Y) → AllZip R xs ys → R x y → AllZip R (xs ++ x ∷ []) (ys ++ y ∷ [])
+lists-more R [] [] x y all more = (more, tt)
+lists-more R [] (z ∷ ys) x y all more = absurd all
+lists-more R (w ∷ xs) [] x y all more = absurd all
+lists-more R (w ∷ xs) (z ∷ ys) x y all more = (all.0, lists-more R xs ys x y all.1 more)
+
+sum-more : (lists : List (List ℕ)) (hosts : List ℕ) → sum_by length (lists ++ hosts ∷ []) ≡ sum_by length lists + length hosts
+sum-more lists hosts =
+    let all = sum_by-append length lists (hosts ∷ []) in
+    let one = sum_by-cons length hosts [] in
+    omega (arith, all, one)
+
+below-more : (blocks : List Block) (kind : BlockKind) (place : ℕ) (b : Bool) → is_object_at blocks kind place ≡ b
+    → objects_below blocks kind (place + 1) ≡ objects_below blocks kind place ++ cond b (place ∷ []) []
+below-more blocks kind place b is =
+    filter_range_more (is_object_at blocks kind) place ∙ ap (λ (c : Bool). objects_below blocks kind place ++ cond c (place ∷ []) []) is
+
+counted-more : (xs : List ℕ) (place : ℕ) (h : Bool) → length (xs ++ cond h (place ∷ []) []) ≡ length xs + cond h 1 0
+counted-more xs place true = length-append xs (place ∷ [])
+counted-more xs place false = length-append xs []
+
+-- the next block
+module _ (blocks : List Block) (place : ℕ) (old new : List (List ℕ)) (count more : ℕ) where
+  so-far : (h s : Bool) → is_object_at blocks Host place ≡ h → is_object_at blocks Service place ≡ s → IsSoFar blocks place old count → Noted blocks place s old new more
+      → IsSoFar blocks (place + 1) new (count + cond h 1 0 + more)
+  so-far h true host service before noted =
+      let hosts_more = ap length (below-more blocks Host place h host) ∙ counted-more (objects_below blocks Host place) place h in
+      let sum_is = ap (sum_by length) noted.2 ∙ sum-more old noted.0 in
+      let counted = before.counted in
+      let many = noted.3 in
+      record {
+        listed = subst (λ (places : List ℕ). AreHostLists blocks places new) (sym (below-more blocks Service place true service))
+            (subst (λ (lists : List (List ℕ)). AreHostLists blocks (objects_below blocks Service place ++ place ∷ []) lists) (sym noted.2)
+            (lists-more (AreHosts blocks) (objects_below blocks Service place) old place noted.0 before.listed noted.1));
+        counted = omega (arith, hosts_more, sum_is, counted, many);
+      }
+  so-far h false host service before noted =
+      let hosts_more = ap length (below-more blocks Host place h host) ∙ counted-more (objects_below blocks Host place) place h in
+      let sum_is = ap (sum_by length) noted.0 in
+      let counted = before.counted in
+      let many = noted.1 in
+      record {
+        listed = subst (λ (places : List ℕ). AreHostLists blocks places new) (sym (below-more blocks Service place false service ∙ append-nil (objects_below blocks Service place)))
+            (subst (λ (lists : List (List ℕ)). AreHostLists blocks (objects_below blocks Service place) lists) (sym noted.0) before.listed);
+        counted = omega (arith, hosts_more, sum_is, counted, many);
+      }
+
+-- ---- a block at its place
+
+pub object-at : (blocks : List Block) (kind : BlockKind) (place : ℕ) (x : Block) (b : Bool) → slice_get blocks place ≡ Some x → b ≡ is_object kind x → is_object_at blocks kind place ≡ b
+object-at blocks kind place x b here is = ap (λ (found : Option Block). option_map_or (is_object kind) found false) here ∙ sym is
+
+pub none-yet : (blocks : List Block) → IsSoFar blocks 0 [] 0
+none-yet blocks = record { listed = tt; counted = refl }
+
+-- the block at the place, of which both tests were made
+pub next-block : (blocks : List Block) (place : ℕ) (x : Block) (old new : List (List ℕ)) (count own more : ℕ) (h s : Bool) → slice_get blocks place ≡ Some x
+    → h ≡ is_object Host x → s ≡ is_object Service x → own ≡ cond h 1 0 → IsSoFar blocks place old count → Noted blocks place s old new more
+    → IsSoFar blocks (place + 1) new (count + own + more)
+next-block blocks place x old new count own more h s here host service one before noted =
+    subst (λ (n : ℕ). IsSoFar blocks (place + 1) new (count + n + more)) (sym one)
+    (so-far blocks place old new count more h s (object-at blocks Host place x h here host) (object-at blocks Service place x s here service) before noted)
+
+-- the first block that passes the limit
+pub first-over : (blocks : List Block) (place : ℕ) (x : Block) (old new : List (List ℕ)) (count total : ℕ) → slice_get blocks place ≡ Some x
+    → IsSoFar blocks place old count → count ≤ max_objects → IsSoFar blocks (place + 1) new total → max_objects < total → IsFirstOver blocks x.line
+first-over blocks place x old new count total here before low after over = record {
+  place = place;
+  block = x;
+  here = here;
+  at = refl;
+  before = (count, (old, before.listed, before.counted), low);
+  over = (total, (new, after.listed, after.counted), over);
+}
+
+-- all blocks
+pub all-listed : (blocks : List Block) (place : ℕ) (lists : List (List ℕ)) (count : ℕ) → place ≡ length blocks → IsSoFar blocks place lists count
+    → AreHostLists blocks (objects_in blocks Service) lists
+unfolding objects_in
+all-listed blocks place lists count end far = subst (λ (n : ℕ). AreHostLists blocks (objects_below blocks Service n) lists) end far.listed
+
+pub all-few : (blocks : List Block) (place : ℕ) (lists : List (List ℕ)) (count : ℕ) → place ≡ length blocks → IsSoFar blocks place lists count → count ≤ max_objects
+    → length (objects_in blocks Host) + sum_by length lists ≤ max_objects
+unfolding objects_in
+all-few blocks place lists count end far low =
+    let all : count ≡ length (objects_below blocks Host (length blocks)) + sum_by length lists =
+    far.counted ∙ ap (λ (n : ℕ). length (objects_below blocks Host n) + sum_by length lists) end in
+    subst (λ (n : ℕ). n ≤ max_objects) all low
