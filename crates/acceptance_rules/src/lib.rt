@@ -1,13 +1,10 @@
-//! Tests of the rules: the slow program, the deciders against it, and the world of steps. There is no code here.
+//! Tests of the rules: the slow program on one host, the deciders against it, and the world of steps. There is no
+//! code here.
 #![tactic(auto)]
 
 #[cfg(test)]
 mod comparison;
 #[cfg(test)]
-mod generated;
-#[cfg(test)]
 mod slow_program;
-#[cfg(test)]
-mod slow_rows;
 #[cfg(test)]
 mod worlds;
