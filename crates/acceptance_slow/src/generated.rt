@@ -355,7 +355,10 @@ fn due_grows(
     let all = slow_due(alloc, config, &Zone::Utc, events, object, lane)?;
     let front = slow_due(alloc, config, &Zone::Utc, some, object, lane)?;
     stand_once(rt, all.as_slice());
-    assert!(rt; all.as_slice().starts_with(front.as_slice()), "{object:?} on {lane:?}");
+    assert!(rt;
+        all.as_slice().starts_with(front.as_slice()),
+        "{object:?} on {lane:?}"
+    );
     Ok(all.len())
 }
 
@@ -442,6 +445,9 @@ fn what_was_due_stays_due(rt: HostRuntime) -> Result<(), Fail> {
         compare_seed(&rt, rt.alloc(), seed, &mut counts)?;
     }
     // On the average each configuration says several things, so the laws are tried on something.
-    assert!(&rt; counts.notices > 200 && counts.suppressions > 400, "{counts:?}");
+    assert!(&rt;
+        counts.notices > 200 && counts.suppressions > 400,
+        "{counts:?}"
+    );
     Ok(())
 }
