@@ -1,6 +1,6 @@
 //! Generated configurations and events, with services, periods, escalations, dependencies, restricted contacts,
-//! downtimes and flapping. On each, what was due or suppressed after some of the events is the front of that after all
-//! of them, and no notice stands twice, as the slow program says it.
+//! downtimes and flapping. On each, the slow program, one decider, and two, three and eight say the same; what was due or
+//! suppressed after some of the events is the front of that after all of them, and no notice stands twice.
 
 ghost use Rattle.std.specs.Prelude.{◌<◌, All, length};
 ghost use Rattle.due_model.specs.Accepted.{IsAccepted};
@@ -22,10 +22,10 @@ use std::process::Abort;
 use std::test::Fail;
 
 /// How many configurations are made.
-const SEEDS: u64 = 40;
+const SEEDS: u64 = 30;
 
 /// How many events are made for each.
-const EVENTS: u64 = 30;
+const EVENTS: u64 = 24;
 
 /// How many objects each has: two hosts, a service of each, and one more of the second.
 const OBJECTS: u16 = 5;
@@ -139,10 +139,28 @@ impl Numbers {
         }
     }
 
-    /// A period of some hours of each day.
+    /// The first period, or none. The slow program goes over the seconds to the next one of an object's period, and
+    /// over less than an hour of the first.
+    fn from_a_moment_on(&mut self) -> Option<PeriodId> {
+        if self.once_in(2) {
+            Some(PeriodId(0))
+        } else {
+            None
+        }
+    }
+
+    /// The first period: each day from a moment of its first hour on.
+    fn late(&mut self) -> Range {
+        Range {
+            start: self.below(3_600) as u32,
+            end: 86_400,
+        }
+    }
+
+    /// A period of some minutes of each day.
     fn range(&mut self) -> Range {
-        let start = self.below(43_200) as u32;
-        let end = start + 1 + self.below(43_200) as u32;
+        let start = self.below(3_600) as u32;
+        let end = start + 1 + self.below(3_600) as u32;
         Range { start, end }
     }
 
@@ -163,7 +181,7 @@ impl Numbers {
             name: "object",
             host,
             options: self.letters(),
-            period: self.period(),
+            period: self.from_a_moment_on(),
             interval: self.below(4) as u32,
             delay: self.below(2) as u32,
             contacts: self.named(),
@@ -277,7 +295,7 @@ fn objects(alloc: Global, numbers: &mut Numbers) -> Result<Vec<ObjectRow>, Alloc
 /// The configuration of a seed.
 fn config(alloc: Global, numbers: &mut Numbers) -> Result<Config, AllocError> {
     let contacts = [numbers.contact(), numbers.contact(), numbers.contact()];
-    let periods = [numbers.range(), numbers.range(), numbers.range()];
+    let periods = [numbers.late(), numbers.range(), numbers.range()];
     let objects = objects(alloc, numbers)?;
     let escalations = escalations(alloc, numbers)?;
     let dependencies = dependencies(alloc, numbers)?;
@@ -338,7 +356,10 @@ fn due_grows(
     let all = slow_due(alloc, config, &Zone::Utc, events, object, lane)?;
     let front = slow_due(alloc, config, &Zone::Utc, some, object, lane)?;
     stand_once(rt, all.as_slice());
-    assert!(rt; all.as_slice().starts_with(front.as_slice()), "{object:?} on {lane:?}");
+    assert!(rt;
+        all.as_slice().starts_with(front.as_slice()),
+        "{object:?} on {lane:?}"
+    );
     Ok(all.len())
 }
 
@@ -425,7 +446,10 @@ fn what_was_due_stays_due(rt: HostRuntime) -> Result<(), Fail> {
     for seed in 0..SEEDS {
         compare_seed(&rt, rt.alloc(), seed, &mut counts)?;
     }
-    // Each configuration says something, on the average.
-    assert!(&rt; counts.notices > 1_000 && counts.suppressions > 1_000, "{counts:?}");
+    // On the average each configuration says several things, so the laws are tried on something.
+    assert!(&rt;
+        counts.notices > 200 && counts.suppressions > 400,
+        "{counts:?}"
+    );
     Ok(())
 }
