@@ -39,7 +39,8 @@ pub fn add_messages(
     ensures { OnOk result ((settings : Object)
         → slice_get rules.now.config.now.objects object.0 ≡ Some settings
         → entries.new.items ≡ entries.old.items
-        ++ outcome_entries rules.now.config.now rules.now.zone.now object.0 settings event outcome) }
+        ++ outcome_entries rules.now.config.now rules.now.zone.now object.0 settings event
+        outcome) }
 {
     match outcome {
         Outcome::Nothing => Ok(()),
