@@ -1,6 +1,6 @@
 //! Generated configurations and events, with services, periods, escalations, dependencies, restricted contacts,
-//! downtimes and flapping. On each, the slow program, one decider, and two, three and eight say the same; what was due or
-//! suppressed after some of the events is the front of that after all of them, and no notice stands twice.
+//! downtimes and flapping. On each, the slow program, one decider, and two, three and eight say the same; what was due
+//! or suppressed after some of the events is the front of that after all of them, and no notice stands twice.
 
 ghost use Rattle.std.specs.Prelude.{◌<◌, All, length};
 ghost use Rattle.due_model.specs.Accepted.{IsAccepted};

@@ -48,7 +48,12 @@ pub(crate) struct Said {
 
 impl Said {
     /// What a decider of these objects says, lane by lane.
-    pub(crate) fn of(alloc: Global, config: &Config, events: &[Event], share: Share) -> Result<Said, Fail>
+    pub(crate) fn of(
+        alloc: Global,
+        config: &Config,
+        events: &[Event],
+        share: Share,
+    ) -> Result<Said, Fail>
         requires accepted { IsAccepted config.now }
         requires proper { All (IsProper config.now) events.now }
         requires share { IsShare share }

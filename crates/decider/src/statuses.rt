@@ -1,6 +1,7 @@
 //! The status of each object.
 
-ghost use Rattle.std.specs.Prelude.{◌≡◌, ◌+◌, ◌^◌, ◌<◌, length, IfOk, IfSome, slice_index_or};
+ghost use Rattle.std.specs.Prelude.{◌≡◌, ◌+◌, ◌^◌, ◌<◌};
+ghost use Rattle.std.specs.Prelude.{length, IfOk, IfSome, slice_index_or};
 ghost use Rattle.due_model.specs.declared.state.State.TheVariants.{Pending};
 ghost use Rattle.due_model.specs.Readings.{depth_after, flapping_after};
 ghost use Rattle.decider.specs.Statuses.{hard_by, named_by, no_statuses, status_at, status_by};

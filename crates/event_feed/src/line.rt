@@ -1,13 +1,15 @@
 //! One line of the feed.
 
-ghost use Rattle.std.specs.Prelude.{◌≡◌, ◌+◌, ◌≤◌, ◌∷◌, ◌==◌, Some, None, IfOk, IfSome, nat_le};
+ghost use Rattle.std.specs.Prelude.{◌≡◌, ◌+◌, ◌≤◌, ◌∷◌, ◌==◌};
+ghost use Rattle.std.specs.Prelude.{Some, None, IfOk, IfSome, nat_le};
 ghost use Rattle.std.specs.Prelude.{length, min, position, take_while, if◌then◌else◌};
 ghost use Rattle.std.specs.Option.{option_copied, option_map};
 ghost use Rattle.std.specs.Str.{is_utf8};
 ghost use Rattle.due_model.specs.Proper.{IsProper};
 ghost use Rattle.due_model.specs.Limits.{last_moment};
 ghost use Rattle.std.specs.Char.{is_ascii_digit};
-ghost use Rattle.event_feed.specs.Line.{bare_reading, command_named, command_of, command_reading, digits_number};
+ghost use Rattle.event_feed.specs.Line.{bare_reading, command_named, command_of};
+ghost use Rattle.event_feed.specs.Line.{command_reading, digits_number};
 ghost use Rattle.event_feed.specs.Line.{downtime_said, fields, fields_after, flapping_said, host_state_said};
 ghost use Rattle.event_feed.specs.Line.{last_reading, line_reading, object_reading, said};
 ghost use Rattle.event_feed.specs.Line.{service_reading, service_state_said, stamp_of, unknown_fault};

@@ -1,6 +1,7 @@
 //! The messages of an outcome.
 
-ghost use Rattle.std.specs.Prelude.{◌≡◌, ◌<◌, ◌≤◌, ◌++◌, All, flat_map, length, slice_get, OnOk, Some};
+ghost use Rattle.std.specs.Prelude.{◌≡◌, ◌<◌, ◌≤◌, ◌++◌, All};
+ghost use Rattle.std.specs.Prelude.{flat_map, length, slice_get, OnOk, Some};
 ghost use Rattle.due_model.specs.declared.config.Object.{Object};
 ghost use Rattle.due_model.specs.declared.notice.Outcome.TheVariants.{Sent};
 ghost use Rattle.due_model.specs.Limits.{last_moment};

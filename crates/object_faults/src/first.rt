@@ -3,7 +3,8 @@
 ghost use Rattle.std.specs.Prelude.{◌≡◌, false, length, IfOk};
 ghost use Rattle.std.specs.List.{list_any};
 ghost use Rattle.std.specs.Option.{option_map_or};
-ghost use Rattle.object_faults.specs.Columns.{column_fault, directive_of, earlier, fault_at, first_at, IsFirst};
+ghost use Rattle.object_faults.specs.Columns.{column_fault, directive_of, earlier};
+ghost use Rattle.object_faults.specs.Columns.{fault_at, first_at, IsFirst};
 ghost use Rattle.object_faults.specs.Columns.{registered_fault, side_at, side_fault};
 ghost use Rattle.object_faults.specs.Faults.{breaks, is_broken, is_registered};
 ghost use Rattle.object_groups.specs.Names.{is_exclusion};

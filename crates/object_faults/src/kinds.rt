@@ -2,7 +2,8 @@
 
 ghost use Rattle.std.specs.Prelude.{◌≡◌};
 ghost use Rattle.object_faults.specs.Kinds.{has_interval, is_contact, is_contact_group, is_dependency};
-ghost use Rattle.object_faults.specs.Kinds.{is_escalation, is_group, is_host, is_host_group, is_host_or_service};
+ghost use Rattle.object_faults.specs.Kinds.{is_escalation, is_group, is_host};
+ghost use Rattle.object_faults.specs.Kinds.{is_host_group, is_host_or_service};
 ghost use Rattle.object_faults.specs.Kinds.{is_period, is_service, is_service_dependency, is_service_group};
 ghost use Rattle.object_faults.specs.Kinds.{lists_hosts, lists_services};
 

@@ -1,6 +1,7 @@
 //! Services that two blocks give.
 
-ghost use Rattle.std.specs.Prelude.{◌≡◌, ℕ, ◌<◌, ◌^◌, ◌++◌, ◌||◌, length, map, nat_eq, filter};
+ghost use Rattle.std.specs.Prelude.{◌≡◌, ℕ, ◌<◌, ◌^◌, ◌++◌};
+ghost use Rattle.std.specs.Prelude.{◌||◌, length, map, nat_eq, filter};
 ghost use Rattle.std.specs.Prelude.{All, AllPairs, IfOk, IfSome, OnOk};
 ghost use Rattle.std.specs.List.{list_any, range_with_len};
 ghost use Rattle.std.specs.Option.{option_to_list};
