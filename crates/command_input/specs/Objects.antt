@@ -1,5 +1,5 @@
--- The object text at the head of an input, and the feed after it.
-use Rattle.std.specs.Prelude.{◌≡◌, ℕ, Bool, true, List, codes, IfSome, Option, Some, ⊤}
+-- The object text at the head of an input, and the feed after it; and the object text of a file.
+use Rattle.std.specs.Prelude.{◌≡◌, ℕ, Bool, true, List, codes, IfSome, Option, None, Some, ⊤}
 use Rattle.due_model.specs.declared.config.Config.{Config}
 use Rattle.object_resolve.specs.Text.{IsTextFault, IsTextOf}
 use Rattle.text_lines.specs.Lines.{Known}
@@ -7,22 +7,45 @@ use Rattle.text_lines.specs.Text.{rest_after, text_before}
 use Rattle.command_output.specs.declared.outcome.CommandFault.{CommandFault}
 use Rattle.command_output.specs.declared.outcome.CommandFault.TheVariants.{Objects, Unreadable, Output, NoMemory}
 
+-- where the bytes are known, the text before the mark gives this configuration, and what follows it is left to be read
+abbrev pub GivesText : (mark : Option (List ℕ)) → Config → (before after : Option (List ℕ)) → Type 0
+GivesText mark config before after = Known before after
+    (λ bytes rest. IsTextOf config (text_before mark bytes) × (rest ≡ rest_after mark bytes))
+
+-- what a fault says of that text, where the bytes are known; only a reader that can fail makes it unreadable
+abbrev pub TextFails : (can_fail : Bool) → (mark : Option (List ℕ)) → CommandFault
+    → Option (List ℕ) → Type 0
+TextFails can_fail mark (Objects fault) known =
+    IfSome known (λ bytes. IsTextFault (text_before mark bytes) fault)
+TextFails can_fail mark Unreadable known = can_fail ≡ true
+TextFails can_fail mark Output known = ⊥
+TextFails can_fail mark NoMemory known = ⊤
+
+-- ---- the text at the head of an input
+
+-- the line that ends it
+abbrev pub objects_mark : Option (List ℕ)
+objects_mark = Some (codes "%events")
+
 -- the bytes before the first line that is the mark, and those after that line
 abbrev pub objects_in : List ℕ → List ℕ
-objects_in bytes = text_before (Some (codes "%events")) bytes
+objects_in bytes = text_before objects_mark bytes
 
 abbrev pub feed_in : List ℕ → List ℕ
-feed_in bytes = rest_after (Some (codes "%events")) bytes
+feed_in bytes = rest_after objects_mark bytes
 
--- where the bytes are known, the object text gives this configuration, and the feed is left to be read
 abbrev pub GivesObjects : Config → (before after : Option (List ℕ)) → Type 0
-GivesObjects config before after =
-    Known before after (λ bytes rest. IsTextOf config (objects_in bytes) × (rest ≡ feed_in bytes))
+GivesObjects config before after = GivesText objects_mark config before after
 
--- what a fault says of the object text, where the bytes are known; only a reader that can fail makes it unreadable
 abbrev pub ObjectsFail : (can_fail : Bool) → CommandFault → Option (List ℕ) → Type 0
-ObjectsFail can_fail (Objects fault) known =
-    IfSome known (λ bytes. IsTextFault (objects_in bytes) fault)
-ObjectsFail can_fail Unreadable known = can_fail ≡ true
-ObjectsFail can_fail Output known = ⊥
-ObjectsFail can_fail NoMemory known = ⊤
+ObjectsFail can_fail fault known = TextFails can_fail objects_mark fault known
+
+-- ---- the text of a file of its own
+
+-- where its bytes are known, they give this configuration
+abbrev pub IsFileOf : Config → Option (List ℕ) → Type 0
+IsFileOf config known = IfSome known (λ text. IsTextOf config text)
+
+-- what a fault says of it
+abbrev pub FileFails : (can_fail : Bool) → CommandFault → Option (List ℕ) → Type 0
+FileFails can_fail fault known = TextFails can_fail None fault known

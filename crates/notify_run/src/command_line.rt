@@ -1,16 +1,17 @@
 //! The command line: what `notify-run` can be asked, and what its words ask.
 
-ghost use Rattle.std.specs.Prelude.{◌≡◌, codes, IfOk, IfSome, Some};
-ghost use Rattle.clap.specs.Words.{app_of, subcommand_name_of};
+ghost use Rattle.std.specs.Prelude.{◌≡◌, codes, false, IfOk, IfSome, is_some, Some, true};
+ghost use Rattle.clap.specs.Words.{app_of, rule_of, subcommand_name_of};
 ghost use Rattle.notify_run.specs.CommandLine.{program_words, replay_words, request_name};
-ghost use Rattle.notify_run.specs.CommandLine.{trace_words};
+ghost use Rattle.notify_run.specs.CommandLine.{text_option, trace_words, with_zone};
 
+use crate::zone::ZoneWords;
 use clap::{Arg, ArgMatches, Command, value_parser};
 use std::alloc::{AllocError, Global};
 use world_steps::Settings;
 
 /// What `notify-run --version` says after the name.
-const VERSION: &str = "0.2.0";
+const VERSION: &str = "0.3.0";
 
 /// What `notify-run --help` says after its commands.
 const STATUSES: &str = "\
@@ -32,8 +33,10 @@ writes to standard output what would have been sent, line by line of the feed:
   C;event;moment;object;kind;state;number;contact;filter   a contact that was refused
   R;line;fault                                             a refused line of the feed
 
-Times are UTC. The feed is read as it comes, and what an event adds is written before
-more input is waited for, so that `tail -f feed | notify-run replay` follows a feed.";
+With `--objects` the object text is that file's, and standard input is the feed alone.
+Times are UTC, unless `--zone` or `--zone-file` gives a zone. The feed is read as it comes,
+and what an event adds is written before more input is waited for, so that
+`tail -f feed | notify-run replay --objects site.cfg` follows a feed.";
 
 /// What `notify-run trace --help` says.
 const TRACE: &str = "\
@@ -62,22 +65,68 @@ A lane is named by its command: one that a contact lists. Standard output gets
   E;line;NotEnabled                                        a step that can't be done
   L;lane;object;taken;hand;undelivered;queue;outbox        at the end, what the lane holds of the object
 
-where each list is `event:contact`, separated by commas, or `-`.";
+where each list is `event:contact`, separated by commas, or `-`. Times are UTC, unless
+`--zone` or `--zone-file` gives a zone.";
 
 /// What the program is asked to do.
 #[derive(Clone, Copy, Debug, PartialEq, Eq)]
-pub enum Request {
-    Replay,
-    Trace(Settings),
+pub enum Request<'a> {
+    /// `replay`, with the path of the object text, where it is a file's.
+    Replay {
+        objects: Option<&'a str>,
+        zone: ZoneWords<'a>,
+    },
+    /// `trace`.
+    Trace {
+        settings: Settings,
+        zone: ZoneWords<'a>,
+    },
 }
 
-/// The command `replay`, which has no options yet.
-fn replay_command<'a>(alloc: Global) -> Command<'a>
-    ensures words { app_of result ≡ replay_words }
+/// An option with a text: `--NAME VALUE`.
+fn text_option<'a>(alloc: Global, name: &'a str, value: &'a str, help: &'a str) -> Arg<'a>
+    ensures rule { rule_of result ≡ text_option name.entry.now }
+    ensures local { result.global ≡ false }
 {
-    Command::new(alloc, "replay")
+    Arg::new(alloc, name).long(name).value_name(value).help(help)
+}
+
+/// A command with the two options that give a zone.
+fn with_zone<'a>(alloc: Global, command: Command<'a>) -> Result<Command<'a>, AllocError>
+    ensures words { IfOk result (λ made. app_of made ≡ with_zone (app_of command.entry)) }
+{
+    let rule = text_option(
+        alloc,
+        "zone",
+        "RULE",
+        "The zone of local times, as a POSIX rule, such as EST5EDT,M3.2.0,M11.1.0",
+    );
+    let file = text_option(
+        alloc,
+        "zone-file",
+        "FILE",
+        "The zone of local times, as a zone file (TZif)",
+    );
+    let ruled = command.arg(rule)?;
+    let made = ruled.arg(file)?;
+    Ok(made)
+}
+
+/// The command `replay` and its options.
+fn replay_command<'a>(alloc: Global) -> Result<Command<'a>, AllocError>
+    ensures words { IfOk result (λ command. app_of command ≡ replay_words) }
+{
+    let objects = text_option(
+        alloc,
+        "objects",
+        "FILE",
+        "The file with the object text; standard input is then the feed",
+    );
+    let bare = Command::new(alloc, "replay")
         .about("What would have been sent, from object text and a feed of events")
-        .long_about(REPLAY)
+        .long_about(REPLAY);
+    let filed = bare.arg(objects)?;
+    with_zone(alloc, filed)
 }
 
 /// The command `trace` and its options.
@@ -102,9 +151,10 @@ fn trace_command<'a>(alloc: Global) -> Result<Command<'a>, AllocError>
         .value_parser(value_parser!(u8).range(1..=10))
         .default_value("3")
         .help("How often a message is tried, 1 to 10");
-    Command::new(alloc, "trace")
+    let bare = Command::new(alloc, "trace")
         .about("The engine's design at work, step by step, in an order that you choose")
-        .long_about(TRACE)
+        .long_about(TRACE);
+    with_zone(alloc, bare)?
         .arg(deciders)?
         .arg(queue)?
         .arg(tries)
@@ -122,7 +172,7 @@ pub fn command<'a>(alloc: Global) -> Result<Command<'a>, AllocError>
         .disable_help_subcommand(true)
         .subcommand_required(true)
         .arg_required_else_help(true)
-        .subcommand(replay_command(alloc))?
+        .subcommand(replay_command(alloc)?)?
         .subcommand(trace_command(alloc)?)
 }
 
@@ -135,16 +185,33 @@ fn settings_of(options: &ArgMatches<'_>) -> Option<Settings> {
     Settings::new(deciders, queue, tries)
 }
 
+/// The words that give a zone.
+fn zone_words<'a>(options: &ArgMatches<'a>) -> ZoneWords<'a> {
+    ZoneWords {
+        rule: options.get_str("zone"),
+        file: options.get_str("zone-file"),
+    }
+}
+
 /// What a command line that was read asks.
-pub fn request_of(matches: &ArgMatches<'_>) -> Option<Request>
+pub fn request_of<'a>(matches: &ArgMatches<'a>) -> Option<Request<'a>>
     ensures named { IfSome result (λ request.
         subcommand_name_of matches.now ≡ Some (request_name request)) }
     ensures replay { subcommand_name_of matches.now ≡ Some (codes "replay")
-        → result ≡ Some Request.Replay }
+        → is_some result ≡ true }
 {
     match matches.subcommand() {
-        Some(("replay", _)) => Some(Request::Replay),
-        Some(("trace", options)) => settings_of(options).map(Request::Trace),
+        Some(("replay", options)) => Some(Request::Replay {
+            objects: options.get_str("objects"),
+            zone: zone_words(options),
+        }),
+        Some(("trace", options)) => match settings_of(options) {
+            Some(settings) => Some(Request::Trace {
+                settings,
+                zone: zone_words(options),
+            }),
+            None => None,
+        },
         _ => None,
     }
 }

@@ -14,8 +14,8 @@ use Rattle.command_output.specs.declared.outcome.CommandFault.{CommandFault}
 use Rattle.command_output.specs.declared.outcome.CommandFault.TheVariants.{Objects, Unreadable, Output, NoMemory}
 use Rattle.command_output.specs.declared.outcome.Ending.{Ending}
 use Rattle.command_output.specs.Outcome.{IsWriteFault, fault_of}
-use Rattle.command_input.specs.Objects.{GivesObjects, ObjectsFail, feed_in, objects_in}
-use Rattle.replay.specs.Replay.{FailsWith, Reports}
+use Rattle.command_input.specs.Objects.{FileFails, GivesObjects, IsFileOf, ObjectsFail, feed_in, objects_in}
+use Rattle.replay.specs.Replay.{FailsOf, FailsWith, Reports, ReportsOf}
 use Rattle.replay.specs.Report.{WritesReport, WritesReportFront}
 
 -- nothing is held at first
@@ -106,3 +106,69 @@ refused_input can_fail zone known start fault held begins h =
 pub no_memory : (can_fail : Bool) (zone : Zone) (known held : Option (List ℕ)) → IfSome known (λ bytes. FailsWith can_fail bytes zone NoMemory held held)
 no_memory can_fail zone None held = tt
 no_memory can_fail zone (Some bytes) held = inl (keeps_same held)
+
+-- ---- where the object text and the feed are two inputs
+
+given_by : (can_fail : Bool) (c : Config) (reading : Reading) (given : List Answer) (bytes : List ℕ) → to_come reading ≡ Some bytes
+    → IfSome (to_come reading) (λ after. AreGiven can_fail given (answers c.objects 0 0 (pieces after)) 0 (pieces after)) → AreGiven can_fail given (answers c.objects 0 0 (pieces bytes)) 0 (pieces bytes)
+given_by can_fail c reading given bytes is k = subst (λ (known : Option (List ℕ)). IfSome known (λ after. AreGiven can_fail given (answers c.objects 0 0 (pieces after)) 0 (pieces after))) is k
+
+module _ (can_fail : Bool) (c c' : Config) (zone zone' : Zone) (texts known : Option (List ℕ)) (reading : Reading) (feed : Feed) (r : Result Ending CommandFault) (old new : Option (List ℕ))
+    (begins : to_come reading ≡ prepend_known [] known) (is : feed ≡ feed_of reading 0 0 None) (of : IsFileOf c texts) (e : c' ≡ c) (f : zone' ≡ zone) where
+  come : to_come reading ≡ known
+  come = begins ∙ nothing_held known
+
+  pub report_of_files : IfOk r (λ ending. WritesReport can_fail c' zone' feed ending old new)
+      → IfSome texts (λ text. IfSome known (λ bytes. IfOk r (λ ending. ReportsOf can_fail text bytes zone ending old new)))
+  report_of_files h = by texts known of come
+    where
+      written : IfOk r (λ ending. WritesReport can_fail c zone (feed_of reading 0 0 None) ending old new)
+      written = subst (λ (t : Config × Zone × Feed). IfOk r (λ ending. WritesReport can_fail t.0 t.1 t.2 ending old new)) (same_all c c' zone zone' feed (feed_of reading 0 0 None) e f is) h
+
+      by : (texts known : Option (List ℕ)) → IsFileOf c texts → to_come reading ≡ known
+          → IfSome texts (λ text. IfSome known (λ bytes. IfOk r (λ ending. ReportsOf can_fail text bytes zone ending old new)))
+      by None known of come = tt
+      by (Some text) None of come = tt
+      by (Some text) (Some bytes) of come =
+          IfOk-weaker r (λ ending. WritesReport can_fail c zone (feed_of reading 0 0 None) ending old new) (λ ending. ReportsOf can_fail text bytes zone ending old new)
+          (λ ending all. (c, all.0, of, given_by can_fail c reading all.0 bytes come all.1, all.2, all.3)) written
+
+  pub fault_of_files : (text_can_fail : Bool) → WritesReportFront can_fail c' zone' feed old new → IfErr r (λ fault. IsWriteFault fault)
+      → IfSome texts (λ text. IfSome known (λ bytes. IfErr r (λ fault. FailsOf text_can_fail can_fail text bytes zone fault old new)))
+  fault_of_files text_can_fail h w = by texts known r of come w
+    where
+      front : WritesReportFront can_fail c zone (feed_of reading 0 0 None) old new
+      front = subst (λ (t : Config × Zone × Feed). WritesReportFront can_fail t.0 t.1 t.2 old new) (same_all c c' zone zone' feed (feed_of reading 0 0 None) e f is) h
+
+      each : (text bytes : List ℕ) (fault : CommandFault) → IsTextOf c text → to_come reading ≡ Some bytes → IsWriteFault fault → FailsOf text_can_fail can_fail text bytes zone fault old new
+      each text bytes (Objects fault) of come w = absurd w
+      each text bytes Unreadable of come w = absurd w
+      each text bytes Output of come w = (c, front.0, of, given_by can_fail c reading front.0 bytes come front.1, front.2)
+      each text bytes NoMemory of come w = inr (c, front.0, of, given_by can_fail c reading front.0 bytes come front.1, front.2)
+
+      by : (texts known : Option (List ℕ)) (r : Result Ending CommandFault) → IsFileOf c texts → to_come reading ≡ known → IfErr r (λ fault. IsWriteFault fault)
+          → IfSome texts (λ text. IfSome known (λ bytes. IfErr r (λ fault. FailsOf text_can_fail can_fail text bytes zone fault old new)))
+      by None known r of come w = tt
+      by (Some text) None r of come w = tt
+      by (Some text) (Some bytes) (Ok ending) of come w = tt
+      by (Some text) (Some bytes) (Err fault) of come w = each text bytes fault of come w
+
+-- the object text gives no configuration, and nothing was written
+file_by : (text_can_fail can_fail : Bool) (zone : Zone) (text bytes : List ℕ) (fault : CommandFault) (held : Option (List ℕ)) → FileFails text_can_fail fault (Some text)
+    → FailsOf text_can_fail can_fail text bytes zone fault held held
+file_by text_can_fail can_fail zone text bytes (Objects fault) held h = (h, keeps_same held)
+file_by text_can_fail can_fail zone text bytes Unreadable held h = (keeps_same held, h)
+file_by text_can_fail can_fail zone text bytes Output held h = absurd h
+file_by text_can_fail can_fail zone text bytes NoMemory held h = inl (keeps_same held)
+
+pub refused_file : (text_can_fail can_fail : Bool) (zone : Zone) (texts known : Option (List ℕ)) (fault : CommandFault) (held : Option (List ℕ)) → FileFails text_can_fail fault texts
+    → IfSome texts (λ text. IfSome known (λ bytes. FailsOf text_can_fail can_fail text bytes zone fault held held))
+refused_file text_can_fail can_fail zone None known fault held h = tt
+refused_file text_can_fail can_fail zone (Some text) None fault held h = tt
+refused_file text_can_fail can_fail zone (Some text) (Some bytes) fault held h = file_by text_can_fail can_fail zone text bytes fault held h
+
+pub no_memory_for_files : (text_can_fail can_fail : Bool) (zone : Zone) (texts known held : Option (List ℕ))
+    → IfSome texts (λ text. IfSome known (λ bytes. FailsOf text_can_fail can_fail text bytes zone NoMemory held held))
+no_memory_for_files text_can_fail can_fail zone None known held = tt
+no_memory_for_files text_can_fail can_fail zone (Some text) None held = tt
+no_memory_for_files text_can_fail can_fail zone (Some text) (Some bytes) held = inl (keeps_same held)

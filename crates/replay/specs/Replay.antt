@@ -19,27 +19,46 @@ AreOfFeed can_fail config feed given =
     AreGiven can_fail given (answers config.objects 0 0 (pieces feed)) 0 (pieces feed)
 
 -- What was written is the report of the feed for the configuration of the object text, and the reading ended so.
-abbrev pub Reports : (can_fail : Bool) → List ℕ → Zone → Ending → (old new : Option (List ℕ))
-    → Type 0
-Reports can_fail bytes zone ending old new =
-    (config : Config) × (given : List Answer) × IsTextOf config (objects_in bytes)
-    × AreOfFeed can_fail config (feed_in bytes) given × (ending ≡ ending_after [] given)
+abbrev pub ReportsOf : (can_fail : Bool) → (objects feed : List ℕ) → Zone → Ending
+    → (old new : Option (List ℕ)) → Type 0
+ReportsOf can_fail objects feed zone ending old new =
+    (config : Config) × (given : List Answer) × IsTextOf config objects
+    × AreOfFeed can_fail config feed given × (ending ≡ ending_after [] given)
     × Writes old new (report_text config zone given)
 
 -- what was written is a front of such a report
-abbrev pub ReportsFront : (can_fail : Bool) → List ℕ → Zone → (old new : Option (List ℕ)) → Type 0
-ReportsFront can_fail bytes zone old new =
-    (config : Config) × (given : List Answer) × IsTextOf config (objects_in bytes)
-    × AreOfFeed can_fail config (feed_in bytes) given
+abbrev pub ReportsFrontOf : (can_fail : Bool) → (objects feed : List ℕ) → Zone
+    → (old new : Option (List ℕ)) → Type 0
+ReportsFrontOf can_fail objects feed zone old new =
+    (config : Config) × (given : List Answer) × IsTextOf config objects
+    × AreOfFeed can_fail config feed given
     × WritesFront old new (report_text config zone given)
 
 -- What a fault says. Where the object text is refused or can't be read nothing was written; where the output failed a
 -- front of the report, and where memory ran out that, or nothing. Only a reader that can fail makes the text unreadable.
+abbrev pub FailsOf : (text_can_fail can_fail : Bool) → (objects feed : List ℕ) → Zone
+    → CommandFault → (old new : Option (List ℕ)) → Type 0
+FailsOf text_can_fail can_fail objects feed zone (Objects fault) old new =
+    IsTextFault objects fault × Keeps old new
+FailsOf text_can_fail can_fail objects feed zone Unreadable old new =
+    Keeps old new × (text_can_fail ≡ true)
+FailsOf text_can_fail can_fail objects feed zone Output old new =
+    ReportsFrontOf can_fail objects feed zone old new
+FailsOf text_can_fail can_fail objects feed zone NoMemory old new =
+    Keeps old new ⊎ ReportsFrontOf can_fail objects feed zone old new
+
+-- ---- of one input, which has the object text, a mark, and the feed
+
+abbrev pub Reports : (can_fail : Bool) → List ℕ → Zone → Ending → (old new : Option (List ℕ))
+    → Type 0
+Reports can_fail bytes zone ending old new =
+    ReportsOf can_fail (objects_in bytes) (feed_in bytes) zone ending old new
+
+abbrev pub ReportsFront : (can_fail : Bool) → List ℕ → Zone → (old new : Option (List ℕ)) → Type 0
+ReportsFront can_fail bytes zone old new =
+    ReportsFrontOf can_fail (objects_in bytes) (feed_in bytes) zone old new
+
 abbrev pub FailsWith : (can_fail : Bool) → List ℕ → Zone → CommandFault
     → (old new : Option (List ℕ)) → Type 0
-FailsWith can_fail bytes zone (Objects fault) old new =
-    IsTextFault (objects_in bytes) fault × Keeps old new
-FailsWith can_fail bytes zone Unreadable old new = Keeps old new × (can_fail ≡ true)
-FailsWith can_fail bytes zone Output old new = ReportsFront can_fail bytes zone old new
-FailsWith can_fail bytes zone NoMemory old new =
-    Keeps old new ⊎ ReportsFront can_fail bytes zone old new
+FailsWith can_fail bytes zone fault old new =
+    FailsOf can_fail can_fail (objects_in bytes) (feed_in bytes) zone fault old new

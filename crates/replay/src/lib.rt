@@ -2,12 +2,12 @@
 #![tactic(auto)]
 
 ghost use Rattle.std.specs.Prelude.{◌≡◌, IfErr, IfOk, IfSome};
-ghost use Rattle.replay.specs.Replay.{FailsWith, Reports};
+ghost use Rattle.replay.specs.Replay.{FailsOf, FailsWith, Reports, ReportsOf};
 ghost use Rattle.due_model.specs.declared.zone.Zone.{Zone};
 
 mod report;
 
-use command_input::read_objects;
+use command_input::{read_object_file, read_objects};
 use command_output::{CommandFault, Ending};
 use due_model::zone::Zone;
 use report::Report;
@@ -51,6 +51,28 @@ pub fn replay_in<R: Input + Drop, W: Write>(
 {
     let mut lines = LineReader::new(alloc, reader)?;
     let config = read_objects(alloc, &mut lines)?;
+    let mut report = Report::new(alloc, &config, zone, lines)?;
+    report.write(writer)
+}
+
+/// The same, where the object text is one input, all of it, and the feed another. The feed isn't read before the object
+/// text is accepted.
+pub fn replay_files<O: Input + Drop, R: Input + Drop, W: Write>(
+    alloc: Global,
+    zone: &Zone,
+    objects: O,
+    feed: R,
+    writer: &mut W,
+) -> Result<Ending, CommandFault>
+    ensures report { IfSome (O.remaining objects) (λ text. IfSome (R.remaining feed) (λ bytes.
+        IfOk result (λ ending. ReportsOf R.can_fail text bytes zone.now ending
+        (W.contents writer.old) (W.contents writer.new)))) }
+    ensures fault { IfSome (O.remaining objects) (λ text. IfSome (R.remaining feed) (λ bytes.
+        IfErr result (λ fault. FailsOf O.can_fail R.can_fail text bytes zone.now fault
+        (W.contents writer.old) (W.contents writer.new)))) }
+{
+    let config = read_object_file(alloc, objects)?;
+    let lines = LineReader::new(alloc, feed)?;
     let mut report = Report::new(alloc, &config, zone, lines)?;
     report.write(writer)
 }

@@ -2,6 +2,7 @@
 use Rattle.std.proofs.Common.{◌≡◌, ℕ, Bool, true, false, List, [], ◌++◌, length, replicate, Option, None, Some, IfSome, refl, sym, ap, subst, ◌∙◌, append_assoc}
 use Rattle.std.proofs.lemmas.List.{append-nil}
 use Rattle.due_model.specs.declared.config.Config.{Config}
+use Rattle.due_model.specs.declared.zone.Zone.{Zone}
 use Rattle.due_model.specs.declared.event.Event.{Event}
 use Rattle.event_feed.specs.Feed.{Answer, Feed, answers_from, feed_of}
 use Rattle.text_lines.specs.LineReader.{Reading, to_come}
@@ -60,15 +61,15 @@ state_of_parts run events world e p w =
     ∙ ap (λ (n : ℕ). record { events = events; posted = n; world = world_state run.world }) p
     ∙ ap (λ (v : WorldState). record { events = events; posted = 0; world = v }) w
 
-module _ (can_fail : Bool) (c : Config) (settings : Settings) (run0 run1 : Run) (feed0 : Feed) (source : Reading) (known : Option (List ℕ)) (after : AfterFeed) (ending : Ending)
+module _ (can_fail : Bool) (c : Config) (zone : Zone) (settings : Settings) (run0 run1 : Run) (feed0 : Feed) (source : Reading) (known : Option (List ℕ)) (after : AfterFeed) (ending : Ending)
     (w0 w1 w2 w3 : Option (List ℕ)) (held0 held1 held2 : List ℕ)
     (same : run0.config.now ≡ c) (fresh : feed_state run0 held0 ≡ no_feed) (is : feed0 ≡ feed_of source 0 0 None)
-    (one : run1.config.now ≡ c) (many : run1.deciders ≡ settings.deciders) (setup : world_setup run1.world ≡ trace_setup c settings)
-    (posted : run1.posted ≡ 0) (world : world_state run1.world ≡ new_world (trace_setup c settings) (replicate (length c.lanes) true))
+    (one : run1.config.now ≡ c) (many : run1.deciders ≡ settings.deciders) (setup : world_setup run1.world ≡ trace_setup c zone settings)
+    (posted : run1.posted ≡ 0) (world : world_state run1.world ≡ new_world (trace_setup c zone settings) (replicate (length c.lanes) true))
     (flushed : Leaves w2 w3 held2 []) where
   traced : (bytes rest : List ℕ) → ReadsFeed can_fail run0 feed0 bytes after run1 rest w0 w1 held0 held1
       → WritesEnd can_fail run1.config.now run1.deciders (world_setup run1.world) (run_state run1) run1.is_over after rest ending w1 w2 held1 held2
-      → TracesFeed can_fail c settings bytes ending w0 w3
+      → TracesFeed can_fail c zone settings bytes ending w0 w3
   traced bytes rest h k =
       let given : List Answer = h.0 in
       let f : FeedState = after_answers no_feed given in
@@ -76,20 +77,20 @@ module _ (can_fail : Bool) (c : Config) (settings : Settings) (run0 run1 : Run) 
       let ends : FeedEnds can_fail (answers_from c.objects (feed_of source 0 0 None) bytes) 0 bytes after given rest =
       subst (λ (x : Feed). FeedEnds can_fail (answers_from c.objects x bytes) x.line bytes after given rest) is
       (subst (λ (x : Config). FeedEnds can_fail (answers_from x.objects feed0 bytes) feed0.line bytes after given rest) same h.1) in
-      let done : EndsTrace can_fail c settings.deciders (trace_setup c settings) (start_with c settings f) f.over after rest ending k.0 =
-      subst (λ (x : Config). EndsTrace can_fail x settings.deciders (trace_setup c settings) (start_with c settings f) f.over after rest ending k.0) one
-      (subst (λ (x : ℕ). EndsTrace can_fail run1.config.now x (trace_setup c settings) (start_with c settings f) f.over after rest ending k.0) many
-      (subst (λ (x : Setup). EndsTrace can_fail run1.config.now run1.deciders x (start_with c settings f) f.over after rest ending k.0) setup
+      let done : EndsTrace can_fail c settings.deciders (trace_setup c zone settings) (start_with c zone settings f) f.over after rest ending k.0 =
+      subst (λ (x : Config). EndsTrace can_fail x settings.deciders (trace_setup c zone settings) (start_with c zone settings f) f.over after rest ending k.0) one
+      (subst (λ (x : ℕ). EndsTrace can_fail run1.config.now x (trace_setup c zone settings) (start_with c zone settings f) f.over after rest ending k.0) many
+      (subst (λ (x : Setup). EndsTrace can_fail run1.config.now run1.deciders x (start_with c zone settings f) f.over after rest ending k.0) setup
       (subst (λ (x : RunState). EndsTrace can_fail run1.config.now run1.deciders (world_setup run1.world) x f.over after rest ending k.0)
-      (state_of_parts run1 f.events (new_world (trace_setup c settings) (replicate (length c.lanes) true)) has.events posted world)
+      (state_of_parts run1 f.events (new_world (trace_setup c zone settings) (replicate (length c.lanes) true)) has.events posted world)
       (subst (λ (x : Bool). EndsTrace can_fail run1.config.now run1.deciders (world_setup run1.world) (run_state run1) x after rest ending k.0) has.over k.1)))) in
       (after, given, rest, k.0, ends, done, whole w0 w1 w2 w3 f.text held1 k.0 held2 has.text k.2 flushed)
 
   pub feed_traced : Known feed0.bytes known (λ bytes rest. ReadsFeed can_fail run0 feed0 bytes after run1 rest w0 w1 held0 held1)
       → IfSome known (λ rest. WritesEnd can_fail run1.config.now run1.deciders (world_setup run1.world) (run_state run1) run1.is_over after rest ending w1 w2 held1 held2)
-      → IfSome (to_come source) (λ bytes. TracesFeed can_fail c settings bytes ending w0 w3)
+      → IfSome (to_come source) (λ bytes. TracesFeed can_fail c zone settings bytes ending w0 w3)
   feed_traced h k =
-      subst (λ (x : Feed). IfSome x.bytes (λ bytes. TracesFeed can_fail c settings bytes ending w0 w3)) is
+      subst (λ (x : Feed). IfSome x.bytes (λ bytes. TracesFeed can_fail c zone settings bytes ending w0 w3)) is
       (known_last feed0.bytes known (λ bytes rest. ReadsFeed can_fail run0 feed0 bytes after run1 rest w0 w1 held0 held1)
       (λ rest. WritesEnd can_fail run1.config.now run1.deciders (world_setup run1.world) (run_state run1) run1.is_over after rest ending w1 w2 held1 held2)
-      (λ bytes. TracesFeed can_fail c settings bytes ending w0 w3) traced h k)
+      (λ bytes. TracesFeed can_fail c zone settings bytes ending w0 w3) traced h k)

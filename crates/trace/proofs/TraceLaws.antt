@@ -3,6 +3,7 @@ use Rattle.std.proofs.Common.{◌≡◌, ℕ, Bool, true, List, [], Option, None
 use Rattle.std.specs.Io.KnownBytes.{Keeps, prepend_known}
 use Rattle.std.proofs.lemmas.Result.{IfOk-weaker}
 use Rattle.due_model.specs.declared.config.Config.{Config}
+use Rattle.due_model.specs.declared.zone.Zone.{Zone}
 use Rattle.object_resolve.specs.Text.{IsTextOf}
 use Rattle.text_lines.specs.LineReader.{Reading, to_come}
 use Rattle.steps.specs.declared.settings.Settings.{Settings}
@@ -11,7 +12,7 @@ use Rattle.command_output.specs.declared.outcome.CommandFault.TheVariants.{Objec
 use Rattle.command_output.specs.declared.outcome.Ending.{Ending}
 use Rattle.command_output.specs.Outcome.{IsWriteFault}
 use Rattle.command_input.specs.Objects.{GivesObjects, ObjectsFail, objects_in}
-use Rattle.trace.specs.Trace.{FailsWith, Traces, TracesFeed}
+use Rattle.trace.specs.Trace.{FailsWith, TracesFeed, TracesIn}
 
 -- nothing is held at first
 nothing_held : (known : Option (List ℕ)) → prepend_known [] known ≡ known
@@ -23,25 +24,25 @@ keeps_same : (known : Option (List ℕ)) → Keeps known known
 keeps_same None = tt
 keeps_same (Some bytes) = refl
 
-traces_known : (can_fail : Bool) (c : Config) (settings : Settings) (bytes : List ℕ) (rest : Option (List ℕ)) (ending : Ending) (old new : Option (List ℕ)) → GivesObjects c (Some bytes) rest
-    → IfSome rest (λ feed. TracesFeed can_fail c settings feed ending old new) → Traces can_fail settings bytes ending old new
-traces_known can_fail c settings bytes None ending old new of h = absurd of
-traces_known can_fail c settings bytes (Some rest) ending old new of h = (c, of.0, subst (λ (feed : List ℕ). TracesFeed can_fail c settings feed ending old new) of.1 h)
+traces_known : (can_fail : Bool) (c : Config) (zone : Zone) (settings : Settings) (bytes : List ℕ) (rest : Option (List ℕ)) (ending : Ending) (old new : Option (List ℕ)) → GivesObjects c (Some bytes) rest
+    → IfSome rest (λ feed. TracesFeed can_fail c zone settings feed ending old new) → TracesIn can_fail zone settings bytes ending old new
+traces_known can_fail c zone settings bytes None ending old new of h = absurd of
+traces_known can_fail c zone settings bytes (Some rest) ending old new of h = (c, of.0, subst (λ (feed : List ℕ). TracesFeed can_fail c zone settings feed ending old new) of.1 h)
 
-traces_by : (can_fail : Bool) (c : Config) (settings : Settings) (known : Option (List ℕ)) (reading : Reading) (r : Result Ending CommandFault) (old new : Option (List ℕ))
-    → GivesObjects c known (to_come reading) → IfOk r (λ ending. IfSome (to_come reading) (λ feed. TracesFeed can_fail c settings feed ending old new))
-    → IfSome known (λ bytes. IfOk r (λ ending. Traces can_fail settings bytes ending old new))
-traces_by can_fail c settings None reading r old new of h = tt
-traces_by can_fail c settings (Some bytes) reading r old new of h =
-    IfOk-weaker r (λ ending. IfSome (to_come reading) (λ feed. TracesFeed can_fail c settings feed ending old new)) (λ ending. Traces can_fail settings bytes ending old new)
-    (λ ending all. traces_known can_fail c settings bytes (to_come reading) ending old new of all) h
+traces_by : (can_fail : Bool) (c : Config) (zone : Zone) (settings : Settings) (known : Option (List ℕ)) (reading : Reading) (r : Result Ending CommandFault) (old new : Option (List ℕ))
+    → GivesObjects c known (to_come reading) → IfOk r (λ ending. IfSome (to_come reading) (λ feed. TracesFeed can_fail c zone settings feed ending old new))
+    → IfSome known (λ bytes. IfOk r (λ ending. TracesIn can_fail zone settings bytes ending old new))
+traces_by can_fail c zone settings None reading r old new of h = tt
+traces_by can_fail c zone settings (Some bytes) reading r old new of h =
+    IfOk-weaker r (λ ending. IfSome (to_come reading) (λ feed. TracesFeed can_fail c zone settings feed ending old new)) (λ ending. TracesIn can_fail zone settings bytes ending old new)
+    (λ ending all. traces_known can_fail c zone settings bytes (to_come reading) ending old new of all) h
 
-pub traces_of_input : (can_fail : Bool) (c : Config) (settings : Settings) (known : Option (List ℕ)) (start reading : Reading) (r : Result Ending CommandFault) (old new : Option (List ℕ))
+pub traces_of_input : (can_fail : Bool) (c : Config) (zone : Zone) (settings : Settings) (known : Option (List ℕ)) (start reading : Reading) (r : Result Ending CommandFault) (old new : Option (List ℕ))
     → to_come start ≡ prepend_known [] known → GivesObjects c (to_come start) (to_come reading)
-    → IfOk r (λ ending. IfSome (to_come reading) (λ feed. TracesFeed can_fail c settings feed ending old new))
-    → IfSome known (λ bytes. IfOk r (λ ending. Traces can_fail settings bytes ending old new))
-traces_of_input can_fail c settings known start reading r old new begins of h =
-    traces_by can_fail c settings known reading r old new (subst (λ (k : Option (List ℕ)). GivesObjects c k (to_come reading)) (begins ∙ nothing_held known) of) h
+    → IfOk r (λ ending. IfSome (to_come reading) (λ feed. TracesFeed can_fail c zone settings feed ending old new))
+    → IfSome known (λ bytes. IfOk r (λ ending. TracesIn can_fail zone settings bytes ending old new))
+traces_of_input can_fail c zone settings known start reading r old new begins of h =
+    traces_by can_fail c zone settings known reading r old new (subst (λ (k : Option (List ℕ)). GivesObjects c k (to_come reading)) (begins ∙ nothing_held known) of) h
 
 accepted : (can_fail : Bool) (c : Config) (bytes : List ℕ) (rest : Option (List ℕ)) → GivesObjects c (Some bytes) rest → IsTextOf c (objects_in bytes)
 accepted can_fail c bytes None of = absurd of

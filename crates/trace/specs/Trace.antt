@@ -2,6 +2,7 @@
 use Rattle.std.specs.Prelude.{◌≡◌, ℕ, Bool, true, false, List, [], ◌++◌, length, replicate, ◌⊎◌, Option}
 use Rattle.std.specs.Io.KnownBytes.{Keeps}
 use Rattle.due_model.specs.declared.config.Config.{Config}
+use Rattle.due_model.specs.declared.zone.Zone.{Zone}
 use Rattle.due_model.specs.declared.zone.Zone.TheVariants.{Utc}
 use Rattle.event_feed.specs.Feed.{Answer, answers}
 use Rattle.object_resolve.specs.Text.{IsTextFault, IsTextOf}
@@ -62,14 +63,14 @@ WritesEnd can_fail c deciders s start over end rest ending before after held hel
     × Leaves before after (held ++ text) held'
 
 -- the world in which a trace begins: all its lanes serve
-abbrev pub trace_setup : Config → Settings → Setup
-trace_setup c settings = setup_for c Utc settings
+abbrev pub trace_setup : Config → Zone → Settings → Setup
+trace_setup c zone settings = setup_for c zone settings
 
-abbrev pub start_with : Config → Settings → FeedState → RunState
-start_with c settings f = record {
+abbrev pub start_with : Config → Zone → Settings → FeedState → RunState
+start_with c zone settings f = record {
   events = f.events;
   posted = 0;
-  world = new_world (trace_setup c settings) (replicate (length c.lanes) true);
+  world = new_world (trace_setup c zone settings) (replicate (length c.lanes) true);
 }
 
 -- nothing of a feed yet
@@ -78,23 +79,29 @@ no_feed = record { events = []; over = false; text = [] }
 
 -- What is written of a feed and the steps after it: the refused lines of the feed in order, then those of the step lines in
 -- order, and then the lines of what the lanes hold in the world that the steps lead to.
-abbrev pub TracesFeed : (can_fail : Bool) → Config → Settings → (bytes : List ℕ) → Ending
+abbrev pub TracesFeed : (can_fail : Bool) → Config → Zone → Settings → (bytes : List ℕ) → Ending
     → (old new : Option (List ℕ))
     → Type 0
-TracesFeed can_fail c settings bytes ending old new =
+TracesFeed can_fail c zone settings bytes ending old new =
     (end : AfterFeed) × (given : List Answer) × (rest : List ℕ) × (text : List ℕ)
     × FeedEnds can_fail (answers c.objects 0 0 (pieces bytes)) 0 bytes end given rest
-    × EndsTrace can_fail c settings.deciders (trace_setup c settings)
-    (start_with c settings (after_answers no_feed given))
+    × EndsTrace can_fail c settings.deciders (trace_setup c zone settings)
+    (start_with c zone settings (after_answers no_feed given))
     (after_answers no_feed given).over end rest ending text
     × Writes old new ((after_answers no_feed given).text ++ text)
 
--- the same of the bytes of an input, whose object text was accepted
+-- the same of the bytes of an input, whose object text was accepted, for local times of a zone
+abbrev pub TracesIn : (can_fail : Bool) → Zone → Settings → (bytes : List ℕ) → Ending
+    → (old new : Option (List ℕ)) → Type 0
+TracesIn can_fail zone settings bytes ending old new =
+    (config : Config) × IsTextOf config (objects_in bytes)
+    × TracesFeed can_fail config zone settings (feed_in bytes) ending old new
+
+-- and in UTC
 abbrev pub Traces : (can_fail : Bool) → Settings → (bytes : List ℕ) → Ending
     → (old new : Option (List ℕ)) → Type 0
 Traces can_fail settings bytes ending old new =
-    (config : Config) × IsTextOf config (objects_in bytes)
-    × TracesFeed can_fail config settings (feed_in bytes) ending old new
+    TracesIn can_fail Utc settings bytes ending old new
 
 -- What a fault says. Where the object text is refused or can't be read nothing was written; where the output failed it was
 -- accepted; and where memory ran out it was accepted, or nothing was written.

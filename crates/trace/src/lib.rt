@@ -5,7 +5,7 @@ ghost use Rattle.std.specs.Prelude.{IfErr, IfOk, IfSome};
 ghost use Rattle.due_model.specs.Accepted.{IsAccepted};
 ghost use Rattle.command_output.specs.Outcome.{IsWriteFault};
 ghost use Rattle.text_lines.specs.LineReader.{to_come};
-ghost use Rattle.trace.specs.Trace.{FailsWith, Traces, TracesFeed};
+ghost use Rattle.trace.specs.Trace.{FailsWith, Traces, TracesFeed, TracesIn};
 
 mod ending;
 mod feed;
@@ -45,14 +45,33 @@ pub fn trace<R: Input + Drop, W: Write>(
     ensures fault { IfSome (R.remaining reader) (λ bytes. IfErr result (λ fault.
         FailsWith R.can_fail bytes fault (W.contents writer.old) (W.contents writer.new))) }
 {
+    let zone = Zone::Utc;
+    trace_in(alloc, &zone, settings, reader, writer)
+}
+
+/// The same, for local times of a zone.
+pub fn trace_in<R: Input + Drop, W: Write>(
+    alloc: Global,
+    zone: &Zone,
+    settings: Settings,
+    reader: R,
+    writer: &mut W,
+) -> Result<Ending, CommandFault>
+    ensures traces { IfSome (R.remaining reader) (λ bytes. IfOk result (λ ending.
+        TracesIn R.can_fail zone.now settings bytes ending
+        (W.contents writer.old) (W.contents writer.new))) }
+    ensures fault { IfSome (R.remaining reader) (λ bytes. IfErr result (λ fault.
+        FailsWith R.can_fail bytes fault (W.contents writer.old) (W.contents writer.new))) }
+{
     let mut lines = LineReader::new(alloc, reader)?;
     let config = read_objects(alloc, &mut lines)?;
-    trace_feed(alloc, settings, &config, lines, writer)
+    trace_feed(alloc, zone, settings, &config, lines, writer)
 }
 
 /// Traces a feed and the steps after it.
 fn trace_feed<R: Input + Drop, W: Write>(
     alloc: Global,
+    zone: &Zone,
     settings: Settings,
     config: &Config,
     source: LineReader<R>,
@@ -60,16 +79,15 @@ fn trace_feed<R: Input + Drop, W: Write>(
 ) -> Result<Ending, CommandFault>
     requires accepted { IsAccepted config.now }
     ensures traces { IfOk result (λ ending. IfSome (to_come source) (λ bytes.
-        TracesFeed R.can_fail config.now settings bytes ending
+        TracesFeed R.can_fail config.now zone.now settings bytes ending
         (W.contents writer.old) (W.contents writer.new))) }
     ensures fault { IfErr result (λ fault. IsWriteFault fault) }
 {
-    let zone = Zone::Utc;
     let served = vec![in alloc; true; config.lanes.len()]?;
     let mut run = Run {
         config,
         deciders: settings.deciders,
-        world: World::new(alloc, config, &zone, settings, &served)?,
+        world: World::new(alloc, config, zone, settings, &served)?,
         events: Vec::new(alloc),
         posted: 0,
         is_over: false,

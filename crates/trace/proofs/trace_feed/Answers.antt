@@ -14,6 +14,7 @@ use Rattle.trace.proofs.trace_feed.Goals as goal
 pub returns-clause-traces : goal.returns-clause-traces
 returns-clause-traces g c =
     let config = c.args.config.now in
+    let zone = c.args.zone.now in
     let settings = c.args.settings in
     let run0 : Run = record { config = c.args.config; deciders = settings.deciders; world = c.in_ok-new.field-0; events = c.new-2.result; posted = 0; is_over = false } in
     let run1 = c.read_feed.new.run in
@@ -33,8 +34,8 @@ returns-clause-traces g c =
     let bytes : c.read_feed.new.feeder.bytes ≡ to_come c.into_lines-source.result = ap (λ (f : Feed). f.bytes) c.into_lines-source.ensures in
     let end = subst (λ (known : Option (List ℕ)). IfSome known (λ rest. WritesEnd g.R.Input.can_fail run1.config.now run1.deciders (world_setup run1.world) (run_state run1) run1.is_over c.in_ok-after.after rest
     c.in_ok-ending.ending w1 w2 held1 held2)) (sym bytes) c.in_ok-ending.ensures.ok in
-    feed_traced g.R.Input.can_fail config settings run0 run1 c.new-feeder.result c.args.source c.read_feed.new.feeder.bytes c.in_ok-after.after c.in_ok-ending.ending
+    feed_traced g.R.Input.can_fail config zone settings run0 run1 c.new-feeder.result c.args.source c.read_feed.new.feeder.bytes c.in_ok-after.after c.in_ok-ending.ending
     w0 w1 w2 w3 held0 held1 held2 refl fresh c.new-feeder.ensures (ap (λ r. r.now) unmoved.config) unmoved.deciders
     (unmoved.setup ∙ c.in_ok-new.ensures.setup) unmoved.posted
-    (unmoved.world ∙ c.in_ok-new.ensures.state ∙ ap (λ (all : List Bool). new_world (trace_setup config settings) all) served)
+    (unmoved.world ∙ c.in_ok-new.ensures.state ∙ ap (λ (all : List Bool). new_world (trace_setup config zone settings) all) served)
     c.in_ok-flush.ensures.ok c.in_ok-after.ensures.feed end
