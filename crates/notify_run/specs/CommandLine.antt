@@ -1,14 +1,14 @@
 -- What the words of a command line ask, and which words there are.
 use Rattle.std.specs.Prelude.{ℕ, List, [], ◌∷◌, Some, pos, true, false, codes}
-use Rattle.clap.specs.Words.{App, Rule, Shape, new_app, new_rule, with_rule}
+use Rattle.clap.specs.Words.{App, Rule, Shape, new_app, new_rule}
 use Rattle.clap.specs.declared.builder.value_parser.ValueParser.TheVariants.{Signed}
 use Rattle.notify_run.specs.declared.command_line.Request.{Request}
 use Rattle.notify_run.specs.declared.command_line.Request.TheVariants.{Replay, Trace}
 
 -- the name of the command that is asked for
 abbrev pub request_name : Request → List ℕ
-request_name (Replay objects zone) = codes "replay"
-request_name (Trace settings zone) = codes "trace"
+request_name Replay = codes "replay"
+request_name (Trace settings) = codes "trace"
 
 -- `--NAME NUMBER`, with a number from 1 to `most`, or with `default` where it is left out
 abbrev pub number_option : List ℕ → List ℕ → ℕ → Rule
@@ -19,25 +19,21 @@ number_option name default most = record (new_rule name) {
   parser = Some (Signed (pos 1) (pos most));
 }
 
--- `--NAME VALUE`, which may be left out
-abbrev pub text_option : List ℕ → Rule
-text_option name = record (new_rule name) { long = Some name; value_names = 1 }
-
--- the two options that give a zone
-abbrev pub with_zone : App → App
-with_zone app = with_rule (with_rule app (text_option (codes "zone"))) (text_option (codes "zone-file"))
-
--- `replay` has three options: a file with the object text, and those two
+-- `replay` has no options
 abbrev pub replay_words : App
-replay_words = with_zone (with_rule (new_app (codes "replay")) (text_option (codes "objects")))
+replay_words = new_app (codes "replay")
 
--- `trace` has five: those two, how many deciders, how many notices a lane's queue holds, how many tries
+-- `trace` has three: how many deciders, how many notices a lane's queue holds, how many tries
 abbrev pub trace_words : App
-trace_words =
-    with_rule (with_rule (with_rule (with_zone (new_app (codes "trace")))
-    (number_option (codes "deciders") (codes "1") 8))
-    (number_option (codes "queue") (codes "64") 1024))
-    (number_option (codes "tries") (codes "3") 10)
+trace_words = record {
+  top = record (new_app (codes "trace")).top {
+    rules = number_option (codes "deciders") (codes "1") 8
+        ∷ number_option (codes "queue") (codes "64") 1024
+        ∷ number_option (codes "tries") (codes "3") 10
+        ∷ [];
+  };
+  subs = [];
+}
 
 -- `notify-run` has these two commands, `--version`, no command `help`, and asks for one of the two
 abbrev pub program_words : App

@@ -1,17 +1,16 @@
 //! The command line: what `notify-run` can be asked, and what its words ask.
 
-ghost use Rattle.std.specs.Prelude.{◌≡◌, codes, false, IfOk, IfSome, is_some, Some, true};
-ghost use Rattle.clap.specs.Words.{app_of, rule_of, subcommand_name_of};
+ghost use Rattle.std.specs.Prelude.{◌≡◌, codes, IfOk, IfSome, Some};
+ghost use Rattle.clap.specs.Words.{app_of, subcommand_name_of};
 ghost use Rattle.notify_run.specs.CommandLine.{program_words, replay_words, request_name};
-ghost use Rattle.notify_run.specs.CommandLine.{text_option, trace_words, with_zone};
+ghost use Rattle.notify_run.specs.CommandLine.{trace_words};
 
-use crate::zone::ZoneWords;
 use clap::{Arg, ArgMatches, Command, value_parser};
 use std::alloc::{AllocError, Global};
 use world_steps::Settings;
 
 /// What `notify-run --version` says after the name.
-const VERSION: &str = "0.3.0";
+const VERSION: &str = "0.2.0";
 
 /// What `notify-run --help` says after its commands.
 const STATUSES: &str = "\
@@ -33,10 +32,8 @@ writes to standard output what would have been sent, line by line of the feed:
   C;event;moment;object;kind;state;number;contact;filter   a contact that was refused
   R;line;fault                                             a refused line of the feed
 
-With `--objects` the object text is that file's, and standard input is the feed alone.
-Times are UTC, unless `--zone` or `--zone-file` gives a zone. The feed is read as it comes,
-and what an event adds is written before more input is waited for, so that
-`tail -f feed | notify-run replay --objects site.cfg` follows a feed.";
+Times are UTC. The feed is read as it comes, and what an event adds is written before
+more input is waited for, so that `tail -f feed | notify-run replay` follows a feed.";
 
 /// What `notify-run trace --help` says.
 const TRACE: &str = "\
@@ -65,68 +62,22 @@ A lane is named by its command: one that a contact lists. Standard output gets
   E;line;NotEnabled                                        a step that can't be done
   L;lane;object;taken;hand;undelivered;queue;outbox        at the end, what the lane holds of the object
 
-where each list is `event:contact`, separated by commas, or `-`. Times are UTC, unless
-`--zone` or `--zone-file` gives a zone.";
+where each list is `event:contact`, separated by commas, or `-`.";
 
 /// What the program is asked to do.
 #[derive(Clone, Copy, Debug, PartialEq, Eq)]
-pub enum Request<'a> {
-    /// `replay`, with the path of the object text, where it is a file's.
-    Replay {
-        objects: Option<&'a str>,
-        zone: ZoneWords<'a>,
-    },
-    /// `trace`.
-    Trace {
-        settings: Settings,
-        zone: ZoneWords<'a>,
-    },
+pub enum Request {
+    Replay,
+    Trace(Settings),
 }
 
-/// An option with a text: `--NAME VALUE`.
-fn text_option<'a>(alloc: Global, name: &'a str, value: &'a str, help: &'a str) -> Arg<'a>
-    ensures rule { rule_of result ≡ text_option name.entry.now }
-    ensures local { result.global ≡ false }
+/// The command `replay`, which has no options yet.
+fn replay_command<'a>(alloc: Global) -> Command<'a>
+    ensures words { app_of result ≡ replay_words }
 {
-    Arg::new(alloc, name).long(name).value_name(value).help(help)
-}
-
-/// A command with the two options that give a zone.
-fn with_zone<'a>(alloc: Global, command: Command<'a>) -> Result<Command<'a>, AllocError>
-    ensures words { IfOk result (λ made. app_of made ≡ with_zone (app_of command.entry)) }
-{
-    let rule = text_option(
-        alloc,
-        "zone",
-        "RULE",
-        "The zone of local times, as a POSIX rule, such as EST5EDT,M3.2.0,M11.1.0",
-    );
-    let file = text_option(
-        alloc,
-        "zone-file",
-        "FILE",
-        "The zone of local times, as a zone file (TZif)",
-    );
-    let ruled = command.arg(rule)?;
-    let made = ruled.arg(file)?;
-    Ok(made)
-}
-
-/// The command `replay` and its options.
-fn replay_command<'a>(alloc: Global) -> Result<Command<'a>, AllocError>
-    ensures words { IfOk result (λ command. app_of command ≡ replay_words) }
-{
-    let objects = text_option(
-        alloc,
-        "objects",
-        "FILE",
-        "The file with the object text; standard input is then the feed",
-    );
-    let bare = Command::new(alloc, "replay")
+    Command::new(alloc, "replay")
         .about("What would have been sent, from object text and a feed of events")
-        .long_about(REPLAY);
-    let filed = bare.arg(objects)?;
-    with_zone(alloc, filed)
+        .long_about(REPLAY)
 }
 
 /// The command `trace` and its options.
@@ -151,10 +102,9 @@ fn trace_command<'a>(alloc: Global) -> Result<Command<'a>, AllocError>
         .value_parser(value_parser!(u8).range(1..=10))
         .default_value("3")
         .help("How often a message is tried, 1 to 10");
-    let bare = Command::new(alloc, "trace")
+    Command::new(alloc, "trace")
         .about("The engine's design at work, step by step, in an order that you choose")
-        .long_about(TRACE);
-    with_zone(alloc, bare)?
+        .long_about(TRACE)
         .arg(deciders)?
         .arg(queue)?
         .arg(tries)
@@ -172,7 +122,7 @@ pub fn command<'a>(alloc: Global) -> Result<Command<'a>, AllocError>
         .disable_help_subcommand(true)
         .subcommand_required(true)
         .arg_required_else_help(true)
-        .subcommand(replay_command(alloc)?)?
+        .subcommand(replay_command(alloc))?
         .subcommand(trace_command(alloc)?)
 }
 
@@ -185,33 +135,16 @@ fn settings_of(options: &ArgMatches<'_>) -> Option<Settings> {
     Settings::new(deciders, queue, tries)
 }
 
-/// The words that give a zone.
-fn zone_words<'a>(options: &ArgMatches<'a>) -> ZoneWords<'a> {
-    ZoneWords {
-        rule: options.get_str("zone"),
-        file: options.get_str("zone-file"),
-    }
-}
-
 /// What a command line that was read asks.
-pub fn request_of<'a>(matches: &ArgMatches<'a>) -> Option<Request<'a>>
+pub fn request_of(matches: &ArgMatches<'_>) -> Option<Request>
     ensures named { IfSome result (λ request.
         subcommand_name_of matches.now ≡ Some (request_name request)) }
     ensures replay { subcommand_name_of matches.now ≡ Some (codes "replay")
-        → is_some result ≡ true }
+        → result ≡ Some Request.Replay }
 {
     match matches.subcommand() {
-        Some(("replay", options)) => Some(Request::Replay {
-            objects: options.get_str("objects"),
-            zone: zone_words(options),
-        }),
-        Some(("trace", options)) => match settings_of(options) {
-            Some(settings) => Some(Request::Trace {
-                settings,
-                zone: zone_words(options),
-            }),
-            None => None,
-        },
+        Some(("replay", _)) => Some(Request::Replay),
+        Some(("trace", options)) => settings_of(options).map(Request::Trace),
         _ => None,
     }
 }

@@ -6,7 +6,7 @@ use Rattle.clap.specs.Words.{Rule, app_of, new_app, new_rule, rule_of, signed_be
 use Rattle.clap.specs.declared.builder.arg.Arg.{Arg}
 use Rattle.clap.specs.declared.builder.value_parser.ValueParser.{ValueParser}
 use Rattle.clap.specs.declared.builder.value_parser.ValueParser.TheVariants.{Signed}
-use Rattle.notify_run.specs.CommandLine.{number_option, with_zone}
+use Rattle.notify_run.specs.CommandLine.{number_option}
 use Rattle.notify_run.proofs.command_line.trace_command.Goals as goal
 
 -- the parser of numbers from 0 to `top`, within narrower bounds
@@ -54,8 +54,7 @@ returns c =
     ∙ ap rule_of c.default_value-3.ensures ∙ ap (λ (r : Rule). record r { defaults = codes "3" ∷ [] }) parsed-3 in
     let local-3 = ap is_global c.help-tries.ensures ∙ ap is_global c.default_value-3.ensures ∙ ap is_global c.value_parser-6.ensures.others
     ∙ ap is_global c.value_name-3.ensures ∙ ap is_global c.long-3.ensures ∙ c.new-5.ensures.optional.1 in
-    let bare : app_of c.long_about-bare.result ≡ new_app (codes "trace") = ap app_of_fields c.long_about-bare.ensures ∙ ap app_of_fields c.about.ensures ∙ c.new-7.ensures.app in
-    let zoned = c.in_ok-with_zone.ensures.words ∙ ap with_zone bare in
-    let one = c.in_ok-arg.ensures.shape local ∙ ap₂ with_rule zoned deciders in
+    let bare : app_of c.long_about.result ≡ new_app (codes "trace") = ap app_of_fields c.long_about.ensures ∙ ap app_of_fields c.about.ensures ∙ c.new-7.ensures.app in
+    let one = c.in_ok-arg.ensures.shape local ∙ ap₂ with_rule bare deciders in
     let two = c.in_ok-arg-2.ensures.shape local-2 ∙ ap₂ with_rule one queue in
     record { words = IfOk-weaker c.arg-3.result _ _ (λ r h. h.shape local-3 ∙ ap₂ with_rule two tries) c.arg-3.ensures }
