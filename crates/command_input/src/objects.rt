@@ -55,10 +55,7 @@ pub fn read_objects<R: Input + Drop>(
 
 /// Reads object text that is all of an input, as that of a file of its own, and makes its configuration. A line `%events`
 /// is a line like another there. A fault is one of those of `read_objects`.
-pub fn read_object_file<R: Input + Drop>(
-    alloc: Global,
-    reader: R,
-) -> Result<Config, CommandFault>
+pub fn read_object_file<R: Input + Drop>(alloc: Global, reader: R) -> Result<Config, CommandFault>
     ensures accepted { IfOk result (λ config. IsAccepted config) }
     ensures config { IfOk result (λ config. IsFileOf config (R.remaining reader)) }
     ensures fault { IfErr result (λ fault. FileFails R.can_fail fault (R.remaining reader)) }
