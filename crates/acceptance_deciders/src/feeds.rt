@@ -6,7 +6,7 @@ ghost use Rattle.due_model.specs.Proper.{IsProper};
 
 use crate::comparison::compare;
 use crate::said::Said;
-use acceptance_inputs::plain::are_proper;
+use acceptance_inputs::events::are_proper;
 use due_model::config::Config;
 use due_model::event::Event;
 use due_model::notice::{Filter, Kind};

@@ -8,7 +8,7 @@ ghost use Rattle.due_model.specs.Proper.{IsProper};
 
 use crate::comparison;
 use acceptance_inputs::accepted::is_accepted;
-use acceptance_inputs::plain::are_proper;
+use acceptance_inputs::events::are_proper;
 use acceptance_inputs::rows::{ContactRow, EscalationRow, ObjectRow, Rows, config_of};
 use due_model::config::{Config, ContactId, Dependency, LaneId, ObjectId, PeriodId, Range};
 use due_model::event::{DowntimeChange, Event, EventKind};

@@ -3,6 +3,8 @@
 #![tactic(auto)]
 
 #[cfg(test)]
+mod clock;
+#[cfg(test)]
 mod comparison;
 #[cfg(test)]
 mod feeds;

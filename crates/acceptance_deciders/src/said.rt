@@ -39,6 +39,22 @@ fn decided<'a>(
     Ok((decider, outbox))
 }
 
+/// How many problems the decider of these objects has judged at the clock's events, after these events.
+pub(crate) fn examined(
+    alloc: Global,
+    config: &Config,
+    events: &[Event],
+    share: Share,
+) -> Result<u64, Fail>
+    requires accepted { IsAccepted config.now }
+    requires proper { All (IsProper config.now) events.now }
+    requires share { IsShare share }
+{
+    let zone = Zone::Utc;
+    let (decider, _outbox) = decided(alloc, config, &zone, events, share)?;
+    Ok(decider.examined())
+}
+
 /// What a decider said of some events: the notices, lane by lane, and the suppressions.
 #[derive(Drop)]
 pub(crate) struct Said {

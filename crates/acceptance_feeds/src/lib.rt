@@ -7,3 +7,5 @@ mod commands;
 mod feeds;
 #[cfg(test)]
 mod lines;
+#[cfg(test)]
+mod places;

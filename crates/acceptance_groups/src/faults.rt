@@ -18,6 +18,7 @@ fn name_of(fault: ValueFault) -> &'static str {
         ValueFault::BadRange => "BadRange",
         ValueFault::Volatile => "Volatile",
         ValueFault::Exclusion => "Exclusion",
+        ValueFault::DatedException => "DatedException",
     }
 }
 

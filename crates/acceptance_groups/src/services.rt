@@ -165,7 +165,7 @@ fn show_lists<'a>(
     match ServiceHosts::new(alloc, services, hosts) {
         Ok(lists) if places => show_services(alloc, out, services, &lists),
         Ok(lists) => show_counts(out, &lists),
-        Err(LimitFault::TooMany { line }) => show_line(out, line),
+        Err(LimitFault::TooMany { line, .. }) => show_line(out, line),
         Err(LimitFault::NoMemory) => Err(AllocError),
     }
 }

@@ -1,8 +1,7 @@
 //! Configurations that tests are run on.
 
-ghost use Rattle.std.specs.Prelude.{◌≡◌, ◌<◌, ◌∷◌, [], All, IfOk, codes, length, replicate};
+ghost use Rattle.std.specs.Prelude.{◌≡◌, ◌<◌, ◌∷◌, [], None, All, IfOk, codes, length, replicate};
 ghost use Rattle.due_model.specs.Accepted.{IsAccepted};
-ghost use Rattle.due_model.specs.Covered.{IsCovered, AreFullRights};
 ghost use Rattle.due_laws.specs.Rows.{base, web, on_mail, by_mail};
 ghost use Rattle.acceptance_inputs.specs.Parts.{of_parts};
 
@@ -183,7 +182,7 @@ fn every_lane(alloc: Global) -> Result<Vec<LaneId>, AllocError>
 
 /// Notified of everything, on each of sixteen lanes.
 fn on_every_lane(alloc: Global) -> Result<Rights, AllocError>
-    ensures full { IfOk result (λ rights. AreFullRights rights) }
+    ensures always { IfOk result (λ rights. rights.period ≡ None) }
     ensures lanes { IfOk result (λ rights. All (λ lane. lane.0 < 16) rights.lanes) }
 {
     Ok(Rights {
@@ -196,8 +195,8 @@ fn on_every_lane(alloc: Global) -> Result<Rights, AllocError>
 
 /// Ann, notified of everything on each of sixteen lanes.
 fn loud_contact(alloc: Global) -> Result<Contact, AllocError>
-    ensures hosts { IfOk result (λ contact. AreFullRights contact.hosts) }
-    ensures services { IfOk result (λ contact. AreFullRights contact.services) }
+    ensures hosts { IfOk result (λ contact. contact.hosts.period ≡ None) }
+    ensures services { IfOk result (λ contact. contact.services.period ≡ None) }
     ensures host_lanes { IfOk result (λ contact. All (λ lane. lane.0 < 16) contact.hosts.lanes) }
     ensures service_lanes { IfOk result (λ contact.
         All (λ lane. lane.0 < 16) contact.services.lanes) }
@@ -212,7 +211,6 @@ fn loud_contact(alloc: Global) -> Result<Contact, AllocError>
 /// Eight hosts, and a contact who is notified of them on each of sixteen lanes.
 pub fn wide(alloc: Global) -> Result<Config, AllocError>
     ensures accepted { IfOk result (λ config. IsAccepted config) }
-    ensures covered { IfOk result (λ config. IsCovered config) }
     ensures lanes { IfOk result (λ config. length config.lanes ≡ 16) }
     ensures objects { IfOk result (λ config. length config.objects ≡ 8) }
 {

@@ -3,8 +3,8 @@
 
 pub mod accepted;
 pub mod configs;
+pub mod events;
 pub mod periods;
-pub mod plain;
 pub mod readers;
 pub mod rows;
 pub mod texts;

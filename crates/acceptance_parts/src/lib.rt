@@ -3,6 +3,8 @@
 #![tactic(auto)]
 
 #[cfg(test)]
+mod due_scan;
+#[cfg(test)]
 mod graphs;
 #[cfg(test)]
 mod kept;

@@ -4,9 +4,8 @@ ghost use Rattle.std.specs.Prelude.{◌≡◌};
 ghost use Rattle.due_laws.specs.Rows.{base};
 
 use acceptance_inputs::configs::base;
-use acceptance_inputs::plain::are_proper;
+use acceptance_inputs::events::are_proper;
 use due_model::config::{Config, ContactId, LaneId, ObjectId};
-use due_model::covered::is_covered;
 use due_model::event::{Event, EventKind};
 use due_model::notice::{Filter, Kind, Notice, Suppression};
 use due_model::state::State;
@@ -219,11 +218,4 @@ const BY_THE_SWITCH: [Stopped; 2] = [
 #[test]
 fn program_switch(rt: HostRuntime) -> Result<(), Fail> {
     gives(&rt, rt.alloc(), &SWITCHED, &[], &BY_THE_SWITCH)
-}
-
-#[test]
-fn base_is_covered(rt: HostRuntime) -> Result<(), Fail> {
-    let config = base(rt.alloc())?;
-    assert!(rt; is_covered(&config));
-    Ok(())
 }

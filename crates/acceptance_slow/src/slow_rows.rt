@@ -2,7 +2,7 @@
 //! slow program. A row is a table of the configuration, the events, and what each object says, in short.
 
 use acceptance_inputs::accepted::is_accepted;
-use acceptance_inputs::plain::are_proper;
+use acceptance_inputs::events::are_proper;
 use acceptance_inputs::rows::{ContactRow, EscalationRow, ObjectRow, Rows, config_of};
 use due_model::config::{Config, ContactId, Dependency, LaneId, ObjectId, PeriodId, Range};
 use due_model::event::{DowntimeChange, Event, EventKind};

@@ -1,7 +1,7 @@
 -- The books after an event, and the objects that it doesn't touch.
-use Rattle.std.proofs.Common.{◌≡◌, ◌≢◌, ℕ, zero, suc, ◌<◌, Bool, true, false, cond, ◌==◌, List, [], ◌∷◌, length, replicate, get_or, slice_get, Option, Some, None, refl, sym, ap, subst, ◌∙◌, arith, inl, inr}
+use Rattle.std.proofs.Common.{◌≡◌, ◌≢◌, ℕ, zero, suc, ◌<◌, Bool, true, false, cond, List, [], ◌∷◌, length, replicate, get_or, slice_get, Option, Some, None, refl, sym, ap, subst, ◌∙◌, arith, inl, inr}
 use Rattle.std.specs.Option.{option_map_or}
-use Rattle.std.proofs.lemmas.Bool.{ne_eqb}
+use Rattle.std.proofs.lemmas.Bool.{eq-eqb, ne_eqb}
 use Rattle.std.proofs.lemmas.List.{length-replicate}
 use Rattle.std.proofs.lemmas.Option.{same_Some, slice_get_within}
 use Rattle.due_model.specs.declared.config.Config.{Config}
@@ -12,7 +12,6 @@ use Rattle.due_model.specs.declared.event.EventKind.{EventKind}
 use Rattle.due_model.specs.declared.event.EventKind.TheVariants as event
 use Rattle.due_model.specs.declared.zone.Zone.{Zone}
 use Rattle.due_model.specs.Histories.{hist}
-use Rattle.messages.specs.declared.entries.Entry.{Entry}
 use Rattle.messages.specs.Entries.{object_entries, outcome_entries}
 use Rattle.problem_count.specs.Book.{BookValues, new_book}
 use Rattle.problem_count.specs.Fits.{BookFits, book_of, outcome_at}
@@ -33,6 +32,32 @@ touches_other (event.Program on) p is o ne due t = cc
 touches_other (event.Hard q state) p is o ne due t = ne_eqb q.0 o (λ e. ne (sym e ∙ ap (λ (i : ObjectId). i.0) (same_Some q p is)))
 touches_other (event.Downtime q change) p is o ne due t = ne_eqb q.0 o (λ e. ne (sym e ∙ ap (λ (i : ObjectId). i.0) (same_Some q p is)))
 touches_other (event.Flapping q starts) p is o ne due t = ne_eqb q.0 o (λ e. ne (sym e ∙ ap (λ (i : ObjectId). i.0) (same_Some q p is)))
+
+-- and that one it touches
+pub touches_own : (k : EventKind) (p : ObjectId) → named_by k ≡ Some p → (due : Option ℕ) (t : ℕ) → touches p.0 k due t ≡ true
+touches_own event.Clock p is due t = cc
+touches_own (event.Program on) p is due t = cc
+touches_own (event.Hard q state) p is due t = eq-eqb q.0 p.0 (ap (λ (i : ObjectId). i.0) (same_Some q p is))
+touches_own (event.Downtime q change) p is due t = eq-eqb q.0 p.0 (ap (λ (i : ObjectId). i.0) (same_Some q p is))
+touches_own (event.Flapping q starts) p is due t = eq-eqb q.0 p.0 (ap (λ (i : ObjectId). i.0) (same_Some q p is))
+
+module _ (c : Config) (zone : Zone) (e : Event) (past : List Event) where
+  pub after_is : (o : ℕ) (settings : Object) → slice_get c.objects o ≡ Some settings → book_after c zone e past o ≡ record { object = record { 0 = o }; book = book_of c zone o settings (e ∷ past) } ∷ []
+  after_is o settings at =
+      ap (λ (found : Option Object). option_map_or (λ settings. let new : NewBook = record { object = record { 0 = o }; book = book_of c zone o settings (e ∷ past) } in new ∷ []) found []) at
+
+  -- at most one book is new for each object
+  pub one : (o : ℕ) → AtMostOne o (new_books c zone e past o)
+  one o = by_object (slice_get c.objects o) refl
+    where
+      by_test : (settings : Object) (b : Bool) → slice_get c.objects o ≡ Some settings → AtMostOne o (cond b (book_after c zone e past o) [])
+      by_test settings true at = inr (_, after_is o settings at, refl)
+      by_test settings false at = inl refl
+
+      by_object : (found : Option Object) → slice_get c.objects o ≡ found
+          → AtMostOne o (option_map_or (λ settings. cond (is_touched c zone e past o settings) (book_after c zone e past o) []) found [])
+      by_object None h = inl refl
+      by_object (Some settings) h = by_test settings (is_touched c zone e past o settings) h
 
 module _ (laws : UntouchedFit) (c : Config) (zone : Zone) (e : Event) (past : List Event) where
   -- an object that an event doesn't touch has no entries, and no new book
@@ -60,30 +85,13 @@ module _ (laws : UntouchedFit) (c : Config) (zone : Zone) (e : Event) (past : Li
       ap (λ (found : Option Object). option_map_or (λ settings. cond (is_touched c zone e past o settings) (book_after c zone e past o) []) found []) at
       ∙ ap (λ (b : Bool). cond b (book_after c zone e past o) []) touched
 
-  after_is : (o : ℕ) (settings : Object) → slice_get c.objects o ≡ Some settings → book_after c zone e past o ≡ record { object = record { 0 = o }; book = book_of c zone o settings (e ∷ past) } ∷ []
-  after_is o settings at =
-      ap (λ (found : Option Object). option_map_or (λ settings. let new : NewBook = record { object = record { 0 = o }; book = book_of c zone o settings (e ∷ past) } in new ∷ []) found []) at
-
-  -- at most one book is new for each object
-  one : (o : ℕ) → AtMostOne o (new_books c zone e past o)
-  one o = by_object (slice_get c.objects o) refl
-    where
-      by_test : (settings : Object) (b : Bool) → slice_get c.objects o ≡ Some settings → AtMostOne o (cond b (book_after c zone e past o) [])
-      by_test settings true at = inr (_, after_is o settings at, refl)
-      by_test settings false at = inl refl
-
-      by_object : (found : Option Object) → slice_get c.objects o ≡ found
-          → AtMostOne o (option_map_or (λ settings. cond (is_touched c zone e past o settings) (book_after c zone e past o) []) found [])
-      by_object None h = inl refl
-      by_object (Some settings) h = by_test settings (is_touched c zone e past o settings) h
-
   -- the book of an object after the event is the new one, or still fits
   decided_book : (o : ℕ) (settings : Object) (old : BookValues) → slice_get c.objects o ≡ Some settings → BookFits c zone o settings past old
       → book_decided (new_books c zone e past o) old ≡ book_of c zone o settings (e ∷ past)
   decided_book o settings old at fits = by_test (is_touched c zone e past o settings) refl
     where
       by_test : (b : Bool) → is_touched c zone e past o settings ≡ b → book_decided (new_books c zone e past o) old ≡ book_of c zone o settings (e ∷ past)
-      by_test true is = ap (λ decided. book_decided decided old) (touched_books o settings at is ∙ after_is o settings at)
+      by_test true is = ap (λ decided. book_decided decided old) (touched_books o settings at is ∙ after_is c zone e past o settings at)
       by_test false is =
           ap (λ decided. book_decided decided old) (no_books o (λ other h. subst (λ (x : Object). is_touched c zone e past o x ≡ false) (same_Some settings other (sym at ∙ h)) is))
           ∙ fits ∙ (laws c zone o settings e past (book_of c zone o settings past) refl is).1
@@ -95,7 +103,7 @@ module _ (laws : UntouchedFit) (c : Config) (zone : Zone) (e : Event) (past : Li
     count = length-settled (share_books c zone share e past) books ∙ fit.count;
     each = λ o settings at owned.
         let within : o < length c.objects = slice_get_within c.objects o settings at in
-        settled_at (new_books c zone e past) (is_owned share) one (length c.objects) o books new_book within (omega (arith, fit.count, within)) owned
+        settled_at (new_books c zone e past) (is_owned share) (one c zone e past) (length c.objects) o books new_book within (omega (arith, fit.count, within)) owned
         ∙ decided_book o settings (get_or books o new_book) at (fit.each o settings at owned);
   }
 

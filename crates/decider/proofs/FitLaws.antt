@@ -1,5 +1,5 @@
 -- What is kept after an event fits the past with the event.
-use Rattle.std.proofs.Common.{◌≡◌, ℕ, ◌+◌, ◌<◌, ◌≤◌, ◌^◌, max, List, [], ◌∷◌, length, replicate, All, Option, Some, None, IfSome, refl, sym, ap, subst, ◌∙◌, arith}
+use Rattle.std.proofs.Common.{◌≡◌, ℕ, ◌+◌, ◌<◌, ◌≤◌, ◌^◌, max, List, [], ◌∷◌, length, All, Option, Some, None, IfSome, refl, sym, ap, subst, ◌∙◌, arith}
 use Rattle.std.proofs.lemmas.List.Elements.{All-cons, All-head, All-tail}
 use Rattle.due_model.specs.declared.config.Config.{Config}
 use Rattle.due_model.specs.declared.config.ObjectId.{ObjectId}
@@ -10,13 +10,17 @@ use Rattle.due_model.specs.declared.rules.ObjectStatus.{ObjectStatus}
 use Rattle.due_model.specs.Limits.{last_moment, max_events}
 use Rattle.due_model.specs.Proper.{IsProper}
 use Rattle.due_model.specs.Readings.{moment, switch_after}
+use Rattle.due_times.specs.Index.{Due}
 use Rattle.problem_count.specs.Book.{BookValues}
 use Rattle.problem_count.specs.Laws.{UntouchedFit}
 use Rattle.decider.specs.Books.{share_books}
 use Rattle.decider.specs.declared.reading.EventContext.{EventContext}
+use Rattle.decider.specs.declared.staging.NewBook.{NewBook}
 use Rattle.decider.specs.Events.{IsAt, Values}
 use Rattle.decider.specs.Fits.{Fits, Kept, context_of, kept_after, values_at}
+use Rattle.decider.specs.Ready.{HasRoom, IsIndexAfter, judged}
 use Rattle.decider.proofs.BookLaws.{books_fit}
+use Rattle.decider.proofs.ReadyLaws.{handed, index_after, room_for}
 use Rattle.decider.specs.Statuses.{named_by, status_at}
 use Rattle.decider.proofs.StatusLaws.{depth_few, named_within, statuses_fit}
 
@@ -26,6 +30,9 @@ moment_fits c [] h = omega arith
 moment_fits c (e ∷ past) h = omega (arith, moment_fits c past (All-tail (IsProper c) e past h), (All-head (IsProper c) e past h).stamp)
 
 module _ (k : Kept) (e : Event) (past : List Event) (fits : Fits k past) (proper : IsProper k.config e) where
+  moment_is : (context_of k e).moment ≡ moment (e ∷ past)
+  moment_is = ap (λ (t : ℕ). max t e.moment) fits.moment
+
   -- what is read to decide an event is of that event
   pub is_at : IsAt (values_at k e) e past
   is_at = record {
@@ -41,6 +48,7 @@ module _ (k : Kept) (e : Event) (past : List Event) (fits : Fits k past) (proper
     switch = ap (switch_after e.kind) fits.program;
     known = fits.statuses;
     kept = fits.books;
+    indexed = fits.index;
   }
 
   -- the event can be counted
@@ -56,8 +64,10 @@ module _ (k : Kept) (e : Event) (past : List Event) (fits : Fits k past) (proper
       )
 
   -- what is kept after the event fits the past with it
-  pub fits_after : UntouchedFit → length past < max_events → Fits (kept_after k e (share_books k.config k.zone k.share e past)) (e ∷ past)
-  fits_after laws room = record {
+  pub fits_after : UntouchedFit → length past < max_events
+      → (index : Due) → IsIndexAfter e.kind (context_of k e).moment (share_books k.config k.zone k.share e past) k.index index
+      → Fits (kept_after k e (share_books k.config k.zone k.share e past) index) (e ∷ past)
+  fits_after laws room index after = record {
     accepted = fits.accepted;
     share = fits.share;
     worked_out = fits.worked_out;
@@ -68,7 +78,17 @@ module _ (k : Kept) (e : Event) (past : List Event) (fits : Fits k past) (proper
     program = ap (switch_after e.kind) fits.program;
     statuses = statuses_fit k.config e past k.statuses fits.statuses proper;
     books = books_fit laws k.config k.zone e past k.share k.books fits.books;
+    index = index_after k.config k.zone k.share e past fits.accepted k.index fits.index (context_of k e).moment moment_is laws room index after;
   }
+
+  -- and so many problems were judged
+  pub judged_after : length past < max_events → (decided : List NewBook) (index : Due) → IsIndexAfter e.kind (context_of k e).moment decided k.index index
+      → index.examined ≡ k.index.examined + judged k.config k.zone k.share e past
+  judged_after room decided index after = after.examined ∙ handed k.config k.zone k.share e past fits.accepted k.index fits.index (context_of k e).moment moment_is room
+
+  -- there is room for the entries of the books that were staged
+  pub has_room : (decided : List NewBook) → decided ≡ share_books k.config k.zone k.share e past → HasRoom k.index decided
+  has_room decided is = subst (λ (xs : List NewBook). HasRoom k.index xs) (sym is) (room_for k.config k.zone k.share e past k.index fits.index.room)
 
 -- what is read of a decider, with these periods and books and in this context
 abbrev pub values_with : Kept → List (List (List Range)) → EventContext → List BookValues → Values
@@ -80,6 +100,7 @@ values_with k periods context books = record {
   context = context;
   statuses = k.statuses;
   books = books;
+  index = k.index;
 }
 
 -- those that it keeps
@@ -103,4 +124,5 @@ fits_with_log k lines past fits = record {
   program = fits.program;
   statuses = fits.statuses;
   books = fits.books;
+  index = fits.index;
 }

@@ -1,5 +1,5 @@
 -- What an event finds of an object is the definitions'.
-use Rattle.std.proofs.Common.{◌≡◌, ℕ, ◌<◌, cond, ◌==◌, List, ◌∷◌, length, set, get_or, slice_get, Option, Some, None, refl, sym, ap, ◌∙◌, arith}
+use Rattle.std.proofs.Common.{◌≡◌, ℕ, ◌<◌, cond, ◌==◌, List, ◌∷◌, length, set, get_or, slice_get, Some, None, refl, sym, ap, ◌∙◌, arith}
 use Rattle.std.proofs.lemmas.Option.{get_or_from_slice_get, same_Some}
 use Rattle.due_model.specs.declared.config.Config.{Config}
 use Rattle.due_model.specs.declared.config.Object.{Object}
@@ -12,12 +12,10 @@ use Rattle.due_model.specs.declared.state.State.{State}
 use Rattle.due_model.specs.declared.state.State.TheVariants.{Pending}
 use Rattle.due_model.specs.declared.zone.Zone.{Zone}
 use Rattle.due_model.specs.Dependencies.{dependency_fails}
-use Rattle.due_model.specs.Proper.{IsProper}
 use Rattle.due_model.specs.Readings.{hard, hard_after, moment}
 use Rattle.dependency.specs.Entry.{state_of}
 use Rattle.lemmas.proofs.Writes.{at_set}
-use Rattle.decider.specs.Statuses.{StatusLists, StatusesFit, hard_by, named_by, status_at, status_by}
-use Rattle.decider.proofs.StatusLaws.{named_within}
+use Rattle.decider.specs.Statuses.{StatusLists, StatusesFit, hard_by, named_by}
 
 -- an event that gives no hard state leaves them all
 no_hard : (k : EventKind) → hard_by k ≡ None → (m : ℕ) (x : State) → hard_after m k x ≡ x

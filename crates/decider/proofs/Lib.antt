@@ -5,4 +5,5 @@ pub mod BookLaws
 pub mod LaneLaws
 pub mod OutboxLaws
 pub mod StagingLaws
+pub mod ReadyLaws
 pub mod FitLaws

@@ -1,5 +1,5 @@
 -- What is staged is what the definitions say.
-use Rattle.std.proofs.Common.{◌≡◌, ◌≢◌, ℕ, ◌+◌, ◌^◌, ◌<◌, ◌≤◌, Bool, true, false, cond, List, [], ◌∷◌, ◌++◌, length, get_or, slice_get, slice_index_or, Option, Some, None, refl, sym, ap, subst, ◌∙◌, arith, inl, inr, append_assoc, add-one}
+use Rattle.std.proofs.Common.{◌≡◌, ℕ, ◌+◌, ◌^◌, ◌<◌, ◌≤◌, Bool, true, cond, List, [], ◌∷◌, ◌++◌, length, get_or, slice_get, slice_index_or, Option, Some, sym, ap, subst, ◌∙◌, arith, inl, inr, append_assoc, add-one}
 use Rattle.std.specs.Option.{option_map_or}
 use Rattle.std.proofs.lemmas.List.{append-nil, get_or_default}
 use Rattle.std.proofs.lemmas.Option.{slice_get_cases}
@@ -10,7 +10,7 @@ use Rattle.due_model.specs.declared.event.EventKind.{EventKind}
 use Rattle.due_model.specs.declared.event.EventKind.TheVariants as event
 use Rattle.due_model.specs.declared.notice.Outcome.{Outcome}
 use Rattle.due_model.specs.declared.rules.ObjectStatus.{ObjectStatus}
-use Rattle.due_model.specs.Limits.{last_moment, max_events}
+use Rattle.due_model.specs.Limits.{last_moment}
 use Rattle.due_model.specs.Readings.{moment}
 use Rattle.dependency.specs.Order.{Kept as Dependencies}
 use Rattle.lemmas.proofs.Numbers.{flat_below, flat_more, flat_none, flat_one}
@@ -30,7 +30,7 @@ use Rattle.decider.specs.Events.{IsAt, Values, values}
 use Rattle.decider.specs.Share.{is_owned}
 use Rattle.decider.specs.Staging.{Adds}
 use Rattle.decider.specs.Statuses.{StatusLists, named_by}
-use Rattle.decider.proofs.BookLaws.{no_books, no_entries, touches_other}
+use Rattle.decider.proofs.BookLaws.{no_books, no_entries, touches_other, touches_own}
 use Rattle.decider.proofs.StatusLaws.{depth_few, named_within}
 
 -- an element within a list
@@ -48,13 +48,6 @@ module _ (v : Values) (e : Event) (past : List Event) (is : IsAt v e past) (o : 
 
     pub number_fits : CountsAreFew → book.sent + 2 < 2 ^ 64
     number_fits few = omega (arith, few v.config v.zone o settings past book book_fits, is.short)
-
-    -- what is touched by the book is touched
-    pub touched_is : touches o v.context.kind book.due v.context.moment ≡ is_touched v.config v.zone e past o settings
-    touched_is =
-        ap (λ (k : EventKind). touches o k book.due v.context.moment) is.says
-        ∙ ap (λ (t : ℕ). touches o e.kind book.due t) is.at
-        ∙ ap (λ (b : BookValues). touches o e.kind b.due (moment (e ∷ past))) book_fits
 
     pub state_fits : (found : Found) → IsFound v.config v.zone o settings e past found → book.state ≡ found.before.state
     state_fits found finds = ap (λ (b : BookValues). b.state) book_fits ∙ sym (ap (λ (s : ObjectStatus). s.state) finds.before)
@@ -88,6 +81,11 @@ pub book_read : (books : List BookValues) (o i : ℕ) (d : BookValues) → i ≡
 book_read books o i d place within = ap (λ (k : ℕ). get_or books k d) place ∙ get_or_default books o d new_book within
 
 -- ---- all objects of the share
+
+-- the object that an event names is touched by it
+pub named_touched : (v : Values) (e : Event) (past : List Event) → IsAt v e past → (p : ObjectId) (settings : Object) → named_by v.context.kind ≡ Some p
+    → is_touched v.config v.zone e past p.0 settings ≡ true
+named_touched v e past is p settings named = touches_own e.kind p (sym (ap named_by is.says) ∙ named) (book_of v.config v.zone p.0 settings past).due (moment (e ∷ past))
 
 module _ (laws : UntouchedFit) (v : Values) (e : Event) (past : List Event) (is : IsAt v e past) where
   -- an event that names an object gives entries and books of that one alone

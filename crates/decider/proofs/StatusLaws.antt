@@ -15,7 +15,7 @@ use Rattle.due_model.specs.declared.state.State.{State}
 use Rattle.due_model.specs.declared.state.State.TheVariants.{Pending}
 use Rattle.due_model.specs.Histories.{status_after}
 use Rattle.due_model.specs.Proper.{IsProper, KindIsProper}
-use Rattle.due_model.specs.Readings.{depth, depth_after, depth_changed, flapping_after, hard, hard_after}
+use Rattle.due_model.specs.Readings.{depth, depth_after, depth_changed}
 use Rattle.decider.specs.Statuses.{StatusLists, StatusesFit, named_by, no_statuses, status_at, status_by, statuses_after, with_state, with_status}
 
 -- ---- one status of a list

@@ -8,6 +8,7 @@ use Rattle.due_model.specs.Accepted.{IsAccepted}
 use Rattle.due_model.specs.Limits.{last_moment, max_events}
 use Rattle.due_model.specs.Proper.{IsProper}
 use Rattle.due_model.specs.Readings.{moment as moment_of, program_on}
+use Rattle.due_times.specs.Index.{Due}
 use Rattle.dependency.specs.Order.{IsOrderOf, Kept as Dependencies}
 use Rattle.escalation.specs.ByObject.{IsByObject}
 use Rattle.problem_count.specs.Book.{BookValues}
@@ -16,6 +17,7 @@ use Rattle.decider.specs.declared.reading.EventContext.{EventContext}
 use Rattle.decider.specs.declared.reading.Reading.{Reading}
 use Rattle.decider.specs.declared.share.Share.{Share}
 use Rattle.decider.specs.Books.{BooksFit}
+use Rattle.decider.specs.Ready.{IndexFits}
 use Rattle.decider.specs.Statuses.{StatusLists, StatusesFit}
 
 -- what is worked out of a configuration once
@@ -39,6 +41,7 @@ pub record Values : Type 0 where
   pub context : EventContext
   pub statuses : StatusLists
   pub books : List BookValues
+  pub index : Due
 
 abbrev pub values : Reading → Dependencies → StatusLists → Values
 values reading dependencies statuses = record {
@@ -53,6 +56,7 @@ values reading dependencies statuses = record {
   context = reading.context;
   statuses = statuses;
   books = reading.books.now;
+  index = reading.index.now;
 }
 
 -- What is read is of event e, after that past.
@@ -69,3 +73,4 @@ pub record IsAt (v : Values) (e : Event) (past : List Event) : Type 0 where
   pub switch : v.context.program ≡ program_on (e ∷ past)
   pub known : StatusesFit (length v.config.objects) past v.statuses
   pub kept : BooksFit v.config v.zone v.share past v.books
+  pub indexed : IndexFits v.config v.zone v.share past v.index

@@ -1,5 +1,5 @@
 -- What a decider keeps, and the past that it fits.
-use Rattle.std.specs.Prelude.{◌≡◌, ℕ, ◌+◌, ◌≤◌, Bool, max, List, [], ◌∷◌, length, All}
+use Rattle.std.specs.Prelude.{◌≡◌, ℕ, ◌+◌, ◌≤◌, Bool, max, List, [], length, All}
 use Rattle.due_model.specs.declared.config.Config.{Config}
 use Rattle.due_model.specs.declared.event.Event.{Event}
 use Rattle.due_model.specs.declared.notice.Suppression.{Suppression}
@@ -8,6 +8,7 @@ use Rattle.due_model.specs.Accepted.{IsAccepted}
 use Rattle.due_model.specs.Limits.{max_events}
 use Rattle.due_model.specs.Proper.{IsProper}
 use Rattle.due_model.specs.Readings.{moment as moment_of, program_on, switch_after}
+use Rattle.due_times.specs.Index.{Due}
 use Rattle.messages.specs.declared.entries.Entry.{Entry}
 use Rattle.problem_count.specs.Book.{BookValues}
 use Rattle.decider.specs.declared.decider.Decider.{Decider}
@@ -17,6 +18,7 @@ use Rattle.decider.specs.declared.share.Share.{Share}
 use Rattle.decider.specs.declared.staging.NewBook.{NewBook}
 use Rattle.decider.specs.Books.{BooksFit, settled}
 use Rattle.decider.specs.Events.{AreTables, TableValues, Values}
+use Rattle.decider.specs.Ready.{IndexFits}
 use Rattle.decider.specs.Share.{IsShare}
 use Rattle.decider.specs.Statuses.{StatusLists, StatusesFit, statuses_after}
 
@@ -33,6 +35,8 @@ pub record Kept : Type 0 where
   -- the status of each object, and the book of each
   pub statuses : StatusLists
   pub books : List BookValues
+  -- when each object of the share is next due
+  pub index : Due
   -- the suppressions so far; a core keeps none
   pub log : List Suppression
 
@@ -51,6 +55,7 @@ core_kept d = record {
   program = d.program;
   statuses = d.statuses;
   books = d.books.items;
+  index = d.index;
   log = [];
 }
 
@@ -73,6 +78,7 @@ pub record Fits (k : Kept) (past : List Event) : Type 0 where
   pub program : k.program ≡ program_on past
   pub statuses : StatusesFit (length k.config.objects) past k.statuses
   pub books : BooksFit k.config k.zone k.share past k.books
+  pub index : IndexFits k.config k.zone k.share past k.index
 
 -- what an event says, and what it makes of the moment and the switch
 abbrev pub context_of : Kept → Event → EventContext
@@ -93,11 +99,12 @@ values_at k e = record {
   context = context_of k e;
   statuses = k.statuses;
   books = k.books;
+  index = k.index;
 }
 
--- what is kept after an event at which these books were staged
-abbrev pub kept_after : Kept → Event → List NewBook → Kept
-kept_after k e decided = record {
+-- what is kept after an event at which these books were staged, with this index
+abbrev pub kept_after : Kept → Event → List NewBook → Due → Kept
+kept_after k e decided index = record {
   config = k.config;
   zone = k.zone;
   share = k.share;
@@ -107,6 +114,7 @@ kept_after k e decided = record {
   program = switch_after e.kind k.program;
   statuses = statuses_after e.kind k.statuses;
   books = settled decided k.books;
+  index = index;
   log = k.log;
 }
 

@@ -1,6 +1,7 @@
 pub mod Share
 pub mod Statuses
 pub mod Books
+pub mod Ready
 pub mod Events
 pub mod Staging
 pub mod Entries

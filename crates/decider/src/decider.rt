@@ -1,6 +1,6 @@
 //! The decider.
 
-ghost use Rattle.std.specs.Prelude.{◌≡◌, ◌↔◌, ℕ, ◌^◌, ◌<◌, [], ◌∷◌, ◌++◌};
+ghost use Rattle.std.specs.Prelude.{◌≡◌, ◌↔◌, ℕ, ◌+◌, ◌^◌, ◌<◌, [], ◌∷◌, ◌++◌};
 ghost use Rattle.std.specs.Prelude.{List, length, OnOk, OnErr, IfOk, IsErrOf};
 ghost use Rattle.due_model.specs.declared.event.Event.{Event};
 ghost use Rattle.due_model.specs.Accepted.{IsAccepted};
@@ -33,6 +33,7 @@ pub struct Decider<'a> {
 impl<'a> Decider<'a> {
     ghost use Rattle.decider.specs.Decider.{gained, suppressed_gained};
     ghost use Rattle.decider.specs.Fits.{kept, Fits, HasDecidedNothing, settings};
+    ghost use Rattle.decider.specs.Ready.{judged};
     ghost use Rattle.decider.specs.Share.{IsShare};
 
     /// A decider of the objects of this share, which has decided no event. A refused growth is the only
@@ -75,6 +76,11 @@ impl<'a> Decider<'a> {
             → (kept self.new).log ≡ (kept self.old).log
             ++ suppressed_gained (kept self.old).config (kept self.old).zone (kept self.old).share
             event past) }
+        // The clock judges the problems of the share that are ready; another event judges none.
+        ensures examined { OnOk result ((past : List Event) → Fits (kept self.old) past
+            → (kept self.new).index.examined ≡ (kept self.old).index.examined
+            + judged (kept self.old).config (kept self.old).zone (kept self.old).share
+            event past) }
         ensures settings { settings (kept self.new) ≡ settings (kept self.old) }
         ensures lanes { length (lists outbox.new) ≡ length (lists outbox.old) }
         ensures err { OnErr result ((kept self.new ≡ kept self.old)
@@ -98,6 +104,14 @@ impl<'a> Decider<'a> {
         ensures { result ≡ (kept self.now).count }
     {
         self.core.decided()
+    }
+
+    /// How many problems it has judged at the clock's events: at each, those of its share that were ready (chapter
+    /// "Notifications").
+    pub fn examined(&self) -> u64
+        ensures { result ≡ (kept self.now).index.examined }
+    {
+        self.core.examined()
     }
 
     /// Forgets the suppressions so far, and keeps their room. A caller that has passed them on calls it,

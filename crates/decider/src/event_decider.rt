@@ -1,6 +1,6 @@
 //! The core of a decider: it decides the events one by one, and gives the entries of each in order.
 
-ghost use Rattle.std.specs.Prelude.{◌≡◌, ◌↔◌, ◌<◌, ◌≤◌, []};
+ghost use Rattle.std.specs.Prelude.{◌≡◌, ◌↔◌, ◌+◌, ◌<◌, ◌≤◌, []};
 ghost use Rattle.std.specs.Prelude.{◌∷◌, List, length, replicate, OnOk, OnErr, IfOk, IsErrOf};
 ghost use Rattle.due_model.specs.declared.event.Event.{Event};
 ghost use Rattle.due_model.specs.Accepted.{IsAccepted};
@@ -10,6 +10,7 @@ ghost use Rattle.problem_count.specs.Book.{new_book};
 ghost use Rattle.problem_count.specs.Fits.{FitsNothing};
 
 use crate::reading::{EventContext, Reading};
+use crate::ready::{mark, new_index, take_judged};
 use crate::share::Share;
 use crate::staging::{Staged, settle, stage_event};
 use crate::statuses::Statuses;
@@ -18,6 +19,7 @@ use due_model::config::Config;
 use due_model::event::Event;
 use due_model::limits::MAX_EVENTS;
 use due_model::zone::Zone;
+use due_times::Index;
 use escalation::by_object::ByObject;
 use messages::entries::Entry;
 use outcomes::rules::Rules;
@@ -64,6 +66,8 @@ pub struct EventDecider<'a> {
     statuses: Statuses,
     /// The book of each object; those of objects outside the share are never read.
     books: Vec<Book>,
+    /// When each object of the share is next due: what its book says.
+    index: Index,
     /// The entries of the last event decided.
     entries: Vec<Entry>,
     /// What is decided of the event under way, kept for its room.
@@ -76,6 +80,7 @@ impl<'a> EventDecider<'a> {
     ghost use Rattle.decider.specs.Entries.{share_entries};
     ghost use Rattle.decider.specs.Fits.{Fits, HasDecidedNothing, context_of, core_kept, last_entries};
     ghost use Rattle.decider.specs.Fits.{kept_after, settings};
+    ghost use Rattle.decider.specs.Ready.{HasRoom, IsIndexAfter, judged};
     ghost use Rattle.decider.specs.Share.{IsShare};
 
     /// A decider of the objects of this share, which has decided no event. It works out the periods, the
@@ -106,6 +111,7 @@ impl<'a> EventDecider<'a> {
             program: true,
             statuses: Statuses::new(alloc, count)?,
             books: new_books(alloc, count)?,
+            index: new_index(alloc, count)?,
             entries: Vec::new(alloc),
             staged: Staged::new(alloc),
         })
@@ -127,6 +133,11 @@ impl<'a> EventDecider<'a> {
             → Fits (core_kept self.old) past → (core_kept self.old).share.deciders ≡ 1
             → last_entries self.new
             ≡ event_entries (core_kept self.old).config (core_kept self.old).zone event past) }
+        // The clock judges the problems of its share that are ready; another event judges none.
+        ensures examined { OnOk result ((past : List Event) → Fits (core_kept self.old) past
+            → (core_kept self.new).index.examined ≡ (core_kept self.old).index.examined
+            + judged (core_kept self.old).config (core_kept self.old).zone
+            (core_kept self.old).share event past) }
         ensures settings { settings (core_kept self.new) ≡ settings (core_kept self.old) }
         ensures err { OnErr result ((core_kept self.new ≡ core_kept self.old)
             × (last_entries self.new ≡ last_entries self.old)) }
@@ -154,6 +165,13 @@ impl<'a> EventDecider<'a> {
         self.count
     }
 
+    /// How many problems it has judged at the clock's events.
+    pub(crate) fn examined(&self) -> u64
+        ensures { result ≡ (core_kept self.now).index.examined }
+    {
+        self.index.examined()
+    }
+
     /// What an event says, and what it makes of the moment and the switch.
     fn context(&self, event: Event) -> EventContext
         ensures { result ≡ context_of (core_kept self.now) event }
@@ -178,6 +196,7 @@ impl<'a> EventDecider<'a> {
         ensures staged { OnOk result ((past : List Event) → Fits (core_kept self.old) past
             → self.new.staged.entries.items ≡ share_entries (core_kept self.old).config
             (core_kept self.old).zone (core_kept self.old).share event past) }
+        ensures room { OnOk result (HasRoom (core_kept self.new).index self.new.staged.books.items) }
         ensures number { OnOk result (self.old.count < max_events) }
         ensures ended { IsErrOf result DecideFault.Ended ↔ (max_events ≤ self.old.count) }
     {
@@ -195,6 +214,7 @@ impl<'a> EventDecider<'a> {
             share: self.share,
             context,
             books: &self.books,
+            index: &self.index,
         };
         stage_event(
             self.alloc,
@@ -217,16 +237,22 @@ impl<'a> EventDecider<'a> {
     pub(crate) fn commit(&mut self, event: Event)
         requires proper { IsProper (core_kept self.old).config event }
         requires fits { (past : List Event) × Fits (core_kept self.old) past }
+        requires room { HasRoom (core_kept self.old).index self.old.staged.books.items }
         ensures kept { core_kept self.new
-            ≡ kept_after (core_kept self.old) event self.old.staged.books.items }
+            ≡ kept_after (core_kept self.old) event self.old.staged.books.items
+            (core_kept self.new).index }
+        ensures index { IsIndexAfter event.kind (context_of (core_kept self.old) event).moment
+            self.old.staged.books.items (core_kept self.old).index (core_kept self.new).index }
         ensures entries { last_entries self.new ≡ self.old.staged.entries.items }
     {
         swap(&mut self.entries, &mut self.staged.entries);
-        settle(&mut self.books, &self.staged.books);
-        self.statuses.count(event.kind);
         self.program = event.kind.switch_after(self.program);
         self.moment = self.moment.max(event.moment);
         self.count += 1;
+        self.statuses.count(event.kind);
+        settle(&mut self.books, &self.staged.books);
+        take_judged(&mut self.index, event.kind, self.moment);
+        mark(&mut self.index, &self.staged.books);
     }
 }
 

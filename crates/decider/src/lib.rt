@@ -8,6 +8,7 @@ mod find;
 mod log;
 mod outbox;
 mod reading;
+mod ready;
 mod share;
 mod staging;
 mod statuses;

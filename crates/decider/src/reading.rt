@@ -2,6 +2,7 @@
 
 use crate::share::Share;
 use due_model::event::EventKind;
+use due_times::Index;
 use outcomes::rules::Rules;
 use problem_count::Book;
 
@@ -25,4 +26,6 @@ pub(crate) struct Reading<'r> {
     pub(crate) context: EventContext,
     /// The book of each object, from before the event; those of objects outside the share are never read.
     pub(crate) books: &'r [Book],
+    /// When each object of the share is next due, from before the event.
+    pub(crate) index: &'r Index,
 }

@@ -1,23 +1,23 @@
 //! What an event decides, before any of it counts: the entries, and the books after it of the objects that it touches.
 
-ghost use Rattle.std.specs.Prelude.{◌≡◌, ◌<◌, ◌++◌, [], true, List, length, slice_set};
+ghost use Rattle.std.specs.Prelude.{◌≡◌, ◌<◌, ◌++◌, [], true, List, Some, length, slice_set};
 ghost use Rattle.std.specs.Prelude.{if◌then◌else◌, OnOk};
 ghost use Rattle.due_model.specs.declared.event.Event.{Event};
+ghost use Rattle.due_model.specs.declared.event.EventKind.TheVariants.{Clock};
 ghost use Rattle.messages.specs.Entries.{object_entries};
-ghost use Rattle.problem_count.specs.Laws.{touches};
 ghost use Rattle.decider.specs.Entries.{share_entries};
 ghost use Rattle.decider.specs.Events.{IsAt, values};
 ghost use Rattle.decider.specs.Share.{is_owned};
 ghost use Rattle.decider.specs.Books.{book_after, new_books, settled, share_books};
 ghost use Rattle.decider.specs.Staging.{Adds};
+ghost use Rattle.decider.specs.Statuses.{named_by};
 
 use crate::find::find;
-use crate::reading::{EventContext, Reading};
+use crate::reading::Reading;
 use crate::statuses::Statuses;
 use dependency::order::Order;
 use due_model::config::{ContactId, ObjectId};
 use due_model::event::EventKind;
-use due_model::rules::has_come;
 use messages::entries::Entry;
 use messages::outcome::add_messages;
 use outcomes::outcome::decide;
@@ -66,8 +66,8 @@ impl Staged {
     }
 }
 
-/// Stages what an event decides of the objects of the share, in object order. Only the clock's event looks at them
-/// all. A refused growth is the only error.
+/// Stages what an event decides of the objects of the share, in object order. The clock's event looks at
+/// those alone whose moment has come. A refused growth is the only error.
 pub(crate) fn stage_event(
     alloc: Global,
     reading: &Reading<'_>,
@@ -91,7 +91,7 @@ pub(crate) fn stage_event(
     fit_on();
     staged.clear();
     match reading.context.kind {
-        EventKind::Clock => stage_each(alloc, reading, dependencies, statuses, staged),
+        EventKind::Clock => stage_due(alloc, reading, dependencies, statuses, staged),
         EventKind::Program(_) => Ok(()),
         EventKind::Hard(object, _) => stage_owned(
             alloc,
@@ -120,8 +120,9 @@ pub(crate) fn stage_event(
     }
 }
 
-/// Stages what becomes of each object of the share that the event touches, in object order.
-fn stage_each(
+/// Stages what becomes of each object of the share whose moment has come at the clock's event, in object order. It looks
+/// at no other object.
+fn stage_due(
     alloc: Global,
     reading: &Reading<'_>,
     dependencies: &mut Order,
@@ -130,6 +131,7 @@ fn stage_each(
 ) -> Result<(), AllocError>
     requires at { (e : Event) × (past : List Event)
         × IsAt (values reading.now dependencies.old statuses.old) e past }
+    requires clock { reading.now.context.kind ≡ Clock }
     ensures dependencies { dependencies.new ≡ dependencies.old }
     ensures statuses { statuses.new ≡ statuses.old }
     ensures staged { OnOk result ((e : Event) (past : List Event)
@@ -139,14 +141,16 @@ fn stage_each(
         (share_books reading.now.rules.config.now reading.now.rules.zone.now
         reading.now.share e past) staged.old staged.new) }
 {
-    for number in 0..reading.books.len() {
-        let object = ObjectId(number as u16);
-        stage_owned(alloc, reading, dependencies, statuses, object, staged)?;
+    fit_on();
+    let mut from = 0;
+    while let Some(object) = reading.index.next_due(from, reading.context.moment) {
+        stage_touched(alloc, reading, dependencies, statuses, object, staged)?;
+        from = u32::from(object.0) + 1;
     }
     Ok(())
 }
 
-/// Stages what becomes of an object, if it is in the share and the event touches it.
+/// Stages what becomes of the object that the event names, if it is in the share.
 fn stage_owned(
     alloc: Global,
     reading: &Reading<'_>,
@@ -157,6 +161,7 @@ fn stage_owned(
 ) -> Result<(), AllocError>
     requires at { (e : Event) × (past : List Event)
         × IsAt (values reading.now dependencies.old statuses.old) e past }
+    requires named { named_by reading.now.context.kind ≡ Some object }
     requires object { object.0 < length reading.now.rules.config.now.objects }
     ensures dependencies { dependencies.new ≡ dependencies.old }
     ensures statuses { statuses.new ≡ statuses.old }
@@ -172,24 +177,7 @@ fn stage_owned(
         return Ok(());
     }
     fit_on();
-    let book = reading.books[usize::from(object.0)];
-    if !touches(&reading.context, object, book) {
-        return Ok(());
-    }
     stage_touched(alloc, reading, dependencies, statuses, object, staged)
-}
-
-/// Whether an event touches the object with this book: it names it, or it is the clock's and the object is due.
-fn touches(context: &EventContext, object: ObjectId, book: Book) -> bool
-    ensures { result ≡ touches object.0 context.now.kind book.due context.now.moment }
-{
-    match context.kind {
-        EventKind::Clock => has_come(book.due(), context.moment),
-        EventKind::Program(_) => false,
-        EventKind::Hard(named, _) => named.0 == object.0,
-        EventKind::Downtime(named, _) => named.0 == object.0,
-        EventKind::Flapping(named, _) => named.0 == object.0,
-    }
 }
 
 /// Stages what becomes of an object of the share.

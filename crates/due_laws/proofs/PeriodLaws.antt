@@ -13,16 +13,10 @@ use Rattle.due_model.specs.declared.zone.Zone.{Zone}
 use Rattle.due_model.specs.Accepted.{Chain, Excludes, IsAccepted, PeriodFits}
 use Rattle.due_model.specs.Local.{Local, local}
 use Rattle.due_model.specs.Periods.{holds, in_period, in_range, ranges_on}
-use Rattle.lemmas.proofs.Lists.{All-slice_get}
+use Rattle.lemmas.proofs.Lists.{any_alike, All-slice_get}
 use Rattle.due_laws.specs.Periods.{HoldsByRanges}
 use Rattle.lemmas.proofs.Dependencies.{each_fails}
 use Rattle.due_laws.proofs.ShortChains.{short}
-
--- two tests that agree at each element of a list
-any_alike : {X : Type 0} (f g : X → Bool) (xs : List X) → ((x : X) → Contains xs x → f x ≡ g x) → list_any f xs ≡ list_any g xs
-any_alike f g [] alike = refl
-any_alike f g (x ∷ xs) alike =
-    ap₂ (λ a b. a || b) (alike x (0, omega arith, refl)) (any_alike f g xs (λ y found. alike y (suc found.0, omega (arith, found.1), found.2)))
 
 -- what a period's definition says of it, where `inner` says which periods hold
 abbrev holds_by : (PeriodId → Bool) → Local → Period → Bool

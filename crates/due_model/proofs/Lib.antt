@@ -1,1 +1,2 @@
 pub mod ObjectIndex
+pub mod SameBytes

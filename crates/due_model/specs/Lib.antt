@@ -10,5 +10,4 @@ pub mod Histories
 pub mod Due
 pub mod Accepted
 pub mod Proper
-pub mod Covered
 pub mod Objects

@@ -1,8 +1,10 @@
 -- Objects by name (chapter "Object Definitions"): a host has a name, and a service has a description
 -- and the name of its host.
-use Rattle.std.specs.Prelude.{◌≡◌, ℕ, ◌%◌, ◌*◌, ◌^◌, ◌<◌, Bool, false, ◌&&◌, ◌==◌, List, [], ◌∷◌, length, map, filter, fold, bit_xor, Option, None, Some, slice_get, slice_index_or}
+use Rattle.std.specs.Prelude.{◌≡◌, ℕ, ◌-◌, ◌/◌, ◌%◌, ◌*◌, ◌^◌, ◌<◌, Bool, false, ◌&&◌, ◌==◌, List, [], length, map, drop, filter, fold, bit_xor, nat_lt, if◌then◌else◌, Option, None, Some, slice_get, slice_index_or}
+use Rattle.std.specs.Int.{from_le_bytes, w64}
 use Rattle.std.specs.Option.{option_map, option_map_or}
 use Rattle.std.specs.List.{position, range_with_len}
+use Rattle.std.specs.Simd.{first_chunks}
 use Rattle.std.specs.Str.{bytes_eq}
 use Rattle.due_model.specs.declared.config.Object.{Object}
 use Rattle.due_model.specs.declared.config.ObjectId.{ObjectId}
@@ -41,15 +43,28 @@ object_named objects host service =
 
 -- ---- how an index of the names is kept
 
--- a hash of the bytes, going on from another (FNV-1a, 64 bits)
-unfoldable pub hash_of : ℕ → List ℕ → ℕ
-hash_of seed bytes = fold (λ hash byte. bit_xor hash byte * 1099511628211 % 2 ^ 64) seed bytes
+-- a number of 128 bits, one half of them laid upon the other
+abbrev pub folded : ℕ → ℕ
+folded product = bit_xor (product % 2 ^ 64) (product / 2 ^ 64 % 2 ^ 64)
 
--- the hash of a name: of the host's name and, for a service, a byte that no text has and the description
+-- a word, mixed into a hash
+abbrev pub mixed : ℕ → ℕ → ℕ
+mixed hash word = folded (bit_xor hash word * 11400714819323198485 % 2 ^ 128)
+
+-- a hash of the bytes, going on from another: fewer than eight one by one, else eight by eight, and then the last eight
+unfoldable pub hash_of : ℕ → List ℕ → ℕ
+hash_of seed bytes =
+    if nat_lt (length bytes) 8 then fold mixed seed bytes
+    else mixed
+    (fold (λ hash word. mixed hash (from_le_bytes w64 word)) seed
+    (first_chunks 8 (length bytes / 8) bytes))
+    (from_le_bytes w64 (drop (length bytes - 8) bytes))
+
+-- the hash of a name: of the host's name and, for a service, of a mark that parts it from the description, and of that
 abbrev pub name_hash : List ℕ → Option (List ℕ) → ℕ
 name_hash host None = hash_of 14695981039346656037 host
 name_hash host (Some service) =
-    hash_of (hash_of (hash_of 14695981039346656037 host) (255 ∷ [])) service
+    hash_of (bit_xor (hash_of 14695981039346656037 host) 255) service
 
 -- the hash of an object's name, given its host and its own name; a service whose host isn't in the list
 -- has no name

@@ -3,7 +3,6 @@
 #![tactic(auto)]
 
 pub mod config;
-pub mod covered;
 pub mod event;
 pub mod limits;
 pub mod notice;

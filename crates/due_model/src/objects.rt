@@ -1,10 +1,12 @@
 //! The hosts and services of a configuration, found by their names.
 
-ghost use Rattle.std.specs.Prelude.{◌≡◌, ◌≤◌, length, map, find, IfOk, vec_len};
+ghost use Rattle.std.specs.Prelude.{◌≡◌, ◌≤◌, length, map, find, fold, IfOk, IfSome, vec_len};
+ghost use Rattle.std.specs.Int.{from_le_bytes, w64};
+ghost use Rattle.std.specs.Str.{bytes_eq};
 ghost use Rattle.std.specs.Option.{option_copied};
 ghost use Rattle.due_model.specs.Limits.{max_objects};
 ghost use Rattle.due_model.specs.Objects.{IsIndexUpTo, has_hash_at, has_name_at, hash_of, is_hashed_name};
-ghost use Rattle.due_model.specs.Objects.{is_named_at, name_hash, object_hash, object_named};
+ghost use Rattle.due_model.specs.Objects.{is_named_at, mixed, name_hash, object_hash, object_named};
 
 use crate::config::{Object, ObjectId};
 use graph::lists::{Lists, ListsBuilder};
@@ -127,24 +129,59 @@ fn hash_object(objects: &[Object], object: &Object) -> u64
 }
 
 /// The hash of a name.
+#[inline(always)]
 fn hash_name(host: &[u8], service: Option<&[u8]>) -> u64
     ensures { result ≡ name_hash host.now (option_copied service.entry) }
 {
     let hash = hash_bytes(14695981039346656037, host);
     match service {
         None => hash,
-        Some(service) => hash_bytes(hash_bytes(hash, &[255]), service),
+        Some(service) => hash_bytes(hash ^ 255, service),
     }
 }
 
-/// The hash of bytes (FNV-1a), going on from another.
+/// The hash of bytes, going on from another. Where there are eight, the last eight may be read a second time, so that
+/// none is read by itself.
+#[inline(always)]
 #[tactic(auto, unfolding(crate::specs::Objects::hash_of))]
 fn hash_bytes(seed: u64, bytes: &[u8]) -> u64
     ensures { result ≡ hash_of seed bytes.now }
 {
-    bytes.iter().fold(seed, |hash, byte| {
-        (hash ^ u64::from(*byte)).wrapping_mul(1099511628211)
-    })
+    match bytes.last_chunk::<8>() {
+        None => hash_few(seed, bytes),
+        Some(last) => {
+            let (words, _) = bytes.as_chunks::<8>();
+            mix(hash_words(seed, words), u64::from_le_bytes(*last))
+        }
+    }
+}
+
+/// The hash of bytes, one by one.
+fn hash_few(seed: u64, bytes: &[u8]) -> u64
+    ensures { result ≡ fold mixed seed bytes.now }
+{
+    bytes
+        .iter()
+        .fold(seed, |hash, byte| mix(hash, u64::from(*byte)))
+}
+
+/// The hash of words of eight bytes.
+#[inline(always)]
+fn hash_words(seed: u64, words: &[[u8; 8]]) -> u64
+    ensures { result ≡ fold (λ hash word. mixed hash (from_le_bytes w64 word)) seed words.now }
+{
+    words
+        .iter()
+        .fold(seed, |hash, word| mix(hash, u64::from_le_bytes(*word)))
+}
+
+/// A word, mixed into a hash: each bit of either bears upon all bits.
+#[inline(always)]
+fn mix(hash: u64, word: u64) -> u64
+    ensures { result ≡ mixed hash word }
+{
+    let product = u128::from(hash ^ word).wrapping_mul(11400714819323198485);
+    (product % (1 << 64)) as u64 ^ ((product >> 64) % (1 << 64)) as u64
 }
 
 /// The first of these objects that has the hash and the name.
@@ -189,6 +226,46 @@ fn has_hash(hashes: &[u64], id: ObjectId, hash: u64) -> bool
     }
 }
 
+/// Whether bytes are the same. Most names are short: they are compared by two words, with no call.
+#[inline(always)]
+fn is_same(a: &[u8], b: &[u8]) -> bool
+    ensures { result ≡ bytes_eq a.now b.now }
+{
+    if a.len() != b.len() {
+        return false;
+    }
+    match has_same_ends::<8>(a, b) {
+        Some(same) => same,
+        None => match has_same_ends::<16>(a, b) {
+            Some(same) => same,
+            None => a == b,
+        },
+    }
+}
+
+/// The same of as many bytes as a word has, or up to twice as many: the first and the last are compared.
+#[inline(always)]
+fn has_same_ends<const N: usize>(a: &[u8], b: &[u8]) -> Option<bool>
+    requires few { N ≤ 16 }
+    requires long { length a.now ≡ length b.now }
+    ensures { IfSome result (λ same. same ≡ bytes_eq a.now b.now) }
+{
+    if a.len() > 2 * N {
+        return None;
+    }
+    let has_front = is_same_word(a.first_chunk::<N>()?, b.first_chunk::<N>()?);
+    let has_back = is_same_word(a.last_chunk::<N>()?, b.last_chunk::<N>()?);
+    Some(has_front && has_back)
+}
+
+/// Whether words are the same.
+#[inline(always)]
+fn is_same_word<const N: usize>(a: &[u8; N], b: &[u8; N]) -> bool
+    ensures { result ≡ bytes_eq a.now b.now }
+{
+    *a == *b
+}
+
 /// Whether the object of that number has the name.
 fn is_named_at(objects: &[Object], id: ObjectId, host: &[u8], service: Option<&[u8]>) -> bool
     ensures { result ≡ is_named_at objects.now host.now (option_copied service.entry) id }
@@ -197,9 +274,9 @@ fn is_named_at(objects: &[Object], id: ObjectId, host: &[u8], service: Option<&[
         return false;
     };
     match (object.host, service) {
-        (None, None) => object.name.as_slice() == host,
+        (None, None) => is_same(object.name.as_slice(), host),
         (Some(id), Some(service)) => {
-            object.name.as_slice() == service && has_name(objects, id, host)
+            is_same(object.name.as_slice(), service) && has_name(objects, id, host)
         }
         _ => false,
     }
@@ -211,6 +288,6 @@ fn has_name(objects: &[Object], id: ObjectId, name: &[u8]) -> bool
 {
     match objects.get(id.0 as usize) {
         None => false,
-        Some(object) => object.name.as_slice() == name,
+        Some(object) => is_same(object.name.as_slice(), name),
     }
 }

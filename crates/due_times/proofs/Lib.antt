@@ -2,3 +2,4 @@ mod Moments
 mod Climbing
 mod Mending
 mod Tops
+mod Next

@@ -1,5 +1,6 @@
 -- An index of moments by object number.
-use Rattle.std.specs.Prelude.{◌≡◌, ◌≢◌, ℕ, ◌<◌, ◌≤◌, Bool, true, false, List, slice_index_or, nat_lt, Option, Some, None, if◌then◌else◌}
+use Rattle.std.specs.Prelude.{◌≡◌, ◌≢◌, ℕ, ◌<◌, ◌≤◌, Bool, true, false, List, length, filter, slice_index_or, nat_lt, Option, Some, None, if◌then◌else◌}
+use Rattle.due_model.specs.Rules.{has_come}
 
 -- the moments by object number, and how many entries were handed out, modulo 2^64
 pub record Due : Type 0 where
@@ -42,3 +43,21 @@ pub record Sets (old new : List (Option ℕ)) (o : ℕ) (moment : Option ℕ) : 
 -- the same entries
 abbrev pub SameEntries : (old new : List (Option ℕ)) → Type 0
 SameEntries old new = (p : ℕ) → at new p ≡ at old p
+
+-- object o is the first from that number on whose moment has come at t
+pub record IsNextDue (moments : List (Option ℕ)) (from t o : ℕ) : Type 0 where
+  pub reached : from ≤ o
+  pub due : has_come (at moments o) t ≡ true
+  pub before : (p : ℕ) → from ≤ p → p < o → has_come (at moments p) t ≡ false
+
+-- from that number on no object's moment has come at t
+abbrev pub NoneIsDueFrom : List (Option ℕ) → (from t : ℕ) → Type 0
+NoneIsDueFrom moments from t = (p : ℕ) → from ≤ p → has_come (at moments p) t ≡ false
+
+-- what is left of an entry once those were taken out whose moment has come at t
+abbrev pub left_at : (t : ℕ) → Option ℕ → Option ℕ
+left_at t moment = if has_come moment t then None else moment
+
+-- how many entries' moments have come at t
+abbrev pub due_count : (t : ℕ) → List (Option ℕ) → ℕ
+due_count t moments = length (filter (λ moment. has_come moment t) moments)

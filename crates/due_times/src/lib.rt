@@ -6,11 +6,14 @@ mod level;
 
 ghost use Rattle.std.specs.Prelude.{◌≡◌, ◌↔◌, IsTrue, ◌+◌, ◌-◌, ◌%◌, ◌^◌};
 ghost use Rattle.std.specs.Prelude.{◌<◌, ◌≤◌, ℕ, List, [], Option, None, Some, IsOk, IfNone};
-ghost use Rattle.std.specs.Prelude.{IfOk, IfSome, OnOk, OnErr, length};
+ghost use Rattle.std.specs.Prelude.{IfOk, IfSome, OnOk, OnErr, length, if◌then◌else◌, ◌*◌};
+ghost use Rattle.due_model.specs.Rules.{has_come};
 ghost use Rattle.due_times.specs.Index.{IsFirst, IsFirstDue, NothingIsDue, SameEntries, Sets, at};
+ghost use Rattle.due_times.specs.Index.{IsNextDue, NoneIsDueFrom, due_count, left_at};
 ghost use Rattle.due_times.specs.Levels.{ArePaired, IsAbove, leaves, level};
 
 use due_model::config::ObjectId;
+use due_model::rules::has_come;
 use level::Level;
 use std::alloc::{AllocError, Global};
 use std::marker::Model;
@@ -146,6 +149,43 @@ fn place_below(level: &Level, place: usize, moment: u64) -> usize
     }
 }
 
+/// The first place from `from` on, in the level of this number, whose moment has come at `t`. It goes up a level only
+/// where the place that it stands on isn't due.
+fn next_in(levels: &[Level], number: usize, from: usize, t: u64) -> Option<usize>
+    requires { ArePaired levels.now }
+    ensures some { IfSome result (λ o. IsNextDue (level levels.now number) from t o) }
+    ensures none { IfNone result (NoneIsDueFrom (level levels.now number) from t) }
+{
+    if number >= levels.len() {
+        return None;
+    }
+    let here = &levels[number];
+    if from >= here.len() {
+        return None;
+    }
+    if has_come(here.at(from), t) {
+        return Some(from);
+    }
+    match next_in(levels, number + 1, (from + 1) / 2, t) {
+        Some(place) => Some(due_below(here, place, t)),
+        None => None,
+    }
+}
+
+/// The first of the two places below a place whose moment has come at `t`.
+fn due_below(level: &Level, place: usize, t: u64) -> usize
+    requires { 2 * place + 1 ≤ length level.now }
+    ensures { result ≡ (if has_come (at level.now (2 * place)) t then 2 * place else 2 * place + 1) }
+{
+    let _count = level.len();
+    let first = 2 * place;
+    if has_come(level.at(first), t) {
+        first
+    } else {
+        first + 1
+    }
+}
+
 impl Index {
     /// An index without an entry. It takes no memory.
     pub fn new(alloc: Global) -> Index
@@ -228,6 +268,33 @@ impl Index {
         set_in(&mut self.levels, place, None);
         self.examined = self.examined.wrapping_add(1);
         Some(ObjectId(place as u16))
+    }
+
+    /// Takes out every entry whose moment has come at `t`, as `pop_due` does, one after the other. It takes no memory.
+    pub fn take_due(&mut self, t: u64)
+        ensures entries { (o : ℕ)
+            → at self.new.moments o ≡ left_at t (at self.old.moments o) }
+        ensures room { length self.new.moments ≡ length self.old.moments }
+        ensures examined { self.new.examined
+            ≡ (self.old.examined + due_count t self.old.moments) % 2 ^ 64 }
+    {
+        let _handed_out = self.examined;
+        while let Some(_object) = self.pop_due(t) {}
+    }
+
+    /// The object of the least number, from `from` on, whose moment has come at `t`. The entry stays, and isn't counted
+    /// as handed out. It takes no memory.
+    pub fn next_due(&self, from: u32, t: u64) -> Option<ObjectId>
+        ensures some { IfSome result (λ o. IsNextDue self.now.moments from t o.0) }
+        ensures none { IfNone result (NoneIsDueFrom self.now.moments from t) }
+    {
+        if !has_come(first_moment(self.levels.as_slice()), t) {
+            return None;
+        }
+        match next_in(self.levels.as_slice(), 0, from as usize, t) {
+            Some(place) => Some(ObjectId(place as u16)),
+            None => None,
+        }
     }
 
     /// How many entries were handed out, modulo 2^64.

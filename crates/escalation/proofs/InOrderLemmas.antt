@@ -12,25 +12,13 @@ use Rattle.std.proofs.lemmas.List.FromFn.{get_or-range_with_len, length-range_wi
 use Rattle.std.proofs.lemmas.List.Kept.{AllPairs-filter, AllPairs-from_increasing, Contains-dedup_nat, Contains-from_dedup}
 use Rattle.std.proofs.lemmas.List.Sorted.{Contains-permutation, IsPermutation-map, IsPermutation-sym}
 use Rattle.std.proofs.lemmas.Map.Keys.{IsStrictlyIncreasing-dedup}
+use Rattle.lemmas.proofs.Elements.{Contains-cases, Contains-filter, Contains-from_filter, Contains-here, Contains-later, Contains-none}
 use Rattle.lemmas.proofs.Lists.{AllPairs-head, AllPairs-tail, range_increases}
 use Rattle.due_model.specs.declared.config.ContactId.{ContactId}
 use Rattle.due_model.specs.Escalations.{has_contact}
 use Rattle.escalation.specs.Named.{contact_ids}
 
 -- ---- what a list contains, one element at a time
-
-Contains-here : {X : Type 0} (x : X) (xs : List X) → Contains (x ∷ xs) x
-Contains-here x xs = (0, omega arith, refl)
-
-Contains-later : {X : Type 0} (x y : X) (xs : List X) → Contains xs y → Contains (x ∷ xs) y
-Contains-later x y xs at = (suc at.0, omega (arith, at.1), at.2)
-
-Contains-cases : {X : Type 0} (x y : X) (xs : List X) → Contains (x ∷ xs) y → (x ≡ y) ⊎ Contains xs y
-Contains-cases x y xs (zero, within, at) = inl at
-Contains-cases x y xs (suc k, within, at) = inr (k, omega arith, at)
-
-Contains-none : {X : Type 0} (x : X) → Contains [] x → ⊥
-Contains-none x at = omega (arith, at.1)
 
 -- ---- rising numbers are determined by which they are
 
@@ -66,27 +54,6 @@ same_rising (x ∷ xs) (y ∷ ys) rising rising' to from =
     ap (λ (z : ℕ). z ∷ xs) same ∙ ap (λ (zs : List ℕ). y ∷ zs) rest
 
 -- ---- what a filter contains
-
-Contains-filter : (p : ℕ → Bool) (xs : List ℕ) (k : ℕ) → Contains xs k → p k ≡ true → Contains (filter p xs) k
-Contains-filter p [] k at passes = absurd (Contains-none k at)
-Contains-filter p (x ∷ xs) k at passes = elim (Contains-cases x k xs at) [
-  | inl here ↦ let yes : p x ≡ true = ap p here ∙ passes in rw yes (subst (λ (y : ℕ). Contains (x ∷ filter p xs) y) here (Contains-here x (filter p xs)))
-  | inr later ↦ elim (p x) as (λ b. Contains (cond b (x ∷ filter p xs) (filter p xs)) k) [
-    | true ↦ Contains-later x k (filter p xs) (Contains-filter p xs k later passes)
-    | false ↦ Contains-filter p xs k later passes
-  ]
-]
-
-filter-Contains : (p : ℕ → Bool) (xs : List ℕ) (k : ℕ) → Contains (filter p xs) k → p k ≡ true
-filter-Contains p [] k at = absurd (Contains-none k at)
-filter-Contains p (x ∷ xs) k at =
-    elim (p x) as (λ b. p x ≡ b → Contains (cond b (x ∷ filter p xs) (filter p xs)) k → p k ≡ true) [
-      | true ↦ λ yes here. ⊎_elim
-          (λ (same : x ≡ k). sym (ap p same) ∙ yes)
-          (λ (later : Contains (filter p xs) k). filter-Contains p xs k later)
-          (Contains-cases x k (filter p xs) here)
-      | false ↦ λ no here. filter-Contains p xs k here
-    ] refl at
 
 below-Contains : (count k : ℕ) → k < count → Contains (range_with_len 0 count) k
 below-Contains count k low = (k, omega (arith, low, length-range_with_len 0 count), get_or-range_with_len 0 count k k low ∙ omega arith)
@@ -162,7 +129,7 @@ in_order E ties xs ys zs moved rising is count few =
     (λ k at.
     let among : Contains ns k = Contains-permutation ms ns k (IsPermutation-sym ns ms moves) (Contains-from_dedup eqb ms k at) in
     Contains-filter (has_contact xs) (range_with_len 0 count) k (below-Contains count k (All-contains (λ k. k < count) ns k below among)) (Contains-has xs k among))
-    (λ k at. Contains-dedup_nat ms k (Contains-permutation ns ms k moves (has-Contains xs k (filter-Contains (has_contact xs) (range_with_len 0 count) k at)))) in
+    (λ k at. Contains-dedup_nat ms k (Contains-permutation ns ms k moves (has-Contains xs k ((Contains-from_filter (has_contact xs) (range_with_len 0 count) k at).1)))) in
     ids_numbers zs ∙ ap contact_ids (ap (map number) is ∙ dedup_numbers E ties ys ∙ same)
 
 -- what is appended where there was room

@@ -125,9 +125,6 @@ times_within n m low = omega arith
 pub read_at : {X : Type 0} (xs ys : List X) (i : ℕ) (x : X) → ys ≡ xs → i < length xs → x ≡ get_or ys i x → slice_get xs i ≡ Some x
 read_at {X} xs ys i x same low is = slice_get_read xs i x low (is ∙ ap (λ (zs : List X). get_or zs i x) same)
 
-pub is_read : {X : Type 0} (xs ys : List X) (i k : ℕ) (d x : X) → ys ≡ xs → k ≡ i → slice_get xs i ≡ Some x → get_or ys k d ≡ x
-is_read {X} xs ys i k d x same place at = ap (λ (zs : List X). get_or zs k d) same ∙ ap (λ (m : ℕ). get_or xs m d) place ∙ get_or_from_slice_get xs i x d at
-
 -- ---- whom they name
 
 named_any : (es : List Escalation) (k : ℕ) → has_contact (named_by es) k ≡ list_any (λ e. has_contact e.contacts k) es

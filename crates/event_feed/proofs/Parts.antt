@@ -1,13 +1,13 @@
 -- The parts of a list between the elements that pass a test, and the number that the digits at its front write.
-use Rattle.std.proofs.Common.{◌≡◌, ℕ, ◌+◌, ◌-◌, ◌*◌, ◌<◌, ◌≤◌, Bool, true, false, not, cond, eqb, ltb, min, List, [], ◌∷◌, length, length-take-le, map, take, drop, get_or, Err, Option, Some, None, refl, sym, ap, ◌∙◌, ⊎_elim, arith}
+use Rattle.std.proofs.Common.{◌≡◌, ℕ, suc, ◌+◌, ◌-◌, ◌*◌, ◌^◌, ◌<◌, ◌≤◌, Bool, true, false, not, cond, eqb, leb, min, List, [], ◌∷◌, length, length-take-le, map, take, drop, get_or, Err, Option, refl, sym, ap, ◌∙◌, ⊎_elim, arith}
 use Rattle.std.specs.Char.{is_ascii_digit}
-use Rattle.std.specs.List.{slice_split, onto_first, position, position_or_len, take_while}
-use Rattle.std.proofs.lemmas.Bool.{cases_lt, lt-ltb, ltb-true}
-use Rattle.std.proofs.lemmas.List.{take_more, take_rest, map-append}
+use Rattle.std.specs.List.{slice_split, onto_first, position_or_len, prefix_len, take_while}
+use Rattle.std.proofs.lemmas.Bool.{and_parts, cases_lt, leb-true}
+use Rattle.std.proofs.lemmas.List.{take_more, take_rest, map-append, get_or-take}
+use Rattle.std.proofs.Math.Nat.{pow-suc, pow-le-pow_right}
 use Rattle.std.proofs.lemmas.List.Splits.{slice_split_first}
-use Rattle.std.proofs.lemmas.List.Sums.{prefix_len-le-length, prefix_len_is}
+use Rattle.std.proofs.lemmas.List.Sums.{prefix_len-le-length, prefix_len_is, prefix_len_passes, prefix_len_stops}
 use Rattle.std.proofs.lemmas.Int.Digits.{number_push}
-use Rattle.std.proofs.lemmas.Option.{cond_some, none-some}
 use Rattle.lemmas.proofs.Lists.{slice_split-first}
 use Rattle.due_model.specs.declared.event.EventKind.{EventKind}
 use Rattle.event_feed.specs.declared.fault.FeedFault.TheVariants.{BadState}
@@ -40,23 +40,14 @@ digits_number-more digits at within =
     ∙ rw (map-append (λ (digit : ℕ). digit - 48) (take at digits) (get_or digits at 0 ∷ [])) (number_push 10 (map (λ digit. digit - 48) (take at digits)) (get_or digits at 0 - 48))
 
 -- with no `;` the bytes are one field
-pub fields-whole : (bytes : List ℕ) → position (λ byte. eqb byte 59) bytes ≡ None → fields bytes ≡ bytes ∷ []
-fields-whole bytes none =
-    ⊎_elim
-    (λ (has : position_or_len (λ byte. eqb byte 59) bytes < length bytes).
-    let yes : ltb (position_or_len (λ byte. eqb byte 59) bytes) (length bytes) ≡ true = lt-ltb _ _ has in
-    absurd (none-some (position_or_len (λ byte. eqb byte 59) bytes) (sym none ∙ rw yes refl)))
-    (λ (past : length bytes ≤ position_or_len (λ byte. eqb byte 59) bytes).
-    slice_split-whole (λ byte. eqb byte 59) bytes (omega (arith, past, prefix_len-le-length (λ byte. not (eqb byte 59)) bytes)))
-    (cases_lt (position_or_len (λ byte. eqb byte 59) bytes) (length bytes))
+pub fields-whole : (bytes : List ℕ) → length bytes ≤ position_or_len (λ byte. eqb byte 59) bytes → fields bytes ≡ bytes ∷ []
+fields-whole bytes past = slice_split-whole (λ byte. eqb byte 59) bytes (omega (arith, past, prefix_len-le-length (λ byte. not (eqb byte 59)) bytes))
 
 -- the first field ends at the first `;`
-pub fields-split : (bytes : List ℕ) (end : ℕ) → position (λ byte. eqb byte 59) bytes ≡ Some end
+pub fields-split : (bytes : List ℕ) (end : ℕ) → end ≡ position_or_len (λ byte. eqb byte 59) bytes → end < length bytes
     → fields bytes ≡ take end bytes ∷ fields (take (length bytes - (end + 1)) (drop (end + 1) bytes))
-fields-split bytes end found =
-    let parts = cond_some (ltb (position_or_len (λ byte. eqb byte 59) bytes) (length bytes)) (position_or_len (λ byte. eqb byte 59) bytes) end found in
-    let before : position_or_len (λ byte. eqb byte 59) bytes < length bytes = ltb-true _ _ parts.0 in
-    let place : end ≡ position_or_len (λ byte. eqb byte 59) bytes = sym parts.1 in
+fields-split bytes end place within =
+    let before : position_or_len (λ byte. eqb byte 59) bytes < length bytes = omega (arith, place, within) in
     rw take_rest (rw place (slice_split_first (λ byte. eqb byte 59) bytes 0 before))
 
 -- ---- the digits of a stamp
@@ -95,3 +86,45 @@ pub ReadsDigits-number : (bytes : List ℕ) (at number : ℕ) → ReadsDigits by
     → number ≡ min (digits_number (take_while is_ascii_digit bytes)) (last_moment + 1)
 ReadsDigits-number bytes at number reads within stops =
     reads.value ∙ ap (λ (digits : List ℕ). min (digits_number digits) (last_moment + 1)) (sym (ReadsDigits-end bytes at number reads within stops))
+
+-- ten digits
+
+pub digit-is : (x : ℕ) → is_ascii_digit x ≡ true → (48 ≤ x) × (x ≤ 57)
+digit-is x digit = let parts = and_parts (leb 48 x) (leb x 57) digit in (leb-true 48 x parts.0, leb-true x 57 parts.1)
+
+-- so many were read, and this is their number
+pub record ReadsTen (digits : List ℕ) (at number : ℕ) : Type 0 where
+  pub value : number ≡ digits_number (take at digits)
+  pub few : number < 10 ^ at
+
+pub ReadsTen-more : (digits : List ℕ) (at number : ℕ) → ReadsTen digits at number → at < length digits → is_ascii_digit (get_or digits at 0) ≡ true
+    → ReadsTen digits (at + 1) (number * 10 + get_or digits at 0 - 48)
+ReadsTen-more digits at number reads within digit =
+    let is = digit-is (get_or digits at 0) digit in
+    let power : 10 ^ (at + 1) ≡ 10 ^ at * 10 = ap (λ (n : ℕ). 10 ^ n) {x = at + 1} {y = suc at} (omega arith) ∙ pow-suc 10 at in
+    record {
+      value = rw (digits_number-more digits at within) (omega (arith, reads.value, is.0));
+      few = omega (arith, reads.few, is.0, is.1, power);
+    }
+
+-- the number so far leaves room
+pub ReadsTen-room : (digits : List ℕ) (at number : ℕ) → ReadsTen digits at number → at ≤ 10 → number < 10 ^ 10
+ReadsTen-room digits at number reads within = omega (arith, reads.few, pow-le-pow_right {n = 10} (omega arith) within)
+
+-- of sixteen bytes that begin with just ten digits, the first ten
+pub ten_digits : (bytes : List ℕ) → 16 ≤ length bytes → prefix_len is_ascii_digit (take 16 bytes) ≡ 10 → (k d : ℕ) → k < length (take 10 bytes) → is_ascii_digit (get_or (take 10 bytes) k d) ≡ true
+ten_digits bytes long ten k d within =
+    let low : k < 10 = omega (arith, within, length-take-le 10 bytes (omega (arith, long))) in
+    ap is_ascii_digit (get_or-take 10 bytes k d low ∙ sym (get_or-take 16 bytes k d (omega (arith, low)))) ∙ prefix_len_passes is_ascii_digit (take 16 bytes) k d (omega (arith, low, ten))
+
+-- sixteen bytes that begin with just ten digits
+pub ReadsDigits-ten : (bytes : List ℕ) (number : ℕ) → 16 ≤ length bytes → prefix_len is_ascii_digit (take 16 bytes) ≡ 10 → number ≡ digits_number (take 10 bytes) → number < 10 ^ 10
+    → ReadsDigits bytes 10 number × (is_ascii_digit (get_or bytes 10 0) ≡ false)
+ReadsDigits-ten bytes number long ten is few =
+    let front : length (take 16 bytes) ≡ 16 = length-take-le 16 bytes long in (
+      record {
+        digits = λ k low. sym (ap is_ascii_digit (get_or-take 16 bytes k 0 (omega (arith, low)))) ∙ prefix_len_passes is_ascii_digit (take 16 bytes) k 0 (omega (arith, low, ten));
+        value = omega (arith, is, few);
+      },
+      sym (ap is_ascii_digit (ap (λ (k : ℕ). get_or (take 16 bytes) k 0) ten ∙ get_or-take 16 bytes 10 0 (omega arith))) ∙ prefix_len_stops is_ascii_digit (take 16 bytes) 0 (omega (arith, front, ten)),
+    )

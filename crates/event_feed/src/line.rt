@@ -2,9 +2,10 @@
 
 ghost use Rattle.std.specs.Prelude.{◌≡◌, ◌+◌, ◌≤◌, ◌∷◌, ◌==◌};
 ghost use Rattle.std.specs.Prelude.{Some, None, IfOk, IfSome, nat_le};
-ghost use Rattle.std.specs.Prelude.{length, min, position, take_while, if◌then◌else◌};
+ghost use Rattle.std.specs.Prelude.{◌<◌, ◌^◌, All, IsTrue, length, min, take_while, if◌then◌else◌};
 ghost use Rattle.std.specs.Option.{option_copied, option_map};
-ghost use Rattle.std.specs.Str.{is_utf8};
+ghost use Rattle.std.specs.Str.{bytes_eq, is_utf8};
+ghost use Rattle.std.specs.List.{prefix_len};
 ghost use Rattle.due_model.specs.Proper.{IsProper};
 ghost use Rattle.due_model.specs.Limits.{last_moment};
 ghost use Rattle.std.specs.Char.{is_ascii_digit};
@@ -19,6 +20,8 @@ use due_model::config::{Config, ObjectId};
 use due_model::event::{DowntimeChange, Event, EventKind};
 use due_model::limits::{LAST_MOMENT, LINE_LIMIT};
 use due_model::state::State;
+use std::simd::prelude::*;
+use text_lines::find_near;
 
 /// What the name of a line says that happened.
 #[derive(Clone, Copy)]
@@ -120,8 +123,53 @@ struct Digits {
     number: u64,
 }
 
-/// The decimal digits that the bytes begin with, read once.
+/// The decimal digits that the bytes begin with. A stamp has ten, but for those of long ago and of the years to come.
+#[inline(always)]
 fn read_digits(bytes: &[u8]) -> Digits
+    ensures count { result.count ≡ length (take_while is_ascii_digit bytes.now) }
+    ensures number { result.number
+        ≡ min (digits_number (take_while is_ascii_digit bytes.now)) (last_moment + 1) }
+{
+    match (bytes.first_chunk::<16>(), bytes.first_chunk::<10>()) {
+        (Some(front), Some(digits)) if count_digits(front) == 10 => Digits {
+            count: 10,
+            number: read_ten_digits(digits),
+        },
+        _ => read_other_digits(bytes),
+    }
+}
+
+/// How many decimal digits sixteen bytes begin with.
+#[inline(always)]
+fn count_digits(bytes: &[u8; 16]) -> usize
+    ensures { result ≡ prefix_len is_ascii_digit bytes.now }
+{
+    let lanes = u8x16::from_array(*bytes);
+    let others = lanes.simd_lt(u8x16::splat(b'0')) | lanes.simd_gt(u8x16::splat(b'9'));
+    let marks = others.to_bitmask();
+    if marks == 0 {
+        16
+    } else {
+        marks.trailing_zeros() as usize
+    }
+}
+
+/// The number that ten decimal digits write.
+#[inline(always)]
+fn read_ten_digits(digits: &[u8; 10]) -> u64
+    requires { All (λ digit. IsTrue (is_ascii_digit digit)) digits.now }
+    ensures number { result ≡ digits_number digits.now }
+    ensures few { result < 10 ^ 10 }
+{
+    let mut number = 0;
+    for digit in digits {
+        number = number * 10 + u64::from(*digit) - 48;
+    }
+    number
+}
+
+/// Any decimal digits that the bytes begin with, read once.
+fn read_other_digits(bytes: &[u8]) -> Digits
     ensures count { result.count ≡ length (take_while is_ascii_digit bytes.now) }
     ensures number { result.number
         ≡ min (digits_number (take_while is_ascii_digit bytes.now)) (last_moment + 1) }
@@ -168,43 +216,50 @@ fn read_command(config: &Config, command: &[u8]) -> Result<EventKind, FeedFault>
 }
 
 /// The first field, and what follows its `;`, if it has one.
+#[inline(always)]
 fn split_field(bytes: &[u8]) -> (&[u8], Option<&[u8]>)
     ensures { fields bytes.now ≡ result.0.now ∷ fields_after (option_copied result.1) }
 {
-    match field_end(bytes) {
-        None => (bytes, None),
-        Some(end) => (&bytes[..end], Some(&bytes[end + 1..])),
+    let end = find_near(b';', bytes);
+    if end < bytes.len() {
+        (&bytes[..end], Some(&bytes[end + 1..]))
+    } else {
+        (bytes, None)
     }
 }
 
-/// The place of the first `;`. Fields are short: a search byte by byte is over before one by vectors has begun.
-fn field_end(bytes: &[u8]) -> Option<usize>
-    ensures { result ≡ position (λ byte. byte == 59) bytes.now }
+/// Whether bytes are this word. As arrays they are compared at once, with no call.
+#[inline(always)]
+fn is_word<const N: usize>(bytes: &[u8], word: &[u8; N]) -> bool
+    ensures { result ≡ bytes_eq bytes.now word.now }
 {
-    bytes.iter().position(|byte| *byte == b';')
+    match bytes.as_array::<N>() {
+        Some(array) => array == word,
+        None => false,
+    }
 }
 
 /// The commands, one after another: the name, what it names, and its words.
 fn find_command(name: &[u8]) -> Option<Command>
     ensures { result ≡ command_named name.now }
 {
-    if name == b"CLOCK".as_slice() {
+    if is_word(name, b"CLOCK") {
         Some(Command::TellTime)
-    } else if name == b"ENABLE_NOTIFICATIONS".as_slice() {
+    } else if is_word(name, b"ENABLE_NOTIFICATIONS") {
         Some(Command::Switch(true))
-    } else if name == b"DISABLE_NOTIFICATIONS".as_slice() {
+    } else if is_word(name, b"DISABLE_NOTIFICATIONS") {
         Some(Command::Switch(false))
-    } else if name == b"HOST_STATE".as_slice() {
+    } else if is_word(name, b"HOST_STATE") {
         Some(Command::Tell(Words::States, Subject::Host))
-    } else if name == b"SERVICE_STATE".as_slice() {
+    } else if is_word(name, b"SERVICE_STATE") {
         Some(Command::Tell(Words::States, Subject::Service))
-    } else if name == b"HOST_DOWNTIME".as_slice() {
+    } else if is_word(name, b"HOST_DOWNTIME") {
         Some(Command::Tell(Words::Downtimes, Subject::Host))
-    } else if name == b"SERVICE_DOWNTIME".as_slice() {
+    } else if is_word(name, b"SERVICE_DOWNTIME") {
         Some(Command::Tell(Words::Downtimes, Subject::Service))
-    } else if name == b"HOST_FLAPPING".as_slice() {
+    } else if is_word(name, b"HOST_FLAPPING") {
         Some(Command::Tell(Words::Flaps, Subject::Host))
-    } else if name == b"SERVICE_FLAPPING".as_slice() {
+    } else if is_word(name, b"SERVICE_FLAPPING") {
         Some(Command::Tell(Words::Flaps, Subject::Service))
     } else {
         None
@@ -292,6 +347,7 @@ fn unknown_fault(arguments: &[u8]) -> FeedFault
 }
 
 /// What one of these words says of an object.
+#[inline(always)]
 fn find_said(words: Words, subject: Subject, object: ObjectId, word: &[u8]) -> Option<EventKind>
     ensures { result ≡ said words subject object word.now }
 {
@@ -309,11 +365,11 @@ fn find_said(words: Words, subject: Subject, object: ObjectId, word: &[u8]) -> O
 fn find_host_state(object: ObjectId, word: &[u8]) -> Option<EventKind>
     ensures { result ≡ host_state_said object word.now }
 {
-    if word == b"UP".as_slice() {
+    if is_word(word, b"UP") {
         Some(EventKind::Hard(object, State::Up))
-    } else if word == b"DOWN".as_slice() {
+    } else if is_word(word, b"DOWN") {
         Some(EventKind::Hard(object, State::Down))
-    } else if word == b"UNREACHABLE".as_slice() {
+    } else if is_word(word, b"UNREACHABLE") {
         Some(EventKind::Hard(object, State::Unreachable))
     } else {
         None
@@ -324,13 +380,13 @@ fn find_host_state(object: ObjectId, word: &[u8]) -> Option<EventKind>
 fn find_service_state(object: ObjectId, word: &[u8]) -> Option<EventKind>
     ensures { result ≡ service_state_said object word.now }
 {
-    if word == b"OK".as_slice() {
+    if is_word(word, b"OK") {
         Some(EventKind::Hard(object, State::Fine))
-    } else if word == b"WARNING".as_slice() {
+    } else if is_word(word, b"WARNING") {
         Some(EventKind::Hard(object, State::Warning))
-    } else if word == b"UNKNOWN".as_slice() {
+    } else if is_word(word, b"UNKNOWN") {
         Some(EventKind::Hard(object, State::Unknown))
-    } else if word == b"CRITICAL".as_slice() {
+    } else if is_word(word, b"CRITICAL") {
         Some(EventKind::Hard(object, State::Critical))
     } else {
         None
@@ -341,11 +397,11 @@ fn find_service_state(object: ObjectId, word: &[u8]) -> Option<EventKind>
 fn find_downtime(object: ObjectId, word: &[u8]) -> Option<EventKind>
     ensures { result ≡ downtime_said object word.now }
 {
-    if word == b"START".as_slice() {
+    if is_word(word, b"START") {
         Some(EventKind::Downtime(object, DowntimeChange::Start))
-    } else if word == b"END".as_slice() {
+    } else if is_word(word, b"END") {
         Some(EventKind::Downtime(object, DowntimeChange::End))
-    } else if word == b"CANCELLED".as_slice() {
+    } else if is_word(word, b"CANCELLED") {
         Some(EventKind::Downtime(object, DowntimeChange::Cancelled))
     } else {
         None
@@ -356,9 +412,9 @@ fn find_downtime(object: ObjectId, word: &[u8]) -> Option<EventKind>
 fn find_flapping(object: ObjectId, word: &[u8]) -> Option<EventKind>
     ensures { result ≡ flapping_said object word.now }
 {
-    if word == b"START".as_slice() {
+    if is_word(word, b"START") {
         Some(EventKind::Flapping(object, true))
-    } else if word == b"STOP".as_slice() {
+    } else if is_word(word, b"STOP") {
         Some(EventKind::Flapping(object, false))
     } else {
         None

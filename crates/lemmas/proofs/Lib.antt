@@ -2,6 +2,7 @@ pub mod Lists
 pub mod Searches
 pub mod Writes
 pub mod Numbers
+pub mod Elements
 pub mod Notices
-pub mod Coverage
+pub mod Beginnings
 pub mod Dependencies

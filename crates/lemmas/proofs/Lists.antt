@@ -1,8 +1,9 @@
 -- Lists: those in which each element is related to each later one, ranges of numbers, elements read at a place, and a list
 -- taken from its front one element at a time.
-use Rattle.std.proofs.Common.{◌≡◌, ℕ, zero, suc, ◌+◌, ◌<◌, ◌≤◌, Bool, true, false, cond, List, [], ◌∷◌, ◌++◌, length, length-take, length-take-le, get_or, take, drop, reverse, map-id, filter, flat_map, All, Some, slice_get, refl, sym, ap, ◌∙◌, arith}
-use Rattle.std.specs.List.{AllPairs, range_with_len, slice_split, onto_first}
+use Rattle.std.proofs.Common.{◌≡◌, ℕ, zero, suc, ◌+◌, ◌<◌, ◌≤◌, Bool, true, false, cond, ◌||◌, List, [], ◌∷◌, ◌++◌, length, length-take, length-take-le, get_or, take, drop, reverse, map-id, filter, flat_map, All, Some, slice_get, Contains, refl, sym, ap, ap₂, ◌∙◌, arith}
+use Rattle.std.specs.List.{AllPairs, list_any, range_with_len, slice_split, onto_first}
 use Rattle.std.proofs.lemmas.List.{take_more, reverse-append, length-reverse, take_all, drop_all, drop-append-le}
+use Rattle.std.proofs.lemmas.Option.{get_or_from_slice_get}
 use Rattle.std.proofs.lemmas.List.Elements.{All-nil, All-cons, All-head, All-tail, All-append, All-same}
 use Rattle.std.proofs.lemmas.List.FromFn.{get_or-range_with_len, length-range_with_len, filter_of_map_range_with_len_more}
 use Rattle.std.proofs.lemmas.List.Kept.{AllPairs-cons}
@@ -100,3 +101,13 @@ slice_split-first p (x ∷ xs) = elim (p x) as (λ b. HasFirst (cond b ([] ∷ s
   | true ↦ record { first = []; others = slice_split p xs; are = refl }
   | false ↦ onto_first-first x (slice_split p xs)
 ]
+
+-- two tests that agree at each element of a list
+pub any_alike : {X : Type 0} (f g : X → Bool) (xs : List X) → ((x : X) → Contains xs x → f x ≡ g x) → list_any f xs ≡ list_any g xs
+any_alike f g [] alike = refl
+any_alike f g (x ∷ xs) alike =
+    ap₂ (λ a b. a || b) (alike x (0, omega arith, refl)) (any_alike f g xs (λ y found. alike y (suc found.0, omega (arith, found.1), found.2)))
+
+-- what is read of a list at a place where an element stands
+pub is_read : {X : Type 0} (xs ys : List X) (i k : ℕ) (d x : X) → ys ≡ xs → k ≡ i → slice_get xs i ≡ Some x → get_or ys k d ≡ x
+is_read {X} xs ys i k d x same place at = ap (λ (zs : List X). get_or zs k d) same ∙ ap (λ (m : ℕ). get_or xs m d) place ∙ get_or_from_slice_get xs i x d at

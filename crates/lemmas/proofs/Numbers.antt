@@ -14,7 +14,7 @@ range_more a n =
     ∙ ap (λ xs. xs ++ (a + n) ∷ []) (map-id (range_with_len a n))
 
 -- the numbers below n, and one number more
-below_more : (n : ℕ) → range_with_len 0 (n + 1) ≡ range_with_len 0 n ++ n ∷ []
+pub below_more : (n : ℕ) → range_with_len 0 (n + 1) ≡ range_with_len 0 n ++ n ∷ []
 below_more n =
     let sum : 0 + n ≡ n = omega arith in
     range_more 0 n ∙ ap (λ m. range_with_len 0 n ++ m ∷ []) sum

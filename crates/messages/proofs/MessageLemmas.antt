@@ -39,9 +39,6 @@ pub read_at : {X : Type 0} (xs ys : List X) (i k : ℕ) (x : X) → ys ≡ xs �
 read_at {X} xs ys i k x same place low is =
     slice_get_read xs i x low (is ∙ ap (λ (zs : List X). get_or zs k x) same ∙ ap (λ (j : ℕ). get_or xs j x) place)
 
-pub is_read : {X : Type 0} (xs ys : List X) (i k : ℕ) (d x : X) → ys ≡ xs → k ≡ i → slice_get xs i ≡ Some x → get_or ys k d ≡ x
-is_read {X} xs ys i k d x same place at = ap (λ (zs : List X). get_or zs k d) same ∙ ap (λ (m : ℕ). get_or xs m d) place ∙ get_or_from_slice_get xs i x d at
-
 -- ---- what one contact has
 
 -- where no filter of the contact fails

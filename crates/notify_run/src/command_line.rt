@@ -1,9 +1,11 @@
 //! The command line: what `notify-run` can be asked, and what its words ask.
 
-ghost use Rattle.std.specs.Prelude.{◌≡◌, codes, IfOk, IfSome, Some};
-ghost use Rattle.clap.specs.Words.{app_of, subcommand_name_of};
+ghost use Rattle.std.specs.Prelude.{◌≡◌, codes, false, IfOk, IfSome, is_some, Some, true};
+ghost use Rattle.clap.specs.Matches.{found_of};
+ghost use Rattle.clap.specs.Words.{app_of, rule_of, subcommand_name_of};
+ghost use Rattle.notify_run.specs.CommandLine.{IsReplayOf, IsTraceOf, IsZoneOf};
 ghost use Rattle.notify_run.specs.CommandLine.{program_words, replay_words, request_name};
-ghost use Rattle.notify_run.specs.CommandLine.{trace_words};
+ghost use Rattle.notify_run.specs.CommandLine.{text_option, trace_words, with_zone};
 
 use clap::{Arg, ArgMatches, Command, value_parser};
 use std::alloc::{AllocError, Global};
@@ -17,14 +19,15 @@ const STATUSES: &str = "\
 Exit status:
   0  done
   1  the object text was refused, the input or the output failed, or the feed ended early
-  2  the command line is wrong
+  2  the command line is wrong, or its zone can't be read
   4  memory ran out
 
 Faults are named on standard error, those of the object text with their line.";
 
 /// What `notify-run replay --help` says.
 const REPLAY: &str = "\
-Reads object text, a line `%events` and a feed of events from standard input, and
+Reads object text, a line `%events` and a feed of events from standard input (with
+`--objects`, object text from that file, and from standard input the feed alone), and
 writes to standard output what would have been sent, line by line of the feed:
 
   N;event;moment;object;kind;state;number;contact;lane     a notice
@@ -32,8 +35,9 @@ writes to standard output what would have been sent, line by line of the feed:
   C;event;moment;object;kind;state;number;contact;filter   a contact that was refused
   R;line;fault                                             a refused line of the feed
 
-Times are UTC. The feed is read as it comes, and what an event adds is written before
-more input is waited for, so that `tail -f feed | notify-run replay` follows a feed.";
+Time periods are of local times: UTC, unless a zone is given. The feed is read as it
+comes, and what an event adds is written before more input is waited for, so that
+`tail -f feed | notify-run replay --objects FILE` follows a feed.";
 
 /// What `notify-run trace --help` says.
 const TRACE: &str = "\
@@ -64,20 +68,85 @@ A lane is named by its command: one that a contact lists. Standard output gets
 
 where each list is `event:contact`, separated by commas, or `-`.";
 
-/// What the program is asked to do.
+/// What a command line says of the zone of local times: neither, for UTC, or one of the two; both are one too many.
 #[derive(Clone, Copy, Debug, PartialEq, Eq)]
-pub enum Request {
-    Replay,
-    Trace(Settings),
+pub struct ZoneWords<'a> {
+    /// The text of a POSIX rule.
+    pub rule: Option<&'a str>,
+    /// The path of a zone file (TZif).
+    pub file: Option<&'a str>,
 }
 
-/// The command `replay`, which has no options yet.
-fn replay_command<'a>(alloc: Global) -> Command<'a>
-    ensures words { app_of result ≡ replay_words }
+/// What the program is asked to do.
+#[derive(Clone, Copy, Debug, PartialEq, Eq)]
+pub enum Request<'a> {
+    /// A report, of the object text in the file, or of what stands before the feed on standard input.
+    Replay {
+        objects: Option<&'a str>,
+        zone: ZoneWords<'a>,
+    },
+    /// A trace.
+    Trace {
+        settings: Settings,
+        zone: ZoneWords<'a>,
+    },
+}
+
+impl<'a> Request<'a> {
+    /// What it says of the zone.
+    pub fn zone(self) -> ZoneWords<'a> {
+        match self {
+            Request::Replay { zone, .. } => zone,
+            Request::Trace { zone, .. } => zone,
+        }
+    }
+}
+
+/// The option `--NAME` with a text.
+fn text_option<'a>(alloc: Global, name: &'a str, value: &'a str, help: &'a str) -> Arg<'a>
+    ensures rule { rule_of result ≡ text_option name.entry.now }
+    ensures local { result.global ≡ false }
 {
-    Command::new(alloc, "replay")
+    Arg::new(alloc, name)
+        .long(name)
+        .value_name(value)
+        .help(help)
+}
+
+/// Adds the options that say what zone local times are of.
+fn with_zone<'a>(alloc: Global, command: Command<'a>) -> Result<Command<'a>, AllocError>
+    ensures words { IfOk result (λ command_with. app_of command_with ≡ with_zone (app_of command.entry)) }
+{
+    let rule = text_option(
+        alloc,
+        "zone",
+        "RULE",
+        "The zone of local times, by a POSIX rule, as EST5EDT,M3.2.0,M11.1.0",
+    );
+    let file = text_option(
+        alloc,
+        "zone-file",
+        "FILE",
+        "The zone of local times, by a zone file (TZif)",
+    );
+    command.arg(rule)?.arg(file)
+}
+
+/// The command `replay` and its options.
+fn replay_command<'a>(alloc: Global) -> Result<Command<'a>, AllocError>
+    ensures words { IfOk result (λ command. app_of command ≡ replay_words) }
+{
+    let objects = text_option(
+        alloc,
+        "objects",
+        "FILE",
+        "A file of object text; standard input is then the feed alone",
+    );
+    let command = Command::new(alloc, "replay")
         .about("What would have been sent, from object text and a feed of events")
         .long_about(REPLAY)
+        .arg(objects)?;
+    with_zone(alloc, command)
 }
 
 /// The command `trace` and its options.
@@ -102,12 +171,13 @@ fn trace_command<'a>(alloc: Global) -> Result<Command<'a>, AllocError>
         .value_parser(value_parser!(u8).range(1..=10))
         .default_value("3")
         .help("How often a message is tried, 1 to 10");
-    Command::new(alloc, "trace")
+    let command = Command::new(alloc, "trace")
         .about("The engine's design at work, step by step, in an order that you choose")
         .long_about(TRACE)
         .arg(deciders)?
         .arg(queue)?
-        .arg(tries)
+        .arg(tries)?;
+    with_zone(alloc, command)
 }
 
 /// The commands of `notify-run`. A refused growth is the only error.
@@ -122,7 +192,7 @@ pub fn command<'a>(alloc: Global) -> Result<Command<'a>, AllocError>
         .disable_help_subcommand(true)
         .subcommand_required(true)
         .arg_required_else_help(true)
-        .subcommand(replay_command(alloc))?
+        .subcommand(replay_command(alloc)?)?
         .subcommand(trace_command(alloc)?)
 }
 
@@ -135,16 +205,48 @@ fn settings_of(options: &ArgMatches<'_>) -> Option<Settings> {
     Settings::new(deciders, queue, tries)
 }
 
+/// What the options of a command say of the zone.
+fn zone_words<'a>(options: &ArgMatches<'a>) -> ZoneWords<'a>
+    ensures { IsZoneOf (found_of options.now) result }
+{
+    ZoneWords {
+        rule: options.get_str("zone"),
+        file: options.get_str("zone-file"),
+    }
+}
+
+/// What the options of `replay` ask.
+fn replay_request<'a>(options: &ArgMatches<'a>) -> Request<'a>
+    ensures named { request_name result ≡ codes "replay" }
+    ensures options { IsReplayOf (found_of options.now) result }
+{
+    Request::Replay {
+        objects: options.get_str("objects"),
+        zone: zone_words(options),
+    }
+}
+
+/// What the options of `trace` ask.
+fn trace_request<'a>(options: &ArgMatches<'a>) -> Option<Request<'a>>
+    ensures named { IfSome result (λ request. request_name request ≡ codes "trace") }
+    ensures options { IfSome result (IsTraceOf (found_of options.now)) }
+{
+    Some(Request::Trace {
+        settings: settings_of(options)?,
+        zone: zone_words(options),
+    })
+}
+
 /// What a command line that was read asks.
-pub fn request_of(matches: &ArgMatches<'_>) -> Option<Request>
+pub fn request_of<'a>(matches: &ArgMatches<'a>) -> Option<Request<'a>>
     ensures named { IfSome result (λ request.
         subcommand_name_of matches.now ≡ Some (request_name request)) }
     ensures replay { subcommand_name_of matches.now ≡ Some (codes "replay")
-        → result ≡ Some Request.Replay }
+        → is_some result ≡ true }
 {
     match matches.subcommand() {
-        Some(("replay", _)) => Some(Request::Replay),
-        Some(("trace", options)) => settings_of(options).map(Request::Trace),
+        Some(("replay", options)) => Some(replay_request(options)),
+        Some(("trace", options)) => trace_request(options),
         _ => None,
     }
 }

@@ -4,18 +4,25 @@
 ghost use Rattle.std.specs.Prelude.{◌≡◌};
 ghost use Rattle.std.specs.Process.{exit_status};
 ghost use Rattle.command_output.specs.Outcome.{outcome_status};
+ghost use Rattle.notify_run.specs.Zones.{zone_fault_status};
 
 mod command_line;
+mod zone;
 
 use clap::error::ErrorKind;
 use command_line::{Request, command, request_of};
 use command_output::{CommandFault, Ending, exit_status};
-use replay::replay;
+use due_model::zone::Zone;
+use replay::{replay_files, replay_in};
 use std::alloc::AllocError;
 use std::env;
+use std::fs::File;
 use std::process::ExitCode;
 use text_lines::AnyReader;
-use trace::trace;
+use trace::trace_in;
+use world_steps::Settings;
+use zone::zone_of;
+use zone_times::given::ZoneFault;
 
 /// Says on standard error what a command failed with, if it did, and gives its exit status.
 fn status_of<R: Eprint>(rt: &R, outcome: Result<Ending, CommandFault>) -> ExitCode
@@ -47,6 +54,55 @@ fn status_of_refusal<R: Print + Eprint>(rt: &R, error: &clap::Error) -> ExitCode
     }
 }
 
+/// Says on standard error why there is no zone, and gives the exit status.
+fn status_of_zone<R: Eprint>(rt: &R, fault: ZoneFault) -> ExitCode
+    ensures { exit_status result ≡ zone_fault_status fault }
+{
+    match fault {
+        ZoneFault::TwoZones => {
+            let _ = rt.eprintln("usage: two zones");
+            ExitCode::from(2)
+        }
+        ZoneFault::BadZone => {
+            let _ = rt.eprintln("usage: bad zone");
+            ExitCode::from(2)
+        }
+        ZoneFault::NoMemory => out_of_memory(rt),
+    }
+}
+
+/// Does a replay: with the object text of a file, or of the input.
+fn do_replay(rt: &HostRuntime, zone: &Zone, objects: Option<&str>) -> Result<Ending, CommandFault> {
+    let alloc = rt.alloc();
+    let input = AnyReader::new(rt.stdin());
+    let Some(path) = objects else {
+        return replay_in(alloc, zone, input, &mut rt.stdout());
+    };
+    let Ok(file) = File::open(rt, path) else {
+        return Err(CommandFault::Unreadable);
+    };
+    replay_files(alloc, zone, AnyReader::new(file), input, &mut rt.stdout())
+}
+
+/// Does a trace.
+fn do_trace(rt: &HostRuntime, zone: &Zone, settings: Settings) -> Result<Ending, CommandFault> {
+    let input = AnyReader::new(rt.stdin());
+    trace_in(rt.alloc(), zone, settings, input, &mut rt.stdout())
+}
+
+/// Does what is asked, and gives the exit status. The zone is read before anything else.
+fn status_of_request(rt: &HostRuntime, request: Request<'_>) -> ExitCode {
+    let zone = match zone_of(rt, request.zone()) {
+        Ok(zone) => zone,
+        Err(fault) => return status_of_zone(rt, fault),
+    };
+    let outcome = match request {
+        Request::Replay { objects, .. } => do_replay(rt, &zone, objects),
+        Request::Trace { settings, .. } => do_trace(rt, &zone, settings),
+    };
+    status_of(rt, outcome)
+}
+
 fn main(rt: HostRuntime) -> ExitCode {
     let alloc = rt.alloc();
     let Ok(args) = env::args(&rt) else {
@@ -63,19 +119,7 @@ fn main(rt: HostRuntime) -> ExitCode {
         Err(error) => return status_of_refusal(&rt, &error),
     };
     match request_of(&matches) {
-        Some(Request::Replay) => {
-            let outcome = replay(alloc, AnyReader::new(rt.stdin()), &mut rt.stdout());
-            status_of(&rt, outcome)
-        }
-        Some(Request::Trace(settings)) => {
-            let outcome = trace(
-                alloc,
-                settings,
-                AnyReader::new(rt.stdin()),
-                &mut rt.stdout(),
-            );
-            status_of(&rt, outcome)
-        }
+        Some(request) => status_of_request(&rt, request),
         None => {
             let _ = rt.eprintln("usage: notify-run --help");
             ExitCode::from(2)

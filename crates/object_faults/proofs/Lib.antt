@@ -1,3 +1,8 @@
 pub mod FirstLemmas
 pub mod TableLemmas
 pub mod NeedLemmas
+mod RankLemmas
+mod NoteLemmas
+mod TurnLemmas
+mod SearchLemmas
+mod DateLemmas

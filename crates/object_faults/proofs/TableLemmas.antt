@@ -13,8 +13,11 @@ use Rattle.object_faults.specs.declared.fault.ValueFault.TheVariants.{MissingDir
 use Rattle.object_faults.specs.declared.first.Found.{Found}
 use Rattle.std.proofs.lemmas.Option.{slice_get_within}
 use Rattle.object_faults.specs.declared.needs.Side.TheVariants.{Masters, Dependents}
-use Rattle.object_faults.specs.Columns.{any_at, column_fault, first_of, IsFirst, name_columns, registered_fault, side_fault, value_columns}
-use Rattle.object_faults.specs.Faults.{AreFree, fault_by, fault_of, is_broken, is_registered, IsFirstFault, lacks, value_fault}
+use Rattle.object_faults.specs.Columns.{any_at, column_fault, date_at, date_by, date_fault, first_of, IsFirst, lower_fault, name_columns, plain_fault, registered_fault, side_fault, value_columns, whole_at}
+use Rattle.object_faults.specs.Dated.{has_timed, has_untimed}
+use Rattle.object_faults.specs.Faults.{AreFree, fault_by, fault_of, is_broken, is_lacking, is_registered, IsFirstFault, lacks, value_fault}
+use Rattle.object_faults.specs.Kinds.{is_period}
+use Rattle.object_faults.proofs.RankLemmas.{merged}
 use Rattle.object_faults.specs.Tables.{name_lists, names, numbers, option_lists, range_lines, zeros}
 
 -- faults that are all one, before others
@@ -54,7 +57,7 @@ module _ (blocks : List Block) (place : ℕ) where
 
   values : (ns : List (List ℕ)) (os : List (Check × List ℕ)) (rs zs ls : List (List ℕ)) → value_of ns os rs zs ls
       ≡ fault_by false (list_any (is_broken blocks place Number) ns) (list_any (λ row. is_broken blocks place row.0 row.1) os)
-      (list_any (is_broken blocks place Ranges) rs) (list_any (is_broken blocks place Zero) zs) (list_any (is_broken blocks place Names) ls)
+      (list_any (is_broken blocks place Ranges) rs) (list_any (is_broken blocks place Zero) zs) (list_any (is_broken blocks place Names) ls) false
   values ns os rs zs ls =
       group BadNumber (is_broken blocks place Number) ns _
       ∙ ap (λ rest. cond (list_any (is_broken blocks place Number) ns) (Some BadNumber) rest)
@@ -70,7 +73,7 @@ module _ (blocks : List Block) (place : ℕ) where
       (option_or (cond masters (Some MissingDirective) None) (cond dependents (Some MissingDirective) None))) (value_of ns os rs zs ls)
       ≡ fault_by (list_any (is_broken blocks place Given) gs || masters || dependents)
       (list_any (is_broken blocks place Number) ns) (list_any (λ row. is_broken blocks place row.0 row.1) os)
-      (list_any (is_broken blocks place Ranges) rs) (list_any (is_broken blocks place Zero) zs) (list_any (is_broken blocks place Names) ls)
+      (list_any (is_broken blocks place Ranges) rs) (list_any (is_broken blocks place Zero) zs) (list_any (is_broken blocks place Names) ls) false
   groups gs masters dependents ns os rs zs ls =
       ap (λ missing. option_or (option_or missing (option_or (cond masters (Some MissingDirective) None) (cond dependents (Some MissingDirective) None))) (value_of ns os rs zs ls))
       (alone MissingDirective (is_broken blocks place Given) gs)
@@ -83,7 +86,7 @@ module _ (blocks : List Block) (place : ℕ) where
       (option_or (cond (lacks blocks place kind Masters) (Some MissingDirective) None) (cond (lacks blocks place kind Dependents) (Some MissingDirective) None)))
       (first_of (map (column_fault blocks place kind) value_columns))
 
-  by_kind : (kind : BlockKind) → found_of kind ≡ value_fault blocks place kind
+  by_kind : (kind : BlockKind) → found_of kind ≡ plain_fault blocks place kind
   by_kind Host = groups (names Host) (lacks blocks place Host Masters) (lacks blocks place Host Dependents)
       (numbers Host) (option_lists Host) (range_lines Host) (zeros Host) (name_lists Host)
   by_kind HostGroup = groups (names HostGroup) (lacks blocks place HostGroup Masters) (lacks blocks place HostGroup Dependents)
@@ -113,28 +116,42 @@ module _ (blocks : List Block) (place : ℕ) where
   by_kind ServiceExtInfo = groups (names ServiceExtInfo) (lacks blocks place ServiceExtInfo Masters) (lacks blocks place ServiceExtInfo Dependents)
       (numbers ServiceExtInfo) (option_lists ServiceExtInfo) (range_lines ServiceExtInfo) (zeros ServiceExtInfo) (name_lists ServiceExtInfo)
 
-  -- the first fault that is found is that of the block
-  pub first-is : (block : Block) → slice_get blocks place ≡ Some block → any_at blocks place ≡ fault_of blocks place block
-  first-is block here =
+  -- the first fault of the directives is that of the tables
+  plain-is : (block : Block) → slice_get blocks place ≡ Some block → any_at blocks place ≡ cond (is_registered block) (plain_fault blocks place block.kind) None
+  plain-is block here =
       ap (λ found. option_or (option_or (first_of (map (λ column. option_and_then (registered_fault blocks place column) found) name_columns))
       (option_or (option_and_then (side_fault blocks place Masters) found) (option_and_then (side_fault blocks place Dependents) found)))
       (first_of (map (λ column. option_and_then (registered_fault blocks place column) found) value_columns))) here
       ∙ elim (is_registered block) as (λ b. option_or (option_or (first_of (map (λ column. cond b (column_fault blocks place block.kind column) None) name_columns))
       (option_or (cond (b && lacks blocks place block.kind Masters) (Some MissingDirective) None) (cond (b && lacks blocks place block.kind Dependents) (Some MissingDirective) None)))
-      (first_of (map (λ column. cond b (column_fault blocks place block.kind column) None) value_columns)) ≡ cond b (value_fault blocks place block.kind) None) [
+      (first_of (map (λ column. cond b (column_fault blocks place block.kind column) None) value_columns)) ≡ cond b (plain_fault blocks place block.kind) None) [
         | true ↦ by_kind block.kind
+        | false ↦ refl
+      ]
+
+  -- the first fault that is found is that of the block
+  pub first-is : (block : Block) → slice_get blocks place ≡ Some block → whole_at blocks place ≡ fault_of blocks place block
+  first-is block here =
+      let kind = block.kind in
+      ap (λ plain. lower_fault plain (date_at blocks place)) (plain-is block here)
+      ∙ ap (λ found. lower_fault (cond (is_registered block) (plain_fault blocks place kind) None) (option_and_then (date_fault blocks place) found)) here
+      ∙ elim (is_registered block) as (λ b. lower_fault (cond b (plain_fault blocks place kind) None) (cond (b && is_period kind) (date_by (has_untimed blocks place) (has_timed blocks place)) None)
+      ≡ cond b (value_fault blocks place kind) None) [
+        | true ↦ merged (is_lacking blocks place kind) (list_any (is_broken blocks place Number) (numbers kind)) (list_any (λ row. is_broken blocks place row.0 row.1) (option_lists kind))
+            (list_any (is_broken blocks place Ranges) (range_lines kind)) (list_any (is_broken blocks place Zero) (zeros kind)) (list_any (is_broken blocks place Names) (name_lists kind))
+            (is_period kind) (has_untimed blocks place) (has_timed blocks place)
         | false ↦ refl
       ]
 
 -- ---- the first block with a fault
 
 -- where none is found no block has a fault
-pub free-none : (blocks : List Block) → IsFirst (length blocks) (any_at blocks) None → AreFree blocks
+pub free-none : (blocks : List Block) → IsFirst (length blocks) (whole_at blocks) None → AreFree blocks
 free-none blocks none k block here = sym (first-is blocks k block here) ∙ none k (slice_get_within blocks k block here)
 
 -- the block that is found has the first fault
 pub first-fault : (blocks : List Block) (found : Found) (block : Block) → slice_get blocks found.place ≡ Some block
-    → IsFirst (length blocks) (any_at blocks) (Some found) → IsFirstFault blocks block.line found.fault
+    → IsFirst (length blocks) (whole_at blocks) (Some found) → IsFirstFault blocks block.line found.fault
 first-fault blocks found block here is = record {
   place = found.place;
   block = block;

@@ -1,6 +1,7 @@
 -- The same directive by directive: what each must be, by the type of the block, and the first block
 -- that breaks one of them.
-use Rattle.std.specs.Prelude.{◌≡◌, ℕ, ◌<◌, Bool, not, ◌==◌, ◌&&◌, List, [], ◌∷◌, map, codes, nat_le, Option, None, Some, slice_get, if◌then◌else◌}
+use Rattle.std.specs.Prelude.{◌≡◌, ℕ, ◌<◌, Bool, not, ◌==◌, ◌&&◌, false, List, [], ◌∷◌, map, codes, nat_le, nat_lt, Option, None, Some, slice_get, if◌then◌else◌}
+use Rattle.std.specs.List.{list_any}
 use Rattle.std.specs.Option.{option_and_then, option_or}
 use Rattle.object_reader.specs.declared.block.Block.{Block}
 use Rattle.object_reader.specs.declared.block.BlockKind.{BlockKind}
@@ -15,14 +16,16 @@ use Rattle.object_faults.specs.declared.column.Check.TheVariants.{Given, Number,
 use Rattle.object_faults.specs.declared.column.Column.{Column}
 use Rattle.object_faults.specs.declared.column.Column.TheVariants.{Name, Register, Interval, Enabled, Delay, HostEnabled, ServiceEnabled, First, Last, Inherits, IsVolatile, NotificationOptions, HostOptions, ServiceOptions, EscalationOptions, FailureCriteria, Sunday, Monday, Tuesday, Wednesday, Thursday, Friday, Saturday, VolatileZero, Listed}
 use Rattle.object_faults.specs.declared.fault.ValueFault.{ValueFault}
-use Rattle.object_faults.specs.declared.fault.ValueFault.TheVariants.{MissingDirective, BadNumber, BadOption, BadRange, Volatile, Exclusion}
+use Rattle.object_faults.specs.declared.fault.ValueFault.TheVariants.{MissingDirective, BadNumber, BadOption, BadRange, Volatile, Exclusion, DatedException}
 use Rattle.object_faults.specs.declared.first.Found.{Found}
 use Rattle.object_faults.specs.declared.lists.NameList.TheVariants as entries
 use Rattle.object_faults.specs.declared.needs.Side.{Side}
 use Rattle.object_faults.specs.declared.needs.Side.TheVariants.{Masters, Dependents}
-use Rattle.object_faults.specs.Faults.{is_broken, is_registered, lacks}
+use Rattle.object_faults.specs.Dated.{has_timed, has_untimed}
+use Rattle.object_faults.specs.Faults.{fault_by, is_broken, is_lacking, is_registered, lacks}
 use Rattle.object_faults.specs.Kinds.{has_interval, is_contact, is_dependency, is_escalation, is_host_or_service, is_period, is_service}
 use Rattle.object_faults.specs.Lists.{is_list_of, list_directive}
+use Rattle.object_faults.specs.Tables.{name_lists, numbers, option_lists, range_lines, zeros}
 
 -- the name of a directive
 abbrev pub directive_of : Column → List ℕ
@@ -185,6 +188,61 @@ abbrev pub lacking_at : List Block → ℕ → Option ValueFault
 lacking_at blocks place = option_or (first_at blocks name_columns place)
     (option_or (side_at blocks Masters place) (side_at blocks Dependents place))
 
--- the first fault that the block at the place has
+-- the first fault of the directives that the block at the place has
 abbrev pub any_at : List Block → ℕ → Option ValueFault
 any_at blocks place = option_or (lacking_at blocks place) (first_at blocks value_columns place)
+
+-- the same by the tables, of the type
+abbrev pub plain_fault : List Block → ℕ → BlockKind → Option ValueFault
+plain_fault blocks place kind = fault_by
+    (is_lacking blocks place kind)
+    (list_any (is_broken blocks place Number) (numbers kind))
+    (list_any (λ row. is_broken blocks place row.0 row.1) (option_lists kind))
+    (list_any (is_broken blocks place Ranges) (range_lines kind))
+    (list_any (is_broken blocks place Zero) (zeros kind))
+    (list_any (is_broken blocks place Names) (name_lists kind))
+    false
+
+-- ---- lines of dates beside them
+
+-- the fault of a line of dates without a word with a colon, and of one with such a word
+abbrev pub date_by : (untimed timed : Bool) → Option ValueFault
+date_by untimed timed =
+    if untimed then Some BadRange else if timed then Some DatedException else None
+
+-- the fault of the lines of dates that the block at the place has, if it is a registered period
+abbrev pub date_fault : List Block → ℕ → Block → Option ValueFault
+date_fault blocks place block = if is_registered block && is_period block.kind
+    then date_by (has_untimed blocks place) (has_timed blocks place) else None
+
+abbrev pub date_at : List Block → ℕ → Option ValueFault
+date_at blocks place = option_and_then (date_fault blocks place) (slice_get blocks place)
+
+-- where a fault stands in the order of the faults of a block
+abbrev pub rank : ValueFault → ℕ
+rank MissingDirective = 0
+rank BadNumber = 1
+rank BadOption = 2
+rank BadRange = 3
+rank Volatile = 4
+rank Exclusion = 5
+rank DatedException = 6
+
+-- of two faults of a block the one that counts
+abbrev pub lower_fault : Option ValueFault → Option ValueFault → Option ValueFault
+lower_fault None second = second
+lower_fault (Some one) None = Some one
+lower_fault (Some one) (Some other) = if nat_le (rank one) (rank other) then Some one else Some other
+
+-- of two that are found the earlier, and of two of one place that whose fault counts
+abbrev pub lower : Option Found → Option Found → Option Found
+lower None second = second
+lower (Some one) None = Some one
+lower (Some one) (Some other) = if nat_lt one.place other.place then Some one
+    else if nat_lt other.place one.place then Some other
+    else if nat_le (rank one.fault) (rank other.fault) then Some one
+    else Some other
+
+-- the first fault that the block at the place has
+abbrev pub whole_at : List Block → ℕ → Option ValueFault
+whole_at blocks place = lower_fault (any_at blocks place) (date_at blocks place)

@@ -12,16 +12,18 @@ use Rattle.object_values.specs.Blocks.{means_nothing}
 use Rattle.object_values.specs.Options.{criteria_in, options_in}
 use Rattle.object_values.specs.Ranges.{are_ranges}
 use Rattle.object_values.specs.Values.{number_in, value_in}
+use Rattle.object_faults.specs.Dated.{has_timed, has_untimed}
 use Rattle.object_faults.specs.declared.column.Check.{Check}
 use Rattle.object_faults.specs.declared.column.Check.TheVariants.{Given, Number, Options, Criteria, Ranges, Zero, Names}
 use Rattle.object_faults.specs.declared.fault.PassFault.{PassFault}
 use Rattle.object_faults.specs.declared.fault.PassFault.TheVariants.{AtLine, NoMemory}
 use Rattle.object_faults.specs.declared.fault.ValueFault.{ValueFault}
-use Rattle.object_faults.specs.declared.fault.ValueFault.TheVariants.{MissingDirective, BadNumber, BadOption, BadRange, Volatile, Exclusion}
+use Rattle.object_faults.specs.declared.fault.ValueFault.TheVariants.{MissingDirective, BadNumber, BadOption, BadRange, Volatile, Exclusion, DatedException}
 use Rattle.object_faults.specs.declared.needs.Need.{Need}
 use Rattle.object_faults.specs.declared.needs.Need.TheVariants as needs
 use Rattle.object_faults.specs.declared.needs.Side.{Side}
 use Rattle.object_faults.specs.declared.needs.Side.TheVariants.{Masters, Dependents}
+use Rattle.object_faults.specs.Kinds.{is_period}
 use Rattle.object_faults.specs.Tables.{description_directive, group_directive, host_directive, service_group_directive}
 use Rattle.object_faults.specs.Tables.{name_lists, names, needed, numbers, option_lists, range_lines, zeros}
 
@@ -77,13 +79,15 @@ is_registered block =
     not (means_nothing block.kind) && registers (value_in block.directives (codes "register"))
 
 -- of several faults the first counts
-abbrev pub fault_by : (missing number option range volatile exclusion : Bool) → Option ValueFault
-fault_by missing number option range volatile exclusion = if missing then Some MissingDirective
+abbrev pub fault_by : (missing number option range volatile exclusion dated : Bool)
+    → Option ValueFault
+fault_by missing number option range volatile exclusion dated = if missing then Some MissingDirective
     else if number then Some BadNumber
     else if option then Some BadOption
     else if range then Some BadRange
     else if volatile then Some Volatile
     else if exclusion then Some Exclusion
+    else if dated then Some DatedException
     else None
 
 -- whether the block at the place, of the type, lacks its name or what it must list
@@ -91,15 +95,18 @@ abbrev pub is_lacking : List Block → ℕ → BlockKind → Bool
 is_lacking blocks place kind = list_any (is_broken blocks place Given) (names kind)
     || lacks blocks place kind Masters || lacks blocks place kind Dependents
 
--- the fault of the values that the block at the place, of the type, has
+-- The fault of the values that the block at the place, of the type, has. A line of dates without a word with
+-- a colon isn't ranges.
 abbrev pub value_fault : List Block → ℕ → BlockKind → Option ValueFault
 value_fault blocks place kind = fault_by
     (is_lacking blocks place kind)
     (list_any (is_broken blocks place Number) (numbers kind))
     (list_any (λ row. is_broken blocks place row.0 row.1) (option_lists kind))
-    (list_any (is_broken blocks place Ranges) (range_lines kind))
+    (list_any (is_broken blocks place Ranges) (range_lines kind)
+    || (is_period kind && has_untimed blocks place))
     (list_any (is_broken blocks place Zero) (zeros kind))
     (list_any (is_broken blocks place Names) (name_lists kind))
+    (is_period kind && has_timed blocks place)
 
 -- the same, if it is registered
 abbrev pub fault_of : List Block → ℕ → Block → Option ValueFault

@@ -1,6 +1,8 @@
 pub mod Tables
+pub mod Dated
 pub mod Faults
 pub mod Kinds
 pub mod Lists
 pub mod Columns
 pub mod Needs
+pub mod Search

@@ -2,12 +2,13 @@
 
 ghost use Rattle.std.specs.Prelude.{length, IfErr, IfOk, OnOk, Some};
 ghost use Rattle.object_faults.specs.Columns.{any_at, first_at, IsFirst, lacking_at};
-ghost use Rattle.object_faults.specs.Columns.{name_columns, value_columns};
+ghost use Rattle.object_faults.specs.Columns.{name_columns, value_columns, whole_at};
 ghost use Rattle.object_faults.specs.Faults.{AreFree, IsRefusal};
 
 use crate::column::Column;
+use crate::dates::first_dated;
 use crate::fault::PassFault;
-use crate::first::{Found, earlier, first_of_columns, first_of_side};
+use crate::first::{Found, earlier, first_of_columns, first_of_side, lower};
 use crate::lists::NameList;
 use crate::needs::Side;
 use object_inheritance::templates::Templates;
@@ -93,8 +94,8 @@ fn first_lacking(alloc: Global, templates: &Templates) -> Result<Option<Found>, 
     Ok(earlier(unnamed, earlier(masters, dependents)))
 }
 
-/// The first block with a fault.
-fn first_fault(alloc: Global, templates: &Templates) -> Result<Option<Found>, AllocError>
+/// The first block with a fault of its directives.
+fn first_plain(alloc: Global, templates: &Templates) -> Result<Option<Found>, AllocError>
     ensures { IfOk result (IsFirst (length templates.now) (any_at templates.now)) }
 {
     let lacking = first_lacking(alloc, templates)?;
@@ -102,9 +103,18 @@ fn first_fault(alloc: Global, templates: &Templates) -> Result<Option<Found>, Al
     Ok(earlier(lacking, broken))
 }
 
+/// The first block with a fault.
+fn first_fault(alloc: Global, templates: &Templates) -> Result<Option<Found>, AllocError>
+    ensures { IfOk result (IsFirst (length templates.now) (whole_at templates.now)) }
+{
+    let plain = first_plain(alloc, templates)?;
+    let dated = first_dated(alloc, templates)?;
+    Ok(lower(plain, dated))
+}
+
 /// Refuses the block that was found.
 fn refused(templates: &Templates, found: Found) -> PassFault
-    requires { IsFirst (length templates.now) (any_at templates.now) (Some found) }
+    requires { IsFirst (length templates.now) (whole_at templates.now) (Some found) }
     ensures { IsRefusal templates.now result }
 {
     let blocks = templates.blocks();
@@ -118,11 +128,11 @@ fn refused(templates: &Templates, found: Found) -> PassFault
 
 /// Finds the first block, in file order, that has a fault by itself, if there is one. Of the faults of one block the
 /// lowest counts: it lacks its name, or the hosts or services that it must list; a number, an option list,
-/// failure criteria or a weekday's ranges aren't; a service is volatile; a list of names has an exclusion. A
-/// directive that a template gives counts. Blocks of which `register` is 0 aren't looked at, but what they give is
+/// failure criteria or a weekday's ranges aren't, or a line of dates has no word with a colon; a service is volatile; a
+/// list of names has an exclusion; a time period has a line of dates. A directive that a template gives counts, line
+/// by line. Blocks of which `register` is 0 aren't looked at, but what they give is
 /// where another block takes it. The time grows with the blocks, their directives, the templates that they
-/// use, and the entries of each block's lists, those that it inherits too; it takes some 128 bytes a block. Lines
-/// of dates aren't looked at.
+/// use, and the entries of each block's lists, those that it inherits too; it takes some 128 bytes a block.
 pub fn check(alloc: Global, templates: &Templates) -> Result<(), PassFault>
     ensures free { OnOk result (AreFree templates.now) }
     ensures fault { IfErr result (IsRefusal templates.now) }

@@ -14,12 +14,15 @@ pub enum ValueFault {
     BadNumber,
     /// An option list, or failure criteria, have a word that is no option or state of their kind.
     BadOption,
-    /// A weekday's line isn't ranges of times.
+    /// A weekday's line isn't ranges of times, or a line of dates has no word with a colon.
     BadRange,
     /// A service is volatile.
     Volatile,
     /// A list has an entry that leaves something out: it begins with `!`.
     Exclusion,
+    /// A time period has a line of dates: its name begins with a digit, or its first word is `day`, a month, or a
+    /// weekday that isn't all of it.
+    DatedException,
 }
 
 /// Why blocks are refused.

@@ -4,7 +4,7 @@ ghost use Rattle.std.specs.Prelude.{◌≡◌, false, length, IfOk};
 ghost use Rattle.std.specs.List.{list_any};
 ghost use Rattle.std.specs.Option.{option_map_or};
 ghost use Rattle.object_faults.specs.Columns.{column_fault, directive_of, earlier};
-ghost use Rattle.object_faults.specs.Columns.{fault_at, first_at, IsFirst};
+ghost use Rattle.object_faults.specs.Columns.{fault_at, first_at, IsFirst, lower, rank};
 ghost use Rattle.object_faults.specs.Columns.{registered_fault, side_at, side_fault};
 ghost use Rattle.object_faults.specs.Faults.{breaks, is_broken, is_registered};
 ghost use Rattle.object_groups.specs.Names.{is_exclusion};
@@ -32,7 +32,7 @@ pub(crate) struct Found {
 }
 
 /// Whether a block is an object: its type means something, and it isn't a template alone.
-fn is_registered(block: &Block) -> bool
+pub(crate) fn is_registered(block: &Block) -> bool
     ensures { result ≡ is_registered block.now }
 {
     !means_nothing(block.kind)
@@ -182,6 +182,44 @@ pub(crate) fn earlier(first: Option<Found>, second: Option<Found>) -> Option<Fou
         return first;
     };
     if one.place <= other.place {
+        first
+    } else {
+        second
+    }
+}
+
+/// Where a fault stands in the order of the faults of a block.
+fn rank(fault: ValueFault) -> u8
+    ensures { result ≡ rank fault }
+{
+    match fault {
+        ValueFault::MissingDirective => 0,
+        ValueFault::BadNumber => 1,
+        ValueFault::BadOption => 2,
+        ValueFault::BadRange => 3,
+        ValueFault::Volatile => 4,
+        ValueFault::Exclusion => 5,
+        ValueFault::DatedException => 6,
+    }
+}
+
+/// Of two blocks with a fault the earlier; where they are the same the one whose fault counts.
+pub(crate) fn lower(first: Option<Found>, second: Option<Found>) -> Option<Found>
+    ensures { result ≡ lower first second }
+{
+    let Some(one) = first else {
+        return second;
+    };
+    let Some(other) = second else {
+        return first;
+    };
+    if one.place < other.place {
+        return first;
+    }
+    if other.place < one.place {
+        return second;
+    }
+    if rank(one.fault) <= rank(other.fault) {
         first
     } else {
         second

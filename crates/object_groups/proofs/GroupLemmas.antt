@@ -21,8 +21,8 @@ use Rattle.object_groups.specs.Names.{Lists}
 use Rattle.object_groups.specs.Nodes.{AreBelow, edge, edges_in, edges_of_group, edges_of_object, group_edges, group_node, IsGraphOf, node_count, object_edges}
 use Rattle.object_groups.specs.Objects.{is_object, is_object_at, list_at, lists_in, name_at, name_directive, names_in, objects_in, ObjectsOf}
 use Rattle.object_groups.proofs.NodeLemmas.{edge-within, listed-within, member-from_reached, reached-from_member}
-use Rattle.object_groups.proofs.NumberLemmas.{Contains-from_filter, range_more}
-use Rattle.object_groups.proofs.PlaceLemmas.{Contains-from_range, Contains-none}
+use Rattle.lemmas.proofs.Elements.{Contains-from_filter, Contains-from_range, Contains-none}
+use Rattle.lemmas.proofs.Numbers.{below_more}
 
 -- ---- lists by numbers
 
@@ -67,7 +67,7 @@ pub edges-more : (f : ℕ → List Edge) (first : List Edge) (n : ℕ) (old new 
     → new ≡ first ++ flat_map f (range_with_len 0 (n + 1))
 edges-more f first n old new one before more is =
     more ∙ ap (λ edges. edges ++ one) before ∙ ap (λ edges. (first ++ flat_map f (range_with_len 0 n)) ++ edges) is
-    ∙ flat_map_more f first (range_with_len 0 n) n ∙ ap (λ numbers. first ++ flat_map f numbers) (sym (range_more n))
+    ∙ flat_map_more f first (range_with_len 0 n) n ∙ ap (λ numbers. first ++ flat_map f numbers) (sym (below_more n))
 
 pub edges-are : (g : Grouping) (none first all : List Edge) → none ≡ [] → first ≡ none ++ flat_map (group_edges g) (range_with_len 0 (length g.groups))
     → all ≡ first ++ flat_map (object_edges g) (range_with_len 0 (length g.objects)) → all ≡ edges_in g

@@ -12,7 +12,8 @@ use Rattle.graph.specs.Edges.{IsWithin, Leads}
 use Rattle.object_groups.specs.Members.{Grouping, Holds, Includes, IsMember}
 use Rattle.object_groups.specs.Names.{is_all, Lists, numbers_of}
 use Rattle.object_groups.specs.Nodes.{all_groups, all_objects, edge, edges_in, group_edges, group_node, IsGraphOf, node_count, nodes_of, object_edges, of_all_groups}
-use Rattle.object_groups.proofs.PlaceLemmas.{Contains-cases, Contains-flat_map, Contains-from_flat_map, Contains-from_map, Contains-from_range, Contains-here, Contains-later, Contains-map, Contains-none, Contains-range, numbers-within}
+use Rattle.lemmas.proofs.Elements.{Contains-cases, Contains-from_map, Contains-from_range, Contains-here, Contains-later, Contains-map, Contains-none, Contains-range}
+use Rattle.object_groups.proofs.PlaceLemmas.{Contains-flat_map, Contains-from_flat_map, numbers-within}
 
 -- ---- the nodes that a list names
 

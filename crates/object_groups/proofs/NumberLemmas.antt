@@ -20,7 +20,8 @@ use Rattle.lemmas.proofs.Searches.{found-one, is_none-from, or-none, or-some, po
 use Rattle.object_groups.specs.Names.{HasNumbers, name_eq, number_of, numbers_of}
 use Rattle.object_groups.specs.Nodes.{AreBelow}
 use Rattle.object_values.specs.Values.{texts}
-use Rattle.object_groups.proofs.PlaceLemmas.{Contains-cases, Contains-here, Contains-later, Contains-none}
+use Rattle.lemmas.proofs.Elements.{Contains-filter, Contains-from_filter}
+use Rattle.lemmas.proofs.Numbers.{below_more}
 
 -- ---- one name more
 
@@ -87,43 +88,10 @@ range-more : (a n : ℕ) → range_with_len a (suc n) ≡ range_with_len a n ++ 
 range-more a zero = ap (λ (k : ℕ). k ∷ []) (omega arith)
 range-more a (suc n) = ap (λ more. a ∷ more) (range-more (a + 1) n ∙ ap (λ (k : ℕ). range_with_len (a + 1) n ++ k ∷ []) (omega arith))
 
-pub range_more : (n : ℕ) → range_with_len 0 (n + 1) ≡ range_with_len 0 n ++ n ∷ []
-range_more n =
-    let next : n + 1 ≡ suc n = omega arith in
-    let none : 0 + n ≡ n = omega arith in
-    ap (λ (m : ℕ). range_with_len 0 m) next ∙ range-more 0 n ∙ ap (λ (k : ℕ). range_with_len 0 n ++ k ∷ []) none
-
 pub filter-range : (p : ℕ → Bool) (n : ℕ) (b : Bool) → p n ≡ b → filter p (range_with_len 0 (n + 1)) ≡ filter p (range_with_len 0 n) ++ cond b (n ∷ []) []
-filter-range p n b is = ap (filter p) (range_more n) ∙ filter-append p (range_with_len 0 n) (n ∷ []) ∙ ap (λ (c : Bool). filter p (range_with_len 0 n) ++ cond c (n ∷ []) []) is
+filter-range p n b is = ap (filter p) (below_more n) ∙ filter-append p (range_with_len 0 n) (n ∷ []) ∙ ap (λ (c : Bool). filter p (range_with_len 0 n) ++ cond c (n ∷ []) []) is
 
 -- ---- the objects among the nodes
-
-Contains-filter : (p : ℕ → Bool) (xs : List ℕ) (k : ℕ) → Contains xs k → p k ≡ true → Contains (filter p xs) k
-Contains-filter p [] k at is = absurd (Contains-none k at)
-Contains-filter p (x ∷ xs) k at is = ⊎_elim
-    (λ (here : x ≡ k). kept (p x) refl here)
-    (λ (later : Contains xs k). more (p x) refl (Contains-filter p xs k later is))
-    (Contains-cases x k xs at)
-  where
-    kept : (b : Bool) → p x ≡ b → x ≡ k → Contains (filter p (x ∷ xs)) k
-    kept true passes here = rw passes (subst (λ y. Contains (x ∷ filter p xs) y) here (Contains-here x (filter p xs)))
-    kept false fails here = absurd (false≢true (sym fails ∙ ap p here ∙ is))
-
-    more : (b : Bool) → p x ≡ b → Contains (filter p xs) k → Contains (filter p (x ∷ xs)) k
-    more true passes rest = rw passes (Contains-later x k (filter p xs) rest)
-    more false fails rest = rw fails rest
-
-pub Contains-from_filter : (p : ℕ → Bool) (xs : List ℕ) (k : ℕ) → Contains (filter p xs) k → Contains xs k × (p k ≡ true)
-Contains-from_filter p [] k at = absurd (Contains-none k at)
-Contains-from_filter p (x ∷ xs) k at = by_test (p x) refl at (λ later. Contains-from_filter p xs k later)
-  where
-    by_test : (b : Bool) → p x ≡ b → Contains (cond b (x ∷ filter p xs) (filter p xs)) k → (Contains (filter p xs) k → Contains xs k × (p k ≡ true))
-        → Contains (x ∷ xs) k × (p k ≡ true)
-    by_test true passes on rest = ⊎_elim
-        (λ (here : x ≡ k). (subst (λ y. Contains (x ∷ xs) y) here (Contains-here x xs), ap p (sym here) ∙ passes))
-        (λ (later : Contains (filter p xs) k). (Contains-later x k xs (rest later).0, (rest later).1))
-        (Contains-cases x k (filter p xs) on)
-    by_test false fails on rest = (Contains-later x k xs (rest on).0, (rest on).1)
 
 pub below-from_sorted : (objects : ℕ) (nodes ys zs : List ℕ) → IsPermutation (filter (λ node. nat_lt node objects) nodes) ys → IsSorted nat_cmp ys → zs ≡ dedup eqb ys
     → AreBelow objects nodes zs

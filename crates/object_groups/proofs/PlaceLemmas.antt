@@ -6,35 +6,9 @@ use Rattle.std.specs.Str.{bytes_eq}
 use Rattle.std.proofs.lemmas.List.Concat.{flat_map-cons}
 use Rattle.std.proofs.lemmas.List.Elements.{All-contains, Contains-append_left, Contains-append_right, Contains-append_cases}
 use Rattle.std.proofs.lemmas.List.FromFn.{get_or-range_with_len, length-range_with_len}
+use Rattle.lemmas.proofs.Elements.{Contains-cases, Contains-here, Contains-later, Contains-none}
 use Rattle.lemmas.proofs.Searches.{All-found, position-within}
 use Rattle.object_groups.specs.Names.{number_of, numbers_of}
-
-pub Contains-here : {X : Type 0} (x : X) (xs : List X) → Contains (x ∷ xs) x
-Contains-here x xs = (0, omega arith, refl)
-
-pub Contains-later : {X : Type 0} (x y : X) (xs : List X) → Contains xs y → Contains (x ∷ xs) y
-Contains-later x y xs at = (suc at.0, omega (arith, at.1), at.2)
-
-pub Contains-cases : {X : Type 0} (x y : X) (xs : List X) → Contains (x ∷ xs) y → (x ≡ y) ⊎ Contains xs y
-Contains-cases x y xs (zero, within, at) = inl at
-Contains-cases x y xs (suc k, within, at) = inr (k, omega arith, at)
-
-pub Contains-none : {X : Type 0} (x : X) → Contains [] x → ⊥
-Contains-none x at = omega (arith, at.1)
-
-pub Contains-map : {X Y : Type 0} (f : X → Y) (xs : List X) (x : X) → Contains xs x → Contains (map f xs) (f x)
-Contains-map f [] x at = absurd (Contains-none x at)
-Contains-map f (y ∷ ys) x at = ⊎_elim
-    (λ (here : y ≡ x). subst (λ z. Contains (map f (y ∷ ys)) (f z)) here (Contains-here (f y) (map f ys)))
-    (λ (later : Contains ys x). Contains-later (f y) (f x) (map f ys) (Contains-map f ys x later))
-    (Contains-cases y x ys at)
-
-pub Contains-from_map : {X Y : Type 0} (f : X → Y) (xs : List X) (y : Y) → Contains (map f xs) y → (x : X) × Contains xs x × (f x ≡ y)
-Contains-from_map f [] y at = absurd (Contains-none y at)
-Contains-from_map f (x ∷ xs) y at = ⊎_elim
-    (λ (here : f x ≡ y). (x, Contains-here x xs, here))
-    (λ (later : Contains (map f xs) y). let more = Contains-from_map f xs y later in (more.0, Contains-later x more.0 xs more.1, more.2))
-    (Contains-cases (f x) y (map f xs) at)
 
 pub Contains-flat_map : {X Y : Type 0} (f : X → List Y) (xs : List X) (x : X) (y : Y) → Contains xs x → Contains (f x) y → Contains (flat_map f xs) y
 Contains-flat_map f [] x y at on = absurd (Contains-none x at)
@@ -49,16 +23,6 @@ Contains-from_flat_map f (x ∷ xs) y at = ⊎_elim
     (λ (here : Contains (f x) y). (x, Contains-here x xs, here))
     (λ (later : Contains (flat_map f xs) y). let more = Contains-from_flat_map f xs y later in (more.0, Contains-later x more.0 xs more.1, more.2))
     (Contains-append_cases (f x) (flat_map f xs) y (subst (λ ys. Contains ys y) (flat_map-cons f x xs) at))
-
-pub Contains-range : (n k : ℕ) → k < n → Contains (range_with_len 0 n) k
-Contains-range n k low = (k, (let long = length-range_with_len 0 n in omega (arith, long, low)), (let at = get_or-range_with_len 0 n k k low in omega (arith, at)))
-
-pub Contains-from_range : (n k : ℕ) → Contains (range_with_len 0 n) k → k < n
-Contains-from_range n k at =
-    let long = length-range_with_len 0 n in
-    let low : at.0 < n = omega (arith, long, at.1) in
-    let is = get_or-range_with_len 0 n at.0 k low in
-    omega (arith, is, at.2, low)
 
 pub numbers-within : (names entries : List (List ℕ)) (k : ℕ) → Contains (numbers_of names entries) k → k < length names
 numbers-within names entries k at =

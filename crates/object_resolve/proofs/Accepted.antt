@@ -1,4 +1,4 @@
--- The configuration that blocks give is accepted, and covered, and blocks with a fault give none.
+-- The configuration that blocks give is accepted, and blocks with a fault give none.
 use Rattle.std.proofs.Common.{◌≡◌, inl, inr, ℕ, ◌<◌, ◌≤◌, Bool, true, false, not, cond, nat_eq, nat_le, List, [], ◌∷◌, length, map, get_or, All, Contains, Option, Some, None, IfSome, refl, sym, ap, subst, ◌∙◌, arith}
 use Rattle.std.specs.List.{filter_map, position, list_all, cons_option}
 use Rattle.std.specs.Prelude.{codes, slice_get}
@@ -9,7 +9,6 @@ use Rattle.std.proofs.lemmas.List.{get_or-map, get_or_default, length-map}
 use Rattle.std.proofs.lemmas.Option.{none-some, same_Some, slice_get_within}
 use Rattle.std.proofs.lemmas.List.Elements.{All-nil, All-cons, All-contains}
 use Rattle.due_model.specs.Accepted.{ContactFits, DependsOn, Excludes, HasNoLoop, DependencyFits, EscalationFits, IsAccepted, ObjectFits, PeriodFits, RightsFit}
-use Rattle.due_model.specs.Covered.{AreFullRights, HasHostLetters, IsCovered, IsPlainHost}
 use Rattle.due_model.specs.declared.config.Config.{Config}
 use Rattle.due_model.specs.declared.config.Contact.{Contact}
 use Rattle.due_model.specs.declared.config.Lane.{Lane}
@@ -80,15 +79,6 @@ interval-few (Some value) n found =
 
 -- ---- each object and contact
 
-every-host_letter : (set : OptionLetters) → set ≡ every_letter → HasHostLetters set
-every-host_letter set is = record {
-  down = ap (λ (letters : OptionLetters). letters.down) is;
-  unreachable = ap (λ (letters : OptionLetters). letters.unreachable) is;
-  recovery = ap (λ (letters : OptionLetters). letters.recovery) is;
-  flapping = ap (λ (letters : OptionLetters). letters.flapping) is;
-  downtime = ap (λ (letters : OptionLetters). letters.downtime) is;
-}
-
 none-fits : {X : Type 0} (P : X → Type 0) (x : Option X) → x ≡ None → IfSome x P
 none-fits P x is = subst (λ y. IfSome y P) (sym is) tt
 
@@ -102,26 +92,10 @@ host-fits config names long block object of = record {
       (subst (λ n. All (λ k. k < n) (contacts_named names (entries_read Host block.directives))) long (contacts-within names (entries_read Host block.directives))) of.contacts;
 }
 
-host-plain : (names : List (List ℕ)) (block : Block) (object : Object) → IsHostOf names block object → IsPlainHost object
-host-plain names block object of = record {
-  host = of.host;
-  enabled = of.enabled;
-  options = every-host_letter object.options of.options;
-  period = of.period;
-  delay = of.delay;
-}
-
 rights-fit : (config : Config) (entries : List (List ℕ)) (rights : Rights) → AreRightsOf config.lanes entries rights → RightsFit config rights
 rights-fit config entries rights of = record {
   period = none-fits _ rights.period of.period;
   lanes = set-within (λ lane. lane.0) (length config.lanes) (lanes_named config.lanes entries) rights.lanes (lanes-within config.lanes entries) of.lanes;
-}
-
-rights-full : (lanes : List Lane) (entries : List (List ℕ)) (rights : Rights) → AreRightsOf lanes entries rights → AreFullRights rights
-rights-full lanes entries rights of = record {
-  enabled = of.enabled;
-  options = every-host_letter rights.options of.options;
-  period = of.period;
 }
 
 contact-fits : (config : Config) (block : Block) (contact : Contact) → IsContactOf config.lanes block contact → ContactFits config contact
@@ -169,20 +143,9 @@ config-accepted blocks lane_blocks config of few_hosts few_contacts few_lanes =
     empty-contains : {X : Type 0} (xs : List X) (x : X) → xs ≡ [] → Contains xs x → ⊥
     empty-contains xs x is here = let few : length xs ≡ 0 = ap length is in omega (arith, here.1, few)
 
-config-covered : (blocks lane_blocks : List Block) (config : Config) → IsConfigOf blocks lane_blocks config → IsCovered config
-config-covered blocks lane_blocks config of = record {
-  objects = All-paired _ IsPlainHost (hosts_in blocks) config.objects (host-plain (contact_names blocks)) of.objects;
-  contacts = All-paired _ (λ contact. AreFullRights contact.hosts) (contacts_in blocks) config.contacts (λ block contact fits. rights-full config.lanes _ contact.hosts fits.hosts) of.contacts;
-  no_escalation = of.no_escalation;
-  no_dependency = of.no_dependency;
-}
-
 pub resolved-accepted : (blocks : List Block) (config : Config) → IsResolved blocks config → IsAccepted config
 resolved-accepted blocks config of =
     config-accepted blocks (lanes_in blocks) config of.gives of.limits.hosts of.limits.contacts of.limits.lanes
-
-pub resolved-covered : (blocks : List Block) (config : Config) → IsResolved blocks config → IsCovered config
-resolved-covered blocks config of = config-covered blocks (lanes_in blocks) config of.gives
 
 -- blocks that are refused give none
 pub resolved-unrefused : (blocks : List Block) (config : Config) (line : ℕ) (fault : BlockFault)

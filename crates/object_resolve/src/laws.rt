@@ -2,18 +2,15 @@
 
 ghost use Rattle.std.specs.Prelude.{ℕ, List};
 ghost use Rattle.due_model.specs.Accepted.{IsAccepted};
-ghost use Rattle.due_model.specs.Covered.{IsCovered};
 ghost use Rattle.due_model.specs.declared.config.Config.{Config};
 ghost use Rattle.object_reader.specs.declared.block.Block.{Block};
 ghost use Rattle.object_resolve.specs.Resolve.{IsRefusal, IsResolved};
 ghost use Rattle.object_values.specs.declared.fault.BlockFault.{BlockFault};
 
-/// A configuration that blocks give is accepted, and so far covered.
+/// A configuration that blocks give is accepted.
 pub fn accept_resolved()
-    ensures accepted { (blocks : List Block) (config : Config)
+    ensures { (blocks : List Block) (config : Config)
         → IsResolved blocks config → IsAccepted config }
-    ensures covered { (blocks : List Block) (config : Config)
-        → IsResolved blocks config → IsCovered config }
 {}
 
 /// Blocks with a fault give no configuration.

@@ -2,7 +2,6 @@
 
 ghost use Rattle.std.specs.Prelude.{◌≡◌, ◌⊎◌, IfErr, IfOk, OnOk};
 ghost use Rattle.due_model.specs.Accepted.{IsAccepted};
-ghost use Rattle.due_model.specs.Covered.{IsCovered};
 ghost use Rattle.due_model.specs.declared.config.Config.{Config};
 ghost use Rattle.object_resolve.specs.Text.{IsTextFault, IsTextOf};
 ghost use Rattle.object_resolve.specs.declared.fault.LoadFault.{LoadFault};
@@ -20,10 +19,9 @@ use std::alloc::Global;
 /// of limits, each over all blocks in file order. Blocks of `hostextinfo` and `serviceextinfo` say nothing
 /// of notifications and are passed over. The work and the memory grow with the bytes.
 pub fn load(alloc: Global, text: &[u8]) -> Result<Config, LoadFault>
-    // What it gives is the text's configuration, which is accepted and covered.
+    // What it gives is the text's configuration, which is accepted.
     ensures config { IfOk result (λ config. IsTextOf config text.now) }
     ensures accepted { IfOk result (λ config. IsAccepted config) }
-    ensures covered { IfOk result (λ config. IsCovered config) }
     // A fault is the text's, or memory ran out.
     ensures fault { IfErr result (λ fault. (fault ≡ NoMemory) ⊎ IsTextFault text.now fault) }
     // A text with a configuration is refused for want of memory alone.

@@ -1,7 +1,7 @@
 -- The numbers of one name, and the first service block that is doubled, name by name.
-use Rattle.std.proofs.Common.{◌≡◌, ℕ, zero, suc, ◌+◌, ◌<◌, ◌≤◌, nat_lt, Bool, true, false, not, cond, List, [], ◌∷◌, ◌++◌, length, map, filter, take, get_or, Option, Some, None, refl, sym, ap, subst, eqb, eqb-true, eq-eqb, ⊎_elim, ◌∙◌, ◌⊎◌, inl, inr, arith, lt-ltb}
-use Rattle.std.specs.Prelude.{All, AllPairs, Contains, ◌^◌, slice_index_or, ◌↔◌}
-use Rattle.std.specs.List.{position, position_or_len, range_with_len}
+use Rattle.std.proofs.Common.{◌≡◌, ℕ, zero, suc, ◌+◌, ◌<◌, ◌≤◌, Bool, true, false, not, cond, List, [], ◌∷◌, ◌++◌, length, map, filter, get_or, Option, Some, None, refl, sym, ap, subst, eqb, eqb-true, eq-eqb, ⊎_elim, ◌∙◌, ◌⊎◌, inl, inr, arith, lt-ltb}
+use Rattle.std.specs.Prelude.{All, AllPairs, Contains, ◌^◌, slice_index_or}
+use Rattle.std.specs.List.{position_or_len, range_with_len}
 use Rattle.std.specs.Option.{IfSome, option_map_or, option_to_list}
 use Rattle.std.specs.Str.{bytes_eq}
 use Rattle.std.proofs.lemmas.Bool.{cases_lt, false≢true}
@@ -21,7 +21,7 @@ use Rattle.object_reader.specs.declared.block.BlockKind.TheVariants.{Service}
 use Rattle.object_services.specs.Alike.{alike, is_alike, IsDoubledBelow, lower, SharesAmong}
 use Rattle.object_services.specs.Doubled.{description_of, IsDoubled, IsFirstOf}
 use Rattle.object_services.proofs.DoubledLemmas.{first-lower, first-same}
-use Rattle.object_services.proofs.ListLemmas.{Contains-cases, Contains-from_range, Contains-here, Contains-later, Contains-none, Contains-range}
+use Rattle.lemmas.proofs.Elements.{Contains-cases, Contains-from_range, Contains-here, Contains-later, Contains-none, Contains-range}
 
 -- ---- what a filter keeps
 

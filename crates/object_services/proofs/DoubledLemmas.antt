@@ -1,7 +1,7 @@
 -- Service blocks of one description, and the first that shares a host with one before it.
-use Rattle.std.proofs.Common.{◌≡◌, ℕ, zero, suc, ◌+◌, ◌<◌, ◌≤◌, nat_lt, Bool, true, false, cond, ◌||◌, List, [], ◌∷◌, ◌++◌, length, map, filter, take, get_or, Option, Some, None, refl, sym, ap, subst, eqb, eqb-true, eq-eqb, ⊎_elim, ◌∙◌, ◌⊎◌, inl, inr, arith, leb-false, leb-true}
-use Rattle.std.specs.Prelude.{AllPairs, Contains, nat_le, slice_index_or, ◌↔◌}
-use Rattle.std.specs.List.{list_any, range_with_len}
+use Rattle.std.proofs.Common.{◌≡◌, ℕ, zero, suc, ◌+◌, ◌<◌, ◌≤◌, Bool, true, false, cond, ◌||◌, List, [], ◌∷◌, length, take, get_or, Option, Some, None, refl, sym, ap, subst, eqb, eqb-true, eq-eqb, ⊎_elim, ◌∙◌, ◌⊎◌, inl, inr, arith, leb-false, leb-true}
+use Rattle.std.specs.Prelude.{AllPairs, Contains, nat_le}
+use Rattle.std.specs.List.{list_any}
 use Rattle.std.proofs.lemmas.Bool.{cases_lt, false≢true}
 use Rattle.std.proofs.lemmas.Cmp.{nat_eq_equiv}
 use Rattle.std.proofs.lemmas.List.{take_more}
@@ -9,9 +9,9 @@ use Rattle.std.proofs.lemmas.List.Elements.{Contains-append_left, Contains-appen
 use Rattle.std.proofs.lemmas.List.Folds.{list_any-append}
 use Rattle.object_reader.specs.declared.block.Block.{Block}
 use Rattle.object_services.specs.Alike.{HasSeen, lower, SharesAmong}
-use Rattle.object_services.specs.Doubled.{IsFirstOf, place_of, ShareHost}
+use Rattle.object_services.specs.Doubled.{IsFirstOf, place_of}
 use Rattle.object_services.specs.Hosts.{AreHosts, HasHost}
-use Rattle.object_services.proofs.ListLemmas.{Contains-cases, Contains-here, Contains-later, Contains-none}
+use Rattle.lemmas.proofs.Elements.{Contains-cases, Contains-here, Contains-later, Contains-none}
 
 -- ---- the lower of two first numbers
 

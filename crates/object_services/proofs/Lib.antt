@@ -1,6 +1,6 @@
-mod ListLemmas
-mod HostLemmas
+mod BlockLemmas
 mod LimitLemmas
+mod LimitLaws
 mod DoubledLemmas
 mod AlikeLemmas
 mod UnknownLemmas

@@ -1,7 +1,7 @@
 -- The hosts of the service blocks so far, and how many objects there are.
-use Rattle.std.proofs.Common.{◌≡◌, ℕ, ◌+◌, ◌<◌, ◌≤◌, Bool, true, false, cond, List, [], ◌∷◌, ◌++◌, length, map, filter, Option, Some, refl, sym, ap, subst, ◌∙◌, arith}
+use Rattle.std.proofs.Common.{◌≡◌, ℕ, ◌+◌, ◌<◌, ◌≤◌, Bool, true, false, cond, List, [], ◌∷◌, ◌++◌, length, Option, Some, refl, sym, ap, subst, ◌∙◌, arith}
 use Rattle.std.specs.Prelude.{slice_get}
-use Rattle.std.specs.List.{AllZip, range_with_len, sum_by}
+use Rattle.std.specs.List.{AllZip, sum_by}
 use Rattle.std.specs.Option.{option_map_or}
 use Rattle.std.proofs.lemmas.List.{append-nil, length-append}
 use Rattle.std.proofs.lemmas.List.Sums.{sum_by-append, sum_by-cons}
@@ -12,7 +12,7 @@ use Rattle.object_reader.specs.declared.block.Block.{Block}
 use Rattle.object_reader.specs.declared.block.BlockKind.{BlockKind}
 use Rattle.object_reader.specs.declared.block.BlockKind.TheVariants.{Host, Service}
 use Rattle.object_services.specs.Hosts.{AreHosts}
-use Rattle.object_services.specs.Limits.{AreHostLists, GiveObjects, IsFirstOver, IsSoFar, Noted, objects_below}
+use Rattle.object_services.specs.Limits.{AreHostLists, AreWithinLimit, GiveObjects, IsFirstOver, IsSoFar, Noted, objects_below}
 
 lists-more : {X Y : Type 0} (R : X → Y → Type 0) (xs : List X) (ys : List Y) (x : X) (y : Y) → AllZip R xs ys → R x y → AllZip R (xs ++ x ∷ []) (ys ++ y ∷ [])
 lists-more R [] [] x y all more = (more, tt)
@@ -20,18 +20,18 @@ lists-more R [] (z ∷ ys) x y all more = absurd all
 lists-more R (w ∷ xs) [] x y all more = absurd all
 lists-more R (w ∷ xs) (z ∷ ys) x y all more = (all.0, lists-more R xs ys x y all.1 more)
 
-sum-more : (lists : List (List ℕ)) (hosts : List ℕ) → sum_by length (lists ++ hosts ∷ []) ≡ sum_by length lists + length hosts
+pub sum-more : (lists : List (List ℕ)) (hosts : List ℕ) → sum_by length (lists ++ hosts ∷ []) ≡ sum_by length lists + length hosts
 sum-more lists hosts =
     let all = sum_by-append length lists (hosts ∷ []) in
     let one = sum_by-cons length hosts [] in
     omega (arith, all, one)
 
-below-more : (blocks : List Block) (kind : BlockKind) (place : ℕ) (b : Bool) → is_object_at blocks kind place ≡ b
+pub below-more : (blocks : List Block) (kind : BlockKind) (place : ℕ) (b : Bool) → is_object_at blocks kind place ≡ b
     → objects_below blocks kind (place + 1) ≡ objects_below blocks kind place ++ cond b (place ∷ []) []
 below-more blocks kind place b is =
     filter_range_more (is_object_at blocks kind) place ∙ ap (λ (c : Bool). objects_below blocks kind place ++ cond c (place ∷ []) []) is
 
-counted-more : (xs : List ℕ) (place : ℕ) (h : Bool) → length (xs ++ cond h (place ∷ []) []) ≡ length xs + cond h 1 0
+pub counted-more : (xs : List ℕ) (place : ℕ) (h : Bool) → length (xs ++ cond h (place ∷ []) []) ≡ length xs + cond h 1 0
 counted-more xs place true = length-append xs (place ∷ [])
 counted-more xs place false = length-append xs []
 
@@ -78,15 +78,17 @@ next-block blocks place x old new count own more h s here host service one befor
     (so-far blocks place old new count more h s (object-at blocks Host place x h here host) (object-at blocks Service place x s here service) before noted)
 
 -- the first block that passes the limit
-pub first-over : (blocks : List Block) (place : ℕ) (x : Block) (old new : List (List ℕ)) (count total : ℕ) → slice_get blocks place ≡ Some x
-    → IsSoFar blocks place old count → count ≤ max_objects → IsSoFar blocks (place + 1) new total → max_objects < total → IsFirstOver blocks x.line
-first-over blocks place x old new count total here before low after over = record {
-  place = place;
+pub first-over : (blocks : List Block) (place : ℕ) (x : Block) (old new : List (List ℕ)) (count total : ℕ) → place < length blocks → slice_get blocks place ≡ Some x
+    → IsSoFar blocks place old count → count ≤ max_objects → IsSoFar blocks (place + 1) new total → max_objects < total → IsFirstOver blocks place x.line
+first-over blocks place x old new count total within here before low after over = record {
   block = x;
   here = here;
   at = refl;
-  before = (count, (old, before.listed, before.counted), low);
-  over = (total, (new, after.listed, after.counted), over);
+  passes = record {
+    within = within;
+    before = (count, (old, before.listed, before.counted), low);
+    over = (total, (new, after.listed, after.counted), over);
+  };
 }
 
 -- all blocks
@@ -102,3 +104,8 @@ all-few blocks place lists count end far low =
     let all : count ≡ length (objects_below blocks Host (length blocks)) + sum_by length lists =
     far.counted ∙ ap (λ (n : ℕ). length (objects_below blocks Host n) + sum_by length lists) end in
     subst (λ (n : ℕ). n ≤ max_objects) all low
+
+pub all-within : (blocks : List Block) (place : ℕ) (lists : List (List ℕ)) (count : ℕ) → place ≡ length blocks → IsSoFar blocks place lists count → count ≤ max_objects
+    → AreWithinLimit blocks
+all-within blocks place lists count end far low =
+    (count, subst (λ (n : ℕ). GiveObjects blocks n count) end (lists, far.listed, far.counted), low)

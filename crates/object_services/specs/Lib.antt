@@ -1,6 +1,7 @@
 pub mod Hosts
 pub mod Blocks
 pub mod Limits
+pub mod Laws
 pub mod Doubled
 pub mod Alike
 pub mod Unknown

@@ -29,18 +29,27 @@ GiveObjects blocks place count = (lists : List (List ℕ))
 abbrev pub AreWithinLimit : List Block → Type 0
 AreWithinLimit blocks = (count : ℕ) × GiveObjects blocks (length blocks) count × (count ≤ max_objects)
 
--- The line is that of the first block that passes the limit: those before it keep within it, and with it they don't.
-pub record IsFirstOver (blocks : List Block) (line : ℕ) : Type 0 where
-  pub place : ℕ
-  pub block : Block
-  pub here : slice_get blocks place ≡ Some block
-  pub at : block.line ≡ line
+-- The blocks pass the limit at the place: with the block there they give more objects than fit, and without it
+-- they don't.
+pub record PassesLimit (blocks : List Block) (place : ℕ) : Type 0 where
+  pub within : place < length blocks
   pub before : (count : ℕ) × GiveObjects blocks place count × (count ≤ max_objects)
   pub over : (count : ℕ) × GiveObjects blocks (place + 1) count × (max_objects < count)
 
+-- they pass it nowhere
+abbrev pub PassesNowhere : List Block → Type 0
+PassesNowhere blocks = (place : ℕ) → PassesLimit blocks place → ⊥
+
+-- The place and the line are those of the block that passes the limit.
+pub record IsFirstOver (blocks : List Block) (place line : ℕ) : Type 0 where
+  pub block : Block
+  pub here : slice_get blocks place ≡ Some block
+  pub at : block.line ≡ line
+  pub passes : PassesLimit blocks place
+
 -- a refusal is that, or memory ran out
 abbrev pub IsRefusal : List Block → LimitFault → Type 0
-IsRefusal blocks (TooMany line) = IsFirstOver blocks line
+IsRefusal blocks (TooMany place line) = IsFirstOver blocks place line
 IsRefusal blocks NoMemory = Unit {0}
 
 -- ---- how they are found

@@ -6,11 +6,10 @@ ghost use Rattle.object_groups.specs.Objects.{objects_in};
 ghost use Rattle.object_reader.specs.declared.block.BlockKind.TheVariants.{Service};
 ghost use Rattle.object_services.specs.Hosts.{AreHosts};
 
-use crate::hosts::{listed, push_groups, put_in_order};
-use object_groups::groups::Groups;
-use object_groups::objects::{Objects, list_at};
-use object_inheritance::inherited::Values;
+use object_groups::groups::{GroupKind, Groups};
+use object_groups::objects::Objects;
 use object_inheritance::templates::Templates;
+use object_listing::listing::Listing;
 use object_reader::block::{Block, BlockKind};
 use std::alloc::{AllocError, Global};
 use std::marker::Model;
@@ -21,8 +20,7 @@ use std::marker::Model;
 pub struct ServiceBlocks<'a> {
     blocks: &'a [Block],
     objects: Objects<'a>,
-    hosts: Values<'a>,
-    groups: Values<'a>,
+    hosts: Listing<'a>,
 }
 
 impl<'a> Model for ServiceBlocks<'a> {
@@ -34,7 +32,7 @@ impl<'a> Model for ServiceBlocks<'a> {
 
     ghost view = { λ s. s.blocks.now };
 
-    ghost invariant = { λ s. AreServiceBlocks s.blocks.now s.objects s.hosts s.groups };
+    ghost invariant = { λ s. AreServiceBlocks s.blocks.now s.objects s.hosts };
 }
 
 impl<'a> ServiceBlocks<'a> {
@@ -44,13 +42,12 @@ impl<'a> ServiceBlocks<'a> {
         ensures { IfOk result (λ made. made ≡ templates.now) }
     {
         let objects = Objects::new(alloc, templates, BlockKind::Service)?;
-        let hosts = Values::new(alloc, templates, "host_name".as_bytes())?;
-        let groups = Values::new(alloc, templates, "hostgroup_name".as_bytes())?;
+        let kind = GroupKind::HostGroups;
+        let hosts = Listing::new(alloc, templates, kind, "host_name", "hostgroup_name")?;
         Ok(ServiceBlocks {
             blocks: templates.blocks(),
             objects,
             hosts,
-            groups,
         })
     }
 
@@ -83,12 +80,6 @@ impl<'a> ServiceBlocks<'a> {
         ensures same { hosts.new ≡ hosts.old }
         ensures hosts { IfOk result (λ found. AreHosts self.now place found.items) }
     {
-        let named = list_at(alloc, &self.hosts, place)?;
-        let mut found = listed(alloc, hosts.objects().names(), named.as_slice())?;
-        let grouped = list_at(alloc, &self.groups, place)?;
-        let reached = listed(alloc, hosts.groups().names(), grouped.as_slice())?;
-        push_groups(alloc, &mut found, hosts, reached.as_slice())?;
-        put_in_order(&mut found)?;
-        Ok(found)
+        self.hosts.objects_at(alloc, hosts, place)
     }
 }

@@ -5,7 +5,7 @@
 
 pub mod blocks;
 pub mod doubled;
-mod hosts;
+pub mod laws;
 pub mod numbers;
 pub mod services;
 pub mod unknown;

@@ -1,13 +1,14 @@
 //! The hosts of all service blocks, within the limit of objects.
 
 ghost use Rattle.std.specs.Prelude.{◌≡◌, ◌+◌, ◌≤◌, [], length, map, slice_index_or, sum_by};
-ghost use Rattle.std.specs.Prelude.{IfErr, IfOk, if◌then◌else◌};
+ghost use Rattle.std.specs.Prelude.{IfErr, IfOk, OnOk, if◌then◌else◌};
 ghost use Rattle.due_model.specs.Limits.{max_objects};
 ghost use Rattle.object_groups.specs.declared.groups.GroupKind.TheVariants.{HostGroups};
 ghost use Rattle.object_groups.specs.Objects.{objects_in};
 ghost use Rattle.object_reader.specs.declared.block.BlockKind.TheVariants.{Host, Service};
 ghost use Rattle.object_services.specs.declared.services.LimitFault.TheVariants.{NoMemory};
-ghost use Rattle.object_services.specs.Limits.{AreHostLists, IsRefusal, Noted};
+ghost use Rattle.object_services.specs.Limits.{AreHostLists, AreWithinLimit, IsRefusal, Noted};
+ghost use Rattle.object_services.specs.Limits.{PassesNowhere};
 
 use crate::blocks::ServiceBlocks;
 use due_model::limits::MAX_OBJECTS;
@@ -20,9 +21,9 @@ use std::marker::Model;
 /// Why the hosts of service blocks aren't given.
 #[derive(Clone, Copy, Debug, PartialEq, Eq)]
 pub enum LimitFault {
-    /// With the block whose `define` is at this line there are over 65,535 objects: hosts, and a service for each
-    /// host of each service block.
-    TooMany { line: u64 },
+    /// With the block at this place, whose `define` is at this line, there are over 65,535 objects: hosts, and a
+    /// service for each host of each service block.
+    TooMany { place: usize, line: u64 },
     /// Memory ran out. It says nothing of the blocks.
     NoMemory,
 }
@@ -96,6 +97,8 @@ impl ServiceHosts {
         ensures lists { IfOk result (AreHostLists services.now (objects_in services.now Service)) }
         ensures few { IfOk result (λ made.
             length (objects_in services.now Host) + sum_by length made ≤ max_objects) }
+        ensures keeps { OnOk result (AreWithinLimit services.now) }
+        ensures none { OnOk result (PassesNowhere services.now) }
         ensures fault { IfErr result (IsRefusal services.now) }
     {
         let mut lists = Vec::new(alloc);
@@ -106,7 +109,10 @@ impl ServiceHosts {
             let more = note(alloc, services, hosts, &mut lists, place, service)?;
             let total = (count + own).saturating_add(more);
             if total > MAX_OBJECTS {
-                return Err(LimitFault::TooMany { line: block.line });
+                return Err(LimitFault::TooMany {
+                    place,
+                    line: block.line,
+                });
             }
             count = total;
         }

@@ -108,10 +108,6 @@ suppressed_is k l outcome s n t why is problem of =
 
 -- ---- the settings of an object
 
-pub is_read : (xs ys : List Object) (i k : ℕ) (d x : Object) → ys ≡ xs → k ≡ i → slice_get xs i ≡ Some x → get_or ys k d ≡ x
-is_read xs ys i k d x same place at =
-    ap (λ (zs : List Object). get_or zs k d) same ∙ ap (λ (m : ℕ). get_or xs m d) place ∙ get_or_from_slice_get xs i x d at
-
 -- without a period the next moment is this one
 pub always_now : (c : Config) (zone : Zone) (t : ℕ) → Some t ≡ next_in c zone None t
 unfolding next_in first_passing

@@ -13,7 +13,7 @@ use Rattle.due_model.specs.Histories.{hist, longer, outcome}
 use Rattle.due_model.specs.Due.{due_for, notices, suppressed_for, suppressions}
 use Rattle.due_model.specs.Readings.{began, moment}
 use Rattle.lemmas.proofs.Lists.{All-reverse, length_past, past_more}
-use Rattle.lemmas.proofs.Coverage.{began-le-moment}
+use Rattle.lemmas.proofs.Beginnings.{began-le-moment}
 
 moment_in_range : (c : Config) (past : List Event) → All (IsProper c) past → moment past ≤ last_moment
 moment_in_range c [] h = omega arith

@@ -1,15 +1,14 @@
 -- The search for the mark that ends a text.
-use Rattle.std.proofs.Common.{◌≡◌, ◌≢◌, ℕ, suc, ◌+◌, ◌-◌, ◌<◌, ◌≤◌, Bool, true, false, cond, List, [], ◌∷◌, ◌++◌, length, take, drop, get_or, Option, None, Some, IfSome, refl, sym, ap, subst, ◌∙◌, arith, inl, inr, add-one, append_assoc, length-append, length-drop, length-take, drop-cons, ⊎_elim}
+use Rattle.std.proofs.Common.{◌≡◌, ℕ, suc, ◌+◌, ◌-◌, ◌<◌, ◌≤◌, true, false, cond, List, [], ◌∷◌, ◌++◌, length, take, drop, get_or, Option, None, Some, IfSome, refl, sym, ap, subst, ◌∙◌, arith, add-one, append_assoc, length-append, length-drop, length-take, drop-cons}
 use Rattle.std.specs.List.{onto_first, join_with_byte, position_or_len}
 use Rattle.std.specs.Str.{bytes_eq}
 use Rattle.std.specs.Io.KnownBytes.{Consumes, IsAtEnd, Keeps, prepend_known}
-use Rattle.std.proofs.Math.Seq.{take-append-add, take-length, drop-append_seam, take-add}
-use Rattle.std.proofs.lemmas.Bool.{cases_lt, false_from_ne_true, true≢false}
+use Rattle.std.proofs.Math.Seq.{take-length, drop-append_seam, take-add}
+use Rattle.std.proofs.lemmas.Bool.{false_from_ne_true, true≢false}
 use Rattle.std.proofs.lemmas.List.{append-nil, drop-drop, take-append-drop, take-append-le}
 use Rattle.std.proofs.lemmas.List.Elements.{All-append, All-head, All-tail, All-nil}
 use Rattle.std.proofs.lemmas.List.Splits.{join_with_byte-slice_split, slice_split_at, slice_split_none, slice_split-cons_no}
 use Rattle.std.proofs.lemmas.Slice.Eq.{bytes_eq-Decides}
-use Rattle.std.proofs.lemmas.Option.{none-some, same_Some}
 use Rattle.text_lines.specs.Lines.{IsUnbroken, Known, is_newline, pieces}
 use Rattle.text_lines.specs.LineReader.{Reading, Fills, to_come}
 use Rattle.text_lines.specs.declared.line_reader.Filled.TheVariants.{More, Empty}
@@ -17,8 +16,7 @@ use Rattle.text_lines.specs.declared.text.Parting.{Parting}
 use Rattle.text_lines.specs.declared.text.Search.{Search}
 use Rattle.text_lines.specs.Text.{FindsMark, IsParting, IsSearched, MovesHeld, is_mark, rest_after, split_lines, split_text, text_before, text_limit, with_front}
 use Rattle.lemmas.proofs.Lists.{HasFirst, slice_split-first}
-use Rattle.text_lines.proofs.Ranges.{unbroken-before, newline-at}
-use Rattle.text_lines.proofs.ReadLines.{Known-from}
+use Rattle.text_lines.proofs.Ranges.{unbroken-before}
 
 -- ---- one line
 

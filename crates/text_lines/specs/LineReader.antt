@@ -1,5 +1,5 @@
 -- What a reader of lines stands for, and what the reading of a line says of the bytes.
-use Rattle.std.specs.Prelude.{◌≡◌, ℕ, ◌+◌, ◌<◌, ◌≤◌, List, [], ◌∷◌, ◌++◌, length, nat_lt, if◌then◌else◌, ⊤, Option}
+use Rattle.std.specs.Prelude.{◌≡◌, ℕ, ◌+◌, ◌<◌, ◌≤◌, List, [], ◌++◌, length, nat_lt, if◌then◌else◌, ⊤, Option}
 use Rattle.std.specs.Io.KnownBytes.{Consumes, IsAtEnd, Keeps, prepend_known}
 pub use Rattle.due_model.specs.Limits.{line_limit}
 use Rattle.text_lines.specs.CountedReader.{calls_after}

@@ -8,7 +8,7 @@ pub mod input;
 pub mod line_reader;
 pub mod text;
 
-pub use bytes::find_byte;
+pub use bytes::{find_byte, find_near};
 pub use input::{AnyReader, Input};
 pub use line_reader::{BYTE_LIMIT, CALL_LIMIT, LineReader, NextLine, Stop};
 pub use text::{TEXT_CALL_LIMIT, TextFault};

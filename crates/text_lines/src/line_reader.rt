@@ -215,6 +215,7 @@ impl<R: Input + Drop> LineReader<R> {
     }
 
     /// The place of the first newline in what is held, or the length where there is none. None is before `from`.
+    #[inline(always)]
     fn find_newline(&self, from: usize) -> usize
         requires within { from ≤ length self.now.held }
         requires before { IsUnbroken (take from self.now.held) }

@@ -12,16 +12,10 @@ use Rattle.due_model.specs.declared.config.Range.{Range}
 use Rattle.due_model.specs.Accepted.{Excludes, IsAccepted, PeriodFits}
 use Rattle.due_model.specs.Local.{Local}
 use Rattle.due_model.specs.Periods.{holds, in_range, ranges_on}
-use Rattle.lemmas.proofs.Lists.{All-slice_get, slice_get_read}
+use Rattle.lemmas.proofs.Lists.{any_alike, All-slice_get, slice_get_read}
 use Rattle.time_period.specs.Days.{AreCompiled, AreWorkedOut, IsCompiled, holds_at, in_ranges}
 use Rattle.time_period.proofs.DayLemmas.{found_at}
 use Rattle.time_period.specs.Exclusions.{AreDone, InOrder, IsRight}
-
--- two tests that agree at each element of a list
-any_alike : {X : Type 0} (f g : X → Bool) (xs : List X) → ((x : X) → Contains xs x → f x ≡ g x) → list_any f xs ≡ list_any g xs
-any_alike f g [] alike = refl
-any_alike f g (x ∷ xs) alike =
-    ap₂ (λ a b. a || b) (alike x (0, omega arith, refl)) (any_alike f g xs (λ y found. alike y (suc found.0, omega (arith, found.1), found.2)))
 
 -- what the definition says of a period, where `inner` says which of the others hold
 abbrev holds_if : (PeriodId → Bool) → Local → Option Period → Bool

@@ -1,13 +1,8 @@
-use Rattle.std.proofs.Common.{◌≡◌, ◌<◌, List, [], length, ap, ℕ, get_or, set, ◌∙◌, arith, length-set, Option}
-use Rattle.std.proofs.lemmas.List.{get_or_default}
-use Rattle.due_times.specs.Levels.{level}
+use Rattle.std.proofs.Common.{◌≡◌, ◌<◌, List, length, ap, ℕ, get_or, set, ◌∙◌, arith, length-set, Option}
 use Rattle.due_times.proofs.Mending.{IsMendedUpTo, mended_more, mended_whole}
+use Rattle.due_times.proofs.Next.{level_read}
 use Rattle.due_times.proofs.Tops.{some_level}
 use Rattle.due_times.proofs.set_in.Goals as goal
-
--- a level that was read
-level_read : (levels : List (List (Option ℕ))) (k : ℕ) (it : List (Option ℕ)) → k < length levels → it ≡ get_or levels k it → it ≡ level levels k
-level_read levels k it h e = e ∙ get_or_default levels k it [] h
 
 -- the place that is to be mended is in the level that was read
 inside : (old : List (List (Option ℕ))) (place0 : ℕ) (moment0 : Option ℕ) (number : ℕ) (new : List (List (Option ℕ))) (p : ℕ) (m : Option ℕ) (it : List (Option ℕ))

@@ -1,4 +1,4 @@
-use Rattle.std.proofs.Common.{◌≡◌, ◌<◌, List, [], ◌∷◌, length, replicate, slice_get, All, refl, sym, ap, ◌∙◌, subst, arith}
+use Rattle.std.proofs.Common.{◌≡◌, ◌<◌, List, [], ◌∷◌, length, replicate, slice_get, All, None, sym, ap, ◌∙◌, subst, arith}
 use Rattle.std.proofs.lemmas.List.Elements.{All-nil, All-cons, All-same, All-replicate, All-weaker}
 use Rattle.std.proofs.lemmas.Option.{none-some}
 use Rattle.due_model.specs.declared.config.Config.{Config}
@@ -8,7 +8,6 @@ use Rattle.due_model.specs.declared.config.LaneId.{LaneId}
 use Rattle.due_model.specs.declared.config.Period.{Period}
 use Rattle.due_model.specs.declared.config.Rights.{Rights}
 use Rattle.due_model.specs.Accepted.{ContactFits, DependencyFits, EscalationFits, HasPeriod, IsAccepted, ObjectFits, PeriodFits, RightsFit}
-use Rattle.due_model.specs.Covered.{AreFullRights, IsCovered, IsPlainHost}
 use Rattle.due_laws.specs.Rows.{web}
 use Rattle.acceptance_inputs.proofs.configs.wide.Goals as goal
 
@@ -17,17 +16,17 @@ record IsWide (c : Config) (k : Contact) : Type 0 where
   objects : c.objects ≡ replicate 8 web
   contacts : c.contacts ≡ k ∷ []
   lanes : length c.lanes ≡ 16
-  hosts : AreFullRights k.hosts
-  services : AreFullRights k.services
+  hosts : k.hosts.period ≡ None
+  services : k.services.period ≡ None
   host_lanes : All (λ lane. lane.0 < 16) k.hosts.lanes
   service_lanes : All (λ lane. lane.0 < 16) k.services.lanes
   periods : c.periods ≡ []
   escalations : c.escalations ≡ []
   dependencies : c.dependencies ≡ []
 
-rights_fit : (c : Config) (rights : Rights) → length c.lanes ≡ 16 → AreFullRights rights → All (λ lane. lane.0 < 16) rights.lanes → RightsFit c rights
-rights_fit c rights long full lanes = record {
-  period = subst (HasPeriod c) (sym full.period) tt;
+rights_fit : (c : Config) (rights : Rights) → length c.lanes ≡ 16 → rights.period ≡ None → All (λ lane. lane.0 < 16) rights.lanes → RightsFit c rights
+rights_fit c rights long always lanes = record {
+  period = subst (HasPeriod c) (sym always) tt;
   lanes = All-weaker (λ (lane : LaneId). lane.0 < 16) (λ (lane : LaneId). lane.0 < length c.lanes) (λ lane h. omega (arith, long, h)) rights.lanes lanes;
 }
 
@@ -62,20 +61,6 @@ wide_is_accepted c k wide =
       no_dependency_loop = λ steps p chain. absurd (omega (arith, chain.1.1.1, ap length wide.dependencies));
     }
 
-wide_is_covered : (c : Config) (k : Contact) → IsWide c k → IsCovered c
-wide_is_covered c k wide = record {
-  objects = All-same IsPlainHost c.objects (replicate 8 web) wide.objects (All-replicate IsPlainHost 8 web (record {
-    host = refl;
-    enabled = refl;
-    options = record { down = refl; unreachable = refl; recovery = refl; flapping = refl; downtime = refl };
-    period = refl;
-    delay = refl;
-  }));
-  contacts = All-same (λ (x : Contact). AreFullRights x.hosts) c.contacts (k ∷ []) wide.contacts (All-cons (λ (x : Contact). AreFullRights x.hosts) k [] wide.hosts (All-nil (λ (x : Contact). AreFullRights x.hosts)));
-  no_escalation = wide.escalations;
-  no_dependency = wide.dependencies;
-}
-
 -- what is built
 is_wide : (c : goal.After-of_parts) → IsWide c.of_parts.result c.in_ok-loud_contact.field-0
 is_wide c = record {
@@ -93,6 +78,3 @@ is_wide c = record {
 
 pub returns-clause-accepted : goal.returns-clause-accepted
 returns-clause-accepted c = wide_is_accepted c.of_parts.result c.in_ok-loud_contact.field-0 (is_wide c)
-
-pub returns-clause-covered : goal.returns-clause-covered
-returns-clause-covered c = wide_is_covered c.of_parts.result c.in_ok-loud_contact.field-0 (is_wide c)

@@ -1,4 +1,4 @@
-use Rattle.std.proofs.Common.{List, ◌∷◌, ◌++◌, [], get_or, refl, ap, ◌∙◌, arith}
+use Rattle.std.proofs.Common.{List, ◌++◌, get_or, refl, ap, ◌∙◌, arith}
 use Rattle.messages.specs.declared.entries.Entry.{Entry}
 use Rattle.decider.specs.declared.staging.NewBook.{NewBook}
 use Rattle.decider.specs.Events.{values}

@@ -4,7 +4,7 @@ use Rattle.lemmas.proofs.Lists.{All-slice_get}
 use Rattle.due_model.specs.Accepted.{ObjectFits}
 use Rattle.due_model.specs.Escalations.{contacts_with, has_contact}
 use Rattle.escalation.specs.Named.{contact_ids}
-use Rattle.escalation.proofs.MatchingLemmas.{is_read}
+use Rattle.lemmas.proofs.Lists.{is_read}
 use Rattle.escalation.proofs.contacts.own_contacts.Goals as goal
 
 pub returns-clause-appended : goal.returns-clause-appended

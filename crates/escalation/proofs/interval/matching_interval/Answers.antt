@@ -1,7 +1,8 @@
 use Rattle.std.proofs.Common.{◌∙◌, ◌*◌, ◌<◌, ◌≤◌, All, ap, get_or, length, refl, subst, sym}
 use Rattle.due_model.specs.Limits.{max_number}
 use Rattle.escalation.specs.Matching.{applying, least_of}
-use Rattle.escalation.proofs.MatchingLemmas.{are_matching, are_within, interval_is, interval_within, is_read, read_at, times_within}
+use Rattle.escalation.proofs.MatchingLemmas.{are_matching, are_within, interval_is, interval_within, read_at, times_within}
+use Rattle.lemmas.proofs.Lists.{is_read}
 use Rattle.escalation.proofs.interval.matching_interval.Goals as goal
 
 pub least_interval-least-requires-clause-within : goal.least_interval-least-requires-clause-within

@@ -1,25 +1,34 @@
-use Rattle.std.proofs.Common.{◌≡◌, ◌∙◌, arith, length, sym}
-use Rattle.event_feed.proofs.Parts.{ReadsDigits-more, ReadsDigits-count, ReadsDigits-number}
+use Rattle.std.proofs.Common.{◌≡◌, ◌∙◌, ℕ, List, take, sym, ap, arith}
+use Rattle.std.specs.Char.{is_ascii_digit}
+use Rattle.std.specs.List.{prefix_len}
+use Rattle.event_feed.specs.Line.{digits_number}
+use Rattle.event_feed.proofs.Parts.{ten_digits, ReadsDigits-ten, ReadsDigits-count, ReadsDigits-number}
 use Rattle.event_feed.proofs.line.read_digits.Goals as goal
 
-pub returns-then-not-is_ascii_digit-clause-count : goal.returns-then-not-is_ascii_digit-clause-count
-returns-then-not-is_ascii_digit-clause-count c =
-    ReadsDigits-count c.args.bytes.now c.loop-at.at c.loop-at.number c.loop-at.invariant (omega arith) (λ _. sym c.if-not-is_ascii_digit.ensures.value)
+pub read_ten_digits-requires : goal.read_ten_digits-requires
+read_ten_digits-requires c =
+    let bytes = c.args.bytes.now in
+    let front = c.in-Some-Some.ensures.cases in
+    let ten : prefix_len is_ascii_digit (take 16 bytes) ≡ 10 =
+    ap (λ (part : List ℕ). prefix_len is_ascii_digit part) (sym front.same) ∙ sym c.count_digits.ensures ∙ c.if-count_digits-eq10.true in
+    rw c.in-Some-Some.ensures'.cases.same (ten_digits bytes front.enough ten)
 
-pub returns-then-not-is_ascii_digit-clause-number : goal.returns-then-not-is_ascii_digit-clause-number
-returns-then-not-is_ascii_digit-clause-number c =
-    ReadsDigits-number c.args.bytes.now c.loop-at.at c.loop-at.number c.loop-at.invariant (omega arith) (λ _. sym c.if-not-is_ascii_digit.ensures.value)
+pub returns-in-Some-Some-clause-count : goal.returns-in-Some-Some-clause-count
+returns-in-Some-Some-clause-count c =
+    let bytes = c.args.bytes.now in
+    let front = c.in-Some-Some.ensures.cases in
+    let ten : prefix_len is_ascii_digit (take 16 bytes) ≡ 10 =
+    ap (λ (part : List ℕ). prefix_len is_ascii_digit part) (sym front.same) ∙ sym c.count_digits.ensures ∙ c.if-count_digits-eq10.true in
+    let reads = ReadsDigits-ten bytes c.read_ten_digits.result front.enough ten
+    (c.read_ten_digits.ensures.number ∙ ap digits_number c.in-Some-Some.ensures'.cases.same) c.read_ten_digits.ensures.few in
+    ReadsDigits-count bytes 10 c.read_ten_digits.result reads.0 (omega (arith, front.enough)) (λ _. reads.1)
 
-pub loop-at-preserved : goal.loop-at-preserved
-loop-at-preserved c =
-    ReadsDigits-more c.args.bytes.now c.loop-at.at c.loop-at.number c.min-number.result c.loop-at.invariant (omega arith) (sym c.if-not-is_ascii_digit.ensures.value)
-    (omega (arith, c.min-number.ensures, c.from.ensures))
-
-pub returns-clause-count : goal.returns-clause-count
-returns-clause-count c =
-    let all : length c.args.bytes.now ≡ c.loop-at.at = omega arith in
-    all ∙ ReadsDigits-count c.args.bytes.now c.loop-at.at c.loop-at.number c.loop-at.invariant (omega arith) (λ low. absurd (omega (arith, low)))
-
-pub returns-clause-number : goal.returns-clause-number
-returns-clause-number c =
-    ReadsDigits-number c.args.bytes.now c.loop-at.at c.loop-at.number c.loop-at.invariant (omega arith) (λ low. absurd (omega (arith, low)))
+pub returns-in-Some-Some-clause-number : goal.returns-in-Some-Some-clause-number
+returns-in-Some-Some-clause-number c =
+    let bytes = c.args.bytes.now in
+    let front = c.in-Some-Some.ensures.cases in
+    let ten : prefix_len is_ascii_digit (take 16 bytes) ≡ 10 =
+    ap (λ (part : List ℕ). prefix_len is_ascii_digit part) (sym front.same) ∙ sym c.count_digits.ensures ∙ c.if-count_digits-eq10.true in
+    let reads = ReadsDigits-ten bytes c.read_ten_digits.result front.enough ten
+    (c.read_ten_digits.ensures.number ∙ ap digits_number c.in-Some-Some.ensures'.cases.same) c.read_ten_digits.ensures.few in
+    ReadsDigits-number bytes 10 c.read_ten_digits.result reads.0 (omega (arith, front.enough)) (λ _. reads.1)

@@ -1,6 +1,6 @@
 use Rattle.std.proofs.Common.{is_some, ap, refl, ◌∙◌}
 use Rattle.due_model.specs.declared.config.Object.{Object}
-use Rattle.messages.proofs.MessageLemmas.{is_read}
+use Rattle.lemmas.proofs.Lists.{is_read}
 use Rattle.messages.proofs.outcome.message_of.Goals as goal
 
 pub returns-clause-is : goal.returns-clause-is

@@ -25,7 +25,7 @@ returns c =
     ∙ ap (on_top (λ s. record s { subcommand_required = true })) helpless in
     let settings = ap app_of_fields c.arg_required_else_help.ensures
     ∙ ap (on_top (λ s. record s { arg_required_else_help = true })) required in
-    let replay_is = c.replay_command.ensures.words in
+    let replay_is = c.in_ok-replay_command.ensures.words in
     let trace_is = c.in_ok-trace_command.ensures.words in
     let replay_added = c.in_ok-subcommand.ensures.shape (third_is_false _ _ _ _ (ap (λ (a : App). a.top.is_plain) replay_is))
     ∙ ap₂ with_subcommand settings (ap (λ (a : App). a.top) replay_is) in

@@ -6,7 +6,7 @@ use Rattle.clap.specs.Words.{Rule, app_of, new_app, new_rule, rule_of, signed_be
 use Rattle.clap.specs.declared.builder.arg.Arg.{Arg}
 use Rattle.clap.specs.declared.builder.value_parser.ValueParser.{ValueParser}
 use Rattle.clap.specs.declared.builder.value_parser.ValueParser.TheVariants.{Signed}
-use Rattle.notify_run.specs.CommandLine.{number_option}
+use Rattle.notify_run.specs.CommandLine.{number_option, with_zone}
 use Rattle.notify_run.proofs.command_line.trace_command.Goals as goal
 
 -- the parser of numbers from 0 to `top`, within narrower bounds
@@ -57,4 +57,5 @@ returns c =
     let bare : app_of c.long_about.result ≡ new_app (codes "trace") = ap app_of_fields c.long_about.ensures ∙ ap app_of_fields c.about.ensures ∙ c.new-7.ensures.app in
     let one = c.in_ok-arg.ensures.shape local ∙ ap₂ with_rule bare deciders in
     let two = c.in_ok-arg-2.ensures.shape local-2 ∙ ap₂ with_rule one queue in
-    record { words = IfOk-weaker c.arg-3.result _ _ (λ r h. h.shape local-3 ∙ ap₂ with_rule two tries) c.arg-3.ensures }
+    let three = c.in_ok-command.ensures.shape local-3 ∙ ap₂ with_rule two tries in
+    record { words = IfOk-weaker c.with_zone.result _ _ (λ r h. h ∙ ap with_zone three) c.with_zone.ensures.words }

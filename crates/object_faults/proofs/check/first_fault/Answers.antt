@@ -1,9 +1,11 @@
-use Rattle.std.proofs.Common.{length}
-use Rattle.object_faults.specs.Columns.{first_at, lacking_at, value_columns}
-use Rattle.object_faults.proofs.FirstLemmas.{first-both}
+use Rattle.std.proofs.Common.{Option, length, subst, sym}
+use Rattle.object_faults.specs.Columns.{any_at, date_at, IsFirst, whole_at}
+use Rattle.object_faults.specs.declared.first.Found.{Found}
+use Rattle.object_faults.proofs.RankLemmas.{first-lower}
 use Rattle.object_faults.proofs.check.first_fault.Goals as goal
 
 pub returns : goal.returns
 returns c =
     let blocks = c.args.templates.now in
-    first-both (length blocks) (lacking_at blocks) (first_at blocks value_columns) c.in_ok-lacking.lacking c.in_ok-broken.broken _ c.earlier.ensures c.in_ok-lacking.ensures c.in_ok-broken.ensures
+    subst (λ (found : Option Found). IsFirst (length blocks) (whole_at blocks) found) (sym c.lower.ensures)
+    (first-lower (length blocks) (any_at blocks) (date_at blocks) c.in_ok-plain.plain c.in_ok-dated.dated c.in_ok-plain.ensures c.in_ok-dated.ensures)

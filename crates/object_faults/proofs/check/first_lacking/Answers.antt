@@ -1,8 +1,6 @@
-use Rattle.std.proofs.Common.{Option, length, subst, sym}
-use Rattle.object_faults.specs.declared.first.Found.{Found}
+use Rattle.std.proofs.Common.{length}
 use Rattle.object_faults.specs.declared.needs.Side.TheVariants.{Masters, Dependents}
-use Rattle.object_faults.specs.Columns.{first_at, IsFirst, lacking_at, name_columns, side_at}
-use Rattle.object_faults.specs.Columns.{earlier}
+use Rattle.object_faults.specs.Columns.{first_at, name_columns, side_at}
 use Rattle.object_faults.proofs.FirstLemmas.{first-both}
 use Rattle.object_faults.proofs.check.first_lacking.Goals as goal
 

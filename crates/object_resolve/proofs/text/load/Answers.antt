@@ -2,7 +2,7 @@ use Rattle.std.proofs.Common.{◌≡◌, subst}
 use Rattle.std.proofs.lemmas.Result.{err_from_is_err_and}
 use Rattle.object_resolve.specs.Resolve.{IsRefusal, IsResolved}
 use Rattle.object_resolve.specs.Fault.{IsAmong}
-use Rattle.object_resolve.proofs.Accepted.{resolved-accepted, resolved-covered}
+use Rattle.object_resolve.proofs.Accepted.{resolved-accepted}
 use Rattle.object_resolve.proofs.TextLemmas.{blocks-fault, blocks-only, read-fault, read-only, read-same, read-unrefused, text-unrefused}
 use Rattle.object_resolve.proofs.text.load.Goals as goal
 
@@ -12,9 +12,6 @@ returns-clause-config c =
 
 pub returns-clause-accepted : goal.returns-clause-accepted
 returns-clause-accepted c = resolved-accepted _ c.in_ok-resolve.field-0 c.in_ok-resolve.ensures.resolved
-
-pub returns-clause-covered : goal.returns-clause-covered
-returns-clause-covered c = resolved-covered _ c.in_ok-resolve.field-0 c.in_ok-resolve.ensures.resolved
 
 pub returns-clause-refused : goal.returns-clause-refused
 returns-clause-refused c = λ fault refused.

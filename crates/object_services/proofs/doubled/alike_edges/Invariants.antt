@@ -1,4 +1,4 @@
-use Rattle.std.proofs.Common.{◌≡◌, ◌<◌, filter, length, ℕ}
+use Rattle.std.proofs.Common.{◌≡◌, filter, length, ℕ}
 use Rattle.std.specs.Prelude.{All}
 use Rattle.std.specs.List.{range_with_len}
 use Rattle.graph.specs.Edges.{ends_of, IsWithin}

@@ -1,6 +1,5 @@
 use Rattle.std.proofs.Common.{◌≡◌, ◌<◌, ◌∙◌, List, arith, ap, length, ℕ}
 use Rattle.object_groups.specs.Objects.{names_in, ObjectsOf}
-use Rattle.object_reader.specs.declared.block.BlockKind.TheVariants.{Service}
 use Rattle.object_services.specs.Alike.{alike}
 use Rattle.object_services.proofs.AlikeLemmas.{alike-pairs, doubled-all, doubled-more}
 use Rattle.object_services.proofs.doubled.first_doubled.Goals as goal

@@ -1,4 +1,4 @@
-use Rattle.std.proofs.Common.{◌≡◌, ◌∙◌, ◌||◌, List, Option, None, ap, eqb, get_or, subst, sym, take_all, ℕ}
+use Rattle.std.proofs.Common.{◌∙◌, ◌||◌, List, None, ap, eqb, get_or, subst, sym, take_all, ℕ}
 use Rattle.std.specs.List.{list_any}
 use Rattle.indexmap.specs.IndexSet.{contains}
 use Rattle.object_groups.specs.Objects.{objects_in, ObjectsOf}

@@ -1,5 +1,4 @@
-use Rattle.std.proofs.Common.{◌≡◌, ◌++◌, ◌∙◌, List, [], ap, map}
-use Rattle.object_services.specs.Numbers.{Key, pairs_in}
+use Rattle.object_services.specs.Numbers.{pairs_in}
 use Rattle.object_services.proofs.PairLemmas.{hosts-more, hosts-none}
 use Rattle.object_services.proofs.numbers.push_block.Goals as goal
 

@@ -1,4 +1,3 @@
-use Rattle.std.proofs.Common.{◌≡◌}
 use Rattle.std.proofs.lemmas.Result.{IfOk-weaker}
 use Rattle.object_services.proofs.UnknownLemmas.{of-kind}
 use Rattle.object_services.proofs.unknown.first_of_kind.Goals as goal

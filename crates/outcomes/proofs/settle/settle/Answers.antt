@@ -1,7 +1,8 @@
 use Rattle.std.proofs.Common.{◌∙◌, ap, subst, sym}
 use Rattle.problem_count.specs.Fits.{IsNextMoment}
 use Rattle.problem_count.specs.Laws.{is_of_problem_attempt}
-use Rattle.outcomes.proofs.OutcomeLemmas.{is_read, of_no_problem, sent_is, suppressed_is}
+use Rattle.lemmas.proofs.Lists.{is_read}
+use Rattle.outcomes.proofs.OutcomeLemmas.{of_no_problem, sent_is, suppressed_is}
 use Rattle.outcomes.proofs.settle.settle.Goals as goal
 
 pub returns-then-not-is_problem : goal.returns-then-not-is_problem

@@ -1,4 +1,4 @@
-use Rattle.std.proofs.Common.{◌≡◌, ◌<◌, ◌-◌, ℕ, List, length, take, drop, ltb, ap, ◌∙◌}
+use Rattle.std.proofs.Common.{◌-◌, ℕ, List, length, take, drop, ltb, ap, ◌∙◌}
 use Rattle.std.specs.List.{list_any}
 use Rattle.std.proofs.lemmas.List.{take_rest}
 use Rattle.text_lines.specs.Lines.{is_newline}

@@ -1,7 +1,7 @@
 use Rattle.std.proofs.Common.{arith}
 use Rattle.std.specs.Option.{option_copied}
 use Rattle.text_lines.specs.Text.{text_limit}
-use Rattle.text_lines.proofs.Marks.{bytes_are_large, lines_are_large}
+use Rattle.text_lines.proofs.Marks.{bytes_are_large}
 use Rattle.text_lines.proofs.text.is_large.Goals as goal
 
 pub returns-then-bytes-gt-TEXT_LIMIT-clause-large : goal.returns-then-bytes-gt-TEXT_LIMIT-clause-large

@@ -1,5 +1,5 @@
 use Rattle.decider.specs.Fits.{core_kept}
-use Rattle.decider.proofs.FitLaws.{at_with, is_at}
+use Rattle.decider.proofs.FitLaws.{at_with, has_room, is_at}
 use Rattle.decider.proofs.event_decider.EventDecider.stage.Goals as goal
 
 pub stage_event-requires : goal.stage_event-requires
@@ -28,3 +28,8 @@ returns-clause-staged c = λ past fits.
     c.in_ok-stage_event.ensures.entries c.args.event past
     (at_with k c.args.event past c.deref.result.now c.context-context.result c.deref-2.result.now c.deref.ensures.value c.context-context.ensures c.deref-2.ensures.value
     (is_at k c.args.event past fits c.requires.proper))
+
+pub returns-clause-room : goal.returns-clause-room
+returns-clause-room c =
+    let past = c.requires.fits.0 in
+    has_room (core_kept c.args.self.now) c.args.event past c.requires.fits.1 c.requires.proper c.stage_event.new.staged.books.items (returns-clause-books c past c.requires.fits.1)

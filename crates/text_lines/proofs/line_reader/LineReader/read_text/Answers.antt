@@ -1,4 +1,4 @@
-use Rattle.std.proofs.Common.{◌≡◌, rules}
+use Rattle.std.proofs.Common.{rules}
 use Rattle.std.specs.Option.{option_copied}
 use Rattle.text_lines.specs.LineReader.{to_come}
 use Rattle.text_lines.proofs.Marks.{front-filled, text-large}

@@ -1,0 +1,89 @@
+//! Each kind of channel in a box.
+
+use crate::devices::Agreeing;
+use crate::given::{DOWN, DOWN_TEXT, are, are_receipts, check, letter};
+use channel::letter::Letter;
+use channel::memory::MemoryChannel;
+use channel::{Channel, Kind};
+use channel_kinds::mailbox::Mailbox;
+use channel_kinds::pager::Pager;
+use channel_kinds::spawned::Spawned;
+use std::alloc::Global;
+use std::io::{self, PipeReader, Read};
+use std::process::Abort;
+use std::test::Fail;
+
+/// A new channel takes a letter.
+fn takes(channel: &mut Box<dyn Channel>, letter: &Letter) -> bool {
+    channel.reserve().is_ok() && channel.room() && channel.deliver(letter).is_ok()
+}
+
+/// Whether it is of this kind and with this limit, and has taken the one letter.
+fn has_taken(channel: &Box<dyn Channel>, kind: Kind, limit: u64) -> bool {
+    channel.kind() == kind
+        && channel.limit() == limit
+        && channel.failures() == 0
+        && are_receipts(channel.taken(), &[DOWN])
+}
+
+/// A new channel of this kind and with this limit takes a letter.
+fn drive(rt: &impl Abort, channel: &mut Box<dyn Channel>, letter: &Letter, kind: Kind, limit: u64) {
+    check(rt, takes(channel, letter), "it takes the letter");
+    check(
+        rt,
+        has_taken(channel, kind, limit),
+        "what it says of itself",
+    );
+}
+
+#[test]
+fn a_channel_in_memory(rt: HostRuntime) -> Result<(), Fail> {
+    let down = letter(rt.alloc(), DOWN)?;
+    let channel = MemoryChannel::new(rt.alloc(), 79, &[])?;
+    let mut channel: Box<dyn Channel> = Box::new(rt.alloc(), channel)?;
+    drive(&rt, &mut channel, &down, Kind::Memory, 79);
+    Ok(())
+}
+
+#[test]
+fn a_pager(rt: HostRuntime) -> Result<(), Fail> {
+    let down = letter(rt.alloc(), DOWN)?;
+    let channel = Pager::new(rt.alloc(), Agreeing { reads: 0 });
+    let mut channel: Box<dyn Channel> = Box::new(rt.alloc(), channel)?;
+    drive(&rt, &mut channel, &down, Kind::Pager, 1_024);
+    Ok(())
+}
+
+#[test]
+fn a_program(rt: HostRuntime) -> Result<(), Fail> {
+    let down = letter(rt.alloc(), DOWN)?;
+    let channel = Spawned::new(rt.alloc(), rt, "/bin/cat", &[])?;
+    let mut channel: Box<dyn Channel> = Box::new(rt.alloc(), channel)?;
+    drive(&rt, &mut channel, &down, Kind::Spawned, 16_384);
+    Ok(())
+}
+
+/// The rest of a pipe is the letter and the closing line.
+fn check_written(rt: &impl Abort, alloc: Global, mut reader: PipeReader) -> io::Result<()> {
+    let mut written = Vec::new(alloc);
+    reader.read_to_end(&mut written)?;
+    check(
+        rt,
+        are(&written, &[DOWN_TEXT, "-- closed\n"]),
+        "what was written",
+    );
+    Ok(())
+}
+
+/// A mailbox over a pipe, whose box is dropped.
+#[test]
+fn a_mailbox(rt: HostRuntime) -> Result<(), Fail> {
+    let down = letter(rt.alloc(), DOWN)?;
+    let (reader, writer) = io::pipe(&rt)?;
+    let channel = Mailbox::new(rt.alloc(), writer);
+    let mut channel: Box<dyn Channel> = Box::new(rt.alloc(), channel)?;
+    drive(&rt, &mut channel, &down, Kind::Mailbox, 65_536);
+    drop(channel);
+    check_written(&rt, rt.alloc(), reader)?;
+    Ok(())
+}

@@ -1,0 +1,310 @@
+//! Objects of one name and names that nothing has, as the manual's rules give them.
+
+ghost use Rattle.std.specs.Prelude.{◌≡◌};
+
+use object_inheritance::templates::Templates;
+use object_names::doubled::first_doubled;
+use object_names::named::NamedObjects;
+use object_names::unknown::first_unknown;
+use object_reader::block::Block;
+use object_reader::reading::read;
+use std::alloc::{AllocError, Global};
+use std::fmt::Write;
+use std::test::Fail;
+
+/// A place, or `-`.
+fn show_place(out: &mut String, place: Option<usize>) -> Result<(), AllocError> {
+    match place {
+        None => out.push_str("-"),
+        Some(place) => write!(out, "{place}"),
+    }
+}
+
+/// The places of the first doubled block and of the first that names something that isn't there.
+fn show_both<'a>(
+    alloc: Global,
+    out: &mut String,
+    templates: &Templates<'a>,
+    objects: &NamedObjects<'a>,
+) -> Result<(), AllocError>
+    requires { objects.now ≡ templates.now }
+{
+    show_place(out, first_doubled(objects))?;
+    out.push_str(" ")?;
+    show_place(out, first_unknown(alloc, templates, objects)?)
+}
+
+/// The same of these blocks.
+fn show(alloc: Global, out: &mut String, blocks: &[Block]) -> Result<(), AllocError> {
+    let Ok(templates) = Templates::new(alloc, blocks) else {
+        return out.push_str("templates");
+    };
+    let objects = NamedObjects::new(alloc, &templates)?;
+    show_both(alloc, out, &templates, &objects)
+}
+
+/// Objects a, b, g, v, ann, team, day and mail, one of each type and two hosts, after the blocks of each text.
+const OBJECTS: &str =
+    "define host{\nhost_name a\n}\ndefine host{\nhost_name b\n}\ndefine hostgroup{\nhostgroup_name g\n}\ndefine servicegroup{\nservicegroup_name v\n}\ndefine contact{\ncontact_name ann\n}\ndefine contactgroup{\ncontactgroup_name team\n}\ndefine timeperiod{\ntimeperiod_name day\n}\ndefine command{\ncommand_name mail\n}\n";
+
+/// The places in a text with these objects after it.
+fn places_in(alloc: Global, text: &str) -> Result<String, AllocError> {
+    let mut all = String::new(alloc);
+    all.push_str(text)?;
+    all.push_str(OBJECTS)?;
+    let mut out = String::new(alloc);
+    match read(alloc, all.as_str().as_bytes()) {
+        Ok(blocks) => show(alloc, &mut out, blocks.as_slice())?,
+        Err(_) => out.push_str("unread")?,
+    }
+    Ok(out)
+}
+
+/// Each type of block and each directive by which it names objects; a name that is there; and what is found where the
+/// value is `*` alone.
+const DIRECTIVES: [(&str, &str, &str, &str); 44] = [
+    ("host", "hostgroups", "g", "- -"),
+    ("host", "contacts", "ann", "- -"),
+    ("host", "contact_groups", "team", "- -"),
+    ("host", "notification_period", "day", "- 0"),
+    ("hostgroup", "members", "a", "- -"),
+    ("hostgroup", "hostgroup_members", "g", "- -"),
+    ("service", "host_name", "a", "- -"),
+    ("service", "hostgroup_name", "g", "- -"),
+    ("service", "servicegroups", "v", "- 0"),
+    ("service", "contacts", "ann", "- -"),
+    ("service", "contact_groups", "team", "- -"),
+    ("service", "notification_period", "day", "- 0"),
+    ("servicegroup", "servicegroup_members", "v", "- 0"),
+    ("contact", "contactgroups", "team", "- -"),
+    ("contact", "host_notification_period", "day", "- 0"),
+    ("contact", "service_notification_period", "day", "- 0"),
+    ("contact", "host_notification_commands", "mail", "- 0"),
+    ("contact", "service_notification_commands", "mail", "- 0"),
+    ("contactgroup", "members", "ann", "- -"),
+    ("contactgroup", "contactgroup_members", "team", "- -"),
+    ("timeperiod", "exclude", "day", "- 0"),
+    ("hostescalation", "host_name", "a", "- -"),
+    ("hostescalation", "hostgroup_name", "g", "- -"),
+    ("hostescalation", "contacts", "ann", "- -"),
+    ("hostescalation", "contact_groups", "team", "- -"),
+    ("hostescalation", "escalation_period", "day", "- 0"),
+    ("serviceescalation", "host_name", "a", "- -"),
+    ("serviceescalation", "hostgroup_name", "g", "- -"),
+    ("serviceescalation", "servicegroup_name", "v", "- 0"),
+    ("serviceescalation", "contacts", "ann", "- -"),
+    ("serviceescalation", "contact_groups", "team", "- -"),
+    ("serviceescalation", "escalation_period", "day", "- 0"),
+    ("hostdependency", "host_name", "a", "- -"),
+    ("hostdependency", "hostgroup_name", "g", "- -"),
+    ("hostdependency", "dependent_host_name", "a", "- -"),
+    ("hostdependency", "dependent_hostgroup_name", "g", "- -"),
+    ("hostdependency", "dependency_period", "day", "- 0"),
+    ("servicedependency", "host_name", "a", "- -"),
+    ("servicedependency", "hostgroup_name", "g", "- -"),
+    ("servicedependency", "servicegroup_name", "v", "- 0"),
+    ("servicedependency", "dependent_host_name", "a", "- -"),
+    ("servicedependency", "dependent_hostgroup_name", "g", "- -"),
+    (
+        "servicedependency",
+        "dependent_servicegroup_name",
+        "v",
+        "- 0",
+    ),
+    ("servicedependency", "dependency_period", "day", "- 0"),
+];
+
+/// A text with one block, whose directive has the value.
+fn one_block(
+    alloc: Global,
+    kind: &str,
+    directive: &str,
+    value: &str,
+) -> Result<String, AllocError> {
+    let mut text = String::new(alloc);
+    write!(
+        text,
+        "define {kind}{{\nservice_description z\n{directive} {value}\n}}\n"
+    )?;
+    Ok(text)
+}
+
+/// What is found in a text with one such block.
+fn found_by(alloc: Global, kind: &str, directive: &str, value: &str) -> Result<String, AllocError> {
+    let text = one_block(alloc, kind, directive, value)?;
+    places_in(alloc, text.as_str())
+}
+
+/// Whether the name is found, another isn't, and `*` alone is as the row says.
+fn is_as_said(alloc: Global, row: &(&str, &str, &str, &str)) -> Result<bool, AllocError> {
+    let known = found_by(alloc, row.0, row.1, row.2)?;
+    let other = found_by(alloc, row.0, row.1, "x")?;
+    let all = found_by(alloc, row.0, row.1, "*")?;
+    Ok(known.as_str() == "- -" && other.as_str() == "- 0" && all.as_str() == row.3)
+}
+
+#[test]
+fn each_directive_names_objects_of_one_type(rt: HostRuntime) -> Result<(), Fail> {
+    for row in &DIRECTIVES {
+        let directive = row.1;
+        let said = is_as_said(rt.alloc(), row)?;
+        assert!(rt; said, "{directive}");
+    }
+    Ok(())
+}
+
+/// Blocks, and the places of the first that is doubled and of the first that names something that isn't there.
+const CASES: [(&str, &str); 34] = [
+    ("", "- -"),
+    // Two of one name, and of three the second.
+    (
+        "define host{\nhost_name x\n}\ndefine host{\nhost_name y\n}\ndefine host{\nhost_name x\n}\ndefine host{\nhost_name x\n}\n",
+        "2 -",
+    ),
+    // One of another type has the name.
+    (
+        "define host{\nhost_name x\n}\ndefine hostgroup{\nhostgroup_name x\n}\ndefine contact{\ncontact_name x\n}\ndefine command{\ncommand_name x\n}\n",
+        "- -",
+    ),
+    // A name of the objects that follow.
+    ("define command{\ncommand_name mail\n}\n", "8 -"),
+    (
+        "define timeperiod{\ntimeperiod_name t\n}\ndefine contact{\ncontact_name c\n}\ndefine contact{\ncontact_name c\n}\ndefine timeperiod{\ntimeperiod_name t\n}\n",
+        "2 -",
+    ),
+    (
+        "define servicegroup{\nservicegroup_name t\n}\ndefine servicegroup{\nservicegroup_name t\n}\n",
+        "1 -",
+    ),
+    (
+        "define contactgroup{\ncontactgroup_name t\n}\ndefine contactgroup{\ncontactgroup_name t\n}\n",
+        "1 -",
+    ),
+    (
+        "define hostgroup{\nhostgroup_name t\n}\ndefine hostgroup{\nhostgroup_name t\n}\n",
+        "1 -",
+    ),
+    // A template gives the name; it is no object itself.
+    (
+        "define host{\nname t\nregister 0\nhost_name x\n}\ndefine host{\nhost_name x\n}\ndefine host{\nuse t\n}\n",
+        "2 -",
+    ),
+    (
+        "define host{\nhost_name x\nregister 0\n}\ndefine host{\nhost_name x\n}\n",
+        "- -",
+    ),
+    // Services have no name of their own, and escalations none at all.
+    (
+        "define service{\nservice_description s\nhost_name a\n}\ndefine service{\nservice_description s\nhost_name a\n}\ndefine hostescalation{\nhost_name a\n}\ndefine hostescalation{\nhost_name a\n}\n",
+        "- -",
+    ),
+    // The first of two with an unknown name.
+    (
+        "define host{\nhost_name x\ncontacts ann\n}\ndefine host{\nhost_name y\ncontact_groups nobody\n}\ndefine contact{\ncontact_name z\nhost_notification_period night\n}\n",
+        "- 1",
+    ),
+    // A name that only an object with register 0 has.
+    (
+        "define command{\ncommand_name page\nregister 0\n}\ndefine contact{\ncontact_name z\nhost_notification_commands page\n}\n",
+        "- 1",
+    ),
+    // A name of an object that follows, and one of the block itself.
+    (
+        "define hostgroup{\nhostgroup_name x\nhostgroup_members x,y\n}\ndefine hostgroup{\nhostgroup_name y\n}\n",
+        "- -",
+    ),
+    // A block with register 0 names what it likes; who uses it doesn't.
+    (
+        "define host{\nname t\nregister 0\ncontacts nobody\n}\n",
+        "- -",
+    ),
+    (
+        "define host{\nname t\nregister 0\ncontacts nobody\n}\ndefine host{\nhost_name x\nuse t\n}\n",
+        "- 1",
+    ),
+    (
+        "define host{\nname t\nregister 0\ncontacts nobody\n}\ndefine host{\nhost_name x\nuse t\ncontacts ann\n}\n",
+        "- -",
+    ),
+    // A list that begins with + is what is inherited and its own.
+    (
+        "define host{\nname t\nregister 0\ncontacts nobody\n}\ndefine host{\nhost_name x\nuse t\ncontacts +ann\n}\n",
+        "- 1",
+    ),
+    (
+        "define host{\nhost_name x\ncontacts +ann\n}\ndefine host{\nhost_name y\ncontacts +nobody\n}\n",
+        "- 1",
+    ),
+    // `null` alone is empty, and else a name.
+    (
+        "define host{\nhost_name x\ncontacts null\ncontact_groups null\nnotification_period null\n}\n",
+        "- -",
+    ),
+    ("define host{\nhost_name x\ncontacts ann,null\n}\n", "- 0"),
+    ("define host{\nhost_name x\ncontacts +null\n}\n", "- 0"),
+    // Blanks and empty entries.
+    (
+        "define host{\nhost_name x\ncontacts , ann ,,\nhostgroups ,\n}\n",
+        "- -",
+    ),
+    // `*` alone, with empty entries, and beside a name.
+    (
+        "define hostgroup{\nhostgroup_name x\nmembers *,\n}\n",
+        "- -",
+    ),
+    (
+        "define hostgroup{\nhostgroup_name x\nmembers +*\n}\n",
+        "- -",
+    ),
+    (
+        "define hostgroup{\nhostgroup_name x\nmembers a,*\n}\n",
+        "- 0",
+    ),
+    // A period is one name.
+    (
+        "define host{\nhost_name x\nnotification_period day,day\n}\n",
+        "- 0",
+    ),
+    (
+        "define host{\nhost_name x\nnotification_period +day\n}\n",
+        "- 0",
+    ),
+    // A command is named by what stands before the first !.
+    (
+        "define contact{\ncontact_name x\nhost_notification_commands mail!a!b,mail\n}\n",
+        "- -",
+    ),
+    (
+        "define contact{\ncontact_name x\nhost_notification_commands mail !a\n}\n",
+        "- 0",
+    ),
+    (
+        "define contact{\ncontact_name x\nservice_notification_commands mail,page!a\n}\n",
+        "- 0",
+    ),
+    // Directives of other types.
+    (
+        "define hostgroup{\nhostgroup_name x\ncontacts nobody\n}\ndefine command{\ncommand_name y\nhost_name nobody\n}\ndefine host{\nhost_name z\nhost_name w\nescalation_period night\n}\ndefine servicegroup{\nservicegroup_name u\nmembers nobody,s\n}\n",
+        "- -",
+    ),
+    // Types that say nothing.
+    (
+        "define hostextinfo{\nhost_name nobody\ncontacts nobody\n}\ndefine serviceextinfo{\nhost_name nobody\n}\n",
+        "- -",
+    ),
+    // Both faults.
+    (
+        "define host{\nhost_name x\n}\ndefine host{\nhost_name x\ncontacts nobody\n}\n",
+        "1 1",
+    ),
+];
+
+#[test]
+fn the_first_of_each_fault_is_found(rt: HostRuntime) -> Result<(), Fail> {
+    for case in &CASES {
+        let text = case.0;
+        let found = places_in(rt.alloc(), text)?;
+        assert_eq!(rt; found.as_str(), case.1, "{text}");
+    }
+    Ok(())
+}

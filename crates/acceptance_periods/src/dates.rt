@@ -1,0 +1,181 @@
+//! The faults of day lines and lines of dates, as the manual's rules give them.
+
+use object_faults::check::check;
+use object_faults::fault::{PassFault, ValueFault};
+use object_inheritance::templates::Templates;
+use object_reader::reading::read;
+use std::alloc::{AllocError, Global};
+use std::fmt::Write;
+use std::process::Abort;
+use std::test::Fail;
+
+/// The name of a fault.
+fn name_of(fault: ValueFault) -> &'static str {
+    match fault {
+        ValueFault::MissingDirective => "MissingDirective",
+        ValueFault::BadNumber => "BadNumber",
+        ValueFault::BadOption => "BadOption",
+        ValueFault::BadRange => "BadRange",
+        ValueFault::Volatile => "Volatile",
+        ValueFault::Exclusion => "Exclusion",
+        ValueFault::DatedException => "DatedException",
+    }
+}
+
+/// The line and the fault of the first block with one; nothing where there is none.
+fn fault_text(alloc: Global, text: &str) -> Result<String, AllocError> {
+    let mut out = String::new(alloc);
+    let Ok(blocks) = read(alloc, text.as_bytes()) else {
+        out.push_str("unread")?;
+        return Ok(out);
+    };
+    let Ok(templates) = Templates::new(alloc, blocks.as_slice()) else {
+        out.push_str("templates")?;
+        return Ok(out);
+    };
+    match check(alloc, &templates) {
+        Ok(()) => {}
+        Err(PassFault::NoMemory) => out.push_str("memory")?,
+        Err(PassFault::AtLine { line, fault }) => {
+            let name = name_of(fault);
+            write!(out, "{line} {name}")?;
+        }
+    }
+    Ok(out)
+}
+
+/// Lines of a period with the name p, and its fault.
+const LINES: [(&str, &str); 34] = [
+    ("monday 09:00-17:00", ""),
+    ("monday 9:00-17", "1 BadRange"),
+    ("monday 09:00-08:00", "1 BadRange"),
+    ("monday 00:00-24:01", "1 BadRange"),
+    ("monday 09:00-10:00,", "1 BadRange"),
+    ("monday 1", "1 BadRange"),
+    ("alias Work", ""),
+    // Lines of dates.
+    ("monday -1 may 09:00-17:00", "1 DatedException"),
+    ("monday 3 09:00-17:00", "1 DatedException"),
+    ("day 1 00:00-24:00", "1 DatedException"),
+    ("day -1 00:00-24:00", "1 DatedException"),
+    ("day 1 - 15 / 5 00:00-24:00", "1 DatedException"),
+    ("january 1 00:00-24:00", "1 DatedException"),
+    ("december 40 - 50 00:00-24:00", "1 DatedException"),
+    ("may 00:00-24:00", "1 DatedException"),
+    ("2026-01-01 00:00-24:00", "1 DatedException"),
+    ("2024-001-01 00:00-24:00", "1 DatedException"),
+    ("9 00:00-24:00", "1 DatedException"),
+    // The ranges aren't looked at, so long as there is a colon.
+    ("january 1 x:y", "1 DatedException"),
+    // Without a word with a colon.
+    ("day 1", "1 BadRange"),
+    ("february 30", "1 BadRange"),
+    ("2026-01-01 x", "1 BadRange"),
+    ("9 o'clock", "1 BadRange"),
+    // A first word with a colon is the name.
+    ("09:00-17:00 x", "1 DatedException"),
+    ("x:y z", ""),
+    ("day:1 z", ""),
+    // Other names.
+    ("days 1 00:00-24:00", ""),
+    ("Monday 1 00:00-24:00", ""),
+    ("mondays 00:00-24:00", ""),
+    ("januar 1 00:00-24:00", ""),
+    // Of two faults the lower counts.
+    ("day 1 00:00-24:00\nday 2", "1 BadRange"),
+    ("day 1 00:00-24:00\nexclude !q", "1 Exclusion"),
+    ("day 1\nexclude !q", "1 BadRange"),
+    ("day 1 00:00-24:00\nregister x", "1 BadNumber"),
+];
+
+/// Texts, and the first fault of each.
+const DATES: [(&str, &str); 13] = [
+    (
+        "define timeperiod{\nday 1 00:00-24:00\n}\n",
+        "1 MissingDirective",
+    ),
+    // Other types of blocks have no lines of dates.
+    ("define host{\nhost_name a\n9x 1\n}\n", ""),
+    ("define timeperiod{\nregister 0\nday 1 00:00-24:00\n}\n", ""),
+    // Lines of dates are inherited, through templates of templates too.
+    (
+        "define timeperiod{\nname s\nregister 0\nday 1 00:00-24:00\n}\ndefine timeperiod{\nname t\nuse s\nregister 0\n}\ndefine timeperiod{\nuse t\ntimeperiod_name p\n}\n",
+        "11 DatedException",
+    ),
+    // Each by its own name: a block's own line takes the place of its template's.
+    (
+        "define timeperiod{\nname t\nregister 0\nday 1\n}\ndefine timeperiod{\nuse t\ntimeperiod_name p\nday 00:00-24:00\n}\n",
+        "6 DatedException",
+    ),
+    (
+        "define timeperiod{\nname t\nregister 0\nday 00:00-24:00\n}\ndefine timeperiod{\nuse t\ntimeperiod_name p\nday 1\n}\n",
+        "6 BadRange",
+    ),
+    (
+        "define timeperiod{\nname t\nregister 0\nday 1\n}\ndefine timeperiod{\nuse t\ntimeperiod_name p\nday 2 00:00-24:00\n}\n",
+        "6 BadRange",
+    ),
+    // The last line of a name in a block counts.
+    (
+        "define timeperiod{\ntimeperiod_name p\nday 1\nday 00:00-24:00\n}\n",
+        "1 DatedException",
+    ),
+    (
+        "define timeperiod{\ntimeperiod_name p\nday 00:00-24:00\nday 1\n}\n",
+        "1 BadRange",
+    ),
+    // Of two templates the first that has the line counts, with what it has from its own.
+    (
+        "define timeperiod{\nname r\nregister 0\nday 1\n}\ndefine timeperiod{\nname s\nuse r\nregister 0\n}\ndefine timeperiod{\nname t\nregister 0\nday 00:00-24:00\n}\ndefine timeperiod{\nuse s,t\ntimeperiod_name p\n}\n",
+        "16 BadRange",
+    ),
+    (
+        "define timeperiod{\nname r\nregister 0\nday 1\n}\ndefine timeperiod{\nname s\nuse r\nregister 0\n}\ndefine timeperiod{\nname t\nregister 0\nday 00:00-24:00\n}\ndefine timeperiod{\nuse t,s\ntimeperiod_name p\n}\n",
+        "16 DatedException",
+    ),
+    // The first block with a fault counts, whatever the fault.
+    (
+        "define timeperiod{\ntimeperiod_name p\nday 1 00:00-24:00\n}\ndefine timeperiod{\ntimeperiod_name q\nday 1\n}\n",
+        "1 DatedException",
+    ),
+    (
+        "define timeperiod{\ntimeperiod_name p\n}\ndefine timeperiod{\nregister 0\nname t\nday 1\n}\ndefine timeperiod{\ntimeperiod_name q\nday 2 00:00-24:00\n}\ndefine timeperiod{\ntimeperiod_name r\nuse t\n}\n",
+        "9 DatedException",
+    ),
+];
+
+/// A period with the name p and these lines.
+fn period_with(alloc: Global, lines: &str) -> Result<String, AllocError> {
+    format!(in alloc; "define timeperiod{{\ntimeperiod_name p\n{lines}\n}}\n")
+}
+
+/// Checks that the first fault of a period with each of these lines is the one beside it.
+fn lines_have_faults(rt: &impl Abort, alloc: Global, cases: &[(&str, &str)]) -> Result<(), Fail> {
+    for case in cases {
+        let lines = case.0;
+        let text = period_with(alloc, lines)?;
+        let found = fault_text(alloc, text.as_str())?;
+        assert_eq!(rt; found.as_str(), case.1, "{lines}");
+    }
+    Ok(())
+}
+
+/// Checks that the first fault of each text is the one beside it.
+fn have_faults(rt: &impl Abort, alloc: Global, cases: &[(&str, &str)]) -> Result<(), Fail> {
+    for case in cases {
+        let text = case.0;
+        let found = fault_text(alloc, text)?;
+        assert_eq!(rt; found.as_str(), case.1, "{text}");
+    }
+    Ok(())
+}
+
+#[test]
+fn lines_are_refused(rt: HostRuntime) -> Result<(), Fail> {
+    lines_have_faults(&rt, rt.alloc(), &LINES)
+}
+
+#[test]
+fn lines_of_dates_are_inherited(rt: HostRuntime) -> Result<(), Fail> {
+    have_faults(&rt, rt.alloc(), &DATES)
+}

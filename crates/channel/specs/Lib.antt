@@ -1,0 +1,5 @@
+pub mod Channels
+pub mod Fields
+pub mod Letter
+pub mod Memory
+pub mod Record

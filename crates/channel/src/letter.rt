@@ -1,0 +1,148 @@
+//! The letter of a notice.
+
+ghost use Rattle.std.specs.Prelude.{◌≡◌, ◌++◌, decimal, IfOk, OnOk};
+ghost use Rattle.channel.specs.Fields.{contact_text, host_part, number_text, object_text, own_name};
+ghost use Rattle.channel.specs.Letter.{letter_of, line, number_lines, subject_lines};
+
+use crate::names::{kind_name, state_name};
+use due_model::config::{Config, ObjectId};
+use due_model::notice::Notice;
+use due_model::sequence::{Sequence, Text};
+use itoa::Buffer;
+use std::alloc::{AllocError, Global};
+
+/// What a channel is given: a notice, and the text that tells it.
+#[derive(Drop)]
+pub struct Letter {
+    pub notice: Notice,
+    /// The bytes that go out.
+    pub text: Text,
+}
+
+/// The letter of a notice: a line each for the contact, the kind, the object, its state, the number of the
+/// notification (a dash where there is none), the moment and the number of the event, and an empty line. A
+/// refused growth is the only error.
+pub fn letter_text(alloc: Global, config: &Config, notice: Notice) -> Result<Letter, AllocError>
+    ensures notice { IfOk result (λ letter. letter.notice ≡ notice) }
+    ensures text { IfOk result (λ letter. letter.text ≡ letter_of config.now notice) }
+{
+    let mut text = Vec::new(alloc);
+    push_subject(&mut text, config, &notice)?;
+    push_numbers(&mut text, &notice)?;
+    text.push(b'\n')?;
+    Ok(Letter {
+        notice,
+        text: Sequence::new(text),
+    })
+}
+
+/// Adds the lines for the contact, the kind, the object and its state.
+#[tactic(auto, unfolding(crate::specs::Letter::subject_lines))]
+fn push_subject(text: &mut Vec<u8>, config: &Config, notice: &Notice) -> Result<(), AllocError>
+    ensures { OnOk result
+        (text.new.items ≡ text.old.items ++ subject_lines config.now notice.now) }
+{
+    push_line(text, b"To: ", contact_name(config, notice))?;
+    push_line(text, b"Kind: ", kind_name(notice.kind).as_bytes())?;
+    push_object_line(text, b"Object: ", config, notice.object)?;
+    push_line(text, b"State: ", state_name(notice.state).as_bytes())
+}
+
+/// Adds the lines for the number of the notice, the moment and the number of its event.
+#[tactic(auto, unfolding(crate::specs::Letter::number_lines))]
+fn push_numbers(text: &mut Vec<u8>, notice: &Notice) -> Result<(), AllocError>
+    ensures { OnOk result (text.new.items ≡ text.old.items ++ number_lines notice.now) }
+{
+    push_notice_number(text, b"Number: ", notice.number)?;
+    push_number(text, b"Moment: ", notice.moment)?;
+    push_number(text, b"Event: ", notice.event)
+}
+
+/// Adds a line.
+fn push_line(text: &mut Vec<u8>, label: &[u8], said: &[u8]) -> Result<(), AllocError>
+    ensures { OnOk result (text.new.items ≡ text.old.items ++ line label.now said.now) }
+{
+    text.extend_from_slice(label)?;
+    text.extend_from_slice(said)?;
+    text.push(b'\n')?;
+    Ok(())
+}
+
+/// Adds a line that says a number.
+fn push_number(text: &mut Vec<u8>, label: &[u8], number: u64) -> Result<(), AllocError>
+    ensures { OnOk result (text.new.items ≡ text.old.items ++ line label.now (decimal number)) }
+{
+    let mut buffer = Buffer::new();
+    push_line(text, label, buffer.format(number).as_bytes())
+}
+
+/// Adds a line that says the number of a notice.
+fn push_notice_number(text: &mut Vec<u8>, label: &[u8], number: u64) -> Result<(), AllocError>
+    ensures { OnOk result (text.new.items ≡ text.old.items ++ line label.now (number_text number)) }
+{
+    if number == 0 {
+        push_line(text, label, b"-")
+    } else {
+        push_number(text, label, number)
+    }
+}
+
+/// The name of a notice's contact.
+fn contact_name<'a>(config: &'a Config, notice: &Notice) -> &'a [u8]
+    ensures { result.now ≡ contact_text config.now notice.now.contact.0 }
+{
+    match config.contacts.as_slice().get(notice.contact.0 as usize) {
+        Some(contact) => contact.name.as_slice(),
+        None => b"",
+    }
+}
+
+/// An object's own name.
+fn own_name(config: &Config, object: ObjectId) -> &[u8]
+    ensures { result.now ≡ own_name config.now object.0 }
+{
+    match config.objects.as_slice().get(object.0 as usize) {
+        Some(object) => object.name.as_slice(),
+        None => b"",
+    }
+}
+
+/// Adds the name of a service's host, and a slash.
+fn push_host(text: &mut Vec<u8>, config: &Config, host: Option<ObjectId>) -> Result<(), AllocError>
+    ensures { OnOk result (text.new.items ≡ text.old.items ++ host_part config.now host) }
+{
+    let Some(host) = host else {
+        return Ok(());
+    };
+    text.extend_from_slice(own_name(config, host))?;
+    text.extend_from_slice(b"/")
+}
+
+/// Adds an object: `host`, or `host/service`.
+fn push_object(text: &mut Vec<u8>, config: &Config, object: ObjectId) -> Result<(), AllocError>
+    ensures { OnOk result (text.new.items ≡ text.old.items ++ object_text config.now object.0) }
+{
+    match config.objects.as_slice().get(object.0 as usize) {
+        Some(object) => {
+            push_host(text, config, object.host)?;
+            text.extend_from_slice(object.name.as_slice())
+        }
+        None => text.extend_from_slice(b""),
+    }
+}
+
+/// Adds a line that says an object.
+fn push_object_line(
+    text: &mut Vec<u8>,
+    label: &[u8],
+    config: &Config,
+    object: ObjectId,
+) -> Result<(), AllocError>
+    ensures { OnOk result
+        (text.new.items ≡ text.old.items ++ line label.now (object_text config.now object.0)) }
+{
+    text.extend_from_slice(label)?;
+    push_object(text, config, object)?;
+    text.push(b'\n')?;
+    Ok(())
+}

@@ -1,0 +1,5 @@
+use Rattle.channel_kinds.proofs.WrittenLaws.{front_none}
+use Rattle.channel_kinds.proofs.mailbox.MailboxChannel.deliver.Goals as goal
+
+pub returns-then-len-gt-LIMIT-clause-front : goal.returns-then-len-gt-LIMIT-clause-front
+returns-then-len-gt-LIMIT-clause-front g c = front_none _ _

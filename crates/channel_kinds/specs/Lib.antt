@@ -1,0 +1,5 @@
+pub mod Answer
+pub mod Mailbox
+pub mod Pager
+pub mod Spawned
+pub mod Written

@@ -1,0 +1,28 @@
+-- What a pager is to its callers, and what goes between it and its peer.
+use Rattle.std.specs.Prelude.{◌≡◌, ℕ, Bool, false, ◌⊎◌, List, [], ◌∷◌, ◌++◌, codes, decimal, length, Option}
+use Rattle.std.specs.Io.KnownBytes.{Appends}
+use Rattle.channel.specs.Record.{Record}
+use Rattle.channel_kinds.specs.Answer.{IsHeard}
+use Rattle.channel_kinds.specs.Written.{WritesFront}
+
+-- the stream to its peer, whether it failed once, and what it keeps
+pub record Paged (S : Type 0) : Type 0 where
+  pub stream : S
+  pub is_over : Bool
+  pub kept : Record
+
+-- what is written for a text: how many bytes it has, and the text
+abbrev pub page_of : List ℕ → List ℕ
+page_of text = codes "PAGE " ++ decimal (length text) ++ 10 ∷ [] ++ text
+
+-- what is written last
+abbrev pub farewell : List ℕ
+farewell = codes "BYE\n"
+
+-- the whole page was written and then an answer heard; or a front of the page was written, and it isn't taken
+abbrev pub Talks : {S : Type 0} → (contents remaining : S → Option (List ℕ)) → (old new : S)
+    → (text : List ℕ) → (is_taken : Bool) → Type 0
+Talks {S} contents remaining old new text is_taken =
+    ((asked : S) × Appends (contents old) (contents asked) (page_of text)
+    × IsHeard (remaining asked) (remaining new) is_taken)
+    ⊎ (WritesFront (contents old) (contents new) (page_of text) × (is_taken ≡ false))

@@ -1,0 +1,11 @@
+-- What a writer takes of the bytes that it is given.
+use Rattle.std.specs.Prelude.{◌≡◌, ℕ, List, ◌++◌, Option}
+use Rattle.std.specs.Io.KnownBytes.{Appends}
+
+-- of all these bytes the writer took a front, and these are left
+abbrev pub Leaves : (old new : Option (List ℕ)) → (all left : List ℕ) → Type 0
+Leaves old new all left = (taken : List ℕ) × Appends old new taken × (taken ++ left ≡ all)
+
+-- it took a front of them
+abbrev pub WritesFront : (old new : Option (List ℕ)) → (all : List ℕ) → Type 0
+WritesFront old new all = (left : List ℕ) × Leaves old new all left

@@ -1,0 +1,13 @@
+-- When a problem began.
+use Rattle.std.proofs.Common.{ℕ, ◌≤◌, max, Bool, true, false, List, [], ◌∷◌, if◌then◌else◌, arith}
+use Rattle.due_model.specs.declared.event.Event.{Event}
+use Rattle.due_model.specs.Readings.{moment, begins, began}
+
+began-step : (m : ℕ) (b : Bool) (stamp old : ℕ) → old ≤ m → (if b then max m stamp else old) ≤ max m stamp
+began-step m true stamp old h = omega arith
+began-step m false stamp old h = omega arith
+
+-- a problem began no later than now
+pub began-le-moment : (o : ℕ) (past : List Event) → began o past ≤ moment past
+began-le-moment o [] = omega arith
+began-le-moment o (e ∷ past) = began-step (moment past) (begins o e past) e.moment (began o past) (began-le-moment o past)

@@ -1,0 +1,28 @@
+use Rattle.std.proofs.Common.{◌≡◌, ◌<◌, ◌∙◌, Option, Some, refl, subst, sym, take, ℕ}
+use Rattle.std.specs.Prelude.{IfSome}
+use Rattle.lemmas.proofs.Searches.{texts-more}
+use Rattle.object_contacts.specs.Lanes.{command_named}
+use Rattle.object_contacts.specs.Marks.{Marks}
+use Rattle.object_contacts.proofs.MarkLemmas.{marks-more, marks-none}
+use Rattle.object_contacts.proofs.lanes.mark_used.Goals as goal
+use Rattle.object_values.specs.Values.{texts}
+
+pub loop-entry-init : goal.loop-entry-init
+loop-entry-init c = record {
+  long = refl;
+  marked = marks-none (λ entry k. command_named c.args.commands.now entry ≡ Some k) c.args.marks.now;
+}
+
+pub mark-requires : goal.mark-requires
+mark-requires c =
+    subst (λ (n : ℕ). IfSome c.command_named.result (λ number. number < n)) (sym (c.loop-entry.invariant.long ∙ c.requires)) c.command_named.ensures.within
+
+pub loop-entry-preserved : goal.loop-entry-preserved
+loop-entry-preserved c =
+    let commands = c.args.commands.now in
+    record {
+      long = c.mark.ensures.long ∙ c.loop-entry.invariant.long;
+      marked = marks-more (λ entry k. command_named commands entry ≡ Some k) (texts (take c.loop-entry.entry-index c.args.entries.now)) _ _ _ c.loop-entry.marks _
+          (texts-more c.args.entries.now c.loop-entry.entry-index _ c.loop-entry-test.true) c.loop-entry.invariant.marked
+          (subst (λ (found : Option ℕ). Marks (λ k. found ≡ Some k) c.loop-entry.marks c.mark.new.marks) c.command_named.ensures.number c.mark.ensures.marked);
+    }

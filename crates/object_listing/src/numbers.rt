@@ -1,0 +1,138 @@
+//! The numbers of the objects that lists of objects and of groups reach.
+
+ghost use Rattle.std.specs.Prelude.{◌≡◌, ℕ, ◌++◌, ◌↔◌, Contains, IfOk, OnOk};
+ghost use Rattle.std.specs.List.{range_with_len};
+ghost use Rattle.std.specs.List.Sorted.{IsStrictlyIncreasing};
+ghost use Rattle.std.specs.Option.{option_to_list};
+ghost use Rattle.object_groups.specs.Groups.{grouping};
+ghost use Rattle.object_groups.specs.Members.{IsMember};
+ghost use Rattle.object_groups.specs.Names.{Lists, numbers_of};
+ghost use Rattle.object_listing.specs.Listing.{Adds};
+ghost use Rattle.object_values.specs.Values.{texts};
+
+use object_groups::groups::Groups;
+use object_groups::names::{Names, is_all};
+use std::alloc::{AllocError, Global};
+
+/// The numbers below a count.
+fn numbers_below(alloc: Global, count: usize) -> Result<Vec<usize>, AllocError>
+    ensures { IfOk result (λ numbers. numbers.items ≡ range_with_len 0 count) }
+{
+    let mut numbers = Vec::new(alloc);
+    for number in 0..count {
+        numbers.push(number)?;
+    }
+    Ok(numbers)
+}
+
+/// Adds the number of a name that is found.
+fn push_number(numbers: &mut Vec<usize>, found: Option<usize>) -> Result<(), AllocError>
+    ensures { OnOk result (numbers.new.items ≡ numbers.old.items ++ option_to_list found) }
+{
+    if let Some(number) = found {
+        numbers.push(number)?;
+    }
+    Ok(())
+}
+
+/// The numbers of the names that a list has.
+fn numbers_of<'a>(
+    alloc: Global,
+    names: &Names<'a>,
+    entries: &[&'a [u8]],
+) -> Result<Vec<usize>, AllocError>
+    ensures { IfOk result (λ numbers.
+        numbers.items ≡ numbers_of names.now (texts entries.now)) }
+{
+    let mut numbers = Vec::new(alloc);
+    for entry in entries {
+        push_number(&mut numbers, names.find(*entry))?;
+    }
+    Ok(numbers)
+}
+
+/// The numbers of what a list names: all, where it is `*` alone.
+pub(crate) fn listed<'a>(
+    alloc: Global,
+    names: &Names<'a>,
+    entries: &[&'a [u8]],
+) -> Result<Vec<usize>, AllocError>
+    ensures { IfOk result (λ numbers. (k : ℕ)
+        → Contains numbers.items k ↔ Lists names.now (texts entries.now) k) }
+{
+    if is_all(entries) {
+        return numbers_below(alloc, names.len());
+    }
+    numbers_of(alloc, names, entries)
+}
+
+/// Adds these numbers.
+fn push_members(numbers: &mut Vec<usize>, members: &[u32]) -> Result<(), AllocError>
+    ensures { OnOk result (numbers.new.items ≡ numbers.old.items ++ members.now) }
+{
+    for member in members {
+        numbers.push(*member as usize)?;
+    }
+    Ok(())
+}
+
+/// Puts the numbers in order, each once.
+pub(crate) fn put_in_order(numbers: &mut Vec<usize>) -> Result<(), AllocError>
+    ensures rising { OnOk result (IsStrictlyIncreasing numbers.new.items) }
+    ensures same { OnOk result ((k : ℕ)
+        → Contains numbers.new.items k ↔ Contains numbers.old.items k) }
+{
+    numbers.sort()?;
+    numbers.dedup();
+    Ok(())
+}
+
+/// Puts the numbers in order, each once, where there are so many.
+fn shorten(numbers: &mut Vec<usize>, many: bool) -> Result<(), AllocError>
+    ensures { OnOk result ((k : ℕ)
+        → Contains numbers.new.items k ↔ Contains numbers.old.items k) }
+{
+    if many {
+        put_in_order(numbers)?;
+    }
+    Ok(())
+}
+
+/// Adds the members of a group. Where there are more than twice as many numbers as objects they are put in
+/// order, each once, so that what is kept grows with the objects and not with the groups.
+fn push_group(
+    alloc: Global,
+    numbers: &mut Vec<usize>,
+    groups: &mut Groups,
+    group: usize,
+) -> Result<(), AllocError>
+    ensures same { groups.new ≡ groups.old }
+    ensures added { OnOk result (Adds
+        (IsMember (grouping groups.old.blocks groups.old.kind) group)
+        numbers.old.items numbers.new.items) }
+{
+    let members = groups.members(alloc, group)?;
+    push_members(numbers, members.as_slice())?;
+    let many = numbers.len() / 2 > groups.objects().names().len();
+    shorten(numbers, many)?;
+    Ok(())
+}
+
+/// Adds the members of groups.
+pub(crate) fn push_groups(
+    alloc: Global,
+    numbers: &mut Vec<usize>,
+    groups: &mut Groups,
+    listed: &[usize],
+) -> Result<(), AllocError>
+    ensures same { groups.new ≡ groups.old }
+    ensures added { OnOk result (Adds
+        (λ object. (group : ℕ) × Contains listed.now group
+        × IsMember (grouping groups.old.blocks groups.old.kind) group object)
+        numbers.old.items numbers.new.items) }
+{
+    for group in listed {
+        push_group(alloc, numbers, groups, *group)?;
+    }
+    Ok(())
+}

@@ -1,0 +1,4 @@
+pub mod FirstLemmas
+pub mod DoubledLemmas
+pub mod EntryLemmas
+pub mod UnknownLemmas

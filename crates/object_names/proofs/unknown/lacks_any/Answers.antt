@@ -1,0 +1,12 @@
+use Rattle.std.proofs.Common.{sym}
+use Rattle.lemmas.proofs.Searches.{any-at}
+use Rattle.object_names.specs.Unknown.{lacks}
+use Rattle.object_names.proofs.EntryLemmas.{none-more}
+use Rattle.object_names.proofs.unknown.lacks_any.Goals as goal
+
+pub returns-then-lacks : goal.returns-then-lacks
+returns-then-lacks c = any-at (lacks c.args.names.now) c.args.entries.now c.loop-entry.entry-index _ c.loop-entry-test.true c.if-lacks.ensures
+
+pub loop-entry-preserved : goal.loop-entry-preserved
+loop-entry-preserved c =
+    none-more (lacks c.args.names.now) c.args.entries.now c.loop-entry.entry-index _ c.loop-entry-test.true c.loop-entry.invariant (sym c.if-lacks.ensures)

@@ -1,0 +1,5 @@
+pub mod PairLemmas
+pub mod WantedLemmas
+pub mod FoundLemmas
+pub mod UnknownLemmas
+pub mod MemberLemmas

@@ -1,0 +1,25 @@
+use Rattle.std.proofs.Common.{◌∙◌, ap, sym}
+use Rattle.object_groups.specs.Objects.{objects_in}
+use Rattle.object_reader.specs.declared.block.BlockKind.{BlockKind}
+use Rattle.object_pairs.proofs.UnknownLemmas.{first-here, first-none, lacks_at, none-lacks, none-more}
+use Rattle.object_pairs.proofs.unknown.first_lacking.Goals as goal
+
+pub loop-place-init : goal.loop-place-init
+loop-place-init c = none-lacks c.args.groups.now.blocks (lacks_at c.args.groups.now.blocks c.args.hosts.now c.args.found.now.keys c.args.values.now)
+
+pub returns-then-branch : goal.returns-then-branch
+returns-then-branch c =
+    first-here c.args.groups.now.blocks c.args.hosts.now c.args.found.now.keys c.args.values.now c.places-place-items.result.now c.loop-place.place-index
+    (c.places-place-items.ensures.places ∙ ap (λ (kind : BlockKind). objects_in c.args.groups.now.blocks kind) c.requires) c.loop-place-test.true c.loop-place.invariant
+    (sym c.in_ok-lacks_pair.ensures ∙ c.if-branch.true)
+
+pub loop-place-preserved : goal.loop-place-preserved
+loop-place-preserved c =
+    none-more c.args.groups.now.blocks (lacks_at c.args.groups.now.blocks c.args.hosts.now c.args.found.now.keys c.args.values.now) c.places-place-items.result.now c.loop-place.place-index
+    (c.places-place-items.ensures.places ∙ ap (λ (kind : BlockKind). objects_in c.args.groups.now.blocks kind) c.requires) c.loop-place.invariant
+    (sym c.in_ok-lacks_pair.ensures ∙ c.if-branch.false)
+
+pub returns : goal.returns
+returns c =
+    first-none c.args.groups.now.blocks c.args.hosts.now c.args.found.now.keys c.args.values.now c.places-place-items.result.now c.loop-place.place-index
+    (c.places-place-items.ensures.places ∙ ap (λ (kind : BlockKind). objects_in c.args.groups.now.blocks kind) c.requires) c.loop-place-test.false c.loop-place.invariant

@@ -1,0 +1,6 @@
+mod ExcludeLemmas
+mod DayLemmas
+mod PeriodLemmas
+mod EdgeLemmas
+mod LoopLemmas
+mod LawLemmas

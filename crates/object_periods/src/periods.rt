@@ -1,0 +1,86 @@
+//! The time periods of blocks (chapters "Time Periods" and "Object Inheritance").
+
+ghost use Rattle.std.specs.Prelude.{◌≡◌, ◌++◌, ◌∷◌, [], codes, map, slice_get, IfOk, OnOk, Some};
+ghost use Rattle.object_groups.specs.Objects.{names_in, objects_in};
+ghost use Rattle.object_periods.specs.Periods.{ArePeriodsOf, column_of, IsPeriodOf};
+ghost use Rattle.object_reader.specs.declared.block.BlockKind.TheVariants.{TimePeriod};
+
+use crate::days::Week;
+use crate::excludes::listed_at;
+use due_model::config::{Period, PeriodId};
+use due_model::sequence::Sequence;
+use object_groups::names::Names;
+use object_groups::objects::Objects;
+use object_inheritance::inherited::Values;
+use object_inheritance::templates::Templates;
+use std::alloc::{AllocError, Global};
+
+/// Adds a period by its number. A number over 65,535 is want of memory.
+fn push_id(ids: &mut Vec<PeriodId>, number: usize) -> Result<(), AllocError>
+    ensures { OnOk result (map (λ id. id.0) ids.new.items
+        ≡ map (λ id. id.0) ids.old.items ++ number ∷ []) }
+{
+    if number > u16::MAX as usize {
+        return Err(AllocError);
+    }
+    ids.push(PeriodId(number as u16))?;
+    Ok(())
+}
+
+/// The periods of these numbers.
+fn ids_of(alloc: Global, numbers: &[usize]) -> Result<Vec<PeriodId>, AllocError>
+    ensures { IfOk result (λ ids. map (λ id. id.0) ids.items ≡ numbers.now) }
+{
+    let mut ids = Vec::new(alloc);
+    for number in numbers {
+        push_id(&mut ids, *number)?;
+    }
+    Ok(ids)
+}
+
+/// The period of that number, whose block stands at the place.
+fn period_at<'a>(
+    alloc: Global,
+    names: &Names<'a>,
+    week: &Week<'a>,
+    excludes: &Values<'a>,
+    number: usize,
+    place: usize,
+) -> Result<Period, AllocError>
+    requires names { names.now ≡ names_in week.now TimePeriod }
+    requires excludes { excludes.now ≡ column_of week.now (codes "exclude") }
+    requires place { slice_get (objects_in week.now TimePeriod) number ≡ Some place }
+    ensures { IfOk result (IsPeriodOf week.now place) }
+{
+    let numbers = listed_at(alloc, names, excludes, place)?;
+    let ids = ids_of(alloc, numbers.as_slice())?;
+    let name = Vec::from_slice(alloc, names.name(number))?;
+    Ok(Period {
+        name: Sequence::new(name),
+        days: week.at(alloc, place)?,
+        excludes: Sequence::new(ids),
+    })
+}
+
+/// The time periods of the blocks, in file order: those of the registered blocks, each with the ranges that it has
+/// for each weekday, by its own line or a template's, and the periods that its `exclude` lists. A day line that
+/// isn't ranges gives none, and a name that no period has excludes nothing: both are refused before. The time
+/// grows with the blocks, their directives, the templates that they use and the entries of their lists. An
+/// excluded period with a number over 65,535 is want of memory. A refused growth leaves nothing.
+pub fn periods_of<'a>(
+    alloc: Global,
+    templates: &Templates<'a>,
+    objects: &Objects<'a>,
+) -> Result<Vec<Period>, AllocError>
+    requires { objects.now ≡ record { blocks = templates.now; kind = TimePeriod } }
+    ensures { IfOk result (λ periods. ArePeriodsOf templates.now periods.items) }
+{
+    let week = Week::new(alloc, templates)?;
+    let excludes = Values::new(alloc, templates, "exclude".as_bytes())?;
+    let mut periods = Vec::new(alloc);
+    for (number, place) in objects.places().iter().enumerate() {
+        let period = period_at(alloc, objects.names(), &week, &excludes, number, *place)?;
+        periods.push(period)?;
+    }
+    Ok(periods)
+}

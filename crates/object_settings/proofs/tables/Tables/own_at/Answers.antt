@@ -1,0 +1,29 @@
+use Rattle.std.proofs.Common.{◌∙◌, List, ap, refl, true, ℕ}
+use Rattle.std.specs.Prelude.{codes}
+use Rattle.object_groups.specs.Objects.{names_in}
+use Rattle.object_listing.specs.Listing.{gives_neither, ListingOf}
+use Rattle.object_reader.specs.declared.block.BlockKind.TheVariants.{TimePeriod}
+use Rattle.object_readings.specs.Readings.{is_on, letters_at, number_at, own_number, own_period}
+use Rattle.object_settings.proofs.TableLemmas.{kept-are, read-are}
+use Rattle.object_settings.proofs.tables.Tables.own_at.Goals as goal
+
+pub returns-clause-own : goal.returns-clause-own
+returns-clause-own c =
+    let blocks = c.args.self.now in
+    let inside = c.self.inside.blocks.now in
+    let times = c.self.inside.times in
+    let filters = c.self.inside.filters in
+    let place = c.args.place in
+    let same = c.self.view_is in
+    record {
+      named = refl;
+      enabled = c.is_on.ensures ∙ read-are (λ bs d. is_on bs d true place) blocks inside (codes "notifications_enabled") filters.flags same c.self.invariant.filters_are.flags_are;
+      options = c.letters_at.ensures ∙ read-are (λ bs d. letters_at bs d c.args.kind place) blocks inside (codes "notification_options") filters.options same c.self.invariant.filters_are.options_are;
+      delay = c.number_at.ensures ∙ read-are (λ bs d. number_at bs d 0 place) blocks inside (codes "first_notification_delay") times.delays same c.self.invariant.times_are.delays_are;
+      interval = c.own_number.ensures ∙ read-are (λ bs d. own_number bs d place) blocks inside (codes "notification_interval") times.intervals same c.self.invariant.times_are.intervals_are;
+      period = c.own_period.ensures ∙ ap (λ (periods : List (List ℕ)). own_period periods times.periods.blocks times.periods.directive place) c.requires.periods
+          ∙ read-are (λ bs d. own_period (names_in blocks TimePeriod) bs d place) blocks inside (codes "notification_period") times.periods same c.self.invariant.times_are.periods_are;
+      lacks = c.gives_neither.ensures
+          ∙ ap (λ (l : ListingOf). gives_neither l.blocks l.directives place) (kept-are blocks inside c.self.inside.contacts same c.self.invariant.contacts_are);
+      contacts = c.in_ok-contacts.ensures.contacts;
+    }

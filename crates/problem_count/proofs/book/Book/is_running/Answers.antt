@@ -1,0 +1,5 @@
+use Rattle.std.proofs.Common.{rules}
+use Rattle.problem_count.proofs.book.Book.is_running.Goals as goal
+
+pub returns : goal.returns
+returns c = search rules

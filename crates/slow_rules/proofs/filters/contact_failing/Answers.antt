@@ -1,0 +1,11 @@
+use Rattle.std.proofs.Common.{rules}
+use Rattle.slow_rules.proofs.filters.contact_failing.Goals as goal
+
+pub returns-then-not-contains : goal.returns-then-not-contains
+returns-then-not-contains c = search rules
+
+pub returns-then-not-branch : goal.returns-then-not-branch
+returns-then-not-branch c = search rules
+
+pub returns-else-not-branch : goal.returns-else-not-branch
+returns-else-not-branch c = search rules
