@@ -1,6 +1,7 @@
 //! The index of due times against a plain scan over all objects, on generated calls.
 
 ghost use Rattle.std.specs.Prelude.{◌<◌};
+
 use due_model::config::ObjectId;
 use due_times::Index;
 use std::alloc::{AllocError, Global};
