@@ -10,3 +10,7 @@ mod object_text;
 mod resolver;
 #[cfg(test)]
 mod shown;
+#[cfg(test)]
+mod site;
+#[cfg(test)]
+mod site_shown;

@@ -132,18 +132,18 @@ const CASES: [(&str, &str); 40] = [
         "define contact{\nhost_name ann\n}\n",
         "line 1: MissingDirective",
     ),
-    ("define host{\nuse x\n}\n", "line 1: NotYet"),
+    ("define host{\nuse x\n}\n", "line 1: UnknownTemplate"),
     (
         "define host{\nhost_name x\nregister 1\nregister 1\n}\n",
-        "line 1: NotYet",
+        "host x 30:\n",
     ),
     (
         "define host{\nhost_name x\nfirst_notification_delay 1\n}\n",
-        "line 1: NotYet",
+        "host x 30:\n",
     ),
     (
         "define contact{\ncontact_name x\nservice_notification_options n\n}\n",
-        "line 1: NotYet",
+        "contact x:;\n",
     ),
     (
         "define contact{\ncontact_name x\ncontact_groups n\n}\n",
@@ -152,19 +152,19 @@ const CASES: [(&str, &str); 40] = [
     ("define command{\ncommand_name x\nhostgroups n\n}\n", ""),
     (
         "define host{\nhost_name x\ncontacts ,*\n}\n",
-        "line 1: NotYet",
+        "host x 30:\n",
     ),
     (
         "define host{\nhost_name x\ncontacts a, +b\n}\n",
-        "line 1: NotYet",
+        "line 1: UnknownName",
     ),
     (
         "define host{\nhost_name x\ncontacts a,!b\n}\n",
-        "line 1: NotYet",
+        "line 1: Exclusion",
     ),
     (
         "define host{\nhost_name x\ncontacts a,null\n}\n",
-        "line 1: NotYet",
+        "line 1: UnknownName",
     ),
     (
         "define host{\nhost_name x\ncontacts a,nullx\n}\n",
@@ -172,7 +172,7 @@ const CASES: [(&str, &str); 40] = [
     ),
     (
         "define contact{\ncontact_name x\nhost_notification_commands !a\n}\n",
-        "line 1: NotYet",
+        "line 1: Exclusion",
     ),
     (
         "define host{\nhost_name x\ncontacts *\ncontacts ,\n}\n",
@@ -180,19 +180,19 @@ const CASES: [(&str, &str); 40] = [
     ),
     (
         "define host{\n}\ndefine host{\nuse x\n}\n",
-        "line 3: NotYet",
+        "line 3: UnknownTemplate",
     ),
     (
         "define host{\n}\ndefine hostgroup{\n}\ndefine service{\n}\n",
-        "line 3: NotYet",
+        "line 1: MissingDirective",
     ),
     (
         "define host{\nuse x\n}\ndefine timeperiod{\n}\n",
-        "line 1: NotYet",
+        "line 1: UnknownTemplate",
     ),
     (
         "define servicedependency{\nhost_name x\n}\n",
-        "line 1: NotYet",
+        "line 1: MissingDirective",
     ),
     (
         "define hostextinfo{\nhost_name x\nuse y\n}\ndefine serviceextinfo{\n}\ndefine serviceextinfo{\n}\ndefine host{\nhost_name x\n}\n",

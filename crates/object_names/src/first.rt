@@ -4,7 +4,7 @@ ghost use Rattle.std.specs.Prelude.{◌≡◌};
 ghost use Rattle.object_names.specs.First.{lower};
 
 /// The lower of two places that may be there.
-pub(crate) fn lower(first: Option<usize>, second: Option<usize>) -> Option<usize>
+pub fn lower(first: Option<usize>, second: Option<usize>) -> Option<usize>
     ensures { result ≡ lower first second }
 {
     let Some(one) = first else {

@@ -4,7 +4,7 @@
 #![tactic(auto)]
 
 pub mod doubled;
-mod first;
+pub mod first;
 mod kinds;
 pub mod named;
 pub mod references;

@@ -1,156 +1,270 @@
--- The configuration that blocks give is accepted, and blocks with a fault give none.
-use Rattle.std.proofs.Common.{◌≡◌, inl, inr, ℕ, ◌<◌, ◌≤◌, Bool, true, false, not, cond, nat_eq, nat_le, List, [], ◌∷◌, length, map, get_or, All, Contains, Option, Some, None, IfSome, refl, sym, ap, subst, ◌∙◌, arith}
-use Rattle.std.specs.List.{filter_map, position, list_all, cons_option}
-use Rattle.std.specs.Prelude.{codes, slice_get}
+-- The configuration that blocks give is accepted.
+use Rattle.std.proofs.Common.{◌≡◌, ℕ, zero, suc, ◌<◌, ◌≤◌, Bool, true, false, not, cond, nat_eq, nat_le, List, [], ◌∷◌, ◌++◌, length, map, get_or, All, Option, Some, None, IfSome, refl, sym, ap, subst, ◌∙◌, ⊎_elim, arith}
+use Rattle.std.specs.Prelude.{codes, Contains, slice_get, slice_index_or, unwrap_or}
+use Rattle.std.specs.List.{AllZip, list_all, range_with_len}
 use Rattle.std.specs.Char.{is_ascii_digit}
+use Rattle.std.specs.Option.{option_and_then, option_map}
 use Rattle.std.specs.Str.{bytes_eq}
-use Rattle.std.proofs.lemmas.Bool.{leb-true}
-use Rattle.std.proofs.lemmas.List.{get_or-map, get_or_default, length-map}
-use Rattle.std.proofs.lemmas.Option.{none-some, same_Some, slice_get_within}
-use Rattle.std.proofs.lemmas.List.Elements.{All-nil, All-cons, All-contains}
-use Rattle.due_model.specs.Accepted.{ContactFits, DependsOn, Excludes, HasNoLoop, DependencyFits, EscalationFits, IsAccepted, ObjectFits, PeriodFits, RightsFit}
+use Rattle.std.proofs.lemmas.Bool.{cases_lt, leb-true}
+use Rattle.std.proofs.lemmas.List.{get_or-map, get_or_past, length-map}
+use Rattle.std.proofs.lemmas.List.Elements.{All-nil, All-cons, All-append, All-from_get_or, Contains-get_or}
+use Rattle.std.proofs.lemmas.Option.{none-some}
+use Rattle.std.proofs.lemmas.Slice.Zip.{AllZip-long}
+use Rattle.due_model.specs.Accepted.{ContactFits, DependencyFits, DependsOn, EscalationFits, HasNoLoop, IsAccepted, IsHost, ObjectFits, RightsFit}
+use Rattle.due_model.specs.Limits.{max_number, max_objects}
 use Rattle.due_model.specs.declared.config.Config.{Config}
-use Rattle.due_model.specs.declared.config.Contact.{Contact}
-use Rattle.due_model.specs.declared.config.Lane.{Lane}
+use Rattle.due_model.specs.declared.config.ContactId.{ContactId}
+use Rattle.due_model.specs.declared.config.LaneId.{LaneId}
 use Rattle.due_model.specs.declared.config.Object.{Object}
+use Rattle.due_model.specs.declared.config.PeriodId.{PeriodId}
 use Rattle.due_model.specs.declared.config.Rights.{Rights}
-use Rattle.due_model.specs.Limits.{max_contacts, max_lanes, max_number, max_objects}
-use Rattle.due_model.specs.Options.{every_letter}
-use Rattle.due_model.specs.declared.options.OptionLetters.{OptionLetters}
-use Rattle.object_reader.specs.declared.block.Block.{Block}
-use Rattle.object_values.specs.Blocks.{contact_names, contacts_in, entries_read, hosts_in, interval_of, name_of}
-use Rattle.object_resolve.specs.Build.{AreRightsOf, AreSetOf, IsConfigOf, IsContactOf, IsHostOf, contacts_named, lanes_named}
-use Rattle.object_values.specs.Values.{command_name, number_of, value_in}
-use Rattle.object_reader.specs.declared.block.BlockKind.TheVariants.{Host}
-use Rattle.object_values.specs.declared.fault.BlockFault.{BlockFault}
-use Rattle.object_resolve.specs.Limits.{is_lane, lanes_in}
-use Rattle.object_resolve.specs.Resolve.{IsRefusal, IsResolved}
-use Rattle.object_resolve.proofs.FaultLemmas.{none-refused}
-use Rattle.object_resolve.proofs.LimitLemmas.{within-unrefused}
+use Rattle.lemmas.proofs.Lists.{All-flat_map}
 use Rattle.lemmas.proofs.Searches.{position-within}
-use Rattle.object_resolve.proofs.ListLemmas.{All-paired, length-paired}
+use Rattle.object_contacts.specs.Contacts.{AreRightsOf, IsContactOf}
+use Rattle.object_contacts.specs.Lanes.{lane_of, NamesLane}
+use Rattle.object_contacts.specs.declared.rights.RightsKind.{RightsKind}
+use Rattle.object_contacts.specs.declared.rights.RightsKind.TheVariants.{OfHosts, OfServices}
+use Rattle.object_groups.specs.Names.{number_of}
+use Rattle.object_groups.specs.Objects.{names_in, objects_in}
+use Rattle.object_inheritance.specs.Inherited.{name, value}
+use Rattle.object_listing.specs.Laws.{ListedAreObjects}
+use Rattle.object_listing.specs.Listing.{AreThose, contact_directives, host_directives, IsListed}
+use Rattle.object_periods.specs.Laws.{NoLoopIsLeft, PeriodsFit}
+use Rattle.object_periods.specs.Loops.{IsLoopedAt}
+use Rattle.object_reader.specs.declared.block.Block.{Block}
+use Rattle.object_reader.specs.declared.block.BlockKind.TheVariants.{Command, Contact, Host, Service, TimePeriod}
+use Rattle.object_readings.specs.Readings.{period_named, period_of}
+use Rattle.object_resolve.specs.Config.{command_at, IsConfigOf}
+use Rattle.object_resolve.specs.First.{IsNowhere}
+use Rattle.object_resolve.specs.Limits.{AreWithin}
+use Rattle.object_resolve.proofs.PlaceLemmas.{names-long}
+use Rattle.object_services.specs.Hosts.{AreHosts}
+use Rattle.object_services.specs.Laws.{CountIsTheSum}
+use Rattle.object_services.specs.Limits.{AreWithinLimit}
+use Rattle.object_settings.specs.Settings.{block_origins, HasSettings, host_origins, IsGiven, IsObjectOf, Origin, service_origins}
+use Rattle.object_settings.proofs.ObjectLemmas.{object-count}
+use Rattle.object_values.specs.Values.{number_in, number_of as value_of}
+use Rattle.object_values.specs.declared.options.OptionKind.{OptionKind}
 
--- ---- numbers within their lists
+-- ---- values within their ranges
 
-added-found : (P : ℕ → Type 0) (found : Option ℕ) (others : List ℕ) → IfSome found P → All P others → All P (cons_option found others)
-added-found P None others here each = each
-added-found P (Some k) others here each = All-cons P k others here each
+number-few : (b : Bool) (m other : ℕ) → nat_le m max_number ≡ b → other ≤ max_number → unwrap_or (cond b (Some m) None) other ≤ max_number
+number-few true m other is few = leb-true m max_number is
+number-few false m other is few = few
 
-all-found : {X : Type 0} (f : X → Option ℕ) (n : ℕ) → ((x : X) → IfSome (f x) (λ k. k < n)) → (xs : List X) → All (λ k. k < n) (filter_map f xs)
-all-found f n each [] = All-nil (λ k. k < n)
-all-found f n each (x ∷ xs) = added-found (λ k. k < n) (f x) (filter_map f xs) (each x) (all-found f n each xs)
+text-few : (empty digits : Bool) (m other : ℕ) → other ≤ max_number
+    → unwrap_or (cond empty None (cond (not digits) None (cond (nat_le m max_number) (Some m) None))) other ≤ max_number
+text-few true digits m other few = few
+text-few false false m other few = few
+text-few false true m other few = number-few (nat_le m max_number) m other refl few
 
-pub contacts-within : (names entries : List (List ℕ)) → All (λ k. k < length names) (contacts_named names entries)
-contacts-within names entries = all-found (λ entry. position (bytes_eq entry) names) (length names) (λ entry. position-within (bytes_eq entry) names) entries
+pub value-few : (text : Option (List ℕ)) (other : ℕ) → other ≤ max_number → unwrap_or (option_and_then number_in text) other ≤ max_number
+value-few None other few = few
+value-few (Some text) other few = text-few (nat_eq (length text) 0) (list_all is_ascii_digit text) (value_of text) other few
 
-pub lanes-within : (lanes : List Lane) (entries : List (List ℕ)) → All (λ k. k < length lanes) (lanes_named lanes entries)
-lanes-within lanes entries = all-found (λ entry. position (λ lane. bytes_eq (command_name entry) lane.name) lanes) (length lanes)
-    (λ entry. position-within (λ lane. bytes_eq (command_name entry) lane.name) lanes) entries
+-- a period by its name is there, and so is one that is taken where the name isn't given
+period-few : (periods : List (List ℕ)) (text : List ℕ) → IfSome (period_named periods text) (λ p. p.0 < length periods)
+period-few periods text = by_length (nat_eq (length text) 0)
+  where
+    by_found : (found : Option ℕ) → IfSome found (λ k. k < length periods) → IfSome (option_map period_of found) (λ p. p.0 < length periods)
+    by_found None low = tt
+    by_found (Some k) low = low
 
--- what holds of the numbers of a list holds of their set
-pub set-within : {X : Type 0} (number : X → ℕ) (n : ℕ) (listed : List ℕ) (ids : List X) → All (λ k. k < n) listed → AreSetOf listed (map number ids) → All (λ id. number id < n) ids
-set-within number n listed ids each set = λ k d below.
+    by_length : (empty : Bool) → IfSome (cond empty None (option_map period_of (number_of periods text))) (λ p. p.0 < length periods)
+    by_length true = tt
+    by_length false = by_found (number_of periods text) (position-within (bytes_eq text) periods)
+
+pub given-few : (periods : List (List ℕ)) (given : Option (List ℕ)) (other : Option PeriodId) → IfSome other (λ p. p.0 < length periods)
+    → IfSome (unwrap_or (option_map (period_named periods) given) other) (λ p. p.0 < length periods)
+given-few periods None other few = few
+given-few periods (Some text) other few = period-few periods text
+
+-- what holds of the numbers holds of those that have them
+numbered : {X : Type 0} (number : X → ℕ) (P : ℕ → Type 0) (ids : List X) → ((k : ℕ) → Contains (map number ids) k → P k) → All (λ id. P (number id)) ids
+numbered number P ids each = λ k d below.
     let inside : k < length (map number ids) = rw (length-map ids number) below in
-    let is : get_or (map number ids) k (number (get_or ids k d)) ≡ number (get_or ids k d) =
-    get_or-map number ids k d (number (get_or ids k d)) below in
-    All-contains (λ j. j < n) listed (number (get_or ids k d)) each (set.only (number (get_or ids k d)) (k, inside, is))
+    let is : get_or (map number ids) k (number (get_or ids k d)) ≡ number (get_or ids k d) = get_or-map number ids k d (number (get_or ids k d)) below in
+    each (number (get_or ids k d)) (k, inside, is)
 
--- and of the set itself
-pub all-of_set : (P : ℕ → Type 0) (listed set : List ℕ) → All P listed → AreSetOf listed set → All P set
-all-of_set P listed set each are = λ k d below.
-    All-contains P listed (get_or set k d) each (are.only (get_or set k d) (k, below, get_or_default set k (get_or set k d) d below))
+-- of lists place by place
+zip-all : {X Y : Type 0} (R : X → Y → Type 0) (G : X → Type 0) (Q : Y → Type 0) → ((x : X) (y : Y) → G x → R x y → Q y)
+    → (xs : List X) (ys : List Y) → All G xs → AllZip R xs ys → All Q ys
+zip-all R G Q each [] [] good all = All-nil Q
+zip-all R G Q each [] (y ∷ ys) good all = absurd all
+zip-all R G Q each (x ∷ xs) [] good all = absurd all
+zip-all R G Q each (x ∷ xs) (y ∷ ys) good all =
+    All-cons Q y ys (each x y (good 0 x (omega arith)) all.0)
+    (zip-all R G Q each xs ys (λ k d below. good (suc k) d (omega (arith, below))) all.1)
 
--- ---- the interval
+all-of : {X : Type 0} (P : X → Type 0) (xs : List X) → ((x : X) → P x) → All P xs
+all-of P xs each = λ k d below. each (get_or xs k d)
 
-number-few : (b : Bool) (m n : ℕ) → nat_le m max_number ≡ b → cond b (Some m) None ≡ Some n → n ≤ max_number
-number-few true m n is found = subst (λ k. k ≤ max_number) (same_Some m n found) (leb-true m max_number is)
-number-few false m n is found = absurd (none-some n found)
+-- the host of a number
+host-at : (blocks : List Block) (places : List ℕ) (others : List Origin) (objects : List Object) (number : ℕ) → number < length places
+    → AllZip (IsObjectOf blocks) (map (λ place. record { place = place; host = None }) places ++ others) objects
+    → (host : Object) × (slice_get objects number ≡ Some host) × (host.host ≡ None)
+host-at blocks [] others objects number low all = absurd (omega (arith, low))
+host-at blocks (p ∷ ps) others [] number low all = absurd all
+host-at blocks (p ∷ ps) others (o ∷ os) zero low all = (o, refl, (all.0).host)
+host-at blocks (p ∷ ps) others (o ∷ os) (suc n) low all = host-at blocks ps others os n (omega (arith, low)) all.1
 
-value-few : (empty digits : Bool) (m n : ℕ)
-    → cond empty None (cond (not digits) None (cond (nat_le m max_number) (Some m) None)) ≡ Some n → n ≤ max_number
-value-few true digits m n found = absurd (none-some n found)
-value-few false false m n found = absurd (none-some n found)
-value-few false true m n found = number-few (nat_le m max_number) m n refl found
+-- ---- what blocks give
 
-pub interval-few : (value : Option (List ℕ)) (n : ℕ) → interval_of value ≡ Some n → n ≤ max_number
-interval-few None n found = subst (λ k. k ≤ max_number) (same_Some 30 n found) (omega arith)
-interval-few (Some value) n found =
-    value-few (nat_eq (length value) 0) (list_all is_ascii_digit value) (number_of value) n found
+module _ (listed : ListedAreObjects) (blocks : List Block) (config : Config) (of : IsConfigOf blocks config) where
+  contacts-long : length config.contacts ≡ length (names_in blocks Contact)
+  contacts-long = AllZip-long (IsContactOf blocks of.lanes) (objects_in blocks Contact) config.contacts of.contacts ∙ sym (names-long blocks Contact)
 
--- ---- each object and contact
+  periods-long : length config.periods ≡ length (names_in blocks TimePeriod)
+  periods-long = (of.periods).count ∙ sym (names-long blocks TimePeriod)
 
-none-fits : {X : Type 0} (P : X → Type 0) (x : Option X) → x ≡ None → IfSome x P
-none-fits P x is = subst (λ y. IfSome y P) (sym is) tt
+  lanes-long : length config.lanes ≡ length of.lanes
+  lanes-long = sym (length-map config.lanes (λ lane. lane.name)) ∙ ap length of.named ∙ length-map of.lanes (command_at blocks)
 
-host-fits : (config : Config) (names : List (List ℕ)) → length names ≡ length config.contacts → (block : Block) (object : Object) → IsHostOf names block object → ObjectFits config object
-host-fits config names long block object of = record {
-  host = none-fits _ object.host of.host;
-  period = none-fits _ object.period of.period;
-  interval = interval-few (value_in block.directives (codes "notification_interval")) object.interval of.interval;
-  delay = rw of.delay (omega arith);
-  contacts = set-within (λ contact. contact.0) (length config.contacts) (contacts_named names (entries_read Host block.directives)) object.contacts
-      (subst (λ n. All (λ k. k < n) (contacts_named names (entries_read Host block.directives))) long (contacts-within names (entries_read Host block.directives))) of.contacts;
-}
+  period-fits : (given : Option (List ℕ)) (other : Option PeriodId) → IfSome other (λ p. p.0 < length config.periods)
+      → IfSome (unwrap_or (option_map (period_named (names_in blocks TimePeriod)) given) other) (λ p. p.0 < length config.periods)
+  period-fits given other few =
+      subst (λ (n : ℕ). IfSome (unwrap_or (option_map (period_named (names_in blocks TimePeriod)) given) other) (λ p. p.0 < n)) (sym periods-long)
+      (given-few (names_in blocks TimePeriod) given other (subst (λ (n : ℕ). IfSome other (λ p. p.0 < n)) periods-long few))
 
-rights-fit : (config : Config) (entries : List (List ℕ)) (rights : Rights) → AreRightsOf config.lanes entries rights → RightsFit config rights
-rights-fit config entries rights of = record {
-  period = none-fits _ rights.period of.period;
-  lanes = set-within (λ lane. lane.0) (length config.lanes) (lanes_named config.lanes entries) rights.lanes (lanes-within config.lanes entries) of.lanes;
-}
+  contacts-fit : (place : ℕ) (contacts : List ContactId) → AreThose (IsListed blocks contact_directives place) (map (λ contact. contact.0) contacts)
+      → All (λ k. k.0 < length config.contacts) contacts
+  contacts-fit place contacts are =
+      numbered (λ (contact : ContactId). contact.0) (λ k. k < length config.contacts) contacts
+      (λ k at. let low = listed blocks contact_directives place k ((are.exactly k).0 at) in let long = contacts-long in omega (arith, low, long))
 
-contact-fits : (config : Config) (block : Block) (contact : Contact) → IsContactOf config.lanes block contact → ContactFits config contact
-contact-fits config block contact of = record {
-  hosts = rights-fit config _ contact.hosts of.hosts;
-  services = rights-fit config _ contact.services of.services;
-}
+  -- ---- objects
+
+  abbrev host_count : ℕ
+  host_count = length (objects_in blocks Host)
+
+  abbrev Good : Origin → Type 0
+  Good origin = IfSome origin.host (λ number. number < host_count)
+
+  hosts-few : (number : ℕ) → All (λ host. host < host_count) (slice_index_or of.hosts number [])
+  hosts-few number = ⊎_elim within past (cases_lt number (length of.hosts))
+    where
+      few : (place : ℕ) (hosts : List ℕ) → AreHosts blocks place hosts → All (λ host. host < host_count) hosts
+      few place hosts are = All-from_get_or (λ host. host < host_count) hosts 0
+          (λ i low. let named : get_or hosts i 0 < length (names_in blocks Host) = listed blocks host_directives place (get_or hosts i 0) ((are.exactly (get_or hosts i 0)).0 (Contains-get_or hosts i 0 low)) in
+          let long = names-long blocks Host in omega (arith, named, long))
+
+      at : (places : List ℕ) (lists : List (List ℕ)) (i : ℕ) → i < length lists → AllZip (AreHosts blocks) places lists → All (λ host. host < host_count) (get_or lists i [])
+      at places [] i low all = absurd (omega (arith, low))
+      at [] (y ∷ ys) i low all = absurd all
+      at (x ∷ xs) (y ∷ ys) zero low all = few x y all.0
+      at (x ∷ xs) (y ∷ ys) (suc i) low all = at xs ys i (omega (arith, low)) all.1
+
+      within : number < length of.hosts → All (λ host. host < host_count) (slice_index_or of.hosts number [])
+      within low = at (objects_in blocks Service) of.hosts number low of.hosts_are
+
+      past : length of.hosts ≤ number → All (λ host. host < host_count) (slice_index_or of.hosts number [])
+      past high = subst (λ (hosts : List ℕ). All (λ host. host < host_count) hosts) (sym (get_or_past of.hosts number [] high)) (All-nil (λ host. host < host_count))
+
+  block-good : (place : ℕ) (hosts : List ℕ) → All (λ host. host < host_count) hosts → All Good (map (λ host. record { place = place; host = Some host }) hosts)
+  block-good place [] few = All-nil Good
+  block-good place (h ∷ hs) few =
+      All-cons Good (record { place = place; host = Some h }) (map (λ host. record { place = place; host = Some host }) hs)
+      (few 0 h (omega arith)) (block-good place hs (λ k d below. few (suc k) d (omega (arith, below))))
+
+  hosts-good : (places : List ℕ) → All Good (map (λ place. record { place = place; host = None }) places)
+  hosts-good [] = All-nil Good
+  hosts-good (p ∷ ps) = All-cons Good (record { place = p; host = None }) (map (λ place. record { place = place; host = None }) ps) tt (hosts-good ps)
+
+  origins-good : All Good (host_origins blocks ++ service_origins blocks of.hosts)
+  origins-good = All-append Good (host_origins blocks) (service_origins blocks of.hosts) (hosts-good (objects_in blocks Host))
+      (All-flat_map Good (block_origins blocks of.hosts) (range_with_len 0 (length of.hosts))
+      (all-of (λ number. All Good (block_origins blocks of.hosts number)) (range_with_len 0 (length of.hosts))
+      (λ number. block-good (slice_index_or (objects_in blocks Service) number 0) (slice_index_or of.hosts number []) (hosts-few number))))
+
+  settings-fit : (kind : OptionKind) (own host : ℕ) (object : Object) → HasSettings blocks kind own host object → IfSome object.host (λ h. IsHost config h.0)
+      → ObjectFits config object
+  settings-fit kind own host object has here = record {
+    host = here;
+    period = subst (λ (p : Option PeriodId). IfSome p (λ q. q.0 < length config.periods)) (sym has.period)
+        (period-fits (name blocks (codes "notification_period") own) _ (period-fits (name blocks (codes "notification_period") host) None tt));
+    interval = subst (λ (n : ℕ). n ≤ max_number) (sym has.interval)
+        (value-few (value blocks (codes "notification_interval") own) _ (value-few (value blocks (codes "notification_interval") host) 30 (omega arith)));
+    delay = subst (λ (n : ℕ). n ≤ max_number) (sym has.delay) (value-few (value blocks (codes "first_notification_delay") own) 0 (omega arith));
+    contacts = contacts-fit _ object.contacts has.contacts;
+  }
+
+  given-fits : (place : ℕ) (host : Option ℕ) (object : Object) → IfSome host (λ number. number < host_count) → IsGiven blocks place host object → ObjectFits config object
+  given-fits place None object good given =
+      settings-fit _ place place object given.settings (subst (λ h. IfSome h (λ i. IsHost config i.0)) (sym given.host) tt)
+  given-fits place (Some number) object good given =
+      settings-fit _ place _ object given.settings (subst (λ h. IfSome h (λ i. IsHost config i.0)) (sym given.host)
+      (host-at blocks (objects_in blocks Host) (service_origins blocks of.hosts) config.objects number good of.objects))
+
+  objects-fit : All (ObjectFits config) config.objects
+  objects-fit = zip-all (IsObjectOf blocks) Good (ObjectFits config) (λ origin object good given. given-fits origin.place origin.host object good given)
+      (host_origins blocks ++ service_origins blocks of.hosts) config.objects origins-good of.objects
+
+  -- ---- contacts
+
+  lane-fits : (lane : ℕ) (found : Option ℕ) → option_and_then (lane_of of.lanes) found ≡ Some lane → lane < length config.lanes
+  lane-fits lane None is = absurd (none-some lane is)
+  lane-fits lane (Some command) is =
+      let low : lane < length of.lanes = subst (λ (f : Option ℕ). IfSome f (λ k. k < length of.lanes)) is (position-within _ of.lanes) in
+      let long = lanes-long in omega (arith, low, long)
+
+  named-fits : (entries : List (List ℕ)) (lane : ℕ) → NamesLane (names_in blocks Command) of.lanes entries lane → lane < length config.lanes
+  named-fits entries lane (entry, at, is) = lane-fits lane _ is
+
+  rights-fit : (kind : RightsKind) (place : ℕ) (rights : Rights) → AreRightsOf blocks of.lanes kind place rights → RightsFit config rights
+  rights-fit kind place rights are = record {
+    period = subst (λ (p : Option PeriodId). IfSome p (λ q. q.0 < length config.periods)) (sym are.period) (period-fits (name blocks _ place) None tt);
+    lanes = numbered (λ (lane : LaneId). lane.0) (λ k. k < length config.lanes) rights.lanes
+        (λ k at. named-fits _ k (((are.lanes).exactly k).0 at));
+  }
+
+  contacts-fit_all : All (ContactFits config) config.contacts
+  contacts-fit_all = zip-all (IsContactOf blocks of.lanes) (λ place. Unit {0}) (ContactFits config)
+      (λ place contact good is. record { hosts = rights-fit OfHosts place contact.hosts is.hosts; services = rights-fit OfServices place contact.services is.services })
+      (objects_in blocks Contact) config.contacts (all-of (λ place. Unit {0}) (objects_in blocks Contact) (λ place. tt)) of.contacts
+
+-- ---- the limits
+
+objects-few : CountIsTheSum → (blocks : List Block) (config : Config) → (of : IsConfigOf blocks config) → AreWithinLimit blocks → length config.objects ≤ max_objects
+unfolding objects_in
+objects-few law blocks config of (count, given, few) =
+    let sum = law blocks (length blocks) count of.hosts given of.hosts_are in
+    let long = object-count blocks of.hosts config.objects of.objects in
+    omega (arith, sum, long, few)
 
 -- ---- the whole
 
 no-loop : (Step : ℕ → ℕ → Type 0) → ((p q : ℕ) → Step p q → ⊥) → HasNoLoop Step
 no-loop Step never = λ steps p chain. never p chain.0 chain.1
 
-empty-none : {X : Type 0} (xs : List X) (x : X) (k : ℕ) → xs ≡ [] → slice_get xs k ≡ Some x → ⊥
-empty-none xs x k is found =
-    let inside : k < length xs = slice_get_within xs k x found in let few : length xs ≡ 0 = ap length is in omega arith
-
 empty-all : {X : Type 0} (P : X → Type 0) (xs : List X) → xs ≡ [] → All P xs
 empty-all P xs is = subst (All P) (sym is) (All-nil P)
 
-config-accepted : (blocks lane_blocks : List Block) (config : Config) → IsConfigOf blocks lane_blocks config
-    → length (hosts_in blocks) ≤ max_objects → length (contacts_in blocks) ≤ max_contacts → length lane_blocks ≤ max_lanes → IsAccepted config
-config-accepted blocks lane_blocks config of few_hosts few_contacts few_lanes =
-    let hosts : length config.objects ≡ length (hosts_in blocks) = length-paired _ (hosts_in blocks) config.objects of.objects in
-    let contacts : length config.contacts ≡ length (contacts_in blocks) = length-paired _ (contacts_in blocks) config.contacts of.contacts in
-    let lanes : length config.lanes ≡ length lane_blocks =
-    sym (length-map config.lanes (λ lane. lane.name)) ∙ ap length of.lanes ∙ length-map lane_blocks name_of in
-    let names : length (contact_names blocks) ≡ length config.contacts = length-map (contacts_in blocks) name_of ∙ sym contacts in
+empty-contains : {X : Type 0} (xs : List X) (x : X) → xs ≡ [] → Contains xs x → ⊥
+empty-contains xs x is here = let few : length xs ≡ 0 = ap length is in omega (arith, here.1, few)
+
+pub resolved-accepted : ListedAreObjects → CountIsTheSum → PeriodsFit → NoLoopIsLeft → (blocks : List Block) (config : Config)
+    → IsConfigOf blocks config → AreWithin blocks → IsNowhere (IsLoopedAt blocks) → IsAccepted config
+resolved-accepted listed counted fit unlooped blocks config of within none =
+    let contacts = contacts-long listed blocks config of in
+    let contact_names = names-long blocks Contact in
+    let periods = periods-long listed blocks config of in
+    let period_names = names-long blocks TimePeriod in
+    let lanes = lanes-long listed blocks config of in
+    let few_contacts = within.1.contacts in
+    let few_periods = within.1.periods in
+    let few_lanes = within.1.lanes of.lanes of.lanes_are in
     record {
-      few_objects = omega arith;
-      few_contacts = omega arith;
-      few_lanes = omega arith;
-      few_periods = rw of.no_period (omega arith);
+      few_objects = objects-few counted blocks config of within.0;
+      few_contacts = omega (arith, contacts, contact_names, few_contacts);
+      few_lanes = omega (arith, lanes, few_lanes);
+      few_periods = omega (arith, periods, period_names, few_periods);
       few_escalations = rw of.no_escalation (omega arith);
       few_dependencies = rw of.no_dependency (omega arith);
-      objects = All-paired _ (ObjectFits config) (hosts_in blocks) config.objects (host-fits config (contact_names blocks) names) of.objects;
-      contacts = All-paired _ (ContactFits config) (contacts_in blocks) config.contacts (contact-fits config) of.contacts;
-      periods = empty-all (PeriodFits config) config.periods of.no_period;
+      objects = objects-fit listed blocks config of;
+      contacts = contacts-fit_all listed blocks config of;
+      periods = fit blocks config of.periods;
       escalations = empty-all (EscalationFits config) config.escalations of.no_escalation;
       dependencies = empty-all (DependencyFits config) config.dependencies of.no_dependency;
-      no_period_loop = no-loop (Excludes config) (λ p q step. empty-none config.periods step.0 p of.no_period step.1);
+      no_period_loop = unlooped blocks config of.periods none;
       no_dependency_loop = no-loop (DependsOn config) (λ p q step. empty-contains config.dependencies step.0 of.no_dependency step.1);
     }
-  where
-    empty-contains : {X : Type 0} (xs : List X) (x : X) → xs ≡ [] → Contains xs x → ⊥
-    empty-contains xs x is here = let few : length xs ≡ 0 = ap length is in omega (arith, here.1, few)
-
-pub resolved-accepted : (blocks : List Block) (config : Config) → IsResolved blocks config → IsAccepted config
-resolved-accepted blocks config of =
-    config-accepted blocks (lanes_in blocks) config of.gives of.limits.hosts of.limits.contacts of.limits.lanes
-
--- blocks that are refused give none
-pub resolved-unrefused : (blocks : List Block) (config : Config) (line : ℕ) (fault : BlockFault)
-    → IsResolved blocks config → IsRefusal blocks line fault → ⊥
-resolved-unrefused blocks config line fault of (inl unread) = none-refused _ blocks line fault of.read unread
-resolved-unrefused blocks config line fault of (inr (read, inl misvalued)) = none-refused _ blocks line fault of.values misvalued
-resolved-unrefused blocks config line fault of (inr (read, inr (values, inl misnamed))) = none-refused _ blocks line fault of.names misnamed
-resolved-unrefused blocks config line fault of (inr (read, inr (values, inr (names, over)))) = within-unrefused (is_lane blocks) blocks line fault of.limits over

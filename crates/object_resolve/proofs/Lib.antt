@@ -1,6 +1,6 @@
-pub mod ListLemmas
+pub mod PlaceLemmas
 pub mod NameLemmas
-pub mod FaultLemmas
 pub mod LimitLemmas
 pub mod Accepted
+pub mod Refusals
 pub mod TextLemmas

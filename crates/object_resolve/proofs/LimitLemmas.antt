@@ -1,86 +1,218 @@
--- How many hosts, contacts and lanes there are with one more block.
-use Rattle.std.proofs.Common.{◌≡◌, ℕ, ◌+◌, ◌<◌, ◌≤◌, nat_lt, Bool, true, false, ◌||◌, ◌&&◌, List, [], ◌∷◌, ◌++◌, length, filter, take, drop, get_or, None, refl, sym, ap, subst, ◌∙◌, arith}
-use Rattle.std.proofs.lemmas.Bool.{le-ltb, ltb-false, true≢false}
-use Rattle.std.proofs.lemmas.List.{length-append, take-append-drop, take_more}
-use Rattle.std.proofs.lemmas.List.Elements.{filter-append}
-use Rattle.std.proofs.lemmas.Option.{get_or_from_slice_get, none-some, slice_get_within}
-use Rattle.due_model.specs.Limits.{max_contacts, max_lanes, max_objects}
-use Rattle.object_resolve.specs.declared.limits.Counts.{Counts}
+-- The first block that passes a limit.
+use Rattle.std.proofs.Common.{◌≡◌, ℕ, ◌<◌, ◌≤◌, Bool, true, false, cond, List, [], ◌∷◌, length, get_or, Option, Some, None, refl, sym, ap, subst, ◌∙◌, ◌⊎◌, inl, inr, ⊎_elim, arith}
+use Rattle.std.specs.Prelude.{Contains, slice_get, IfNone, IfSome, ◌↔◌}
+use Rattle.std.specs.Option.{option_and_then}
+use Rattle.std.specs.Str.{bytes_eq}
+use Rattle.std.proofs.lemmas.Bool.{cases_lt}
+use Rattle.std.proofs.lemmas.List.Elements.{All-contains, Contains-get_or}
+use Rattle.std.proofs.lemmas.List.Kept.{AllPairs-from_increasing}
+use Rattle.std.proofs.lemmas.Option.{get_or_from_slice_get, none-some, slice_get-get_or, slice_get_within}
+use Rattle.due_model.specs.Limits.{max_contacts, max_lanes, max_periods}
+use Rattle.lemmas.proofs.Elements.{Contains-cases, Contains-here, Contains-later, Contains-none}
+use Rattle.lemmas.proofs.Lists.{AllPairs-head, AllPairs-tail}
+use Rattle.lemmas.proofs.Searches.{position-within}
+use Rattle.object_contacts.specs.Lanes.{AreLanes, IsLane, IsUsed}
+use Rattle.object_groups.specs.Objects.{names_in, objects_in}
+use Rattle.object_names.specs.First.{IsFirst, lower}
 use Rattle.object_reader.specs.declared.block.Block.{Block}
-use Rattle.object_values.specs.Blocks.{contacts_in, hosts_in, is_command_kind, is_contact, is_host, name_of}
-use Rattle.object_resolve.specs.Limits.{AreFew, AreUsed, IsWithinLimits, are_too_many, is_lane, is_over, is_used, limit_fault}
-use Rattle.object_values.specs.declared.fault.BlockFault.{BlockFault}
-use Rattle.object_values.specs.declared.fault.BlockFault.TheVariants.{TooMany}
-use Rattle.object_resolve.specs.Fault.{IsFirstOf}
-use Rattle.object_resolve.proofs.FaultLemmas.{fault-none}
-use Rattle.object_resolve.proofs.ListLemmas.{filter-same}
+use Rattle.object_reader.specs.declared.block.BlockKind.{BlockKind}
+use Rattle.object_reader.specs.declared.block.BlockKind.TheVariants.{Command, Contact, TimePeriod}
+use Rattle.object_resolve.specs.Fault.{IsAmong, IsOfPlace}
+use Rattle.object_resolve.specs.First.{IsNowhere}
+use Rattle.object_resolve.specs.Limits.{AreFewOthers, AreWithin, IsOneOver, IsOver, PassesLanes, PassesOther}
+use Rattle.object_resolve.specs.Resolve.{IsFirstOver}
+use Rattle.object_resolve.specs.declared.fault.BlockFault.TheVariants.{TooMany}
+use Rattle.object_resolve.specs.declared.fault.LoadFault.{LoadFault}
+use Rattle.object_resolve.proofs.NameLemmas.{either-first}
+use Rattle.object_resolve.proofs.PlaceLemmas.{line-of_first, names-long, object-within, only-first, Rises}
+use Rattle.object_services.specs.Laws.{OnePlacePasses, WithinPassesNowhere}
+use Rattle.object_services.specs.Limits as counted
+use Rattle.object_services.specs.Limits.{PassesLimit, PassesNowhere}
+use Rattle.object_services.specs.declared.services.LimitFault.{LimitFault}
+use Rattle.object_services.specs.declared.services.LimitFault.TheVariants as counts
 
-neither : (a b : Bool) → (a || b) ≡ false → (a ≡ false) × (b ≡ false)
-neither true b is = absurd (true≢false is)
-neither false b is = (refl, is)
+-- ---- two lists of the same numbers that rise are one
 
--- counts within the limits
-pub few : (counts : Counts) → is_over counts.hosts counts.contacts counts.lanes ≡ false → AreFew counts
-few counts is =
-    let first = neither (nat_lt max_objects counts.hosts || nat_lt max_contacts counts.contacts) (nat_lt max_lanes counts.lanes) is in
-    let second = neither (nat_lt max_objects counts.hosts) (nat_lt max_contacts counts.contacts) first.0 in
-    record {
-      hosts = ltb-false max_objects counts.hosts second.0;
-      contacts = ltb-false max_contacts counts.contacts second.1;
-      lanes = ltb-false max_lanes counts.lanes first.1;
-    }
+above : (x : ℕ) (xs : List ℕ) (k : ℕ) → Rises (x ∷ xs) → Contains xs k → x < k
+above x xs k rising at = All-contains (λ n. x < n) xs k (AllPairs-head (λ m n. m < n) x xs rising) at
 
--- whether the counts with one more block are too many
-pub over-item : (lane : Block → Bool) (blocks : List Block) (i : ℕ) (x : Block) (hosts contacts lanes : ℕ) → i < length blocks → x ≡ get_or blocks i x
-    → hosts ≡ length (hosts_in (take (i + 1) blocks)) → contacts ≡ length (contacts_in (take (i + 1) blocks)) → lanes ≡ length (filter lane (take (i + 1) blocks))
-    → are_too_many lane (take i blocks ++ x ∷ []) ≡ is_over hosts contacts lanes
-over-item lane blocks i x hosts contacts lanes within is hosts-are contacts-are lanes-are =
-    let one_more : take i blocks ++ x ∷ [] ≡ take (i + 1) blocks = ap (λ y. take i blocks ++ y ∷ []) is ∙ sym (take_more blocks i x within) in
-    ap (are_too_many lane) one_more
-    ∙ ap (λ n. is_over n (length (contacts_in (take (i + 1) blocks))) (length (filter lane (take (i + 1) blocks)))) (sym hosts-are)
-    ∙ ap (λ n. is_over hosts n (length (filter lane (take (i + 1) blocks)))) (sym contacts-are)
-    ∙ ap (λ n. is_over hosts contacts n) (sym lanes-are)
+rising-one : (xs ys : List ℕ) → Rises xs → Rises ys → ((k : ℕ) → Contains xs k ↔ Contains ys k) → xs ≡ ys
+rising-one [] [] one other same = refl
+rising-one [] (y ∷ ys) one other same = absurd (Contains-none y ((same y).1 (Contains-here y ys)))
+rising-one (x ∷ xs) [] one other same = absurd (Contains-none x ((same x).0 (Contains-here x xs)))
+rising-one (x ∷ xs) (y ∷ ys) one other same =
+    ap (λ (n : ℕ). n ∷ xs) head ∙ ap (λ (ns : List ℕ). y ∷ ns)
+    (rising-one xs ys (AllPairs-tail (λ m n. m < n) x xs one) (AllPairs-tail (λ m n. m < n) y ys other) (λ k. (to k, from k)))
+  where
+    head : x ≡ y
+    head = by_both (Contains-cases y x ys ((same x).0 (Contains-here x xs))) (Contains-cases x y xs ((same y).1 (Contains-here y ys)))
+      where
+        by_both : (y ≡ x) ⊎ Contains ys x → (x ≡ y) ⊎ Contains xs y → x ≡ y
+        by_both (inl here) there = sym here
+        by_both (inr later) (inl here) = here
+        by_both (inr later) (inr further) = let low = above y ys x other later in let high = above x xs y one further in absurd (omega (arith, low, high))
 
--- the faults depend on which blocks are lanes alone
-pub limit-same : (p q : Block → Bool) → ((block : Block) → p block ≡ q block) → (earlier : List Block) (block : Block) → limit_fault p earlier block ≡ limit_fault q earlier block
-limit-same p q same earlier block =
-    rw (filter-same p q same (earlier ++ block ∷ [])) refl
+    to : (k : ℕ) → Contains xs k → Contains ys k
+    to k at = ⊎_elim
+        (λ (here : y ≡ k). let low = above x xs k one at in absurd (omega (arith, low, here, head)))
+        (λ (later : Contains ys k). later)
+        (Contains-cases y k ys ((same k).0 (Contains-later x k xs at)))
 
--- where the names are those of the commands that contacts use, the commands with these names are the lanes
-pub used-lanes : (used : List (List ℕ)) (blocks : List Block) → AreUsed used blocks → (block : Block) → is_used used block ≡ is_lane blocks block
-used-lanes used blocks same block = ap (λ b. is_command_kind block.kind && b) (same (name_of block))
+    from : (k : ℕ) → Contains ys k → Contains xs k
+    from k at = ⊎_elim
+        (λ (here : x ≡ k). let low = above y ys k other at in absurd (omega (arith, low, here, head)))
+        (λ (later : Contains xs k). later)
+        (Contains-cases x k xs ((same k).1 (Contains-later y k ys at)))
 
-pub within-same : (p q : Block → Bool) → ((block : Block) → p block ≡ q block) → (blocks : List Block) → IsWithinLimits p blocks → IsWithinLimits q blocks
-within-same p q same blocks within = record {
-  hosts = within.hosts;
-  contacts = within.contacts;
-  lanes = subst (λ lanes. length lanes ≤ max_lanes) (filter-same p q same blocks) within.lanes;
-}
+pub lanes-one : (P : ℕ → Type 0) (xs ys : List ℕ) → AreLanes P xs → AreLanes P ys → xs ≡ ys
+lanes-one P xs ys one other =
+    rising-one xs ys (AllPairs-from_increasing xs one.rising) (AllPairs-from_increasing ys other.rising)
+    (λ k. ((λ at. (other.exactly k).1 ((one.exactly k).0 at)), (λ at. (one.exactly k).1 ((other.exactly k).0 at))))
 
--- ---- no more in a part than in the whole
+-- ---- lanes are commands
 
-taken-fewer : {X : Type 0} (p : X → Bool) (xs : List X) (n : ℕ) → length (filter p (take n xs)) ≤ length (filter p xs)
-taken-fewer p xs n =
-    let parts : length (filter p (take n xs)) + length (filter p (drop n xs)) ≡ length (filter p xs) =
-    sym (length-append (filter p (take n xs)) (filter p (drop n xs))) ∙ ap length (sym (filter-append p (take n xs) (drop n xs)))
-    ∙ ap (λ ys. length (filter p ys)) (take-append-drop n xs) in
-    omega (arith, parts)
+used-within : (blocks : List Block) (directive : List ℕ) (command : ℕ) → IsUsed blocks directive command → command < length (names_in blocks Command)
+used-within blocks directive command (place, at, (entry, listed, named)) =
+    subst (λ (found : Option ℕ). IfSome found (λ k. k < length (names_in blocks Command))) named (position-within (bytes_eq _) (names_in blocks Command))
 
-not-over : (hosts contacts lanes : ℕ) → hosts ≤ max_objects → contacts ≤ max_contacts → lanes ≤ max_lanes → is_over hosts contacts lanes ≡ false
-not-over hosts contacts lanes few-hosts few-contacts few-lanes =
-    rw (le-ltb max_objects hosts few-hosts, le-ltb max_contacts contacts few-contacts, le-ltb max_lanes lanes few-lanes) refl
+pub lane-within : (blocks : List Block) (command : ℕ) → IsLane blocks command → command < length (names_in blocks Command)
+lane-within blocks command (inl used) = used-within blocks _ command used
+lane-within blocks command (inr used) = used-within blocks _ command used
 
--- blocks within the limits have no first block with which there are too many
-pub within-unrefused : (lane : Block → Bool) (blocks : List Block) (line : ℕ) (fault : BlockFault) → IsWithinLimits lane blocks
-    → IsFirstOf (limit_fault lane) blocks line fault → ⊥
-within-unrefused lane blocks line fault within first =
-    let k : ℕ = first.place in
-    let inside : k < length blocks = slice_get_within blocks k first.block first.here in
-    let taken : take k blocks ++ first.block ∷ [] ≡ take (k + 1) blocks =
-    ap (λ y. take k blocks ++ y ∷ []) (sym (get_or_from_slice_get blocks k first.block first.block first.here)) ∙ sym (take_more blocks k first.block inside) in
-    let hosts : length (hosts_in (take (k + 1) blocks)) ≤ max_objects = omega (arith, taken-fewer is_host blocks (k + 1), within.hosts) in
-    let contacts : length (contacts_in (take (k + 1) blocks)) ≤ max_contacts = omega (arith, taken-fewer is_contact blocks (k + 1), within.contacts) in
-    let lanes : length (filter lane (take (k + 1) blocks)) ≤ max_lanes = omega (arith, taken-fewer lane blocks (k + 1), within.lanes) in
-    let none : limit_fault lane (take k blocks) first.block ≡ None =
-    fault-none (are_too_many lane (take k blocks ++ first.block ∷ [])) TooMany None (ap (are_too_many lane) taken ∙ not-over _ _ _ hosts contacts lanes) in
-    none-some fault (sym none ∙ first.refused)
+lane-place : (blocks : List Block) (lanes : List ℕ) (k command : ℕ) → AreLanes (IsLane blocks) lanes → slice_get lanes k ≡ Some command
+    → slice_get (objects_in blocks Command) command ≡ Some (get_or (objects_in blocks Command) command 0)
+lane-place blocks lanes k command are here =
+    let at = Contains-get_or lanes k command (slice_get_within lanes k command here) in
+    let is : get_or lanes k command ≡ command = get_or_from_slice_get lanes k command command here in
+    let within = lane-within blocks command ((are.exactly command).0 (subst (λ (n : ℕ). Contains lanes n) is at)) in
+    let long = names-long blocks Command in
+    slice_get-get_or (objects_in blocks Command) command 0 (omega (arith, within, long))
+
+-- ---- the first with which there are too many of one type
+
+pub one-over : (blocks : List Block) (kind : BlockKind) (limit : ℕ) (found : Option ℕ) → found ≡ slice_get (objects_in blocks kind) limit
+    → IsFirst (IsOneOver blocks kind limit) found
+one-over blocks kind limit found is = only-first (IsOneOver blocks kind limit) found (λ place said. is ∙ said) (λ place some. sym is ∙ some)
+
+few-none : {X : Type 0} (xs : List X) (limit : ℕ) → slice_get xs limit ≡ None → length xs ≤ limit
+few-none xs limit none = ⊎_elim
+    (λ (over : limit < length xs). by_some xs over none)
+    (λ (few : length xs ≤ limit). few)
+    (cases_lt limit (length xs))
+  where
+    by_some : {Y : Type 0} (ys : List Y) → limit < length ys → slice_get ys limit ≡ None → length ys ≤ limit
+    by_some [] low is = absurd (omega (arith, low))
+    by_some (y ∷ ys) low is = absurd (none-some (get_or (y ∷ ys) limit y) (sym is ∙ slice_get-get_or (y ∷ ys) limit y low))
+
+-- ---- lanes
+
+module _ (blocks : List Block) (lanes : List ℕ) (found : Option ℕ) (are : AreLanes (IsLane blocks) lanes)
+    (is : found ≡ option_and_then (slice_get (objects_in blocks Command)) (slice_get lanes max_lanes)) where
+  over-all : (place : ℕ) → PassesLanes blocks place → found ≡ Some place
+  over-all place (others, are_others, (command, here, there)) =
+      let same : others ≡ lanes = lanes-one (IsLane blocks) others lanes are_others are in
+      is ∙ ap (λ (given : List ℕ). option_and_then (slice_get (objects_in blocks Command)) (slice_get given max_lanes)) (sym same)
+      ∙ ap (option_and_then (slice_get (objects_in blocks Command))) here ∙ there
+
+  over-one : (place : ℕ) → found ≡ Some place → PassesLanes blocks place
+  over-one place some = by_command (slice_get lanes max_lanes) refl (sym is ∙ some)
+    where
+      by_command : (given : Option ℕ) → slice_get lanes max_lanes ≡ given → option_and_then (slice_get (objects_in blocks Command)) given ≡ Some place → PassesLanes blocks place
+      by_command None here there = absurd (none-some place there)
+      by_command (Some command) here there = (lanes, are, (command, here, there))
+
+  lane-over : IsFirst (PassesLanes blocks) found
+  lane-over = only-first (PassesLanes blocks) found over-all over-one
+
+  lane-few : found ≡ None → length lanes ≤ max_lanes
+  lane-few none = few-none lanes max_lanes (by_command (slice_get lanes max_lanes) refl)
+    where
+      by_command : (given : Option ℕ) → slice_get lanes max_lanes ≡ given → slice_get lanes max_lanes ≡ None
+      by_command None here = here
+      by_command (Some command) here = absurd (none-some (get_or (objects_in blocks Command) command 0)
+          (sym none ∙ is ∙ ap (option_and_then (slice_get (objects_in blocks Command))) here ∙ lane-place blocks lanes max_lanes command are here))
+
+-- ---- contacts, time periods and lanes together
+
+lower-none : (one other : Option ℕ) → lower one other ≡ None → (one ≡ None) × (other ≡ None)
+lower-none None other is = (refl, is)
+lower-none (Some a) None is = absurd (none-some a (sym is))
+lower-none (Some a) (Some b) is = absurd (by_order _ is)
+  where
+    by_order : (c : Bool) → cond c (Some a) (Some b) ≡ None → ⊥
+    by_order true same = none-some a (sym same)
+    by_order false same = none-some b (sym same)
+
+module _ (blocks : List Block) (lanes : List ℕ) (contact period lane : Option ℕ) (are : AreLanes (IsLane blocks) lanes)
+    (contact_is : contact ≡ slice_get (objects_in blocks Contact) max_contacts) (period_is : period ≡ slice_get (objects_in blocks TimePeriod) max_periods)
+    (lane_is : lane ≡ option_and_then (slice_get (objects_in blocks Command)) (slice_get lanes max_lanes)) where
+  pub first-other : (found : Option ℕ) → found ≡ lower contact (lower period lane) → IsFirst (PassesOther blocks) found
+  first-other found is = subst (λ (f : Option ℕ). IsFirst (PassesOther blocks) f) (sym is)
+      (either-first (IsOneOver blocks Contact max_contacts) (λ n. IsOneOver blocks TimePeriod max_periods n ⊎ PassesLanes blocks n) contact (lower period lane)
+      (one-over blocks Contact max_contacts contact contact_is)
+      (either-first (IsOneOver blocks TimePeriod max_periods) (PassesLanes blocks) period lane
+      (one-over blocks TimePeriod max_periods period period_is) (lane-over blocks lanes lane are lane_is)))
+
+  few-others : lower contact (lower period lane) ≡ None → AreFewOthers blocks
+  few-others none =
+      let outer = lower-none contact (lower period lane) none in
+      let inner = lower-none period lane outer.1 in
+      record {
+        contacts = few-none (objects_in blocks Contact) max_contacts (sym contact_is ∙ outer.0);
+        lanes = λ others are_others. let same = ap length (lanes-one (IsLane blocks) others lanes are_others are) in
+            let few = lane-few blocks lanes lane are lane_is inner.1 in omega (arith, same, few);
+        periods = few-none (objects_in blocks TimePeriod) max_periods (sym period_is ∙ inner.0);
+      }
+
+  pub few-if_none : (found : Option ℕ) → found ≡ lower contact (lower period lane) → IfNone found (AreFewOthers blocks)
+  few-if_none None is = few-others (sym is)
+  few-if_none (Some place) is = tt
+
+-- ---- all limits together
+
+-- blocks that keep within the limits pass none
+pub over-nowhere : WithinPassesNowhere → (blocks : List Block) → AreWithin blocks → IsNowhere (IsOver blocks)
+over-nowhere law blocks within = λ place over. by_kind place over
+  where
+    by_kind : (place : ℕ) → IsOver blocks place → ⊥
+    by_kind place (inl passes) = law blocks within.0 place passes
+    by_kind place (inr (inl contact)) =
+        let low = slice_get_within (objects_in blocks Contact) max_contacts place contact in let few = within.1.contacts in omega (arith, low, few)
+    by_kind place (inr (inr (inl period))) =
+        let low = slice_get_within (objects_in blocks TimePeriod) max_periods place period in let few = within.1.periods in omega (arith, low, few)
+    by_kind place (inr (inr (inr (lanes, are, (command, here, there))))) =
+        let low = slice_get_within lanes max_lanes command here in let few = within.1.lanes lanes are in omega (arith, low, few)
+
+-- the first with which there are too many objects
+pub passes-first : OnePlacePasses → (blocks : List Block) (place : ℕ) → PassesLimit blocks place → IsFirst (PassesLimit blocks) (Some place)
+passes-first law blocks place passes = (passes, (λ k early said. let same : place ≡ k = law blocks place k passes said in omega (arith, early, same)))
+
+pub over-first : (blocks : List Block) (one other : Option ℕ) (place : ℕ) → IsFirst (PassesLimit blocks) one → IsFirst (PassesOther blocks) other
+    → Some place ≡ lower one other → IsFirst (IsOver blocks) (Some place)
+over-first blocks one other place passes others is =
+    subst (λ (f : Option ℕ). IsFirst (IsOver blocks) f) (sym is) (either-first (PassesLimit blocks) (PassesOther blocks) one other passes others)
+
+pub over-within : (blocks : List Block) (place : ℕ) → IsOver blocks place → place < length blocks
+over-within blocks place (inl passes) = passes.within
+over-within blocks place (inr (inl contact)) = object-within blocks Contact max_contacts place contact
+over-within blocks place (inr (inr (inl period))) = object-within blocks TimePeriod max_periods place period
+over-within blocks place (inr (inr (inr (lanes, are, (command, here, there))))) = object-within blocks Command command place there
+
+pub over-refused : (blocks : List Block) (place : ℕ) (found : LoadFault) → IsFirst (IsOver blocks) (Some place) → IsOfPlace blocks place TooMany found
+    → IsAmong (IsFirstOver blocks) found
+over-refused blocks place found first of =
+    subst (λ (f : LoadFault). IsAmong (IsFirstOver blocks) f) (sym of.is) (refl, line-of_first (IsOver blocks) blocks place of.block of.here first)
+
+-- ---- as the code has them
+
+-- a refusal for too many objects is at the first place that passes their limit
+pub counted-first : OnePlacePasses → (blocks own : List Block) (place line : ℕ) (fault : LimitFault) → own ≡ blocks → fault ≡ counts.TooMany place line
+    → counted.IsRefusal own fault → IsFirst (PassesLimit blocks) (Some place)
+counted-first law blocks own place line fault same is refused =
+    passes-first law blocks place (subst (λ (bs : List Block). PassesLimit bs place) same (refused_passes fault is refused))
+  where
+    refused_passes : (f : LimitFault) → f ≡ counts.TooMany place line → counted.IsRefusal own f → PassesLimit own place
+    refused_passes f equal said = (subst (λ (g : LimitFault). counted.IsRefusal own g) equal said).passes
+
+pub counted-none : (blocks own : List Block) → own ≡ blocks → PassesNowhere own → IsFirst (PassesLimit blocks) None
+counted-none blocks own same none = subst PassesNowhere same none

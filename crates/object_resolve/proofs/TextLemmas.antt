@@ -10,9 +10,9 @@ use Rattle.object_reader.specs.Grammar.{IsObjectText, IsRefused}
 use Rattle.object_resolve.specs.declared.fault.LoadFault.{LoadFault}
 use Rattle.object_resolve.specs.declared.fault.LoadFault.TheVariants as load
 use Rattle.object_resolve.specs.Fault.{IsAmong, of_read}
+use Rattle.object_resolve.specs.Laws.{ResolvedIsUnrefused}
 use Rattle.object_resolve.specs.Resolve.{IsRefusal, IsResolved}
 use Rattle.object_resolve.specs.Text.{IsTextFault}
-use Rattle.object_resolve.proofs.Accepted.{resolved-unrefused}
 
 -- ---- what the reading of a text says of others
 
@@ -58,21 +58,21 @@ blocks-fault text blocks slice (load.Line line fault) same whole refused = absur
 blocks-fault text blocks slice load.TooLarge same whole refused = absurd refused
 
 -- blocks that give a configuration are refused for want of memory alone
-pub blocks-only : (blocks : List Block) (config : Config) (fault : LoadFault) → IsResolved blocks config
+pub blocks-only : ResolvedIsUnrefused → (blocks : List Block) (config : Config) (fault : LoadFault) → IsResolved blocks config
     → IsAmong (IsRefusal blocks) fault → fault ≡ load.NoMemory
-blocks-only blocks config (load.Block line fault) of refused = absurd (resolved-unrefused blocks config line fault of refused)
-blocks-only blocks config load.NoMemory of refused = refl
-blocks-only blocks config (load.Line line fault) of refused = absurd refused
-blocks-only blocks config load.TooLarge of refused = absurd refused
+blocks-only law blocks config (load.Block line fault) of refused = absurd (law blocks config line fault of refused)
+blocks-only law blocks config load.NoMemory of refused = refl
+blocks-only law blocks config (load.Line line fault) of refused = absurd refused
+blocks-only law blocks config load.TooLarge of refused = absurd refused
 
 -- ---- configurations
 
 -- a text whose blocks give a configuration has no fault
-pub text-unrefused : (text : List ℕ) (blocks : List Block) (config : Config) → IsResolved blocks config
+pub text-unrefused : ResolvedIsUnrefused → (text : List ℕ) (blocks : List Block) (config : Config) → IsResolved blocks config
     → ((others : List Block) → IsObjectText text others → others ≡ blocks) → ((fault : ReadFault) → IsRefused text fault → ⊥)
     → (fault : LoadFault) → IsTextFault text fault → ⊥
-text-unrefused text blocks config of same unrefused (load.Line line fault) refused = unrefused (read.AtLine line fault) refused
-text-unrefused text blocks config of same unrefused (load.Block line fault) (others, whole, refused) =
-    resolved-unrefused blocks config line fault of (subst (λ bs. IsRefusal bs line fault) (same others whole) refused)
-text-unrefused text blocks config of same unrefused load.TooLarge refused = unrefused read.TooLarge refused
-text-unrefused text blocks config of same unrefused load.NoMemory refused = refused
+text-unrefused law text blocks config of same unrefused (load.Line line fault) refused = unrefused (read.AtLine line fault) refused
+text-unrefused law text blocks config of same unrefused (load.Block line fault) (others, whole, refused) =
+    law blocks config line fault of (subst (λ bs. IsRefusal bs line fault) (same others whole) refused)
+text-unrefused law text blocks config of same unrefused load.TooLarge refused = unrefused read.TooLarge refused
+text-unrefused law text blocks config of same unrefused load.NoMemory refused = refused

@@ -1,6 +1,9 @@
 pub mod Fault
+pub mod First
+pub mod Names
 pub mod Limits
-pub mod Tables
-pub mod Build
+pub mod Config
 pub mod Resolve
+pub mod Laws
 pub mod Text
+pub mod Tables

@@ -1,53 +1,86 @@
--- The configuration that blocks give, or the block that is refused, and why (chapter
--- "Object Definitions").
-use Rattle.std.specs.Prelude.{ℕ, ◌⊎◌, List, length}
+-- The configuration that blocks give, or the block that is refused, and why (chapters "Object Definitions" and
+-- "Object Inheritance").
+use Rattle.std.specs.Prelude.{◌≡◌, ℕ, ◌⊎◌, Bool, true, false, ◌||◌, List, slice_get}
+use Rattle.std.specs.Option.{option_map_or}
 use Rattle.due_model.specs.declared.config.Config.{Config}
+use Rattle.object_faults.specs.Faults as values
+use Rattle.object_faults.specs.declared.fault.ValueFault.{ValueFault}
+use Rattle.object_groups.specs.Objects.{is_object}
+use Rattle.object_inheritance.specs.Faults as templates
+use Rattle.object_inheritance.specs.declared.templates.TemplateFault.{TemplateFault}
+use Rattle.object_periods.specs.Loops.{IsLoopedAt}
 use Rattle.object_reader.specs.declared.block.Block.{Block}
-use Rattle.object_values.specs.declared.fault.BlockFault.{BlockFault}
-use Rattle.object_values.specs.Blocks.{unread_fault, value_fault}
-use Rattle.object_resolve.specs.Build.{IsConfigOf}
-use Rattle.object_resolve.specs.Fault.{HaveNone, IsFirstOf}
-use Rattle.object_resolve.specs.Limits.{AreWithin, is_lane, lanes_in, limit_fault}
-use Rattle.object_resolve.specs.Tables.{AreNamed, name_fault}
+use Rattle.object_reader.specs.declared.block.BlockKind.TheVariants.{HostEscalation, ServiceEscalation, HostDependency, ServiceDependency}
+use Rattle.object_resolve.specs.Config.{IsConfigOf}
+use Rattle.object_resolve.specs.Fault.{of_template, of_value}
+use Rattle.object_resolve.specs.First.{IsFault, IsNowhere}
+use Rattle.object_resolve.specs.Limits.{AreWithin, IsOver}
+use Rattle.object_resolve.specs.Names.{IsFirstMisnamed, IsMisnamed}
+use Rattle.object_resolve.specs.declared.fault.BlockFault.{BlockFault}
+use Rattle.object_resolve.specs.declared.fault.BlockFault.TheVariants.{NotYet, PeriodLoop, TooMany}
 
--- everything in the blocks is read
-abbrev pub AreRead : List Block → Type 0
-AreRead blocks = HaveNone (λ earlier block. unread_fault block) blocks (length blocks)
+-- ---- what isn't resolved yet
 
--- no block has a fault of its own values
-abbrev pub HaveValues : List Block → Type 0
-HaveValues blocks = HaveNone (λ earlier block. value_fault block) blocks (length blocks)
+-- whether a block is a registered escalation or dependency
+abbrev pub is_later : Block → Bool
+is_later block = is_object HostEscalation block || is_object ServiceEscalation block
+    || is_object HostDependency block || is_object ServiceDependency block
+
+-- the block at the place is one
+abbrev pub IsLater : List Block → ℕ → Type 0
+IsLater blocks place = option_map_or is_later (slice_get blocks place) false ≡ true
+
+-- ---- what is resolved
+
+-- The blocks fit each other, and the configuration is theirs.
+pub record IsFitting (blocks : List Block) (config : Config) : Type 0 where
+  pub named : IsNowhere (IsMisnamed blocks)
+  pub no_loop : IsNowhere (IsLoopedAt blocks)
+  pub within : AreWithin blocks
+  pub gives : IsConfigOf blocks config
 
 -- Resolved: none of the faults stands in the blocks, and the configuration is theirs.
 pub record IsResolved (blocks : List Block) (config : Config) : Type 0 where
-  pub read : AreRead blocks
-  pub values : HaveValues blocks
-  pub names : AreNamed blocks
-  pub limits : AreWithin blocks
-  pub gives : IsConfigOf blocks (lanes_in blocks) config
+  pub templates : templates.AreFree blocks
+  pub values : values.AreFree blocks
+  pub none_later : IsNowhere (IsLater blocks)
+  pub fitting : IsFitting blocks config
 
 -- ---- what is refused, pass by pass
 
--- the first block with something that isn't read yet
-abbrev pub IsUnread : List Block → ℕ → BlockFault → Type 0
-IsUnread blocks = IsFirstOf (λ earlier block. unread_fault block) blocks
+-- the first block with a fault of its templates, and the fault
+abbrev pub IsMistemplated : List Block → ℕ → BlockFault → Type 0
+IsMistemplated blocks line fault = (own : TemplateFault)
+    × templates.IsFirstFault blocks line own × (fault ≡ of_template own)
 
--- the first block with a fault of its own values, and the first of those
+-- the first block with a fault of its values
 abbrev pub IsMisvalued : List Block → ℕ → BlockFault → Type 0
-IsMisvalued blocks = IsFirstOf (λ earlier block. value_fault block) blocks
+IsMisvalued blocks line fault = (own : ValueFault)
+    × values.IsFirstFault blocks line own × (fault ≡ of_value own)
 
--- the first block with a fault of names
-abbrev pub IsMisnamed : List Block → ℕ → BlockFault → Type 0
-IsMisnamed blocks = IsFirstOf (name_fault blocks) blocks
+-- the first block that isn't resolved yet
+abbrev pub IsFirstLater : List Block → ℕ → BlockFault → Type 0
+IsFirstLater blocks = IsFault NotYet (IsLater blocks) blocks
 
--- the first block with which there are too many hosts, contacts or lanes
-abbrev pub IsOver : List Block → ℕ → BlockFault → Type 0
-IsOver blocks = IsFirstOf (limit_fault (is_lane blocks)) blocks
+-- the first block that is a time period on a loop of exclusions
+abbrev pub IsFirstLooped : List Block → ℕ → BlockFault → Type 0
+IsFirstLooped blocks = IsFault PeriodLoop (IsLoopedAt blocks) blocks
 
--- What a refusal says: the first block with a fault in the first pass that finds one. The passes
--- are, each over all blocks in file order: what isn't read yet, the values of each block, names, limits.
+-- the first block that passes a limit
+abbrev pub IsFirstOver : List Block → ℕ → BlockFault → Type 0
+IsFirstOver blocks = IsFault TooMany (IsOver blocks) blocks
+
+-- The first block that doesn't fit the others: by its names, by a loop of exclusions, or by a limit.
+abbrev pub IsUnfit : List Block → ℕ → BlockFault → Type 0
+IsUnfit blocks line fault = IsFirstMisnamed blocks line fault
+    ⊎ (IsNowhere (IsMisnamed blocks) × (IsFirstLooped blocks line fault
+    ⊎ (IsNowhere (IsLoopedAt blocks) × IsFirstOver blocks line fault)))
+
+-- What a refusal says: the first block with a fault in the first pass that finds one. The passes are, each over
+-- all blocks in file order: templates, the values of each block, what isn't resolved yet, names, loops of
+-- exclusions, limits.
 abbrev pub IsRefusal : List Block → ℕ → BlockFault → Type 0
-IsRefusal blocks line fault = IsUnread blocks line fault
-    ⊎ (AreRead blocks × (IsMisvalued blocks line fault
-    ⊎ (HaveValues blocks × (IsMisnamed blocks line fault
-    ⊎ (AreNamed blocks × IsOver blocks line fault)))))
+IsRefusal blocks line fault = IsMistemplated blocks line fault
+    ⊎ (templates.AreFree blocks × (IsMisvalued blocks line fault
+    ⊎ (values.AreFree blocks × (IsFirstLater blocks line fault
+    ⊎ (IsNowhere (IsLater blocks) × IsUnfit blocks line fault)))))

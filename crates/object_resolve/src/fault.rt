@@ -1,15 +1,105 @@
 //! Why object text gives no configuration.
 
-ghost use Rattle.std.specs.Prelude.{◌≡◌, Some};
-ghost use Rattle.object_resolve.specs.Fault.{fault_text, of_read};
+ghost use Rattle.std.specs.Prelude.{◌≡◌, ◌<◌, length, slice_get, Some};
+ghost use Rattle.object_reader.specs.declared.block.Block.{Block};
+ghost use Rattle.object_resolve.specs.Fault.{fault_name, fault_text, IsOfPlace, of_inherited, of_read, of_template};
+ghost use Rattle.object_resolve.specs.Fault.{of_value, of_values};
 ghost use Rattle.object_resolve.specs.declared.fault.LoadFault.TheVariants.{NoMemory};
 
+use object_faults::fault::{PassFault, ValueFault};
+use object_inheritance::templates::{InheritanceFault, TemplateFault};
 use object_reader::block::Block;
 use object_reader::fault::{LineFault, ReadFault};
-use object_values::fault::BlockFault;
 use std::alloc::{AllocError, AllocFailed};
 use std::error::Error;
 use std::fmt;
+
+/// What is wrong with one block of object text.
+#[derive(Clone, Copy, Debug, PartialEq, Eq)]
+pub enum BlockFault {
+    /// The block's `use` has a name that no template of its type has.
+    UnknownTemplate,
+    /// The block itself lies on a loop of templates that use one another.
+    TemplateLoop,
+    /// An earlier block of the same type has the same name: as a template, or as an object. A service has its
+    /// description and a host in common with an earlier one.
+    Doubled,
+    /// The block lacks its name, or has no entry in lists of which it must have one.
+    MissingDirective,
+    /// A number isn't decimal digits of 0 to 1,000,000.
+    BadNumber,
+    /// An option list, or failure criteria, have a word that is no option or state of their kind.
+    BadOption,
+    /// A weekday's line isn't ranges of times, or a line of dates has no word with a colon.
+    BadRange,
+    /// A service is volatile.
+    Volatile,
+    /// A list has an entry that leaves something out: it begins with `!`.
+    Exclusion,
+    /// A time period has a line of dates.
+    DatedException,
+    /// The block names an object that isn't there, or an odd number of entries as the members of a service group.
+    UnknownName,
+    /// The block is a time period from which a chain of exclusions comes back to it.
+    PeriodLoop,
+    /// With this block there are over 65,535 hosts and services, 4,096 contacts, 16 lanes or 4,096 time
+    /// periods.
+    TooMany,
+    /// The block is an escalation or a dependency, which aren't resolved yet.
+    NotYet,
+}
+
+impl BlockFault {
+    /// The name of the fault, as a program prints it.
+    pub fn name(self) -> &'static str
+        ensures { result.now ≡ fault_name self }
+    {
+        match self {
+            BlockFault::UnknownTemplate => "UnknownTemplate",
+            BlockFault::TemplateLoop => "TemplateLoop",
+            BlockFault::Doubled => "Doubled",
+            BlockFault::MissingDirective => "MissingDirective",
+            BlockFault::BadNumber => "BadNumber",
+            BlockFault::BadOption => "BadOption",
+            BlockFault::BadRange => "BadRange",
+            BlockFault::Volatile => "Volatile",
+            BlockFault::Exclusion => "Exclusion",
+            BlockFault::DatedException => "DatedException",
+            BlockFault::UnknownName => "UnknownName",
+            BlockFault::PeriodLoop => "PeriodLoop",
+            BlockFault::TooMany => "TooMany",
+            BlockFault::NotYet => "NotYet",
+        }
+    }
+}
+
+impl From<TemplateFault> for BlockFault {
+    ghost from_gives = { λ fault given. given ≡ of_template fault };
+
+    fn from(fault: TemplateFault) -> BlockFault {
+        match fault {
+            TemplateFault::UnknownTemplate => BlockFault::UnknownTemplate,
+            TemplateFault::TemplateLoop => BlockFault::TemplateLoop,
+            TemplateFault::Doubled => BlockFault::Doubled,
+        }
+    }
+}
+
+impl From<ValueFault> for BlockFault {
+    ghost from_gives = { λ fault given. given ≡ of_value fault };
+
+    fn from(fault: ValueFault) -> BlockFault {
+        match fault {
+            ValueFault::MissingDirective => BlockFault::MissingDirective,
+            ValueFault::BadNumber => BlockFault::BadNumber,
+            ValueFault::BadOption => BlockFault::BadOption,
+            ValueFault::BadRange => BlockFault::BadRange,
+            ValueFault::Volatile => BlockFault::Volatile,
+            ValueFault::Exclusion => BlockFault::Exclusion,
+            ValueFault::DatedException => BlockFault::DatedException,
+        }
+    }
+}
 
 /// Why object text gives no configuration. Nothing is given beside it.
 #[derive(Clone, Copy, Debug, PartialEq, Eq)]
@@ -24,12 +114,13 @@ pub enum LoadFault {
     NoMemory,
 }
 
-/// The fault of a block.
-pub(crate) fn of_block(block: &Block, fault: BlockFault) -> LoadFault
-    ensures { result ≡ LoadFault.Block block.now.line fault }
+/// The fault of the block at the place.
+pub(crate) fn of_place(blocks: &[Block], place: usize, fault: BlockFault) -> LoadFault
+    requires { place < length blocks.now }
+    ensures { IsOfPlace blocks.now place fault result }
 {
     LoadFault::Block {
-        line: block.line,
+        line: blocks[place].line,
         fault,
     }
 }
@@ -64,6 +155,34 @@ impl From<ReadFault> for LoadFault {
             ReadFault::AtLine { line, fault } => LoadFault::Line { line, fault },
             ReadFault::TooLarge => LoadFault::TooLarge,
             ReadFault::NoMemory => LoadFault::NoMemory,
+        }
+    }
+}
+
+impl From<InheritanceFault> for LoadFault {
+    ghost from_gives = { λ fault given. given ≡ of_inherited fault };
+
+    fn from(fault: InheritanceFault) -> LoadFault {
+        match fault {
+            InheritanceFault::AtLine { line, fault } => LoadFault::Block {
+                line,
+                fault: BlockFault::from(fault),
+            },
+            InheritanceFault::NoMemory => LoadFault::NoMemory,
+        }
+    }
+}
+
+impl From<PassFault> for LoadFault {
+    ghost from_gives = { λ fault given. given ≡ of_values fault };
+
+    fn from(fault: PassFault) -> LoadFault {
+        match fault {
+            PassFault::AtLine { line, fault } => LoadFault::Block {
+                line,
+                fault: BlockFault::from(fault),
+            },
+            PassFault::NoMemory => LoadFault::NoMemory,
         }
     }
 }

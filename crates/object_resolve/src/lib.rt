@@ -1,8 +1,8 @@
 //! From the bytes of object text to the configuration that they mean, or the first fault of the text
-//! (chapter "Object Definitions").
+//! (chapters "Object Definitions" and "Object Inheritance").
 #![tactic(auto)]
 
-mod build;
+mod config;
 mod fault;
 pub mod laws;
 mod limits;
@@ -11,6 +11,5 @@ mod resolve;
 mod tables;
 mod text;
 
-pub use fault::LoadFault;
-pub use object_values::fault::BlockFault;
+pub use fault::{BlockFault, LoadFault};
 pub use text::load;

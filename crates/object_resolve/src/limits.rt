@@ -1,123 +1,124 @@
-//! The commands that are lanes, and the limits of a configuration.
+//! How many objects, contacts, lanes and time periods blocks may give.
 
-ghost use Rattle.std.specs.Prelude.{◌≡◌, ℕ, List, ◌||◌, ◌+◌, ◌≤◌, ◌<◌, length};
-ghost use Rattle.std.specs.Prelude.{filter, is_some, IfErr, IfOk, IfSome, OnOk, if◌then◌else◌};
-ghost use Rattle.std.specs.List.{list_any};
-ghost use Rattle.std.specs.Str.{bytes_eq};
-ghost use Rattle.object_values.specs.Blocks.{is_contact, is_host};
-ghost use Rattle.object_resolve.specs.Fault.{IsAmong, IsAt, IsFirstOf};
-ghost use Rattle.object_resolve.specs.Limits.{AreFew, AreUsed, AreWithin, IsWithinLimits, is_over, is_used};
-ghost use Rattle.object_resolve.specs.Limits.{limit_fault, uses};
-ghost use Rattle.object_resolve.specs.Resolve.{IsOver};
+ghost use Rattle.std.specs.Prelude.{◌≡◌, slice_get, IfErr, IfNone, IfOk, OnOk, Some};
+ghost use Rattle.std.specs.Option.{option_and_then};
+ghost use Rattle.due_model.specs.Limits.{max_lanes};
+ghost use Rattle.object_contacts.specs.Lanes.{AreLanes, IsLane};
+ghost use Rattle.object_groups.specs.Objects.{objects_in};
+ghost use Rattle.object_names.specs.First.{IsFirst, lower};
+ghost use Rattle.object_resolve.specs.Fault.{IsAmong};
+ghost use Rattle.object_resolve.specs.Limits.{AreCounts, AreFewOthers, AreWithin, PassesOther};
+ghost use Rattle.object_resolve.specs.Resolve.{IsFirstOver};
+ghost use Rattle.object_resolve.specs.Tables.{AreTables};
+ghost use Rattle.object_services.specs.Limits as counted;
 
-use crate::fault::{LoadFault, of_block};
-use crate::names::Names;
-use due_model::limits::{MAX_CONTACTS, MAX_LANES, MAX_OBJECTS};
-use object_reader::block::{Block, BlockKind};
-use object_values::blocks::{command_entries, is_of, name_of};
-use object_values::fault::BlockFault;
-use object_values::values::command_name;
+use crate::fault::{BlockFault, LoadFault, of_place};
+use crate::tables::{Tables, place_of};
+use due_model::limits::{MAX_CONTACTS, MAX_LANES, MAX_PERIODS};
+use object_contacts::lanes::lanes_of;
+use object_groups::objects::Objects;
+use object_inheritance::templates::Templates;
+use object_names::first::lower;
+use object_names::named::{NamedKind, NamedObjects};
+use object_reader::block::Block;
+use object_services::laws::one_place_passes;
+use object_services::services::{LimitFault, ServiceHosts};
 use std::alloc::{AllocError, Global};
 
-/// The names of the commands that some contact uses.
-fn used_commands(alloc: Global, blocks: &[Block]) -> Result<Names, AllocError>
-    ensures { IfOk result (λ used. AreUsed used blocks.now) }
+/// What is known of blocks that keep within the limits.
+#[derive(Drop)]
+pub(crate) struct Counts {
+    /// The hosts of each service block.
+    pub(crate) hosts: ServiceHosts,
+    /// The commands of the lanes, by their numbers.
+    pub(crate) lanes: Vec<usize>,
+}
+
+/// The place of the command of the first lane that is one too many.
+fn lane_over(commands: &Objects, lanes: &[usize]) -> Option<usize>
+    ensures { result ≡ option_and_then (slice_get (objects_in commands.now.blocks commands.now.kind))
+        (slice_get lanes.now max_lanes) }
 {
-    let mut used = Names::new(alloc);
-    for block in blocks {
-        if !is_of(BlockKind::Contact, block) {
-            continue;
+    match lanes.get(MAX_LANES) {
+        Some(command) => place_of(commands, *command),
+        None => None,
+    }
+}
+
+/// The place of the first block with which there are too many contacts, time periods or lanes.
+fn first_other(objects: &NamedObjects, lanes: &[usize]) -> Option<usize>
+    requires { AreLanes (IsLane objects.now) lanes.now }
+    ensures first { IsFirst (PassesOther objects.now) result }
+    ensures few { IfNone result (AreFewOthers objects.now) }
+{
+    let contact = place_of(objects.objects(NamedKind::Contact), MAX_CONTACTS);
+    let period = place_of(objects.objects(NamedKind::TimePeriod), MAX_PERIODS);
+    let lane = lane_over(objects.objects(NamedKind::Command), lanes);
+    lower(contact, lower(period, lane))
+}
+
+/// The commands of the lanes, by their numbers.
+fn lanes_in<'a>(
+    alloc: Global,
+    templates: &Templates<'a>,
+    objects: &NamedObjects<'a>,
+) -> Result<Vec<usize>, AllocError>
+    requires { objects.now ≡ templates.now }
+    ensures { IfOk result (λ lanes. AreLanes (IsLane templates.now) lanes.items) }
+{
+    let contacts = objects.objects(NamedKind::Contact);
+    let commands = objects.objects(NamedKind::Command);
+    lanes_of(alloc, templates, contacts, commands)
+}
+
+/// The lower of a place and another that may be there.
+fn least(place: usize, other: Option<usize>) -> usize
+    ensures { Some result ≡ lower (Some place) other }
+{
+    match other {
+        Some(other) if other < place => other,
+        _ => place,
+    }
+}
+
+/// The fault of the first block that passes a limit, where the objects pass theirs: `other` is the first place
+/// that passes another.
+fn over(blocks: &[Block], fault: LimitFault, other: Option<usize>) -> LoadFault
+    requires refused { counted.IsRefusal blocks.now fault }
+    requires other { IsFirst (PassesOther blocks.now) other }
+    ensures { IsAmong (IsFirstOver blocks.now) result }
+{
+    one_place_passes();
+    match fault {
+        LimitFault::NoMemory => LoadFault::NoMemory,
+        LimitFault::TooMany { place, line: _ } => {
+            of_place(blocks, least(place, other), BlockFault::TooMany)
         }
-        add_commands(alloc, &mut used, block)?;
     }
-    Ok(used)
 }
 
-/// Adds the names of the commands that a contact uses.
-fn add_commands(alloc: Global, used: &mut Names, block: &Block) -> Result<(), AllocError>
-    ensures { OnOk result ((name : List ℕ)
-        → list_any (bytes_eq name) used.new
-        ≡ (list_any (bytes_eq name) used.old || uses name block.now)) }
+/// Finds the first block that passes a limit. Where none does, gives the hosts of each service block, and the
+/// lanes.
+pub(crate) fn check_limits<'a>(
+    alloc: Global,
+    templates: &Templates<'a>,
+    tables: &mut Tables<'a>,
+) -> Result<Counts, LoadFault>
+    requires { AreTables templates.now tables.old }
+    ensures same { tables.new ≡ tables.old }
+    ensures within { OnOk result (AreWithin templates.now) }
+    ensures counts { IfOk result (AreCounts templates.now) }
+    ensures fault { IfErr result (IsAmong (IsFirstOver templates.now)) }
 {
-    let entries = command_entries(alloc, block.directives.as_slice())?;
-    for entry in entries.as_slice() {
-        used.add(alloc, command_name(*entry))?;
+    let lanes = lanes_in(alloc, templates, &tables.objects)?;
+    let other = first_other(&tables.objects, lanes.as_slice());
+    let hosts = ServiceHosts::new(alloc, &tables.services, &mut tables.hosts);
+    let blocks = templates.blocks();
+    match hosts {
+        Err(fault) => Err(over(blocks, fault, other)),
+        Ok(hosts) => match other {
+            Some(place) => Err(of_place(blocks, place, BlockFault::TooMany)),
+            None => Ok(Counts { hosts, lanes }),
+        },
     }
-    Ok(())
-}
-
-/// Whether a block is a command that some contact uses.
-pub(crate) fn is_lane(block: &Block, used: &Names) -> bool
-    ensures { result ≡ is_used used.now block.now }
-{
-    is_of(BlockKind::Command, block) && used.has(name_of(block))
-}
-
-/// How many of each there are.
-#[derive(Clone, Copy)]
-struct Counts {
-    hosts: usize,
-    contacts: usize,
-    lanes: usize,
-}
-
-/// The counts with one more block.
-fn count_block(counts: Counts, block: &Block, used: &Names) -> Counts
-    requires { AreFew counts }
-    ensures hosts { result.hosts ≡ counts.hosts + (if is_host block.now then 1 else 0) }
-    ensures contacts { result.contacts ≡ counts.contacts + (if is_contact block.now then 1 else 0) }
-    ensures lanes { result.lanes ≡ counts.lanes + (if is_used used.now block.now then 1 else 0) }
-{
-    let mut more = counts;
-    if is_of(BlockKind::Host, block) {
-        more.hosts += 1;
-    }
-    if is_of(BlockKind::Contact, block) {
-        more.contacts += 1;
-    }
-    if is_lane(block, used) {
-        more.lanes += 1;
-    }
-    more
-}
-
-/// Whether there are too many hosts, contacts or lanes.
-fn is_over(counts: Counts) -> bool
-    ensures { result ≡ is_over counts.hosts counts.contacts counts.lanes }
-{
-    counts.hosts > MAX_OBJECTS || counts.contacts > MAX_CONTACTS || counts.lanes > MAX_LANES
-}
-
-/// Finds the first block with which there are too many hosts, contacts or lanes, where `used` are the names of
-/// the commands that are lanes.
-fn check_counts(blocks: &[Block], used: &Names) -> Result<(), LoadFault>
-    ensures limits { OnOk result (IsWithinLimits (is_used used.now) blocks.now) }
-    ensures fault { IfErr result (λ fault.
-        IsAt (IsFirstOf (limit_fault (is_used used.now)) blocks.now) fault) }
-{
-    let mut counts = Counts {
-        hosts: 0,
-        contacts: 0,
-        lanes: 0,
-    };
-    for block in blocks {
-        let more = count_block(counts, block, used);
-        if is_over(more) {
-            return Err(of_block(block, BlockFault::TooMany));
-        }
-        counts = more;
-    }
-    Ok(())
-}
-
-/// The names of the commands that are lanes, or the first block with which there are too many hosts, contacts
-/// or lanes.
-pub(crate) fn check_limits(alloc: Global, blocks: &[Block]) -> Result<Names, LoadFault>
-    ensures used { IfOk result (λ used. AreUsed used blocks.now) }
-    ensures limits { OnOk result (AreWithin blocks.now) }
-    ensures fault { IfErr result (λ fault. IsAmong (IsOver blocks.now) fault) }
-{
-    let used = used_commands(alloc, blocks)?;
-    check_counts(blocks, &used)?;
-    Ok(used)
 }

@@ -1,68 +1,80 @@
-//! Names, numbered in the order in which they are first met.
+//! Names that are given twice, and names that nothing has.
 
-ghost use Rattle.std.specs.Prelude.{◌≡◌, ◌++◌, ◌∷◌, ◌<◌, [], not, length, position};
-ghost use Rattle.std.specs.Prelude.{IfOk, IfSome, OnOk, if◌then◌else◌};
-ghost use Rattle.std.specs.List.{list_any};
-ghost use Rattle.std.specs.Str.{bytes_eq};
+ghost use Rattle.std.specs.Prelude.{◌≡◌, IfErr, IfOk, OnOk};
+ghost use Rattle.object_names.specs.First.{IsFirst};
+ghost use Rattle.object_resolve.specs.Fault.{IsAmong};
+ghost use Rattle.object_resolve.specs.First.{IsNowhere};
+ghost use Rattle.object_resolve.specs.Names.{GivesDoubledService, IsDoubledAt, IsFirstMisnamed, IsMisnamed};
+ghost use Rattle.object_resolve.specs.Names.{IsUnknownAt};
+ghost use Rattle.object_resolve.specs.Tables.{AreTables};
 
-use indexmap::IndexSet;
+use crate::fault::{BlockFault, LoadFault, of_place};
+use crate::tables::{Tables, place_of};
+use object_inheritance::templates::Templates;
+use object_names::doubled::first_doubled as first_doubled_object;
+use object_names::first::lower;
+use object_names::unknown::first_unknown as first_unknown_name;
+use object_pairs::unknown::first_unknown_member;
+use object_services::doubled::first_doubled as first_doubled_number;
 use std::alloc::{AllocError, Global};
-use std::marker::Model;
 
-/// Names, each once, numbered from 0 in the order in which they were added. Contracts see the list of them.
-#[derive(Drop)]
-pub(crate) struct Names {
-    set: IndexSet<Vec<u8>>,
+/// The place of the first service block that gives a service which one before it gives.
+fn first_doubled_service(alloc: Global, tables: &mut Tables) -> Result<Option<usize>, AllocError>
+    requires { AreTables tables.old.objects tables.old }
+    ensures same { tables.new ≡ tables.old }
+    ensures first { IfOk result (IsFirst (GivesDoubledService tables.old.objects)) }
+{
+    let number = first_doubled_number(alloc, &tables.services, &mut tables.hosts)?;
+    let Some(number) = number else {
+        return Ok(None);
+    };
+    Ok(place_of(tables.services.objects(), number))
 }
 
-impl Model for Names {
-    ghost use Rattle.std.specs.Prelude.{ℕ, List, map};
-
-    ghost Value = { List (List ℕ) };
-
-    ghost view = { λ s. map (λ name. name.items) s.set.keys };
+/// The place of the first block that gives an object which one before it gives.
+fn first_doubled(alloc: Global, tables: &mut Tables) -> Result<Option<usize>, AllocError>
+    requires { AreTables tables.old.objects tables.old }
+    ensures same { tables.new ≡ tables.old }
+    ensures first { IfOk result (IsFirst (IsDoubledAt tables.old.objects)) }
+{
+    let service = first_doubled_service(alloc, tables)?;
+    Ok(lower(first_doubled_object(&tables.objects), service))
 }
 
-impl Names {
-    /// No name.
-    pub(crate) fn new(alloc: Global) -> Self
-        ensures { result ≡ [] }
-    {
-        Names {
-            set: IndexSet::new(alloc),
-        }
-    }
+/// The place of the first block that names something that isn't there.
+fn first_unknown<'a>(
+    alloc: Global,
+    templates: &Templates<'a>,
+    tables: &mut Tables<'a>,
+) -> Result<Option<usize>, AllocError>
+    requires { AreTables templates.now tables.old }
+    ensures same { tables.new ≡ tables.old }
+    ensures first { IfOk result (IsFirst (IsUnknownAt templates.now)) }
+{
+    let name = first_unknown_name(alloc, templates, &tables.objects)?;
+    let member = first_unknown_member(alloc, templates, &tables.services, &mut tables.hosts)?;
+    Ok(lower(name, member))
+}
 
-    /// How many names there are.
-    pub(crate) fn len(&self) -> usize
-        ensures { result ≡ length self.now }
-    {
-        self.set.len()
+/// Finds the first block with a fault of names. Of one block's two, that it names something unknown counts.
+pub(crate) fn check_names<'a>(
+    alloc: Global,
+    templates: &Templates<'a>,
+    tables: &mut Tables<'a>,
+) -> Result<(), LoadFault>
+    requires { AreTables templates.now tables.old }
+    ensures same { tables.new ≡ tables.old }
+    ensures named { OnOk result (IsNowhere (IsMisnamed templates.now)) }
+    ensures fault { IfErr result (IsAmong (IsFirstMisnamed templates.now)) }
+{
+    let doubled = first_doubled(alloc, tables)?;
+    let unknown = first_unknown(alloc, templates, tables)?;
+    let Some(place) = lower(doubled, unknown) else {
+        return Ok(());
+    };
+    let blocks = templates.blocks();
+    if unknown == Some(place) {
+        return Err(of_place(blocks, place, BlockFault::UnknownName));
     }
-
-    /// Adds a name where it isn't there, and says whether it added it.
-    pub(crate) fn add(&mut self, alloc: Global, name: &[u8]) -> Result<bool, AllocError>
-        ensures added { IfOk result (λ added. added ≡ not (list_any (bytes_eq name.now) self.old)) }
-        ensures names { OnOk result (self.new
-            ≡ (if list_any (bytes_eq name.now) self.old then self.old
-            else self.old ++ name.now ∷ [])) }
-    {
-        let added = self.set.insert(Vec::from_slice(alloc, name)?)?;
-        Ok(added)
-    }
-
-    /// The number of a name.
-    pub(crate) fn find(&self, name: &[u8]) -> Option<usize>
-        ensures place { result ≡ position (bytes_eq name.now) self.now }
-        ensures within { IfSome result (λ number. number < length self.now) }
-    {
-        self.set.get_index_of(name)
-    }
-
-    /// Whether a name is there.
-    pub(crate) fn has(&self, name: &[u8]) -> bool
-        ensures { result ≡ list_any (bytes_eq name.now) self.now }
-    {
-        self.set.contains(name)
-    }
+    Err(of_place(blocks, place, BlockFault::Doubled))
 }

@@ -1,112 +1,138 @@
-//! The configuration that blocks mean, or the first block with a fault (chapter "Object Definitions").
+//! The configuration that blocks mean, or the first block with a fault (chapters "Object Definitions" and "Object
+//! Inheritance").
 
-ghost use Rattle.std.specs.Prelude.{◌≡◌, IfErr, IfOk, OnOk};
-ghost use Rattle.object_values.specs.Blocks.{contact_names};
-ghost use Rattle.object_resolve.specs.Build.{IsConfigOf};
-ghost use Rattle.object_resolve.specs.Fault.{IsAmong, IsAt};
-ghost use Rattle.object_resolve.specs.Limits.{AreUsed, AreWithin, lanes_in};
-ghost use Rattle.object_resolve.specs.Tables.{AreNamed};
-ghost use Rattle.object_resolve.specs.Resolve.{AreRead, HaveValues, IsMisvalued, IsRefusal, IsResolved};
-ghost use Rattle.object_resolve.specs.Resolve.{IsUnread};
+ghost use Rattle.std.specs.Prelude.{◌≡◌, ◌⊎◌, IfErr, IfOk, OnOk};
+ghost use Rattle.object_faults.specs.Faults as values;
+ghost use Rattle.object_inheritance.specs.Faults as templates;
+ghost use Rattle.object_periods.specs.Loops.{IsLoopedAt};
+ghost use Rattle.object_resolve.specs.Fault.{IsAmong};
+ghost use Rattle.object_resolve.specs.First.{IsNowhere};
+ghost use Rattle.object_resolve.specs.Limits.{AreCounts, AreWithin};
+ghost use Rattle.object_resolve.specs.Names.{IsMisnamed};
+ghost use Rattle.object_resolve.specs.Resolve.{IsFirstLater, IsFirstLooped, IsLater, IsMistemplated, IsMisvalued};
+ghost use Rattle.object_resolve.specs.Resolve.{IsFitting, IsRefusal, IsResolved, IsUnfit, is_later};
+ghost use Rattle.object_resolve.specs.Tables.{AreTables};
 
-use crate::build::{contacts_of, hosts_of, lanes_of};
-use crate::fault::{LoadFault, of_block};
-use crate::limits::check_limits;
-use crate::names::Names;
-use crate::tables::check_names;
+use crate::config::config_of;
+use crate::fault::{BlockFault, LoadFault, of_place};
+use crate::limits::{Counts, check_limits};
+use crate::names::check_names;
+use crate::tables::Tables;
 use due_model::config::Config;
-use due_model::objects::Objects;
-use due_model::sequence::Sequence;
-use object_reader::block::Block;
-use object_values::blocks::{has_later_parts, value_fault};
-use object_values::fault::BlockFault;
-use std::alloc::{AllocError, Global};
+use object_faults::check::check;
+use object_groups::objects::is_object;
+use object_inheritance::templates::Templates;
+use object_names::named::NamedKind;
+use object_periods::loops::loop_of;
+use object_reader::block::{Block, BlockKind};
+use std::alloc::Global;
 
-/// The configuration that the blocks give, or the first fault: first of types that aren't resolved yet,
-/// directives and entries that aren't read yet, then of the values of each block, then of names, then of
-/// limits; each over all blocks in file order. Blocks of `hostextinfo` and `serviceextinfo` say nothing of
-/// notifications and are passed over. Out of memory says nothing of the blocks. The work grows with the
-/// bytes of the blocks.
+/// The templates of the blocks, where neither their templates nor their values have a fault.
+fn check_values(alloc: Global, blocks: &[Block]) -> Result<Templates, LoadFault>
+    ensures blocks { IfOk result (λ made. made ≡ blocks.now) }
+    ensures templates { OnOk result (templates.AreFree blocks.now) }
+    ensures values { OnOk result (values.AreFree blocks.now) }
+    ensures fault { IfErr result (IsAmong (λ line fault. IsMistemplated blocks.now line fault
+        ⊎ (templates.AreFree blocks.now × IsMisvalued blocks.now line fault))) }
+{
+    let templates = Templates::new(alloc, blocks)?;
+    check(alloc, &templates)?;
+    Ok(templates)
+}
+
+/// Whether a block is a registered escalation or dependency.
+fn is_later(block: &Block) -> bool
+    ensures { result ≡ is_later block.now }
+{
+    is_object(BlockKind::HostEscalation, block)
+        || is_object(BlockKind::ServiceEscalation, block)
+        || is_object(BlockKind::HostDependency, block)
+        || is_object(BlockKind::ServiceDependency, block)
+}
+
+/// Finds the first block that isn't resolved yet.
+fn check_later(blocks: &[Block]) -> Result<(), LoadFault>
+    ensures none { OnOk result (IsNowhere (IsLater blocks.now)) }
+    ensures fault { IfErr result (IsAmong (IsFirstLater blocks.now)) }
+{
+    for (place, block) in blocks.iter().enumerate() {
+        if is_later(block) {
+            return Err(of_place(blocks, place, BlockFault::NotYet));
+        }
+    }
+    Ok(())
+}
+
+/// Finds the first block that is a time period on a loop of exclusions.
+fn check_loops<'a>(
+    alloc: Global,
+    templates: &Templates<'a>,
+    tables: &Tables<'a>,
+) -> Result<(), LoadFault>
+    requires { AreTables templates.now tables.now }
+    ensures none { OnOk result (IsNowhere (IsLoopedAt templates.now)) }
+    ensures fault { IfErr result (IsAmong (IsFirstLooped templates.now)) }
+{
+    let periods = tables.objects.objects(NamedKind::TimePeriod);
+    match loop_of(alloc, templates, periods)? {
+        Some(place) => Err(of_place(templates.blocks(), place, BlockFault::PeriodLoop)),
+        None => Ok(()),
+    }
+}
+
+/// Finds the first block that doesn't fit the others. Where all do, gives the hosts of each service block, and the
+/// lanes.
+fn check_all<'a>(
+    alloc: Global,
+    templates: &Templates<'a>,
+    tables: &mut Tables<'a>,
+) -> Result<Counts, LoadFault>
+    requires { AreTables templates.now tables.old }
+    ensures same { tables.new ≡ tables.old }
+    ensures named { OnOk result (IsNowhere (IsMisnamed templates.now)) }
+    ensures no_loop { OnOk result (IsNowhere (IsLoopedAt templates.now)) }
+    ensures within { OnOk result (AreWithin templates.now) }
+    ensures counts { IfOk result (AreCounts templates.now) }
+    ensures fault { IfErr result (IsAmong (IsUnfit templates.now)) }
+{
+    check_names(alloc, templates, tables)?;
+    check_loops(alloc, templates, tables)?;
+    check_limits(alloc, templates, tables)
+}
+
+/// The configuration of blocks that have no fault by themselves, or the first that doesn't fit the others, where
+/// `tables` are theirs.
+fn resolve_tables<'a>(
+    alloc: Global,
+    templates: &Templates<'a>,
+    tables: &mut Tables<'a>,
+) -> Result<Config, LoadFault>
+    requires { AreTables templates.now tables.old }
+    ensures config { IfOk result (IsFitting templates.now) }
+    ensures fault { IfErr result (IsAmong (IsUnfit templates.now)) }
+{
+    let counts = check_all(alloc, templates, tables)?;
+    Ok(config_of(alloc, templates, tables, &counts)?)
+}
+
+/// The same, where the tables are yet to be made.
+fn resolve_all(alloc: Global, templates: &Templates) -> Result<Config, LoadFault>
+    ensures config { IfOk result (IsFitting templates.now) }
+    ensures fault { IfErr result (IsAmong (IsUnfit templates.now)) }
+{
+    let mut tables = Tables::new(alloc, templates)?;
+    resolve_tables(alloc, templates, &mut tables)
+}
+
+/// The configuration that the blocks give, or the first fault: first of templates, then of the values of each
+/// block, then of types that aren't resolved yet, of names, of loops of exclusions and of limits; each over all
+/// blocks in file order. Out of memory says nothing of the blocks. The work grows with the bytes of the blocks, what
+/// they inherit, and the services and contacts that they give.
 pub(crate) fn resolve(alloc: Global, blocks: &[Block]) -> Result<Config, LoadFault>
-    ensures resolved { IfOk result (λ config. IsResolved blocks.now config) }
-    ensures refusal { IfErr result (λ fault. IsAmong (IsRefusal blocks.now) fault) }
+    ensures resolved { IfOk result (IsResolved blocks.now) }
+    ensures refusal { IfErr result (IsAmong (IsRefusal blocks.now)) }
 {
-    let known = check(alloc, blocks)?;
-    Ok(config_of(alloc, blocks, &known)?)
-}
-
-/// The names that the configuration of blocks is made with.
-#[derive(Drop)]
-struct Known {
-    /// The names of the contacts, in file order.
-    contacts: Names,
-    /// The names of the commands that some contact uses.
-    used: Names,
-}
-
-/// Finds the first fault of the blocks, pass by pass. Where there is none, gives the names that their
-/// configuration is made with.
-fn check(alloc: Global, blocks: &[Block]) -> Result<Known, LoadFault>
-    ensures read { OnOk result (AreRead blocks.now) }
-    ensures values { OnOk result (HaveValues blocks.now) }
-    ensures names { OnOk result (AreNamed blocks.now) }
-    ensures limits { OnOk result (AreWithin blocks.now) }
-    ensures contacts { IfOk result (λ known. known.contacts ≡ contact_names blocks.now) }
-    ensures used { IfOk result (λ known. AreUsed known.used blocks.now) }
-    ensures refusal { IfErr result (λ fault. IsAmong (IsRefusal blocks.now) fault) }
-{
-    check_read(alloc, blocks)?;
-    check_values(blocks)?;
-    let contacts = check_names(alloc, blocks)?;
-    let used = check_limits(alloc, blocks)?;
-    Ok(Known { contacts, used })
-}
-
-/// Finds the first block with a directive or an entry of a list that isn't read yet.
-fn check_read(alloc: Global, blocks: &[Block]) -> Result<(), LoadFault>
-    ensures read { OnOk result (AreRead blocks.now) }
-    ensures fault { IfErr result (λ fault. IsAmong (IsUnread blocks.now) fault) }
-{
-    for block in blocks {
-        let later = has_later_parts(alloc, block)?;
-        if later {
-            return Err(of_block(block, BlockFault::NotYet));
-        }
-    }
-    Ok(())
-}
-
-/// Finds the first block that lacks its name or whose interval isn't a number.
-fn check_values(blocks: &[Block]) -> Result<(), LoadFault>
-    ensures values { OnOk result (HaveValues blocks.now) }
-    ensures fault { IfErr result (λ fault. IsAt (IsMisvalued blocks.now) fault) }
-{
-    for block in blocks {
-        match value_fault(block) {
-            None => {}
-            Some(fault) => return Err(of_block(block, fault)),
-        }
-    }
-    Ok(())
-}
-
-/// The configuration of blocks that have no fault.
-fn config_of(alloc: Global, blocks: &[Block], known: &Known) -> Result<Config, AllocError>
-    requires values { HaveValues blocks.now }
-    requires names { known.now.contacts ≡ contact_names blocks.now }
-    requires used { AreUsed known.now.used blocks.now }
-    requires limits { AreWithin blocks.now }
-    ensures { IfOk result (λ config. IsConfigOf blocks.now (lanes_in blocks.now) config) }
-{
-    let lanes = lanes_of(alloc, blocks, &known.used)?;
-    let people = contacts_of(alloc, blocks, lanes.as_slice())?;
-    let hosts = hosts_of(alloc, blocks, &known.contacts)?;
-    Ok(Config {
-        objects: Objects::new(alloc, hosts)?,
-        contacts: Sequence::new(people),
-        lanes: Sequence::new(lanes),
-        periods: Sequence::new(Vec::new(alloc)),
-        escalations: Sequence::new(Vec::new(alloc)),
-        dependencies: Sequence::new(Vec::new(alloc)),
-    })
+    let templates = check_values(alloc, blocks)?;
+    check_later(blocks)?;
+    resolve_all(alloc, &templates)
 }

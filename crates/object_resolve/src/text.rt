@@ -8,16 +8,18 @@ ghost use Rattle.object_resolve.specs.declared.fault.LoadFault.{LoadFault};
 ghost use Rattle.object_resolve.specs.declared.fault.LoadFault.TheVariants.{NoMemory};
 
 use crate::fault::LoadFault;
+use crate::laws::{accept_resolved, resolve_no_refused};
 use crate::resolve::resolve;
 use due_model::config::Config;
 use object_reader::reading::read;
 use std::alloc::Global;
 
-/// The configuration that object text gives, or the fault of the text: that of its first line with a fault,
-/// and where it is blocks, that of the first block with a fault: first of types that aren't resolved
-/// yet, directives and entries that aren't read yet, then of the values of each block, then of names, then
-/// of limits, each over all blocks in file order. Blocks of `hostextinfo` and `serviceextinfo` say nothing
-/// of notifications and are passed over. The work and the memory grow with the bytes.
+/// The configuration that object text gives, or the fault of the text: that of its first line with a fault, and
+/// where it is blocks, that of the first block with a fault: first of templates, then of the values of each
+/// block, then of types that aren't resolved yet (escalations and dependencies), of names, of loops of exclusions and
+/// of limits, each over all blocks in file order. Blocks of `hostextinfo` and `serviceextinfo` say nothing of
+/// notifications and are passed over. The work and the memory grow with the bytes, what blocks inherit, and the
+/// services and contacts that they give.
 pub fn load(alloc: Global, text: &[u8]) -> Result<Config, LoadFault>
     // What it gives is the text's configuration, which is accepted.
     ensures config { IfOk result (λ config. IsTextOf config text.now) }
@@ -30,6 +32,8 @@ pub fn load(alloc: Global, text: &[u8]) -> Result<Config, LoadFault>
     // A text with a fault gives no configuration.
     ensures refused { (fault : LoadFault) → IsTextFault text.now fault → OnOk result ⊥ }
 {
+    accept_resolved();
+    resolve_no_refused();
     let blocks = read(alloc, text)?;
     Ok(resolve(alloc, blocks.as_slice())?)
 }

@@ -1,3 +1,3 @@
-mod TableLemmas
-mod OwnLemmas
-mod ObjectLemmas
+pub mod TableLemmas
+pub mod OwnLemmas
+pub mod ObjectLemmas

@@ -2,4 +2,6 @@ use Rattle.object_resolve.proofs.Accepted.{resolved-accepted}
 use Rattle.object_resolve.proofs.laws.accept_resolved.Goals as goal
 
 pub returns : goal.returns
-returns x blocks config of = resolved-accepted blocks config of
+returns c = λ blocks config of.
+    resolved-accepted c.listed_are_objects.ensures c.count_is_the_sum.ensures c.periods_fit.ensures c.no_loop_is_left.ensures
+    blocks config of.fitting.gives of.fitting.within of.fitting.no_loop

@@ -1,5 +1,5 @@
-use Rattle.object_resolve.proofs.Accepted.{resolved-unrefused}
+use Rattle.object_resolve.proofs.Refusals.{resolved-unrefused}
 use Rattle.object_resolve.proofs.laws.resolve_no_refused.Goals as goal
 
 pub returns : goal.returns
-returns x blocks config line fault of refused = resolved-unrefused blocks config line fault of refused
+returns c = λ blocks config line fault of refused. resolved-unrefused c.one_place_passes.ensures.within blocks config line fault of refused

@@ -1,20 +1,27 @@
-use Rattle.std.proofs.lemmas.Result.{err_from_is_err_and}
-use Rattle.object_resolve.specs.Limits.{is_lane, is_used, limit_fault}
-use Rattle.object_resolve.proofs.FaultLemmas.{at-among, first-same}
-use Rattle.object_resolve.proofs.LimitLemmas.{limit-same, used-lanes, within-same}
+use Rattle.std.proofs.Common.{refl, sym, subst}
+use Rattle.std.specs.Prelude.{◌<◌, List, length, None, Some}
+use Rattle.object_names.specs.First.{IsFirst}
+use Rattle.object_reader.specs.declared.block.Block.{Block}
+use Rattle.object_resolve.specs.Fault.{IsOfPlace}
+use Rattle.object_resolve.specs.Limits.{PassesOther}
+use Rattle.object_resolve.specs.declared.fault.BlockFault.TheVariants.{TooMany}
+use Rattle.object_resolve.proofs.LimitLemmas.{counted-none, over-first, over-refused, over-within}
 use Rattle.object_resolve.proofs.limits.check_limits.Goals as goal
 
-pub returns-clause-limits : goal.returns-clause-limits
-returns-clause-limits c =
-    let blocks = c.args.blocks.now in
-    let used = c.in_ok-used.used in
-    within-same (is_used used) (is_lane blocks) (used-lanes used blocks c.in_ok-used.ensures) blocks c.in_ok-check_counts.ensures.limits
+pub of_place-requires : goal.of_place-requires
+of_place-requires c =
+    subst (λ (bs : List Block). c.in-Some.place < length bs) (sym c.blocks-blocks.ensures.value)
+    (over-within c.args.templates.now c.in-Some.place
+    (over-first c.args.templates.now None (Some c.in-Some.place) c.in-Some.place
+    (counted-none c.args.templates.now c.args.tables.now.services c.requires.services_are c.in-Ok.ensures.none)
+    (subst (λ (bs : List Block). IsFirst (PassesOther bs) (Some c.in-Some.place)) c.requires.objects_are c.in-Some.ensures.first)
+    refl).0)
 
-pub returns-in_err-check_counts-clause-fault : goal.returns-in_err-check_counts-clause-fault
-returns-in_err-check_counts-clause-fault c =
-    let blocks = c.args.blocks.now in
-    let used = c.in_ok-used.used in
-    let p = err_from_is_err_and c.from_residual-in_err-check_counts.result c.from_residual-in_err-check_counts.ensures.1 in
-    let same = limit-same (is_used used) (is_lane blocks) (used-lanes used blocks c.in_ok-used.ensures) in
-    rw (p.1, p.2) (at-among _ _ (λ line fault. first-same (limit_fault (is_used used)) (limit_fault (is_lane blocks)) blocks line fault same)
-    c.in_err-check_counts.field-0.0 c.in_err-check_counts.ensures.fault)
+pub returns-in-Some-clause-fault : goal.returns-in-Some-clause-fault
+returns-in-Some-clause-fault c =
+    over-refused c.args.templates.now c.in-Some.place c.of_place.result
+    (over-first c.args.templates.now None (Some c.in-Some.place) c.in-Some.place
+    (counted-none c.args.templates.now c.args.tables.now.services c.requires.services_are c.in-Ok.ensures.none)
+    (subst (λ (bs : List Block). IsFirst (PassesOther bs) (Some c.in-Some.place)) c.requires.objects_are c.in-Some.ensures.first)
+    refl)
+    (subst (λ (bs : List Block). IsOfPlace bs c.in-Some.place TooMany c.of_place.result) c.blocks-blocks.ensures.value c.of_place.ensures)

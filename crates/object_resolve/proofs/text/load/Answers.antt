@@ -2,7 +2,6 @@ use Rattle.std.proofs.Common.{◌≡◌, subst}
 use Rattle.std.proofs.lemmas.Result.{err_from_is_err_and}
 use Rattle.object_resolve.specs.Resolve.{IsRefusal, IsResolved}
 use Rattle.object_resolve.specs.Fault.{IsAmong}
-use Rattle.object_resolve.proofs.Accepted.{resolved-accepted}
 use Rattle.object_resolve.proofs.TextLemmas.{blocks-fault, blocks-only, read-fault, read-only, read-same, read-unrefused, text-unrefused}
 use Rattle.object_resolve.proofs.text.load.Goals as goal
 
@@ -11,11 +10,11 @@ returns-clause-config c =
     (c.in_ok-blocks.blocks, c.in_ok-blocks.ensures.blocks, subst (λ blocks. IsResolved blocks c.in_ok-resolve.field-0) c.as_slice.ensures c.in_ok-resolve.ensures.resolved)
 
 pub returns-clause-accepted : goal.returns-clause-accepted
-returns-clause-accepted c = resolved-accepted _ c.in_ok-resolve.field-0 c.in_ok-resolve.ensures.resolved
+returns-clause-accepted c = c.accept_resolved.ensures _ c.in_ok-resolve.field-0 c.in_ok-resolve.ensures.resolved
 
 pub returns-clause-refused : goal.returns-clause-refused
 returns-clause-refused c = λ fault refused.
-    text-unrefused c.args.text.now c.in_ok-blocks.blocks c.in_ok-resolve.field-0
+    text-unrefused c.resolve_no_refused.ensures c.args.text.now c.in_ok-blocks.blocks c.in_ok-resolve.field-0
     (subst (λ blocks. IsResolved blocks c.in_ok-resolve.field-0) c.as_slice.ensures c.in_ok-resolve.ensures.resolved)
     (λ others whole. read-same c.read.result c.in_ok-blocks.blocks others c.in_ok-blocks.was (c.read.ensures.only others whole))
     (λ given is. read-unrefused c.read.result c.in_ok-blocks.blocks given c.in_ok-blocks.was (c.read.ensures.refused given is))
@@ -41,5 +40,5 @@ pub returns-in_err-resolve-clause-only : goal.returns-in_err-resolve-clause-only
 returns-in_err-resolve-clause-only c = λ config of.
     let p = err_from_is_err_and c.from_residual-in_err-resolve.result c.from_residual-in_err-resolve.ensures.1 in
     let same : of.0 ≡ c.in_ok-blocks.blocks = read-same c.read.result c.in_ok-blocks.blocks of.0 c.in_ok-blocks.was (c.read.ensures.only of.0 of.1) in
-    rw (p.1, p.2) (blocks-only c.in_ok-blocks.blocks config c.in_err-resolve.field-0.0 (subst (λ blocks. IsResolved blocks config) same of.2)
+    rw (p.1, p.2) (blocks-only c.resolve_no_refused.ensures c.in_ok-blocks.blocks config c.in_err-resolve.field-0.0 (subst (λ blocks. IsResolved blocks config) same of.2)
     (subst (λ blocks. IsAmong (IsRefusal blocks) c.in_err-resolve.field-0.0) c.as_slice.ensures c.in_err-resolve.ensures.refusal))

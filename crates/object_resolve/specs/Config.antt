@@ -1,0 +1,32 @@
+-- The configuration that blocks give (chapter "Object Definitions").
+use Rattle.std.specs.Prelude.{◌≡◌, ℕ, List, [], map, slice_index_or}
+use Rattle.due_model.specs.declared.config.Config.{Config}
+use Rattle.object_contacts.specs.Contacts.{AreContactsOf}
+use Rattle.object_contacts.specs.Lanes.{AreLanes, IsLane}
+use Rattle.object_groups.specs.Objects.{names_in, objects_in}
+use Rattle.object_periods.specs.Periods.{ArePeriodsOf}
+use Rattle.object_reader.specs.declared.block.Block.{Block}
+use Rattle.object_reader.specs.declared.block.BlockKind.TheVariants.{Command, Service}
+use Rattle.object_services.specs.Limits.{AreHostLists}
+use Rattle.object_settings.specs.Settings.{AreObjectsOf}
+
+-- the name of the command of a number
+abbrev pub command_at : List Block → ℕ → List ℕ
+command_at blocks command = slice_index_or (names_in blocks Command) command []
+
+-- The configuration of blocks: hosts in file order and then services, block by block and within a block host by host;
+-- contacts and time periods in file order; and the lanes, which are the commands that a registered contact names, in
+-- the order of their blocks.
+pub record IsConfigOf (blocks : List Block) (config : Config) : Type 0 where
+  -- the hosts of each service block
+  pub hosts : List (List ℕ)
+  pub hosts_are : AreHostLists blocks (objects_in blocks Service) hosts
+  -- the commands of the lanes
+  pub lanes : List ℕ
+  pub lanes_are : AreLanes (IsLane blocks) lanes
+  pub objects : AreObjectsOf blocks hosts config.objects
+  pub contacts : AreContactsOf blocks lanes config.contacts
+  pub named : map (λ lane. lane.name) config.lanes ≡ map (command_at blocks) lanes
+  pub periods : ArePeriodsOf blocks config.periods
+  pub no_escalation : config.escalations ≡ []
+  pub no_dependency : config.dependencies ≡ []

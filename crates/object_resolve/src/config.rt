@@ -1,0 +1,107 @@
+//! The configuration of blocks that have no fault.
+
+ghost use Rattle.std.specs.Prelude.{◌≡◌, ◌≤◌, length, map, IfOk};
+ghost use Rattle.due_model.specs.Limits.{max_lanes};
+ghost use Rattle.object_contacts.specs.Contacts.{AreContactsOf};
+ghost use Rattle.object_resolve.specs.Config.{IsConfigOf, command_at};
+ghost use Rattle.object_resolve.specs.Limits.{AreCounts, AreFewOthers, AreWithin};
+ghost use Rattle.object_resolve.specs.Tables.{AreTables};
+ghost use Rattle.object_settings.specs.Settings.{AreObjectsOf};
+
+use crate::limits::Counts;
+use crate::tables::Tables;
+use due_model::config::{Config, Contact, Lane};
+use due_model::objects::Objects as ObjectTable;
+use due_model::sequence::Sequence;
+use object_contacts::contacts::contacts_of;
+use object_contacts::lanes::named_lanes;
+use object_groups::groups::{GroupKind, Groups};
+use object_inheritance::templates::Templates;
+use object_names::named::{NamedKind, NamedObjects};
+use object_periods::periods::periods_of;
+use object_settings::objects::objects_of;
+use std::alloc::{AllocError, Global};
+
+/// The contacts, where `lanes` are the commands of the lanes.
+fn contacts_in<'a>(
+    alloc: Global,
+    templates: &Templates<'a>,
+    objects: &NamedObjects<'a>,
+    lanes: &[usize],
+) -> Result<Vec<Contact>, AllocError>
+    requires objects { objects.now ≡ templates.now }
+    requires few { AreFewOthers templates.now }
+    requires few_lanes { length lanes.now ≤ max_lanes }
+    ensures { IfOk result (λ made. AreContactsOf templates.now lanes.now made.items) }
+{
+    let contacts = objects.objects(NamedKind::Contact);
+    let commands = objects.objects(NamedKind::Command);
+    let periods = objects.objects(NamedKind::TimePeriod);
+    contacts_of(alloc, templates, contacts, commands, periods, lanes)
+}
+
+/// The lanes, by the names of their commands.
+fn lanes_in(alloc: Global, objects: &NamedObjects, lanes: &[usize]) -> Result<Vec<Lane>, AllocError>
+    ensures { IfOk result (λ made.
+        map (λ lane. lane.name) made.items ≡ map (command_at objects.now) lanes.now) }
+{
+    named_lanes(alloc, objects.objects(NamedKind::Command).names(), lanes)
+}
+
+/// The hosts and services, where `counts` are those of the blocks.
+fn objects_in<'a>(
+    alloc: Global,
+    templates: &Templates<'a>,
+    tables: &Tables<'a>,
+    counts: &Counts,
+) -> Result<ObjectTable, AllocError>
+    requires tables { AreTables templates.now tables.now }
+    requires few { AreFewOthers templates.now }
+    requires counts { AreCounts templates.now counts.now }
+    ensures { IfOk result (AreObjectsOf templates.now counts.now.hosts) }
+{
+    let hosts = tables.objects.objects(NamedKind::Host);
+    let periods = tables.objects.objects(NamedKind::TimePeriod);
+    let services = &tables.services;
+    let mut groups = Groups::new(alloc, templates, GroupKind::ContactGroups)?;
+    objects_of(
+        alloc,
+        templates,
+        services,
+        &counts.hosts,
+        &mut groups,
+        hosts,
+        periods,
+    )
+}
+
+/// The configuration of blocks that keep within the limits, where `tables` and `counts` are theirs. A refused
+/// growth leaves nothing.
+pub(crate) fn config_of<'a>(
+    alloc: Global,
+    templates: &Templates<'a>,
+    tables: &Tables<'a>,
+    counts: &Counts,
+) -> Result<Config, AllocError>
+    requires tables { AreTables templates.now tables.now }
+    requires within { AreWithin templates.now }
+    requires counts { AreCounts templates.now counts.now }
+    ensures { IfOk result (IsConfigOf templates.now) }
+{
+    let lanes = counts.lanes.as_slice();
+    let contacts = contacts_in(alloc, templates, &tables.objects, lanes)?;
+    let named = lanes_in(alloc, &tables.objects, lanes)?;
+    let periods = periods_of(
+        alloc,
+        templates,
+        tables.objects.objects(NamedKind::TimePeriod),
+    )?;
+    Ok(Config {
+        objects: objects_in(alloc, templates, tables, counts)?,
+        contacts: Sequence::new(contacts),
+        lanes: Sequence::new(named),
+        periods: Sequence::new(periods),
+        escalations: Sequence::new(Vec::new(alloc)),
+        dependencies: Sequence::new(Vec::new(alloc)),
+    })
+}
