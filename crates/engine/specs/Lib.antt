@@ -1,0 +1,5 @@
+pub mod Lists
+pub mod Feed
+pub mod Lanes
+pub mod Due
+pub mod Served
