@@ -8,7 +8,8 @@ use Rattle.undelivered.specs.declared.Why.TheVariants.{NoMemory}
 
 -- a count rose by so many, or by fewer and stands at the greatest that a u64 holds
 abbrev pub RisesBy : (more old new : ℕ) → Type 0
-RisesBy more old new = (new ≡ old + more) ⊎ ((2 ^ 64 - 1 ≤ new) × (new ≤ old + more))
+RisesBy more old new =
+    (new ≡ old + more) ⊎ ((2 ^ 64 - 1 ≤ new) × (old ≤ new) × (new ≤ old + more))
 
 -- So many tries failed of a letter of this size: each at the device, which counted it, or none of them, since the letter is
 -- longer than the channel's limit.

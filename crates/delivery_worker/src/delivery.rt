@@ -1,10 +1,11 @@
 //! The delivery of one notice of a lane.
 
-ghost use Rattle.std.specs.Prelude.{◌≡◌, ◌↔◌, ◌+◌, ◌<◌, ◌≤◌, [], ◌∷◌, ◌++◌, None, length};
+ghost use Rattle.std.specs.Prelude.{◌≡◌, ◌↔◌, ◌⊎◌, ◌+◌, ◌<◌, [], ◌∷◌, ◌++◌, List, None, length};
 ghost use Rattle.std.specs.Prelude.{IfErr, IsErrOf, OnErr, OnOk};
 ghost use Rattle.channel.specs.Channels.{receipt_of};
 ghost use Rattle.channel.specs.Letter.{letter_of};
-ghost use Rattle.delivery_worker.specs.Attempts.{KeepsInHand, TriesFailed, with_taken};
+ghost use Rattle.delivery_worker.specs.Attempts.{KeepsInHand, TriesFailed, contents, with_taken};
+ghost use Rattle.due_model.specs.declared.notice.Notice.{Notice};
 
 use crate::laws::attempt;
 use crate::{Attempted, Bell};
@@ -23,18 +24,23 @@ pub fn deliver_notice<B: Bell>(
     alloc: Global,
     config: &Config,
     channel: &mut Box<dyn Channel>,
-    record: &mut LaneRecord,
+    lane: &mut LaneRecord,
     notice: Notice,
     tries: u8,
     bell: &mut B,
 ) -> Result<(), Why>
-    requires idle { record.old.hand ≡ None }
-    requires serving { record.old.why ≡ None }
+    requires idle { lane.old.hand ≡ None }
+    requires serving { lane.old.why ≡ None }
     ensures taken { OnOk result
         (taken channel.new ≡ taken channel.old ++ receipt_of notice ∷ []) }
-    ensures settled { OnOk result (record.new ≡ with_taken notice record.old) }
+    ensures settled { OnOk result (lane.new ≡ with_taken notice lane.old) }
     ensures kept { OnErr result (taken channel.new ≡ taken channel.old) }
-    ensures hand { IfErr result (λ why. KeepsInHand why notice record.old record.new) }
+    ensures hand { IfErr result (λ why. KeepsInHand why notice lane.old lane.new) }
+    // With what waits behind the notice, the lane holds the same list as before, in order; only where memory ran out before the
+    // notice was taken up, it is still to come.
+    ensures order { (queue : List Notice) → lane.old.undelivered ≡ []
+        → (contents lane.new ++ queue ≡ contents lane.old ++ notice ∷ queue)
+        ⊎ ((lane.new ≡ lane.old) × IsErrOf result Why.NoMemory) }
     // Why the lane is to close has its cause.
     ensures asked { IsErrOf result Why.Asked ↔ (B.count bell.old < B.count bell.new) }
     ensures failed { IsErrOf result Why.Failed
@@ -45,7 +51,7 @@ pub fn deliver_notice<B: Bell>(
     ensures has_channel { ¬ IsErrOf result Why.NoChannel }
     ensures limit { limit channel.new ≡ limit channel.old }
 {
-    if channel.reserve().is_err() || record.take_up(notice).is_err() {
+    if channel.reserve().is_err() || lane.take_up(notice).is_err() {
         return Err(Why::NoMemory);
     }
     let Ok(letter) = letter_text(alloc, config, notice) else {
@@ -53,7 +59,7 @@ pub fn deliver_notice<B: Bell>(
     };
     match attempt(channel, &letter, tries, bell) {
         Attempted::Settled => {
-            record.settle();
+            lane.settle();
             Ok(())
         }
         Attempted::Asked => Err(Why::Asked),

@@ -5,8 +5,8 @@ ghost use Rattle.channel.specs.Channels.{receipt_of};
 ghost use Rattle.delivery_worker.specs.Attempts.{TriesFailed};
 
 use crate::{Attempted, Bell};
-use channel::Channel;
 use channel::letter::Letter;
+use channel::{Channel, Fault};
 
 /// Hands a letter to a channel until it is taken, or as often as it may be tried: `tries` answers that are errors mean
 /// `Failed`, those that the text is too long counted. The bell is asked before each try. While it lasts the channel is given no
@@ -41,8 +41,9 @@ pub fn attempt<B: Bell>(
         if bell.asked() {
             return Attempted::Asked;
         }
-        if channel.deliver(letter).is_ok() {
-            return Attempted::Settled;
+        match channel.deliver(letter) {
+            Ok(()) => return Attempted::Settled,
+            Err(Fault::Device | Fault::TooLong) => {}
         }
     }
     Attempted::Failed
