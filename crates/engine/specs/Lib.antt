@@ -3,3 +3,4 @@ pub mod Feed
 pub mod Lanes
 pub mod Due
 pub mod Served
+pub mod Run

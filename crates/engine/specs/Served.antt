@@ -1,5 +1,5 @@
 -- What is decided and handed out while a run goes on.
-use Rattle.std.specs.Prelude.{◌≡◌, ℕ, ◌<◌, Bool, false, List, [], length, reverse, slice_index_or}
+use Rattle.std.specs.Prelude.{◌≡◌, ℕ, ◌<◌, ◌⊎◌, Bool, false, true, List, [], ◌∷◌, length, reverse, slice_index_or, Option, None}
 use Rattle.due_model.specs.declared.config.Config.{Config}
 use Rattle.due_model.specs.declared.event.Event.{Event}
 use Rattle.due_model.specs.declared.notice.Notice.{Notice}
@@ -7,8 +7,12 @@ use Rattle.due_model.specs.declared.notice.Suppression.{Suppression}
 use Rattle.due_model.specs.declared.zone.Zone.{Zone}
 use Rattle.decider.specs.declared.decider.Decider.{Decider}
 use Rattle.decider.specs.declared.outbox.Outbox.{Outbox}
+use Rattle.decider.specs.Decider.{gained}
 use Rattle.decider.specs.Fits.{Fits, kept, settings}
 use Rattle.decider.specs.Outbox.{lists, waiting_at}
+use Rattle.event_feed.specs.Feed.{Feed}
+use Rattle.engine.specs.declared.desk.Desk.{Desk}
+use Rattle.engine.specs.Feed.{HasEnded, HasRead, Intake, Offers}
 use Rattle.engine.specs.Lists.{IsFrontOf}
 use Rattle.engine.specs.Lanes.{LaneValue, MayBeShut, held, no_lane}
 use Rattle.engine.specs.Due.{made_due, suppressed, whole_share}
@@ -52,19 +56,59 @@ abbrev pub HoldFronts : Config → Zone → (past : List Event) → List LaneVal
 HoldFronts c zone past lanes =
     (l : ℕ) → l < length lanes → IsFrontOf (held_at lanes l) (made_due c zone l past)
 
--- what a run that goes on has: its events are decided, all that they made due was handed out, and nothing waits
-pub record RunStands (c : Config) (zone : Zone) (posted : ℕ → Bool) (events : List Event)
-    (decider : Decider) (log : List Suppression) (outbox : Outbox) (lanes : List LaneValue) : Type 0
+-- A desk has decided this past; all that it made due was handed out, and nothing waits.
+pub record Stands (c : Config) (zone : Zone) (posted : ℕ → Bool) (past : List Event) (desk : Desk) : Type 0
   where
-    pub decided : HasDecided c zone (reverse events) decider log
-    pub emptied : IsEmptied c outbox
-    pub are : AreLanesOf c posted false lanes
-    pub all : HoldAll c zone (reverse events) lanes
+    pub config : desk.delivery.config.now ≡ c
+    pub decided : HasDecided c zone past desk.decider desk.log.items
+    pub emptied : IsEmptied c desk.outbox
+    pub are : AreLanesOf c posted false desk.lanes.items
+    pub all : HoldAll c zone past desk.lanes.items
 
--- what a run has at its end, where memory ran out or didn't
-pub record RunHolds (c : Config) (zone : Zone) (posted : ℕ → Bool) (memory : Bool)
-    (events : List Event) (log : List Suppression) (lanes : List LaneValue) : Type 0 where
-  pub log_is : log ≡ suppressed c zone (reverse events)
-  pub are : AreLanesOf c posted memory lanes
-  pub fronts : HoldFronts c zone (reverse events) lanes
-  pub all : memory ≡ false → HoldAll c zone (reverse events) lanes
+-- It has decided one event more, and what that made due waits.
+pub record Waits (c : Config) (zone : Zone) (posted : ℕ → Bool) (e : Event) (past : List Event)
+    (desk : Desk) : Type 0 where
+  pub config : desk.delivery.config.now ≡ c
+  pub decided : HasDecided c zone (e ∷ past) desk.decider desk.log.items
+  pub lanes : length (lists desk.outbox) ≡ length c.lanes
+  pub waits : (l : ℕ) → l < length c.lanes
+      → waiting_at desk.outbox l ≡ gained c zone whole_share l e past
+  pub are : AreLanesOf c posted false desk.lanes.items
+  pub all : HoldAll c zone past desk.lanes.items
+
+-- What it has at the end, where memory ran out or didn't: of each lane all that was made due, or a front of it.
+pub record Holds (c : Config) (zone : Zone) (posted : ℕ → Bool) (memory : Bool)
+    (past : List Event) (desk : Desk) : Type 0 where
+  pub log_is : desk.log.items ≡ suppressed c zone past
+  pub are : AreLanesOf c posted memory desk.lanes.items
+  pub fronts : HoldFronts c zone past desk.lanes.items
+  pub all : memory ≡ false → HoldAll c zone past desk.lanes.items
+
+-- ---- a whole run
+
+-- nothing was read of a feed whose bytes are these, where they are known
+pub record IsStart (known : Option (List ℕ)) (now : Intake) : Type 0 where
+  pub bytes : now.feed.bytes ≡ known
+  pub line : now.feed.line ≡ 0
+  pub last : now.feed.last ≡ 0
+  pub goes_on : now.feed.stop ≡ None
+  pub no_events : now.events ≡ []
+  pub no_refused : now.refused ≡ []
+
+-- a run goes on: its events are decided
+pub record GoesOn (c : Config) (zone : Zone) (posted : ℕ → Bool) (start : Feed) (intake : Intake)
+    (desk : Desk) : Type 0 where
+  pub read : HasRead c start intake
+  pub stands : Stands c zone posted (reverse intake.events) desk
+
+-- its feed is over
+pub record IsOver (can_fail : Bool) (c : Config) (zone : Zone) (posted : ℕ → Bool) (start : Feed)
+    (cut : Bool) (intake : Intake) (desk : Desk) : Type 0 where
+  pub ended : HasEnded can_fail c start cut intake
+  pub stands : Stands c zone posted (reverse intake.events) desk
+
+-- memory ran out
+pub record IsStopped (c : Config) (zone : Zone) (posted : ℕ → Bool) (start : Feed)
+    (intake : Intake) (desk : Desk) : Type 0 where
+  pub read : HasRead c start intake ⊎ ((e : Event) × Offers c start e intake)
+  pub holds : Holds c zone posted true (reverse intake.events) desk

@@ -2,6 +2,7 @@
 #![tactic(auto)]
 
 mod bell;
+mod desk;
 mod engine;
 mod intake;
 mod lane;

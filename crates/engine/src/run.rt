@@ -1,36 +1,28 @@
 //! A run under way.
 
-ghost use Rattle.std.specs.Prelude.{◌≡◌, ◌≤◌, ◌==◌, ℕ, Bool, [], false, length, reverse};
-ghost use Rattle.std.specs.Prelude.{None, IfErr, IfOk, OnErr, vec_capacity};
+ghost use Rattle.std.specs.Prelude.{◌≡◌, ◌≤◌, ◌==◌, ℕ, Bool, [], length, reverse};
+ghost use Rattle.std.specs.Prelude.{IfOk, OnErr, vec_capacity};
 ghost use Rattle.std.specs.List.{list_any};
-ghost use Rattle.due_model.specs.declared.config.Config.{Config};
 ghost use Rattle.due_model.specs.declared.zone.Zone.{Zone};
 ghost use Rattle.due_model.specs.Accepted.{IsAccepted};
-ghost use Rattle.due_model.specs.Limits.{max_lanes};
-ghost use Rattle.event_feed.specs.Feed.{Feed, feed_of};
-ghost use Rattle.engine.specs.Feed.{HasEnded, HasRead, IsFrontOfFeed, Offers};
-ghost use Rattle.engine.specs.Served.{RunHolds, RunStands};
+ghost use Rattle.event_feed.specs.Feed.{Feed, feed_limit};
+ghost use Rattle.engine.specs.Feed.{HasRead, Offers};
+ghost use Rattle.engine.specs.Run.{After, IsRunEnd};
+ghost use Rattle.engine.specs.Served.{GoesOn, IsOver, IsStart, IsStopped, Stands};
 
+use crate::desk::Desk;
 use crate::intake::{Intake, Next};
-use crate::lane::{Delivery, Lane};
-use crate::lanes::{finish, new_lanes, serve};
+use crate::lanes::finish;
 use crate::post::Post;
 use crate::run_end::{LaneEnd, RunEnd};
-use decider::{DecideFault, Decider, Outbox, Share};
+use decider::DecideFault;
 use due_model::config::Config;
 use due_model::event::Event;
-use due_model::notice::Suppression;
 use due_model::zone::Zone;
 use std::alloc::{AllocError, Global};
 use std::io::Read;
 use steps::Settings;
 use text_lines::{Input, LineReader};
-
-/// The share of the one decider: all objects.
-const WHOLE: Share = Share {
-    decider: 0,
-    deciders: 1,
-};
 
 /// What a line of the feed makes of a run.
 #[derive(Clone, Copy)]
@@ -41,19 +33,13 @@ pub(crate) enum Turn {
     Over(bool),
 }
 
-/// A run under way: what is read of the feed, the decider of its events, what it notes, and the lanes.
+/// A run under way: what is read of the feed, and what is decided and handed out.
 #[derive(Drop)]
 pub(crate) struct Run<'a, R: Read> {
     intake: Intake<R>,
-    decider: Decider<'a>,
-    /// What waits for the lanes: nothing, between two events.
-    outbox: Outbox,
-    /// What was suppressed so far.
-    log: Vec<Suppression>,
-    lanes: Vec<Lane>,
+    desk: Desk<'a>,
     /// The room for what the lanes leave.
     ends: Vec<LaneEnd>,
-    delivery: Delivery<'a>,
 }
 
 impl<'a, R: Input + Drop> Run<'a, R> {
@@ -67,26 +53,40 @@ impl<'a, R: Input + Drop> Run<'a, R> {
         settings: Settings,
     ) -> Result<Self, AllocError>
         requires { IsAccepted config.now }
+        ensures start { IfOk result (λ run. IsStart (R.remaining reader) run.intake.read) }
+        ensures stands { IfOk result (λ run. Stands config.now zone.now
+            (λ l. list_any (λ post. post.lane.0 == l) posts.items) [] run.desk) }
+        ensures ends { IfOk result (λ run. run.ends.items ≡ []) }
+        ensures room { IfOk result (λ run. length run.desk.lanes.items ≤ vec_capacity run.ends) }
     {
-        let lanes = config.lanes.len();
+        let lines = LineReader::new(alloc, reader)?;
         Ok(Run {
-            intake: Intake::new(alloc, LineReader::new(alloc, reader)?),
-            decider: Decider::new(alloc, config, zone, WHOLE)?,
-            outbox: Outbox::new(alloc, lanes)?,
-            log: Vec::new(alloc),
-            lanes: new_lanes(alloc, lanes as u8, posts)?,
-            ends: Vec::with_capacity(alloc, lanes)?,
-            delivery: Delivery {
-                alloc,
-                config,
-                tries: settings.tries,
-            },
+            intake: Intake::new(alloc, lines),
+            desk: Desk::new(alloc, config, zone, posts, settings)?,
+            ends: Vec::with_capacity(alloc, config.lanes.len())?,
         })
     }
 
     /// Reads the feed to its end, decides each event, and hands what it makes due to the lanes before the next line is read. The
     /// answer says whether the feed was cut; a refused growth is the only error.
-    fn read_all(&mut self) -> Result<bool, AllocError> {
+    fn read_all(&mut self) -> Result<bool, AllocError>
+        requires accepted { IsAccepted self.old.desk.delivery.config.now }
+        requires goes_on { (zone : Zone) × (posted : ℕ → Bool) × (start : Feed)
+            × GoesOn self.old.desk.delivery.config.now zone posted start
+            self.old.intake.read self.old.desk }
+        ensures over { IfOk result (λ cut. (zone : Zone) (posted : ℕ → Bool) (start : Feed)
+            → GoesOn self.old.desk.delivery.config.now zone posted start
+            self.old.intake.read self.old.desk
+            → IsOver R.can_fail self.old.desk.delivery.config.now zone posted start cut
+            self.new.intake.read self.new.desk) }
+        ensures stopped { OnErr result ((zone : Zone) (posted : ℕ → Bool) (start : Feed)
+            → GoesOn self.old.desk.delivery.config.now zone posted start
+            self.old.intake.read self.old.desk
+            → IsStopped self.old.desk.delivery.config.now zone posted start
+            self.new.intake.read self.new.desk) }
+        ensures count { length self.new.desk.lanes.items ≡ length self.old.desk.lanes.items }
+        ensures ends { self.new.ends ≡ self.old.ends }
+    {
         loop {
             if let Turn::Over(cut) = self.take_line()? {
                 return Ok(cut);
@@ -95,8 +95,28 @@ impl<'a, R: Input + Drop> Run<'a, R> {
     }
 
     /// Reads the next line of the feed that says something, and does what it says.
-    fn take_line(&mut self) -> Result<Turn, AllocError> {
-        match self.intake.next(self.delivery.config)? {
+    fn take_line(&mut self) -> Result<Turn, AllocError>
+        requires accepted { IsAccepted self.old.desk.delivery.config.now }
+        requires goes_on { (zone : Zone) × (posted : ℕ → Bool) × (start : Feed)
+            × GoesOn self.old.desk.delivery.config.now zone posted start
+            self.old.intake.read self.old.desk }
+        ensures turn { IfOk result (λ turn. (zone : Zone) (posted : ℕ → Bool) (start : Feed)
+            → GoesOn self.old.desk.delivery.config.now zone posted start
+            self.old.intake.read self.old.desk
+            → After R.can_fail self.old.desk.delivery.config.now zone posted start turn
+            self.new.intake.read self.new.desk) }
+        ensures stopped { OnErr result ((zone : Zone) (posted : ℕ → Bool) (start : Feed)
+            → GoesOn self.old.desk.delivery.config.now zone posted start
+            self.old.intake.read self.old.desk
+            → IsStopped self.old.desk.delivery.config.now zone posted start
+            self.new.intake.read self.new.desk) }
+        ensures line { IfOk result (λ turn. turn ≡ Turn.GoesOn
+            → self.old.intake.read.feed.line < self.new.intake.read.feed.line) }
+        ensures limit { IfOk result (λ turn. self.new.intake.read.feed.line ≤ feed_limit + 1) }
+        ensures config { self.new.desk.delivery.config.now ≡ self.old.desk.delivery.config.now }
+        ensures ends { self.new.ends ≡ self.old.ends }
+    {
+        match self.intake.next(self.desk.config())? {
             Next::Accepts(event) => self.take_event(event),
             Next::Refused => Ok(Turn::GoesOn),
             Next::Over(cut) => Ok(Turn::Over(cut)),
@@ -105,8 +125,31 @@ impl<'a, R: Input + Drop> Run<'a, R> {
 
     /// Decides an event, and hands what it makes due to the lanes. One that can't be numbered is refused, and the feed is over.
     /// Where its growth is refused before all of it counts, it isn't accepted.
-    fn take_event(&mut self, event: Event) -> Result<Turn, AllocError> {
-        match self.decider.decide(event, &mut self.outbox) {
+    fn take_event(&mut self, event: Event) -> Result<Turn, AllocError>
+        requires accepted { IsAccepted self.old.desk.delivery.config.now }
+        requires offers { (zone : Zone) × (posted : ℕ → Bool) × (start : Feed)
+            × Offers self.old.desk.delivery.config.now start event self.old.intake.read
+            × Stands self.old.desk.delivery.config.now zone posted
+            (reverse self.old.intake.read.events) self.old.desk }
+        requires events_room { 0 < self.old.intake.events_room }
+        requires refused_room { 0 < self.old.intake.refused_room }
+        ensures turn { IfOk result (λ turn. (zone : Zone) (posted : ℕ → Bool) (start : Feed)
+            → Offers self.old.desk.delivery.config.now start event self.old.intake.read
+            → Stands self.old.desk.delivery.config.now zone posted
+            (reverse self.old.intake.read.events) self.old.desk
+            → After R.can_fail self.old.desk.delivery.config.now zone posted start turn
+            self.new.intake.read self.new.desk) }
+        ensures stopped { OnErr result ((zone : Zone) (posted : ℕ → Bool) (start : Feed)
+            → Offers self.old.desk.delivery.config.now start event self.old.intake.read
+            → Stands self.old.desk.delivery.config.now zone posted
+            (reverse self.old.intake.read.events) self.old.desk
+            → IsStopped self.old.desk.delivery.config.now zone posted start
+            self.new.intake.read self.new.desk) }
+        ensures feed { self.new.intake.read.feed ≡ self.old.intake.read.feed }
+        ensures config { self.new.desk.delivery.config.now ≡ self.old.desk.delivery.config.now }
+        ensures ends { self.new.ends ≡ self.old.ends }
+    {
+        match self.desk.decide(event) {
             Ok(()) => {}
             Err(DecideFault::NoMemory) => return Err(AllocError),
             Err(DecideFault::Ended) => {
@@ -114,26 +157,26 @@ impl<'a, R: Input + Drop> Run<'a, R> {
                 return Ok(Turn::Over(true));
             }
         }
-        self.log.extend_from_slice(self.decider.log())?;
-        self.decider.clear_log();
         self.intake.accept(event);
-        serve(&mut self.lanes, self.delivery, &mut self.outbox)?;
+        self.desk.serve()?;
         Ok(Turn::GoesOn)
     }
 
     /// Reads the feed to its end, and closes the lanes.
-    pub(crate) fn complete(mut self) -> RunEnd {
+    pub(crate) fn complete(mut self) -> RunEnd
+        requires accepted { IsAccepted self.desk.delivery.config.now }
+        requires goes_on { (zone : Zone) × (posted : ℕ → Bool) × (start : Feed)
+            × GoesOn self.desk.delivery.config.now zone posted start self.intake.read self.desk }
+        requires none { self.ends.items ≡ [] }
+        requires room { length self.desk.lanes.items ≤ vec_capacity self.ends }
+        ensures { (zone : Zone) (posted : ℕ → Bool) (start : Feed)
+            → GoesOn self.desk.delivery.config.now zone posted start self.intake.read self.desk
+            → IsRunEnd R.can_fail self.desk.delivery.config.now zone posted start result }
+    {
         let read = self.read_all();
-        let Run {
-            intake,
-            decider: _,
-            outbox: _,
-            log,
-            lanes,
-            ends,
-            delivery: _,
-        } = self;
+        let Run { intake, desk, ends } = self;
         let (events, refused) = intake.into_lists();
+        let (log, lanes) = desk.into_parts();
         RunEnd {
             events,
             refused,

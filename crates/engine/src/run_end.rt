@@ -50,13 +50,13 @@ impl Model for LaneEnd {
 
 impl LaneEnd {
     /// The end of a lane whose record is closed for this reason.
-    pub(crate) fn new(lane: LaneId, record: LaneRecord, why: Why) -> LaneEnd
+    pub(crate) fn new(lane: LaneId, kept: LaneRecord, why: Why) -> LaneEnd
         ensures lane { result.lane ≡ lane }
-        ensures taken { result.taken ≡ record.taken }
-        ensures undelivered { result.undelivered ≡ record.undelivered }
+        ensures taken { result.taken ≡ kept.taken }
+        ensures undelivered { result.undelivered ≡ kept.undelivered }
         ensures why { result.why ≡ why }
     {
-        LaneEnd { lane, record, why }
+        LaneEnd { lane, record: kept, why }
     }
 
     /// The number of the lane.
