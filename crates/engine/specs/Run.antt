@@ -5,7 +5,6 @@ use Rattle.due_model.specs.declared.zone.Zone.{Zone}
 use Rattle.due_model.specs.Proper.{IsProper}
 use Rattle.event_feed.specs.declared.fault.FeedFault.TheVariants as fault
 use Rattle.event_feed.specs.Feed.{AreGivenBy, Answer, Feed}
-use Rattle.engine.specs.declared.desk.Desk.{Desk}
 use Rattle.engine.specs.declared.run.Turn.{Turn}
 use Rattle.engine.specs.declared.run.Turn.TheVariants as turn
 use Rattle.engine.specs.declared.run_end.RunEnd.{RunEnd}
@@ -13,11 +12,11 @@ use Rattle.engine.specs.Due.{made_due, suppressed, HaveCauses}
 use Rattle.engine.specs.Feed.{AreTaken, Intake, IsFrontOfFeed}
 use Rattle.engine.specs.Lanes.{LaneParts, joined}
 use Rattle.engine.specs.Lists.{IsFrontOf}
-use Rattle.engine.specs.Served.{GoesOn, IsOver}
+use Rattle.engine.specs.Served.{DeskValue, GoesOn, IsOver}
 
 -- what a run is after a turn
 abbrev pub After : (can_fail : Bool) → Config → Zone → (posted : ℕ → Bool) → (start : Feed) → Turn
-    → Intake → Desk → Type 0
+    → Intake → DeskValue → Type 0
 After can_fail c zone posted start turn.GoesOn intake desk = GoesOn c zone posted start intake desk
 After can_fail c zone posted start (turn.Over cut) intake desk =
     IsOver can_fail c zone posted start cut intake desk

@@ -56,33 +56,50 @@ abbrev pub HoldFronts : Config → Zone → (past : List Event) → List LaneVal
 HoldFronts c zone past lanes =
     (l : ℕ) → l < length lanes → IsFrontOf (held_at lanes l) (made_due c zone l past)
 
+-- a desk: its configuration, its decider, what that noted, what waits for the lanes, and the lanes
+pub record DeskValue : Type 0 where
+  pub config : Config
+  pub decider : Decider
+  pub log : List Suppression
+  pub outbox : Outbox
+  pub lanes : List LaneValue
+
+abbrev pub desk_value : {X : Type 0} {g : X → Type 0} → Desk X g → DeskValue
+desk_value desk = record {
+  config = desk.delivery.config.now;
+  decider = desk.decider;
+  log = desk.log.items;
+  outbox = desk.outbox;
+  lanes = desk.lanes.items;
+}
+
 -- A desk has decided this past; all that it made due was handed out, and nothing waits.
-pub record Stands (c : Config) (zone : Zone) (posted : ℕ → Bool) (past : List Event) (desk : Desk) : Type 0
-  where
-    pub config : desk.delivery.config.now ≡ c
-    pub decided : HasDecided c zone past desk.decider desk.log.items
-    pub emptied : IsEmptied c desk.outbox
-    pub are : AreLanesOf c posted false desk.lanes.items
-    pub all : HoldAll c zone past desk.lanes.items
+pub record Stands (c : Config) (zone : Zone) (posted : ℕ → Bool) (past : List Event)
+    (desk : DeskValue) : Type 0 where
+  pub config : desk.config ≡ c
+  pub decided : HasDecided c zone past desk.decider desk.log
+  pub emptied : IsEmptied c desk.outbox
+  pub are : AreLanesOf c posted false desk.lanes
+  pub all : HoldAll c zone past desk.lanes
 
 -- It has decided one event more, and what that made due waits.
 pub record Waits (c : Config) (zone : Zone) (posted : ℕ → Bool) (e : Event) (past : List Event)
-    (desk : Desk) : Type 0 where
-  pub config : desk.delivery.config.now ≡ c
-  pub decided : HasDecided c zone (e ∷ past) desk.decider desk.log.items
+    (desk : DeskValue) : Type 0 where
+  pub config : desk.config ≡ c
+  pub decided : HasDecided c zone (e ∷ past) desk.decider desk.log
   pub lanes : length (lists desk.outbox) ≡ length c.lanes
   pub waits : (l : ℕ) → l < length c.lanes
       → waiting_at desk.outbox l ≡ gained c zone whole_share l e past
-  pub are : AreLanesOf c posted false desk.lanes.items
-  pub all : HoldAll c zone past desk.lanes.items
+  pub are : AreLanesOf c posted false desk.lanes
+  pub all : HoldAll c zone past desk.lanes
 
 -- What it has at the end, where memory ran out or didn't: of each lane all that was made due, or a front of it.
 pub record Holds (c : Config) (zone : Zone) (posted : ℕ → Bool) (memory : Bool)
-    (past : List Event) (desk : Desk) : Type 0 where
-  pub log_is : desk.log.items ≡ suppressed c zone past
-  pub are : AreLanesOf c posted memory desk.lanes.items
-  pub fronts : HoldFronts c zone past desk.lanes.items
-  pub all : memory ≡ false → HoldAll c zone past desk.lanes.items
+    (past : List Event) (desk : DeskValue) : Type 0 where
+  pub log_is : desk.log ≡ suppressed c zone past
+  pub are : AreLanesOf c posted memory desk.lanes
+  pub fronts : HoldFronts c zone past desk.lanes
+  pub all : memory ≡ false → HoldAll c zone past desk.lanes
 
 -- ---- a whole run
 
@@ -97,18 +114,18 @@ pub record IsStart (known : Option (List ℕ)) (now : Intake) : Type 0 where
 
 -- a run goes on: its events are decided
 pub record GoesOn (c : Config) (zone : Zone) (posted : ℕ → Bool) (start : Feed) (intake : Intake)
-    (desk : Desk) : Type 0 where
+    (desk : DeskValue) : Type 0 where
   pub read : HasRead c start intake
   pub stands : Stands c zone posted (reverse intake.events) desk
 
 -- its feed is over
 pub record IsOver (can_fail : Bool) (c : Config) (zone : Zone) (posted : ℕ → Bool) (start : Feed)
-    (cut : Bool) (intake : Intake) (desk : Desk) : Type 0 where
+    (cut : Bool) (intake : Intake) (desk : DeskValue) : Type 0 where
   pub ended : HasEnded can_fail c start cut intake
   pub stands : Stands c zone posted (reverse intake.events) desk
 
 -- memory ran out
 pub record IsStopped (c : Config) (zone : Zone) (posted : ℕ → Bool) (start : Feed)
-    (intake : Intake) (desk : Desk) : Type 0 where
+    (intake : Intake) (desk : DeskValue) : Type 0 where
   pub read : HasRead c start intake ⊎ ((e : Event) × Offers c start e intake)
   pub holds : Holds c zone posted true (reverse intake.events) desk

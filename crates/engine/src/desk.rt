@@ -7,7 +7,7 @@ ghost use Rattle.due_model.specs.declared.zone.Zone.{Zone};
 ghost use Rattle.due_model.specs.Accepted.{IsAccepted};
 ghost use Rattle.due_model.specs.Limits.{max_events};
 ghost use Rattle.due_model.specs.Proper.{IsProper};
-ghost use Rattle.engine.specs.Served.{Holds, Stands, Waits};
+ghost use Rattle.engine.specs.Served.{Holds, Stands, Waits, desk_value};
 
 use crate::lane::{Delivery, Lane};
 use crate::lanes::{new_lanes, serve};
@@ -49,7 +49,7 @@ impl<'a> Desk<'a> {
     ) -> Result<Self, AllocError>
         requires { IsAccepted config.now }
         ensures { IfOk result (λ desk. Stands config.now zone.now
-            (λ l. list_any (λ post. post.lane.0 == l) posts.items) [] desk) }
+            (λ l. list_any (λ post. post.lane.0 == l) posts.items) [] (desk_value desk)) }
     {
         let lanes = config.lanes.len();
         Ok(Desk {
@@ -70,20 +70,20 @@ impl<'a> Desk<'a> {
     pub(crate) fn decide(&mut self, event: Event) -> Result<(), DecideFault>
         requires proper { IsProper self.old.delivery.config.now event }
         requires stands { (zone : Zone) × (posted : ℕ → Bool) × (past : List Event)
-            × Stands self.old.delivery.config.now zone posted past self.old }
+            × Stands self.old.delivery.config.now zone posted past (desk_value self.old) }
         ensures ok { OnOk result ((zone : Zone) (posted : ℕ → Bool) (past : List Event)
-            → Stands self.old.delivery.config.now zone posted past self.old
-            → Waits self.old.delivery.config.now zone posted event past self.new) }
+            → Stands self.old.delivery.config.now zone posted past (desk_value self.old)
+            → Waits self.old.delivery.config.now zone posted event past (desk_value self.new)) }
         ensures err { OnErr result ((zone : Zone) (posted : ℕ → Bool) (past : List Event)
-            → Stands self.old.delivery.config.now zone posted past self.old
-            → Holds self.old.delivery.config.now zone posted true past self.new) }
+            → Stands self.old.delivery.config.now zone posted past (desk_value self.old)
+            → Holds self.old.delivery.config.now zone posted true past (desk_value self.new)) }
         ensures ended { (zone : Zone) (posted : ℕ → Bool) (past : List Event)
-            → Stands self.old.delivery.config.now zone posted past self.old
+            → Stands self.old.delivery.config.now zone posted past (desk_value self.old)
             → IsErrOf result DecideFault.Ended ↔ (length past ≡ max_events) }
         ensures kept { (zone : Zone) (posted : ℕ → Bool) (past : List Event)
             → IsErrOf result DecideFault.Ended
-            → Stands self.old.delivery.config.now zone posted past self.old
-            → Stands self.old.delivery.config.now zone posted past self.new }
+            → Stands self.old.delivery.config.now zone posted past (desk_value self.old)
+            → Stands self.old.delivery.config.now zone posted past (desk_value self.new) }
         ensures config { self.new.delivery.config.now ≡ self.old.delivery.config.now }
     {
         self.decider.decide(event, &mut self.outbox)?;
@@ -97,13 +97,13 @@ impl<'a> Desk<'a> {
     pub(crate) fn serve(&mut self) -> Result<(), AllocError>
         requires accepted { IsAccepted self.old.delivery.config.now }
         requires waits { (zone : Zone) × (posted : ℕ → Bool) × (e : Event) × (past : List Event)
-            × Waits self.old.delivery.config.now zone posted e past self.old }
+            × Waits self.old.delivery.config.now zone posted e past (desk_value self.old) }
         ensures ok { OnOk result ((zone : Zone) (posted : ℕ → Bool) (e : Event) (past : List Event)
-            → Waits self.old.delivery.config.now zone posted e past self.old
-            → Stands self.old.delivery.config.now zone posted (e ∷ past) self.new) }
+            → Waits self.old.delivery.config.now zone posted e past (desk_value self.old)
+            → Stands self.old.delivery.config.now zone posted (e ∷ past) (desk_value self.new)) }
         ensures err { OnErr result ((zone : Zone) (posted : ℕ → Bool) (e : Event) (past : List Event)
-            → Waits self.old.delivery.config.now zone posted e past self.old
-            → Holds self.old.delivery.config.now zone posted true (e ∷ past) self.new) }
+            → Waits self.old.delivery.config.now zone posted e past (desk_value self.old)
+            → Holds self.old.delivery.config.now zone posted true (e ∷ past) (desk_value self.new)) }
         ensures config { self.new.delivery.config.now ≡ self.old.delivery.config.now }
     {
         serve(&mut self.lanes, self.delivery, &mut self.outbox)

@@ -1,7 +1,7 @@
 //! The lanes of a run.
 
 ghost use Rattle.std.specs.Prelude.{◌≡◌, ◌≢◌, ◌==◌, ◌<◌, ◌≤◌, ◌++◌, ℕ, Bool, [], false, true, length};
-ghost use Rattle.std.specs.Prelude.{map, is_some, slice_get, slice_set, IfOk, OnErr, OnOk, Some};
+ghost use Rattle.std.specs.Prelude.{map, is_some, slice_get, slice_set, IfOk, IsOk, OnErr, OnOk, Some};
 ghost use Rattle.std.specs.Prelude.{replicate, vec_capacity};
 ghost use Rattle.std.specs.List.{list_any};
 ghost use Rattle.due_model.specs.Limits.{max_lanes};
@@ -98,6 +98,14 @@ fn serve_lane(
     Ok(())
 }
 
+/// Whether both are Ok.
+fn both(first: Result<(), AllocError>, second: Result<(), AllocError>) -> Result<(), AllocError>
+    ensures { OnOk result (IsOk first × IsOk second) }
+{
+    first?;
+    second
+}
+
 /// Hands to each lane all that waits for it in the outbox. A refused growth is the only error: then each lane has a front of
 /// it. What one lane's growth was refused does to no other.
 pub(crate) fn serve(
@@ -124,14 +132,13 @@ pub(crate) fn serve(
         → MayBeShut posted memory (lane_at lanes.old.items l).kept.why
         → MayBeShut posted true (lane_at lanes.new.items l).kept.why }
 {
-    let mut served = Ok(());
+    let mut all = Ok(());
     for number in 0..lanes.len() as u8 {
-        let lane = &mut lanes[usize::from(number)];
-        if serve_lane(lane, delivery, LaneId(number), outbox).is_err() {
-            served = Err(AllocError);
-        }
+        let lane = &mut lanes[number as usize];
+        let served = serve_lane(lane, delivery, LaneId(number), outbox);
+        all = both(all, served);
     }
-    served
+    all
 }
 
 /// The lanes at the end of a run, where there is room for them. It takes no memory.

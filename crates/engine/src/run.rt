@@ -8,7 +8,7 @@ ghost use Rattle.due_model.specs.Accepted.{IsAccepted};
 ghost use Rattle.event_feed.specs.Feed.{Feed, feed_limit};
 ghost use Rattle.engine.specs.Feed.{HasRead, Offers};
 ghost use Rattle.engine.specs.Run.{After, IsRunEnd};
-ghost use Rattle.engine.specs.Served.{GoesOn, IsOver, IsStart, IsStopped, Stands};
+ghost use Rattle.engine.specs.Served.{GoesOn, IsOver, IsStart, IsStopped, Stands, desk_value};
 
 use crate::desk::Desk;
 use crate::intake::{Intake, Next};
@@ -55,7 +55,7 @@ impl<'a, R: Input + Drop> Run<'a, R> {
         requires { IsAccepted config.now }
         ensures start { IfOk result (λ run. IsStart (R.remaining reader) run.intake.read) }
         ensures stands { IfOk result (λ run. Stands config.now zone.now
-            (λ l. list_any (λ post. post.lane.0 == l) posts.items) [] run.desk) }
+            (λ l. list_any (λ post. post.lane.0 == l) posts.items) [] (desk_value run.desk)) }
         ensures ends { IfOk result (λ run. run.ends.items ≡ []) }
         ensures room { IfOk result (λ run. length run.desk.lanes.items ≤ vec_capacity run.ends) }
     {
@@ -73,17 +73,17 @@ impl<'a, R: Input + Drop> Run<'a, R> {
         requires accepted { IsAccepted self.old.desk.delivery.config.now }
         requires goes_on { (zone : Zone) × (posted : ℕ → Bool) × (start : Feed)
             × GoesOn self.old.desk.delivery.config.now zone posted start
-            self.old.intake.read self.old.desk }
+            self.old.intake.read (desk_value self.old.desk) }
         ensures over { IfOk result (λ cut. (zone : Zone) (posted : ℕ → Bool) (start : Feed)
             → GoesOn self.old.desk.delivery.config.now zone posted start
-            self.old.intake.read self.old.desk
+            self.old.intake.read (desk_value self.old.desk)
             → IsOver R.can_fail self.old.desk.delivery.config.now zone posted start cut
-            self.new.intake.read self.new.desk) }
+            self.new.intake.read (desk_value self.new.desk)) }
         ensures stopped { OnErr result ((zone : Zone) (posted : ℕ → Bool) (start : Feed)
             → GoesOn self.old.desk.delivery.config.now zone posted start
-            self.old.intake.read self.old.desk
+            self.old.intake.read (desk_value self.old.desk)
             → IsStopped self.old.desk.delivery.config.now zone posted start
-            self.new.intake.read self.new.desk) }
+            self.new.intake.read (desk_value self.new.desk)) }
         ensures count { length self.new.desk.lanes.items ≡ length self.old.desk.lanes.items }
         ensures ends { self.new.ends ≡ self.old.ends }
     {
@@ -99,17 +99,17 @@ impl<'a, R: Input + Drop> Run<'a, R> {
         requires accepted { IsAccepted self.old.desk.delivery.config.now }
         requires goes_on { (zone : Zone) × (posted : ℕ → Bool) × (start : Feed)
             × GoesOn self.old.desk.delivery.config.now zone posted start
-            self.old.intake.read self.old.desk }
+            self.old.intake.read (desk_value self.old.desk) }
         ensures turn { IfOk result (λ turn. (zone : Zone) (posted : ℕ → Bool) (start : Feed)
             → GoesOn self.old.desk.delivery.config.now zone posted start
-            self.old.intake.read self.old.desk
+            self.old.intake.read (desk_value self.old.desk)
             → After R.can_fail self.old.desk.delivery.config.now zone posted start turn
-            self.new.intake.read self.new.desk) }
+            self.new.intake.read (desk_value self.new.desk)) }
         ensures stopped { OnErr result ((zone : Zone) (posted : ℕ → Bool) (start : Feed)
             → GoesOn self.old.desk.delivery.config.now zone posted start
-            self.old.intake.read self.old.desk
+            self.old.intake.read (desk_value self.old.desk)
             → IsStopped self.old.desk.delivery.config.now zone posted start
-            self.new.intake.read self.new.desk) }
+            self.new.intake.read (desk_value self.new.desk)) }
         ensures line { IfOk result (λ turn. turn ≡ Turn.GoesOn
             → self.old.intake.read.feed.line < self.new.intake.read.feed.line) }
         ensures limit { IfOk result (λ turn. self.new.intake.read.feed.line ≤ feed_limit + 1) }
@@ -130,21 +130,21 @@ impl<'a, R: Input + Drop> Run<'a, R> {
         requires offers { (zone : Zone) × (posted : ℕ → Bool) × (start : Feed)
             × Offers self.old.desk.delivery.config.now start event self.old.intake.read
             × Stands self.old.desk.delivery.config.now zone posted
-            (reverse self.old.intake.read.events) self.old.desk }
+            (reverse self.old.intake.read.events) (desk_value self.old.desk) }
         requires events_room { 0 < self.old.intake.events_room }
         requires refused_room { 0 < self.old.intake.refused_room }
         ensures turn { IfOk result (λ turn. (zone : Zone) (posted : ℕ → Bool) (start : Feed)
             → Offers self.old.desk.delivery.config.now start event self.old.intake.read
             → Stands self.old.desk.delivery.config.now zone posted
-            (reverse self.old.intake.read.events) self.old.desk
+            (reverse self.old.intake.read.events) (desk_value self.old.desk)
             → After R.can_fail self.old.desk.delivery.config.now zone posted start turn
-            self.new.intake.read self.new.desk) }
+            self.new.intake.read (desk_value self.new.desk)) }
         ensures stopped { OnErr result ((zone : Zone) (posted : ℕ → Bool) (start : Feed)
             → Offers self.old.desk.delivery.config.now start event self.old.intake.read
             → Stands self.old.desk.delivery.config.now zone posted
-            (reverse self.old.intake.read.events) self.old.desk
+            (reverse self.old.intake.read.events) (desk_value self.old.desk)
             → IsStopped self.old.desk.delivery.config.now zone posted start
-            self.new.intake.read self.new.desk) }
+            self.new.intake.read (desk_value self.new.desk)) }
         ensures feed { self.new.intake.read.feed ≡ self.old.intake.read.feed }
         ensures config { self.new.desk.delivery.config.now ≡ self.old.desk.delivery.config.now }
         ensures ends { self.new.ends ≡ self.old.ends }
@@ -166,11 +166,11 @@ impl<'a, R: Input + Drop> Run<'a, R> {
     pub(crate) fn complete(mut self) -> RunEnd
         requires accepted { IsAccepted self.desk.delivery.config.now }
         requires goes_on { (zone : Zone) × (posted : ℕ → Bool) × (start : Feed)
-            × GoesOn self.desk.delivery.config.now zone posted start self.intake.read self.desk }
+            × GoesOn self.desk.delivery.config.now zone posted start self.intake.read (desk_value self.desk) }
         requires none { self.ends.items ≡ [] }
         requires room { length self.desk.lanes.items ≤ vec_capacity self.ends }
         ensures { (zone : Zone) (posted : ℕ → Bool) (start : Feed)
-            → GoesOn self.desk.delivery.config.now zone posted start self.intake.read self.desk
+            → GoesOn self.desk.delivery.config.now zone posted start self.intake.read (desk_value self.desk)
             → IsRunEnd R.can_fail self.desk.delivery.config.now zone posted start result }
     {
         let read = self.read_all();
