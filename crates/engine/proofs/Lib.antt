@@ -1,2 +1,3 @@
 pub mod ServeLaws
 pub mod LanesLaws
+pub mod EndLaws
