@@ -61,7 +61,7 @@ either : {T E P Q R : Type 0} (r : Result T E) → OnOk r P → OnErr r Q → (P
 either (Ok x) p q f g = f p
 either (Err x) p q f g = g q
 
-runs_out : (posted memory : Bool) (why : _) → MayBeShut posted memory why → MayBeShut posted true why
+pub runs_out : (posted memory : Bool) (why : _) → MayBeShut posted memory why → MayBeShut posted true why
 runs_out posted memory why h = record {
   unposted = h.unposted;
   no_channel = h.no_channel;

@@ -1,3 +1,4 @@
 pub mod ServeLaws
 pub mod LanesLaws
 pub mod EndLaws
+pub mod DeskLaws
