@@ -2,3 +2,4 @@ pub mod ServeLaws
 pub mod LanesLaws
 pub mod EndLaws
 pub mod DeskLaws
+pub mod IntakeLaws

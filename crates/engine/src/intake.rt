@@ -84,10 +84,10 @@ impl<R: Input + Drop> Intake<R> {
             Ok(Some(event)) => Ok(Next::Accepts(event)),
             Err(refusal) => {
                 let _room = self.refused.push(refusal);
-                match self.feeder.stop() {
-                    None => Ok(Next::Refused),
-                    Some(_) => Ok(Next::Over(true)),
+                if let Some(_stop) = self.feeder.stop() {
+                    return Ok(Next::Over(true));
                 }
+                Ok(Next::Refused)
             }
         }
     }
