@@ -3,3 +3,4 @@ pub mod LanesLaws
 pub mod EndLaws
 pub mod DeskLaws
 pub mod IntakeLaws
+pub mod RunLaws
