@@ -75,6 +75,7 @@ impl<R: Input + Drop> Intake<R> {
         ensures events_room { IfOk result (λ next. goes_on next ≡ true → 0 < self.new.events_room) }
         ensures refused_room { IfOk result (λ next. (e : Event) → next ≡ Next.Accepts e
             → 0 < self.new.refused_room) }
+        ensures events { self.new.read.events ≡ self.old.read.events }
         ensures err { OnErr result (self.new.read ≡ self.old.read) }
     {
         self.events.reserve(1)?;
