@@ -1,0 +1,24 @@
+use Rattle.std.proofs.Common.{rules, ◌≡◌, inl}
+use Rattle.delivery_worker.specs.Attempts.{with_hand, with_taken}
+use Rattle.delivery_worker.proofs.LaneLaws.{hand_order, taken_order}
+use Rattle.delivery_worker.proofs.delivery.deliver_notice.Goals as goal
+
+pub returns-in_default-clause-order : goal.returns-in_default-clause-order
+returns-in_default-clause-order g c = λ queue e.
+    let same : c.take_up.new.self ≡ with_hand c.args.notice c.args.lane.now = search rules in
+    inl (hand_order c.args.notice c.args.lane.now c.take_up.new.self queue c.requires.idle e same)
+
+pub returns-in-Settled-clause-order : goal.returns-in-Settled-clause-order
+returns-in-Settled-clause-order g c = λ queue e.
+    let same : c.settle.new.self ≡ with_taken c.args.notice c.args.lane.now = search rules in
+    inl (taken_order c.args.notice c.args.lane.now c.settle.new.self queue c.requires.idle e same)
+
+pub returns-in-Asked-clause-order : goal.returns-in-Asked-clause-order
+returns-in-Asked-clause-order g c = λ queue e.
+    let same : c.take_up.new.self ≡ with_hand c.args.notice c.args.lane.now = search rules in
+    inl (hand_order c.args.notice c.args.lane.now c.take_up.new.self queue c.requires.idle e same)
+
+pub returns-clause-order : goal.returns-clause-order
+returns-clause-order g c = λ queue e.
+    let same : c.take_up.new.self ≡ with_hand c.args.notice c.args.lane.now = search rules in
+    inl (hand_order c.args.notice c.args.lane.now c.take_up.new.self queue c.requires.idle e same)

@@ -1,0 +1,35 @@
+-- What tries that failed leave, and how a lane's record stands after a notice was handed to its channel.
+use Rattle.std.specs.Prelude.{◌≡◌, ℕ, ◌+◌, ◌-◌, ◌^◌, ◌<◌, ◌≤◌, ◌⊎◌, List, [], ◌∷◌, ◌++◌, Some}
+use Rattle.std.specs.Option.{option_to_list}
+use Rattle.due_model.specs.declared.notice.Notice.{Notice}
+use Rattle.undelivered.specs.Record.{Record}
+use Rattle.undelivered.specs.declared.Why.{Why}
+use Rattle.undelivered.specs.declared.Why.TheVariants.{NoMemory}
+
+-- a count rose by so many, or by fewer and stands at the greatest that a u64 holds
+abbrev pub RisesBy : (more old new : ℕ) → Type 0
+RisesBy more old new =
+    (new ≡ old + more) ⊎ ((2 ^ 64 - 1 ≤ new) × (old ≤ new) × (new ≤ old + more))
+
+-- So many tries failed of a letter of this size: each at the device, which counted it, or none of them, since the letter is
+-- longer than the channel's limit.
+abbrev pub TriesFailed : (tries limit size old new : ℕ) → Type 0
+TriesFailed tries limit size old new =
+    ((size ≤ limit) × RisesBy tries old new) ⊎ ((limit < size) × (new ≡ old))
+
+-- the record once its channel has taken a notice
+abbrev pub with_taken : Notice → Record → Record
+with_taken n lane = record lane { taken = lane.taken ++ n ∷ [] }
+
+-- the record while a notice is in hand
+abbrev pub with_hand : Notice → Record → Record
+with_hand n lane = record lane { hand = Some n }
+
+-- Where its channel hasn't taken a notice, that is in hand; or memory ran out before it was, and the record is as before.
+abbrev pub KeepsInHand : Why → Notice → (old new : Record) → Type 0
+KeepsInHand why n old new =
+    (new ≡ with_hand n old) ⊎ ((new ≡ old) × (why ≡ NoMemory))
+
+-- all that a record holds, in order: what its channel has taken, the notice in hand, what was given up
+abbrev pub contents : Record → List Notice
+contents lane = lane.taken ++ option_to_list lane.hand ++ lane.undelivered

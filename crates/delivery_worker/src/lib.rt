@@ -1,0 +1,36 @@
+//! How the worker of a lane hands a notice to the lane's channel: as often as it may be tried, unless a bell says that the
+//! lane is to close.
+#![tactic(auto)]
+
+ghost use Rattle.std.specs.Prelude.{◌≡◌, ◌+◌, if◌then◌else◌};
+
+pub mod delivery;
+pub mod laws;
+
+/// What tells a worker that its lane is to close.
+pub trait Bell {
+    ghost use Rattle.std.specs.Prelude.{ℕ};
+
+    // How often it has said so.
+    ghost count: { Self → ℕ };
+
+    /// Whether the lane is to close. Each true answer is counted, and where the count stands at `u64::MAX` the answer is
+    /// false.
+    fn asked(&mut self) -> bool
+        ensures { count self.new ≡ count self.old + (if result then 1 else 0) };
+
+    /// How many true answers there were.
+    fn count(&self) -> u64
+        ensures { result ≡ count self.now };
+}
+
+/// What became of a letter that was tried.
+#[derive(Clone, Copy, Debug, PartialEq, Eq)]
+pub enum Attempted {
+    /// The channel has taken it.
+    Settled,
+    /// The bell said that the lane is to close, before a try.
+    Asked,
+    /// It failed as often as it may be tried.
+    Failed,
+}
