@@ -1,0 +1,5 @@
+mod ElementLemmas
+mod NumberLemmas
+mod NodeLemmas
+mod GroupLemmas
+mod LawLemmas

@@ -1,0 +1,71 @@
+-- One entry, one place, one service or one node more.
+use Rattle.std.proofs.Common.{◌≡◌, ℕ, zero, suc, ◌+◌, ◌<◌, nat_lt, List, [], ◌∷◌, ◌++◌, append_assoc, length, map, replicate, filter, take, get_or, Option, refl, sym, ap, eqb, ◌∙◌, Bor, arith}
+use Rattle.std.specs.List.{dedup, flat_map, range_with_len}
+use Rattle.std.specs.List.Sorted.{IsPermutation, IsSorted}
+use Rattle.std.specs.Option.{option_to_list}
+use Rattle.std.specs.Ordering.{nat_cmp}
+use Rattle.std.proofs.lemmas.Bool.{lt-ltb, ltb-true}
+use Rattle.std.proofs.lemmas.List.{map-append, take_more}
+use Rattle.std.proofs.lemmas.List.Elements.{filter_map-append}
+use Rattle.graph.specs.declared.edges.Edge.{Edge}
+use Rattle.lemmas.proofs.Elements.{Contains-filter, Contains-from_filter, in_order-rising, in_order-same}
+use Rattle.lemmas.proofs.Numbers.{below_more, flat_range_more}
+use Rattle.lemmas.proofs.Searches.{found-one, texts-more}
+use Rattle.object_groups.specs.Names.{number_of, numbers_of}
+use Rattle.object_values.specs.Values.{texts}
+use Rattle.object_service_groups.specs.Nodes.{AreBelow}
+
+-- ---- one entry more
+
+pub nodes-more : (first : ℕ) (names : List (List ℕ)) (xs : List (Bor (List ℕ))) (i : ℕ) (d : Bor (List ℕ)) (old new : List ℕ) (found : Option ℕ) → i < length xs
+    → old ≡ map (λ number. first + number) (numbers_of names (texts (take i xs))) → found ≡ number_of names ((get_or xs i d).now)
+    → new ≡ old ++ map (λ number. first + number) (option_to_list found)
+    → new ≡ map (λ number. first + number) (numbers_of names (texts (take (i + 1) xs)))
+nodes-more first names xs i d old new found within before is more =
+    let all : numbers_of names (texts (take (i + 1) xs)) ≡ numbers_of names (texts (take i xs)) ++ option_to_list found =
+    ap (numbers_of names) (texts-more xs i d within) ∙ filter_map-append (number_of names) (texts (take i xs)) ((get_or xs i d).now ∷ [])
+    ∙ ap (λ one. numbers_of names (texts (take i xs)) ++ one) (found-one (number_of names ((get_or xs i d).now)) ∙ ap option_to_list (sym is)) in
+    more ∙ ap (λ nodes. nodes ++ map (λ number. first + number) (option_to_list found)) before
+    ∙ sym (map-append (λ number. first + number) (numbers_of names (texts (take i xs))) (option_to_list found)) ∙ ap (map (λ number. first + number)) (sym all)
+
+-- ---- one block more, and its services
+
+pub blocks-more : (f : ℕ → List ℕ) (old new one : List ℕ) (number : ℕ) → old ≡ flat_map f (range_with_len 0 number) → new ≡ old ++ one → one ≡ f number
+    → new ≡ flat_map f (range_with_len 0 (number + 1))
+blocks-more f old new one number before more is =
+    more ∙ ap (λ (xs : List ℕ). xs ++ one) before ∙ ap (λ (xs : List ℕ). flat_map f (range_with_len 0 number) ++ xs) is ∙ sym (flat_range_more f number)
+
+replicate-snoc : (n x : ℕ) → replicate (n + 1) x ≡ replicate n x ++ x ∷ []
+replicate-snoc zero x = refl
+replicate-snoc (suc n) x = let shift : suc n + 1 ≡ suc (n + 1) = omega arith in rw shift (ap (λ (xs : List ℕ). x ∷ xs) (replicate-snoc n x))
+
+pub services-more : (first old new : List ℕ) (n x : ℕ) → old ≡ first ++ replicate n x → new ≡ old ++ x ∷ [] → new ≡ first ++ replicate (n + 1) x
+services-more first old new n x before more =
+    more ∙ ap (λ (xs : List ℕ). xs ++ x ∷ []) before ∙ append_assoc first (replicate n x) (x ∷ []) ∙ ap (λ (xs : List ℕ). first ++ xs) (sym (replicate-snoc n x))
+
+-- ---- one edge more
+
+pub edges-more : (f : ℕ → Edge) (first old new : List Edge) (xs : List ℕ) (i d : ℕ) → i < length xs → old ≡ first ++ map f (take i xs) → new ≡ old ++ f (get_or xs i d) ∷ []
+    → new ≡ first ++ map f (take (i + 1) xs)
+edges-more f first old new xs i d within before more =
+    more ∙ ap (λ (es : List Edge). es ++ f (get_or xs i d) ∷ []) before ∙ append_assoc first (map f (take i xs)) (f (get_or xs i d) ∷ [])
+    ∙ ap (λ (es : List Edge). first ++ es) (sym (ap (map f) (take_more xs i d within) ∙ map-append f (take i xs) (get_or xs i d ∷ [])))
+
+pub owners-more : (f : ℕ → Edge) (first old new : List Edge) (n : ℕ) (one : Edge) → old ≡ first ++ map f (range_with_len 0 n) → new ≡ old ++ one ∷ [] → one ≡ f n
+    → new ≡ first ++ map f (range_with_len 0 (n + 1))
+owners-more f first old new n one before more is =
+    more ∙ ap (λ (es : List Edge). es ++ one ∷ []) before ∙ append_assoc first (map f (range_with_len 0 n)) (one ∷ [])
+    ∙ ap (λ (e : Edge). first ++ (map f (range_with_len 0 n) ++ e ∷ [])) is
+    ∙ ap (λ (es : List Edge). first ++ es) (sym (ap (map f) (below_more n) ∙ map-append f (range_with_len 0 n) (n ∷ [])))
+
+-- ---- the services among the nodes
+
+pub below-from_sorted : (services : ℕ) (nodes ys zs : List ℕ) → IsPermutation (filter (λ node. nat_lt node services) nodes) ys → IsSorted nat_cmp ys → zs ≡ dedup eqb ys
+    → AreBelow services nodes zs
+below-from_sorted services nodes ys zs moved sorted is = record {
+  rising = in_order-rising (filter (λ node. nat_lt node services) nodes) ys zs moved sorted is;
+  exactly = λ k. (
+    (λ here. let on = Contains-from_filter (λ node. nat_lt node services) nodes k ((in_order-same (filter (λ node. nat_lt node services) nodes) ys zs moved sorted is k).0 here) in (on.0, ltb-true k services on.1)),
+    (λ both. (in_order-same (filter (λ node. nat_lt node services) nodes) ys zs moved sorted is k).1 (Contains-filter (λ node. nat_lt node services) nodes k both.0 (lt-ltb k services both.1))),
+  );
+}

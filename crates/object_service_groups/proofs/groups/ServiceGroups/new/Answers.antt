@@ -1,0 +1,33 @@
+use Rattle.std.proofs.Common.{◌≡◌, ◌+◌, ◌<◌, ◌^◌, ◌∙◌, List, ap, arith, length, ℕ}
+use Rattle.graph.specs.Reach.{Found}
+use Rattle.object_groups.specs.Objects.{objects_in, ObjectsOf}
+use Rattle.object_reader.specs.declared.block.Block.{Block}
+use Rattle.object_reader.specs.declared.block.BlockKind.TheVariants.{Service}
+use Rattle.object_service_groups.proofs.GroupLemmas.{count-is, kept-are}
+use Rattle.object_service_groups.proofs.groups.ServiceGroups.new.Goals as goal
+
+pub graph_of-requires-clause-blocks : goal.graph_of-requires-clause-blocks
+graph_of-requires-clause-blocks c = c.objects-blocks.ensures ∙ ap (λ (bs : List Block). record { blocks = bs; kind = Service }) c.requires.services
+
+pub graph_of-requires-clause-few : goal.graph_of-requires-clause-few
+graph_of-requires-clause-few c =
+    let long = ap (λ (ps : List ℕ). length ps) c.places.ensures.places ∙ ap (λ (o : ObjectsOf). length (objects_in o.blocks o.kind)) c.objects-blocks.ensures
+    ∙ ap (λ (bs : List Block). length (objects_in bs Service)) c.requires.services in
+    let groups = ap (λ (ps : List ℕ). length ps) c.places-2.ensures.places ∙ ap (λ (o : ObjectsOf). length (objects_in o.blocks o.kind)) c.in_ok-groups.ensures in
+    omega (arith, long, groups, c.len.ensures, c.saturating_add-first.ensures, c.saturating_add.ensures, c.if-saturating_add.false)
+
+pub invariant_of-result : goal.invariant_of-result
+invariant_of-result c =
+    let templates = c.args.templates.now in
+    let long = ap (λ (ps : List ℕ). length ps) c.places.ensures.places ∙ ap (λ (o : ObjectsOf). length (objects_in o.blocks o.kind)) c.objects-blocks.ensures
+    ∙ ap (λ (bs : List Block). length (objects_in bs Service)) c.requires.services in
+    let groups = ap (λ (ps : List ℕ). length ps) c.places-2.ensures.places ∙ ap (λ (o : ObjectsOf). length (objects_in o.blocks o.kind)) c.in_ok-groups.ensures in
+    let first : c.saturating_add-first.result ≡ length c.args.numbers.now + length (objects_in templates Service) =
+    omega (arith, long, groups, c.len.ensures, c.saturating_add-first.ensures, c.saturating_add.ensures, c.if-saturating_add.false) in
+    let all = c.in_ok-graph.ensures.count in
+    let count = count-is templates c.args.lists.now c.args.numbers.now c.requires.numbers in
+    let few : length c.in_ok-graph.graph < 2 ^ 32 =
+    omega (arith, all, count, long, groups, c.len.ensures, c.saturating_add-first.ensures, c.saturating_add.ensures, c.if-saturating_add.false) in
+    kept-are templates c.blocks-2.result.now c.in_ok-groups.groups c.args.lists.now c.args.numbers.now c.len-2.result c.saturating_add-first.result c.in_ok-search.search.nodes c.in_ok-graph.graph
+    c.blocks-2.ensures.value c.in_ok-groups.ensures c.requires.lists c.requires.numbers c.len-2.ensures first c.in_ok-graph.ensures few
+    (ap (λ (f : Found). f.nodes) c.in_ok-search.ensures ∙ c.node_count.ensures.count)

@@ -1,0 +1,4 @@
+pub mod Members
+pub mod Groups
+pub mod Nodes
+pub mod Laws
