@@ -1,0 +1,3 @@
+mod ServiceLemmas
+mod AddsLemmas
+mod ListedLemmas
