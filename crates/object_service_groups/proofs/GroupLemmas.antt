@@ -22,9 +22,9 @@ use Rattle.object_services.specs.Hosts.{AreHosts, HasHost}
 use Rattle.object_services.specs.Limits.{AreHostLists}
 use Rattle.object_services.specs.Numbers.{Pair, pairs_of}
 use Rattle.object_service_groups.specs.Groups.{AreNodes, AreServiceGroups, grouping, groups_in, named_in, owners_of}
-use Rattle.object_service_groups.specs.Members.{Grouping}
+use Rattle.object_service_groups.specs.Members.{Grouping, IsMember}
 use Rattle.object_service_groups.specs.Nodes.{block_edges, edge, edges_in, edges_of_block, edges_of_group, first_group, group_edges, IsGraphOf, owner_edges}
-use Rattle.object_service_groups.proofs.ElementLemmas.{mapped-within, numbers-within, owners-long, owners-within, places-within}
+use Rattle.object_service_groups.proofs.ElementLemmas.{mapped-within, numbers-within, owners-long, owners-within, place-there, places-within}
 use Rattle.object_service_groups.proofs.NodeLemmas.{edge-within, IsWell}
 
 -- ---- lists by numbers
@@ -171,6 +171,13 @@ grouping-well blocks lists are =
       own_groups = λ b p at. let low = groups-within blocks Service (codes "servicegroups") b p at in omega (arith, low, named_long, names_long);
       owners = λ s few. let low = owners-within lists (get_or (owners_of lists) s 0) (Contains-get_or (owners_of lists) s 0 few) in omega (arith, low, blocks_long, lists_long);
     }
+
+pub members-within : (blocks : List Block) (lists : List (List ℕ)) (group service : ℕ) → IsMember (grouping blocks lists) group service → service < length (pairs_of (names_in blocks Service) lists)
+members-within blocks lists group service (last, reaches, inl named) = named-within blocks (pairs_of (names_in blocks Service) lists) last service named
+members-within blocks lists group service (last, reaches, inr (block, is, named)) =
+    let low = place-there (owners_of lists) service block is in
+    let long = owners-long (names_in blocks Service) lists in
+    omega (arith, low, long)
 
 -- how many nodes there are
 pub count-is : (blocks : List Block) (lists : List (List ℕ)) (services : List Pair) → services ≡ pairs_of (names_in blocks Service) lists

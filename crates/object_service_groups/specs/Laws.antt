@@ -1,6 +1,11 @@
 -- Laws of service groups, of any groups.
-use Rattle.std.specs.Prelude.{◌≡◌, ℕ, [], Some, slice_get, slice_index_or, Contains, ◌⊎◌, ◌↔◌}
+use Rattle.std.specs.Prelude.{◌≡◌, ℕ, ◌<◌, List, [], length, Some, slice_get, slice_index_or, Contains, ◌⊎◌, ◌↔◌}
 use Rattle.graph.specs.Chains.{Reaches}
+use Rattle.object_groups.specs.Objects.{names_in}
+use Rattle.object_reader.specs.declared.block.Block.{Block}
+use Rattle.object_reader.specs.declared.block.BlockKind.TheVariants.{Service}
+use Rattle.object_services.specs.Numbers.{pairs_of}
+use Rattle.object_service_groups.specs.Groups.{grouping}
 use Rattle.object_service_groups.specs.Members.{Grouping, Holds, Includes, IsMember}
 
 -- the groups hold the same services, and list the same groups but that `from` now lists `to` too
@@ -31,3 +36,9 @@ BlocksServicesAreMembers = (g : Grouping) (group block service : ℕ)
 abbrev pub IncludedAreMembers : Type 0
 IncludedAreMembers = (g : Grouping) (group other service : ℕ)
     → Includes g group other → IsMember g other service → IsMember g group service
+
+-- The members of the groups of blocks are services, where these are the hosts of each service block.
+abbrev pub MembersAreServices : Type 0
+MembersAreServices = (blocks : List Block) (lists : List (List ℕ)) (group service : ℕ)
+    → IsMember (grouping blocks lists) group service
+    → service < length (pairs_of (names_in blocks Service) lists)

@@ -1,7 +1,7 @@
 //! Laws of service groups, each the contract of a function with nothing to do.
 
 ghost use Rattle.object_service_groups.specs.Laws.{BlocksServicesAreMembers, IncludedAreMembers, ListedAreMembers};
-ghost use Rattle.object_service_groups.specs.Laws.{LoopAddsNothing};
+ghost use Rattle.object_service_groups.specs.Laws.{LoopAddsNothing, MembersAreServices};
 
 /// A group's members don't change when a loop is added to it.
 pub fn loop_adds_nothing()
@@ -14,4 +14,9 @@ pub fn what_is_listed_is_a_member()
     ensures listed { ListedAreMembers }
     ensures blocks { BlocksServicesAreMembers }
     ensures included { IncludedAreMembers }
+{}
+
+/// The members of groups are services.
+pub fn members_are_services()
+    ensures { MembersAreServices }
 {}
