@@ -1,5 +1,5 @@
 -- Numbers that come to numbers: those of one thing, and of one thing more.
-use Rattle.std.proofs.Common.{◌≡◌, ℕ, zero, suc, ◌+◌, ◌<◌, Bool, true, List, [], ◌∷◌, ◌++◌, length, take, filter, get_or, Option, Some, refl, sym, ap, subst, ◌∙◌, ◌⊎◌, inl, inr, ⊎_elim, Bor, arith}
+use Rattle.std.proofs.Common.{◌≡◌, ℕ, zero, suc, ◌+◌, ◌<◌, Bool, List, [], ◌∷◌, ◌++◌, length, take, filter, get_or, Option, Some, refl, sym, ap, subst, ◌∙◌, ◌⊎◌, inl, inr, ⊎_elim, Bor, arith}
 use Rattle.std.specs.Prelude.{Contains, slice_get, ◌↔◌}
 use Rattle.std.specs.Option.{option_to_list}
 use Rattle.std.proofs.lemmas.List.{get_or-map, length-map}
@@ -72,7 +72,7 @@ adds-list {X} member x old members pushed new are is same k = (
 
 -- ---- the services of a host
 
-place-there : (xs : List Pair) (k : ℕ) (x : Pair) → slice_get xs k ≡ Some x → k < length xs
+pub place-there : (xs : List Pair) (k : ℕ) (x : Pair) → slice_get xs k ≡ Some x → k < length xs
 place-there [] k x is = cc
 place-there (y ∷ ys) zero x is = omega arith
 place-there (y ∷ ys) (suc k) x is = let rest = place-there ys k x is in omega (arith, rest)

@@ -1,17 +1,16 @@
 -- What a block lists.
-use Rattle.std.proofs.Common.{◌≡◌, ℕ, List, [], sym, ap, subst, ◌∙◌, ◌⊎◌, inl, inr, ⊎_elim}
+use Rattle.std.proofs.Common.{◌≡◌, ℕ, List, [], sym, subst, ◌⊎◌, inl, inr, ⊎_elim}
 use Rattle.std.specs.Prelude.{Contains, true, ◌↔◌}
 use Rattle.std.specs.List.Sorted.{IsStrictlyIncreasing}
 use Rattle.lemmas.proofs.Elements.{Contains-none}
-use Rattle.object_escalations.specs.Listed.{AddsMembers, AreServicesListed, IsDescribed, IsGrouped, is_named, IsOn, IsServiceListed, of_hosts, OfSome, ServiceDirectives}
+use Rattle.object_escalations.specs.Listed.{AddsMembers, AreServicesListed, IsDescribed, is_named, IsOn, IsServiceListed, of_hosts, OfSome, ServiceDirectives}
 use Rattle.object_groups.specs.Names.{numbers_of}
-use Rattle.object_groups.specs.Objects.{list_at, names_in, objects_in}
+use Rattle.object_groups.specs.Objects.{list_at, names_in}
 use Rattle.object_listing.specs.Listing.{Adds, AreThose, IsListed}
 use Rattle.object_reader.specs.declared.block.Block.{Block}
 use Rattle.object_reader.specs.declared.block.BlockKind.TheVariants.{Service, ServiceGroup}
 use Rattle.object_service_groups.specs.Groups.{grouping}
 use Rattle.object_service_groups.specs.Members.{IsMember}
-use Rattle.object_services.specs.Limits.{AreHostLists}
 use Rattle.object_services.specs.Numbers.{Pair, pairs_of}
 
 pub those-are : (blocks : List Block) (services : List Pair) (directives : ServiceDirectives) (place : ℕ) (listed : List ℕ) (entries : List (List ℕ)) (none first grouped all found : List ℕ)

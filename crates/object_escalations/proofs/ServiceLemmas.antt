@@ -1,13 +1,13 @@
 -- Services by their hosts: one service more, the graph of them, and what stands at a place.
-use Rattle.std.proofs.Common.{◌≡◌, ℕ, zero, suc, ◌+◌, ◌<◌, ◌≤◌, List, [], ◌∷◌, ◌++◌, append_assoc, length, map, take, get_or, Some, refl, sym, ap, subst, ◌∙◌, Bor, ⊎_elim, arith}
-use Rattle.std.specs.Prelude.{All, Contains, slice_get, slice_index_or, ◌↔◌}
+use Rattle.std.proofs.Common.{◌≡◌, ℕ, ◌+◌, ◌<◌, ◌≤◌, List, [], ◌∷◌, ◌++◌, append_assoc, length, map, take, get_or, sym, ap, subst, ◌∙◌, Bor, ⊎_elim, arith}
+use Rattle.std.specs.Prelude.{All, Contains, slice_index_or, ◌↔◌}
 use Rattle.std.specs.List.{flat_map, range_with_len}
-use Rattle.std.proofs.lemmas.List.{append-nil, get_or_past, get_or-map, length-map, map-append, take_more}
+use Rattle.std.proofs.lemmas.List.{append-nil, get_or-map, length-map, map-append, take_more}
 use Rattle.std.proofs.lemmas.List.Concat.{flat_map-cons}
 use Rattle.std.proofs.lemmas.List.Elements.{All-contains, All-from_get_or, Contains-append_cases, Contains-get_or}
 use Rattle.graph.specs.declared.edges.Edge.{Edge}
 use Rattle.graph.specs.Edges.{IsWithin, Leads}
-use Rattle.lemmas.proofs.Elements.{Contains-cases, Contains-from_map, Contains-from_range, Contains-here, Contains-later, Contains-map, Contains-none, Contains-range}
+use Rattle.lemmas.proofs.Elements.{Contains-from_map, Contains-from_range, Contains-here, Contains-later, Contains-map, Contains-none, Contains-range}
 use Rattle.lemmas.proofs.Numbers.{below_more, flat_range_more}
 use Rattle.object_services.specs.Numbers.{Key, Pair, pairs_in, pairs_of}
 use Rattle.object_escalations.specs.Services.{edge, host_edges, hosts_in, IsByHost}

@@ -3,6 +3,7 @@
 ghost use Rattle.std.specs.Prelude.{◌≡◌, IfOk};
 ghost use Rattle.object_escalations.specs.Listed.{AreServicesListed, of_hosts};
 ghost use Rattle.object_groups.specs.declared.groups.GroupKind.TheVariants.{HostGroups};
+ghost use Rattle.object_listing.specs.Listing.{AreThose, IsListed};
 
 use crate::numbers::{Descriptions, numbers_of, push_groups, push_hosts, put_in_order};
 use crate::services::HostServices;
@@ -80,6 +81,23 @@ impl<'a> ServiceListing<'a> {
         })
     }
 
+    /// The hosts that the block at the place lists, by their numbers, each once and in order. `hosts` are the host
+    /// groups of the same blocks. A refused growth changes nothing.
+    pub fn hosts_at(
+        &self,
+        alloc: Global,
+        hosts: &mut Groups<'a>,
+        place: usize,
+    ) -> Result<Vec<usize>, AllocError>
+        requires { hosts.old ≡ record { blocks = self.now.blocks; kind = HostGroups } }
+        ensures same { hosts.new ≡ hosts.old }
+        ensures hosts { IfOk result (λ found.
+            AreThose (IsListed self.now.blocks (of_hosts self.now.directives) place) found.items) }
+    {
+        let found = self.hosts.objects_at(alloc, hosts, place)?;
+        Ok(found)
+    }
+
     /// The services that the block at the place lists, by their places among the services, each once and in order: those
     /// on a host that it lists, by itself or by a group, whose description it lists too; and the members of the
     /// service groups that it lists. `*` alone as the list of descriptions is every service of these hosts;
@@ -109,7 +127,13 @@ impl<'a> ServiceListing<'a> {
         push_hosts(&mut found, services, &descriptions, listed.as_slice())?;
         let named = list_at(alloc, &self.groups, place)?;
         let grouped = numbers_of(alloc, groups.groups().names(), named.as_slice())?;
-        push_groups(alloc, &mut found, groups, services.len(), grouped.as_slice())?;
+        push_groups(
+            alloc,
+            &mut found,
+            groups,
+            services.len(),
+            grouped.as_slice(),
+        )?;
         put_in_order(&mut found)?;
         Ok(found)
     }

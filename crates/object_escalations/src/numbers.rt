@@ -34,10 +34,7 @@ impl<'a> Model for Descriptions<'a> {
 
 impl<'a> Descriptions<'a> {
     /// The list with these entries.
-    pub(crate) fn new(
-        alloc: Global,
-        entries: Vec<&'a [u8]>,
-    ) -> Result<Descriptions<'a>, AllocError>
+    pub(crate) fn new(alloc: Global, entries: Vec<&'a [u8]>) -> Result<Descriptions<'a>, AllocError>
         ensures { IfOk result (λ made. made ≡ texts entries.entry.items) }
     {
         let all = is_all(entries.as_slice());

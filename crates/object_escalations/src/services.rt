@@ -1,6 +1,6 @@
 //! The services of each host.
 
-ghost use Rattle.std.specs.Prelude.{◌≡◌, ◌<◌, ◌^◌, ◌++◌, ◌↔◌, ℕ, [], length, map, All, Contains};
+ghost use Rattle.std.specs.Prelude.{◌≡◌, ◌+◌, ◌<◌, ◌^◌, ◌++◌, ◌↔◌, ℕ, [], length, map, All, Contains};
 ghost use Rattle.std.specs.Prelude.{IfOk, OnOk, slice_index_or};
 ghost use Rattle.object_escalations.specs.Services.{host_edges, hosts_in, IsByHost};
 ghost use Rattle.object_services.specs.Numbers.{pairs_in, pairs_of};
@@ -62,7 +62,8 @@ fn edges_of(alloc: Global, pairs: &[(usize, &[u8])]) -> Result<Vec<Edge>, AllocE
 /// The graph in which each of so many hosts leads to its services.
 fn graph_of(alloc: Global, hosts: usize, pairs: &[(usize, &[u8])]) -> Result<Graph, AllocError>
     requires hosts { All (λ pair. pair.0 < hosts) pairs.now }
-    ensures { IfOk result (IsByHost (hosts_in (pairs_in pairs.now))) }
+    ensures by_host { IfOk result (IsByHost (hosts_in (pairs_in pairs.now))) }
+    ensures few { OnOk result (hosts + length pairs.now < 2 ^ 32) }
 {
     let nodes = hosts.saturating_add(pairs.len());
     if nodes > u32::MAX as usize {
@@ -104,7 +105,8 @@ impl<'a> HostServices<'a> {
         lists: &ServiceHosts,
     ) -> Result<HostServices<'a>, AllocError>
         requires { All (All (λ host. host < hosts)) lists.now }
-        ensures { IfOk result (λ made. made ≡ pairs_of descriptions.now lists.now) }
+        ensures services { IfOk result (λ made. made ≡ pairs_of descriptions.now lists.now) }
+        ensures few { IfOk result (λ made. hosts + length made < 2 ^ 32) }
     {
         let pairs = pairs_of(alloc, descriptions, lists)?;
         let graph = graph_of(alloc, hosts, pairs.as_slice())?;

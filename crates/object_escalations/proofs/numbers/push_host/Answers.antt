@@ -1,4 +1,4 @@
-use Rattle.std.proofs.Common.{◌≡◌, ◌++◌, ◌∙◌, [], List, ap, filter, take_all, ℕ}
+use Rattle.std.proofs.Common.{◌++◌, ◌∙◌, [], List, ap, filter, take_all, ℕ}
 use Rattle.std.specs.Prelude.{slice_index_or}
 use Rattle.object_escalations.specs.Listed.{is_named}
 use Rattle.object_escalations.proofs.AddsLemmas.{adds-host}

@@ -1,8 +1,7 @@
-use Rattle.std.proofs.Common.{◌≤◌, ◌∙◌, List, [], ap, arith, length, subst, sym, ℕ}
-use Rattle.std.specs.Prelude.{slice_index_or}
+use Rattle.std.proofs.Common.{◌≤◌, List, [], arith, length, subst, sym}
 use Rattle.std.proofs.lemmas.List.{get_or_past}
 use Rattle.object_escalations.specs.Services.{hosts_in, IsByHost}
-use Rattle.object_services.specs.Numbers.{Pair, pairs_in}
+use Rattle.object_services.specs.Numbers.{Pair}
 use Rattle.object_escalations.proofs.ServiceLemmas.{of-host}
 use Rattle.object_escalations.proofs.services.HostServices.of_host.Goals as goal
 
