@@ -1,0 +1,178 @@
+-- The objects of which escalations speak, and how many there are.
+use Rattle.std.proofs.Common.{◌≡◌, ℕ, zero, suc, ◌+◌, ◌<◌, ◌≤◌, ◌^◌, Bool, true, false, ◌&&◌, List, [], ◌∷◌, ◌++◌, length, map, take, get_or, Option, Some, refl, sym, ap, subst, eqb, eqb-true, ◌∙◌, inl, inr, arith}
+use Rattle.std.specs.Prelude.{All, Contains, slice_get}
+use Rattle.std.specs.List.{AllZip, range_with_len, sum_by}
+use Rattle.std.specs.Option.{option_map_or}
+use Rattle.std.proofs.lemmas.Bool.{false≢true}
+use Rattle.std.proofs.lemmas.List.{get_or-map, length-map, map-append, take_more}
+use Rattle.std.proofs.lemmas.List.Elements.{All-from_get_or, Contains-get_or}
+use Rattle.std.proofs.lemmas.List.Sums.{sum_by-append, sum_by-cons}
+use Rattle.due_model.specs.Limits.{max_escalations}
+use Rattle.lemmas.proofs.Elements.{Contains-from_map, Contains-map, Contains-none}
+use Rattle.lemmas.proofs.Numbers.{below_more}
+use Rattle.object_escalations.specs.Escalated.{AreAfter, AreServicesOf, AreSpokenOf, IsFirstOver, IsSoFar, SpeaksOf}
+use Rattle.object_escalations.specs.Listed.{AreServicesListed, escalation_directives, IsServiceListed, of_hosts, ServiceDirectives}
+use Rattle.object_groups.specs.Objects.{is_object, is_object_at, names_in}
+use Rattle.object_inheritance.specs.Templates.{kind_number}
+use Rattle.object_listing.specs.Laws.{ListedAreObjects}
+use Rattle.object_listing.specs.Listing.{AreThose, host_directives, IsListed}
+use Rattle.object_reader.specs.declared.block.Block.{Block}
+use Rattle.object_reader.specs.declared.block.BlockKind.{BlockKind}
+use Rattle.object_reader.specs.declared.block.BlockKind.TheVariants.{Host, HostEscalation, Service, ServiceEscalation}
+use Rattle.object_service_groups.specs.Laws.{MembersAreServices}
+use Rattle.object_services.specs.Hosts.{AreHosts}
+use Rattle.object_services.specs.Numbers.{Pair, pairs_of}
+use Rattle.object_escalations.proofs.AddsLemmas.{place-there}
+
+-- ---- services after the hosts
+
+pub after-more : (f : ℕ → ℕ) (old new xs : List ℕ) (i d one : ℕ) → i < length xs → old ≡ map f (take i xs) → new ≡ old ++ one ∷ [] → one ≡ f (get_or xs i d)
+    → new ≡ map f (take (i + 1) xs)
+after-more f old new xs i d one within before more is =
+    more ∙ ap (λ (ns : List ℕ). ns ++ one ∷ []) before ∙ ap (λ (n : ℕ). map f (take i xs) ++ n ∷ []) is
+    ∙ sym (ap (map f) (take_more xs i d within) ∙ map-append f (take i xs) (get_or xs i d ∷ []))
+
+shift-those : (P : ℕ → Type 0) (n : ℕ) (xs : List ℕ) → AreThose P xs → AreThose (λ k. (s : ℕ) × (k ≡ n + s) × P s) (map (λ s. n + s) xs)
+shift-those P n xs those = record {
+  rising = λ k low. let long = length-map xs (λ s. n + s) in
+      let here = get_or-map (λ s. n + s) xs k 0 0 (omega (arith, long, low)) in
+      let next = get_or-map (λ s. n + s) xs (k + 1) 0 0 (omega (arith, long, low)) in
+      let less = those.rising k (omega (arith, long, low)) in
+      omega (arith, here, next, less);
+  exactly = λ k. (
+    (λ at. let on = Contains-from_map (λ s. n + s) xs k at in (on.0, sym on.2, (those.exactly on.0).0 on.1)),
+    (λ some. subst (λ (m : ℕ). Contains (map (λ s. n + s) xs) m) (sym some.1) (Contains-map (λ s. n + s) xs some.0 ((those.exactly some.0).1 some.2))),
+  );
+}
+
+listed-within : MembersAreServices → (blocks : List Block) (lists : List (List ℕ)) (directives : ServiceDirectives) (place service : ℕ) → IsServiceListed blocks lists directives place service
+    → service < length (pairs_of (names_in blocks Service) lists)
+listed-within members blocks lists directives place service (inl (host, description, there, listed, named)) = place-there (pairs_of (names_in blocks Service) lists) service (host, description) there
+listed-within members blocks lists directives place service (inr (group, at, member)) = members blocks lists group service member
+
+pub services-are : MembersAreServices → (blocks : List Block) (services : List Pair) (directives : ServiceDirectives) (place hosts : ℕ) (found given numbers : List ℕ)
+    → AreServicesListed blocks services directives place found → given ≡ found → AreAfter hosts given numbers → hosts ≡ length (names_in blocks Host) → length (names_in blocks Host) + length services < 2 ^ 32
+    → AreServicesOf blocks services directives place numbers
+services-are members blocks services directives place hosts found given numbers listed same after hosts_are few lists are services_are =
+    subst (λ (ns : List ℕ). AreThose (λ object. (service : ℕ) × (object ≡ length (names_in blocks Host) + service) × IsServiceListed blocks lists directives place service) ns)
+    (sym (after all ∙ ap (λ (ns : List ℕ). map (λ s. hosts + s) ns) same ∙ ap (λ (n : ℕ). map (λ s. n + s) found) hosts_are))
+    (shift-those (IsServiceListed blocks lists directives place) (length (names_in blocks Host)) found (listed lists are services_are))
+  where
+    all : All (λ service. hosts + service < 2 ^ 32) given
+    all = subst (λ (ns : List ℕ). All (λ service. hosts + service < 2 ^ 32) ns) (sym same) (All-from_get_or (λ service. hosts + service < 2 ^ 32) found 0
+        (λ i low. let at = ((listed lists are services_are).exactly (get_or found i 0)).0 (Contains-get_or found i 0 low) in
+        let below = listed-within members blocks lists directives place (get_or found i 0) at in
+        let count = ap (λ (ps : List Pair). length ps) services_are in
+        omega (arith, below, count, hosts_are, few)))
+
+-- ---- one block
+
+and-true : (a b : Bool) → (a && b) ≡ true → a ≡ true
+and-true true b is = refl
+and-true false b is = absurd (false≢true is)
+
+object-at : (blocks : List Block) (kind : BlockKind) (place : ℕ) (x : Block) (b : Bool) → slice_get blocks place ≡ Some x → b ≡ is_object kind x → is_object_at blocks kind place ≡ b
+object-at blocks kind place x b here is = ap (λ (found : Option Block). option_map_or (is_object kind) found false) here ∙ sym is
+
+-- a block isn't of both types
+of_kind : (kind : BlockKind) (block : Block) → is_object kind block ≡ true → kind_number block.kind ≡ kind_number kind
+of_kind kind block is = eqb-true (kind_number block.kind) (kind_number kind) (and-true (eqb (kind_number block.kind) (kind_number kind)) _ is)
+
+apart : (blocks : List Block) (place : ℕ) (x : Block) → slice_get blocks place ≡ Some x → is_object_at blocks HostEscalation place ≡ true → is_object_at blocks ServiceEscalation place ≡ true → ⊥
+apart blocks place x here host service =
+    let one = of_kind HostEscalation x (sym (object-at blocks HostEscalation place x (is_object HostEscalation x) here refl) ∙ host) in
+    let other = of_kind ServiceEscalation x (sym (object-at blocks ServiceEscalation place x (is_object ServiceEscalation x) here refl) ∙ service) in
+    omega (arith, one, other)
+
+module _ (blocks : List Block) (services : List Pair) (place : ℕ) (x : Block) (here : slice_get blocks place ≡ Some x) where
+  pub of-hosts : (directives : ServiceDirectives) (found : List ℕ) → directives ≡ escalation_directives → true ≡ is_object HostEscalation x
+      → AreThose (IsListed blocks (of_hosts directives) place) found → AreSpokenOf blocks services place found
+  of-hosts directives found directives_are is listed lists are services_are = record {
+    rising = listed.rising;
+    exactly = λ k. ((λ at. inl (object-at blocks HostEscalation place x true here is, (those.exactly k).0 at)), from k);
+  }
+    where
+      those : AreThose (IsListed blocks host_directives place) found
+      those = subst (λ (d : ServiceDirectives). AreThose (IsListed blocks (of_hosts d) place) found) directives_are listed
+
+      from : (k : ℕ) → SpeaksOf blocks lists place k → Contains found k
+      from k (inl both) = (those.exactly k).1 both.1
+      from k (inr both) = absurd (apart blocks place x here (object-at blocks HostEscalation place x true here is) both.0)
+
+  pub of-services : (directives : ServiceDirectives) (found : List ℕ) → directives ≡ escalation_directives → true ≡ is_object ServiceEscalation x
+      → AreServicesOf blocks services directives place found → AreSpokenOf blocks services place found
+  of-services directives found directives_are is given lists are services_are = record {
+    rising = those.rising;
+    exactly = λ k. ((λ at. inr (object-at blocks ServiceEscalation place x true here is, (those.exactly k).0 at)), from k);
+  }
+    where
+      those : AreThose (λ object. (service : ℕ) × (object ≡ length (names_in blocks Host) + service) × IsServiceListed blocks lists escalation_directives place service) found
+      those = subst (λ (d : ServiceDirectives). AreServicesOf blocks services d place found) directives_are given lists are services_are
+
+      from : (k : ℕ) → SpeaksOf blocks lists place k → Contains found k
+      from k (inl both) = absurd (apart blocks place x here both.0 (object-at blocks ServiceEscalation place x true here is))
+      from k (inr both) = (those.exactly k).1 both.1
+
+  pub of-none : (found : List ℕ) → found ≡ [] → false ≡ is_object HostEscalation x → false ≡ is_object ServiceEscalation x → AreSpokenOf blocks services place found
+  of-none found empty host service lists are services_are = subst (λ (ns : List ℕ). AreThose (SpeaksOf blocks lists place) ns) (sym empty) (record {
+    rising = λ k low. absurd (omega (arith, low));
+    exactly = λ k. ((λ at. absurd (Contains-none k at)), none k);
+  })
+    where
+      none : (k : ℕ) → SpeaksOf blocks lists place k → Contains [] k
+      none k (inl both) = absurd (false≢true (sym (object-at blocks HostEscalation place x false here host) ∙ both.0))
+      none k (inr both) = absurd (false≢true (sym (object-at blocks ServiceEscalation place x false here service) ∙ both.0))
+
+-- ---- the hosts of services are hosts
+
+pub hosts-below : ListedAreObjects → (blocks : List Block) (places : List ℕ) (lists : List (List ℕ)) → AllZip (AreHosts blocks) places lists → All (All (λ host. host < length (names_in blocks Host))) lists
+hosts-below law blocks places lists are = All-from_get_or (All (λ host. host < length (names_in blocks Host))) lists [] (λ i low. each places lists i are low)
+  where
+    each : (ps : List ℕ) (ls : List (List ℕ)) (i : ℕ) → AllZip (AreHosts blocks) ps ls → i < length ls → All (λ host. host < length (names_in blocks Host)) (get_or ls i [])
+    each ps [] i all low = absurd (omega (arith, low))
+    each [] (l ∷ ls) i all low = absurd all
+    each (p ∷ ps) (l ∷ ls) zero all low = All-from_get_or (λ host. host < length (names_in blocks Host)) l 0
+        (λ k within. law blocks host_directives p (get_or l k 0) ((all.0.exactly (get_or l k 0)).0 (Contains-get_or l k 0 within)))
+    each (p ∷ ps) (l ∷ ls) (suc i) all low = each ps ls i all.1 (omega (arith, low))
+
+-- ---- all blocks
+
+lists-more : {X Y : Type 0} (R : X → Y → Type 0) (xs : List X) (ys : List Y) (x : X) (y : Y) → AllZip R xs ys → R x y → AllZip R (xs ++ x ∷ []) (ys ++ y ∷ [])
+lists-more R [] [] x y all more = (more, tt)
+lists-more R [] (z ∷ ys) x y all more = absurd all
+lists-more R (w ∷ xs) [] x y all more = absurd all
+lists-more R (w ∷ xs) (z ∷ ys) x y all more = (all.0, lists-more R xs ys x y all.1 more)
+
+sum-more : (lists : List (List ℕ)) (objects : List ℕ) → sum_by length (lists ++ objects ∷ []) ≡ sum_by length lists + length objects
+sum-more lists objects =
+    let all = sum_by-append length lists (objects ∷ []) in
+    let one = sum_by-cons length objects [] in
+    omega (arith, all, one)
+
+module _ (blocks : List Block) (lists : List (List ℕ)) where
+  pub none-yet : IsSoFar blocks lists 0 [] 0
+  none-yet = record { listed = tt; counted = refl }
+
+  pub next-block : (place : ℕ) (old new : List (List ℕ)) (found : List ℕ) (count total : ℕ) → IsSoFar blocks lists place old count → AreThose (SpeaksOf blocks lists place) found
+      → new ≡ old ++ found ∷ [] → total ≡ count + length found → IsSoFar blocks lists (place + 1) new total
+  next-block place old new found count total before those is sum = record {
+    listed = subst (λ (places : List ℕ). AllZip (λ at objects. AreThose (SpeaksOf blocks lists at) objects) places new) (sym (below_more place))
+        (subst (λ (all : List (List ℕ)). AllZip (λ at objects. AreThose (SpeaksOf blocks lists at) objects) (range_with_len 0 place ++ place ∷ []) all) (sym is)
+        (lists-more (λ at objects. AreThose (SpeaksOf blocks lists at) objects) (range_with_len 0 place) old place found before.listed those));
+    counted = (let counted = before.counted in let more = sum-more old found in let same = ap (sum_by length) is in omega (arith, counted, more, same, sum));
+  }
+
+  pub first-over : (place : ℕ) (x : Block) (old : List (List ℕ)) (found : List ℕ) (count : ℕ) → place < length blocks → slice_get blocks place ≡ Some x
+      → IsSoFar blocks lists place old count → count ≤ max_escalations → AreThose (SpeaksOf blocks lists place) found → max_escalations < count + length found → IsFirstOver blocks lists place x.line
+  first-over place x old found count within here before low those over =
+      let after = next-block place old (old ++ found ∷ []) found count (count + length found) before those refl refl in
+      record {
+        block = x;
+        here = here;
+        at = refl;
+        passes = record {
+          within = within;
+          before = (count, (old, before.listed, before.counted), low);
+          over = (count + length found, (old ++ found ∷ [], after.listed, after.counted), over);
+        };
+      }
