@@ -1,3 +1,4 @@
 pub mod Services
 pub mod Listed
 pub mod Escalated
+pub mod Entries

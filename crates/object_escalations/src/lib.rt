@@ -2,6 +2,7 @@
 //! services that blocks list by their hosts and descriptions and by service groups.
 #![tactic(auto)]
 
+pub mod entries;
 pub mod escalated;
 pub mod listing;
 mod numbers;

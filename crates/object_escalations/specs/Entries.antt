@@ -1,0 +1,65 @@
+-- The escalations that blocks give (chapters "Notification Escalations" and "Object Definitions").
+use Rattle.std.specs.Prelude.{◌≡◌, ℕ, List, [], length, map, codes, true, Option, Some, slice_get, slice_index_or, unwrap_or, if◌then◌else◌}
+use Rattle.std.specs.List.{AllZip, flat_map, range_with_len}
+use Rattle.due_model.specs.Objects.{object_id}
+use Rattle.due_model.specs.declared.config.ContactId.{ContactId}
+use Rattle.due_model.specs.declared.config.Escalation.{Escalation}
+use Rattle.due_model.specs.declared.config.Object.{Object}
+use Rattle.object_groups.specs.Objects.{is_object_at, names_in}
+use Rattle.object_listing.specs.Listing.{AreThose, contact_directives, gives_neither, IsListed}
+use Rattle.object_reader.specs.declared.block.Block.{Block}
+use Rattle.object_reader.specs.declared.block.BlockKind.TheVariants.{HostEscalation, TimePeriod}
+use Rattle.object_readings.specs.Readings.{letters_at, number_at, own_number, own_period}
+use Rattle.object_values.specs.declared.options.OptionKind.{OptionKind}
+use Rattle.object_values.specs.declared.options.OptionKind.TheVariants as lists
+
+-- the kind of the option list of the escalation at the place
+abbrev pub option_kind : List Block → (place : ℕ) → OptionKind
+option_kind blocks place =
+    if is_object_at blocks HostEscalation place then lists.HostEscalation else lists.ServiceEscalation
+
+-- The contacts of an escalation: those that the block at the place lists, and the object's, where it gives neither
+-- contacts nor contact groups.
+abbrev pub AreContactsOf : List Block → (place : ℕ) → (object : Object) → List ContactId → Type 0
+AreContactsOf blocks place object contacts =
+    if gives_neither blocks contact_directives place then contacts ≡ object.contacts
+    else AreThose (IsListed blocks contact_directives place) (map (λ contact. contact.0) contacts)
+
+-- The escalation of the object of that number that the block at the place gives: an interval or a period that the
+-- block lacks is the object's.
+pub record IsEscalationOf (blocks : List Block) (place number : ℕ) (object : Object)
+    (escalation : Escalation) : Type 0 where
+  pub object_is : escalation.object ≡ object_id number
+  pub first : escalation.first ≡ number_at blocks (codes "first_notification") 0 place
+  pub last : escalation.last ≡ number_at blocks (codes "last_notification") 0 place
+  pub interval : escalation.interval
+      ≡ unwrap_or (own_number blocks (codes "notification_interval") place) object.interval
+  pub period : escalation.period
+      ≡ unwrap_or (own_period (names_in blocks TimePeriod) blocks (codes "escalation_period") place) object.period
+  pub options : escalation.options
+      ≡ letters_at blocks (codes "escalation_options") (option_kind blocks place) place
+  pub contacts : AreContactsOf blocks place object escalation.contacts
+
+-- where an escalation comes from: the place of its block, and the number of its object
+pub record Origin : Type 0 where
+  pub place : ℕ
+  pub number : ℕ
+
+-- the escalation that comes from there, where these are the objects
+abbrev pub ComesFrom : List Block → (objects : List Object) → Origin → Escalation → Type 0
+ComesFrom blocks objects origin escalation = (object : Object)
+    × (slice_get objects origin.number ≡ Some object)
+    × IsEscalationOf blocks origin.place origin.number object escalation
+
+-- those of all blocks, where these are the objects of which each speaks: block by block, and within a block object
+-- by object
+abbrev pub origins : (spoken : List (List ℕ)) → List Origin
+origins spoken = flat_map (λ place.
+    map (λ number. record { place = place; number = number }) (slice_index_or spoken place []))
+    (range_with_len 0 (length spoken))
+
+-- The escalations of the blocks, where these are the objects, and those of which each block speaks.
+abbrev pub AreEscalationsOf : List Block → (objects : List Object) → (spoken : List (List ℕ))
+    → List Escalation → Type 0
+AreEscalationsOf blocks objects spoken escalations =
+    AllZip (ComesFrom blocks objects) (origins spoken) escalations
