@@ -2,7 +2,8 @@
 use Rattle.std.specs.Prelude.{ℕ, List, [], ◌∷◌, ◌++◌, codes, decimal}
 use Rattle.due_model.specs.declared.config.Config.{Config}
 use Rattle.due_model.specs.declared.notice.Notice.{Notice}
-use Rattle.channel.specs.Fields.{contact_text, kind_name, number_text, object_text, state_name}
+use Rattle.notice_text.specs.Names.{kind_name, state_name}
+use Rattle.notice_text.specs.Texts.{contact_text, number_text, object_text}
 
 -- a line: its label, what it says, a newline
 abbrev pub line : (label said : List ℕ) → List ℕ

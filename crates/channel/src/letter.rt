@@ -1,14 +1,15 @@
 //! The letter of a notice.
 
 ghost use Rattle.std.specs.Prelude.{◌≡◌, ◌++◌, decimal, IfOk, OnOk};
-ghost use Rattle.channel.specs.Fields.{contact_text, host_part, number_text, object_text, own_name};
 ghost use Rattle.channel.specs.Letter.{letter_of, line, number_lines, subject_lines};
+ghost use Rattle.notice_text.specs.Texts.{number_text, object_text};
 
-use crate::names::{kind_name, state_name};
 use due_model::config::{Config, ObjectId};
 use due_model::notice::Notice;
 use due_model::sequence::{Sequence, Text};
 use itoa::Buffer;
+use notice_text::names::{kind_name, state_name};
+use notice_text::texts;
 use std::alloc::{AllocError, Global};
 
 /// What a channel is given: a notice, and the text that tells it.
@@ -42,7 +43,7 @@ fn push_subject(text: &mut Vec<u8>, config: &Config, notice: &Notice) -> Result<
     ensures { OnOk result
         (text.new.items ≡ text.old.items ++ subject_lines config.now notice.now) }
 {
-    push_line(text, b"To: ", contact_name(config, notice))?;
+    push_line(text, b"To: ", texts::contact_name(config, notice.contact))?;
     push_line(text, b"Kind: ", kind_name(notice.kind).as_bytes())?;
     push_object_line(text, b"Object: ", config, notice.object)?;
     push_line(text, b"State: ", state_name(notice.state).as_bytes())
@@ -80,55 +81,10 @@ fn push_number(text: &mut Vec<u8>, label: &[u8], number: u64) -> Result<(), Allo
 fn push_notice_number(text: &mut Vec<u8>, label: &[u8], number: u64) -> Result<(), AllocError>
     ensures { OnOk result (text.new.items ≡ text.old.items ++ line label.now (number_text number)) }
 {
-    if number == 0 {
-        push_line(text, label, b"-")
-    } else {
-        push_number(text, label, number)
-    }
-}
-
-/// The name of a notice's contact.
-fn contact_name<'a>(config: &'a Config, notice: &Notice) -> &'a [u8]
-    ensures { result.now ≡ contact_text config.now notice.now.contact.0 }
-{
-    match config.contacts.as_slice().get(notice.contact.0 as usize) {
-        Some(contact) => contact.name.as_slice(),
-        None => b"",
-    }
-}
-
-/// An object's own name.
-fn own_name(config: &Config, object: ObjectId) -> &[u8]
-    ensures { result.now ≡ own_name config.now object.0 }
-{
-    match config.objects.as_slice().get(object.0 as usize) {
-        Some(object) => object.name.as_slice(),
-        None => b"",
-    }
-}
-
-/// Adds the name of a service's host, and a slash.
-fn push_host(text: &mut Vec<u8>, config: &Config, host: Option<ObjectId>) -> Result<(), AllocError>
-    ensures { OnOk result (text.new.items ≡ text.old.items ++ host_part config.now host) }
-{
-    let Some(host) = host else {
-        return Ok(());
-    };
-    text.extend_from_slice(own_name(config, host))?;
-    text.extend_from_slice(b"/")
-}
-
-/// Adds an object: `host`, or `host/service`.
-fn push_object(text: &mut Vec<u8>, config: &Config, object: ObjectId) -> Result<(), AllocError>
-    ensures { OnOk result (text.new.items ≡ text.old.items ++ object_text config.now object.0) }
-{
-    match config.objects.as_slice().get(object.0 as usize) {
-        Some(object) => {
-            push_host(text, config, object.host)?;
-            text.extend_from_slice(object.name.as_slice())
-        }
-        None => text.extend_from_slice(b""),
-    }
+    text.extend_from_slice(label)?;
+    texts::push_notice_number(text, number)?;
+    text.push(b'\n')?;
+    Ok(())
 }
 
 /// Adds a line that says an object.
@@ -142,7 +98,7 @@ fn push_object_line(
         (text.new.items ≡ text.old.items ++ line label.now (object_text config.now object.0)) }
 {
     text.extend_from_slice(label)?;
-    push_object(text, config, object)?;
+    texts::push_object(text, config, object)?;
     text.push(b'\n')?;
     Ok(())
 }

@@ -12,7 +12,6 @@ use std::alloc::AllocError;
 
 pub mod letter;
 pub mod memory;
-mod names;
 pub mod record;
 
 /// What a channel hands its letters to.

@@ -1,5 +1,4 @@
 pub mod Fields
-pub mod Names
 pub mod Outcome
 pub mod Output
 pub mod OutputLaws

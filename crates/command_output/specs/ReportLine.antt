@@ -8,8 +8,9 @@ use Rattle.due_model.specs.declared.notice.Suppression.{Suppression}
 use Rattle.due_model.specs.declared.state.State.{State}
 use Rattle.event_feed.specs.declared.fault.FeedFault.{FeedFault}
 use Rattle.event_feed.specs.Fault.{fault_name}
-use Rattle.command_output.specs.Fields.{contact_text, field, lane_text, number_text, object_text}
-use Rattle.command_output.specs.Names.{filter_name, kind_name, state_name}
+use Rattle.command_output.specs.Fields.{field}
+use Rattle.notice_text.specs.Names.{filter_name, kind_name, state_name}
+use Rattle.notice_text.specs.Texts.{contact_text, lane_text, number_text, object_text}
 
 -- what each of these lines begins with, after its letter: event;moment;object;kind;state
 unfoldable pub head_fields : Config → (event moment object : ℕ) → Kind → State → List ℕ

@@ -5,7 +5,8 @@ use Rattle.due_model.specs.declared.notice.Notice.{Notice}
 use Rattle.command_output.specs.declared.trace_line.LaneLine.{LaneLine}
 use Rattle.command_output.specs.declared.trace_line.StepRefusal.{StepRefusal}
 use Rattle.command_output.specs.declared.trace_line.StepRefusal.TheVariants.{BadStep, NotEnabled}
-use Rattle.command_output.specs.Fields.{field, lane_text, notices_text, object_text}
+use Rattle.command_output.specs.Fields.{field, notices_text}
+use Rattle.notice_text.specs.Texts.{lane_text, object_text}
 
 abbrev pub refusal_name : StepRefusal → List ℕ
 refusal_name BadStep = codes "BadStep"

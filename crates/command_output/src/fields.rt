@@ -1,13 +1,13 @@
 //! The fields of a line.
 
 ghost use Rattle.std.specs.Prelude.{◌≡◌, ◌++◌, decimal, flat_map, OnOk};
-ghost use Rattle.command_output.specs.Fields.{after_comma, contact_text, field, host_part, lane_text};
-ghost use Rattle.command_output.specs.Fields.{notice_mark, notices_text, number_text, object_text};
-ghost use Rattle.command_output.specs.Fields.{own_name};
+ghost use Rattle.command_output.specs.Fields.{after_comma, field, notice_mark, notices_text};
+ghost use Rattle.notice_text.specs.Texts.{contact_text, lane_text, number_text, object_text};
 
 use due_model::config::{Config, ContactId, LaneId, ObjectId};
 use due_model::notice::Notice;
 use itoa::Buffer;
+use notice_text::texts;
 use std::alloc::AllocError;
 
 /// Adds a field.
@@ -30,45 +30,8 @@ pub(crate) fn push_number(line: &mut Vec<u8>, number: u64) -> Result<(), AllocEr
 pub(crate) fn push_notice_number(line: &mut Vec<u8>, number: u64) -> Result<(), AllocError>
     ensures { OnOk result (line.new.items ≡ line.old.items ++ field (number_text number)) }
 {
-    if number == 0 {
-        push_field(line, b"-")
-    } else {
-        push_number(line, number)
-    }
-}
-
-/// An object's own name.
-fn own_name(config: &Config, object: ObjectId) -> &[u8]
-    ensures { result.now ≡ own_name config.now object.0 }
-{
-    match config.objects.as_slice().get(object.0 as usize) {
-        Some(object) => object.name.as_slice(),
-        None => b"",
-    }
-}
-
-/// Adds the name of a service's host, and a slash.
-fn push_host(line: &mut Vec<u8>, config: &Config, host: Option<ObjectId>) -> Result<(), AllocError>
-    ensures { OnOk result (line.new.items ≡ line.old.items ++ host_part config.now host) }
-{
-    let Some(host) = host else {
-        return Ok(());
-    };
-    line.extend_from_slice(own_name(config, host))?;
-    line.extend_from_slice(b"/")
-}
-
-/// Adds an object: `host`, or `host/service`.
-fn push_object_text(line: &mut Vec<u8>, config: &Config, object: ObjectId) -> Result<(), AllocError>
-    ensures { OnOk result (line.new.items ≡ line.old.items ++ object_text config.now object.0) }
-{
-    match config.objects.as_slice().get(object.0 as usize) {
-        Some(object) => {
-            push_host(line, config, object.host)?;
-            line.extend_from_slice(object.name.as_slice())
-        }
-        None => line.extend_from_slice(b""),
-    }
+    line.push(b';')?;
+    texts::push_notice_number(line, number)
 }
 
 /// Adds an object as a field.
@@ -81,7 +44,7 @@ pub(crate) fn push_object(
         (line.new.items ≡ line.old.items ++ field (object_text config.now object.0)) }
 {
     line.push(b';')?;
-    push_object_text(line, config, object)
+    texts::push_object(line, config, object)
 }
 
 /// Adds a contact as a field.
@@ -93,27 +56,14 @@ pub(crate) fn push_contact(
     ensures { OnOk result
         (line.new.items ≡ line.old.items ++ field (contact_text config.now contact.0)) }
 {
-    match config.contacts.as_slice().get(contact.0 as usize) {
-        Some(contact) => push_field(line, contact.name.as_slice()),
-        None => push_field(line, b""),
-    }
-}
-
-/// The name of a lane.
-pub(crate) fn lane_name(config: &Config, lane: LaneId) -> &[u8]
-    ensures { result.now ≡ lane_text config.now lane.0 }
-{
-    match config.lanes.as_slice().get(lane.0 as usize) {
-        Some(lane) => lane.name.as_slice(),
-        None => b"",
-    }
+    push_field(line, texts::contact_name(config, contact))
 }
 
 /// Adds a lane as a field.
 pub(crate) fn push_lane(line: &mut Vec<u8>, config: &Config, lane: LaneId) -> Result<(), AllocError>
     ensures { OnOk result (line.new.items ≡ line.old.items ++ field (lane_text config.now lane.0)) }
 {
-    push_field(line, lane_name(config, lane))
+    push_field(line, texts::lane_name(config, lane))
 }
 
 /// Adds a notice of a list, by its event and its contact.
@@ -123,10 +73,7 @@ fn push_mark(line: &mut Vec<u8>, config: &Config, notice: &Notice) -> Result<(),
     let mut buffer = Buffer::new();
     line.extend_from_slice(buffer.format(notice.event).as_bytes())?;
     line.push(b':')?;
-    match config.contacts.as_slice().get(notice.contact.0 as usize) {
-        Some(contact) => line.extend_from_slice(contact.name.as_slice()),
-        None => line.extend_from_slice(b""),
-    }
+    line.extend_from_slice(texts::contact_name(config, notice.contact))
 }
 
 /// Adds a list of notices as a field, a dash where there is none.

@@ -4,7 +4,6 @@
 
 mod fields;
 mod lines;
-mod names;
 mod outcome;
 mod output;
 mod output_line;

@@ -8,10 +8,10 @@ ghost use Rattle.command_output.specs.ReportLine.{refused_contact_line, stopped_
 use crate::fields::{
     push_contact, push_field, push_lane, push_notice_number, push_number, push_object,
 };
-use crate::names::{filter_name, kind_name, state_name};
 use due_model::config::{Config, ContactId, ObjectId};
 use due_model::notice::{Kind, Notice, Suppression};
 use due_model::state::State;
+use notice_text::names::{filter_name, kind_name, state_name};
 use std::alloc::AllocError;
 
 /// What the lines of notices and suppressions begin with, after their letter.

@@ -11,7 +11,7 @@ use Rattle.steps.specs.declared.step.LaneStep.{LaneStep}
 use Rattle.steps.specs.declared.step.LaneStep.TheVariants.{Pick, Settle, Fail, Ask, Close, Drain}
 use Rattle.trace.specs.declared.step_line.StepLine.{StepLine}
 use Rattle.trace.specs.declared.step_line.StepLine.TheVariants.{PostNext, Do}
-use Rattle.command_output.specs.Fields.{lane_text}
+use Rattle.notice_text.specs.Texts.{lane_text}
 
 -- a decider, by decimal digits that write its number; leading zeros are allowed
 pub record IsDecider (deciders : ℕ) (d : ℕ) (text : List ℕ) : Type 0 where

@@ -5,13 +5,14 @@ ghost use Rattle.std.specs.Prelude.{IfSome, MatchOption};
 ghost use Rattle.std.specs.Char.{is_ascii_digit};
 ghost use Rattle.std.specs.List.{list_all};
 ghost use Rattle.due_model.specs.Limits.{max_deciders, max_lanes};
-ghost use Rattle.command_output.specs.Fields.{lane_text};
+ghost use Rattle.notice_text.specs.Texts.{lane_text};
 ghost use Rattle.trace.specs.declared.step_line.StepLine.{StepLine};
 ghost use Rattle.trace.specs.StepLine.{BeginsWithWord, IsDecider, NamesLane, Spells, SpellsDecide};
 ghost use Rattle.trace.specs.StepLine.{SpellsLane, SpellsPut};
 
 use due_model::config::{Config, LaneId};
 use event_feed::read_number;
+use notice_text::texts::lane_name;
 use text_lines::find_byte;
 use world_steps::{LaneStep, Step};
 
@@ -146,16 +147,6 @@ fn are_digits(bytes: &[u8]) -> bool
     ensures { result ≡ list_all is_ascii_digit bytes.now }
 {
     bytes.iter().all(|byte| byte.is_ascii_digit())
-}
-
-/// The name of a lane.
-fn lane_name(config: &Config, lane: LaneId) -> &[u8]
-    ensures { result.now ≡ lane_text config.now lane.0 }
-{
-    match config.lanes.as_slice().get(lane.0 as usize) {
-        Some(lane) => lane.name.as_slice(),
-        None => b"",
-    }
 }
 
 /// The first lane of that name, if there is one.

@@ -1,13 +1,13 @@
-//! The names of states, kinds and filters.
+//! The names of states, kinds and filters, as reports and letters write them.
 
 ghost use Rattle.std.specs.Prelude.{◌≡◌};
-ghost use Rattle.command_output.specs.Names.{filter_name, kind_name, state_name};
+ghost use Rattle.notice_text.specs.Names.{filter_name, kind_name, state_name};
 
 use due_model::notice::{Filter, Kind};
 use due_model::state::State;
 
 /// The name of a state.
-pub(crate) fn state_name(state: State) -> &'static str
+pub fn state_name(state: State) -> &'static str
     ensures { result.now ≡ state_name state }
 {
     match state {
@@ -23,7 +23,7 @@ pub(crate) fn state_name(state: State) -> &'static str
 }
 
 /// The name of a kind of notification.
-pub(crate) fn kind_name(kind: Kind) -> &'static str
+pub fn kind_name(kind: Kind) -> &'static str
     ensures { result.now ≡ kind_name kind }
 {
     match kind {
@@ -38,7 +38,7 @@ pub(crate) fn kind_name(kind: Kind) -> &'static str
 }
 
 /// The name of a filter.
-pub(crate) fn filter_name(filter: Filter) -> &'static str
+pub fn filter_name(filter: Filter) -> &'static str
     ensures { result.now ≡ filter_name filter }
 {
     match filter {
