@@ -257,13 +257,13 @@ const FAULTS: [(&str, &str); 14] = [
         "define timeperiod{\ntimeperiod_name p\n2024-01-01 09:00-10:00\n}\n",
         "line 1: DatedException",
     ),
-    // Escalations come after the values of all blocks, and before names.
+    // Dependencies come after the values of all blocks, and before names.
     (
-        "define hostescalation{\nhost_name h\n}\ndefine host{\n}\n",
-        "line 4: MissingDirective",
+        "define hostdependency{\nhost_name h\ndependent_host_name h\n}\ndefine host{\n}\n",
+        "line 5: MissingDirective",
     ),
     (
-        "define host{\nhost_name h\ncontacts a\n}\ndefine hostescalation{\nhost_name h\n}\n",
+        "define host{\nhost_name h\ncontacts a\n}\ndefine hostdependency{\nhost_name h\ndependent_host_name h\n}\n",
         "line 5: NotYet",
     ),
     ("define hostescalation{\nregister 0\n}\n", ""),

@@ -45,7 +45,7 @@ shift-those P n xs those = record {
   );
 }
 
-listed-within : MembersAreServices → (blocks : List Block) (lists : List (List ℕ)) (directives : ServiceDirectives) (place service : ℕ) → IsServiceListed blocks lists directives place service
+pub listed-within : MembersAreServices → (blocks : List Block) (lists : List (List ℕ)) (directives : ServiceDirectives) (place service : ℕ) → IsServiceListed blocks lists directives place service
     → service < length (pairs_of (names_in blocks Service) lists)
 listed-within members blocks lists directives place service (inl (host, description, there, listed, named)) = place-there (pairs_of (names_in blocks Service) lists) service (host, description) there
 listed-within members blocks lists directives place service (inr (group, at, member)) = members blocks lists group service member
@@ -143,7 +143,7 @@ lists-more R [] (z ∷ ys) x y all more = absurd all
 lists-more R (w ∷ xs) [] x y all more = absurd all
 lists-more R (w ∷ xs) (z ∷ ys) x y all more = (all.0, lists-more R xs ys x y all.1 more)
 
-sum-more : (lists : List (List ℕ)) (objects : List ℕ) → sum_by length (lists ++ objects ∷ []) ≡ sum_by length lists + length objects
+pub sum-more : (lists : List (List ℕ)) (objects : List ℕ) → sum_by length (lists ++ objects ∷ []) ≡ sum_by length lists + length objects
 sum-more lists objects =
     let all = sum_by-append length lists (objects ∷ []) in
     let one = sum_by-cons length objects [] in

@@ -2,3 +2,5 @@ mod ServiceLemmas
 mod AddsLemmas
 mod ListedLemmas
 mod EscalatedLemmas
+mod GivenLemmas
+mod LawLemmas

@@ -1,3 +1,6 @@
 pub mod Services
 pub mod Listed
 pub mod Escalated
+pub mod Given
+pub mod Entries
+pub mod Laws

@@ -8,27 +8,33 @@ use Rattle.std.specs.Str.{bytes_eq}
 use Rattle.std.proofs.lemmas.Bool.{cases_lt, leb-true}
 use Rattle.std.proofs.lemmas.List.{get_or-map, get_or_past, length-map}
 use Rattle.std.proofs.lemmas.List.Elements.{All-nil, All-cons, All-append, All-from_get_or, Contains-get_or}
-use Rattle.std.proofs.lemmas.Option.{none-some}
+use Rattle.std.proofs.lemmas.Option.{none-some, slice_get_within}
 use Rattle.std.proofs.lemmas.Slice.Zip.{AllZip-long}
-use Rattle.due_model.specs.Accepted.{ContactFits, DependencyFits, DependsOn, EscalationFits, HasNoLoop, IsAccepted, IsHost, ObjectFits, RightsFit}
-use Rattle.due_model.specs.Limits.{max_number, max_objects}
+use Rattle.due_model.specs.Accepted.{ContactFits, DependencyFits, DependsOn, EscalationFits, HasContacts, HasNoLoop, IsAccepted, IsHost, ObjectFits, RightsFit}
+use Rattle.due_model.specs.Limits.{max_escalations, max_number, max_objects}
 use Rattle.due_model.specs.declared.config.Config.{Config}
 use Rattle.due_model.specs.declared.config.ContactId.{ContactId}
+use Rattle.due_model.specs.declared.config.Escalation.{Escalation}
 use Rattle.due_model.specs.declared.config.LaneId.{LaneId}
 use Rattle.due_model.specs.declared.config.Object.{Object}
+use Rattle.due_model.specs.declared.config.ObjectId.{ObjectId}
 use Rattle.due_model.specs.declared.config.PeriodId.{PeriodId}
 use Rattle.due_model.specs.declared.config.Rights.{Rights}
-use Rattle.lemmas.proofs.Lists.{All-flat_map}
+use Rattle.lemmas.proofs.Lists.{All-flat_map, All-slice_get}
 use Rattle.lemmas.proofs.Searches.{position-within}
 use Rattle.object_contacts.specs.Contacts.{AreRightsOf, IsContactOf}
 use Rattle.object_contacts.specs.Lanes.{lane_of, NamesLane}
 use Rattle.object_contacts.specs.declared.rights.RightsKind.{RightsKind}
 use Rattle.object_contacts.specs.declared.rights.RightsKind.TheVariants.{OfHosts, OfServices}
+use Rattle.object_escalations.specs.Entries as entries
+use Rattle.object_escalations.specs.Entries.{AreTold, ComesFrom, IsEscalationOf, origins_below}
+use Rattle.object_escalations.specs.Escalated.{GiveEscalations}
+use Rattle.object_escalations.specs.Laws as escalations
 use Rattle.object_groups.specs.Names.{number_of}
 use Rattle.object_groups.specs.Objects.{names_in, objects_in}
 use Rattle.object_inheritance.specs.Inherited.{name, value}
 use Rattle.object_listing.specs.Laws.{ListedAreObjects}
-use Rattle.object_listing.specs.Listing.{AreThose, contact_directives, host_directives, IsListed}
+use Rattle.object_listing.specs.Listing.{AreThose, contact_directives, gives_neither, host_directives, IsListed}
 use Rattle.object_periods.specs.Laws.{NoLoopIsLeft, PeriodsFit}
 use Rattle.object_periods.specs.Loops.{IsLoopedAt}
 use Rattle.object_reader.specs.declared.block.Block.{Block}
@@ -36,11 +42,12 @@ use Rattle.object_reader.specs.declared.block.BlockKind.TheVariants.{Command, Co
 use Rattle.object_readings.specs.Readings.{period_named, period_of}
 use Rattle.object_resolve.specs.Config.{command_at, IsConfigOf}
 use Rattle.object_resolve.specs.First.{IsNowhere}
-use Rattle.object_resolve.specs.Limits.{AreWithin}
+use Rattle.object_resolve.specs.Limits.{AreFewEscalations, AreWithin}
 use Rattle.object_resolve.proofs.PlaceLemmas.{names-long}
 use Rattle.object_services.specs.Hosts.{AreHosts}
 use Rattle.object_services.specs.Laws.{CountIsTheSum}
 use Rattle.object_services.specs.Limits.{AreWithinLimit}
+use Rattle.object_resolve.proofs.LimitLemmas.{hosts-one}
 use Rattle.object_settings.specs.Settings.{block_origins, HasSettings, host_origins, IsGiven, IsObjectOf, Origin, service_origins}
 use Rattle.object_settings.proofs.ObjectLemmas.{object-count}
 use Rattle.object_values.specs.Values.{number_in, number_of as value_of}
@@ -222,7 +229,42 @@ module _ (listed : ListedAreObjects) (blocks : List Block) (config : Config) (of
       (λ place contact good is. record { hosts = rights-fit OfHosts place contact.hosts is.hosts; services = rights-fit OfServices place contact.services is.services })
       (objects_in blocks Contact) config.contacts (all-of (λ place. Unit {0}) (objects_in blocks Contact) (λ place. tt)) of.contacts
 
+  -- ---- escalations
+
+  escalated-contacts : (place : ℕ) (object : Object) (contacts : List ContactId) (neither : Bool) → HasContacts config object.contacts
+      → AreTold neither blocks place object contacts → HasContacts config contacts
+  escalated-contacts place object contacts true few are = subst (λ (cs : List ContactId). HasContacts config cs) (sym are) few
+  escalated-contacts place object contacts false few are = contacts-fit place contacts are
+
+  escalation-fits : (place number : ℕ) (object : Object) (escalation : Escalation) → slice_get config.objects number ≡ Some object
+      → IsEscalationOf blocks place number object escalation → EscalationFits config escalation
+  escalation-fits place number object escalation here is =
+      let fits : ObjectFits config object = All-slice_get (ObjectFits config) config.objects number object objects-fit here in
+      record {
+        object = subst (λ (o : ObjectId). o.0 < length config.objects) (sym is.object_is) (slice_get_within config.objects number object here);
+        first = subst (λ (n : ℕ). n ≤ max_number) (sym is.first) (value-few (value blocks (codes "first_notification") place) 0 (omega arith));
+        last = subst (λ (n : ℕ). n ≤ max_number) (sym is.last) (value-few (value blocks (codes "last_notification") place) 0 (omega arith));
+        interval = subst (λ (n : ℕ). n ≤ max_number) (sym is.interval) (value-few (value blocks (codes "notification_interval") place) object.interval fits.interval);
+        period = subst (λ (p : Option PeriodId). IfSome p (λ q. q.0 < length config.periods)) (sym is.period)
+            (period-fits (name blocks (codes "escalation_period") place) object.period fits.period);
+        contacts = escalated-contacts place object escalation.contacts (gives_neither blocks contact_directives place) fits.contacts is.contacts;
+      }
+
+  escalations-fit : All (EscalationFits config) config.escalations
+  escalations-fit = zip-all (ComesFrom blocks config.objects) (λ origin. Unit {0}) (EscalationFits config)
+      (λ origin escalation good comes. escalation-fits origin.place origin.number comes.0 escalation comes.1 comes.2)
+      (origins_below of.spoken (length of.spoken)) config.escalations
+      (all-of (λ (origin : entries.Origin). Unit {0}) (origins_below of.spoken (length of.spoken)) (λ origin. tt)) of.escalations
+
 -- ---- the limits
+
+escalations-few : escalations.OneForEach → escalations.CountIsTheSum → (blocks : List Block) (config : Config) → (of : IsConfigOf blocks config) → AreFewEscalations blocks
+    → length config.escalations ≤ max_escalations
+escalations-few each counted blocks config of (hosts, are, (count, given, few)) =
+    let long = each blocks config.objects of.spoken config.escalations of.escalations in
+    let sum = counted blocks of.hosts (length blocks) count of.spoken
+    (subst (λ (lists : List (List ℕ)). GiveEscalations blocks lists (length blocks) count) (hosts-one blocks (objects_in blocks Service) hosts of.hosts are of.hosts_are) given) of.spoken_are in
+    omega (arith, long, sum, few)
 
 objects-few : CountIsTheSum → (blocks : List Block) (config : Config) → (of : IsConfigOf blocks config) → AreWithinLimit blocks → length config.objects ≤ max_objects
 unfolding objects_in
@@ -242,28 +284,28 @@ empty-all P xs is = subst (All P) (sym is) (All-nil P)
 empty-contains : {X : Type 0} (xs : List X) (x : X) → xs ≡ [] → Contains xs x → ⊥
 empty-contains xs x is here = let few : length xs ≡ 0 = ap length is in omega (arith, here.1, few)
 
-pub resolved-accepted : ListedAreObjects → CountIsTheSum → PeriodsFit → NoLoopIsLeft → (blocks : List Block) (config : Config)
+pub resolved-accepted : ListedAreObjects → CountIsTheSum → PeriodsFit → NoLoopIsLeft → escalations.OneForEach → escalations.CountIsTheSum → (blocks : List Block) (config : Config)
     → IsConfigOf blocks config → AreWithin blocks → IsNowhere (IsLoopedAt blocks) → IsAccepted config
-resolved-accepted listed counted fit unlooped blocks config of within none =
+resolved-accepted listed counted fit unlooped each each_counted blocks config of within none =
     let contacts = contacts-long listed blocks config of in
     let contact_names = names-long blocks Contact in
     let periods = periods-long listed blocks config of in
     let period_names = names-long blocks TimePeriod in
     let lanes = lanes-long listed blocks config of in
-    let few_contacts = within.1.contacts in
-    let few_periods = within.1.periods in
-    let few_lanes = within.1.lanes of.lanes of.lanes_are in
+    let few_contacts = within.others.contacts in
+    let few_periods = within.others.periods in
+    let few_lanes = within.others.lanes of.lanes of.lanes_are in
     record {
-      few_objects = objects-few counted blocks config of within.0;
+      few_objects = objects-few counted blocks config of within.objects;
       few_contacts = omega (arith, contacts, contact_names, few_contacts);
       few_lanes = omega (arith, lanes, few_lanes);
       few_periods = omega (arith, periods, period_names, few_periods);
-      few_escalations = rw of.no_escalation (omega arith);
+      few_escalations = escalations-few each each_counted blocks config of within.escalations;
       few_dependencies = rw of.no_dependency (omega arith);
       objects = objects-fit listed blocks config of;
       contacts = contacts-fit_all listed blocks config of;
       periods = fit blocks config of.periods;
-      escalations = empty-all (EscalationFits config) config.escalations of.no_escalation;
+      escalations = escalations-fit listed blocks config of;
       dependencies = empty-all (DependencyFits config) config.dependencies of.no_dependency;
       no_period_loop = unlooped blocks config of.periods none;
       no_dependency_loop = no-loop (DependsOn config) (λ p q step. empty-contains config.dependencies step.0 of.no_dependency step.1);

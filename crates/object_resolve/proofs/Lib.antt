@@ -4,3 +4,4 @@ pub mod LimitLemmas
 pub mod Accepted
 pub mod Refusals
 pub mod TextLemmas
+mod EntryLemmas

@@ -1,25 +1,30 @@
 -- The first block that passes a limit.
 use Rattle.std.proofs.Common.{◌≡◌, ℕ, ◌<◌, ◌≤◌, Bool, true, false, cond, List, [], ◌∷◌, length, get_or, Option, Some, None, refl, sym, ap, subst, ◌∙◌, ◌⊎◌, inl, inr, ⊎_elim, arith}
-use Rattle.std.specs.Prelude.{Contains, slice_get, IfNone, IfSome, ◌↔◌}
+use Rattle.std.specs.Prelude.{Contains, slice_get, sum_by, IfNone, IfSome, ◌↔◌}
 use Rattle.std.specs.Option.{option_and_then}
 use Rattle.std.specs.Str.{bytes_eq}
 use Rattle.std.proofs.lemmas.Bool.{cases_lt}
 use Rattle.std.proofs.lemmas.List.Elements.{All-contains, Contains-get_or}
 use Rattle.std.proofs.lemmas.List.Kept.{AllPairs-from_increasing}
 use Rattle.std.proofs.lemmas.Option.{get_or_from_slice_get, none-some, slice_get-get_or, slice_get_within}
-use Rattle.due_model.specs.Limits.{max_contacts, max_lanes, max_periods}
+use Rattle.due_model.specs.Limits.{max_contacts, max_escalations, max_lanes, max_periods}
 use Rattle.lemmas.proofs.Elements.{Contains-cases, Contains-here, Contains-later, Contains-none}
 use Rattle.lemmas.proofs.Lists.{AllPairs-head, AllPairs-tail}
 use Rattle.lemmas.proofs.Searches.{position-within}
 use Rattle.object_contacts.specs.Lanes.{AreLanes, IsLane, IsUsed}
+use Rattle.object_escalations.specs.Escalated as escalated
+use Rattle.object_escalations.specs.Escalated.{AreEscalated, GiveEscalations}
+use Rattle.object_escalations.specs.Laws as escalations
+use Rattle.object_escalations.specs.declared.escalated.LimitFault.{LimitFault as EscalationFault}
+use Rattle.object_escalations.specs.declared.escalated.LimitFault.TheVariants as passing
 use Rattle.object_groups.specs.Objects.{names_in, objects_in}
 use Rattle.object_names.specs.First.{IsFirst, lower}
 use Rattle.object_reader.specs.declared.block.Block.{Block}
 use Rattle.object_reader.specs.declared.block.BlockKind.{BlockKind}
-use Rattle.object_reader.specs.declared.block.BlockKind.TheVariants.{Command, Contact, TimePeriod}
+use Rattle.object_reader.specs.declared.block.BlockKind.TheVariants.{Command, Contact, Service, TimePeriod}
 use Rattle.object_resolve.specs.Fault.{IsAmong, IsOfPlace}
 use Rattle.object_resolve.specs.First.{IsNowhere}
-use Rattle.object_resolve.specs.Limits.{AreFewOthers, AreWithin, IsOneOver, IsOver, PassesLanes, PassesOther}
+use Rattle.object_resolve.specs.Limits.{AreFewEscalations, AreFewOthers, AreWithin, IsOneOver, IsOver, PassesEscalations, PassesLanes, PassesOther}
 use Rattle.object_resolve.specs.Resolve.{IsFirstOver}
 use Rattle.object_resolve.specs.declared.fault.BlockFault.TheVariants.{TooMany}
 use Rattle.object_resolve.specs.declared.fault.LoadFault.{LoadFault}
@@ -27,7 +32,9 @@ use Rattle.object_resolve.proofs.NameLemmas.{either-first}
 use Rattle.object_resolve.proofs.PlaceLemmas.{line-of_first, names-long, object-within, only-first, Rises}
 use Rattle.object_services.specs.Laws.{OnePlacePasses, WithinPassesNowhere}
 use Rattle.object_services.specs.Limits as counted
-use Rattle.object_services.specs.Limits.{PassesLimit, PassesNowhere}
+use Rattle.object_services.specs.Limits.{AreHostLists, AreWithinLimit, PassesLimit, PassesNowhere}
+use Rattle.object_listing.specs.Listing.{AreThose}
+use Rattle.object_services.specs.Hosts.{HasHost}
 use Rattle.object_services.specs.declared.services.LimitFault.{LimitFault}
 use Rattle.object_services.specs.declared.services.LimitFault.TheVariants as counts
 
@@ -68,6 +75,21 @@ pub lanes-one : (P : ℕ → Type 0) (xs ys : List ℕ) → AreLanes P xs → Ar
 lanes-one P xs ys one other =
     rising-one xs ys (AllPairs-from_increasing xs one.rising) (AllPairs-from_increasing ys other.rising)
     (λ k. ((λ at. (other.exactly k).1 ((one.exactly k).0 at)), (λ at. (one.exactly k).1 ((other.exactly k).0 at))))
+
+those-one : (P : ℕ → Type 0) (xs ys : List ℕ) → AreThose P xs → AreThose P ys → xs ≡ ys
+those-one P xs ys one other =
+    rising-one xs ys (AllPairs-from_increasing xs one.rising) (AllPairs-from_increasing ys other.rising)
+    (λ k. ((λ at. (other.exactly k).1 ((one.exactly k).0 at)), (λ at. (one.exactly k).1 ((other.exactly k).0 at))))
+
+-- the hosts of the same blocks
+pub hosts-one : (blocks : List Block) (places : List ℕ) (one other : List (List ℕ)) → AreHostLists blocks places one → AreHostLists blocks places other → one ≡ other
+hosts-one blocks [] [] [] a b = refl
+hosts-one blocks [] [] (y ∷ ys) a b = absurd b
+hosts-one blocks [] (x ∷ xs) ys a b = absurd a
+hosts-one blocks (p ∷ ps) [] ys a b = absurd a
+hosts-one blocks (p ∷ ps) (x ∷ xs) [] a b = absurd b
+hosts-one blocks (p ∷ ps) (x ∷ xs) (y ∷ ys) a b =
+    ap (λ (hosts : List ℕ). hosts ∷ xs) (those-one (HasHost blocks p) x y a.0 b.0) ∙ ap (λ (lists : List (List ℕ)). y ∷ lists) (hosts-one blocks ps xs ys a.1 b.1)
 
 -- ---- lanes are commands
 
@@ -168,35 +190,82 @@ module _ (blocks : List Block) (lanes : List ℕ) (contact period lane : Option 
   few-if_none None is = few-others (sym is)
   few-if_none (Some place) is = tt
 
+-- ---- escalations
+
+-- blocks that keep within their limit pass it nowhere
+few-pass : escalations.WithinPassesNowhere → (blocks : List Block) → AreFewEscalations blocks → (place : ℕ) → PassesEscalations blocks place → ⊥
+few-pass law blocks (hosts, are, (count, given, few)) place (keeps, (others, others_are, passes)) =
+    law blocks others count place
+    (subst (λ (lists : List (List ℕ)). GiveEscalations blocks lists (length blocks) count) (hosts-one blocks (objects_in blocks Service) hosts others are others_are) given) few passes
+
+pub no-escalations : escalations.WithinPassesNowhere → (blocks : List Block) → AreFewEscalations blocks → IsFirst (PassesEscalations blocks) None
+no-escalations law blocks few = λ place passes. few-pass law blocks few place passes
+
+-- nor do those that give too many objects, as there none are counted
+pub uncounted : WithinPassesNowhere → (blocks : List Block) (place : ℕ) → PassesLimit blocks place → IsFirst (PassesEscalations blocks) None
+uncounted law blocks place passes = λ k said. law blocks said.0 place passes
+
+pub few-escalations : (blocks : List Block) (hosts spoken : List (List ℕ)) → AreHostLists blocks (objects_in blocks Service) hosts → AreEscalated blocks hosts (length blocks) spoken
+    → sum_by length spoken ≤ max_escalations → AreFewEscalations blocks
+few-escalations blocks hosts spoken are speak few = (hosts, are, (sum_by length spoken, (spoken, speak, refl), few))
+
+-- nothing is passed where all keep within
+pub all-within : (blocks : List Block) (hosts spoken : List (List ℕ)) → AreWithinLimit blocks → AreHostLists blocks (objects_in blocks Service) hosts
+    → AreEscalated blocks hosts (length blocks) spoken → sum_by length spoken ≤ max_escalations → AreFewOthers blocks → AreWithin blocks
+all-within blocks hosts spoken keeps are speak few others = record {
+  objects = keeps;
+  escalations = few-escalations blocks hosts spoken are speak few;
+  others = others;
+}
+
+-- a refusal for too many escalations is at the first place that passes their limit
+pub escalations-first : escalations.OnePlacePasses → (blocks : List Block) (hosts : List (List ℕ)) (place line : ℕ) (fault : EscalationFault) → AreWithinLimit blocks
+    → AreHostLists blocks (objects_in blocks Service) hosts → fault ≡ passing.TooMany place line → escalated.IsRefusal blocks hosts fault → IsFirst (PassesEscalations blocks) (Some place)
+escalations-first law blocks hosts place line fault keeps are is refused =
+    ((keeps, (hosts, are, passes)), (λ k early said. earlier k early said))
+  where
+    passes : escalated.PassesLimit blocks hosts place
+    passes = (subst (λ (f : EscalationFault). escalated.IsRefusal blocks hosts f) is refused).passes
+
+    earlier : (k : ℕ) → k < place → PassesEscalations blocks k → ⊥
+    earlier k early (within, (others, others_are, other)) =
+        let same : place ≡ k = law blocks hosts place k passes
+        (subst (λ (lists : List (List ℕ)). escalated.PassesLimit blocks lists k) (hosts-one blocks (objects_in blocks Service) others hosts others_are are) other) in
+        omega (arith, early, same)
+
 -- ---- all limits together
 
 -- blocks that keep within the limits pass none
-pub over-nowhere : WithinPassesNowhere → (blocks : List Block) → AreWithin blocks → IsNowhere (IsOver blocks)
-over-nowhere law blocks within = λ place over. by_kind place over
+pub over-nowhere : WithinPassesNowhere → escalations.WithinPassesNowhere → (blocks : List Block) → AreWithin blocks → IsNowhere (IsOver blocks)
+over-nowhere law escalation_law blocks within = λ place over. by_kind place over
   where
     by_kind : (place : ℕ) → IsOver blocks place → ⊥
-    by_kind place (inl passes) = law blocks within.0 place passes
-    by_kind place (inr (inl contact)) =
-        let low = slice_get_within (objects_in blocks Contact) max_contacts place contact in let few = within.1.contacts in omega (arith, low, few)
-    by_kind place (inr (inr (inl period))) =
-        let low = slice_get_within (objects_in blocks TimePeriod) max_periods place period in let few = within.1.periods in omega (arith, low, few)
-    by_kind place (inr (inr (inr (lanes, are, (command, here, there))))) =
-        let low = slice_get_within lanes max_lanes command here in let few = within.1.lanes lanes are in omega (arith, low, few)
+    by_kind place (inl passes) = law blocks within.objects place passes
+    by_kind place (inr (inl passes)) = few-pass escalation_law blocks within.escalations place passes
+    by_kind place (inr (inr (inl contact))) =
+        let low = slice_get_within (objects_in blocks Contact) max_contacts place contact in let few = within.others.contacts in omega (arith, low, few)
+    by_kind place (inr (inr (inr (inl period)))) =
+        let low = slice_get_within (objects_in blocks TimePeriod) max_periods place period in let few = within.others.periods in omega (arith, low, few)
+    by_kind place (inr (inr (inr (inr (lanes, are, (command, here, there)))))) =
+        let low = slice_get_within lanes max_lanes command here in let few = within.others.lanes lanes are in omega (arith, low, few)
 
 -- the first with which there are too many objects
 pub passes-first : OnePlacePasses → (blocks : List Block) (place : ℕ) → PassesLimit blocks place → IsFirst (PassesLimit blocks) (Some place)
 passes-first law blocks place passes = (passes, (λ k early said. let same : place ≡ k = law blocks place k passes said in omega (arith, early, same)))
 
-pub over-first : (blocks : List Block) (one other : Option ℕ) (place : ℕ) → IsFirst (PassesLimit blocks) one → IsFirst (PassesOther blocks) other
-    → Some place ≡ lower one other → IsFirst (IsOver blocks) (Some place)
-over-first blocks one other place passes others is =
-    subst (λ (f : Option ℕ). IsFirst (IsOver blocks) f) (sym is) (either-first (PassesLimit blocks) (PassesOther blocks) one other passes others)
+pub over-first : (blocks : List Block) (one escalation other : Option ℕ) (place : ℕ) → IsFirst (PassesLimit blocks) one → IsFirst (PassesEscalations blocks) escalation
+    → IsFirst (PassesOther blocks) other → Some place ≡ lower one (lower escalation other) → IsFirst (IsOver blocks) (Some place)
+over-first blocks one escalation other place passes escalations others is =
+    subst (λ (f : Option ℕ). IsFirst (IsOver blocks) f) (sym is)
+    (either-first (PassesLimit blocks) (λ n. PassesEscalations blocks n ⊎ PassesOther blocks n) one (lower escalation other) passes
+    (either-first (PassesEscalations blocks) (PassesOther blocks) escalation other escalations others))
 
 pub over-within : (blocks : List Block) (place : ℕ) → IsOver blocks place → place < length blocks
 over-within blocks place (inl passes) = passes.within
-over-within blocks place (inr (inl contact)) = object-within blocks Contact max_contacts place contact
-over-within blocks place (inr (inr (inl period))) = object-within blocks TimePeriod max_periods place period
-over-within blocks place (inr (inr (inr (lanes, are, (command, here, there))))) = object-within blocks Command command place there
+over-within blocks place (inr (inl (keeps, (hosts, are, passes)))) = passes.within
+over-within blocks place (inr (inr (inl contact))) = object-within blocks Contact max_contacts place contact
+over-within blocks place (inr (inr (inr (inl period)))) = object-within blocks TimePeriod max_periods place period
+over-within blocks place (inr (inr (inr (inr (lanes, are, (command, here, there)))))) = object-within blocks Command command place there
 
 pub over-refused : (blocks : List Block) (place : ℕ) (found : LoadFault) → IsFirst (IsOver blocks) (Some place) → IsOfPlace blocks place TooMany found
     → IsAmong (IsFirstOver blocks) found

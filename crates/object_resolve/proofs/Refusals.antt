@@ -2,6 +2,7 @@
 use Rattle.std.proofs.Common.{◌≡◌, ℕ, Bool, true, false, List, Result, Ok, Err, IfErr, refl, sym, ap, subst, ◌∙◌, ◌⊎◌, inl, inr}
 use Rattle.std.proofs.lemmas.Option.{none-some}
 use Rattle.due_model.specs.declared.config.Config.{Config}
+use Rattle.object_escalations.specs.Laws as escalations
 use Rattle.object_faults.specs.Faults as values
 use Rattle.object_inheritance.specs.Faults as templates
 use Rattle.object_reader.specs.declared.block.Block.{Block}
@@ -36,15 +37,15 @@ templated-none blocks line fault free (own, first, is) =
     same false true to from = from refl
     same false false to from = refl
 
-pub resolved-unrefused : WithinPassesNowhere → (blocks : List Block) (config : Config) (line : ℕ) (fault : BlockFault)
+pub resolved-unrefused : WithinPassesNowhere → escalations.WithinPassesNowhere → (blocks : List Block) (config : Config) (line : ℕ) (fault : BlockFault)
     → IsResolved blocks config → IsRefusal blocks line fault → ⊥
-resolved-unrefused law blocks config line fault of (inl templated) = templated-none blocks line fault of.templates templated
-resolved-unrefused law blocks config line fault of (inr (free, inl valued)) = valued-none blocks line fault of.values valued
-resolved-unrefused law blocks config line fault of (inr (free, inr (good, inl later))) = first-nowhere _ blocks line of.none_later later.1
-resolved-unrefused law blocks config line fault of (inr (free, inr (good, inr (none, inl misnamed)))) = first-nowhere _ blocks line of.fitting.named misnamed.first
-resolved-unrefused law blocks config line fault of (inr (free, inr (good, inr (none, inr (named, inl looped))))) = first-nowhere _ blocks line of.fitting.no_loop looped.1
-resolved-unrefused law blocks config line fault of (inr (free, inr (good, inr (none, inr (named, inr (unlooped, over)))))) =
-    first-nowhere _ blocks line (over-nowhere law blocks of.fitting.within) over.1
+resolved-unrefused law escalation_law blocks config line fault of (inl templated) = templated-none blocks line fault of.templates templated
+resolved-unrefused law escalation_law blocks config line fault of (inr (free, inl valued)) = valued-none blocks line fault of.values valued
+resolved-unrefused law escalation_law blocks config line fault of (inr (free, inr (good, inl later))) = first-nowhere _ blocks line of.none_later later.1
+resolved-unrefused law escalation_law blocks config line fault of (inr (free, inr (good, inr (none, inl misnamed)))) = first-nowhere _ blocks line of.fitting.named misnamed.first
+resolved-unrefused law escalation_law blocks config line fault of (inr (free, inr (good, inr (none, inr (named, inl looped))))) = first-nowhere _ blocks line of.fitting.no_loop looped.1
+resolved-unrefused law escalation_law blocks config line fault of (inr (free, inr (good, inr (none, inr (named, inr (unlooped, over)))))) =
+    first-nowhere _ blocks line (over-nowhere law escalation_law blocks of.fitting.within) over.1
 
 -- ---- the refusal of one pass is that of the blocks
 

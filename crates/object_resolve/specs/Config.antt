@@ -1,8 +1,10 @@
 -- The configuration that blocks give (chapter "Object Definitions").
-use Rattle.std.specs.Prelude.{◌≡◌, ℕ, List, [], map, slice_index_or}
+use Rattle.std.specs.Prelude.{◌≡◌, ℕ, List, [], length, map, slice_index_or}
 use Rattle.due_model.specs.declared.config.Config.{Config}
 use Rattle.object_contacts.specs.Contacts.{AreContactsOf}
 use Rattle.object_contacts.specs.Lanes.{AreLanes, IsLane}
+use Rattle.object_escalations.specs.Entries.{AreEntriesOf}
+use Rattle.object_escalations.specs.Escalated.{AreEscalated}
 use Rattle.object_groups.specs.Objects.{names_in, objects_in}
 use Rattle.object_periods.specs.Periods.{ArePeriodsOf}
 use Rattle.object_reader.specs.declared.block.Block.{Block}
@@ -15,8 +17,8 @@ abbrev pub command_at : List Block → ℕ → List ℕ
 command_at blocks command = slice_index_or (names_in blocks Command) command []
 
 -- The configuration of blocks: hosts in file order and then services, block by block and within a block host by host;
--- contacts and time periods in file order; and the lanes, which are the commands that a registered contact names, in
--- the order of their blocks.
+-- contacts and time periods in file order; the lanes, which are the commands that a registered contact names, in
+-- the order of their blocks; and escalations, block by block and within a block object by object.
 pub record IsConfigOf (blocks : List Block) (config : Config) : Type 0 where
   -- the hosts of each service block
   pub hosts : List (List ℕ)
@@ -24,9 +26,12 @@ pub record IsConfigOf (blocks : List Block) (config : Config) : Type 0 where
   -- the commands of the lanes
   pub lanes : List ℕ
   pub lanes_are : AreLanes (IsLane blocks) lanes
+  -- the objects of which each escalation block speaks
+  pub spoken : List (List ℕ)
+  pub spoken_are : AreEscalated blocks hosts (length blocks) spoken
   pub objects : AreObjectsOf blocks hosts config.objects
   pub contacts : AreContactsOf blocks lanes config.contacts
   pub named : map (λ lane. lane.name) config.lanes ≡ map (command_at blocks) lanes
   pub periods : ArePeriodsOf blocks config.periods
-  pub no_escalation : config.escalations ≡ []
+  pub escalations : AreEntriesOf blocks config.objects spoken config.escalations
   pub no_dependency : config.dependencies ≡ []

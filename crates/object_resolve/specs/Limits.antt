@@ -1,7 +1,9 @@
--- How many objects, contacts, lanes and time periods blocks may give.
+-- How many objects, escalations, contacts, lanes and time periods blocks may give.
 use Rattle.std.specs.Prelude.{◌≡◌, ℕ, ◌+◌, ◌≤◌, ◌⊎◌, List, length, sum_by, Some, slice_get}
-use Rattle.due_model.specs.Limits.{max_contacts, max_lanes, max_objects, max_periods}
+use Rattle.due_model.specs.Limits.{max_contacts, max_escalations, max_lanes, max_objects, max_periods}
 use Rattle.object_contacts.specs.Lanes.{AreLanes, IsLane}
+use Rattle.object_escalations.specs.Escalated as escalated
+use Rattle.object_escalations.specs.Escalated.{AreEscalated, GiveEscalations}
 use Rattle.object_groups.specs.Objects.{objects_in}
 use Rattle.object_reader.specs.declared.block.Block.{Block}
 use Rattle.object_reader.specs.declared.block.BlockKind.{BlockKind}
@@ -15,9 +17,17 @@ pub record AreFewOthers (blocks : List Block) : Type 0 where
   pub lanes : (lanes : List ℕ) → AreLanes (IsLane blocks) lanes → length lanes ≤ max_lanes
   pub periods : length (objects_in blocks TimePeriod) ≤ max_periods
 
--- The blocks keep within the limits: of hosts and services together, and of the others.
-abbrev pub AreWithin : List Block → Type 0
-AreWithin blocks = AreWithinLimit blocks × AreFewOthers blocks
+-- no more escalations: one for each object of which an escalation block speaks
+abbrev pub AreFewEscalations : List Block → Type 0
+AreFewEscalations blocks = (hosts : List (List ℕ))
+    × AreHostLists blocks (objects_in blocks Service) hosts
+    × ((count : ℕ) × GiveEscalations blocks hosts (length blocks) count × (count ≤ max_escalations))
+
+-- The blocks keep within the limits: of hosts and services together, of escalations, and of the others.
+pub record AreWithin (blocks : List Block) : Type 0 where
+  pub objects : AreWithinLimit blocks
+  pub escalations : AreFewEscalations blocks
+  pub others : AreFewOthers blocks
 
 -- ---- where they pass a limit
 
@@ -40,14 +50,24 @@ abbrev pub PassesOther : List Block → ℕ → Type 0
 PassesOther blocks place = IsOneOver blocks Contact max_contacts place
     ⊎ (IsOneOver blocks TimePeriod max_periods place ⊎ PassesLanes blocks place)
 
+-- With the block at the place there are too many escalations. They are of objects, so they are counted where the
+-- objects keep within their limit.
+abbrev pub PassesEscalations : List Block → ℕ → Type 0
+PassesEscalations blocks place = AreWithinLimit blocks × ((hosts : List (List ℕ))
+    × AreHostLists blocks (objects_in blocks Service) hosts
+    × escalated.PassesLimit blocks hosts place)
+
 -- The blocks pass a limit at the place: with the block there they give more than fit.
 abbrev pub IsOver : List Block → ℕ → Type 0
-IsOver blocks place = PassesLimit blocks place ⊎ PassesOther blocks place
+IsOver blocks place =
+    PassesLimit blocks place ⊎ (PassesEscalations blocks place ⊎ PassesOther blocks place)
 
 -- ---- how they are found
 
--- what is known of blocks that keep within the limits: the hosts of each service block, and the lanes
+-- what is known of blocks that keep within the limits: the hosts of each service block, the objects of which each
+-- escalation block speaks, and the lanes
 pub record AreCounts (blocks : List Block) (counts : Counts) : Type 0 where
   pub hosts_are : AreHostLists blocks (objects_in blocks Service) counts.hosts
   pub few : length (objects_in blocks Host) + sum_by length counts.hosts ≤ max_objects
+  pub spoken_are : AreEscalated blocks counts.hosts (length blocks) counts.escalated
   pub lanes_are : AreLanes (IsLane blocks) counts.lanes.items

@@ -10,7 +10,7 @@ use Rattle.object_inheritance.specs.Faults as templates
 use Rattle.object_inheritance.specs.declared.templates.TemplateFault.{TemplateFault}
 use Rattle.object_periods.specs.Loops.{IsLoopedAt}
 use Rattle.object_reader.specs.declared.block.Block.{Block}
-use Rattle.object_reader.specs.declared.block.BlockKind.TheVariants.{HostEscalation, ServiceEscalation, HostDependency, ServiceDependency}
+use Rattle.object_reader.specs.declared.block.BlockKind.TheVariants.{HostDependency, ServiceDependency}
 use Rattle.object_resolve.specs.Config.{IsConfigOf}
 use Rattle.object_resolve.specs.Fault.{of_template, of_value}
 use Rattle.object_resolve.specs.First.{IsFault, IsNowhere}
@@ -21,10 +21,9 @@ use Rattle.object_resolve.specs.declared.fault.BlockFault.TheVariants.{NotYet, P
 
 -- ---- what isn't resolved yet
 
--- whether a block is a registered escalation or dependency
+-- whether a block is a registered dependency
 abbrev pub is_later : Block → Bool
-is_later block = is_object HostEscalation block || is_object ServiceEscalation block
-    || is_object HostDependency block || is_object ServiceDependency block
+is_later block = is_object HostDependency block || is_object ServiceDependency block
 
 -- the block at the place is one
 abbrev pub IsLater : List Block → ℕ → Type 0

@@ -3,6 +3,7 @@
 ghost use Rattle.std.specs.Prelude.{◌≡◌, ◌≤◌, length, map, IfOk};
 ghost use Rattle.due_model.specs.Limits.{max_lanes};
 ghost use Rattle.object_contacts.specs.Contacts.{AreContactsOf};
+ghost use Rattle.object_escalations.specs.Entries.{AreEntriesOf};
 ghost use Rattle.object_resolve.specs.Config.{IsConfigOf, command_at};
 ghost use Rattle.object_resolve.specs.Limits.{AreCounts, AreFewOthers, AreWithin};
 ghost use Rattle.object_resolve.specs.Tables.{AreTables};
@@ -10,11 +11,13 @@ ghost use Rattle.object_settings.specs.Settings.{AreObjectsOf};
 
 use crate::limits::Counts;
 use crate::tables::Tables;
-use due_model::config::{Config, Contact, Lane};
+use due_model::config::{Config, Contact, Escalation, Lane};
 use due_model::objects::Objects as ObjectTable;
 use due_model::sequence::Sequence;
 use object_contacts::contacts::contacts_of;
 use object_contacts::lanes::named_lanes;
+use object_escalations::entries::escalations_of;
+use object_escalations::laws::escalated_are_objects;
 use object_groups::groups::{GroupKind, Groups};
 use object_inheritance::templates::Templates;
 use object_names::named::{NamedKind, NamedObjects};
@@ -75,6 +78,34 @@ fn objects_in<'a>(
     )
 }
 
+/// The escalations, where these are the objects.
+fn escalations_in<'a>(
+    alloc: Global,
+    templates: &Templates<'a>,
+    tables: &Tables<'a>,
+    counts: &Counts,
+    objects: &ObjectTable,
+) -> Result<Vec<Escalation>, AllocError>
+    requires tables { AreTables templates.now tables.now }
+    requires few { AreFewOthers templates.now }
+    requires counts { AreCounts templates.now counts.now }
+    requires objects { AreObjectsOf templates.now counts.now.hosts objects.now }
+    ensures { IfOk result (λ made.
+        AreEntriesOf templates.now objects.now counts.now.escalated made.items) }
+{
+    escalated_are_objects();
+    let periods = tables.objects.objects(NamedKind::TimePeriod).names();
+    let mut groups = Groups::new(alloc, templates, GroupKind::ContactGroups)?;
+    escalations_of(
+        alloc,
+        templates,
+        &counts.escalated,
+        objects.as_slice(),
+        &mut groups,
+        periods,
+    )
+}
+
 /// The configuration of blocks that keep within the limits, where `tables` and `counts` are theirs. A refused
 /// growth leaves nothing.
 pub(crate) fn config_of<'a>(
@@ -96,12 +127,14 @@ pub(crate) fn config_of<'a>(
         templates,
         tables.objects.objects(NamedKind::TimePeriod),
     )?;
+    let objects = objects_in(alloc, templates, tables, counts)?;
+    let escalations = escalations_in(alloc, templates, tables, counts, &objects)?;
     Ok(Config {
-        objects: objects_in(alloc, templates, tables, counts)?,
+        objects,
         contacts: Sequence::new(contacts),
         lanes: Sequence::new(named),
         periods: Sequence::new(periods),
-        escalations: Sequence::new(Vec::new(alloc)),
+        escalations: Sequence::new(escalations),
         dependencies: Sequence::new(Vec::new(alloc)),
     })
 }

@@ -45,7 +45,7 @@ pub enum BlockFault {
     /// With this block there are over 65,535 hosts and services, 4,096 contacts, 16 lanes or 4,096 time
     /// periods.
     TooMany,
-    /// The block is an escalation or a dependency, which aren't resolved yet.
+    /// The block is a dependency, which isn't resolved yet.
     NotYet,
 }
 

@@ -2,6 +2,7 @@
 
 ghost use Rattle.object_resolve.specs.Laws.{ResolvedIsAccepted, ResolvedIsUnrefused};
 
+use object_escalations::laws::{each_is_counted, one_block_passes, one_for_each};
 use object_listing::laws::listed_are_objects;
 use object_periods::laws::{no_loop_is_left, periods_fit};
 use object_services::laws::{count_is_the_sum, one_place_passes};
@@ -12,6 +13,8 @@ pub fn accept_resolved()
 {
     listed_are_objects();
     count_is_the_sum();
+    one_for_each();
+    each_is_counted();
     periods_fit();
     no_loop_is_left();
 }
@@ -21,4 +24,5 @@ pub fn resolve_no_refused()
     ensures { ResolvedIsUnrefused }
 {
     one_place_passes();
+    one_block_passes();
 }

@@ -40,14 +40,11 @@ fn check_values(alloc: Global, blocks: &[Block]) -> Result<Templates, LoadFault>
     Ok(templates)
 }
 
-/// Whether a block is a registered escalation or dependency.
+/// Whether a block is a registered dependency.
 fn is_later(block: &Block) -> bool
     ensures { result ≡ is_later block.now }
 {
-    is_object(BlockKind::HostEscalation, block)
-        || is_object(BlockKind::ServiceEscalation, block)
-        || is_object(BlockKind::HostDependency, block)
-        || is_object(BlockKind::ServiceDependency, block)
+    is_object(BlockKind::HostDependency, block) || is_object(BlockKind::ServiceDependency, block)
 }
 
 /// Finds the first block that isn't resolved yet.
@@ -127,7 +124,7 @@ fn resolve_all(alloc: Global, templates: &Templates) -> Result<Config, LoadFault
 /// The configuration that the blocks give, or the first fault: first of templates, then of the values of each
 /// block, then of types that aren't resolved yet, of names, of loops of exclusions and of limits; each over all
 /// blocks in file order. Out of memory says nothing of the blocks. The work grows with the bytes of the blocks, what
-/// they inherit, and the services and contacts that they give.
+/// they inherit, and the services, contacts and escalations that they give.
 pub(crate) fn resolve(alloc: Global, blocks: &[Block]) -> Result<Config, LoadFault>
     ensures resolved { IfOk result (IsResolved blocks.now) }
     ensures refusal { IfErr result (IsAmong (IsRefusal blocks.now)) }

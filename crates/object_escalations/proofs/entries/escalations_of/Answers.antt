@@ -1,0 +1,19 @@
+use Rattle.std.proofs.Common.{◌∙◌, List, subst}
+use Rattle.object_escalations.specs.Entries.{AddsEntries, origins_at}
+use Rattle.object_reader.specs.declared.block.Block.{Block}
+use Rattle.object_escalations.proofs.GivenLemmas.{entries-more}
+use Rattle.object_escalations.proofs.entries.escalations_of.Goals as goal
+
+pub loop-place-preserved : goal.loop-place-preserved
+loop-place-preserved c =
+    let blocks = c.args.templates.now in
+    let objects = c.args.objects.now in
+    let i = c.loop-place.place in
+    let numbers = c.objects-numbers.result.now in
+    let old = c.loop-place.escalations.items in
+    let new = c.push_block_at.new.escalations.items in
+    record {
+      same = c.push_block_at.ensures.same ∙ c.loop-place.invariant.same;
+      far = entries-more blocks objects c.args.escalated.now i numbers old new c.objects-numbers.ensures c.loop-place.invariant.far
+          (subst (λ (bs : List Block). AddsEntries bs objects (origins_at i numbers) old new) c.in_ok-tables.ensures c.in_ok-push_block_at.ensures.added);
+    }

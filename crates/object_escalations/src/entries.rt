@@ -1,0 +1,162 @@
+//! The escalations that blocks give.
+
+ghost use Rattle.std.specs.Prelude.{◌≡◌, ◌<◌, ◌≤◌, length, slice_get, All, IfOk, OnOk, Some};
+ghost use Rattle.due_model.specs.Limits.{max_contacts, max_objects, max_periods};
+ghost use Rattle.object_escalations.specs.Entries.{AddsEntries, AreEntriesOf, origins_at};
+ghost use Rattle.object_escalations.specs.Given.{AddsTaken, contacts_of, IsTaken, list_kind};
+ghost use Rattle.object_groups.specs.declared.groups.GroupKind.TheVariants.{ContactGroups};
+ghost use Rattle.object_groups.specs.Objects.{names_in};
+ghost use Rattle.object_reader.specs.declared.block.BlockKind.TheVariants.{Contact, TimePeriod};
+
+use crate::escalated::EscalatedObjects;
+use crate::given::{Given, Tables};
+use due_model::config::{ContactId, Escalation, Object, ObjectId};
+use due_model::sequence::Sequence;
+use object_groups::groups::Groups;
+use object_groups::names::Names;
+use object_groups::objects::is_object;
+use object_inheritance::templates::Templates;
+use object_reader::block::{Block, BlockKind};
+use object_values::options::OptionKind;
+use std::alloc::{AllocError, Global};
+
+/// The kind of an escalation block's option list.
+fn list_kind(block: &Block) -> OptionKind
+    ensures { result ≡ list_kind block.now }
+{
+    if is_object(BlockKind::HostEscalation, block) {
+        OptionKind::HostEscalation
+    } else {
+        OptionKind::ServiceEscalation
+    }
+}
+
+/// The contacts of the block, or those of the object.
+fn contacts_of(alloc: Global, given: &Given, object: &Object) -> Result<Vec<ContactId>, AllocError>
+    ensures { IfOk result (λ contacts. contacts.items ≡ contacts_of given.now object.now) }
+{
+    if given.lacks_contacts {
+        Vec::from_slice(alloc, object.contacts.as_slice())
+    } else {
+        Vec::from_slice(alloc, given.contacts.as_slice())
+    }
+}
+
+/// The escalation of the object of that number, which takes from it what the block lacks.
+fn escalation_of(
+    alloc: Global,
+    given: &Given,
+    object: &Object,
+    number: usize,
+) -> Result<Escalation, AllocError>
+    requires { number < max_objects }
+    ensures { IfOk result (IsTaken given.now number object.now) }
+{
+    let contacts = contacts_of(alloc, given, object)?;
+    Ok(Escalation {
+        object: ObjectId(number as u16),
+        first: given.first,
+        last: given.last,
+        interval: given.interval.unwrap_or(object.interval),
+        period: given.period.unwrap_or(object.period),
+        options: given.options,
+        contacts: Sequence::new(contacts),
+    })
+}
+
+/// Adds the escalations of a block, one for each of the objects of these numbers.
+fn push_block(
+    alloc: Global,
+    escalations: &mut Vec<Escalation>,
+    given: &Given,
+    objects: &[Object],
+    numbers: &[usize],
+) -> Result<(), AllocError>
+    requires within { All (λ number. number < length objects.now) numbers.now }
+    requires few { length objects.now ≤ max_objects }
+    ensures { OnOk result (AddsTaken given.now objects.now numbers.now
+        escalations.old.items escalations.new.items) }
+{
+    for number in numbers {
+        let escalation = escalation_of(alloc, given, &objects[*number], *number)?;
+        escalations.push(escalation)?;
+    }
+    Ok(())
+}
+
+/// Adds the escalations of the block at the place, which speaks of the objects of these numbers.
+fn push_block_at<'a>(
+    alloc: Global,
+    escalations: &mut Vec<Escalation>,
+    tables: &Tables<'a>,
+    contacts: &mut Groups<'a>,
+    periods: &Names<'a>,
+    objects: &[Object],
+    numbers: &[usize],
+    block: &Block,
+    place: usize,
+) -> Result<(), AllocError>
+    requires groups { contacts.old ≡ record { blocks = tables.now; kind = ContactGroups } }
+    requires few_contacts { length (names_in tables.now Contact) ≤ max_contacts }
+    requires periods { periods.now ≡ names_in tables.now TimePeriod }
+    requires few_periods { length periods.now ≤ max_periods }
+    requires within { All (λ number. number < length objects.now) numbers.now }
+    requires few { length objects.now ≤ max_objects }
+    requires here { slice_get tables.now place ≡ Some block.now }
+    ensures same { contacts.new ≡ contacts.old }
+    ensures added { OnOk result (AddsEntries tables.now objects.now
+        (origins_at place numbers.now) escalations.old.items escalations.new.items) }
+{
+    if numbers.is_empty() {
+        return Ok(());
+    }
+    let given = tables.given_at(alloc, contacts, periods, list_kind(block), place)?;
+    push_block(alloc, escalations, &given, objects, numbers)?;
+    Ok(())
+}
+
+/// The escalations of the blocks: one for each object of which a block speaks, block by block in file order, and within
+/// a block in number order. An escalation takes from its object what its block lacks: contacts, where it gives neither
+/// contacts nor contact groups, interval and period; other directives that are lacking are by default.
+/// `escalated` are the objects of which each block speaks, `objects` the hosts and services, `contacts` the
+/// contact groups, and `periods` the names of the time periods, all of the same blocks. The time grows with the
+/// escalation blocks, the entries of their lists and what the contact groups reach, and with the escalations
+/// and their contacts. A refused growth changes nothing.
+pub fn escalations_of<'a>(
+    alloc: Global,
+    templates: &Templates<'a>,
+    escalated: &EscalatedObjects,
+    objects: &[Object],
+    contacts: &mut Groups<'a>,
+    periods: &Names<'a>,
+) -> Result<Vec<Escalation>, AllocError>
+    requires within { All (All (λ number. number < length objects.now)) escalated.now }
+    requires long { length escalated.now ≡ length templates.now }
+    requires few { length objects.now ≤ max_objects }
+    requires contacts { contacts.old
+        ≡ record { blocks = templates.now; kind = ContactGroups } }
+    requires few_contacts { length (names_in templates.now Contact) ≤ max_contacts }
+    requires periods { periods.now ≡ names_in templates.now TimePeriod }
+    requires few_periods { length periods.now ≤ max_periods }
+    ensures same { contacts.new ≡ contacts.old }
+    ensures escalations { IfOk result (λ escalations.
+        AreEntriesOf templates.now objects.now escalated.now escalations.items) }
+{
+    let tables = Tables::new(alloc, templates)?;
+    let mut escalations = Vec::new(alloc);
+    for (place, block) in templates.blocks().iter().enumerate() {
+        let numbers = escalated.objects(place);
+        push_block_at(
+            alloc,
+            &mut escalations,
+            &tables,
+            contacts,
+            periods,
+            objects,
+            numbers,
+            block,
+            place,
+        )?;
+    }
+    Ok(escalations)
+}

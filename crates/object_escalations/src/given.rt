@@ -1,0 +1,180 @@
+//! What escalation blocks give, by themselves or by their templates.
+
+ghost use Rattle.std.specs.Prelude.{◌≡◌, ◌<◌, ◌≤◌, length, map, All, IfOk};
+ghost use Rattle.due_model.specs.Limits.{max_contacts, max_periods};
+ghost use Rattle.object_escalations.specs.Given.{AreFilters, AreTimes, IsGiven};
+ghost use Rattle.object_groups.specs.declared.groups.GroupKind.TheVariants.{ContactGroups};
+ghost use Rattle.object_groups.specs.Objects.{names_in};
+ghost use Rattle.object_listing.specs.Listing.{AreThose, contact_directives, IsListed};
+ghost use Rattle.object_reader.specs.declared.block.BlockKind.TheVariants.{Contact, TimePeriod};
+
+use due_model::config::{ContactId, PeriodId};
+use due_model::options::OptionLetters;
+use object_groups::groups::{GroupKind, Groups};
+use object_groups::names::Names;
+use object_inheritance::inherited::Values;
+use object_inheritance::templates::Templates;
+use object_listing::listing::Listing;
+use object_reader::block::Block;
+use object_readings::readings::{letters_at, number_at, own_number, own_period};
+use object_values::options::OptionKind;
+use std::alloc::{AllocError, Global};
+use std::marker::Model;
+
+/// What all blocks have for the directives that are numbers.
+#[derive(Drop)]
+pub(crate) struct Times<'a> {
+    firsts: Values<'a>,
+    lasts: Values<'a>,
+    intervals: Values<'a>,
+}
+
+/// What all blocks have for the directives that say when an escalation holds, and of which states.
+#[derive(Drop)]
+pub(crate) struct Filters<'a> {
+    periods: Values<'a>,
+    options: Values<'a>,
+}
+
+/// What all blocks have for the directives of escalations. Contracts see the blocks.
+#[derive(Drop)]
+pub(crate) struct Tables<'a> {
+    blocks: &'a [Block],
+    contacts: Listing<'a>,
+    times: Times<'a>,
+    filters: Filters<'a>,
+}
+
+impl<'a> Model for Tables<'a> {
+    ghost use Rattle.std.specs.Prelude.{List};
+    ghost use Rattle.object_escalations.specs.Given.{AreTables};
+    ghost use Rattle.object_reader.specs.declared.block.Block.{Block};
+
+    ghost Value = { List Block };
+
+    ghost view = { λ s. s.blocks.now };
+
+    ghost invariant = { λ s. AreTables s.blocks.now s.contacts s.times s.filters };
+}
+
+/// What an escalation block gives, by itself or by its templates.
+#[derive(Drop)]
+pub(crate) struct Given {
+    /// Whether it gives neither contacts nor contact groups.
+    pub(crate) lacks_contacts: bool,
+    /// The contacts, each once and in number order.
+    pub(crate) contacts: Vec<ContactId>,
+    pub(crate) first: u32,
+    pub(crate) last: u32,
+    /// The interval, in units of 60 seconds; none where it has none.
+    pub(crate) interval: Option<u32>,
+    /// The period; none where it has none, and `Some(None)` is always.
+    pub(crate) period: Option<Option<PeriodId>>,
+    pub(crate) options: OptionLetters,
+}
+
+/// What the blocks have for a directive.
+fn values_of<'a>(
+    alloc: Global,
+    templates: &Templates<'a>,
+    directive: &'a str,
+) -> Result<Values<'a>, AllocError>
+    ensures { IfOk result (λ values. values
+        ≡ record { blocks = templates.now; directive = directive.now }) }
+{
+    Values::new(alloc, templates, directive.as_bytes())
+}
+
+/// What the blocks have for the directives that are numbers.
+fn times_of<'a>(alloc: Global, templates: &Templates<'a>) -> Result<Times<'a>, AllocError>
+    ensures { IfOk result (AreTimes templates.now) }
+{
+    Ok(Times {
+        firsts: values_of(alloc, templates, "first_notification")?,
+        lasts: values_of(alloc, templates, "last_notification")?,
+        intervals: values_of(alloc, templates, "notification_interval")?,
+    })
+}
+
+/// What the blocks have for the directives that say when an escalation holds, and of which states.
+fn filters_of<'a>(alloc: Global, templates: &Templates<'a>) -> Result<Filters<'a>, AllocError>
+    ensures { IfOk result (AreFilters templates.now) }
+{
+    Ok(Filters {
+        periods: values_of(alloc, templates, "escalation_period")?,
+        options: values_of(alloc, templates, "escalation_options")?,
+    })
+}
+
+/// The contacts of these numbers.
+fn contact_ids(alloc: Global, numbers: &[usize]) -> Result<Vec<ContactId>, AllocError>
+    requires { All (λ number. number < max_contacts) numbers.now }
+    ensures { IfOk result (λ ids. map (λ id. id.0) ids.items ≡ numbers.now) }
+{
+    let mut ids = Vec::new(alloc);
+    for number in numbers {
+        ids.push(ContactId(*number as u16))?;
+    }
+    Ok(ids)
+}
+
+impl<'a> Tables<'a> {
+    /// What the blocks have for these directives.
+    pub(crate) fn new(alloc: Global, templates: &Templates<'a>) -> Result<Tables<'a>, AllocError>
+        ensures { IfOk result (λ tables. tables ≡ templates.now) }
+    {
+        let kind = GroupKind::ContactGroups;
+        Ok(Tables {
+            blocks: templates.blocks(),
+            contacts: Listing::new(alloc, templates, kind, "contacts", "contact_groups")?,
+            times: times_of(alloc, templates)?,
+            filters: filters_of(alloc, templates)?,
+        })
+    }
+
+    /// The contacts that the block at the place lists.
+    fn contacts_at(
+        &self,
+        alloc: Global,
+        groups: &mut Groups<'a>,
+        place: usize,
+    ) -> Result<Vec<ContactId>, AllocError>
+        requires groups { groups.old ≡ record { blocks = self.now; kind = ContactGroups } }
+        requires few { length (names_in self.now Contact) ≤ max_contacts }
+        ensures same { groups.new ≡ groups.old }
+        ensures contacts { IfOk result (λ contacts.
+            AreThose (IsListed self.now contact_directives place)
+            (map (λ contact. contact.0) contacts.items)) }
+    {
+        let numbers = self.contacts.objects_at(alloc, groups, place)?;
+        contact_ids(alloc, numbers.as_slice())
+    }
+
+    /// What the block at the place gives, where its option list is of that kind.
+    pub(crate) fn given_at(
+        &self,
+        alloc: Global,
+        groups: &mut Groups<'a>,
+        periods: &Names<'a>,
+        kind: OptionKind,
+        place: usize,
+    ) -> Result<Given, AllocError>
+        requires groups { groups.old ≡ record { blocks = self.now; kind = ContactGroups } }
+        requires few { length (names_in self.now Contact) ≤ max_contacts }
+        requires periods { periods.now ≡ names_in self.now TimePeriod }
+        requires few_periods { length periods.now ≤ max_periods }
+        ensures same { groups.new ≡ groups.old }
+        ensures given { IfOk result (IsGiven self.now kind place) }
+    {
+        let contacts = self.contacts_at(alloc, groups, place)?;
+        Ok(Given {
+            lacks_contacts: self.contacts.gives_neither(place),
+            contacts,
+            first: number_at(&self.times.firsts, 0, place),
+            last: number_at(&self.times.lasts, 0, place),
+            interval: own_number(&self.times.intervals, place),
+            period: own_period(periods, &self.filters.periods, place),
+            options: letters_at(&self.filters.options, kind, place),
+        })
+    }
+}

@@ -1,0 +1,20 @@
+use Rattle.due_model.specs.Limits.{max_contacts}
+use Rattle.object_reader.specs.declared.block.BlockKind.TheVariants.{Contact}
+use Rattle.object_resolve.proofs.EntryLemmas.{objects-few, spoken-long, spoken-within}
+use Rattle.object_resolve.proofs.PlaceLemmas.{few-names}
+use Rattle.object_resolve.proofs.config.escalations_in.Goals as goal
+
+pub escalations_of-requires-clause-within : goal.escalations_of-requires-clause-within
+escalations_of-requires-clause-within c =
+    spoken-within c.escalated_are_objects.ensures c.args.templates.now c.args.counts.now.hosts c.args.counts.now.escalated c.args.objects.now c.as_slice.result.now c.as_slice.ensures
+    c.requires.objects c.requires.counts.spoken_are
+
+pub escalations_of-requires-clause-long : goal.escalations_of-requires-clause-long
+escalations_of-requires-clause-long c = spoken-long c.args.templates.now c.args.counts.now.hosts c.args.counts.now.escalated c.requires.counts.spoken_are
+
+pub escalations_of-requires-clause-few : goal.escalations_of-requires-clause-few
+escalations_of-requires-clause-few c =
+    objects-few c.args.templates.now c.args.counts.now.hosts c.args.objects.now c.as_slice.result.now c.as_slice.ensures c.requires.objects c.requires.counts.few
+
+pub escalations_of-requires-clause-few_contacts : goal.escalations_of-requires-clause-few_contacts
+escalations_of-requires-clause-few_contacts c = few-names c.args.templates.now Contact max_contacts c.requires.few.contacts
