@@ -1,5 +1,5 @@
 -- What a desk has after an event is decided, and after it is handed out.
-use Rattle.std.proofs.Common.{◌≡◌, ℕ, ◌<◌, Bool, true, false, List, [], ◌∷◌, ◌++◌, length, get_or, refl, sym, ap, subst, ◌∙◌, arith, Result, Ok, Err, OnOk, OnErr}
+use Rattle.std.proofs.Common.{◌≡◌, ℕ, ◌<◌, Bool, true, false, List, [], ◌∷◌, ◌++◌, length, get_or, replicate, refl, sym, ap, subst, ◌∙◌, arith, Result, Ok, Err, OnOk, OnErr}
 use Rattle.due_model.specs.declared.config.Config.{Config}
 use Rattle.due_model.specs.declared.config.LaneId.{LaneId}
 use Rattle.due_model.specs.declared.event.Event.{Event}
@@ -9,9 +9,9 @@ use Rattle.due_model.specs.declared.zone.Zone.{Zone}
 use Rattle.decider.specs.declared.decider.Decider.{Decider}
 use Rattle.decider.specs.declared.share.Share.{Share}
 use Rattle.decider.specs.Decider.{gained, suppressed_gained}
-use Rattle.decider.specs.Fits.{Fits, Kept, kept, settings}
+use Rattle.decider.specs.Fits.{Fits, HasDecidedNothing, Kept, kept, settings}
 use Rattle.decider.specs.Outbox.{lists, waiting_at}
-use Rattle.std.proofs.lemmas.List.{append-nil}
+use Rattle.std.proofs.lemmas.List.{append-nil, get_or-replicate, length-replicate}
 use Rattle.engine.specs.Due.{made_due, suppressed, whole_share}
 use Rattle.engine.specs.Lanes.{LaneValue, MayBeShut, held}
 use Rattle.engine.specs.Lists.{IsFrontOf}
@@ -151,3 +151,24 @@ ok_three (Err x) f p q t = tt
 pub err_always : {T E P : Type 0} (r : Result T E) → P → OnErr r P
 err_always (Ok x) p = tt
 err_always (Err x) p = p
+
+-- ---- a new desk
+
+pub new_stands : (c : Config) (zone : Zone) (posted : ℕ → Bool) (desk : DeskValue) (count : ℕ) → HasDecidedNothing c zone whole_share (kept desk.decider) → desk.config ≡ c → desk.log ≡ []
+    → lists desk.outbox ≡ replicate count [] → count ≡ length c.lanes → length desk.lanes ≡ count
+    → ((l : ℕ) → l < count → (lane_at desk.lanes l).lane.0 ≡ l) → ((l : ℕ) → l < count → held_at desk.lanes l ≡ [])
+    → ((l : ℕ) → l < count → MayBeShut (posted l) false (lane_at desk.lanes l).kept.why) → Stands c zone posted [] desk
+new_stands c zone posted desk count nothing config log out many long number empty causes = record {
+  config = config;
+  decided = record { fits = nothing.fits; settings = nothing.settings; passed_on = nothing.log; log_is = log };
+  emptied = record {
+    lanes = ap length out ∙ length-replicate count [] ∙ many;
+    empty = λ l within. ap (λ (xs : List (List Notice)). get_or xs l []) out ∙ get_or-replicate count l [] [] (omega (arith, within, many));
+  };
+  are = record {
+    count = long ∙ many;
+    number = λ l within. number l (omega (arith, within, long));
+    causes = λ l within. causes l (omega (arith, within, long));
+  };
+  all = λ l within. empty l (omega (arith, within, long));
+}

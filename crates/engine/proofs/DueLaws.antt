@@ -49,29 +49,30 @@ gain_is_of c zone l e past o = by_object (slice_get c.objects o)
 abbrev IsAbout : (o : ℕ) → Suppression → Type 0
 IsAbout o s = s.object.0 ≡ o
 
+-- the suppression of contact k by a filter
+abbrev refused : (o event number : ℕ) → Attempt → (k : ℕ) → Filter → Suppression
+refused o event number a k why = record {
+  event = event;
+  moment = a.moment;
+  object = record { 0 = o };
+  kind = a.kind;
+  state = a.state;
+  number = number;
+  filter = why;
+  contact = Some (record { 0 = k });
+}
+
 refusal_is_about : (c : Config) (zone : Zone) (o : ℕ) (object : Object) (event number : ℕ) (a : Attempt) (k : ℕ) → All (IsAbout o) (refusal_of c zone o object event number a k)
 refusal_is_about c zone o object event number a k = by_contact (slice_get c.contacts k)
   where
-    abbrev refused : (why : Filter) → Suppression
-    refused why = record {
-      event = event;
-      moment = a.moment;
-      object = record { 0 = o };
-      kind = a.kind;
-      state = a.state;
-      number = number;
-      filter = why;
-      contact = Some (record { 0 = k });
-    }
-
-    by_filter : (fails : Option Filter) → All (IsAbout o) (elim fails as (λ _. List Suppression) [ None ↦ [] | Some why ↦ refused why ∷ [] ])
+    by_filter : (fails : Option Filter) → All (IsAbout o) (elim fails as (λ _. List Suppression) [ None ↦ [] | Some why ↦ refused o event number a k why ∷ [] ])
     by_filter None = All-nil (IsAbout o)
-    by_filter (Some why) = All-cons (IsAbout o) (refused why) [] refl (All-nil (IsAbout o))
+    by_filter (Some why) = All-cons (IsAbout o) (refused o event number a k why) [] refl (All-nil (IsAbout o))
 
     by_contact : (found : Option Contact) → All (IsAbout o)
         (elim found as (λ _. List Suppression) [
           | None ↦ []
-          | Some contact ↦ elim (contact_failing c zone (rights_for object contact) a) as (λ _. List Suppression) [ None ↦ [] | Some why ↦ refused why ∷ [] ]
+          | Some contact ↦ elim (contact_failing c zone (rights_for object contact) a) as (λ _. List Suppression) [ None ↦ [] | Some why ↦ refused o event number a k why ∷ [] ]
         ])
     by_contact None = All-nil (IsAbout o)
     by_contact (Some contact) = by_filter (contact_failing c zone (rights_for object contact) a)

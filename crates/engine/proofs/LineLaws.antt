@@ -1,5 +1,5 @@
 -- What the next line of the feed, and then all of them, make of a run.
-use Rattle.std.proofs.Common.{◌≡◌, ◌≢◌, ℕ, ◌+◌, ◌≤◌, All, Bool, List, [], ◌++◌, length, reverse, refl, sym, ap, subst, ◌∙◌, inl, arith, Option, Result, Ok, Err, IfOk}
+use Rattle.std.proofs.Common.{◌≡◌, ◌≢◌, ℕ, ◌+◌, ◌≤◌, All, Bool, List, [], ◌++◌, length, reverse, refl, sym, ap, subst, ◌∙◌, inl, arith, Option, None, Some, Result, Ok, Err, IfOk}
 use Rattle.std.proofs.lemmas.List.Elements.{All-nil}
 use Rattle.due_model.specs.declared.config.Config.{Config}
 use Rattle.due_model.specs.declared.event.Event.{Event}
@@ -7,9 +7,14 @@ use Rattle.due_model.specs.declared.zone.Zone.{Zone}
 use Rattle.due_model.specs.Proper.{IsProper}
 use Rattle.event_feed.specs.declared.fault.FeedFault.TheVariants.{NoMemory}
 use Rattle.event_feed.specs.declared.fault.RefusedLine.{RefusedLine}
-use Rattle.event_feed.specs.Feed.{Answer, Feed, answers_from}
+use Rattle.event_feed.specs.Feed.{Answer, Feed, answers_from, feed_of}
+use Rattle.text_lines.specs.LineReader.{Reading, to_come}
 use Rattle.text_lines.specs.Lines.{pieces}
+use Rattle.std.specs.Io.KnownBytes.{prepend_known}
 use Rattle.engine.specs.declared.intake.Next.{Next}
+use Rattle.engine.specs.declared.run.Turn.{Turn}
+use Rattle.engine.specs.declared.run.Turn.TheVariants as turn
+use Rattle.engine.specs.Run.{After}
 use Rattle.engine.specs.declared.intake.Next.TheVariants.{Accepts, Refused, Over}
 use Rattle.engine.specs.Feed.{CameFirst, Follows, HasRead, Intake, Offers}
 use Rattle.engine.specs.Served.{DeskValue, GoesOn, IsOver, IsStart, IsStopped, Stands}
@@ -88,3 +93,38 @@ start_goes_on c zone posted known now desk s stands = record {
 pub ok_always : {T E : Type 0} (r : Result T E) (P : T → Type 0) → ((x : T) → P x) → IfOk r P
 ok_always (Ok x) P h = h x
 ok_always (Err e) P h = tt
+
+-- ---- all the lines
+
+-- what a turn makes of it, of a configuration that is the same
+pub turn_over : (can_fail : Bool) (c told : Config) → told ≡ c → (zone : Zone) (posted : ℕ → Bool) (start : Feed) (intake : Intake) (desk : DeskValue) (made : Turn) (cut : Bool) → made ≡ turn.Over cut
+    → After can_fail told zone posted start made intake desk → IsOver can_fail c zone posted start cut intake desk
+turn_over can_fail c told same zone posted start intake desk made cut is h =
+    subst (λ (x : Config). IsOver can_fail x zone posted start cut intake desk) same (subst (λ (t : Turn). After can_fail told zone posted start t intake desk) is h)
+
+pub turn_on : (can_fail : Bool) (c told : Config) → told ≡ c → (zone : Zone) (posted : ℕ → Bool) (start : Feed) (intake : Intake) (desk : DeskValue) (made : Turn) → made ≡ turn.GoesOn
+    → After can_fail told zone posted start made intake desk → GoesOn c zone posted start intake desk
+turn_on can_fail c told same zone posted start intake desk made is h =
+    subst (λ (x : Config). GoesOn x zone posted start intake desk) same (subst (λ (t : Turn). After can_fail told zone posted start t intake desk) is h)
+
+pub goes_told : (c told : Config) → told ≡ c → (zone : Zone) (posted : ℕ → Bool) (start : Feed) (intake : Intake) (desk : DeskValue) → GoesOn c zone posted start intake desk → GoesOn told zone posted start intake desk
+goes_told c told same zone posted start intake desk h = subst (λ (x : Config). GoesOn x zone posted start intake desk) (sym same) h
+
+pub stopped_of : (c told : Config) → told ≡ c → (zone : Zone) (posted : ℕ → Bool) (start : Feed) (intake : Intake) (desk : DeskValue) → IsStopped told zone posted start intake desk → IsStopped c zone posted start intake desk
+stopped_of c told same zone posted start intake desk h = subst (λ (x : Config). IsStopped x zone posted start intake desk) same h
+
+-- the reader of which nothing was read
+prepend_none : (known : Option (List ℕ)) → prepend_known [] known ≡ known
+prepend_none None = refl
+prepend_none (Some bytes) = refl
+
+pub new_start : (known : Option (List ℕ)) (lines : Reading) (now : Intake) → lines ≡ record { line = []; held = []; unread = known; calls = 0 }
+    → now ≡ record { feed = feed_of lines 0 0 None; events = []; refused = [] } → IsStart known now
+new_start known lines now is from = record {
+  bytes = ap (λ (x : Intake). x.feed.bytes) from ∙ ap to_come is ∙ prepend_none known;
+  line = ap (λ (x : Intake). x.feed.line) from;
+  last = ap (λ (x : Intake). x.feed.last) from;
+  goes_on = ap (λ (x : Intake). x.feed.stop) from;
+  no_events = ap (λ (x : Intake). x.events) from;
+  no_refused = ap (λ (x : Intake). x.refused) from;
+}

@@ -1,5 +1,5 @@
 -- The channels of posts, and the lanes that are made of them.
-use Rattle.std.proofs.Common.{◌≡◌, ◌≢◌, ℕ, zero, suc, ◌+◌, ◌<◌, ◌≤◌, Bool, true, false, ◌||◌, ◌==◌, List, [], ◌∷◌, ◌++◌, length, map, get_or, set, replicate, min, Option, is_some, refl, sym, ap, subst, ◌∙◌, arith, append_assoc, length-append, eq-eqb, inl, inr, get_or-set_same, get_or-set_other, length-set, below_more}
+use Rattle.std.proofs.Common.{◌≡◌, ◌≢◌, ◌⊎◌, ℕ, zero, suc, ◌+◌, ◌<◌, ◌≤◌, Bool, true, false, ◌||◌, ◌==◌, List, [], ◌∷◌, ◌++◌, length, map, get_or, set, replicate, min, Option, is_some, refl, sym, ap, subst, ◌∙◌, arith, append_assoc, length-append, eq-eqb, inl, inr, get_or-set_same, get_or-set_other, length-set, below_more}
 use Rattle.std.specs.List.{list_any}
 use Rattle.std.proofs.lemmas.Bool.{cases_eq, ne_eqb}
 use Rattle.std.proofs.lemmas.List.{append-nil, get_or-replicate, length-replicate, get_or_append_left, get_or_at, length-map, map-append}
@@ -47,20 +47,20 @@ any_more key xs x l = list_any-append (λ y. key y == l) xs (x ∷ []) ∙ ap (�
 -- ---- the lanes
 
 -- a lane that nothing was handed to
-pub record IsNew (number : ℕ) (has_channel : Bool) (lane : LaneValue) : Type 0 where
-  pub number : lane.lane.0 ≡ number
-  pub held : held lane ≡ []
+pub record IsNew (place : ℕ) (has_channel : Bool) (lane : LaneValue) : Type 0 where
+  pub number : lane.lane.0 ≡ place
+  pub empty : held lane ≡ []
   pub cause : MayBeShut has_channel false lane.kept.why
 
 -- of a front of the channels
-pub record AreMadeOf {X : Type 0} (all yielded rest : List (Option X)) (number : ℕ) (lanes : List LaneValue) : Type 0 where
-  pub all : all ≡ yielded ++ rest
-  pub number : number ≡ min (length yielded) 255
+pub record AreMadeOf {X : Type 0} (all yielded rest : List (Option X)) (next : ℕ) (lanes : List LaneValue) : Type 0 where
+  pub parted : all ≡ yielded ++ rest
+  pub number : next ≡ min (length yielded) 255
   pub made : AreMade (map is_some yielded) lanes
 
 pub made_none : {X : Type 0} (all rest : List (Option X)) (lanes : List LaneValue) → rest ≡ all → lanes ≡ [] → AreMadeOf all [] rest 0 lanes
 made_none all rest lanes same none = record {
-  all = sym same;
+  parted = sym same;
   number = refl;
   made = record {
     count = ap length none;
@@ -74,7 +74,7 @@ push_made : (bs : List Bool) (b : Bool) (lanes : List LaneValue) (lane : LaneVal
 push_made bs b lanes lane h new = record {
   count = length-append lanes (lane ∷ []) ∙ ap (λ (n : ℕ). n + 1) h.count ∙ sym (length-append bs (b ∷ []));
   number = λ l within. by_place (λ k v c. v.lane.0 ≡ k) h.number new.number l (less l within);
-  held = λ l within. by_place (λ k v c. held v ≡ []) h.held new.held l (less l within);
+  held = λ l within. by_place (λ k v c. held v ≡ []) h.held new.empty l (less l within);
   causes = λ l within. by_place (λ k v c. MayBeShut c false v.kept.why) h.causes new.cause l (less l within);
 }
   where
@@ -96,15 +96,15 @@ pub made_more : {X : Type 0} (all yielded rest rest' : List (Option X)) (number 
     → AreMadeOf all yielded rest number lanes → length all < 256 → rest ≡ channel ∷ rest' → lanes' ≡ lanes ++ lane ∷ [] → number' ≡ min (number + 1) 255
     → lane.lane.0 ≡ number → held lane ≡ [] → MayBeShut (is_some channel) false lane.kept.why → AreMadeOf all (yielded ++ channel ∷ []) rest' number' lanes'
 made_more {X} all yielded rest rest' number number' lanes lanes' channel lane h few next pushed up is empty cause = record {
-  all = h.all ∙ ap (λ (xs : List (Option X)). yielded ++ xs) next ∙ sym (append_assoc yielded (channel ∷ []) rest');
+  parted = h.parted ∙ ap (λ (xs : List (Option X)). yielded ++ xs) next ∙ sym (append_assoc yielded (channel ∷ []) rest');
   number = omega (arith, up, h.number, length-append yielded (channel ∷ []));
   made = subst (λ (bs : List Bool). AreMade bs lanes') (sym (map-append is_some yielded (channel ∷ [])))
       (subst (λ (xs : List LaneValue). AreMade (map is_some yielded ++ is_some channel ∷ []) xs) (sym pushed)
-      (push_made (map is_some yielded) (is_some channel) lanes lane h.made (record { number = is ∙ place; held = empty; cause = cause })));
+      (push_made (map is_some yielded) (is_some channel) lanes lane h.made (record { number = is ∙ place; empty = empty; cause = cause })));
 }
   where
     long : length all ≡ length yielded + length rest
-    long = ap length h.all ∙ length-append yielded rest
+    long = ap length h.parted ∙ length-append yielded rest
 
     one : length rest ≡ length (channel ∷ rest')
     one = ap length next
@@ -114,4 +114,28 @@ made_more {X} all yielded rest rest' number number' lanes lanes' channel lane h 
 
 pub made_all : {X : Type 0} (all yielded rest : List (Option X)) (number : ℕ) (lanes : List LaneValue) → AreMadeOf all yielded rest number lanes → rest ≡ [] → AreMade (map is_some all) lanes
 made_all {X} all yielded rest number lanes h none =
-    subst (λ (xs : List (Option X)). AreMade (map is_some xs) lanes) (sym (h.all ∙ ap (λ (xs : List (Option X)). yielded ++ xs) none ∙ append-nil yielded)) h.made
+    subst (λ (xs : List (Option X)). AreMade (map is_some xs) lanes) (sym (h.parted ∙ ap (λ (xs : List (Option X)). yielded ++ xs) none ∙ append-nil yielded)) h.made
+
+-- ---- what is taken one by one
+
+-- so many are left of these
+pub record AreTakenFrom {X : Type 0} (all yielded rest : List X) (left : ℕ) : Type 0 where
+  pub parted : all ≡ yielded ++ rest
+  pub long : left ≡ length rest
+
+pub taken_none : {X : Type 0} (all rest : List X) (left : ℕ) → rest ≡ all → left ≡ length rest → AreTakenFrom all [] rest left
+taken_none all rest left same long = record { parted = sym same; long = long }
+
+pub taken_more : {X : Type 0} (all yielded rest rest' : List X) (left left' : ℕ) (x : X) → AreTakenFrom all yielded rest left → rest ≡ x ∷ rest' → left' + 1 ≡ left → AreTakenFrom all (yielded ++ x ∷ []) rest' left'
+taken_more {X} all yielded rest rest' left left' x h next less = record {
+  parted = h.parted ∙ ap (λ (xs : List X). yielded ++ xs) next ∙ sym (append_assoc yielded (x ∷ []) rest');
+  long = omega (arith, h.long, less, ap length next);
+}
+
+pub none_left : {X : Type 0} (xs : List X) (n : ℕ) → n ≡ length xs → n ≡ 0 → xs ≡ []
+none_left [] n e none = refl
+none_left (x ∷ xs) n e none = absurd (omega (arith, e, none))
+
+pub taken_all : {X : Type 0} (all yielded rest : List X) (left : ℕ) → AreTakenFrom all yielded rest left → left ≡ 0 → yielded ≡ all
+taken_all {X} all yielded rest left h none =
+    sym (h.parted ∙ ap (λ (xs : List X). yielded ++ xs) (none_left rest left h.long none) ∙ append-nil yielded)

@@ -23,31 +23,33 @@ use Rattle.engine.specs.Feed.{AreTaken, HasEnded, Intake, IsFrontOfFeed, IsWhatW
 use Rattle.engine.specs.Lanes.{IsCause, LaneParts, LaneValue, MayBeShut, joined}
 use Rattle.engine.specs.Lists.{IsFrontOf}
 use Rattle.engine.specs.Run.{IsRunEnd}
-use Rattle.engine.specs.Served.{DeskValue, Holds, IsOver, IsStart, IsStopped, held_at, lane_at}
+use Rattle.engine.specs.Served.{DeskValue, GoesOn, Holds, IsOver, IsStart, IsStopped, Stands, held_at, lane_at}
 use Rattle.engine.proofs.DeskLaws.{stands_holds}
 use Rattle.engine.proofs.DueLaws.{made_due_named, made_due_of, suppressed_is_sup}
 use Rattle.engine.proofs.IntakeLaws.{offered_front, read_front}
+use Rattle.engine.proofs.LineLaws.{goes_told, start_goes_on}
 
 -- ---- the events are a front of the feed's, also where the reading broke off
 
 abbrev read_at : ℕ → Answer
 read_at line = record { line = line; given = Err fault.Read }
 
+abbrev ended_at : Answer → List Answer
+ended_at a = record { line = a.line; given = Err fault.Ended } ∷ []
+
 cut_front : (n : ℕ) (front others : List Answer) (line : ℕ) → IsFrontOf (events_in (taken_after n (front ++ read_at line ∷ []))) (events_in (taken_after n (front ++ others)))
 cut_front n [] others line = (events_in (taken_after n others), refl)
-cut_front n (a ∷ front) others line = by_test (is_unnumbered n a.given)
+cut_front n (a ∷ front) others line = by_test (is_unnumbered n a.given) (cut_front (count_after n a.given) front others line)
   where
-    abbrev after : List Answer → List Answer
-    after more = taken_after (count_after n a.given) more
-
-    abbrev last : List Answer
-    last = record { line = a.line; given = Err fault.Ended } ∷ []
-
-    by_test : (b : Bool) → IsFrontOf (events_in (cond b last (a ∷ after (front ++ read_at line ∷ [])))) (events_in (cond b last (a ∷ after (front ++ others))))
-    by_test true = ([], refl)
-    by_test false =
-        let f = cut_front (count_after n a.given) front others line in
-        (f.0, ap (λ (xs : List Event). event_in a.given ++ xs) f.1 ∙ sym (append_assoc (event_in a.given) (events_in (after (front ++ read_at line ∷ []))) f.0))
+    by_test : (b : Bool)
+        → IsFrontOf (events_in (taken_after (count_after n a.given) (front ++ read_at line ∷ []))) (events_in (taken_after (count_after n a.given) (front ++ others)))
+        → IsFrontOf (events_in (cond b (ended_at a) (a ∷ taken_after (count_after n a.given) (front ++ read_at line ∷ [])))) (events_in (cond b (ended_at a) (a ∷ taken_after (count_after n a.given) (front ++ others))))
+    by_test true f = ([], refl)
+    by_test false f = (
+      f.0,
+      ap (λ (xs : List Event). event_in a.given ++ xs) f.1
+      ∙ sym (append_assoc (event_in a.given) (events_in (taken_after (count_after n a.given) (front ++ read_at line ∷ []))) f.0),
+    )
 
 given_by : (can_fail : Bool) (given all : List Answer) (line : ℕ) (texts : List (List ℕ)) → AreGiven can_fail given all line texts → IsFrontOf (events_in (taken_after 0 given)) (events_in (taken_after 0 all))
 given_by can_fail given all line texts (inl same) = ([], ap (λ (xs : List Answer). events_in (taken_after 0 xs)) (sym same) ∙ sym (append-nil (events_in (taken_after 0 given))))
@@ -77,6 +79,14 @@ pub record AreLeft (lanes : List LaneValue) (ends : List LaneParts) : Type 0 whe
   pub number : (l : ℕ) (lane : LaneParts) → slice_get ends l ≡ Some lane → lane.lane ≡ (lane_at lanes l).lane
   pub held : (l : ℕ) (lane : LaneParts) → slice_get ends l ≡ Some lane → joined lane ≡ held_at lanes l
   pub causes : (l : ℕ) (lane : LaneParts) (posted memory : Bool) → slice_get ends l ≡ Some lane → MayBeShut posted memory (lane_at lanes l).kept.why → IsCause posted memory lane
+
+-- of the lanes that were handed over
+pub left_of : (lanes given : List LaneValue) (ends : List LaneParts) → given ≡ lanes → length ends ≡ length given
+    → ((l : ℕ) (lane : LaneParts) → slice_get ends l ≡ Some lane → lane.lane ≡ (lane_at given l).lane)
+    → ((l : ℕ) (lane : LaneParts) → slice_get ends l ≡ Some lane → joined lane ≡ held_at given l)
+    → ((l : ℕ) (lane : LaneParts) (posted memory : Bool) → slice_get ends l ≡ Some lane → MayBeShut posted memory (lane_at given l).kept.why → IsCause posted memory lane)
+    → AreLeft lanes ends
+left_of lanes given ends same count number held causes = subst (λ (xs : List LaneValue). AreLeft xs ends) same (record { count = count; number = number; held = held; causes = causes })
 
 module _ (can_fail : Bool) (c : Config) (zone : Zone) (posted : ℕ → Bool) (start : Feed) (intake : Intake) (desk : DeskValue) (end : RunEnd) (events : end.events.items ≡ intake.events)
     (refused : end.refused.items ≡ intake.refused) (log : end.log.items ≡ desk.log) (left : AreLeft desk.lanes end.lanes.items) where
@@ -191,6 +201,13 @@ module _ (can_fail : Bool) (c : Config) (zone : Zone) (posted : ℕ → Bool) (k
 
   pub events_front : IfSome known (λ bytes. IsFrontOf end.events.items (events_of c.objects bytes))
   events_front = from_start (λ bytes all line. IsFrontOf end.events.items (events_in (taken_after 0 all))) r.front
+
+-- a run that was started on such a feed
+pub ends_well : (can_fail : Bool) (c told : Config) → told ≡ c → (zone : Zone) (posted : ℕ → Bool) (known : Option (List ℕ)) (now : Intake) (desk : DeskValue) (end : RunEnd) → IsStart known now → Stands c zone posted [] desk
+    → ((z : Zone) (p : ℕ → Bool) (start : Feed) → GoesOn told z p start now desk → IsRunEnd can_fail told z p start end) → IsRunEnd can_fail c zone posted now.feed end
+ends_well can_fail c told same zone posted known now desk end s stands ends =
+    subst (λ (x : Config). IsRunEnd can_fail x zone posted now.feed end) same
+    (ends zone posted now.feed (goes_told c told same zone posted now.feed now desk (start_goes_on c zone posted known now desk s stands)))
 
 -- ---- where memory ran out before anything was read
 

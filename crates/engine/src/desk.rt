@@ -51,12 +51,15 @@ impl<'a> Desk<'a> {
         ensures { IfOk result (λ desk. Stands config.now zone.now
             (λ l. list_any (λ post. post.lane.0 == l) posts.items) [] (desk_value desk)) }
     {
-        let lanes = config.lanes.len();
+        let count = config.lanes.len();
+        let decider = Decider::new(alloc, config, zone, WHOLE)?;
+        let outbox = Outbox::new(alloc, count)?;
+        let lanes = new_lanes(alloc, count as u8, posts)?;
         Ok(Desk {
-            decider: Decider::new(alloc, config, zone, WHOLE)?,
-            outbox: Outbox::new(alloc, lanes)?,
+            decider,
+            outbox,
             log: Vec::new(alloc),
-            lanes: new_lanes(alloc, lanes as u8, posts)?,
+            lanes,
             delivery: Delivery {
                 alloc,
                 config,

@@ -60,10 +60,12 @@ impl<'a, R: Input + Drop> Run<'a, R> {
         ensures room { IfOk result (λ run. length run.desk.lanes.items ≤ vec_capacity run.ends) }
     {
         let lines = LineReader::new(alloc, reader)?;
+        let desk = Desk::new(alloc, config, zone, posts, settings)?;
+        let ends = Vec::with_capacity(alloc, config.lanes.len())?;
         Ok(Run {
             intake: Intake::new(alloc, lines),
-            desk: Desk::new(alloc, config, zone, posts, settings)?,
-            ends: Vec::with_capacity(alloc, config.lanes.len())?,
+            desk,
+            ends,
         })
     }
 
@@ -166,12 +168,14 @@ impl<'a, R: Input + Drop> Run<'a, R> {
     pub(crate) fn complete(mut self) -> RunEnd
         requires accepted { IsAccepted self.desk.delivery.config.now }
         requires goes_on { (zone : Zone) × (posted : ℕ → Bool) × (start : Feed)
-            × GoesOn self.desk.delivery.config.now zone posted start self.intake.read (desk_value self.desk) }
+            × GoesOn self.desk.delivery.config.now zone posted start
+            self.intake.read (desk_value self.desk) }
         requires none { self.ends.items ≡ [] }
         requires room { length self.desk.lanes.items ≤ vec_capacity self.ends }
         ensures { (zone : Zone) (posted : ℕ → Bool) (start : Feed)
-            → GoesOn self.desk.delivery.config.now zone posted start self.intake.read (desk_value self.desk)
-            → IsRunEnd R.can_fail self.desk.delivery.config.now zone posted start result }
+            → GoesOn self.entry.desk.delivery.config.now zone posted start
+            self.entry.intake.read (desk_value self.entry.desk)
+            → IsRunEnd R.can_fail self.entry.desk.delivery.config.now zone posted start result }
     {
         let read = self.read_all();
         let Run { intake, desk, ends } = self;
