@@ -169,7 +169,6 @@ then_by can_fail c start now given others (Some before) (Some after) line earlie
       whole = ap (λ more. given ++ more) fails.whole ∙ sym (append_assoc given fails.front (record { line = fails.line; given = Err Read } ∷ []));
     })
 
-
 -- what was given, and what is given of the feed after it
 given_then : (can_fail : Bool) (c : Config) (start : Feed) (given : List Answer) (now : Feed) (events : List Event) (refused : List RefusedLine) (others : List Answer)
     → CameFirst c start given now events refused → AreGivenBy can_fail c.objects now others → AreGivenBy can_fail c.objects start (given ++ others)
@@ -354,8 +353,8 @@ front_by c start given now events (Some before) (Some after) known e taken =
     let others = answers_from c.objects now after in (
       events_in (taken_after (length events) others),
       ap (λ all. events_in (taken_after 0 all)) known ∙ ap events_in (taken others)
-      ∙ flat_map-append (λ (a : Answer). event_in a.given) given (taken_after (length events) others)
-      ∙ ap (λ (xs : List Event). xs ++ events_in (taken_after (length events) others)) (sym e),
+          ∙ flat_map-append (λ (a : Answer). event_in a.given) given (taken_after (length events) others)
+          ∙ ap (λ (xs : List Event). xs ++ events_in (taken_after (length events) others)) (sym e),
     )
 
 pub read_front : (c : Config) (start : Feed) (now : Intake) → HasRead c start now → IsFrontOfFeed c start now.events

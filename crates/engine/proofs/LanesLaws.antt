@@ -77,7 +77,6 @@ module _ {T E S F U G : Type 0} (i : ℕ) (olds news : List LaneValue) (x y : La
     (err : OnErr served (IsFrontOf (held y) (held x ++ get_or now i [])))
     (cause : OnOk served (KeepsCauses x y)) (refused : OnErr served (MayRunOut x y))
     (are : OnOk result (IsOk all × IsOk served)) where
-
   here : lane_at (set news i y) i ≡ y
   here = get_or-set_same news i y no_lane within
 

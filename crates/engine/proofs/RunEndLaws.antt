@@ -48,7 +48,7 @@ cut_front n (a ∷ front) others line = by_test (is_unnumbered n a.given) (cut_f
     by_test false f = (
       f.0,
       ap (λ (xs : List Event). event_in a.given ++ xs) f.1
-      ∙ sym (append_assoc (event_in a.given) (events_in (taken_after (count_after n a.given) (front ++ read_at line ∷ []))) f.0),
+          ∙ sym (append_assoc (event_in a.given) (events_in (taken_after (count_after n a.given) (front ++ read_at line ∷ []))) f.0),
     )
 
 given_by : (can_fail : Bool) (given all : List Answer) (line : ℕ) (texts : List (List ℕ)) → AreGiven can_fail given all line texts → IsFrontOf (events_in (taken_after 0 given)) (events_in (taken_after 0 all))
@@ -57,7 +57,7 @@ given_by can_fail given all line texts (inr broken) =
     let f = cut_front 0 broken.front broken.others broken.line in (
       f.0,
       ap (λ (xs : List Answer). events_in (taken_after 0 xs)) broken.begins ∙ f.1
-      ∙ ap (λ (xs : List Answer). events_in (taken_after 0 xs) ++ f.0) (sym broken.whole),
+          ∙ ap (λ (xs : List Answer). events_in (taken_after 0 xs) ++ f.0) (sym broken.whole),
     )
 
 given_front : (can_fail : Bool) (c : Config) (start : Feed) (given : List Answer) → AreGivenBy can_fail c.objects start given → IsFrontOfFeed c start (events_in (taken_after 0 given))
@@ -90,7 +90,6 @@ left_of lanes given ends same count number held causes = subst (λ (xs : List La
 
 module _ (can_fail : Bool) (c : Config) (zone : Zone) (posted : ℕ → Bool) (start : Feed) (intake : Intake) (desk : DeskValue) (end : RunEnd) (events : end.events.items ≡ intake.events)
     (refused : end.refused.items ≡ intake.refused) (log : end.log.items ≡ desk.log) (left : AreLeft desk.lanes end.lanes.items) where
-
   within : (l : ℕ) (lane : LaneParts) → slice_get end.lanes.items l ≡ Some lane → l < length desk.lanes
   within l lane found = omega (arith, slice_get_within end.lanes.items l lane found, left.count)
 

@@ -83,7 +83,7 @@ served_front l old lane new before now n h first (inl e) = (get_or now l [], sym
 served_front l old lane new before now n h first (inr e) = (
   drop 1 (get_or now l []),
   sym h.moved ∙ ap (λ (xs : List Notice). held lane ++ xs) (front_of (get_or now l []) n first)
-  ∙ sym (append_assoc (held lane) (n ∷ []) (drop 1 (get_or now l []))) ∙ ap (λ (xs : List Notice). xs ++ drop 1 (get_or now l [])) (sym e),
+      ∙ sym (append_assoc (held lane) (n ∷ []) (drop 1 (get_or now l []))) ∙ ap (λ (xs : List Notice). xs ++ drop 1 (get_or now l [])) (sym e),
 )
 
 pub on_err_always : {T E P : Type 0} (r : Result T E) → P → OnErr r P

@@ -59,10 +59,7 @@ fn channels_of(
 }
 
 /// The lanes of these channels, in their order. A refused growth is the only error.
-fn lanes_of(
-    alloc: Global,
-    channels: Vec<Option<Box<dyn Channel>>>,
-) -> Result<Vec<Lane>, AllocError>
+fn lanes_of(alloc: Global, channels: Vec<Option<Box<dyn Channel>>>) -> Result<Vec<Lane>, AllocError>
     requires { length channels.items < 256 }
     ensures { IfOk result (λ lanes. AreMade (map is_some channels.items) lanes.items) }
 {
@@ -77,11 +74,7 @@ fn lanes_of(
 
 /// The lanes of a configuration, so many, each with the channel of its post; the last, where there are more. A refused growth is
 /// the only error.
-pub(crate) fn new_lanes(
-    alloc: Global,
-    count: u8,
-    posts: Vec<Post>,
-) -> Result<Vec<Lane>, AllocError>
+pub(crate) fn new_lanes(alloc: Global, count: u8, posts: Vec<Post>) -> Result<Vec<Lane>, AllocError>
     ensures count { IfOk result (λ lanes. length lanes.items ≡ count) }
     ensures number { IfOk result (λ lanes. (l : ℕ) → l < count
         → (lane_at lanes.items l).lane.0 ≡ l) }

@@ -56,7 +56,11 @@ impl LaneEnd {
         ensures undelivered { result.undelivered ≡ kept.undelivered }
         ensures why { result.why ≡ why }
     {
-        LaneEnd { lane, record: kept, why }
+        LaneEnd {
+            lane,
+            record: kept,
+            why,
+        }
     }
 
     /// The number of the lane.

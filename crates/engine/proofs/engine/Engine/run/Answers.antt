@@ -34,57 +34,57 @@ complete-requires-clause-room g c = c.in-Ok.ensures.room
 pub returns-in-Ok-clause-due : goal.returns-in-Ok-clause-due
 returns-in-Ok-clause-due g c =
     let end =
-        ends_well g.R.Input.can_fail c.args.config.now c.in-Ok.run'.desk.delivery.config.now c.in-Ok.ensures.stands.config c.args.zone.now (λ l. list_any (λ post. post.lane.0 == l) c.args.posts.items)
-        (g.R.Read.remaining c.args.reader) c.in-Ok.run'.intake.read (desk_value c.in-Ok.run'.desk) c.complete.result c.in-Ok.ensures.start c.in-Ok.ensures.stands c.complete.ensures in
+    ends_well g.R.Input.can_fail c.args.config.now c.in-Ok.run'.desk.delivery.config.now c.in-Ok.ensures.stands.config c.args.zone.now (λ l. list_any (λ post. post.lane.0 == l) c.args.posts.items)
+    (g.R.Read.remaining c.args.reader) c.in-Ok.run'.intake.read (desk_value c.in-Ok.run'.desk) c.complete.result c.in-Ok.ensures.start c.in-Ok.ensures.stands c.complete.ensures in
     lanes_are_due g.R.Input.can_fail c.args.config.now c.args.zone.now (λ l. list_any (λ post. post.lane.0 == l) c.args.posts.items) c.in-Ok.run'.intake.read.feed c.complete.result end
 
 pub returns-in-Ok-clause-log : goal.returns-in-Ok-clause-log
 returns-in-Ok-clause-log g c =
     let end =
-        ends_well g.R.Input.can_fail c.args.config.now c.in-Ok.run'.desk.delivery.config.now c.in-Ok.ensures.stands.config c.args.zone.now (λ l. list_any (λ post. post.lane.0 == l) c.args.posts.items)
-        (g.R.Read.remaining c.args.reader) c.in-Ok.run'.intake.read (desk_value c.in-Ok.run'.desk) c.complete.result c.in-Ok.ensures.start c.in-Ok.ensures.stands c.complete.ensures in
+    ends_well g.R.Input.can_fail c.args.config.now c.in-Ok.run'.desk.delivery.config.now c.in-Ok.ensures.stands.config c.args.zone.now (λ l. list_any (λ post. post.lane.0 == l) c.args.posts.items)
+    (g.R.Read.remaining c.args.reader) c.in-Ok.run'.intake.read (desk_value c.in-Ok.run'.desk) c.complete.result c.in-Ok.ensures.start c.in-Ok.ensures.stands c.complete.ensures in
     log_is g.R.Input.can_fail c.args.config.now c.args.zone.now (λ l. list_any (λ post. post.lane.0 == l) c.args.posts.items) c.in-Ok.run'.intake.read.feed c.complete.result end
 
 pub returns-in-Ok-clause-read : goal.returns-in-Ok-clause-read
 returns-in-Ok-clause-read g c =
     let end =
-        ends_well g.R.Input.can_fail c.args.config.now c.in-Ok.run'.desk.delivery.config.now c.in-Ok.ensures.stands.config c.args.zone.now (λ l. list_any (λ post. post.lane.0 == l) c.args.posts.items)
-        (g.R.Read.remaining c.args.reader) c.in-Ok.run'.intake.read (desk_value c.in-Ok.run'.desk) c.complete.result c.in-Ok.ensures.start c.in-Ok.ensures.stands c.complete.ensures in
+    ends_well g.R.Input.can_fail c.args.config.now c.in-Ok.run'.desk.delivery.config.now c.in-Ok.ensures.stands.config c.args.zone.now (λ l. list_any (λ post. post.lane.0 == l) c.args.posts.items)
+    (g.R.Read.remaining c.args.reader) c.in-Ok.run'.intake.read (desk_value c.in-Ok.run'.desk) c.complete.result c.in-Ok.ensures.start c.in-Ok.ensures.stands c.complete.ensures in
     what_was_read g.R.Input.can_fail c.args.config.now c.args.zone.now (λ l. list_any (λ post. post.lane.0 == l) c.args.posts.items) (g.R.Read.remaining c.args.reader) c.in-Ok.run'.intake.read c.in-Ok.ensures.start c.complete.result end
 
 pub returns-in-Ok-clause-proper : goal.returns-in-Ok-clause-proper
 returns-in-Ok-clause-proper g c =
     let end =
-        ends_well g.R.Input.can_fail c.args.config.now c.in-Ok.run'.desk.delivery.config.now c.in-Ok.ensures.stands.config c.args.zone.now (λ l. list_any (λ post. post.lane.0 == l) c.args.posts.items)
-        (g.R.Read.remaining c.args.reader) c.in-Ok.run'.intake.read (desk_value c.in-Ok.run'.desk) c.complete.result c.in-Ok.ensures.start c.in-Ok.ensures.stands c.complete.ensures in
+    ends_well g.R.Input.can_fail c.args.config.now c.in-Ok.run'.desk.delivery.config.now c.in-Ok.ensures.stands.config c.args.zone.now (λ l. list_any (λ post. post.lane.0 == l) c.args.posts.items)
+    (g.R.Read.remaining c.args.reader) c.in-Ok.run'.intake.read (desk_value c.in-Ok.run'.desk) c.complete.result c.in-Ok.ensures.start c.in-Ok.ensures.stands c.complete.ensures in
     end.proper
 
 pub returns-in-Ok-clause-named : goal.returns-in-Ok-clause-named
 returns-in-Ok-clause-named g c =
     let end =
-        ends_well g.R.Input.can_fail c.args.config.now c.in-Ok.run'.desk.delivery.config.now c.in-Ok.ensures.stands.config c.args.zone.now (λ l. list_any (λ post. post.lane.0 == l) c.args.posts.items)
-        (g.R.Read.remaining c.args.reader) c.in-Ok.run'.intake.read (desk_value c.in-Ok.run'.desk) c.complete.result c.in-Ok.ensures.start c.in-Ok.ensures.stands c.complete.ensures in
+    ends_well g.R.Input.can_fail c.args.config.now c.in-Ok.run'.desk.delivery.config.now c.in-Ok.ensures.stands.config c.args.zone.now (λ l. list_any (λ post. post.lane.0 == l) c.args.posts.items)
+    (g.R.Read.remaining c.args.reader) c.in-Ok.run'.intake.read (desk_value c.in-Ok.run'.desk) c.complete.result c.in-Ok.ensures.start c.in-Ok.ensures.stands c.complete.ensures in
     end.named
 
 pub returns-in-Ok-clause-front : goal.returns-in-Ok-clause-front
 returns-in-Ok-clause-front g c =
     let end =
-        ends_well g.R.Input.can_fail c.args.config.now c.in-Ok.run'.desk.delivery.config.now c.in-Ok.ensures.stands.config c.args.zone.now (λ l. list_any (λ post. post.lane.0 == l) c.args.posts.items)
-        (g.R.Read.remaining c.args.reader) c.in-Ok.run'.intake.read (desk_value c.in-Ok.run'.desk) c.complete.result c.in-Ok.ensures.start c.in-Ok.ensures.stands c.complete.ensures in
+    ends_well g.R.Input.can_fail c.args.config.now c.in-Ok.run'.desk.delivery.config.now c.in-Ok.ensures.stands.config c.args.zone.now (λ l. list_any (λ post. post.lane.0 == l) c.args.posts.items)
+    (g.R.Read.remaining c.args.reader) c.in-Ok.run'.intake.read (desk_value c.in-Ok.run'.desk) c.complete.result c.in-Ok.ensures.start c.in-Ok.ensures.stands c.complete.ensures in
     events_front g.R.Input.can_fail c.args.config.now c.args.zone.now (λ l. list_any (λ post. post.lane.0 == l) c.args.posts.items) (g.R.Read.remaining c.args.reader) c.in-Ok.run'.intake.read c.in-Ok.ensures.start c.complete.result end
 
 pub returns-in-Ok-clause-due_front : goal.returns-in-Ok-clause-due_front
 returns-in-Ok-clause-due_front g c =
     let end =
-        ends_well g.R.Input.can_fail c.args.config.now c.in-Ok.run'.desk.delivery.config.now c.in-Ok.ensures.stands.config c.args.zone.now (λ l. list_any (λ post. post.lane.0 == l) c.args.posts.items)
-        (g.R.Read.remaining c.args.reader) c.in-Ok.run'.intake.read (desk_value c.in-Ok.run'.desk) c.complete.result c.in-Ok.ensures.start c.in-Ok.ensures.stands c.complete.ensures in
+    ends_well g.R.Input.can_fail c.args.config.now c.in-Ok.run'.desk.delivery.config.now c.in-Ok.ensures.stands.config c.args.zone.now (λ l. list_any (λ post. post.lane.0 == l) c.args.posts.items)
+    (g.R.Read.remaining c.args.reader) c.in-Ok.run'.intake.read (desk_value c.in-Ok.run'.desk) c.complete.result c.in-Ok.ensures.start c.in-Ok.ensures.stands c.complete.ensures in
     lanes_begin_due g.R.Input.can_fail c.args.config.now c.args.zone.now (λ l. list_any (λ post. post.lane.0 == l) c.args.posts.items) c.in-Ok.run'.intake.read.feed c.complete.result end
 
 pub returns-in-Ok-clause-causes : goal.returns-in-Ok-clause-causes
 returns-in-Ok-clause-causes g c =
     let end =
-        ends_well g.R.Input.can_fail c.args.config.now c.in-Ok.run'.desk.delivery.config.now c.in-Ok.ensures.stands.config c.args.zone.now (λ l. list_any (λ post. post.lane.0 == l) c.args.posts.items)
-        (g.R.Read.remaining c.args.reader) c.in-Ok.run'.intake.read (desk_value c.in-Ok.run'.desk) c.complete.result c.in-Ok.ensures.start c.in-Ok.ensures.stands c.complete.ensures in
+    ends_well g.R.Input.can_fail c.args.config.now c.in-Ok.run'.desk.delivery.config.now c.in-Ok.ensures.stands.config c.args.zone.now (λ l. list_any (λ post. post.lane.0 == l) c.args.posts.items)
+    (g.R.Read.remaining c.args.reader) c.in-Ok.run'.intake.read (desk_value c.in-Ok.run'.desk) c.complete.result c.in-Ok.ensures.start c.in-Ok.ensures.stands c.complete.ensures in
     end.causes
 
 pub returns-in-Err-clause-due : goal.returns-in-Err-clause-due
@@ -97,11 +97,11 @@ pub returns-in-Err-clause-read : goal.returns-in-Err-clause-read
 returns-in-Err-clause-read g c = unread _ true _ refl
 
 pub returns-in-Err-clause-proper : goal.returns-in-Err-clause-proper
-returns-in-Err-clause-proper g c = 
+returns-in-Err-clause-proper g c =
     All-same (IsProper c.args.config.now) c.new-in-Err.result.items [] c.new-in-Err.ensures.items (All-nil (IsProper c.args.config.now))
 
 pub returns-in-Err-clause-named : goal.returns-in-Err-clause-named
-returns-in-Err-clause-named g c = 
+returns-in-Err-clause-named g c =
     All-same (λ (r : RefusedLine). r.fault ≢ NoMemory) c.new-in-Err-2.result.items [] c.new-in-Err-2.ensures.items (All-nil (λ (r : RefusedLine). r.fault ≢ NoMemory))
 
 pub returns-in-Err-clause-front : goal.returns-in-Err-clause-front

@@ -91,6 +91,6 @@ loop-cut-preserved g c =
       c.take_line.ensures.config ∙ inv.0,
       c.take_line.ensures.ends ∙ inv.1,
       λ zone posted start goes.
-      turn_on g.R.Input.can_fail config now.desk.delivery.config.now inv.0 zone posted start new.intake.read (desk_value new.desk) c.in_ok-cut.field-0 is
-      (c.in_ok-cut.ensures.turn zone posted start (goes_told config now.desk.delivery.config.now inv.0 zone posted start now.intake.read (desk_value now.desk) (inv.2 zone posted start goes))),
+          turn_on g.R.Input.can_fail config now.desk.delivery.config.now inv.0 zone posted start new.intake.read (desk_value new.desk) c.in_ok-cut.field-0 is
+          (c.in_ok-cut.ensures.turn zone posted start (goes_told config now.desk.delivery.config.now inv.0 zone posted start now.intake.read (desk_value now.desk) (inv.2 zone posted start goes))),
     )
