@@ -1,0 +1,11 @@
+pub mod ServeLaws
+pub mod LanesLaws
+pub mod EndLaws
+pub mod DeskLaws
+pub mod IntakeLaws
+pub mod RunLaws
+pub mod GainLaws
+pub mod DueLaws
+pub mod LineLaws
+pub mod RunEndLaws
+pub mod MadeLaws

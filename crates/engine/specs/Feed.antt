@@ -1,0 +1,169 @@
+-- What a run takes of a feed.
+use Rattle.std.specs.Prelude.{◌≡◌, ◌≢◌, ℕ, ◌+◌, ◌<◌, ◌≤◌, Bool, false, true, not, ◌==◌, All, List, [], ◌∷◌, ◌++◌, length, flat_map, Option, None, Some, IfSome, Result, Ok, Err, if◌then◌else◌}
+use Rattle.std.specs.List.{list_any}
+use Rattle.due_model.specs.declared.config.Config.{Config}
+use Rattle.due_model.specs.declared.config.Object.{Object}
+use Rattle.due_model.specs.declared.event.Event.{Event}
+use Rattle.due_model.specs.Limits.{max_events}
+use Rattle.due_model.specs.Proper.{IsProper}
+use Rattle.event_feed.specs.declared.fault.FeedFault.{FeedFault}
+use Rattle.event_feed.specs.declared.fault.FeedFault.TheVariants.{Ended, NoMemory}
+use Rattle.event_feed.specs.declared.fault.RefusedLine.{RefusedLine}
+use Rattle.event_feed.specs.Fault.{is_line_fault}
+use Rattle.event_feed.specs.Feed.{Answer, AreGiven, AreGivenBy, Feed, GivesEvent, answers, answers_from}
+use Rattle.text_lines.specs.Lines.{Known, pieces}
+use Rattle.engine.specs.declared.intake.Next.{Next}
+use Rattle.engine.specs.declared.intake.Next.TheVariants.{Accepts, Refused, Over}
+use Rattle.engine.specs.Lists.{IsFrontOf}
+
+-- ---- of the answers of a feed
+
+-- an event after as many as can be numbered
+abbrev pub is_unnumbered : (count : ℕ) → Result Event FeedFault → Bool
+is_unnumbered count (Ok e) = count == max_events
+is_unnumbered count (Err fault) = false
+
+-- how many events there are after it
+abbrev pub count_after : (count : ℕ) → Result Event FeedFault → ℕ
+count_after count (Ok e) = count + 1
+count_after count (Err fault) = count
+
+-- What is taken of the answers of a feed, after so many events: all of them, but an event that can't be numbered is refused
+-- as Ended, and nothing after it is read.
+abbrev pub taken_after : (count : ℕ) → List Answer → List Answer
+taken_after count [] = []
+taken_after count (answer ∷ more) =
+    if is_unnumbered count answer.given then record { line = answer.line; given = Err Ended } ∷ []
+    else answer ∷ taken_after (count_after count answer.given) more
+
+-- the event that an answer is, if it is one
+abbrev pub event_in : Result Event FeedFault → List Event
+event_in (Ok e) = e ∷ []
+event_in (Err fault) = []
+
+abbrev pub events_in : List Answer → List Event
+events_in given = flat_map (λ answer. event_in answer.given) given
+
+-- the refused line that it is, if it is one
+abbrev pub refused_in : (line : ℕ) → Result Event FeedFault → List RefusedLine
+refused_in line (Ok e) = []
+refused_in line (Err fault) = record { line = line; fault = fault } ∷ []
+
+abbrev pub refusals_in : List Answer → List RefusedLine
+refusals_in given = flat_map (λ answer. refused_in answer.line answer.given) given
+
+-- whether a fault ends the feed before its input ends: Cut, Read or Ended
+abbrev pub ends_feed : Result Event FeedFault → Bool
+ends_feed (Ok e) = false
+ends_feed (Err fault) = not (is_line_fault fault)
+
+abbrev pub is_cut : List Answer → Bool
+is_cut given = list_any (λ answer. ends_feed answer.given) given
+
+-- ---- of a feed
+
+-- these events and refused lines were taken of these answers, and the feed was cut or not
+pub record AreTaken (given : List Answer) (events : List Event) (refused : List RefusedLine)
+    (cut : Bool) : Type 0 where
+  pub events_are : events ≡ events_in (taken_after 0 given)
+  pub refused_are : refused ≡ refusals_in (taken_after 0 given)
+  pub cut_is : cut ≡ is_cut (taken_after 0 given)
+
+-- The events and the refused lines are those of the bytes, up to the end of them; or up to the line of the last that is
+-- refused, where the feed was cut: it ended within a line, an event can't be numbered, or the reading broke off.
+abbrev pub IsWhatWasRead : (can_fail : Bool) → List Object → (bytes : List ℕ) → List Event
+    → List RefusedLine → (cut : Bool) → Type 0
+IsWhatWasRead can_fail objects bytes events refused cut =
+    (given : List Answer)
+    × AreGiven can_fail given (answers objects 0 0 (pieces bytes)) 0 (pieces bytes)
+    × AreTaken given events refused cut
+
+-- all the events that the bytes give
+abbrev pub events_of : List Object → (bytes : List ℕ) → List Event
+events_of objects bytes = events_in (taken_after 0 (answers objects 0 0 (pieces bytes)))
+
+-- ---- while it is read
+
+-- what is read of a feed so far: the feed after it, the events that were accepted and the lines that were refused
+pub record Intake : Type 0 where
+  pub feed : Feed
+  pub events : List Event
+  pub refused : List RefusedLine
+
+-- the same, and for how many more events and lines there is room
+pub record Kept : Type 0 where
+  pub read : Intake
+  pub events_room : ℕ
+  pub refused_room : ℕ
+
+-- the bytes left are the lines after those that were read
+abbrev pub PassesLines : Feed → Feed → Type 0
+PassesLines old new = Known old.bytes new.bytes (λ bytes rest. (before : List (List ℕ))
+    × (pieces bytes ≡ before ++ pieces rest) × (new.line ≡ old.line + length before))
+
+-- These came first of a feed's answers, and the feed goes on after them; what was taken of them, and of any that come after
+-- them, is these events and refused lines first.
+pub record CameFirst (c : Config) (start : Feed) (given : List Answer) (now : Feed)
+    (events : List Event) (refused : List RefusedLine) : Type 0 where
+  pub answers : Known start.bytes now.bytes
+      (λ bytes rest. answers_from c.objects start bytes ≡ given ++ answers_from c.objects now rest)
+  pub line : start.line ≤ now.line
+  pub earlier : All (λ answer. answer.line ≤ now.line) given
+  pub lines : PassesLines start now
+  pub events_are : events ≡ events_in given
+  pub refused_are : refused ≡ refusals_in given
+  pub taken : (others : List Answer)
+      → taken_after 0 (given ++ others) ≡ given ++ taken_after (length events) others
+  pub not_cut : is_cut given ≡ false
+
+-- what a run has, as far as it has read
+pub record HasRead (c : Config) (start : Feed) (now : Intake) : Type 0 where
+  pub given : List Answer
+  pub first : CameFirst c start given now.feed now.events now.refused
+  pub goes_on : now.feed.stop ≡ None
+  pub proper : All (IsProper c) now.events
+  pub short : length now.events ≤ max_events
+  pub named : All (λ r. r.fault ≢ NoMemory) now.refused
+
+-- an event was read, and isn't accepted yet
+pub record Offers (c : Config) (start : Feed) (event : Event) (now : Intake) : Type 0 where
+  pub before : Feed
+  pub read : HasRead c start (record now { feed = before })
+  pub gives : GivesEvent c before event now.feed
+
+-- the reading is over
+pub record HasEnded (can_fail : Bool) (c : Config) (start : Feed) (cut : Bool) (now : Intake) : Type 0
+  where
+    pub given : List Answer
+    pub of_feed : AreGivenBy can_fail c.objects start given
+    pub taken : AreTaken given now.events now.refused cut
+    pub proper : All (IsProper c) now.events
+    pub named : All (λ r. r.fault ≢ NoMemory) now.refused
+
+-- the events are a front of those that the feed gives
+abbrev pub IsFrontOfFeed : Config → Feed → List Event → Type 0
+IsFrontOfFeed c start events =
+    IfSome start.bytes
+    (λ bytes. IsFrontOf events (events_in (taken_after 0 (answers_from c.objects start bytes))))
+
+-- what the next line of the feed makes of a run that has read so far
+abbrev pub Follows : (can_fail : Bool) → Config → (start : Feed) → Next → Intake → Type 0
+Follows can_fail c start (Accepts e) now = Offers c start e now
+Follows can_fail c start Refused now = HasRead c start now
+Follows can_fail c start (Over cut) now = HasEnded can_fail c start cut now
+
+-- whether the feed goes on after it
+abbrev pub goes_on : Next → Bool
+goes_on (Accepts e) = true
+goes_on Refused = true
+goes_on (Over cut) = false
+
+-- an event more is accepted
+abbrev pub accepted : Event → Intake → Intake
+accepted e now = record now { events = now.events ++ e ∷ [] }
+
+-- an event that can't be numbered is refused
+abbrev pub ended : Intake → Intake
+ended now = record now {
+  refused = now.refused ++ record { line = now.feed.line; fault = Ended } ∷ [];
+}
