@@ -4,4 +4,5 @@ pub mod Output
 pub mod OutputLaws
 pub mod OutputLine
 pub mod ReportLine
+pub mod RunLine
 pub mod TraceLine

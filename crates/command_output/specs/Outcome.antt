@@ -6,7 +6,7 @@ use Rattle.object_resolve.specs.Fault.{fault_text as load_text}
 use Rattle.command_output.specs.declared.outcome.CommandFault.{CommandFault}
 use Rattle.command_output.specs.declared.outcome.CommandFault.TheVariants.{Objects, Unreadable, Output, NoMemory}
 use Rattle.command_output.specs.declared.outcome.Ending.{Ending}
-use Rattle.command_output.specs.declared.outcome.Ending.TheVariants.{Whole, Short}
+use Rattle.command_output.specs.declared.outcome.Ending.TheVariants.{Whole, Short, Undelivered}
 
 -- what a program says of a fault on standard error
 abbrev pub fault_text : CommandFault → List ℕ
@@ -27,6 +27,7 @@ fault_of load.NoMemory = NoMemory
 abbrev pub ending_status : Ending → ℕ
 ending_status Whole = 0
 ending_status Short = 1
+ending_status Undelivered = 3
 
 abbrev pub fault_status : CommandFault → ℕ
 fault_status (Objects fault) = 1

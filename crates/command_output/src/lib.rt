@@ -8,6 +8,7 @@ mod outcome;
 mod output;
 mod output_line;
 mod report_line;
+mod run_line;
 mod trace_line;
 
 pub use lines::Lines;

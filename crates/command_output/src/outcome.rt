@@ -17,6 +17,8 @@ pub enum Ending {
     Whole,
     /// Before it: a line that was cut, a reader that failed, or too many events.
     Short,
+    /// At the end of the input, and some message wasn't delivered.
+    Undelivered,
 }
 
 /// Why a command was given up.
@@ -33,13 +35,15 @@ pub enum CommandFault {
 }
 
 impl Ending {
-    /// The exit status: 0 where all was read, 1 where a feed or the steps ended before.
+    /// The exit status: 0 where all was read and delivered, 1 where a feed or the steps ended before, 3 where a message is
+    /// undelivered.
     pub fn status(self) -> u8
         ensures { result ≡ ending_status self }
     {
         match self {
             Ending::Whole => 0,
             Ending::Short => 1,
+            Ending::Undelivered => 3,
         }
     }
 }

@@ -4,13 +4,15 @@ ghost use Rattle.std.specs.Prelude.{◌≡◌, ◌++◌, OnOk};
 ghost use Rattle.command_output.specs.OutputLine.{line_text};
 
 use crate::report_line::{push_notice, push_refused, push_suppression};
+use crate::run_line::{push_closed, push_letter};
 use crate::trace_line::{LaneLine, StepRefusal, push_held};
-use due_model::config::Config;
+use due_model::config::{Config, LaneId};
 use due_model::notice::{Notice, Suppression};
 use event_feed::FeedFault;
 use std::alloc::AllocError;
+use undelivered::Why;
 
-/// A line of a report or of a trace. Lines of the input are numbered from 1.
+/// A line of a report, of a trace or of a run. Lines of the input are numbered from 1.
 #[derive(Clone, Copy, Debug)]
 pub enum OutputLine<'a> {
     /// `N`: a message that is due.
@@ -23,6 +25,12 @@ pub enum OutputLine<'a> {
     RefusedStep { line: u64, refusal: StepRefusal },
     /// `L`: what a lane holds of an object.
     Held(LaneLine<'a>),
+    /// `T`: a message that the lane's channel has taken.
+    Taken { lane: LaneId, notice: Notice },
+    /// `U`: a message that the lane gave up.
+    Undelivered { lane: LaneId, notice: Notice },
+    /// `Z`: why the lane is closed.
+    Closed { lane: LaneId, why: Why },
 }
 
 /// Adds a line, with its newline.
@@ -44,5 +52,8 @@ pub(crate) fn push_line(
             refusal.name(),
         ),
         OutputLine::Held(held) => push_held(text, config, held),
+        OutputLine::Taken { lane, notice } => push_letter(text, config, b'T', *lane, notice),
+        OutputLine::Undelivered { lane, notice } => push_letter(text, config, b'U', *lane, notice),
+        OutputLine::Closed { lane, why } => push_closed(text, config, *lane, *why),
     }
 }

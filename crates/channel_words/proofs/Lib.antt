@@ -1,0 +1,6 @@
+mod Parts
+mod AddressLaws
+mod WordLaws
+mod ListLaws
+mod LaneLaws
+mod Options
