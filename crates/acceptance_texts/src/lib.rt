@@ -3,6 +3,8 @@
 #![tactic(auto)]
 
 #[cfg(test)]
+mod escalations;
+#[cfg(test)]
 mod inheritance;
 #[cfg(test)]
 mod object_text;

@@ -2,7 +2,8 @@
 
 use crate::shown::text_or_mark;
 use due_model::config::{
-    Config, Contact, ContactId, Lane, LaneId, Object, ObjectId, Period, PeriodId, Range, Rights,
+    Config, Contact, ContactId, Escalation, Lane, LaneId, Object, ObjectId, Period, PeriodId,
+    Range, Rights,
 };
 use due_model::options::OptionLetters;
 use std::alloc::AllocError;
@@ -185,6 +186,45 @@ fn show_period(out: &mut String, period: &Period) -> Result<(), AllocError> {
 fn show_periods(out: &mut String, periods: &[Period]) -> Result<(), AllocError> {
     for period in periods {
         show_period(out, period)?;
+    }
+    Ok(())
+}
+
+/// The letters of an escalation, by the kind of its object.
+fn show_escalated_letters(
+    out: &mut String,
+    objects: &[Object],
+    escalation: &Escalation,
+) -> Result<(), AllocError> {
+    match objects.get(escalation.object.0 as usize) {
+        Some(object) => show_object_letters(out, object.host, escalation.options),
+        None => out.push_str(" ?"),
+    }
+}
+
+/// An escalation on one line: the number of its object, its first and last notification, its interval and period, its
+/// letters, and its contacts.
+fn show_escalation(
+    out: &mut String,
+    objects: &[Object],
+    escalation: &Escalation,
+) -> Result<(), AllocError> {
+    let object = escalation.object.0;
+    let first = escalation.first;
+    let last = escalation.last;
+    let interval = escalation.interval;
+    write!(out, "{object} {first}-{last} {interval}")?;
+    show_period_id(out, escalation.period)?;
+    show_escalated_letters(out, objects, escalation)?;
+    out.push_str(":")?;
+    show_contact_ids(out, escalation.contacts.as_slice())?;
+    out.push_str("\n")
+}
+
+/// The escalations of a configuration, a line each.
+pub(crate) fn show_escalations(out: &mut String, config: &Config) -> Result<(), AllocError> {
+    for escalation in config.escalations.as_slice() {
+        show_escalation(out, config.objects.as_slice(), escalation)?;
     }
     Ok(())
 }

@@ -1,0 +1,302 @@
+//! Object texts with escalations, and the escalations or the fault that the rules give for each.
+
+use crate::shown::is_shown;
+use crate::site_shown::show_escalations;
+use object_resolve::load;
+use std::alloc::{AllocError, Global};
+use std::fmt::Write;
+use std::process::Abort;
+use std::test::Fail;
+
+/// What the text gives: its escalations, or the fault.
+fn show_text(alloc: Global, out: &mut String, text: &str) -> Result<(), AllocError> {
+    match load(alloc, text.as_bytes()) {
+        Ok(config) => show_escalations(out, &config),
+        Err(fault) => write!(out, "{fault}"),
+    }
+}
+
+/// Compares what a text gives.
+fn gives(rt: &impl Abort, alloc: Global, text: &str, wanted: &str) -> Result<(), Fail> {
+    let mut out = String::new(alloc);
+    show_text(alloc, &mut out, text)?;
+    is_shown(rt, out.as_str(), wanted, text);
+    Ok(())
+}
+
+/// Compares what a text gives after another.
+fn gives_after(
+    rt: &impl Abort,
+    alloc: Global,
+    front: &str,
+    text: &str,
+    wanted: &str,
+) -> Result<(), Fail> {
+    let mut whole = String::from_str(alloc, front)?;
+    whole.push_str(text)?;
+    gives(rt, alloc, whole.as_str(), wanted)
+}
+
+/// Contacts ann, bob and cat, periods work and night, hosts a and b, which two groups hold that hold each other.
+/// Objects 2 and 3 are the service S of a and of b, and object 4 is the service T of a.
+const SITE: &str = "define contact{
+contact_name ann
+}
+define contact{
+contact_name bob
+}
+define contact{
+contact_name cat
+}
+define contactgroup{
+contactgroup_name g
+members cat,bob
+}
+define timeperiod{
+timeperiod_name work
+monday 09:00-17:00
+}
+define timeperiod{
+timeperiod_name night
+}
+define host{
+host_name a
+hostgroups y
+contacts ann
+notification_interval 5
+notification_period work
+}
+define host{
+host_name b
+contacts bob
+}
+define hostgroup{
+hostgroup_name x
+members b
+hostgroup_members y
+}
+define hostgroup{
+hostgroup_name y
+hostgroup_members x
+}
+define service{
+service_description S
+host_name a,b
+contacts cat
+notification_interval 7
+}
+define service{
+service_description T
+host_name a
+}
+define servicegroup{
+servicegroup_name v
+members a,T,b,S
+}
+";
+
+/// Escalations after that site: the number of each one's object, its first and last notification, its interval, period
+/// and options, and its contacts.
+const ESCALATIONS: [(&str, &str); 13] = [
+    // What the block lacks is the object's: contacts, interval and period.
+    (
+        "define hostescalation{\nhost_name a\n}\n",
+        "0 0-0 5 0 [durfs]: 0\n",
+    ),
+    (
+        "define hostescalation{\nhost_name b,a\ncontacts cat\ncontact_groups g\nfirst_notification 3\nlast_notification 5\nnotification_interval 0\nescalation_period night\nescalation_options d,recovery\n}\n",
+        "0 3-5 0 1 [dr]: 1 2\n1 3-5 0 1 [dr]: 1 2\n",
+    ),
+    // A host that the block names and reaches by two groups gives one.
+    (
+        "define hostescalation{\nhost_name a\nhostgroup_name x,y\nlast_notification 2\n}\n",
+        "0 0-2 5 0 [durfs]: 0\n1 0-2 30 - [durfs]: 1\n",
+    ),
+    (
+        "define hostescalation{\nhost_name *\nescalation_options a\n}\n",
+        "0 0-0 5 0 [durfs]: 0\n1 0-0 30 - [durfs]: 1\n",
+    ),
+    // What a service takes from its host is the service's.
+    (
+        "define serviceescalation{\nhost_name a,b\nservice_description S\ncontacts ann\nescalation_options w,unknown,c\n}\n",
+        "2 0-0 7 0 [wuc]: 0\n3 0-0 7 - [wuc]: 0\n",
+    ),
+    (
+        "define serviceescalation{\nhostgroup_name x\nservice_description *\n}\n",
+        "2 0-0 7 0 [wucrfs]: 2\n3 0-0 7 - [wucrfs]: 2\n4 0-0 5 0 [wucrfs]: 0\n",
+    ),
+    // An empty period is always, an empty list of contacts nobody, and option n nothing.
+    (
+        "define serviceescalation{\nservicegroup_name v\nescalation_period null\nescalation_options n\n}\n",
+        "3 0-0 7 - []: 2\n4 0-0 5 - []: 0\n",
+    ),
+    (
+        "define serviceescalation{\nservicegroup_name v\nhost_name a\nservice_description S,T\ncontacts null\n}\n",
+        "2 0-0 7 0 [wucrfs]:\n3 0-0 7 - [wucrfs]:\n4 0-0 5 0 [wucrfs]:\n",
+    ),
+    // Hosts without a description reach nothing beside a service group.
+    (
+        "define serviceescalation{\nservicegroup_name v\nhost_name a,b\ncontact_groups g\n}\n",
+        "3 0-0 7 - [wucrfs]: 1 2\n4 0-0 5 0 [wucrfs]: 1 2\n",
+    ),
+    // A template alone gives none.
+    (
+        "define hostescalation{\nname t\nregister 0\nhost_name b\nfirst_notification 4\ncontacts ann\n}\ndefine hostescalation{\nuse t\ncontacts +cat\n}\n",
+        "1 4-0 30 - [durfs]: 0 2\n",
+    ),
+    (
+        "define hostescalation{\nhost_name nobody\nfirst_notification x\nregister 0\n}\n",
+        "",
+    ),
+    // Block by block.
+    (
+        "define serviceescalation{\nhost_name b\nservice_description S\n}\ndefine hostescalation{\nhost_name b\ncontact_groups null\n}\ndefine hostescalation{\nhost_name a\nfirst_notification 1\n}\ndefine hostescalation{\nhost_name b\n}\n",
+        "3 0-0 7 - [wucrfs]: 2\n1 0-0 30 - [durfs]:\n0 1-0 5 0 [durfs]: 0\n1 0-0 30 - [durfs]: 1\n",
+    ),
+    ("", ""),
+];
+
+#[test]
+fn escalations_are_those_that_the_rules_give(rt: HostRuntime) -> Result<(), Fail> {
+    for row in &ESCALATIONS {
+        let (text, wanted) = *row;
+        gives_after(&rt, rt.alloc(), SITE, text, wanted)?;
+    }
+    Ok(())
+}
+
+/// A host and a service group, on seven lines.
+const SMALL: &str =
+    "define host{\nhost_name h\n}\ndefine servicegroup{\nservicegroup_name v\n\n}\n";
+
+/// Escalations with a fault after these, from line 8 on.
+const FAULTS: [(&str, &str); 19] = [
+    (
+        "define hostescalation{\nhost_name h\nuse t\n}\n",
+        "line 8: UnknownTemplate",
+    ),
+    ("define hostescalation{\n}\n", "line 8: MissingDirective"),
+    (
+        "define hostescalation{\nhost_name h\n}\ndefine hostescalation{\nhost_name null\n}\n",
+        "line 11: MissingDirective",
+    ),
+    (
+        "define serviceescalation{\nhost_name h\n}\n",
+        "line 8: MissingDirective",
+    ),
+    (
+        "define serviceescalation{\nservice_description S\n}\n",
+        "line 8: MissingDirective",
+    ),
+    (
+        "define hostescalation{\nhost_name h\nfirst_notification x\n}\n",
+        "line 8: BadNumber",
+    ),
+    (
+        "define serviceescalation{\nservicegroup_name v\nlast_notification 1000001\n}\n",
+        "line 8: BadNumber",
+    ),
+    (
+        "define hostescalation{\nhost_name h\nnotification_interval -1\n}\n",
+        "line 8: BadNumber",
+    ),
+    (
+        "define hostescalation{\nhost_name h\nescalation_options f\n}\n",
+        "line 8: BadOption",
+    ),
+    (
+        "define serviceescalation{\nservicegroup_name v\nescalation_options d\n}\n",
+        "line 8: BadOption",
+    ),
+    (
+        "define hostescalation{\nhost_name h\nhostgroup_name !g\n}\n",
+        "line 8: Exclusion",
+    ),
+    (
+        "define hostescalation{\nhost_name h,i\n}\n",
+        "line 8: UnknownName",
+    ),
+    (
+        "define hostescalation{\nhostgroup_name g\n}\n",
+        "line 8: UnknownName",
+    ),
+    (
+        "define serviceescalation{\nservicegroup_name v,*\n}\n",
+        "line 8: UnknownName",
+    ),
+    (
+        "define hostescalation{\nhost_name h\ncontacts ann\n}\n",
+        "line 8: UnknownName",
+    ),
+    (
+        "define hostescalation{\nhost_name h\ncontact_groups g\n}\n",
+        "line 8: UnknownName",
+    ),
+    (
+        "define hostescalation{\nhost_name h\nescalation_period work\n}\n",
+        "line 8: UnknownName",
+    ),
+    // Values of all blocks come before names, and dependencies before both names and escalations.
+    (
+        "define hostescalation{\nhost_name i\n}\ndefine hostescalation{\n}\n",
+        "line 11: MissingDirective",
+    ),
+    (
+        "define hostescalation{\nhost_name i\n}\ndefine hostdependency{\nhost_name h\ndependent_host_name h\n}\n",
+        "line 11: NotYet",
+    ),
+];
+
+#[test]
+fn escalations_with_a_fault_are_refused(rt: HostRuntime) -> Result<(), Fail> {
+    for row in &FAULTS {
+        let (text, wanted) = *row;
+        gives_after(&rt, rt.alloc(), SMALL, text, wanted)?;
+    }
+    Ok(())
+}
+
+/// Adds so many contacts, of three lines each.
+fn push_contacts(out: &mut String, contacts: u32) -> Result<(), AllocError> {
+    for contact in 0..contacts {
+        write!(out, "define contact{{\ncontact_name {contact}\n}}\n")?;
+    }
+    Ok(())
+}
+
+/// Adds so many hosts, and so many escalation blocks of all of them, of three lines each.
+fn push_site(out: &mut String, hosts: u32, escalations: u32) -> Result<(), AllocError> {
+    for host in 0..hosts {
+        write!(out, "define host{{\nhost_name {host}\n}}\n")?;
+    }
+    for _escalation in 0..escalations {
+        out.push_str("define hostescalation{\nhost_name *\n}\n")?;
+    }
+    Ok(())
+}
+
+/// So many contacts, hosts and escalations, and contacts after them.
+fn site(
+    alloc: Global,
+    before: u32,
+    hosts: u32,
+    escalations: u32,
+    after: u32,
+) -> Result<String, AllocError> {
+    let mut out = String::new(alloc);
+    push_contacts(&mut out, before)?;
+    push_site(&mut out, hosts, escalations)?;
+    push_contacts(&mut out, after)?;
+    Ok(out)
+}
+
+/// With 1,000 hosts a block of all of them gives 1,000 escalations, so block 1,001 passes the limit. Of two limits that are
+/// passed the first block counts.
+#[test]
+fn the_first_block_past_a_limit_is_refused(rt: HostRuntime) -> Result<(), Fail> {
+    let alloc = rt.alloc();
+    let early = site(alloc, 0, 1000, 1002, 4100)?;
+    gives(&rt, alloc, early.as_str(), "line 6001: TooMany")?;
+    let late = site(alloc, 4097, 1000, 1002, 0)?;
+    gives(&rt, alloc, late.as_str(), "line 12289: TooMany")
+}
