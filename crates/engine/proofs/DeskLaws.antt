@@ -1,5 +1,5 @@
 -- What a desk has after an event is decided, and after it is handed out.
-use Rattle.std.proofs.Common.{◌≡◌, ℕ, ◌<◌, Bool, true, false, List, [], ◌∷◌, ◌++◌, length, get_or, replicate, refl, sym, ap, subst, ◌∙◌, arith, Result, Ok, Err, OnOk, OnErr}
+use Rattle.std.proofs.Common.{◌≡◌, ℕ, ◌<◌, Bool, true, false, List, [], ◌∷◌, ◌++◌, length, get_or, replicate, sym, ap, subst, ◌∙◌, arith, Result, Ok, Err, OnOk, OnErr}
 use Rattle.due_model.specs.declared.config.Config.{Config}
 use Rattle.due_model.specs.declared.config.LaneId.{LaneId}
 use Rattle.due_model.specs.declared.event.Event.{Event}
@@ -13,10 +13,10 @@ use Rattle.decider.specs.Fits.{Fits, HasDecidedNothing, Kept, kept, settings}
 use Rattle.decider.specs.Outbox.{lists, waiting_at}
 use Rattle.std.proofs.lemmas.List.{append-nil, get_or-replicate, length-replicate}
 use Rattle.engine.specs.Due.{made_due, suppressed, whole_share}
-use Rattle.engine.specs.Lanes.{LaneValue, MayBeShut, held}
+use Rattle.engine.specs.Lanes.{LaneValue, MayBeShut}
 use Rattle.engine.specs.Lists.{IsFrontOf}
 use Rattle.engine.specs.Served.{AreLanesOf, DeskValue, Holds, HoldAll, HoldFronts, Stands, Waits, held_at, lane_at}
-use Rattle.engine.proofs.LanesLaws.{KeepsCauses, MayRunOut, runs_out}
+use Rattle.engine.proofs.LanesLaws.{runs_out}
 
 -- an event was decided, and what it suppresses was noted and passed on
 pub decided_waits : (c : Config) (zone : Zone) (posted : ℕ → Bool) (past : List Event) (e : Event) (old new : DeskValue) (k : Kept)

@@ -1,7 +1,7 @@
 -- From the lanes of a run to what they leave.
-use Rattle.std.proofs.Common.{◌≡◌, ℕ, zero, suc, ◌+◌, ◌<◌, ◌≤◌, Bool, List, [], ◌∷◌, ◌++◌, length, get_or, slice_get, Option, None, Some, refl, sym, ap, subst, ◌∙◌, arith, append_assoc}
+use Rattle.std.proofs.Common.{◌≡◌, ℕ, zero, suc, ◌+◌, ◌<◌, ◌≤◌, Bool, List, [], ◌∷◌, ◌++◌, length, slice_get, Some, refl, sym, ap, subst, ◌∙◌, arith, append_assoc}
 use Rattle.std.proofs.lemmas.List.{append-nil, length-append}
-use Rattle.engine.specs.Lanes.{IsCause, LaneParts, LaneValue, MayBeShut, held, joined, no_lane}
+use Rattle.engine.specs.Lanes.{IsCause, LaneParts, LaneValue, MayBeShut, held, joined}
 use Rattle.engine.specs.Served.{lane_at}
 
 -- what a lane leaves

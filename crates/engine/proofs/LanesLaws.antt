@@ -1,12 +1,10 @@
 -- What is handed to each of the lanes in turn.
-use Rattle.std.proofs.Common.{◌≡◌, ◌≢◌, ℕ, ◌+◌, ◌<◌, ◌≤◌, Bool, true, false, List, [], ◌++◌, length, get_or, set, slice_get, refl, sym, ap, subst, ◌∙◌, arith, append_assoc, get_or-set_same, get_or-set_other, length-set, below_more, Result, Ok, Err, OnOk, OnErr, IsOk, ◌⊎◌, inl, inr}
+use Rattle.std.proofs.Common.{◌≡◌, ◌≢◌, ℕ, ◌+◌, ◌<◌, ◌≤◌, Bool, true, false, List, [], ◌++◌, length, get_or, set, refl, sym, ap, subst, ◌∙◌, arith, get_or-set_same, get_or-set_other, length-set, below_more, Result, Ok, Err, OnOk, OnErr, IsOk, ◌⊎◌, inl, inr}
 use Rattle.std.proofs.lemmas.List.{append-nil}
 use Rattle.std.proofs.lemmas.Bool.{cases_eq}
 use Rattle.std.proofs.lemmas.Option.{get_or_from_slice_get}
-use Rattle.due_model.specs.declared.config.LaneId.{LaneId}
 use Rattle.due_model.specs.declared.notice.Notice.{Notice}
 use Rattle.lemmas.proofs.Lists.{slice_get_read}
-use Rattle.undelivered.specs.declared.Why.{Why}
 use Rattle.engine.specs.Lanes.{LaneValue, MayBeShut, held, no_lane}
 use Rattle.engine.specs.Lists.{IsFrontOf}
 use Rattle.engine.specs.Served.{held_at, lane_at}

@@ -1,12 +1,12 @@
 -- The channels of posts, and the lanes that are made of them.
-use Rattle.std.proofs.Common.{◌≡◌, ◌≢◌, ◌⊎◌, ℕ, zero, suc, ◌+◌, ◌<◌, ◌≤◌, Bool, true, false, ◌||◌, ◌==◌, List, [], ◌∷◌, ◌++◌, length, map, get_or, set, replicate, min, Option, is_some, refl, sym, ap, subst, ◌∙◌, arith, append_assoc, length-append, eq-eqb, inl, inr, get_or-set_same, get_or-set_other, length-set, below_more}
+use Rattle.std.proofs.Common.{◌≡◌, ◌≢◌, ◌⊎◌, ℕ, ◌+◌, ◌<◌, Bool, true, false, ◌||◌, ◌==◌, List, [], ◌∷◌, ◌++◌, length, map, get_or, set, replicate, min, Option, is_some, refl, sym, ap, subst, ◌∙◌, arith, append_assoc, length-append, eq-eqb, inl, inr, get_or-set_same, get_or-set_other, length-set, below_more}
 use Rattle.std.specs.List.{list_any}
 use Rattle.std.proofs.lemmas.Bool.{cases_eq, ne_eqb}
 use Rattle.std.proofs.lemmas.List.{append-nil, get_or-replicate, length-replicate, get_or_append_left, get_or_at, length-map, map-append}
 use Rattle.std.proofs.lemmas.List.Folds.{list_any-append}
 use Rattle.engine.specs.Lanes.{LaneValue, MayBeShut, held, no_lane}
 use Rattle.engine.specs.Made.{AreMade, ArePlaced}
-use Rattle.engine.specs.Served.{held_at, lane_at}
+use Rattle.engine.specs.Served.{lane_at}
 
 -- ---- the channels
 

@@ -6,7 +6,6 @@ use Rattle.std.proofs.lemmas.List.Elements.{All-nil, All-cons, All-head, All-tai
 use Rattle.std.proofs.lemmas.Option.{slice_get_within}
 use Rattle.due_model.specs.declared.config.Config.{Config}
 use Rattle.due_model.specs.declared.config.LaneId.{LaneId}
-use Rattle.due_model.specs.declared.config.Object.{Object}
 use Rattle.due_model.specs.declared.event.Event.{Event}
 use Rattle.due_model.specs.declared.notice.Notice.{Notice}
 use Rattle.due_model.specs.declared.notice.Suppression.{Suppression}
@@ -18,7 +17,7 @@ use Rattle.event_feed.specs.Feed.{Answer, AreGiven, AreGivenBy, Feed, answers, a
 use Rattle.steps.specs.Lanes.{about}
 use Rattle.text_lines.specs.Lines.{pieces}
 use Rattle.engine.specs.declared.run_end.RunEnd.{RunEnd}
-use Rattle.engine.specs.Due.{HaveCauses, IsLog, IsNamed, LaneBeginsDue, LanesAreDue, LanesBeginDue, made_due, of_object, suppressed}
+use Rattle.engine.specs.Due.{HaveCauses, IsLog, IsNamed, LanesAreDue, LanesBeginDue, made_due, of_object, suppressed}
 use Rattle.engine.specs.Feed.{AreTaken, HasEnded, Intake, IsFrontOfFeed, IsWhatWasRead, count_after, event_in, events_in, events_of, is_unnumbered, taken_after}
 use Rattle.engine.specs.Lanes.{IsCause, LaneParts, LaneValue, MayBeShut, joined}
 use Rattle.engine.specs.Lists.{IsFrontOf}
@@ -141,16 +140,16 @@ All-front P [] ys h = All-nil P
 All-front P (x ∷ xs) ys h = All-cons P x xs (All-head P x (xs ++ ys) h) (All-front P xs ys (All-tail P x (xs ++ ys) h))
 
 module _ (can_fail : Bool) (c : Config) (zone : Zone) (posted : ℕ → Bool) (start : Feed) (end : RunEnd) (r : IsRunEnd can_fail c zone posted start end) where
-  abbrev past : List Event
-  past = reverse end.events.items
+  abbrev the_past : List Event
+  the_past = reverse end.events.items
 
   pub lanes_are_due : end.memory ≡ false → LanesAreDue c zone (reverse end.events.items) end.lanes.items
   lanes_are_due none = record {
     count = r.count;
     each = λ l lane found. record {
       number = r.number l lane found;
-      due = λ o inside. ap (about o) (r.all none l lane found) ∙ made_due_of c zone l past o inside;
-      named = subst (λ (ns : List Notice). All (IsNamed c l) ns) (sym (r.all none l lane found)) (made_due_named c zone l past);
+      due = λ o inside. ap (about o) (r.all none l lane found) ∙ made_due_of c zone l the_past o inside;
+      named = subst (λ (ns : List Notice). All (IsNamed c l) ns) (sym (r.all none l lane found)) (made_due_named c zone l the_past);
     };
   }
 
@@ -159,15 +158,15 @@ module _ (can_fail : Bool) (c : Config) (zone : Zone) (posted : ℕ → Bool) (s
     number = r.number l lane found;
     due = λ o inside. (
       about o f.0,
-      sym (made_due_of c zone l past o inside) ∙ ap (about o) f.1 ∙ filter-append (λ (n : Notice). n.object.0 == o) (joined lane) f.0,
+      sym (made_due_of c zone l the_past o inside) ∙ ap (about o) f.1 ∙ filter-append (λ (n : Notice). n.object.0 == o) (joined lane) f.0,
     );
-    named = All-front (IsNamed c l) (joined lane) f.0 (subst (λ (ns : List Notice). All (IsNamed c l) ns) f.1 (made_due_named c zone l past));
+    named = All-front (IsNamed c l) (joined lane) f.0 (subst (λ (ns : List Notice). All (IsNamed c l) ns) f.1 (made_due_named c zone l the_past));
   }
 
   pub log_is : IsLog c zone (reverse end.events.items) end.log.items
   log_is = record {
     order = r.log_is;
-    each = λ o inside. ap (of_object o) r.log_is ∙ suppressed_is_sup c zone past o inside;
+    each = λ o inside. ap (of_object o) r.log_is ∙ suppressed_is_sup c zone the_past o inside;
   }
 
 -- ---- of a feed of which nothing was read before

@@ -1,5 +1,5 @@
 -- What a line of the feed makes of a run.
-use Rattle.std.proofs.Common.{◌≡◌, ◌≢◌, ℕ, Bool, true, false, List, [], ◌∷◌, ◌++◌, length, reverse, refl, sym, ap, subst, ◌∙◌, inl, inr, arith, Ok, IsErrOf}
+use Rattle.std.proofs.Common.{◌≡◌, ◌≢◌, ℕ, Bool, true, List, [], ◌∷◌, ◌++◌, length, reverse, sym, ap, subst, ◌∙◌, inl, inr, Ok, IsErrOf}
 use Rattle.std.proofs.lemmas.List.{length-reverse, reverse-append}
 use Rattle.due_model.specs.declared.config.Config.{Config}
 use Rattle.due_model.specs.declared.event.Event.{Event}

@@ -1,5 +1,5 @@
 -- What is handed to a lane, one notice after another.
-use Rattle.std.proofs.Common.{◌≡◌, ◌≢◌, ℕ, ◌<◌, Bool, true, List, [], ◌∷◌, ◌++◌, length, drop, get_or, set, slice_get, Option, None, Some, refl, sym, ap, subst, ◌∙◌, arith, append_assoc, get_or-set_same, get_or-set_other, length-set, ◌⊎◌, inl, inr, Result, Ok, Err, OnErr}
+use Rattle.std.proofs.Common.{◌≡◌, ◌≢◌, ℕ, ◌<◌, Bool, List, [], ◌∷◌, ◌++◌, length, drop, get_or, set, slice_get, None, Some, refl, sym, ap, ◌∙◌, arith, append_assoc, get_or-set_same, get_or-set_other, length-set, ◌⊎◌, inl, inr, Result, Ok, Err, OnErr}
 use Rattle.std.proofs.lemmas.List.{append-nil}
 use Rattle.due_model.specs.declared.notice.Notice.{Notice}
 use Rattle.engine.specs.Lanes.{LaneValue, MayBeShut, held}

@@ -1,10 +1,10 @@
 -- A lane of a run, and how it ends.
-use Rattle.std.specs.Prelude.{◌≡◌, ◌≢◌, ℕ, Bool, true, false, List, [], ◌++◌, All, Option, None, Some}
+use Rattle.std.specs.Prelude.{◌≡◌, ◌≢◌, Bool, true, false, List, [], ◌++◌, Option, None, Some}
 use Rattle.due_model.specs.declared.config.LaneId.{LaneId}
 use Rattle.due_model.specs.declared.notice.Notice.{Notice}
 use Rattle.undelivered.specs.Record.{Record}
 use Rattle.undelivered.specs.declared.Why.{Why}
-use Rattle.undelivered.specs.declared.Why.TheVariants.{FeedOver, Asked, Failed, NoMemory, NoChannel}
+use Rattle.undelivered.specs.declared.Why.TheVariants.{FeedOver, Asked, NoMemory, NoChannel}
 
 -- ---- how it ends
 

@@ -1,5 +1,5 @@
 -- A turn of a run, and what a run leaves.
-use Rattle.std.specs.Prelude.{◌≡◌, ◌≢◌, ℕ, ◌<◌, All, Bool, true, false, List, length, reverse, slice_get, Some}
+use Rattle.std.specs.Prelude.{◌≡◌, ◌≢◌, ℕ, All, Bool, false, List, length, reverse, slice_get, Some}
 use Rattle.due_model.specs.declared.config.Config.{Config}
 use Rattle.due_model.specs.declared.zone.Zone.{Zone}
 use Rattle.due_model.specs.Proper.{IsProper}

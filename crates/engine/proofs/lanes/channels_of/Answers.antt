@@ -1,6 +1,5 @@
-use Rattle.std.proofs.Common.{rules, arith, ◌==◌, [], ◌∷◌, ◌++◌, is_some, map, refl, ap, subst}
+use Rattle.std.proofs.Common.{rules, arith, ◌==◌, is_some, map, refl, subst}
 use Rattle.std.specs.List.{list_any}
-use Rattle.std.specs.Vec.Iter.{into_iter_items, into_iter_len}
 use Rattle.engine.specs.Made.{ArePlaced}
 use Rattle.engine.proofs.MadeLaws.{any_more, placed_more, placed_none, taken_all, taken_more, taken_none}
 use Rattle.engine.proofs.lanes.channels_of.Goals as goal

@@ -1,5 +1,4 @@
 use Rattle.std.proofs.Common.{rules, arith, ap}
-use Rattle.std.specs.Vec.Iter.{into_iter_items, into_iter_len}
 use Rattle.engine.proofs.MadeLaws.{made_all, made_more, made_none, none_left, taken_more, taken_none}
 use Rattle.engine.proofs.lanes.lanes_of.Goals as goal
 

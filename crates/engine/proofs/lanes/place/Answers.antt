@@ -1,4 +1,4 @@
-use Rattle.std.proofs.Common.{◌≡◌, ℕ, ◌∙◌, Some, ap, arith, is_some, length, map, set, sym, true}
+use Rattle.std.proofs.Common.{ℕ, ◌∙◌, Some, ap, arith, is_some, map, set, sym, true}
 use Rattle.std.proofs.lemmas.List.{length-map, map-set, set_past}
 use Rattle.engine.proofs.lanes.place.Goals as goal
 

@@ -1,4 +1,4 @@
-use Rattle.std.proofs.Common.{rules, arith, ◌≡◌, ◌<◌, ◌≤◌, ◌∙◌, length}
+use Rattle.std.proofs.Common.{rules, arith, ◌≤◌, length}
 use Rattle.std.proofs.lemmas.Result.{on_ok_weaker}
 use Rattle.decider.specs.Outbox.{lists}
 use Rattle.engine.proofs.LanesLaws.{served_lane, served_none}

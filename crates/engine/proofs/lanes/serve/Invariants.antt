@@ -1,4 +1,3 @@
-use Rattle.std.proofs.Common.{length}
 use Rattle.decider.specs.Outbox.{lists}
 use Rattle.engine.proofs.LanesLaws.{AreServed}
 use Rattle.engine.proofs.lanes.serve.Given as goal

@@ -1,4 +1,4 @@
-use Rattle.std.proofs.Common.{rules, arith, ◌≡◌, ◌≢◌, ◌<◌, ℕ, length, slice_get, Some, None, ◌∙◌}
+use Rattle.std.proofs.Common.{rules, arith, ◌≡◌, ◌<◌, length, slice_get, Some, None, ◌∙◌}
 use Rattle.decider.specs.Outbox.{lists, waiting_at}
 use Rattle.engine.proofs.ServeLaws.{less_waits, on_err_always, nothing_waits, rest_length, rest_other, served_all, served_front, served_more, served_start}
 use Rattle.engine.proofs.lanes.serve_lane.Goals as goal

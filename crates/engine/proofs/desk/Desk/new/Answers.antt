@@ -1,4 +1,4 @@
-use Rattle.std.proofs.Common.{rules, arith, refl}
+use Rattle.std.proofs.Common.{arith, refl}
 use Rattle.engine.proofs.DeskLaws.{new_stands}
 use Rattle.engine.proofs.desk.Desk.new.Goals as goal
 

@@ -1,6 +1,6 @@
 use Rattle.std.proofs.Common.{rules, ◌≡◌, [], ◌∷◌, ◌++◌, None, Some, ap, subst, sym}
 use Rattle.engine.specs.Feed.{HasRead, Intake, Kept}
-use Rattle.engine.proofs.IntakeLaws.{offered, over_cut, over_whole, refused_more}
+use Rattle.engine.proofs.IntakeLaws.{over_cut, over_whole, refused_more}
 use Rattle.engine.proofs.intake.Intake.next.Goals as goal
 
 pub returns-in-Ok-None-clause-next : goal.returns-in-Ok-None-clause-next

@@ -1,4 +1,4 @@
-use Rattle.std.proofs.Common.{◌≡◌, ◌≤◌, ◌∙◌, ap, arith, length, vec_capacity}
+use Rattle.std.proofs.Common.{◌∙◌, ap, arith, length, vec_capacity}
 use Rattle.std.proofs.lemmas.Result.{IfOk-weaker, on_err_weaker}
 use Rattle.engine.specs.Served.{desk_value}
 use Rattle.engine.proofs.RunEndLaws.{left_of, run_end_is}

@@ -1,4 +1,4 @@
-use Rattle.std.proofs.Common.{◌≤◌, ap, arith, length}
+use Rattle.std.proofs.Common.{arith}
 use Rattle.engine.proofs.LineLaws.{new_start}
 use Rattle.engine.proofs.run.Run.new.Goals as goal
 

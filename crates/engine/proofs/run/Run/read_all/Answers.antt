@@ -1,4 +1,4 @@
-use Rattle.std.proofs.Common.{◌≡◌, ◌∙◌, arith, refl, sym, subst}
+use Rattle.std.proofs.Common.{◌∙◌, arith, refl, sym, subst}
 use Rattle.due_model.specs.Accepted.{IsAccepted}
 use Rattle.engine.specs.Served.{desk_value}
 use Rattle.engine.proofs.DeskLaws.{err_always}
