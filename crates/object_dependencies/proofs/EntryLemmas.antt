@@ -1,5 +1,5 @@
 -- The dependencies of blocks: what those of one block have in common, and one block more.
-use Rattle.std.proofs.Common.{◌≡◌, ℕ, ◌+◌, ◌<◌, Bool, false, List, [], ◌∷◌, ◌++◌, length, map, take, Option, refl, sym, ap, ◌∙◌, arith}
+use Rattle.std.proofs.Common.{◌≡◌, ℕ, ◌+◌, ◌<◌, Bool, false, List, [], ◌∷◌, ◌++◌, length, map, take, Option, sym, ap, ◌∙◌, arith}
 use Rattle.std.specs.Prelude.{codes, slice_index_or, unwrap_or}
 use Rattle.std.specs.List.{range_with_len, sum_by}
 use Rattle.std.proofs.lemmas.List.{length-append, length-map, take_more}

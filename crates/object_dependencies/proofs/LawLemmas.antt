@@ -1,31 +1,26 @@
 -- What an accepted configuration asks of dependencies.
-use Rattle.std.proofs.Common.{◌≡◌, ℕ, zero, suc, ◌+◌, ◌<◌, ◌≤◌, Bool, true, false, cond, List, [], ◌∷◌, ◌++◌, length, map, get_or, Option, Some, None, refl, sym, ap, subst, ◌∙◌, ◌⊎◌, inl, inr, ⊎_elim, arith}
+use Rattle.std.proofs.Common.{◌≡◌, ℕ, zero, suc, ◌+◌, ◌<◌, Bool, true, false, cond, List, [], ◌∷◌, length, get_or, Option, Some, None, sym, ap, subst, ◌∙◌, ⊎_elim, arith}
 use Rattle.std.specs.Prelude.{All, codes, Contains, nat_eq, unwrap_or}
 use Rattle.std.specs.List.{AllZip, flat_map, range_with_len}
 use Rattle.std.specs.Option.{IfSome, option_map}
 use Rattle.std.specs.Str.{bytes_eq}
 use Rattle.std.proofs.lemmas.List.Concat.{flat_map-cons}
-use Rattle.std.proofs.lemmas.List.Elements.{All-from_get_or, Contains-append_cases, Contains-get_or}
-use Rattle.graph.specs.Chains.{Chain, HasNoLoop, Reaches}
+use Rattle.std.proofs.lemmas.List.Elements.{Contains-append_cases, Contains-get_or}
+use Rattle.graph.specs.Chains.{Chain}
 use Rattle.lemmas.proofs.Elements.{Contains-from_map, Contains-from_range, Contains-here, Contains-later, Contains-none}
 use Rattle.lemmas.proofs.Searches.{position-within}
 use Rattle.due_model.specs.Accepted.{DependencyFits, DependsOn}
-use Rattle.due_model.specs.declared.config.Config.{Config}
 use Rattle.due_model.specs.declared.config.Dependency.{Dependency}
-use Rattle.due_model.specs.declared.config.PeriodId.{PeriodId}
 use Rattle.object_groups.specs.Names.{number_of}
-use Rattle.object_groups.specs.Objects.{names_in}
 use Rattle.object_inheritance.specs.Inherited.{name}
 use Rattle.object_reached.specs.declared.roles.Role.TheVariants.{Dependent, Master}
 use Rattle.object_reached.specs.Laws.{SpokenAreObjects}
 use Rattle.object_reader.specs.declared.block.Block.{Block}
-use Rattle.object_reader.specs.declared.block.BlockKind.TheVariants.{Host, Service}
 use Rattle.object_readings.specs.Readings.{period_named, period_of}
-use Rattle.object_services.specs.Numbers.{pairs_of}
-use Rattle.object_dependencies.specs.Entries.{AreDependencies, entries_at, entries_in, entry_of, terms_at}
+use Rattle.object_dependencies.specs.Entries.{AreDependencies, entries_at, entry_of, terms_at}
 use Rattle.object_dependencies.specs.Laws.{DependenciesFit, NoLoopIsLeft}
-use Rattle.object_dependencies.specs.Loops.{Depends, HasNoDependencyLoop}
-use Rattle.object_dependencies.specs.Pairs.{ArePairs, ArePairsBelow, DependsAt, Pair}
+use Rattle.object_dependencies.specs.Loops.{Depends}
+use Rattle.object_dependencies.specs.Pairs.{ArePairs, DependsAt, Pair}
 
 -- ---- an entry comes of a pair of a block
 
