@@ -52,9 +52,9 @@ impl<'a> Desk<'a> {
             (λ l. list_any (λ post. post.lane.0 == l) posts.items) [] (desk_value desk)) }
     {
         let count = config.lanes.len();
-        let decider = Decider::new(alloc, config, zone, WHOLE)?;
         let outbox = Outbox::new(alloc, count)?;
         let lanes = new_lanes(alloc, count as u8, posts)?;
+        let decider = Decider::new(alloc, config, zone, WHOLE)?;
         Ok(Desk {
             decider,
             outbox,

@@ -60,8 +60,8 @@ impl<'a, R: Input + Drop> Run<'a, R> {
         ensures room { IfOk result (λ run. length run.desk.lanes.items ≤ vec_capacity run.ends) }
     {
         let lines = LineReader::new(alloc, reader)?;
-        let desk = Desk::new(alloc, config, zone, posts, settings)?;
         let ends = Vec::with_capacity(alloc, config.lanes.len())?;
+        let desk = Desk::new(alloc, config, zone, posts, settings)?;
         Ok(Run {
             intake: Intake::new(alloc, lines),
             desk,

@@ -2,8 +2,8 @@ use Rattle.std.proofs.Common.{arith, refl}
 use Rattle.engine.proofs.DeskLaws.{new_stands}
 use Rattle.engine.proofs.desk.Desk.new.Goals as goal
 
-pub new-requires-clause-share : goal.new-requires-clause-share
-new-requires-clause-share g c = record { decider = omega arith; deciders = omega arith }
+pub new-requires-2-clause-share : goal.new-requires-2-clause-share
+new-requires-2-clause-share g c = record { decider = omega arith; deciders = omega arith }
 
 pub overflow_cast-count : goal.overflow_cast-count
 overflow_cast-count g c =
