@@ -7,6 +7,8 @@ mod escalations;
 #[cfg(test)]
 mod inheritance;
 #[cfg(test)]
+mod near_base;
+#[cfg(test)]
 mod object_text;
 #[cfg(test)]
 mod resolver;
