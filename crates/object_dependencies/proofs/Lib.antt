@@ -1,0 +1,5 @@
+mod PairLemmas
+mod BlockLemmas
+mod LimitLemmas
+mod EntryLemmas
+mod LawLemmas

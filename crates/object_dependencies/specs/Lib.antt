@@ -1,0 +1,5 @@
+pub mod Pairs
+pub mod Limits
+pub mod Entries
+pub mod Loops
+pub mod Laws

@@ -1,0 +1,39 @@
+-- The limit of dependencies (chapter "Host and Service Dependencies").
+use Rattle.std.specs.Prelude.{◌≡◌, ℕ, ◌+◌, ◌<◌, ◌≤◌, List, length, sum_by, Some, slice_get}
+use Rattle.due_model.specs.Limits.{max_dependencies}
+use Rattle.object_reader.specs.declared.block.Block.{Block}
+use Rattle.object_dependencies.specs.declared.pairs.LimitFault.{LimitFault}
+use Rattle.object_dependencies.specs.declared.pairs.LimitFault.TheVariants.{TooMany, NoMemory}
+use Rattle.object_dependencies.specs.Pairs.{ArePairsBelow, Pair}
+
+-- The blocks below a place give so many dependencies: each block one for each of its pairs.
+abbrev pub GiveDependencies : List Block → (lists : List (List ℕ)) → (place count : ℕ) → Type 0
+GiveDependencies blocks lists place count = (parts : List (List Pair))
+    × ArePairsBelow blocks lists place parts × (count ≡ sum_by length parts)
+
+-- The blocks pass the limit at the place: with the block there they give more dependencies than fit, and without
+-- it they don't.
+pub record PassesLimit (blocks : List Block) (lists : List (List ℕ)) (place : ℕ) : Type 0 where
+  pub within : place < length blocks
+  pub before : (count : ℕ) × GiveDependencies blocks lists place count × (count ≤ max_dependencies)
+  pub over : (count : ℕ) × GiveDependencies blocks lists (place + 1) count × (max_dependencies < count)
+
+-- The place and the line are those of the block that passes the limit.
+pub record IsFirstOver (blocks : List Block) (lists : List (List ℕ)) (place line : ℕ) : Type 0 where
+  pub block : Block
+  pub here : slice_get blocks place ≡ Some block
+  pub at : block.line ≡ line
+  pub passes : PassesLimit blocks lists place
+
+-- a refusal is that, or memory ran out
+abbrev pub IsRefusal : List Block → (lists : List (List ℕ)) → LimitFault → Type 0
+IsRefusal blocks lists (TooMany place line) = IsFirstOver blocks lists place line
+IsRefusal blocks lists NoMemory = Unit {0}
+
+-- ---- how it is found
+
+-- the pairs of the blocks below the place, so many
+pub record IsSoFar (blocks : List Block) (lists : List (List ℕ)) (place : ℕ) (parts : List (List Pair))
+    (count : ℕ) : Type 0 where
+  pub listed : ArePairsBelow blocks lists place parts
+  pub counted : count ≡ sum_by length parts

@@ -1,0 +1,3 @@
+mod ChainLemmas
+mod LinkLemmas
+mod LoopLemmas

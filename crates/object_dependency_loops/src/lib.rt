@@ -1,0 +1,6 @@
+//! Loops of the notification dependencies that blocks give (chapter "Host and Service Dependencies"): the first block
+//! that lies on one.
+#![tactic(auto)]
+
+mod edges;
+pub mod loops;

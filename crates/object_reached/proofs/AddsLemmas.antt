@@ -1,0 +1,125 @@
+-- Numbers that come to numbers: those of one thing, and of one thing more.
+use Rattle.std.proofs.Common.{◌≡◌, ℕ, zero, suc, ◌+◌, ◌<◌, Bool, List, [], ◌∷◌, ◌++◌, length, take, filter, get_or, Option, Some, refl, sym, ap, subst, ◌∙◌, ◌⊎◌, inl, inr, ⊎_elim, Bor, arith}
+use Rattle.std.specs.Prelude.{Contains, slice_get, ◌↔◌}
+use Rattle.std.specs.Option.{option_to_list}
+use Rattle.std.proofs.lemmas.List.{get_or-map, length-map}
+use Rattle.std.proofs.lemmas.List.Elements.{Contains-append_left, Contains-append_right, Contains-append_cases, filter_map-append}
+use Rattle.std.proofs.lemmas.Option.{get_or_from_slice_get, slice_get-get_or}
+use Rattle.lemmas.proofs.Elements.{Contains-cases, Contains-filter, Contains-from_filter, Contains-here, Contains-none}
+use Rattle.lemmas.proofs.Searches.{found-one, texts-more}
+use Rattle.object_reached.specs.Listed.{is_named, IsOn, OfSome}
+use Rattle.object_reached.specs.Services.{hosts_in}
+use Rattle.object_groups.specs.Names.{number_of, numbers_of}
+use Rattle.object_listing.specs.Listing.{Adds}
+use Rattle.object_services.specs.Numbers.{Pair}
+use Rattle.object_values.specs.Values.{texts}
+
+-- ---- of one thing more
+
+pub adds-none : {X : Type 0} (member : X → ℕ → Type 0) (numbers : List ℕ) → Adds (OfSome member []) numbers numbers
+adds-none {X} member numbers k = ((λ at. inl at), from)
+  where
+    from : Contains numbers k ⊎ OfSome member [] k → Contains numbers k
+    from (inl before) = before
+    from (inr some) = absurd (Contains-none some.0 some.1)
+
+pub adds-next : {X : Type 0} (member : X → ℕ → Type 0) (xs ys : List X) (x : X) (first old new : List ℕ) → ys ≡ xs ++ x ∷ []
+    → Adds (OfSome member xs) first old → Adds (member x) old new → Adds (OfSome member ys) first new
+adds-next {X} member xs ys x first old new more before added k = (
+  (λ at. ⊎_elim earlier (λ (here : member x k). inr (x, last, here)) ((added k).0 at)),
+  from,
+)
+  where
+    last : Contains ys x
+    last = subst (λ zs. Contains zs x) (sym more) (Contains-append_right xs (x ∷ []) x (Contains-here x []))
+
+    earlier : Contains old k → Contains first k ⊎ OfSome member ys k
+    earlier at = ⊎_elim (λ (start : Contains first k). inl start)
+        (λ (some : OfSome member xs k). inr (some.0, subst (λ zs. Contains zs some.0) (sym more) (Contains-append_left xs (x ∷ []) some.0 some.1), some.2))
+        ((before k).0 at)
+
+    of_last : (z : X) → member z k → Contains xs z ⊎ Contains (x ∷ []) z → Contains new k
+    of_last z here (inl in_front) = (added k).1 (inl ((before k).1 (inr (z, in_front, here))))
+    of_last z here (inr at_end) = ⊎_elim
+        (λ (same : x ≡ z). (added k).1 (inr (subst (λ w. member w k) (sym same) here)))
+        (λ (none : Contains [] z). absurd (Contains-none z none))
+        (Contains-cases x z [] at_end)
+
+    from : Contains first k ⊎ OfSome member ys k → Contains new k
+    from (inl start) = (added k).1 (inl ((before k).1 (inl start)))
+    from (inr some) = of_last some.0 some.2 (Contains-append_cases xs (x ∷ []) some.0 (subst (λ zs. Contains zs some.0) more some.1))
+
+-- the same of a thing that is known by an equation
+pub adds-of_one : {X : Type 0} (member : X → ℕ → Type 0) (x : X) (old new : List ℕ) → Adds (λ k. (z : X) × (z ≡ x) × member z k) old new → Adds (member x) old new
+adds-of_one {X} member x old new added k = (
+  (λ at. ⊎_elim (λ (before : Contains old k). inl before) (λ (some : (z : X) × (z ≡ x) × member z k). inr (subst (λ w. member w k) some.1 some.2)) ((added k).0 at)),
+  (λ either. (added k).1 (⊎_elim (λ (before : Contains old k). inl before) (λ (here : member x k). inr (x, refl, here)) either)),
+)
+
+-- ---- of one list more
+
+pub adds-list : {X : Type 0} (member : X → ℕ → Type 0) (x : X) (old members pushed new : List ℕ) → ((k : ℕ) → Contains members k ↔ member x k) → pushed ≡ old ++ members
+    → ((k : ℕ) → Contains new k ↔ Contains pushed k) → Adds (λ k. (z : X) × (z ≡ x) × member z k) old new
+adds-list {X} member x old members pushed new are is same k = (
+  (λ at. ⊎_elim (λ (before : Contains old k). inl before) (λ (here : Contains members k). inr (x, refl, (are k).0 here))
+      (Contains-append_cases old members k (subst (λ ns. Contains ns k) is ((same k).0 at)))),
+  (λ either. (same k).1 (subst (λ ns. Contains ns k) (sym is) (from either))),
+)
+  where
+    from : Contains old k ⊎ ((z : X) × (z ≡ x) × member z k) → Contains (old ++ members) k
+    from (inl before) = Contains-append_left old members k before
+    from (inr some) = Contains-append_right old members k ((are k).1 (subst (λ w. member w k) some.1 some.2))
+
+-- ---- the services of a host
+
+pub place-there : (xs : List Pair) (k : ℕ) (x : Pair) → slice_get xs k ≡ Some x → k < length xs
+place-there [] k x is = cc
+place-there (y ∷ ys) zero x is = omega arith
+place-there (y ∷ ys) (suc k) x is = let rest = place-there ys k x is in omega (arith, rest)
+
+host-read : (services : List Pair) (k : ℕ) → k < length services → get_or (hosts_in services) k 0 ≡ (get_or services k (0, [])).0
+host-read services k low = get_or-map (λ service. service.0) services k (0, []) 0 low
+
+pub adds-host : (services : List Pair) (entries : List (List ℕ)) (host : ℕ) (ends old new : List ℕ)
+    → ((service : ℕ) → Contains ends service ↔ ((service < length (hosts_in services)) × (get_or (hosts_in services) service 0 ≡ host)))
+    → new ≡ old ++ filter (λ service. is_named entries ((get_or services service (0, [])).1)) ends → Adds (IsOn services entries host) old new
+adds-host services entries host ends old new are is k = (
+  (λ at. ⊎_elim (λ (before : Contains old k). inl before) (λ (here : Contains (filter test ends) k). inr (to here))
+      (Contains-append_cases old (filter test ends) k (subst (λ ns. Contains ns k) is at))),
+  (λ either. subst (λ ns. Contains ns k) (sym is) (from either)),
+)
+  where
+    test : ℕ → Bool
+    test service = is_named entries ((get_or services service (0, [])).1)
+
+    long : length (hosts_in services) ≡ length services
+    long = length-map services (λ service. service.0)
+
+    to : Contains (filter test ends) k → IsOn services entries host k
+    to here =
+        let on = Contains-from_filter test ends k here in
+        let both = (are k).0 on.0 in
+        let first = both.0 in
+        let low : k < length services = omega (arith, first, long) in
+        let head : (get_or services k (0, [])).0 ≡ host = sym (host-read services k low) ∙ both.1 in
+        ((get_or services k (0, [])).1, slice_get-get_or services k (0, []) low ∙ ap (λ (h : ℕ). Some (h, (get_or services k (0, [])).1)) head, on.1)
+
+    from : Contains old k ⊎ IsOn services entries host k → Contains (old ++ filter test ends) k
+    from (inl before) = Contains-append_left old (filter test ends) k before
+    from (inr (description, there, named)) =
+        let low = place-there services k (host, description) there in
+        let read : get_or services k (0, []) ≡ (host, description) = get_or_from_slice_get services k (host, description) (0, []) there in
+        Contains-append_right old (filter test ends) k (Contains-filter test ends k
+        ((are k).1 (omega (arith, low, long), host-read services k low ∙ ap (λ (p : Pair). p.0) read))
+        (ap (λ (p : Pair). is_named entries p.1) read ∙ named))
+
+-- ---- one entry more
+
+pub numbers-more : (names : List (List ℕ)) (xs : List (Bor (List ℕ))) (i : ℕ) (d : Bor (List ℕ)) (old new : List ℕ) (found : Option ℕ) → i < length xs
+    → old ≡ numbers_of names (texts (take i xs)) → found ≡ number_of names ((get_or xs i d).now) → new ≡ old ++ option_to_list found
+    → new ≡ numbers_of names (texts (take (i + 1) xs))
+numbers-more names xs i d old new found within before is more =
+    let all : numbers_of names (texts (take (i + 1) xs)) ≡ numbers_of names (texts (take i xs)) ++ option_to_list found =
+    ap (numbers_of names) (texts-more xs i d within) ∙ filter_map-append (number_of names) (texts (take i xs)) ((get_or xs i d).now ∷ [])
+    ∙ ap (λ one. numbers_of names (texts (take i xs)) ++ one) (found-one (number_of names ((get_or xs i d).now)) ∙ ap option_to_list (sym is)) in
+    more ∙ ap (λ numbers. numbers ++ option_to_list found) before ∙ sym all

@@ -1,0 +1,4 @@
+mod ServiceLemmas
+mod AddsLemmas
+mod ListedLemmas
+mod ReachedLemmas

@@ -1,0 +1,161 @@
+-- The objects of which a block speaks.
+use Rattle.std.proofs.Common.{◌≡◌, ℕ, zero, suc, ◌+◌, ◌<◌, ◌≤◌, ◌^◌, Bool, true, false, ◌&&◌, List, [], ◌∷◌, ◌++◌, length, map, take, get_or, Option, Some, refl, sym, ap, subst, eqb, eqb-true, ◌∙◌, inl, inr, arith}
+use Rattle.std.specs.Prelude.{All, Contains, slice_get}
+use Rattle.std.specs.List.{AllZip}
+use Rattle.std.specs.Option.{option_map_or}
+use Rattle.std.proofs.lemmas.Bool.{false≢true}
+use Rattle.std.proofs.lemmas.List.{get_or-map, length-map, map-append, take_more}
+use Rattle.std.proofs.lemmas.List.Elements.{All-from_get_or, Contains-get_or}
+use Rattle.lemmas.proofs.Elements.{Contains-from_map, Contains-map, Contains-none}
+use Rattle.object_reached.specs.declared.roles.Role.{Role}
+use Rattle.object_reached.specs.declared.roles.Role.TheVariants.{Dependent, Escalated, Master}
+use Rattle.object_reached.specs.Laws.{SpokenAreObjects}
+use Rattle.object_reached.specs.Reached.{AreAfter, AreServicesOf, AreSpokenOf, SpeaksOf}
+use Rattle.object_reached.specs.Roles.{directives_of, host_kind, service_kind}
+use Rattle.object_reached.specs.Listed.{AreServicesListed, IsServiceListed, of_hosts, ServiceDirectives}
+use Rattle.object_groups.specs.Objects.{is_object, is_object_at, names_in}
+use Rattle.object_inheritance.specs.Templates.{kind_number}
+use Rattle.object_listing.specs.Laws.{ListedAreObjects}
+use Rattle.object_listing.specs.Listing.{AreThose, host_directives, IsListed}
+use Rattle.object_reader.specs.declared.block.Block.{Block}
+use Rattle.object_reader.specs.declared.block.BlockKind.{BlockKind}
+use Rattle.object_reader.specs.declared.block.BlockKind.TheVariants.{Host, Service}
+use Rattle.object_service_groups.specs.Laws.{MembersAreServices}
+use Rattle.object_services.specs.Hosts.{AreHosts}
+use Rattle.object_services.specs.Numbers.{Pair, pairs_of}
+use Rattle.object_reached.proofs.AddsLemmas.{place-there}
+
+-- ---- services after the hosts
+
+pub after-more : (f : ℕ → ℕ) (old new xs : List ℕ) (i d one : ℕ) → i < length xs → old ≡ map f (take i xs) → new ≡ old ++ one ∷ [] → one ≡ f (get_or xs i d)
+    → new ≡ map f (take (i + 1) xs)
+after-more f old new xs i d one within before more is =
+    more ∙ ap (λ (ns : List ℕ). ns ++ one ∷ []) before ∙ ap (λ (n : ℕ). map f (take i xs) ++ n ∷ []) is
+    ∙ sym (ap (map f) (take_more xs i d within) ∙ map-append f (take i xs) (get_or xs i d ∷ []))
+
+shift-those : (P : ℕ → Type 0) (n : ℕ) (xs : List ℕ) → AreThose P xs → AreThose (λ k. (s : ℕ) × (k ≡ n + s) × P s) (map (λ s. n + s) xs)
+shift-those P n xs those = record {
+  rising = λ k low. let long = length-map xs (λ s. n + s) in
+      let here = get_or-map (λ s. n + s) xs k 0 0 (omega (arith, long, low)) in
+      let next = get_or-map (λ s. n + s) xs (k + 1) 0 0 (omega (arith, long, low)) in
+      let less = those.rising k (omega (arith, long, low)) in
+      omega (arith, here, next, less);
+  exactly = λ k. (
+    (λ at. let on = Contains-from_map (λ s. n + s) xs k at in (on.0, sym on.2, (those.exactly on.0).0 on.1)),
+    (λ some. subst (λ (m : ℕ). Contains (map (λ s. n + s) xs) m) (sym some.1) (Contains-map (λ s. n + s) xs some.0 ((those.exactly some.0).1 some.2))),
+  );
+}
+
+listed-within : MembersAreServices → (blocks : List Block) (lists : List (List ℕ)) (directives : ServiceDirectives) (place service : ℕ) → IsServiceListed blocks lists directives place service
+    → service < length (pairs_of (names_in blocks Service) lists)
+listed-within members blocks lists directives place service (inl (host, description, there, listed, named)) = place-there (pairs_of (names_in blocks Service) lists) service (host, description) there
+listed-within members blocks lists directives place service (inr (group, at, member)) = members blocks lists group service member
+
+pub services-are : MembersAreServices → (blocks : List Block) (services : List Pair) (directives : ServiceDirectives) (place hosts : ℕ) (found given numbers : List ℕ)
+    → AreServicesListed blocks services directives place found → given ≡ found → AreAfter hosts given numbers → hosts ≡ length (names_in blocks Host) → length (names_in blocks Host) + length services < 2 ^ 32
+    → AreServicesOf blocks services directives place numbers
+services-are members blocks services directives place hosts found given numbers listed same after hosts_are few lists are services_are =
+    subst (λ (ns : List ℕ). AreThose (λ object. (service : ℕ) × (object ≡ length (names_in blocks Host) + service) × IsServiceListed blocks lists directives place service) ns)
+    (sym (after all ∙ ap (λ (ns : List ℕ). map (λ s. hosts + s) ns) same ∙ ap (λ (n : ℕ). map (λ s. n + s) found) hosts_are))
+    (shift-those (IsServiceListed blocks lists directives place) (length (names_in blocks Host)) found (listed lists are services_are))
+  where
+    all : All (λ service. hosts + service < 2 ^ 32) given
+    all = subst (λ (ns : List ℕ). All (λ service. hosts + service < 2 ^ 32) ns) (sym same) (All-from_get_or (λ service. hosts + service < 2 ^ 32) found 0
+        (λ i low. let at = ((listed lists are services_are).exactly (get_or found i 0)).0 (Contains-get_or found i 0 low) in
+        let below = listed-within members blocks lists directives place (get_or found i 0) at in
+        let count = ap (λ (ps : List Pair). length ps) services_are in
+        omega (arith, below, count, hosts_are, few)))
+
+-- ---- one block
+
+and-true : (a b : Bool) → (a && b) ≡ true → a ≡ true
+and-true true b is = refl
+and-true false b is = absurd (false≢true is)
+
+object-at : (blocks : List Block) (kind : BlockKind) (place : ℕ) (x : Block) (b : Bool) → slice_get blocks place ≡ Some x → b ≡ is_object kind x → is_object_at blocks kind place ≡ b
+object-at blocks kind place x b here is = ap (λ (found : Option Block). option_map_or (is_object kind) found false) here ∙ sym is
+
+-- a block isn't of both types
+of_kind : (kind : BlockKind) (block : Block) → is_object kind block ≡ true → kind_number block.kind ≡ kind_number kind
+of_kind kind block is = eqb-true (kind_number block.kind) (kind_number kind) (and-true (eqb (kind_number block.kind) (kind_number kind)) _ is)
+
+kinds_differ : (role : Role) (n : ℕ) → n ≡ kind_number (host_kind role) → n ≡ kind_number (service_kind role) → ⊥
+kinds_differ Escalated n one other = omega (arith, one, other)
+kinds_differ Master n one other = omega (arith, one, other)
+kinds_differ Dependent n one other = omega (arith, one, other)
+
+apart : (blocks : List Block) (role : Role) (place : ℕ) (x : Block) → slice_get blocks place ≡ Some x → is_object_at blocks (host_kind role) place ≡ true → is_object_at blocks (service_kind role) place ≡ true → ⊥
+apart blocks role place x here host service =
+    kinds_differ role (kind_number x.kind)
+    (of_kind (host_kind role) x (sym (object-at blocks (host_kind role) place x (is_object (host_kind role) x) here refl) ∙ host))
+    (of_kind (service_kind role) x (sym (object-at blocks (service_kind role) place x (is_object (service_kind role) x) here refl) ∙ service))
+
+module _ (blocks : List Block) (services : List Pair) (role : Role) (place : ℕ) (x : Block) (here : slice_get blocks place ≡ Some x) where
+  pub of-hosts : (kind : BlockKind) (directives : ServiceDirectives) (found : List ℕ) → kind ≡ host_kind role → directives ≡ directives_of role → true ≡ is_object kind x
+      → AreThose (IsListed blocks (of_hosts directives) place) found → AreSpokenOf blocks services role place found
+  of-hosts kind directives found kind_is directives_are is_kind listed lists are services_are = record {
+    rising = listed.rising;
+    exactly = λ k. ((λ at. inl (object-at blocks (host_kind role) place x true here is, (those.exactly k).0 at)), from k);
+  }
+    where
+      is : true ≡ is_object (host_kind role) x
+      is = subst (λ (k : BlockKind). true ≡ is_object k x) kind_is is_kind
+
+      those : AreThose (IsListed blocks (of_hosts (directives_of role)) place) found
+      those = subst (λ (d : ServiceDirectives). AreThose (IsListed blocks (of_hosts d) place) found) directives_are listed
+
+      from : (k : ℕ) → SpeaksOf blocks lists role place k → Contains found k
+      from k (inl both) = (those.exactly k).1 both.1
+      from k (inr both) = absurd (apart blocks role place x here (object-at blocks (host_kind role) place x true here is) both.0)
+
+  pub of-services : (kind : BlockKind) (directives : ServiceDirectives) (found : List ℕ) → kind ≡ service_kind role → directives ≡ directives_of role → true ≡ is_object kind x
+      → AreServicesOf blocks services directives place found → AreSpokenOf blocks services role place found
+  of-services kind directives found kind_is directives_are is_kind given lists are services_are = record {
+    rising = those.rising;
+    exactly = λ k. ((λ at. inr (object-at blocks (service_kind role) place x true here is, (those.exactly k).0 at)), from k);
+  }
+    where
+      is : true ≡ is_object (service_kind role) x
+      is = subst (λ (k : BlockKind). true ≡ is_object k x) kind_is is_kind
+
+      those : AreThose (λ object. (service : ℕ) × (object ≡ length (names_in blocks Host) + service) × IsServiceListed blocks lists (directives_of role) place service) found
+      those = subst (λ (d : ServiceDirectives). AreServicesOf blocks services d place found) directives_are given lists are services_are
+
+      from : (k : ℕ) → SpeaksOf blocks lists role place k → Contains found k
+      from k (inl both) = absurd (apart blocks role place x here both.0 (object-at blocks (service_kind role) place x true here is))
+      from k (inr both) = (those.exactly k).1 both.1
+
+  pub of-none : (host service : BlockKind) (found : List ℕ) → host ≡ host_kind role → service ≡ service_kind role → found ≡ [] → false ≡ is_object host x → false ≡ is_object service x
+      → AreSpokenOf blocks services role place found
+  of-none host service found host_is service_is empty not_host not_service lists are services_are = subst (λ (ns : List ℕ). AreThose (SpeaksOf blocks lists role place) ns) (sym empty) (record {
+    rising = λ k low. absurd (omega (arith, low));
+    exactly = λ k. ((λ at. absurd (Contains-none k at)), none k);
+  })
+    where
+      neither : (kind other : BlockKind) → kind ≡ other → false ≡ is_object kind x → is_object_at blocks other place ≡ true → ⊥
+      neither kind other same not is =
+          false≢true (sym (object-at blocks other place x false here (subst (λ (k : BlockKind). false ≡ is_object k x) same not)) ∙ is)
+
+      none : (k : ℕ) → SpeaksOf blocks lists role place k → Contains [] k
+      none k (inl both) = absurd (neither host (host_kind role) host_is not_host both.0)
+      none k (inr both) = absurd (neither service (service_kind role) service_is not_service both.0)
+
+-- ---- the hosts of services are hosts
+
+pub hosts-below : ListedAreObjects → (blocks : List Block) (places : List ℕ) (lists : List (List ℕ)) → AllZip (AreHosts blocks) places lists → All (All (λ host. host < length (names_in blocks Host))) lists
+hosts-below law blocks places lists are = All-from_get_or (All (λ host. host < length (names_in blocks Host))) lists [] (λ i low. each places lists i are low)
+  where
+    each : (ps : List ℕ) (ls : List (List ℕ)) (i : ℕ) → AllZip (AreHosts blocks) ps ls → i < length ls → All (λ host. host < length (names_in blocks Host)) (get_or ls i [])
+    each ps [] i all low = absurd (omega (arith, low))
+    each [] (l ∷ ls) i all low = absurd all
+    each (p ∷ ps) (l ∷ ls) zero all low = All-from_get_or (λ host. host < length (names_in blocks Host)) l 0
+        (λ k within. law blocks host_directives p (get_or l k 0) ((all.0.exactly (get_or l k 0)).0 (Contains-get_or l k 0 within)))
+    each (p ∷ ps) (l ∷ ls) (suc i) all low = each ps ls i all.1 (omega (arith, low))
+
+-- ---- what blocks speak of are objects
+
+pub spoken-are-objects : ListedAreObjects → MembersAreServices → SpokenAreObjects
+spoken-are-objects listed members blocks lists role place object (inl both) =
+    let low : object < length (names_in blocks Host) = listed blocks (of_hosts (directives_of role)) place object both.1 in omega (arith, low)
+spoken-are-objects listed members blocks lists role place object (inr (is, (service, number, at))) =
+    let low = listed-within members blocks lists (directives_of role) place service at in omega (arith, number, low)

@@ -1,0 +1,12 @@
+use Rattle.std.proofs.Common.{◌++◌, ◌∙◌, [], List, ap, filter, take_all, ℕ}
+use Rattle.std.specs.Prelude.{slice_index_or}
+use Rattle.object_reached.specs.Listed.{is_named}
+use Rattle.object_reached.proofs.AddsLemmas.{adds-host}
+use Rattle.object_reached.proofs.numbers.push_host.Goals as goal
+
+pub returns : goal.returns
+returns c =
+    adds-host c.args.services.now c.args.descriptions.now c.args.host c.of_host-service-items.result.now c.args.found.now.items c.loop-service.found.items c.of_host-service-items.ensures
+    (c.loop-service.invariant
+    ∙ ap (λ (services : List ℕ). c.args.found.now.items ++ filter (λ service. is_named c.args.descriptions.now ((slice_index_or c.args.services.now service (0, [])).1)) services)
+    (take_all c.loop-service.service-index c.of_host-service-items.result.now c.loop-service-test.false))

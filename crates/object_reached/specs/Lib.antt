@@ -1,0 +1,5 @@
+pub mod Services
+pub mod Listed
+pub mod Roles
+pub mod Reached
+pub mod Laws

@@ -1,0 +1,28 @@
+-- The services of each host, and how they are kept (chapter "Object Definitions").
+use Rattle.std.specs.Prelude.{◌≡◌, ℕ, ◌<◌, ◌↔◌, List, length, map, Some, slice_get, slice_index_or}
+use Rattle.std.specs.List.{range_with_len}
+use Rattle.graph.specs.declared.edges.Edge.{Edge}
+use Rattle.graph.specs.Edges.{Leads}
+use Rattle.object_services.specs.Numbers.{Pair}
+
+-- the service at that place is on the host, and has that description
+abbrev pub IsServiceOf : List Pair → (service host : ℕ) → (description : List ℕ) → Type 0
+IsServiceOf services service host description = slice_get services service ≡ Some (host, description)
+
+-- ---- how they are kept
+
+abbrev pub edge : (from to : ℕ) → Edge
+edge from to = record { from = from; to = to }
+
+-- the host of each service
+abbrev pub hosts_in : List Pair → List ℕ
+hosts_in services = map (λ service. service.0) services
+
+-- an edge from each service's host to the service, of the first so many
+abbrev pub host_edges : (hosts : List ℕ) → (count : ℕ) → List Edge
+host_edges hosts count = map (λ service. edge (slice_index_or hosts service 0) service) (range_with_len 0 count)
+
+-- a graph in which each host leads to its services
+pub record IsByHost (hosts : List ℕ) (graph : List (List ℕ)) : Type 0 where
+  pub leads : (host service : ℕ) → Leads graph host service
+      ↔ ((service < length hosts) × (slice_index_or hosts service 0 ≡ host))

@@ -1,0 +1,171 @@
+//! The places of the services that lists of hosts, of descriptions and of groups reach.
+
+ghost use Rattle.std.specs.Prelude.{◌≡◌, ℕ, List, ◌++◌, ◌↔◌, ◌||◌, Contains, IfOk, OnOk, is_some};
+ghost use Rattle.std.specs.List.Sorted.{IsStrictlyIncreasing};
+ghost use Rattle.std.specs.Option.{option_to_list};
+ghost use Rattle.object_reached.specs.Listed.{AddsMembers, is_named, IsOn, OfSome};
+ghost use Rattle.object_groups.specs.Names.{numbers_of};
+ghost use Rattle.object_listing.specs.Listing.{Adds};
+ghost use Rattle.object_values.specs.Values.{texts};
+
+use crate::services::HostServices;
+use object_groups::names::{Names, is_all};
+use object_service_groups::groups::ServiceGroups;
+use std::alloc::{AllocError, Global};
+use std::marker::Model;
+
+/// A list of descriptions. Contracts see its entries.
+#[derive(Drop)]
+pub(crate) struct Descriptions<'a> {
+    all: bool,
+    names: Names<'a>,
+}
+
+impl<'a> Model for Descriptions<'a> {
+    ghost use Rattle.std.specs.Prelude.{◌≡◌, ℕ, List};
+    ghost use Rattle.object_groups.specs.Names.{is_all};
+
+    ghost Value = { List (List ℕ) };
+
+    ghost view = { λ s. s.names };
+
+    ghost invariant = { λ s. s.all ≡ is_all s.names };
+}
+
+impl<'a> Descriptions<'a> {
+    /// The list with these entries.
+    pub(crate) fn new(alloc: Global, entries: Vec<&'a [u8]>) -> Result<Descriptions<'a>, AllocError>
+        ensures { IfOk result (λ made. made ≡ texts entries.entry.items) }
+    {
+        let all = is_all(entries.as_slice());
+        let names = Names::new(alloc, entries)?;
+        Ok(Descriptions { all, names })
+    }
+
+    /// Whether it names the description.
+    fn has(&self, description: &'a [u8]) -> bool
+        ensures { result ≡ is_named self.now description.now }
+    {
+        self.all || self.names.find(description).is_some()
+    }
+}
+
+/// Adds the services of a host whose descriptions the list names.
+fn push_host<'a>(
+    found: &mut Vec<usize>,
+    services: &HostServices<'a>,
+    descriptions: &Descriptions<'a>,
+    host: usize,
+) -> Result<(), AllocError>
+    ensures { OnOk result (Adds (IsOn services.now descriptions.now host)
+        found.old.items found.new.items) }
+{
+    for service in services.of_host(host) {
+        if descriptions.has(services.description(*service as usize)) {
+            found.push(*service as usize)?;
+        }
+    }
+    Ok(())
+}
+
+/// Adds those of all these hosts.
+pub(crate) fn push_hosts<'a>(
+    found: &mut Vec<usize>,
+    services: &HostServices<'a>,
+    descriptions: &Descriptions<'a>,
+    hosts: &[usize],
+) -> Result<(), AllocError>
+    ensures { OnOk result (Adds (OfSome (IsOn services.now descriptions.now) hosts.now)
+        found.old.items found.new.items) }
+{
+    for host in hosts {
+        push_host(found, services, descriptions, *host)?;
+    }
+    Ok(())
+}
+
+/// Adds the number of a name that is found.
+fn push_number(numbers: &mut Vec<usize>, found: Option<usize>) -> Result<(), AllocError>
+    ensures { OnOk result (numbers.new.items ≡ numbers.old.items ++ option_to_list found) }
+{
+    if let Some(number) = found {
+        numbers.push(number)?;
+    }
+    Ok(())
+}
+
+/// The numbers of the names that a list has.
+pub(crate) fn numbers_of<'a>(
+    alloc: Global,
+    names: &Names<'a>,
+    entries: &[&'a [u8]],
+) -> Result<Vec<usize>, AllocError>
+    ensures { IfOk result (λ numbers.
+        numbers.items ≡ numbers_of names.now (texts entries.now)) }
+{
+    let mut numbers = Vec::new(alloc);
+    for entry in entries {
+        push_number(&mut numbers, names.find(*entry))?;
+    }
+    Ok(numbers)
+}
+
+/// Puts the numbers in order, each once.
+pub(crate) fn put_in_order(numbers: &mut Vec<usize>) -> Result<(), AllocError>
+    ensures rising { OnOk result (IsStrictlyIncreasing numbers.new.items) }
+    ensures same { OnOk result ((k : ℕ)
+        → Contains numbers.new.items k ↔ Contains numbers.old.items k) }
+{
+    numbers.sort()?;
+    numbers.dedup();
+    Ok(())
+}
+
+/// Puts the numbers in order, each once, where there are so many.
+fn shorten(numbers: &mut Vec<usize>, many: bool) -> Result<(), AllocError>
+    ensures { OnOk result ((k : ℕ)
+        → Contains numbers.new.items k ↔ Contains numbers.old.items k) }
+{
+    if many {
+        put_in_order(numbers)?;
+    }
+    Ok(())
+}
+
+/// Adds the members of a group. Where there are more than twice as many numbers as services they are put in
+/// order, each once, so that what is kept grows with the services and not with the groups.
+fn push_group(
+    alloc: Global,
+    numbers: &mut Vec<usize>,
+    groups: &mut ServiceGroups,
+    services: usize,
+    group: usize,
+) -> Result<(), AllocError>
+    ensures same { groups.new ≡ groups.old }
+    ensures added { OnOk result (AddsMembers groups.old (λ other. other ≡ group)
+        numbers.old.items numbers.new.items) }
+{
+    let members = groups.members(alloc, group)?;
+    numbers.extend_from_slice(members.as_slice())?;
+    let many = numbers.len() / 2 > services;
+    shorten(numbers, many)?;
+    Ok(())
+}
+
+/// Adds the members of groups.
+pub(crate) fn push_groups(
+    alloc: Global,
+    numbers: &mut Vec<usize>,
+    groups: &mut ServiceGroups,
+    services: usize,
+    listed: &[usize],
+) -> Result<(), AllocError>
+    ensures same { groups.new ≡ groups.old }
+    ensures added { OnOk result (AddsMembers groups.old (Contains listed.now)
+        numbers.old.items numbers.new.items) }
+{
+    for group in listed {
+        push_group(alloc, numbers, groups, services, *group)?;
+    }
+    Ok(())
+}
