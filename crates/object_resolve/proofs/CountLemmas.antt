@@ -6,15 +6,16 @@ use Rattle.std.proofs.lemmas.Bool.{cases_lt}
 use Rattle.std.proofs.lemmas.List.{length-append, length-map, take_all, take_more}
 use Rattle.std.proofs.lemmas.List.Elements.{All-contains}
 use Rattle.std.proofs.lemmas.List.Sums.{sum_by-append, sum_by-cons}
+use Rattle.std.proofs.lemmas.List.FromFn.{length-range_with_len}
+use Rattle.std.proofs.lemmas.Slice.Zip.{AllZip-long}
 use Rattle.lemmas.proofs.Elements.{Contains-cases, Contains-here, Contains-later, Contains-none}
 use Rattle.lemmas.proofs.Lists.{AllPairs-head, AllPairs-tail}
 use Rattle.lemmas.proofs.Numbers.{below_more, flat_range_more}
 use Rattle.due_model.specs.Limits.{max_dependencies}
 use Rattle.due_model.specs.declared.config.Dependency.{Dependency}
-use Rattle.object_dependencies.specs.Entries.{AreDependencies, entries_at, entries_in, terms_at}
+use Rattle.object_dependencies.specs.Entries.{AreDependencies, entries_at, entry_of, terms_at}
 use Rattle.object_dependencies.specs.Limits.{GiveDependencies, PassesLimit}
 use Rattle.object_dependencies.specs.Pairs.{ArePairs, ArePairsBelow, IsBefore, Pair}
-use Rattle.object_dependencies.proofs.EntryLemmas.{as-many, count-more}
 use Rattle.object_reader.specs.declared.block.Block.{Block}
 use Rattle.object_services.specs.Numbers as services
 use Rattle.object_services.specs.Numbers.{pairs_of}
@@ -167,30 +168,9 @@ module _ (blocks : List Block) (lists : List (List ℕ)) where
       let past = passes.over.2 in
       omega (arith, low, past, few)
 
--- ---- there is one dependency for each pair
+-- ---- lists in a row, one for each place and as long as the one that stands there
 
-entries-long : (blocks : List Block) (periods : List (List ℕ)) (parts : List (List Pair)) (place : ℕ) → place ≤ length parts
-    → length (entries_in blocks periods parts place) ≡ sum_by length (take place parts)
-entries-long blocks periods parts zero low = refl
-entries-long blocks periods parts (suc n) low =
-    let same : n + 1 ≡ suc n = omega arith in
-    subst (λ (k : ℕ). length (entries_in blocks periods parts k) ≡ sum_by length (take k parts)) same
-    (count-more blocks periods parts n (terms_at blocks periods n) (slice_index_or parts n []) (entries_in blocks periods parts n) (entries_in blocks periods parts (n + 1))
-    (omega (arith, low)) refl (entries-long blocks periods parts n (omega (arith, low))) (flat_range_more (entries_at blocks periods parts) n))
-
-pub dependencies-few : (blocks : List Block) (lists periods : List (List ℕ)) (dependencies : List Dependency) (count : ℕ) → AreDependencies blocks lists periods dependencies
-    → GiveDependencies blocks lists (length blocks) count → count ≤ max_dependencies → length dependencies ≤ max_dependencies
-dependencies-few blocks lists periods dependencies count (parts, are, is) given few =
-    let many = as-many blocks lists (length blocks) parts are in
-    let long : length dependencies ≡ sum_by length (take (length blocks) parts) =
-    ap (λ (ds : List Dependency). length ds) is ∙ entries-long blocks periods parts (length blocks) (omega (arith, many)) in
-    let whole : sum_by length (take (length blocks) parts) ≡ sum_by length parts = ap (sum_by length) (take_all (length blocks) parts (omega (arith, many))) in
-    let sum = count-sum blocks lists (length blocks) count parts given are in
-    omega (arith, long, whole, sum, few)
-
--- ---- there is one service for each host of a service block
-
-flat-count : {A : Type 0} (f : ℕ → List A) (lists : List (List ℕ)) → ((n : ℕ) → length (f n) ≡ length (slice_index_or lists n [])) → (k : ℕ) → k ≤ length lists
+flat-count : {A B : Type 0} (f : ℕ → List A) (lists : List (List B)) → ((n : ℕ) → length (f n) ≡ length (slice_index_or lists n [])) → (k : ℕ) → k ≤ length lists
     → length (flat_map f (range_with_len 0 k)) ≡ sum_by length (take k lists)
 flat-count f lists each zero low = refl
 flat-count f lists each (suc k) low =
@@ -203,6 +183,19 @@ flat-count f lists each (suc k) low =
     subst (λ (n : ℕ). length (flat_map f (range_with_len 0 n)) ≡ sum_by length (take n lists)) (sym same)
     (omega (arith, before, more, own, taken, one))
 
+-- there is one dependency for each pair
+pub dependencies-few : (blocks : List Block) (lists periods : List (List ℕ)) (dependencies : List Dependency) (count : ℕ) → AreDependencies blocks lists periods dependencies
+    → GiveDependencies blocks lists (length blocks) count → count ≤ max_dependencies → length dependencies ≤ max_dependencies
+dependencies-few blocks lists periods dependencies count (parts, are, is) given few =
+    let many : length parts ≡ length blocks = AllZip-long (ArePairs blocks lists) (range_with_len 0 (length blocks)) parts are ∙ length-range_with_len 0 (length blocks) in
+    let long : length dependencies ≡ sum_by length (take (length blocks) parts) =
+    ap (λ (ds : List Dependency). length ds) is ∙ 
+        flat-count (entries_at blocks periods parts) parts (λ n. length-map (slice_index_or parts n []) (entry_of (terms_at blocks periods n))) (length blocks) (omega (arith, many)) in
+    let whole : sum_by length (take (length blocks) parts) ≡ sum_by length parts = ap (sum_by length) (take_all (length blocks) parts (omega (arith, many))) in
+    let sum = count-sum blocks lists (length blocks) count parts given are in
+    omega (arith, long, whole, sum, few)
+
+-- and one service for each host of a service block
 pub pairs-count : (names lists : List (List ℕ)) → length (pairs_of names lists) ≡ sum_by length lists
 pairs-count names lists =
     flat-count (λ number. map (λ host. (host, slice_index_or names number [])) (slice_index_or lists number [])) lists

@@ -24,13 +24,11 @@ use Rattle.object_escalations.specs.Escalated.{AreEscalated, GiveEscalations}
 use Rattle.object_escalations.specs.Laws as escalations
 use Rattle.object_escalations.specs.declared.escalated.LimitFault.{LimitFault as EscalationFault}
 use Rattle.object_escalations.specs.declared.escalated.LimitFault.TheVariants as passing
-use Rattle.object_groups.specs.Objects.{is_object, names_in, objects_in}
+use Rattle.object_groups.specs.Objects.{names_in, objects_in}
 use Rattle.object_names.specs.First.{IsFirst, lower}
 use Rattle.object_reader.specs.declared.block.Block.{Block}
 use Rattle.object_reader.specs.declared.block.BlockKind.{BlockKind}
-use Rattle.object_reader.specs.declared.block.BlockKind.TheVariants.{Command, Contact, HostDependency, Service, ServiceDependency, TimePeriod}
-use Rattle.object_reached.specs.declared.roles.Role.TheVariants.{Dependent}
-use Rattle.object_reached.specs.Reached.{SpeaksOf}
+use Rattle.object_reader.specs.declared.block.BlockKind.TheVariants.{Command, Contact, Service, TimePeriod}
 use Rattle.object_resolve.specs.Fault.{IsAmong, IsOfPlace}
 use Rattle.object_resolve.specs.First.{IsNowhere}
 use Rattle.object_resolve.specs.Limits.{AreFewDependencies, AreFewEscalations, AreFewOthers, AreWithin, IsOneOver, IsOver, PassesDependencies, PassesEscalations, PassesLanes, PassesOther, PassesRest}
@@ -40,7 +38,7 @@ use Rattle.object_resolve.specs.declared.fault.LoadFault.{LoadFault}
 use Rattle.object_resolve.specs.declared.fault.LoadFault.TheVariants as load
 use Rattle.object_resolve.proofs.CountLemmas.{one-passes, within-nowhere}
 use Rattle.object_resolve.proofs.NameLemmas.{either-first}
-use Rattle.object_resolve.proofs.PlaceLemmas.{at-within, line-of_first, names-long, object-within, only-first, Rises}
+use Rattle.object_resolve.proofs.PlaceLemmas.{line-of_first, names-long, object-within, only-first, Rises}
 use Rattle.object_services.specs.Laws.{OnePlacePasses, WithinPassesNowhere}
 use Rattle.object_services.specs.Limits as counted
 use Rattle.object_services.specs.Limits.{AreHostLists, AreWithinLimit, PassesLimit, PassesNowhere}
@@ -306,14 +304,6 @@ looped-first blocks hosts place keeps are first = (
   (λ k early said. first.first k early
       (subst (λ (lists : List (List ℕ)). dependencies.IsLoopedAt blocks lists k) (hosts-one blocks (objects_in blocks Service) said.1.0 hosts said.1.1 are) said.1.2)),
 )
-
--- a block that lies on a loop stands within
-pub looped-within : (blocks : List Block) (hosts : List (List ℕ)) (place : ℕ) → IsFirstLooped blocks hosts place → place < length blocks
-looped-within blocks hosts place first = by_kind first.looped.2.0.1
-  where
-    by_kind : SpeaksOf blocks hosts Dependent place first.looped.0 → place < length blocks
-    by_kind (inl of_host) = at-within (is_object HostDependency) blocks place of_host.0
-    by_kind (inr of_service) = at-within (is_object ServiceDependency) blocks place of_service.0
 
 pub looped-refused : (blocks : List Block) (place : ℕ) (found : LoadFault) → IsFirst (IsDependencyLooped blocks) (Some place) → IsOfPlace blocks place DependencyLoop found
     → IsAmong (IsFirstDependencyLooped blocks) found

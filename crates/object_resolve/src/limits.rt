@@ -256,11 +256,13 @@ fn counts_of<'a>(
     ensures fault { IfErr result (IsAmong (IsFirstOver templates.now)) }
 {
     match pairs_in(alloc, templates, tables, &hosts) {
-        Err(DependencyFault::NoMemory) => Err(LoadFault::NoMemory),
-        Err(DependencyFault::TooMany { place, line: _ }) => {
-            let rest = least(place, other);
-            Err(over_rest(alloc, templates, tables, &hosts, rest))
-        }
+        Err(fault) => match fault {
+            DependencyFault::NoMemory => Err(LoadFault::NoMemory),
+            DependencyFault::TooMany { place, line: _ } => {
+                let rest = least(place, other);
+                Err(over_rest(alloc, templates, tables, &hosts, rest))
+            }
+        },
         Ok(pairs) => match other {
             Some(rest) => Err(over_rest(alloc, templates, tables, &hosts, rest)),
             None => counts_with(alloc, templates, tables, hosts, pairs, lanes),
