@@ -1,7 +1,7 @@
 -- Chains of dependencies, and chains in the graph in which each step goes by way of a block.
-use Rattle.std.proofs.Common.{◌≡◌, ℕ, zero, suc, ◌+◌, ◌<◌, ◌≤◌, refl, sym, ap, subst, ◌∙◌, ◌⊎◌, inl, inr, ⊎_elim, arith}
+use Rattle.std.proofs.Common.{◌≡◌, ℕ, zero, suc, ◌+◌, ◌<◌, refl, sym, subst, ◌⊎◌, inl, inr, arith}
 use Rattle.std.specs.Prelude.{◌↔◌}
-use Rattle.graph.specs.Chains.{Chain, HasNoLoop, IsOnLoop, Reaches}
+use Rattle.graph.specs.Chains.{Chain, IsOnLoop, Reaches}
 
 pub Chain-join : (R : ℕ → ℕ → Type 0) (a b p q r : ℕ) → Chain R a p q → Chain R b q r → Chain R (a + b) p r
 Chain-join R zero b p q r first second = let sum : 0 + b ≡ b = omega arith in subst (λ n. Chain R n p r) (sym sum) (subst (λ x. Chain R b x r) (sym first) second)

@@ -1,6 +1,6 @@
 -- The edges of blocks: of one block, and of one block more.
-use Rattle.std.proofs.Common.{◌≡◌, ℕ, zero, suc, ◌+◌, ◌<◌, ◌≤◌, ◌^◌, Bool, true, false, cond, List, [], ◌∷◌, ◌++◌, length, map, get_or, Option, Some, None, is_some, refl, sym, ap, subst, ◌∙◌, ◌⊎◌, inl, inr, ⊎_elim, arith, eqb}
-use Rattle.std.specs.Prelude.{All, codes, Contains, slice_get, ◌↔◌}
+use Rattle.std.proofs.Common.{◌≡◌, ℕ, zero, suc, ◌+◌, ◌<◌, ◌≤◌, ◌^◌, true, false, cond, List, [], ◌∷◌, ◌++◌, length, map, get_or, Option, None, is_some, refl, sym, ap, subst, ◌∙◌, ◌⊎◌, inl, inr, ⊎_elim, arith, eqb}
+use Rattle.std.specs.Prelude.{All, codes, Contains, slice_get}
 use Rattle.std.specs.Option.{option_map_or}
 use Rattle.std.proofs.lemmas.Bool.{cases_lt, false≢true}
 use Rattle.std.proofs.lemmas.List.Elements.{All-from_get_or, Contains-append_cases, Contains-append_left, Contains-append_right, Contains-get_or}
@@ -19,7 +19,6 @@ use Rattle.object_reader.specs.declared.block.BlockKind.TheVariants.{Host, HostD
 use Rattle.object_readings.specs.Readings.{own_states}
 use Rattle.object_services.specs.Numbers.{pairs_of}
 use Rattle.object_values.specs.declared.options.CriteriaKind.TheVariants.{OfHosts, OfServices}
-use Rattle.std.specs.List.{flat_map}
 use Rattle.std.proofs.lemmas.List.Concat.{flat_map-cons}
 
 pub some-there : (n : ℕ) → false ≡ eqb n 0 → 0 < n

@@ -1,8 +1,8 @@
 -- The first block on a loop is the least node on one.
-use Rattle.std.proofs.Common.{◌≡◌, ℕ, ◌+◌, ◌<◌, List, length, refl, sym, ap, subst, ◌∙◌, ◌⊎◌, inl, inr}
+use Rattle.std.proofs.Common.{ℕ, ◌<◌, List, length}
 use Rattle.std.specs.Prelude.{Contains, ◌↔◌}
 use Rattle.graph.specs.declared.edges.Edge.{Edge}
-use Rattle.graph.specs.Chains.{HasNoLoop, IsOnLoop}
+use Rattle.graph.specs.Chains.{HasNoLoop}
 use Rattle.graph.specs.Edges.{Leads}
 use Rattle.graph_order.specs.Loops.{IsFirstOnLoop}
 use Rattle.object_dependencies.specs.Loops.{HasNoDependencyLoop, IsFirstLooped}

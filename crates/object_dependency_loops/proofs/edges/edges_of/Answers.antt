@@ -1,4 +1,4 @@
-use Rattle.std.proofs.Common.{◌≡◌, ◌<◌, ◌∙◌, List, ap, arith, length, refl, subst, ℕ}
+use Rattle.std.proofs.Common.{◌≡◌, ◌∙◌, List, ap, arith, length, refl, subst, ℕ}
 use Rattle.object_reader.specs.declared.block.Block.{Block}
 use Rattle.object_dependency_loops.specs.Links.{AreLinksBelow}
 use Rattle.object_dependency_loops.proofs.LinkLemmas.{more-below, none-below}
@@ -13,8 +13,8 @@ loop-place-init c = record {
 
 pub pairs_at-requires-clause-within : goal.pairs_at-requires-clause-within
 pairs_at-requires-clause-within c =
-    let long = ap (λ (blocks : List Block). length blocks) c.blocks.ensures in
-    omega (arith, long, c.len-place-end.ensures, c.loop-place-test.true, c.loop-place.auto.place-end)
+    let long = ap (λ (blocks : List Block). length blocks) c.blocks-place-end.ensures in
+    omega (arith, long, c.loop-place-test.true, c.loop-place.auto.place-end)
 
 pub pairs_at-requires-clause-hosts : goal.pairs_at-requires-clause-hosts
 pairs_at-requires-clause-hosts c = c.loop-place.invariant.same_hosts ∙ c.requires.hosts
@@ -24,8 +24,8 @@ pairs_at-requires-clause-groups c = c.loop-place.invariant.same_groups ∙ c.req
 
 pub push_block-requires-clause-within : goal.push_block-requires-clause-within
 push_block-requires-clause-within c =
-    let long = ap (λ (blocks : List Block). length blocks) c.blocks.ensures in
-    omega (arith, long, c.len-place-end.ensures, c.loop-place-test.true, c.loop-place.auto.place-end)
+    let long = ap (λ (blocks : List Block). length blocks) c.blocks-place-end.ensures in
+    omega (arith, long, c.loop-place-test.true, c.loop-place.auto.place-end)
 
 pub push_block-requires-clause-pairs : goal.push_block-requires-clause-pairs
 push_block-requires-clause-pairs c = c.in_ok-pairs.ensures.pairs
@@ -42,6 +42,6 @@ loop-place-preserved c = record {
 
 pub returns-clause-links : goal.returns-clause-links
 returns-clause-links c =
-    let long = ap (λ (blocks : List Block). length blocks) c.blocks.ensures in
-    let end : c.loop-place.place ≡ length c.args.blocks.now.blocks = omega (arith, long, c.len-place-end.ensures, c.loop-place-test.false, c.loop-place.auto.place-end) in
+    let long = ap (λ (blocks : List Block). length blocks) c.blocks-place-end.ensures in
+    let end : c.loop-place.place ≡ length c.args.blocks.now.blocks = omega (arith, long, c.loop-place-test.false, c.loop-place.auto.place-end) in
     subst (λ (n : ℕ). AreLinksBelow c.args.blocks.now n c.loop-place.edges.items) end c.loop-place.invariant.links

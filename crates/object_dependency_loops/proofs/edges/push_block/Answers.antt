@@ -1,4 +1,4 @@
-use Rattle.std.proofs.Common.{◌<◌, ◌^◌, ◌∙◌, List, ap, arith, eqb-true, inl, inr, length, sym}
+use Rattle.std.proofs.Common.{List, ap, arith, eqb-true, inl, inr, length, sym}
 use Rattle.object_reader.specs.declared.block.Block.{Block}
 use Rattle.object_dependency_loops.proofs.LinkLemmas.{adds-all, adds-none, few-dependents, few-masters, some-there}
 use Rattle.object_dependency_loops.proofs.edges.push_block.Goals as goal
@@ -16,19 +16,19 @@ push_dependents-requires-clause-place c = let low = c.requires.within in let few
 
 pub push_dependents-requires-clause-few : goal.push_dependents-requires-clause-few
 push_dependents-requires-clause-few c =
-    few-dependents c.args.blocks.now c.args.place c.args.pairs.now c.both.result.0.now c.both.result.1.now c.requires.pairs c.both.ensures c.len-first.result
-    c.spoken_are_objects.ensures (c.len-first.ensures ∙ ap (λ (blocks : List Block). length blocks) c.blocks.ensures) (some-there _ c.if-is_empty-2.ensures) c.requires.few
+    few-dependents c.args.blocks.now c.args.place c.args.pairs.now c.both.result.0.now c.both.result.1.now c.requires.pairs c.both.ensures (length c.blocks-first.result.now)
+    c.spoken_are_objects.ensures (ap (λ (blocks : List Block). length blocks) c.blocks-first.ensures) (some-there _ c.if-is_empty-2.ensures) c.requires.few
 
 pub push_masters-requires-clause-place : goal.push_masters-requires-clause-place
 push_masters-requires-clause-place c = let low = c.requires.within in let few = c.requires.few in omega (arith, low, few)
 
 pub push_masters-requires-clause-few : goal.push_masters-requires-clause-few
 push_masters-requires-clause-few c =
-    few-masters c.args.blocks.now c.args.place c.args.pairs.now c.both.result.0.now c.both.result.1.now c.requires.pairs c.both.ensures c.len-first.result
-    c.spoken_are_objects.ensures (c.len-first.ensures ∙ ap (λ (blocks : List Block). length blocks) c.blocks.ensures) (some-there _ c.if-is_empty.ensures) c.requires.few
+    few-masters c.args.blocks.now c.args.place c.args.pairs.now c.both.result.0.now c.both.result.1.now c.requires.pairs c.both.ensures (length c.blocks-first.result.now)
+    c.spoken_are_objects.ensures (ap (λ (blocks : List Block). length blocks) c.blocks-first.ensures) (some-there _ c.if-is_empty.ensures) c.requires.few
 
 pub returns : goal.returns
 returns c =
-    adds-all c.args.blocks.now c.args.place c.args.pairs.now c.both.result.0.now c.both.result.1.now c.requires.pairs c.both.ensures c.len-first.result
-    c.args.edges.now.items c.push_dependents.new.edges.items c.push_masters.new.edges.items (c.len-first.ensures ∙ ap (λ (blocks : List Block). length blocks) c.blocks.ensures)
+    adds-all c.args.blocks.now c.args.place c.args.pairs.now c.both.result.0.now c.both.result.1.now c.requires.pairs c.both.ensures (length c.blocks-first.result.now)
+    c.args.edges.now.items c.push_dependents.new.edges.items c.push_masters.new.edges.items (ap (λ (blocks : List Block). length blocks) c.blocks-first.ensures)
     (some-there _ c.if-is_empty.ensures) (some-there _ c.if-is_empty-2.ensures) c.in_ok-push_dependents.ensures c.in_ok-push_masters.ensures

@@ -1,4 +1,4 @@
-use Rattle.std.proofs.Common.{◌≡◌, ◌+◌, ◌<◌, ◌≤◌, ◌^◌, ◌∙◌, List, ap, arith, length, subst, sym, ℕ}
+use Rattle.std.proofs.Common.{◌≡◌, ◌+◌, ◌≤◌, ◌∙◌, List, ap, arith, length, subst, sym, ℕ}
 use Rattle.std.specs.Prelude.{Contains, ◌↔◌}
 use Rattle.graph.specs.declared.edges.Edge.{Edge}
 use Rattle.graph.specs.Edges.{Leads}
@@ -17,7 +17,7 @@ edges_of-requires-clause-few c =
     let hosts : c.len.result ≡ length (names_in c.args.blocks.now.blocks Host) =
     c.len.ensures ∙ ap (λ (names : List (List ℕ)). length names) c.names.ensures.names ∙ ap (λ (o : ObjectsOf). length (names_in o.blocks o.kind)) c.objects.ensures
     ∙ ap (λ (g : GroupsOf). length (names_in g.blocks (object_kind g.kind))) c.requires.hosts in
-    let blocks : c.len-2.result ≡ length c.args.blocks.now.blocks = c.len-2.ensures ∙ ap (λ (bs : List Block). length bs) c.blocks.ensures in
+    let blocks : length c.blocks-2.result.now ≡ length c.args.blocks.now.blocks = ap (λ (bs : List Block). length bs) c.blocks-2.ensures in
     omega (arith, hosts, blocks, c.service_count.ensures, c.saturating_add-objects.ensures, c.saturating_add-nodes.ensures, c.if-nodes.false)
 
 pub new-requires : goal.new-requires
@@ -25,7 +25,7 @@ new-requires c =
     let hosts : c.len.result ≡ length (names_in c.args.blocks.now.blocks Host) =
     c.len.ensures ∙ ap (λ (names : List (List ℕ)). length names) c.names.ensures.names ∙ ap (λ (o : ObjectsOf). length (names_in o.blocks o.kind)) c.objects.ensures
     ∙ ap (λ (g : GroupsOf). length (names_in g.blocks (object_kind g.kind))) c.requires.hosts in
-    let blocks : c.len-2.result ≡ length c.args.blocks.now.blocks = c.len-2.ensures ∙ ap (λ (bs : List Block). length bs) c.blocks.ensures in
+    let blocks : length c.blocks-2.result.now ≡ length c.args.blocks.now.blocks = ap (λ (bs : List Block). length bs) c.blocks-2.ensures in
     let few : length c.args.blocks.now.blocks + (length (names_in c.args.blocks.now.blocks Host) + length (pairs_of (names_in c.args.blocks.now.blocks Service) c.args.blocks.now.lists))
     ≤ c.saturating_add-nodes.result = omega (arith, hosts, blocks, c.service_count.ensures, c.saturating_add-objects.ensures, c.saturating_add-nodes.ensures, c.if-nodes.false) in
     links-within c.args.blocks.now c.saturating_add-nodes.result c.as_slice.result.now c.spoken_are_objects.ensures few
