@@ -189,8 +189,8 @@ pub dependencies-few : (blocks : List Block) (lists periods : List (List ℕ)) (
 dependencies-few blocks lists periods dependencies count (parts, are, is) given few =
     let many : length parts ≡ length blocks = AllZip-long (ArePairs blocks lists) (range_with_len 0 (length blocks)) parts are ∙ length-range_with_len 0 (length blocks) in
     let long : length dependencies ≡ sum_by length (take (length blocks) parts) =
-    ap (λ (ds : List Dependency). length ds) is ∙ 
-        flat-count (entries_at blocks periods parts) parts (λ n. length-map (slice_index_or parts n []) (entry_of (terms_at blocks periods n))) (length blocks) (omega (arith, many)) in
+    ap (λ (ds : List Dependency). length ds) is ∙
+    flat-count (entries_at blocks periods parts) parts (λ n. length-map (slice_index_or parts n []) (entry_of (terms_at blocks periods n))) (length blocks) (omega (arith, many)) in
     let whole : sum_by length (take (length blocks) parts) ≡ sum_by length parts = ap (sum_by length) (take_all (length blocks) parts (omega (arith, many))) in
     let sum = count-sum blocks lists (length blocks) count parts given are in
     omega (arith, long, whole, sum, few)

@@ -1,5 +1,5 @@
 -- The first block that passes a limit.
-use Rattle.std.proofs.Common.{◌≡◌, ℕ, ◌<◌, ◌≤◌, Bool, true, false, cond, List, [], ◌∷◌, length, get_or, Option, Some, None, Result, Ok, Err, IfErr, refl, sym, ap, subst, ◌∙◌, ◌⊎◌, inl, inr, ⊎_elim, arith}
+use Rattle.std.proofs.Common.{◌≡◌, ℕ, ◌<◌, ◌≤◌, Bool, true, false, cond, List, [], ◌∷◌, length, get_or, Option, Some, None, refl, sym, ap, subst, ◌∙◌, ◌⊎◌, inl, inr, ⊎_elim, arith}
 use Rattle.std.specs.Prelude.{Contains, slice_get, sum_by, IfNone, IfSome, ◌↔◌}
 use Rattle.std.specs.Option.{option_and_then}
 use Rattle.std.specs.Str.{bytes_eq}
@@ -310,23 +310,12 @@ pub looped-refused : (blocks : List Block) (place : ℕ) (found : LoadFault) →
 looped-refused blocks place found first of =
     subst (λ (f : LoadFault). IsAmong (IsFirstDependencyLooped blocks) f) (sym of.is) (refl, line-of_first (IsDependencyLooped blocks) blocks place of.block of.here first)
 
--- a refusal is either, the first of limits where no loop is left
-pub looped-of_both : (blocks : List Block) (found : LoadFault) → IsAmong (IsFirstDependencyLooped blocks) found → IsAmong (IsLoopedOrOver blocks) found
-looped-of_both blocks (load.Block line fault) said = inl said
-looped-of_both blocks load.NoMemory said = said
-looped-of_both blocks (load.Line line fault) said = absurd said
-looped-of_both blocks load.TooLarge said = absurd said
-
+-- where no loop is left, a refusal is the first of limits
 pub over-of_both : (blocks : List Block) (found : LoadFault) → IsNowhere (IsDependencyLooped blocks) → IsAmong (IsFirstOver blocks) found → IsAmong (IsLoopedOrOver blocks) found
 over-of_both blocks (load.Block line fault) none said = inr (none, said)
 over-of_both blocks load.NoMemory none said = said
 over-of_both blocks (load.Line line fault) none said = absurd said
 over-of_both blocks load.TooLarge none said = absurd said
-
-pub over-if_err : {X : Type 0} (blocks : List Block) (r : Result X LoadFault) → IsNowhere (IsDependencyLooped blocks) → IfErr r (IsAmong (IsFirstOver blocks))
-    → IfErr r (IsAmong (IsLoopedOrOver blocks))
-over-if_err blocks (Ok x) none said = tt
-over-if_err blocks (Err found) none said = over-of_both blocks found none said
 
 -- ---- all limits together
 

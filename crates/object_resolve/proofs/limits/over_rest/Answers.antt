@@ -1,5 +1,5 @@
 use Rattle.std.proofs.Common.{refl, sym, subst}
-use Rattle.std.specs.Prelude.{◌<◌, ℕ, List, length, None, Some}
+use Rattle.std.specs.Prelude.{◌<◌, List, length, None, Some}
 use Rattle.object_names.specs.First.{IsFirst}
 use Rattle.object_reader.specs.declared.block.Block.{Block}
 use Rattle.object_resolve.specs.Fault.{IsAmong, IsOfPlace}
@@ -29,13 +29,13 @@ of_place-requires c =
 
 pub returns-clause-fault : goal.returns-clause-fault
 returns-clause-fault c = elim c.match-escalated.branch [
-    in-Err w ↦ rw w.result-is
-        (subst (λ (bs : List Block). IsAmong (IsFirstOver bs) w.over_escalations.result) c.blocks-blocks.ensures.value w.over_escalations.ensures)
+  | in-Err w ↦ rw w.result-is
+      (subst (λ (bs : List Block). IsAmong (IsFirstOver bs) w.over_escalations.result) c.blocks-blocks.ensures.value w.over_escalations.ensures)
   | in-Ok w ↦ rw w.result-is
-        (over-refused c.args.templates.now c.args.rest w.of_place.result
-        (over-first c.args.templates.now None None (Some c.args.rest) c.args.rest c.requires.none
-        (no-escalations c.one_block_passes.ensures.within c.args.templates.now
-        (few-escalations c.args.templates.now c.args.hosts.now w.in-Ok.field-0 c.requires.hosts w.in-Ok.ensures.objects w.in-Ok.ensures.few))
-        c.requires.rest refl)
-        (subst (λ (bs : List Block). IsOfPlace bs c.args.rest TooMany w.of_place.result) c.blocks-blocks.ensures.value w.of_place.ensures))
-  ]
+      (over-refused c.args.templates.now c.args.rest w.of_place.result
+      (over-first c.args.templates.now None None (Some c.args.rest) c.args.rest c.requires.none
+      (no-escalations c.one_block_passes.ensures.within c.args.templates.now
+      (few-escalations c.args.templates.now c.args.hosts.now w.in-Ok.field-0 c.requires.hosts w.in-Ok.ensures.objects w.in-Ok.ensures.few))
+      c.requires.rest refl)
+      (subst (λ (bs : List Block). IsOfPlace bs c.args.rest TooMany w.of_place.result) c.blocks-blocks.ensures.value w.of_place.ensures))
+]
