@@ -228,7 +228,7 @@ fn services_have_what_the_rules_give(rt: HostRuntime) -> Result<(), Fail> {
 }
 
 /// Texts with a fault, and the first of them: pass by pass, and in a pass block by block.
-const FAULTS: [(&str, &str); 14] = [
+const FAULTS: [(&str, &str); 18] = [
     (
         "define host{\nname t\nuse t\nregister 0\n}\ndefine host{\nuse u\n}\n",
         "line 1: TemplateLoop",
@@ -257,14 +257,32 @@ const FAULTS: [(&str, &str); 14] = [
         "define timeperiod{\ntimeperiod_name p\n2024-01-01 09:00-10:00\n}\n",
         "line 1: DatedException",
     ),
-    // Dependencies come after the values of all blocks, and before names.
+    // Loops of dependencies come after the values of all blocks, after names and after loops of periods.
     (
         "define hostdependency{\nhost_name h\ndependent_host_name h\n}\ndefine host{\n}\n",
         "line 5: MissingDirective",
     ),
     (
-        "define host{\nhost_name h\ncontacts a\n}\ndefine hostdependency{\nhost_name h\ndependent_host_name h\n}\n",
-        "line 5: NotYet",
+        "define hostdependency{\nhost_name h\ndependent_host_name h\nnotification_failure_criteria d\n}\ndefine host{\nhost_name h\ncontacts a\n}\n",
+        "line 6: UnknownName",
+    ),
+    (
+        "define hostdependency{\nhost_name h\ndependent_host_name h\nnotification_failure_criteria d\n}\ndefine host{\nhost_name h\n}\ndefine timeperiod{\ntimeperiod_name a\nexclude a\n}\n",
+        "line 9: PeriodLoop",
+    ),
+    // Criteria that name no state are kept, and lie on a loop.
+    (
+        "define host{\nhost_name h\n}\ndefine hostdependency{\nhost_name h\ndependent_host_name h\nnotification_failure_criteria n\n}\n",
+        "line 4: DependencyLoop",
+    ),
+    // A block before a loop doesn't lie on it.
+    (
+        "define host{\nhost_name h\n}\ndefine host{\nhost_name i\n}\ndefine host{\nhost_name j\n}\ndefine hostdependency{\nhost_name i\ndependent_host_name h\nnotification_failure_criteria d\n}\ndefine hostdependency{\nhost_name j\ndependent_host_name i\nnotification_failure_criteria d\n}\ndefine hostdependency{\nhost_name i\ndependent_host_name j\nnotification_failure_criteria u\n}\n",
+        "line 15: DependencyLoop",
+    ),
+    (
+        "define host{\nhost_name h\n}\ndefine hostdependency{\nhost_name h\ndependent_hostgroup_name g\nnotification_failure_criteria d\n}\n",
+        "line 4: UnknownName",
     ),
     ("define hostescalation{\nregister 0\n}\n", ""),
     (
@@ -290,6 +308,73 @@ fn faults_come_in_their_order(rt: HostRuntime) -> Result<(), Fail> {
     for row in &FAULTS {
         let (text, wanted) = *row;
         gives(&rt, rt.alloc(), text, wanted)?;
+    }
+    Ok(())
+}
+
+/// Two hosts, a group of the second, a service on both, and a period.
+const DEPENDING: &str = "define host{
+host_name h
+}
+define host{
+host_name i
+}
+define hostgroup{
+hostgroup_name g
+members i
+}
+define service{
+service_description S
+host_name h,i
+}
+define timeperiod{
+timeperiod_name p
+}
+";
+
+/// What these are alone: the hosts, the services after them, and the period.
+const DEPENDING_SHOWN: &str = "h on [durfs] 30 0 -:
+i on [durfs] 30 0 -:
+0/S on [wucrfs] 30 0 -:
+1/S on [wucrfs] 30 0 -:
+p: /
+";
+
+/// Dependencies, and the entries of them: dependent, master, whether it asks for the master's too, states and period.
+const DEPENDENCIES: [(&str, &str); 5] = [
+    (
+        "define hostdependency{\nhost_name h\ndependent_host_name i\nnotification_failure_criteria d,u\ninherits_parent 1\n}\n",
+        "1>0+ [du] -\n",
+    ),
+    // Without criteria none is kept; with `n` one that no state fails.
+    (
+        "define hostdependency{\nhost_name h\ndependent_host_name i\n}\n",
+        "",
+    ),
+    (
+        "define hostdependency{\nhost_name h\ndependent_host_name i\nnotification_failure_criteria n\n}\n",
+        "1>0 [] -\n",
+    ),
+    // A host that depends on itself without criteria lies on no loop.
+    (
+        "define hostdependency{\nhost_name *\ndependent_host_name *\n}\n",
+        "",
+    ),
+    (
+        "define servicedependency{\nhost_name h\nservice_description S\ndependent_hostgroup_name g\ndependent_service_description *\nnotification_failure_criteria w,c\ndependency_period p\n}\n",
+        "3>2 [WC] 0\n",
+    ),
+];
+
+#[test]
+fn dependencies_are_of_each_dependent_and_master(rt: HostRuntime) -> Result<(), Fail> {
+    for row in &DEPENDENCIES {
+        let (text, wanted) = *row;
+        let mut whole = String::from_str(rt.alloc(), DEPENDING)?;
+        whole.push_str(text)?;
+        let mut all = String::from_str(rt.alloc(), DEPENDING_SHOWN)?;
+        all.push_str(wanted)?;
+        gives(&rt, rt.alloc(), whole.as_str(), all.as_str())?;
     }
     Ok(())
 }

@@ -2,10 +2,11 @@
 
 use crate::shown::text_or_mark;
 use due_model::config::{
-    Config, Contact, ContactId, Escalation, Lane, LaneId, Object, ObjectId, Period, PeriodId,
-    Range, Rights,
+    Config, Contact, ContactId, Dependency, Escalation, Lane, LaneId, Object, ObjectId, Period,
+    PeriodId, Range, Rights,
 };
 use due_model::options::OptionLetters;
+use due_model::state::StateSet;
 use std::alloc::AllocError;
 use std::fmt::Write;
 
@@ -229,10 +230,44 @@ pub(crate) fn show_escalations(out: &mut String, config: &Config) -> Result<(), 
     Ok(())
 }
 
-/// A whole configuration without escalations and dependencies, a line for each object, contact, lane and period.
+/// The letters of the states of a host, and those of a service in capitals, in brackets.
+fn show_states(out: &mut String, states: StateSet) -> Result<(), AllocError> {
+    let pending = letter(states.pending, "p");
+    let up = letter(states.up, "o");
+    let down = letter(states.down, "d");
+    let unreachable = letter(states.unreachable, "u");
+    write!(out, " [{pending}{up}{down}{unreachable}")?;
+    let fine = letter(states.fine, "O");
+    let warning = letter(states.warning, "W");
+    let unknown = letter(states.unknown, "U");
+    let critical = letter(states.critical, "C");
+    write!(out, "{fine}{warning}{unknown}{critical}]")
+}
+
+/// The dependencies, a line each: dependent, master, `+` where it asks for the master's too, states and period.
+fn show_dependencies(out: &mut String, dependencies: &[Dependency]) -> Result<(), AllocError> {
+    for entry in dependencies {
+        let dependent = entry.dependent.0;
+        let master = entry.master.0;
+        let inherits = letter(entry.inherits, "+");
+        write!(out, "{dependent}>{master}{inherits}")?;
+        show_states(out, entry.states)?;
+        match entry.period {
+            Some(period) => {
+                let number = period.0;
+                write!(out, " {number}\n")?;
+            }
+            None => out.push_str(" -\n")?,
+        }
+    }
+    Ok(())
+}
+
+/// A whole configuration without escalations, a line for each object, contact, lane, period and dependency.
 pub(crate) fn show_config(out: &mut String, config: &Config) -> Result<(), AllocError> {
     show_objects(out, config.objects.as_slice())?;
     show_contacts(out, config.contacts.as_slice())?;
     show_lanes(out, config.lanes.as_slice())?;
-    show_periods(out, config.periods.as_slice())
+    show_periods(out, config.periods.as_slice())?;
+    show_dependencies(out, config.dependencies.as_slice())
 }

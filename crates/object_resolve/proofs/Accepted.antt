@@ -1,5 +1,5 @@
 -- The configuration that blocks give is accepted.
-use Rattle.std.proofs.Common.{◌≡◌, ℕ, zero, suc, ◌<◌, ◌≤◌, Bool, true, false, not, cond, nat_eq, nat_le, List, [], ◌∷◌, ◌++◌, length, map, get_or, All, Option, Some, None, IfSome, refl, sym, ap, subst, ◌∙◌, ⊎_elim, arith}
+use Rattle.std.proofs.Common.{◌≡◌, ℕ, zero, suc, ◌+◌, ◌<◌, ◌≤◌, Bool, true, false, not, cond, nat_eq, nat_le, List, [], ◌∷◌, ◌++◌, length, map, get_or, All, Option, Some, None, IfSome, refl, sym, ap, subst, ◌∙◌, ⊎_elim, arith}
 use Rattle.std.specs.Prelude.{codes, Contains, slice_get, slice_index_or, unwrap_or}
 use Rattle.std.specs.List.{AllZip, list_all, range_with_len}
 use Rattle.std.specs.Char.{is_ascii_digit}
@@ -10,8 +10,8 @@ use Rattle.std.proofs.lemmas.List.{get_or-map, get_or_past, length-map}
 use Rattle.std.proofs.lemmas.List.Elements.{All-nil, All-cons, All-append, All-from_get_or, Contains-get_or}
 use Rattle.std.proofs.lemmas.Option.{none-some, slice_get_within}
 use Rattle.std.proofs.lemmas.Slice.Zip.{AllZip-long}
-use Rattle.due_model.specs.Accepted.{ContactFits, DependencyFits, DependsOn, EscalationFits, HasContacts, HasNoLoop, IsAccepted, IsHost, ObjectFits, RightsFit}
-use Rattle.due_model.specs.Limits.{max_escalations, max_number, max_objects}
+use Rattle.due_model.specs.Accepted.{ContactFits, EscalationFits, HasContacts, IsAccepted, IsHost, ObjectFits, RightsFit}
+use Rattle.due_model.specs.Limits.{max_dependencies, max_escalations, max_number, max_objects}
 use Rattle.due_model.specs.declared.config.Config.{Config}
 use Rattle.due_model.specs.declared.config.ContactId.{ContactId}
 use Rattle.due_model.specs.declared.config.Escalation.{Escalation}
@@ -26,6 +26,8 @@ use Rattle.object_contacts.specs.Contacts.{AreRightsOf, IsContactOf}
 use Rattle.object_contacts.specs.Lanes.{lane_of, NamesLane}
 use Rattle.object_contacts.specs.declared.rights.RightsKind.{RightsKind}
 use Rattle.object_contacts.specs.declared.rights.RightsKind.TheVariants.{OfHosts, OfServices}
+use Rattle.object_dependencies.specs.Laws as dependencies
+use Rattle.object_dependencies.specs.Limits.{GiveDependencies}
 use Rattle.object_escalations.specs.Entries as entries
 use Rattle.object_escalations.specs.Entries.{AreTold, ComesFrom, IsEscalationOf, origins_below}
 use Rattle.object_escalations.specs.Escalated.{GiveEscalations}
@@ -42,11 +44,14 @@ use Rattle.object_reader.specs.declared.block.BlockKind.TheVariants.{Command, Co
 use Rattle.object_readings.specs.Readings.{period_named, period_of}
 use Rattle.object_resolve.specs.Config.{command_at, IsConfigOf}
 use Rattle.object_resolve.specs.First.{IsNowhere}
-use Rattle.object_resolve.specs.Limits.{AreFewEscalations, AreWithin}
+use Rattle.object_resolve.specs.Limits.{AreFewDependencies, AreFewEscalations, AreWithin}
+use Rattle.object_resolve.specs.Resolve.{IsDependencyLooped}
+use Rattle.object_resolve.proofs.CountLemmas.{dependencies-few, pairs-count}
 use Rattle.object_resolve.proofs.PlaceLemmas.{names-long}
 use Rattle.object_services.specs.Hosts.{AreHosts}
 use Rattle.object_services.specs.Laws.{CountIsTheSum}
 use Rattle.object_services.specs.Limits.{AreWithinLimit}
+use Rattle.object_services.specs.Numbers.{pairs_of}
 use Rattle.object_resolve.proofs.LimitLemmas.{hosts-one}
 use Rattle.object_settings.specs.Settings.{block_origins, HasSettings, host_origins, IsGiven, IsObjectOf, Origin, service_origins}
 use Rattle.object_settings.proofs.ObjectLemmas.{object-count}
@@ -273,20 +278,27 @@ objects-few law blocks config of (count, given, few) =
     let long = object-count blocks of.hosts config.objects of.objects in
     omega (arith, sum, long, few)
 
+dependency-few : (blocks : List Block) (config : Config) → (of : IsConfigOf blocks config) → AreFewDependencies blocks → length config.dependencies ≤ max_dependencies
+dependency-few blocks config of (hosts, are, (count, given, few)) =
+    dependencies-few blocks of.hosts (names_in blocks TimePeriod) config.dependencies count of.dependencies
+    (subst (λ (lists : List (List ℕ)). GiveDependencies blocks lists (length blocks) count) (hosts-one blocks (objects_in blocks Service) hosts of.hosts are of.hosts_are) given) few
+
+-- ---- dependencies
+
+objects-long : (blocks : List Block) (config : Config) → (of : IsConfigOf blocks config)
+    → length config.objects ≡ length (names_in blocks Host) + length (pairs_of (names_in blocks Service) of.hosts)
+objects-long blocks config of =
+    let long = object-count blocks of.hosts config.objects of.objects in
+    let named = names-long blocks Host in
+    let paired = pairs-count (names_in blocks Service) of.hosts in
+    omega (arith, long, named, paired)
+
 -- ---- the whole
 
-no-loop : (Step : ℕ → ℕ → Type 0) → ((p q : ℕ) → Step p q → ⊥) → HasNoLoop Step
-no-loop Step never = λ steps p chain. never p chain.0 chain.1
-
-empty-all : {X : Type 0} (P : X → Type 0) (xs : List X) → xs ≡ [] → All P xs
-empty-all P xs is = subst (All P) (sym is) (All-nil P)
-
-empty-contains : {X : Type 0} (xs : List X) (x : X) → xs ≡ [] → Contains xs x → ⊥
-empty-contains xs x is here = let few : length xs ≡ 0 = ap length is in omega (arith, here.1, few)
-
-pub resolved-accepted : ListedAreObjects → CountIsTheSum → PeriodsFit → NoLoopIsLeft → escalations.OneForEach → escalations.CountIsTheSum → (blocks : List Block) (config : Config)
-    → IsConfigOf blocks config → AreWithin blocks → IsNowhere (IsLoopedAt blocks) → IsAccepted config
-resolved-accepted listed counted fit unlooped each each_counted blocks config of within none =
+pub resolved-accepted : ListedAreObjects → CountIsTheSum → PeriodsFit → NoLoopIsLeft → escalations.OneForEach → escalations.CountIsTheSum → dependencies.DependenciesFit
+    → dependencies.NoLoopIsLeft → (blocks : List Block) (config : Config)
+    → IsConfigOf blocks config → AreWithin blocks → IsNowhere (IsLoopedAt blocks) → IsNowhere (IsDependencyLooped blocks) → IsAccepted config
+resolved-accepted listed counted fit unlooped each each_counted depend uncycled blocks config of within none no_cycle =
     let contacts = contacts-long listed blocks config of in
     let contact_names = names-long blocks Contact in
     let periods = periods-long listed blocks config of in
@@ -301,12 +313,13 @@ resolved-accepted listed counted fit unlooped each each_counted blocks config of
       few_lanes = omega (arith, lanes, few_lanes);
       few_periods = omega (arith, periods, period_names, few_periods);
       few_escalations = escalations-few each each_counted blocks config of within.escalations;
-      few_dependencies = rw of.no_dependency (omega arith);
+      few_dependencies = dependency-few blocks config of within.dependencies;
       objects = objects-fit listed blocks config of;
       contacts = contacts-fit_all listed blocks config of;
       periods = fit blocks config of.periods;
       escalations = escalations-fit listed blocks config of;
-      dependencies = empty-all (DependencyFits config) config.dependencies of.no_dependency;
+      dependencies = depend blocks of.hosts (names_in blocks TimePeriod) config of.hosts_are (objects-long blocks config of) (periods-long listed blocks config of) of.dependencies;
       no_period_loop = unlooped blocks config of.periods none;
-      no_dependency_loop = no-loop (DependsOn config) (λ p q step. empty-contains config.dependencies step.0 of.no_dependency step.1);
+      no_dependency_loop = uncycled blocks of.hosts (names_in blocks TimePeriod) config of.dependencies
+          (λ place looped. no_cycle place (within.objects, (of.hosts, of.hosts_are, looped)));
     }

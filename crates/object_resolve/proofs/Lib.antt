@@ -4,4 +4,5 @@ pub mod LimitLemmas
 pub mod Accepted
 pub mod Refusals
 pub mod TextLemmas
+mod CountLemmas
 mod EntryLemmas

@@ -7,11 +7,18 @@ use Rattle.std.proofs.lemmas.Bool.{cases_lt}
 use Rattle.std.proofs.lemmas.List.Elements.{All-contains, Contains-get_or}
 use Rattle.std.proofs.lemmas.List.Kept.{AllPairs-from_increasing}
 use Rattle.std.proofs.lemmas.Option.{get_or_from_slice_get, none-some, slice_get-get_or, slice_get_within}
-use Rattle.due_model.specs.Limits.{max_contacts, max_escalations, max_lanes, max_periods}
+use Rattle.due_model.specs.Limits.{max_contacts, max_dependencies, max_escalations, max_lanes, max_periods}
 use Rattle.lemmas.proofs.Elements.{Contains-cases, Contains-here, Contains-later, Contains-none}
 use Rattle.lemmas.proofs.Lists.{AllPairs-head, AllPairs-tail}
 use Rattle.lemmas.proofs.Searches.{position-within}
 use Rattle.object_contacts.specs.Lanes.{AreLanes, IsLane, IsUsed}
+use Rattle.object_dependencies.specs.Limits as dependent
+use Rattle.object_dependencies.specs.Limits.{GiveDependencies}
+use Rattle.object_dependencies.specs.Loops.{HasNoDependencyLoop, IsFirstLooped}
+use Rattle.object_dependencies.specs.Loops as dependencies
+use Rattle.object_dependencies.specs.Pairs.{ArePairsBelow, Pair}
+use Rattle.object_dependencies.specs.declared.pairs.LimitFault.{LimitFault as DependencyFault}
+use Rattle.object_dependencies.specs.declared.pairs.LimitFault.TheVariants as paired
 use Rattle.object_escalations.specs.Escalated as escalated
 use Rattle.object_escalations.specs.Escalated.{AreEscalated, GiveEscalations}
 use Rattle.object_escalations.specs.Laws as escalations
@@ -24,10 +31,12 @@ use Rattle.object_reader.specs.declared.block.BlockKind.{BlockKind}
 use Rattle.object_reader.specs.declared.block.BlockKind.TheVariants.{Command, Contact, Service, TimePeriod}
 use Rattle.object_resolve.specs.Fault.{IsAmong, IsOfPlace}
 use Rattle.object_resolve.specs.First.{IsNowhere}
-use Rattle.object_resolve.specs.Limits.{AreFewEscalations, AreFewOthers, AreWithin, IsOneOver, IsOver, PassesEscalations, PassesLanes, PassesOther}
-use Rattle.object_resolve.specs.Resolve.{IsFirstOver}
-use Rattle.object_resolve.specs.declared.fault.BlockFault.TheVariants.{TooMany}
+use Rattle.object_resolve.specs.Limits.{AreFewDependencies, AreFewEscalations, AreFewOthers, AreWithin, IsOneOver, IsOver, PassesDependencies, PassesEscalations, PassesLanes, PassesOther, PassesRest}
+use Rattle.object_resolve.specs.Resolve.{IsDependencyLooped, IsFirstDependencyLooped, IsFirstOver, IsLoopedOrOver}
+use Rattle.object_resolve.specs.declared.fault.BlockFault.TheVariants.{DependencyLoop, TooMany}
 use Rattle.object_resolve.specs.declared.fault.LoadFault.{LoadFault}
+use Rattle.object_resolve.specs.declared.fault.LoadFault.TheVariants as load
+use Rattle.object_resolve.proofs.CountLemmas.{one-passes, within-nowhere}
 use Rattle.object_resolve.proofs.NameLemmas.{either-first}
 use Rattle.object_resolve.proofs.PlaceLemmas.{line-of_first, names-long, object-within, only-first, Rises}
 use Rattle.object_services.specs.Laws.{OnePlacePasses, WithinPassesNowhere}
@@ -209,12 +218,18 @@ pub few-escalations : (blocks : List Block) (hosts spoken : List (List ℕ)) →
     → sum_by length spoken ≤ max_escalations → AreFewEscalations blocks
 few-escalations blocks hosts spoken are speak few = (hosts, are, (sum_by length spoken, (spoken, speak, refl), few))
 
+few-dependencies : (blocks : List Block) (hosts : List (List ℕ)) (parts : List (List Pair)) → AreHostLists blocks (objects_in blocks Service) hosts
+    → ArePairsBelow blocks hosts (length blocks) parts → sum_by length parts ≤ max_dependencies → AreFewDependencies blocks
+few-dependencies blocks hosts parts are depend few = (hosts, are, (sum_by length parts, (parts, depend, refl), few))
+
 -- nothing is passed where all keep within
-pub all-within : (blocks : List Block) (hosts spoken : List (List ℕ)) → AreWithinLimit blocks → AreHostLists blocks (objects_in blocks Service) hosts
-    → AreEscalated blocks hosts (length blocks) spoken → sum_by length spoken ≤ max_escalations → AreFewOthers blocks → AreWithin blocks
-all-within blocks hosts spoken keeps are speak few others = record {
+pub all-within : (blocks : List Block) (hosts spoken : List (List ℕ)) (parts : List (List Pair)) → AreWithinLimit blocks → AreHostLists blocks (objects_in blocks Service) hosts
+    → AreEscalated blocks hosts (length blocks) spoken → sum_by length spoken ≤ max_escalations → ArePairsBelow blocks hosts (length blocks) parts → sum_by length parts ≤ max_dependencies
+    → AreFewOthers blocks → AreWithin blocks
+all-within blocks hosts spoken parts keeps are speak few depend low others = record {
   objects = keeps;
   escalations = few-escalations blocks hosts spoken are speak few;
+  dependencies = few-dependencies blocks hosts parts are depend low;
   others = others;
 }
 
@@ -233,6 +248,75 @@ escalations-first law blocks hosts place line fault keeps are is refused =
         (subst (λ (lists : List (List ℕ)). escalated.PassesLimit blocks lists k) (hosts-one blocks (objects_in blocks Service) others hosts others_are are) other) in
         omega (arith, early, same)
 
+-- ---- dependencies
+
+-- blocks that keep within their limit pass it nowhere
+few-depend : (blocks : List Block) → AreFewDependencies blocks → (place : ℕ) → PassesDependencies blocks place → ⊥
+few-depend blocks (hosts, are, (count, given, few)) place (keeps, (others, others_are, passes)) =
+    within-nowhere blocks others count place
+    (subst (λ (lists : List (List ℕ)). GiveDependencies blocks lists (length blocks) count) (hosts-one blocks (objects_in blocks Service) hosts others are others_are) given) few passes
+
+pub no-dependencies : (blocks : List Block) (hosts : List (List ℕ)) (parts : List (List Pair)) → AreHostLists blocks (objects_in blocks Service) hosts
+    → ArePairsBelow blocks hosts (length blocks) parts → sum_by length parts ≤ max_dependencies → IsFirst (PassesDependencies blocks) None
+no-dependencies blocks hosts parts are depend few = λ place passes. few-depend blocks (few-dependencies blocks hosts parts are depend few) place passes
+
+-- nor do those that give too many objects, as there none are counted
+pub unpaired : WithinPassesNowhere → (blocks : List Block) (place : ℕ) → PassesLimit blocks place → IsFirst (PassesDependencies blocks) None
+unpaired law blocks place passes = λ k said. law blocks said.0 place passes
+
+-- a refusal for too many dependencies is at the first place that passes their limit
+pub dependencies-first : (blocks : List Block) (hosts : List (List ℕ)) (place line : ℕ) (fault : DependencyFault) → AreWithinLimit blocks
+    → AreHostLists blocks (objects_in blocks Service) hosts → fault ≡ paired.TooMany place line → dependent.IsRefusal blocks hosts fault → IsFirst (PassesDependencies blocks) (Some place)
+dependencies-first blocks hosts place line fault keeps are is refused =
+    ((keeps, (hosts, are, passes)), (λ k early said. earlier k early said))
+  where
+    passes : dependent.PassesLimit blocks hosts place
+    passes = (subst (λ (f : DependencyFault). dependent.IsRefusal blocks hosts f) is refused).passes
+
+    earlier : (k : ℕ) → k < place → PassesDependencies blocks k → ⊥
+    earlier k early (within, (others, others_are, other)) =
+        let same : place ≡ k = one-passes blocks hosts place k passes
+        (subst (λ (lists : List (List ℕ)). dependent.PassesLimit blocks lists k) (hosts-one blocks (objects_in blocks Service) others hosts others_are are) other) in
+        omega (arith, early, same)
+
+-- the first with which there are too many dependencies or others
+pub rest-first : (blocks : List Block) (dependency other found : Option ℕ) → IsFirst (PassesDependencies blocks) dependency → IsFirst (PassesOther blocks) other
+    → found ≡ lower dependency other → IsFirst (PassesRest blocks) found
+rest-first blocks dependency other found dependencies others is =
+    subst (λ (f : Option ℕ). IsFirst (PassesRest blocks) f) (sym is) (either-first (PassesDependencies blocks) (PassesOther blocks) dependency other dependencies others)
+
+-- ---- loops of dependencies
+
+-- where there are too many objects, no loop is looked for
+pub unlooked : WithinPassesNowhere → (blocks : List Block) (place : ℕ) → PassesLimit blocks place → IsNowhere (IsDependencyLooped blocks)
+unlooked law blocks place passes = λ k said. law blocks said.0 place passes
+
+pub looped-none : (blocks : List Block) (hosts : List (List ℕ)) → AreHostLists blocks (objects_in blocks Service) hosts → HasNoDependencyLoop blocks hosts
+    → IsNowhere (IsDependencyLooped blocks)
+looped-none blocks hosts are none = λ place said.
+    none place (subst (λ (lists : List (List ℕ)). dependencies.IsLoopedAt blocks lists place)
+    (hosts-one blocks (objects_in blocks Service) said.1.0 hosts said.1.1 are) said.1.2)
+
+pub looped-first : (blocks : List Block) (hosts : List (List ℕ)) (place : ℕ) → AreWithinLimit blocks → AreHostLists blocks (objects_in blocks Service) hosts
+    → IsFirstLooped blocks hosts place → IsFirst (IsDependencyLooped blocks) (Some place)
+looped-first blocks hosts place keeps are first = (
+  (keeps, (hosts, are, first.looped)),
+  (λ k early said. first.first k early
+      (subst (λ (lists : List (List ℕ)). dependencies.IsLoopedAt blocks lists k) (hosts-one blocks (objects_in blocks Service) said.1.0 hosts said.1.1 are) said.1.2)),
+)
+
+pub looped-refused : (blocks : List Block) (place : ℕ) (found : LoadFault) → IsFirst (IsDependencyLooped blocks) (Some place) → IsOfPlace blocks place DependencyLoop found
+    → IsAmong (IsFirstDependencyLooped blocks) found
+looped-refused blocks place found first of =
+    subst (λ (f : LoadFault). IsAmong (IsFirstDependencyLooped blocks) f) (sym of.is) (refl, line-of_first (IsDependencyLooped blocks) blocks place of.block of.here first)
+
+-- where no loop is left, a refusal is the first of limits
+pub over-of_both : (blocks : List Block) (found : LoadFault) → IsNowhere (IsDependencyLooped blocks) → IsAmong (IsFirstOver blocks) found → IsAmong (IsLoopedOrOver blocks) found
+over-of_both blocks (load.Block line fault) none said = inr (none, said)
+over-of_both blocks load.NoMemory none said = said
+over-of_both blocks (load.Line line fault) none said = absurd said
+over-of_both blocks load.TooLarge none said = absurd said
+
 -- ---- all limits together
 
 -- blocks that keep within the limits pass none
@@ -242,11 +326,12 @@ over-nowhere law escalation_law blocks within = λ place over. by_kind place ove
     by_kind : (place : ℕ) → IsOver blocks place → ⊥
     by_kind place (inl passes) = law blocks within.objects place passes
     by_kind place (inr (inl passes)) = few-pass escalation_law blocks within.escalations place passes
-    by_kind place (inr (inr (inl contact))) =
+    by_kind place (inr (inr (inl depend))) = few-depend blocks within.dependencies place depend
+    by_kind place (inr (inr (inr (inl contact)))) =
         let low = slice_get_within (objects_in blocks Contact) max_contacts place contact in let few = within.others.contacts in omega (arith, low, few)
-    by_kind place (inr (inr (inr (inl period)))) =
+    by_kind place (inr (inr (inr (inr (inl period))))) =
         let low = slice_get_within (objects_in blocks TimePeriod) max_periods place period in let few = within.others.periods in omega (arith, low, few)
-    by_kind place (inr (inr (inr (inr (lanes, are, (command, here, there)))))) =
+    by_kind place (inr (inr (inr (inr (inr (lanes, are, (command, here, there))))))) =
         let low = slice_get_within lanes max_lanes command here in let few = within.others.lanes lanes are in omega (arith, low, few)
 
 -- the first with which there are too many objects
@@ -254,18 +339,19 @@ pub passes-first : OnePlacePasses → (blocks : List Block) (place : ℕ) → Pa
 passes-first law blocks place passes = (passes, (λ k early said. let same : place ≡ k = law blocks place k passes said in omega (arith, early, same)))
 
 pub over-first : (blocks : List Block) (one escalation other : Option ℕ) (place : ℕ) → IsFirst (PassesLimit blocks) one → IsFirst (PassesEscalations blocks) escalation
-    → IsFirst (PassesOther blocks) other → Some place ≡ lower one (lower escalation other) → IsFirst (IsOver blocks) (Some place)
+    → IsFirst (PassesRest blocks) other → Some place ≡ lower one (lower escalation other) → IsFirst (IsOver blocks) (Some place)
 over-first blocks one escalation other place passes escalations others is =
     subst (λ (f : Option ℕ). IsFirst (IsOver blocks) f) (sym is)
-    (either-first (PassesLimit blocks) (λ n. PassesEscalations blocks n ⊎ PassesOther blocks n) one (lower escalation other) passes
-    (either-first (PassesEscalations blocks) (PassesOther blocks) escalation other escalations others))
+    (either-first (PassesLimit blocks) (λ n. PassesEscalations blocks n ⊎ PassesRest blocks n) one (lower escalation other) passes
+    (either-first (PassesEscalations blocks) (PassesRest blocks) escalation other escalations others))
 
 pub over-within : (blocks : List Block) (place : ℕ) → IsOver blocks place → place < length blocks
 over-within blocks place (inl passes) = passes.within
 over-within blocks place (inr (inl (keeps, (hosts, are, passes)))) = passes.within
-over-within blocks place (inr (inr (inl contact))) = object-within blocks Contact max_contacts place contact
-over-within blocks place (inr (inr (inr (inl period)))) = object-within blocks TimePeriod max_periods place period
-over-within blocks place (inr (inr (inr (inr (lanes, are, (command, here, there)))))) = object-within blocks Command command place there
+over-within blocks place (inr (inr (inl (keeps, (hosts, are, passes))))) = passes.within
+over-within blocks place (inr (inr (inr (inl contact)))) = object-within blocks Contact max_contacts place contact
+over-within blocks place (inr (inr (inr (inr (inl period))))) = object-within blocks TimePeriod max_periods place period
+over-within blocks place (inr (inr (inr (inr (inr (lanes, are, (command, here, there))))))) = object-within blocks Command command place there
 
 pub over-refused : (blocks : List Block) (place : ℕ) (found : LoadFault) → IsFirst (IsOver blocks) (Some place) → IsOfPlace blocks place TooMany found
     → IsAmong (IsFirstOver blocks) found

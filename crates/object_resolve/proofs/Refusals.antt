@@ -10,7 +10,7 @@ use Rattle.object_resolve.specs.First.{IsFirstAt, IsNowhere}
 use Rattle.object_periods.specs.Loops.{IsLoopedAt}
 use Rattle.object_resolve.specs.Fault.{IsAmong}
 use Rattle.object_resolve.specs.Names.{IsFirstMisnamed, IsMisnamed}
-use Rattle.object_resolve.specs.Resolve.{IsFirstLater, IsFirstLooped, IsFirstOver, IsLater, IsMistemplated, IsMisvalued, IsRefusal, IsResolved, IsUnfit}
+use Rattle.object_resolve.specs.Resolve.{IsFirstLooped, IsLoopedOrOver, IsMistemplated, IsMisvalued, IsRefusal, IsResolved, IsUnfit}
 use Rattle.object_resolve.specs.declared.fault.LoadFault.{LoadFault}
 use Rattle.object_resolve.specs.declared.fault.LoadFault.TheVariants as load
 use Rattle.object_resolve.specs.declared.fault.BlockFault.{BlockFault}
@@ -41,10 +41,11 @@ pub resolved-unrefused : WithinPassesNowhere → escalations.WithinPassesNowhere
     → IsResolved blocks config → IsRefusal blocks line fault → ⊥
 resolved-unrefused law escalation_law blocks config line fault of (inl templated) = templated-none blocks line fault of.templates templated
 resolved-unrefused law escalation_law blocks config line fault of (inr (free, inl valued)) = valued-none blocks line fault of.values valued
-resolved-unrefused law escalation_law blocks config line fault of (inr (free, inr (good, inl later))) = first-nowhere _ blocks line of.none_later later.1
-resolved-unrefused law escalation_law blocks config line fault of (inr (free, inr (good, inr (none, inl misnamed)))) = first-nowhere _ blocks line of.fitting.named misnamed.first
-resolved-unrefused law escalation_law blocks config line fault of (inr (free, inr (good, inr (none, inr (named, inl looped))))) = first-nowhere _ blocks line of.fitting.no_loop looped.1
-resolved-unrefused law escalation_law blocks config line fault of (inr (free, inr (good, inr (none, inr (named, inr (unlooped, over)))))) =
+resolved-unrefused law escalation_law blocks config line fault of (inr (free, inr (good, inl misnamed))) = first-nowhere _ blocks line of.fitting.named misnamed.first
+resolved-unrefused law escalation_law blocks config line fault of (inr (free, inr (good, inr (named, inl looped)))) = first-nowhere _ blocks line of.fitting.no_loop looped.1
+resolved-unrefused law escalation_law blocks config line fault of (inr (free, inr (good, inr (named, inr (unlooped, inl looped))))) =
+    first-nowhere _ blocks line of.fitting.no_dependency_loop looped.1
+resolved-unrefused law escalation_law blocks config line fault of (inr (free, inr (good, inr (named, inr (unlooped, inr (none, over)))))) =
     first-nowhere _ blocks line (over-nowhere law escalation_law blocks of.fitting.within) over.1
 
 -- ---- the refusal of one pass is that of the blocks
@@ -65,14 +66,10 @@ values-refused blocks fault refused =
     of_both line f (inl templated) = inl templated
     of_both line f (inr (free, valued)) = inr (free, inl valued)
 
-pub later-refused : (blocks : List Block) → templates.AreFree blocks → values.AreFree blocks → (fault : LoadFault) → IsAmong (IsFirstLater blocks) fault
-    → IsAmong (IsRefusal blocks) fault
-later-refused blocks free good fault refused = among-weaker (IsFirstLater blocks) (IsRefusal blocks) (λ line f said. inr (free, inr (good, inl said))) fault refused
-
-pub all-refused : (blocks : List Block) → templates.AreFree blocks → values.AreFree blocks → IsNowhere (IsLater blocks) → (fault : LoadFault)
+pub all-refused : (blocks : List Block) → templates.AreFree blocks → values.AreFree blocks → (fault : LoadFault)
     → IsAmong (IsUnfit blocks) fault → IsAmong (IsRefusal blocks) fault
-all-refused blocks free good none fault refused =
-    among-weaker (IsUnfit blocks) (IsRefusal blocks) (λ line f said. inr (free, inr (good, inr (none, said)))) fault refused
+all-refused blocks free good fault refused =
+    among-weaker (IsUnfit blocks) (IsRefusal blocks) (λ line f said. inr (free, inr (good, said))) fault refused
 
 -- ---- that of names, of loops and of limits is that of all of them
 
@@ -82,14 +79,14 @@ names-unfit blocks fault refused = among-weaker (IsFirstMisnamed blocks) (IsUnfi
 pub loops-unfit : (blocks : List Block) → IsNowhere (IsMisnamed blocks) → (fault : LoadFault) → IsAmong (IsFirstLooped blocks) fault → IsAmong (IsUnfit blocks) fault
 loops-unfit blocks named fault refused = among-weaker (IsFirstLooped blocks) (IsUnfit blocks) (λ line f said. inr (named, inl said)) fault refused
 
-pub limits-unfit : (blocks : List Block) → IsNowhere (IsMisnamed blocks) → IsNowhere (IsLoopedAt blocks) → (fault : LoadFault) → IsAmong (IsFirstOver blocks) fault
+pub limits-unfit : (blocks : List Block) → IsNowhere (IsMisnamed blocks) → IsNowhere (IsLoopedAt blocks) → (fault : LoadFault) → IsAmong (IsLoopedOrOver blocks) fault
     → IsAmong (IsUnfit blocks) fault
 limits-unfit blocks named unlooped fault refused =
-    among-weaker (IsFirstOver blocks) (IsUnfit blocks) (λ line f said. inr (named, inr (unlooped, said))) fault refused
+    among-weaker (IsLoopedOrOver blocks) (IsUnfit blocks) (λ line f said. inr (named, inr (unlooped, said))) fault refused
 
 -- as the code has it
 pub all-refused_if : (blocks own : List Block) (r : Result Config LoadFault) → own ≡ blocks → templates.AreFree blocks → values.AreFree blocks
-    → IsNowhere (IsLater blocks) → IfErr r (IsAmong (IsUnfit own)) → IfErr r (IsAmong (IsRefusal blocks))
-all-refused_if blocks own (Ok config) same free good none said = tt
-all-refused_if blocks own (Err fault) same free good none said =
-    all-refused blocks free good none fault (subst (λ (bs : List Block). IsAmong (IsUnfit bs) fault) same said)
+    → IfErr r (IsAmong (IsUnfit own)) → IfErr r (IsAmong (IsRefusal blocks))
+all-refused_if blocks own (Ok config) same free good said = tt
+all-refused_if blocks own (Err fault) same free good said =
+    all-refused blocks free good fault (subst (λ (bs : List Block). IsAmong (IsUnfit bs) fault) same said)

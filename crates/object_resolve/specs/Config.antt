@@ -3,12 +3,13 @@ use Rattle.std.specs.Prelude.{◌≡◌, ℕ, List, [], length, map, slice_index
 use Rattle.due_model.specs.declared.config.Config.{Config}
 use Rattle.object_contacts.specs.Contacts.{AreContactsOf}
 use Rattle.object_contacts.specs.Lanes.{AreLanes, IsLane}
+use Rattle.object_dependencies.specs.Entries.{AreDependencies}
 use Rattle.object_escalations.specs.Entries.{AreEntriesOf}
 use Rattle.object_escalations.specs.Escalated.{AreEscalated}
 use Rattle.object_groups.specs.Objects.{names_in, objects_in}
 use Rattle.object_periods.specs.Periods.{ArePeriodsOf}
 use Rattle.object_reader.specs.declared.block.Block.{Block}
-use Rattle.object_reader.specs.declared.block.BlockKind.TheVariants.{Command, Service}
+use Rattle.object_reader.specs.declared.block.BlockKind.TheVariants.{Command, Service, TimePeriod}
 use Rattle.object_services.specs.Limits.{AreHostLists}
 use Rattle.object_settings.specs.Settings.{AreObjectsOf}
 
@@ -18,7 +19,8 @@ command_at blocks command = slice_index_or (names_in blocks Command) command []
 
 -- The configuration of blocks: hosts in file order and then services, block by block and within a block host by host;
 -- contacts and time periods in file order; the lanes, which are the commands that a registered contact names, in
--- the order of their blocks; and escalations, block by block and within a block object by object.
+-- the order of their blocks; escalations, block by block and within a block object by object; and dependencies, block
+-- by block and within a block dependent by dependent and master by master.
 pub record IsConfigOf (blocks : List Block) (config : Config) : Type 0 where
   -- the hosts of each service block
   pub hosts : List (List ℕ)
@@ -34,4 +36,4 @@ pub record IsConfigOf (blocks : List Block) (config : Config) : Type 0 where
   pub named : map (λ lane. lane.name) config.lanes ≡ map (command_at blocks) lanes
   pub periods : ArePeriodsOf blocks config.periods
   pub escalations : AreEntriesOf blocks config.objects spoken config.escalations
-  pub no_dependency : config.dependencies ≡ []
+  pub dependencies : AreDependencies blocks hosts (names_in blocks TimePeriod) config.dependencies

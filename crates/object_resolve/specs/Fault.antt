@@ -14,7 +14,7 @@ use Rattle.object_reader.specs.Fault as reader
 use Rattle.object_reader.specs.declared.fault.ReadFault.{ReadFault}
 use Rattle.object_reader.specs.declared.fault.ReadFault.TheVariants as read
 use Rattle.object_resolve.specs.declared.fault.BlockFault.{BlockFault}
-use Rattle.object_resolve.specs.declared.fault.BlockFault.TheVariants.{UnknownTemplate, TemplateLoop, Doubled, MissingDirective, BadNumber, BadOption, BadRange, Volatile, Exclusion, DatedException, UnknownName, PeriodLoop, TooMany, NotYet}
+use Rattle.object_resolve.specs.declared.fault.BlockFault.TheVariants.{UnknownTemplate, TemplateLoop, Doubled, MissingDirective, BadNumber, BadOption, BadRange, Volatile, Exclusion, DatedException, UnknownName, PeriodLoop, DependencyLoop, TooMany}
 use Rattle.object_resolve.specs.declared.fault.LoadFault.{LoadFault}
 use Rattle.object_resolve.specs.declared.fault.LoadFault.TheVariants as load
 
@@ -49,8 +49,8 @@ fault_name Exclusion = codes "Exclusion"
 fault_name DatedException = codes "DatedException"
 fault_name UnknownName = codes "UnknownName"
 fault_name PeriodLoop = codes "PeriodLoop"
+fault_name DependencyLoop = codes "DependencyLoop"
 fault_name TooMany = codes "TooMany"
-fault_name NotYet = codes "NotYet"
 
 -- a fault after its line
 abbrev pub at_line : ℕ → List ℕ → List ℕ

@@ -1,7 +1,10 @@
--- How many objects, escalations, contacts, lanes and time periods blocks may give.
+-- How many objects, escalations, dependencies, contacts, lanes and time periods blocks may give.
 use Rattle.std.specs.Prelude.{◌≡◌, ℕ, ◌+◌, ◌≤◌, ◌⊎◌, List, length, sum_by, Some, slice_get}
-use Rattle.due_model.specs.Limits.{max_contacts, max_escalations, max_lanes, max_objects, max_periods}
+use Rattle.due_model.specs.Limits.{max_contacts, max_dependencies, max_escalations, max_lanes, max_objects, max_periods}
 use Rattle.object_contacts.specs.Lanes.{AreLanes, IsLane}
+use Rattle.object_dependencies.specs.Limits as dependent
+use Rattle.object_dependencies.specs.Limits.{GiveDependencies}
+use Rattle.object_dependencies.specs.Pairs.{ArePairsBelow}
 use Rattle.object_escalations.specs.Escalated as escalated
 use Rattle.object_escalations.specs.Escalated.{AreEscalated, GiveEscalations}
 use Rattle.object_groups.specs.Objects.{objects_in}
@@ -23,10 +26,17 @@ AreFewEscalations blocks = (hosts : List (List ℕ))
     × AreHostLists blocks (objects_in blocks Service) hosts
     × ((count : ℕ) × GiveEscalations blocks hosts (length blocks) count × (count ≤ max_escalations))
 
--- The blocks keep within the limits: of hosts and services together, of escalations, and of the others.
+-- no more dependencies: one for each dependent and each master of a dependency block with criteria
+abbrev pub AreFewDependencies : List Block → Type 0
+AreFewDependencies blocks = (hosts : List (List ℕ))
+    × AreHostLists blocks (objects_in blocks Service) hosts
+    × ((count : ℕ) × GiveDependencies blocks hosts (length blocks) count × (count ≤ max_dependencies))
+
+-- The blocks keep within the limits: of hosts and services together, of escalations, of dependencies, and of the others.
 pub record AreWithin (blocks : List Block) : Type 0 where
   pub objects : AreWithinLimit blocks
   pub escalations : AreFewEscalations blocks
+  pub dependencies : AreFewDependencies blocks
   pub others : AreFewOthers blocks
 
 -- ---- where they pass a limit
@@ -57,17 +67,28 @@ PassesEscalations blocks place = AreWithinLimit blocks × ((hosts : List (List �
     × AreHostLists blocks (objects_in blocks Service) hosts
     × escalated.PassesLimit blocks hosts place)
 
+-- The same of dependencies.
+abbrev pub PassesDependencies : List Block → ℕ → Type 0
+PassesDependencies blocks place = AreWithinLimit blocks × ((hosts : List (List ℕ))
+    × AreHostLists blocks (objects_in blocks Service) hosts
+    × dependent.PassesLimit blocks hosts place)
+
+-- with the block at the place there are too many dependencies, contacts, time periods or lanes
+abbrev pub PassesRest : List Block → ℕ → Type 0
+PassesRest blocks place = PassesDependencies blocks place ⊎ PassesOther blocks place
+
 -- The blocks pass a limit at the place: with the block there they give more than fit.
 abbrev pub IsOver : List Block → ℕ → Type 0
 IsOver blocks place =
-    PassesLimit blocks place ⊎ (PassesEscalations blocks place ⊎ PassesOther blocks place)
+    PassesLimit blocks place ⊎ (PassesEscalations blocks place ⊎ PassesRest blocks place)
 
 -- ---- how they are found
 
 -- what is known of blocks that keep within the limits: the hosts of each service block, the objects of which each
--- escalation block speaks, and the lanes
+-- escalation block speaks, the dependents and masters of each dependency block, and the lanes
 pub record AreCounts (blocks : List Block) (counts : Counts) : Type 0 where
   pub hosts_are : AreHostLists blocks (objects_in blocks Service) counts.hosts
   pub few : length (objects_in blocks Host) + sum_by length counts.hosts ≤ max_objects
   pub spoken_are : AreEscalated blocks counts.hosts (length blocks) counts.escalated
+  pub pairs_are : ArePairsBelow blocks counts.hosts (length blocks) counts.pairs
   pub lanes_are : AreLanes (IsLane blocks) counts.lanes.items

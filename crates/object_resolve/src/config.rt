@@ -3,7 +3,10 @@
 ghost use Rattle.std.specs.Prelude.{◌≡◌, ◌≤◌, length, map, IfOk};
 ghost use Rattle.due_model.specs.Limits.{max_lanes};
 ghost use Rattle.object_contacts.specs.Contacts.{AreContactsOf};
+ghost use Rattle.object_dependencies.specs.Entries.{AreDependencies};
 ghost use Rattle.object_escalations.specs.Entries.{AreEntriesOf};
+ghost use Rattle.object_groups.specs.Objects.{names_in};
+ghost use Rattle.object_reader.specs.declared.block.BlockKind.TheVariants.{TimePeriod};
 ghost use Rattle.object_resolve.specs.Config.{IsConfigOf, command_at};
 ghost use Rattle.object_resolve.specs.Limits.{AreCounts, AreFewOthers, AreWithin};
 ghost use Rattle.object_resolve.specs.Tables.{AreTables};
@@ -11,11 +14,13 @@ ghost use Rattle.object_settings.specs.Settings.{AreObjectsOf};
 
 use crate::limits::Counts;
 use crate::tables::Tables;
-use due_model::config::{Config, Contact, Escalation, Lane};
+use due_model::config::{Config, Contact, Dependency, Escalation, Lane};
 use due_model::objects::Objects as ObjectTable;
 use due_model::sequence::Sequence;
 use object_contacts::contacts::contacts_of;
 use object_contacts::lanes::named_lanes;
+use object_dependencies::blocks::DependencyBlocks;
+use object_dependencies::entries::dependencies_of;
 use object_escalations::entries::escalations_of;
 use object_escalations::laws::escalated_are_objects;
 use object_groups::groups::{GroupKind, Groups};
@@ -106,6 +111,25 @@ fn escalations_in<'a>(
     )
 }
 
+/// The dependencies, where `counts` are those of the blocks.
+fn dependencies_in<'a>(
+    alloc: Global,
+    templates: &Templates<'a>,
+    tables: &Tables<'a>,
+    counts: &Counts,
+) -> Result<Vec<Dependency>, AllocError>
+    requires tables { AreTables templates.now tables.now }
+    requires few { AreFewOthers templates.now }
+    requires counts { AreCounts templates.now counts.now }
+    ensures { IfOk result (λ made. AreDependencies templates.now counts.now.hosts
+        (names_in templates.now TimePeriod) made.items) }
+{
+    let periods = tables.objects.objects(NamedKind::TimePeriod).names();
+    let services = &tables.services;
+    let blocks = DependencyBlocks::new(alloc, templates, services, &counts.hosts, &tables.hosts)?;
+    dependencies_of(alloc, templates, &blocks, &counts.pairs, periods)
+}
+
 /// The configuration of blocks that keep within the limits, where `tables` and `counts` are theirs. A refused
 /// growth leaves nothing.
 pub(crate) fn config_of<'a>(
@@ -129,12 +153,13 @@ pub(crate) fn config_of<'a>(
     )?;
     let objects = objects_in(alloc, templates, tables, counts)?;
     let escalations = escalations_in(alloc, templates, tables, counts, &objects)?;
+    let dependencies = dependencies_in(alloc, templates, tables, counts)?;
     Ok(Config {
         objects,
         contacts: Sequence::new(contacts),
         lanes: Sequence::new(named),
         periods: Sequence::new(periods),
         escalations: Sequence::new(escalations),
-        dependencies: Sequence::new(Vec::new(alloc)),
+        dependencies: Sequence::new(dependencies),
     })
 }

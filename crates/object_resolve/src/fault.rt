@@ -42,11 +42,12 @@ pub enum BlockFault {
     UnknownName,
     /// The block is a time period from which a chain of exclusions comes back to it.
     PeriodLoop,
-    /// With this block there are over 65,535 hosts and services, 4,096 contacts, 16 lanes or 4,096 time
-    /// periods.
+    /// By the block one object depends on another, from which a chain of notification dependencies leads back to the
+    /// first.
+    DependencyLoop,
+    /// With this block there are over 65,535 hosts and services, 1,000,000 escalations, 1,000,000 dependencies, 4,096
+    /// contacts, 16 lanes or 4,096 time periods.
     TooMany,
-    /// The block is a dependency, which isn't resolved yet.
-    NotYet,
 }
 
 impl BlockFault {
@@ -67,8 +68,8 @@ impl BlockFault {
             BlockFault::DatedException => "DatedException",
             BlockFault::UnknownName => "UnknownName",
             BlockFault::PeriodLoop => "PeriodLoop",
+            BlockFault::DependencyLoop => "DependencyLoop",
             BlockFault::TooMany => "TooMany",
-            BlockFault::NotYet => "NotYet",
         }
     }
 }

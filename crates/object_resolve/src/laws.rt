@@ -2,6 +2,7 @@
 
 ghost use Rattle.object_resolve.specs.Laws.{ResolvedIsAccepted, ResolvedIsUnrefused};
 
+use object_dependencies::laws::{dependencies_fit, no_loop_is_left as no_dependency_loop_is_left};
 use object_escalations::laws::{each_is_counted, one_block_passes, one_for_each};
 use object_listing::laws::listed_are_objects;
 use object_periods::laws::{no_loop_is_left, periods_fit};
@@ -17,6 +18,8 @@ pub fn accept_resolved()
     each_is_counted();
     periods_fit();
     no_loop_is_left();
+    dependencies_fit();
+    no_dependency_loop_is_left();
 }
 
 /// Blocks with a fault give no configuration.

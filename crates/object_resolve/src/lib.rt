@@ -3,6 +3,7 @@
 #![tactic(auto)]
 
 mod config;
+mod dependencies;
 mod fault;
 pub mod laws;
 mod limits;

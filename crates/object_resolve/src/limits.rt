@@ -1,26 +1,30 @@
-//! How many objects, escalations, contacts, lanes and time periods blocks may give.
+//! How many objects, escalations, dependencies, contacts, lanes and time periods blocks may give.
 
 ghost use Rattle.std.specs.Prelude.{◌≡◌, ◌+◌, ◌≤◌, length, slice_get, sum_by};
-ghost use Rattle.std.specs.Prelude.{IfErr, IfNone, IfOk, OnOk, Some};
+ghost use Rattle.std.specs.Prelude.{IfErr, IfNone, IfOk, None, OnOk, Some};
 ghost use Rattle.std.specs.Option.{option_and_then};
-ghost use Rattle.due_model.specs.Limits.{max_escalations, max_lanes, max_objects};
+ghost use Rattle.due_model.specs.Limits.{max_dependencies, max_escalations, max_lanes, max_objects};
 ghost use Rattle.object_contacts.specs.Lanes.{AreLanes, IsLane};
+ghost use Rattle.object_dependencies.specs.Pairs.{ArePairsBelow};
 ghost use Rattle.object_escalations.specs.Escalated as escalated;
 ghost use Rattle.object_escalations.specs.Escalated.{AreEscalated};
 ghost use Rattle.object_groups.specs.Objects.{objects_in};
 ghost use Rattle.object_reader.specs.declared.block.BlockKind.TheVariants.{Host, Service};
 ghost use Rattle.object_names.specs.First.{IsFirst, lower};
 ghost use Rattle.object_resolve.specs.Fault.{IsAmong};
-ghost use Rattle.object_resolve.specs.Limits.{AreCounts, AreFewOthers, AreWithin, PassesOther};
-ghost use Rattle.object_resolve.specs.Resolve.{IsFirstOver};
+ghost use Rattle.object_resolve.specs.First.{IsNowhere};
+ghost use Rattle.object_resolve.specs.Limits.{AreCounts, AreFewOthers, AreWithin, PassesOther, PassesRest};
+ghost use Rattle.object_resolve.specs.Resolve.{IsDependencyLooped, IsFirstOver, IsLoopedOrOver};
 ghost use Rattle.object_resolve.specs.Tables.{AreTables};
 ghost use Rattle.object_services.specs.Limits as counted;
 ghost use Rattle.object_services.specs.Limits.{AreHostLists};
 
+use crate::dependencies::{check_dependency_loops, pairs_in};
 use crate::fault::{BlockFault, LoadFault, of_place};
-use crate::tables::{Tables, place_of};
+use crate::tables::{Tables, groups_in, place_of};
 use due_model::limits::{MAX_CONTACTS, MAX_LANES, MAX_PERIODS};
 use object_contacts::lanes::lanes_of;
+use object_dependencies::pairs::{DependencyPairs, LimitFault as DependencyFault};
 use object_escalations::escalated::{EscalatedObjects, LimitFault as EscalationFault};
 use object_escalations::laws::one_block_passes;
 use object_groups::objects::Objects;
@@ -28,9 +32,7 @@ use object_inheritance::templates::Templates;
 use object_names::first::lower;
 use object_names::named::{NamedKind, NamedObjects};
 use object_reader::block::Block;
-use object_service_groups::groups::ServiceGroups;
 use object_services::laws::one_place_passes;
-use object_services::numbers::ServiceNumbers;
 use object_services::services::{LimitFault, ServiceHosts};
 use std::alloc::{AllocError, Global};
 
@@ -41,6 +43,8 @@ pub(crate) struct Counts {
     pub(crate) hosts: ServiceHosts,
     /// The objects of which each escalation block speaks.
     pub(crate) escalated: EscalatedObjects,
+    /// The dependents and masters of each dependency block.
+    pub(crate) pairs: DependencyPairs,
     /// The commands of the lanes, by their numbers.
     pub(crate) lanes: Vec<usize>,
 }
@@ -93,11 +97,11 @@ fn least(place: usize, other: Option<usize>) -> usize
 }
 
 /// The fault of the first block that passes a limit, where the objects pass theirs: `other` is the first place
-/// that passes another.
+/// that passes another. There no loop of dependencies is looked for.
 fn over(blocks: &[Block], fault: LimitFault, other: Option<usize>) -> LoadFault
     requires refused { counted.IsRefusal blocks.now fault }
     requires other { IsFirst (PassesOther blocks.now) other }
-    ensures { IsAmong (IsFirstOver blocks.now) result }
+    ensures { IsAmong (IsLoopedOrOver blocks.now) result }
 {
     one_place_passes();
     match fault {
@@ -106,23 +110,6 @@ fn over(blocks: &[Block], fault: LimitFault, other: Option<usize>) -> LoadFault
             of_place(blocks, least(place, other), BlockFault::TooMany)
         }
     }
-}
-
-/// The service groups, where `hosts` are the hosts of each service block.
-fn groups_in<'a>(
-    alloc: Global,
-    templates: &Templates<'a>,
-    tables: &Tables<'a>,
-    hosts: &ServiceHosts,
-) -> Result<ServiceGroups<'a>, AllocError>
-    requires tables { AreTables templates.now tables.now }
-    requires hosts { AreHostLists templates.now (objects_in templates.now Service) hosts.now }
-    ensures { IfOk result (λ made. made ≡ templates.now) }
-{
-    let services = &tables.services;
-    let numbers = ServiceNumbers::new(alloc, services.objects().names(), hosts)?;
-    let names = tables.objects.objects(NamedKind::Host).names();
-    ServiceGroups::new(alloc, templates, services, hosts, &numbers, names)
 }
 
 /// The objects of which each escalation block speaks, where `hosts` are the hosts of each service block.
@@ -153,26 +140,92 @@ fn escalated_in<'a>(
 }
 
 /// The fault of the first block that passes a limit, where the objects keep within theirs and the escalations pass
-/// theirs: `other` is the first place that passes another.
+/// theirs: `rest` is the first place that passes another.
 fn over_escalations(
     blocks: &[Block],
     hosts: &ServiceHosts,
     fault: EscalationFault,
-    other: Option<usize>,
+    rest: Option<usize>,
 ) -> LoadFault
     requires keeps { counted.AreWithinLimit blocks.now }
     requires none { counted.PassesNowhere blocks.now }
     requires hosts { AreHostLists blocks.now (objects_in blocks.now Service) hosts.now }
     requires refused { escalated.IsRefusal blocks.now hosts.now fault }
-    requires other { IsFirst (PassesOther blocks.now) other }
+    requires rest { IsFirst (PassesRest blocks.now) rest }
     ensures { IsAmong (IsFirstOver blocks.now) result }
 {
     one_block_passes();
     match fault {
         EscalationFault::NoMemory => LoadFault::NoMemory,
         EscalationFault::TooMany { place, line: _ } => {
-            of_place(blocks, least(place, other), BlockFault::TooMany)
+            of_place(blocks, least(place, rest), BlockFault::TooMany)
         }
+    }
+}
+
+/// The fault of the first block that passes a limit, where the objects keep within theirs and `rest` is the first place
+/// that passes another than that of the escalations.
+fn over_rest<'a>(
+    alloc: Global,
+    templates: &Templates<'a>,
+    tables: &mut Tables<'a>,
+    hosts: &ServiceHosts,
+    rest: usize,
+) -> LoadFault
+    requires tables { AreTables templates.now tables.old }
+    requires hosts { AreHostLists templates.now (objects_in templates.now Service) hosts.now }
+    requires keeps { counted.AreWithinLimit templates.now }
+    requires none { counted.PassesNowhere templates.now }
+    requires rest { IsFirst (PassesRest templates.now) (Some rest) }
+    ensures same { tables.new ≡ tables.old }
+    ensures fault { IsAmong (IsFirstOver templates.now) result }
+{
+    one_block_passes();
+    let escalated = escalated_in(alloc, templates, tables, hosts);
+    let blocks = templates.blocks();
+    match escalated {
+        Err(fault) => over_escalations(blocks, hosts, fault, Some(rest)),
+        Ok(_) => of_place(blocks, rest, BlockFault::TooMany),
+    }
+}
+
+/// What is known of the blocks, where the objects, the dependencies and the others keep within their limits: `hosts` are
+/// the hosts of each service block, `pairs` the dependents and masters of each block, and `lanes` the commands of
+/// the lanes. Refused is the first block with which there are too many escalations.
+fn counts_with<'a>(
+    alloc: Global,
+    templates: &Templates<'a>,
+    tables: &mut Tables<'a>,
+    hosts: ServiceHosts,
+    pairs: DependencyPairs,
+    lanes: Vec<usize>,
+) -> Result<Counts, LoadFault>
+    requires tables { AreTables templates.now tables.old }
+    requires hosts { AreHostLists templates.now (objects_in templates.now Service)
+        hosts }
+    requires few { length (objects_in templates.now Host) + sum_by length hosts
+        ≤ max_objects }
+    requires keeps { counted.AreWithinLimit templates.now }
+    requires none { counted.PassesNowhere templates.now }
+    requires lanes { AreLanes (IsLane templates.now) lanes.items }
+    requires pairs { ArePairsBelow templates.now hosts (length templates.now) pairs }
+    requires few_pairs { sum_by length pairs ≤ max_dependencies }
+    requires rest { IsFirst (PassesRest templates.now) None }
+    requires others { AreFewOthers templates.now }
+    ensures same { tables.new ≡ tables.old }
+    ensures within { OnOk result (AreWithin templates.now) }
+    ensures counts { IfOk result (AreCounts templates.now) }
+    ensures fault { IfErr result (IsAmong (IsFirstOver templates.now)) }
+{
+    let escalated = escalated_in(alloc, templates, tables, &hosts);
+    match escalated {
+        Err(fault) => Err(over_escalations(templates.blocks(), &hosts, fault, None)),
+        Ok(escalated) => Ok(Counts {
+            hosts,
+            escalated,
+            pairs,
+            lanes,
+        }),
     }
 }
 
@@ -202,24 +255,53 @@ fn counts_of<'a>(
     ensures counts { IfOk result (AreCounts templates.now) }
     ensures fault { IfErr result (IsAmong (IsFirstOver templates.now)) }
 {
-    one_block_passes();
-    let escalated = escalated_in(alloc, templates, tables, &hosts);
-    let blocks = templates.blocks();
-    match escalated {
-        Err(fault) => Err(over_escalations(blocks, &hosts, fault, other)),
-        Ok(escalated) => match other {
-            Some(place) => Err(of_place(blocks, place, BlockFault::TooMany)),
-            None => Ok(Counts {
-                hosts,
-                escalated,
-                lanes,
-            }),
+    match pairs_in(alloc, templates, tables, &hosts) {
+        Err(fault) => match fault {
+            DependencyFault::NoMemory => Err(LoadFault::NoMemory),
+            DependencyFault::TooMany { place, line: _ } => {
+                let rest = least(place, other);
+                Err(over_rest(alloc, templates, tables, &hosts, rest))
+            }
+        },
+        Ok(pairs) => match other {
+            Some(rest) => Err(over_rest(alloc, templates, tables, &hosts, rest)),
+            None => counts_with(alloc, templates, tables, hosts, pairs, lanes),
         },
     }
 }
 
-/// Finds the first block that passes a limit. Where none does, gives the hosts of each service block, the objects of
-/// which each escalation block speaks, and the lanes.
+/// Finds the first block that lies on a loop of dependencies, and then the first that passes a limit, where the objects
+/// keep within theirs; as `counts_of`.
+fn check_counted<'a>(
+    alloc: Global,
+    templates: &Templates<'a>,
+    tables: &mut Tables<'a>,
+    hosts: ServiceHosts,
+    lanes: Vec<usize>,
+    other: Option<usize>,
+) -> Result<Counts, LoadFault>
+    requires tables { AreTables templates.now tables.old }
+    requires hosts { AreHostLists templates.now (objects_in templates.now Service)
+        hosts }
+    requires few { length (objects_in templates.now Host) + sum_by length hosts
+        ≤ max_objects }
+    requires keeps { counted.AreWithinLimit templates.now }
+    requires none { counted.PassesNowhere templates.now }
+    requires lanes { AreLanes (IsLane templates.now) lanes.items }
+    requires other { IsFirst (PassesOther templates.now) other }
+    requires others { IfNone other (AreFewOthers templates.now) }
+    ensures same { tables.new ≡ tables.old }
+    ensures no_loop { OnOk result (IsNowhere (IsDependencyLooped templates.now)) }
+    ensures within { OnOk result (AreWithin templates.now) }
+    ensures counts { IfOk result (AreCounts templates.now) }
+    ensures fault { IfErr result (IsAmong (IsLoopedOrOver templates.now)) }
+{
+    check_dependency_loops(alloc, templates, tables, &hosts)?;
+    counts_of(alloc, templates, tables, hosts, lanes, other)
+}
+
+/// Finds the first block that lies on a loop of dependencies, and then the first that passes a limit. Where none does,
+/// gives what is known of the blocks.
 pub(crate) fn check_limits<'a>(
     alloc: Global,
     templates: &Templates<'a>,
@@ -227,15 +309,16 @@ pub(crate) fn check_limits<'a>(
 ) -> Result<Counts, LoadFault>
     requires { AreTables templates.now tables.old }
     ensures same { tables.new ≡ tables.old }
+    ensures no_loop { OnOk result (IsNowhere (IsDependencyLooped templates.now)) }
     ensures within { OnOk result (AreWithin templates.now) }
     ensures counts { IfOk result (AreCounts templates.now) }
-    ensures fault { IfErr result (IsAmong (IsFirstOver templates.now)) }
+    ensures fault { IfErr result (IsAmong (IsLoopedOrOver templates.now)) }
 {
     let lanes = lanes_in(alloc, templates, &tables.objects)?;
     let other = first_other(&tables.objects, lanes.as_slice());
     let hosts = ServiceHosts::new(alloc, &tables.services, &mut tables.hosts);
     match hosts {
         Err(fault) => Err(over(templates.blocks(), fault, other)),
-        Ok(hosts) => counts_of(alloc, templates, tables, hosts, lanes, other),
+        Ok(hosts) => check_counted(alloc, templates, tables, hosts, lanes, other),
     }
 }

@@ -9,8 +9,8 @@ ghost use Rattle.object_resolve.specs.Fault.{IsAmong};
 ghost use Rattle.object_resolve.specs.First.{IsNowhere};
 ghost use Rattle.object_resolve.specs.Limits.{AreCounts, AreWithin};
 ghost use Rattle.object_resolve.specs.Names.{IsMisnamed};
-ghost use Rattle.object_resolve.specs.Resolve.{IsFirstLater, IsFirstLooped, IsLater, IsMistemplated, IsMisvalued};
-ghost use Rattle.object_resolve.specs.Resolve.{IsFitting, IsRefusal, IsResolved, IsUnfit, is_later};
+ghost use Rattle.object_resolve.specs.Resolve.{IsDependencyLooped, IsFirstLooped, IsMistemplated, IsMisvalued};
+ghost use Rattle.object_resolve.specs.Resolve.{IsFitting, IsRefusal, IsResolved, IsUnfit};
 ghost use Rattle.object_resolve.specs.Tables.{AreTables};
 
 use crate::config::config_of;
@@ -20,11 +20,10 @@ use crate::names::check_names;
 use crate::tables::Tables;
 use due_model::config::Config;
 use object_faults::check::check;
-use object_groups::objects::is_object;
 use object_inheritance::templates::Templates;
 use object_names::named::NamedKind;
 use object_periods::loops::loop_of;
-use object_reader::block::{Block, BlockKind};
+use object_reader::block::Block;
 use std::alloc::Global;
 
 /// The templates of the blocks, where neither their templates nor their values have a fault.
@@ -38,26 +37,6 @@ fn check_values(alloc: Global, blocks: &[Block]) -> Result<Templates, LoadFault>
     let templates = Templates::new(alloc, blocks)?;
     check(alloc, &templates)?;
     Ok(templates)
-}
-
-/// Whether a block is a registered dependency.
-fn is_later(block: &Block) -> bool
-    ensures { result ≡ is_later block.now }
-{
-    is_object(BlockKind::HostDependency, block) || is_object(BlockKind::ServiceDependency, block)
-}
-
-/// Finds the first block that isn't resolved yet.
-fn check_later(blocks: &[Block]) -> Result<(), LoadFault>
-    ensures none { OnOk result (IsNowhere (IsLater blocks.now)) }
-    ensures fault { IfErr result (IsAmong (IsFirstLater blocks.now)) }
-{
-    for (place, block) in blocks.iter().enumerate() {
-        if is_later(block) {
-            return Err(of_place(blocks, place, BlockFault::NotYet));
-        }
-    }
-    Ok(())
 }
 
 /// Finds the first block that is a time period on a loop of exclusions.
@@ -77,8 +56,7 @@ fn check_loops<'a>(
     }
 }
 
-/// Finds the first block that doesn't fit the others. Where all do, gives the hosts of each service block, and the
-/// lanes.
+/// Finds the first block that doesn't fit the others. Where all do, gives what is known of them.
 fn check_all<'a>(
     alloc: Global,
     templates: &Templates<'a>,
@@ -88,6 +66,7 @@ fn check_all<'a>(
     ensures same { tables.new ≡ tables.old }
     ensures named { OnOk result (IsNowhere (IsMisnamed templates.now)) }
     ensures no_loop { OnOk result (IsNowhere (IsLoopedAt templates.now)) }
+    ensures no_dependency_loop { OnOk result (IsNowhere (IsDependencyLooped templates.now)) }
     ensures within { OnOk result (AreWithin templates.now) }
     ensures counts { IfOk result (AreCounts templates.now) }
     ensures fault { IfErr result (IsAmong (IsUnfit templates.now)) }
@@ -122,14 +101,13 @@ fn resolve_all(alloc: Global, templates: &Templates) -> Result<Config, LoadFault
 }
 
 /// The configuration that the blocks give, or the first fault: first of templates, then of the values of each
-/// block, then of types that aren't resolved yet, of names, of loops of exclusions and of limits; each over all
-/// blocks in file order. Out of memory says nothing of the blocks. The work grows with the bytes of the blocks, what
-/// they inherit, and the services, contacts and escalations that they give.
+/// block, then of names, of loops of exclusions, of loops of dependencies and of limits; each over all blocks in file
+/// order. Out of memory says nothing of the blocks. The work grows with the bytes of the blocks, what they inherit, and
+/// the services, contacts, escalations and dependencies that they give.
 pub(crate) fn resolve(alloc: Global, blocks: &[Block]) -> Result<Config, LoadFault>
     ensures resolved { IfOk result (IsResolved blocks.now) }
     ensures refusal { IfErr result (IsAmong (IsRefusal blocks.now)) }
 {
     let templates = check_values(alloc, blocks)?;
-    check_later(blocks)?;
     resolve_all(alloc, &templates)
 }

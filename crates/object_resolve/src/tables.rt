@@ -2,13 +2,18 @@
 
 ghost use Rattle.std.specs.Prelude.{◌≡◌, slice_get, IfOk};
 ghost use Rattle.object_groups.specs.Objects.{objects_in};
+ghost use Rattle.object_reader.specs.declared.block.BlockKind.TheVariants.{Service};
 ghost use Rattle.object_resolve.specs.Tables.{AreTables};
+ghost use Rattle.object_services.specs.Limits.{AreHostLists};
 
 use object_groups::groups::{GroupKind, Groups};
 use object_groups::objects::Objects;
 use object_inheritance::templates::Templates;
 use object_names::named::{NamedKind, NamedObjects};
+use object_service_groups::groups::ServiceGroups;
 use object_services::blocks::ServiceBlocks;
+use object_services::numbers::ServiceNumbers;
+use object_services::services::ServiceHosts;
 use std::alloc::{AllocError, Global};
 
 /// The objects of all types: those with a name of their own, and the service blocks with the groups of their hosts.
@@ -40,4 +45,21 @@ pub(crate) fn place_of(objects: &Objects, number: usize) -> Option<usize>
         Some(place) => Some(*place),
         None => None,
     }
+}
+
+/// The service groups, where `hosts` are the hosts of each service block.
+pub(crate) fn groups_in<'a>(
+    alloc: Global,
+    templates: &Templates<'a>,
+    tables: &Tables<'a>,
+    hosts: &ServiceHosts,
+) -> Result<ServiceGroups<'a>, AllocError>
+    requires tables { AreTables templates.now tables.now }
+    requires hosts { AreHostLists templates.now (objects_in templates.now Service) hosts.now }
+    ensures { IfOk result (λ made. made ≡ templates.now) }
+{
+    let services = &tables.services;
+    let numbers = ServiceNumbers::new(alloc, services.objects().names(), hosts)?;
+    let names = tables.objects.objects(NamedKind::Host).names();
+    ServiceGroups::new(alloc, templates, services, hosts, &numbers, names)
 }

@@ -16,10 +16,10 @@ use std::alloc::Global;
 
 /// The configuration that object text gives, or the fault of the text: that of its first line with a fault, and
 /// where it is blocks, that of the first block with a fault: first of templates, then of the values of each
-/// block, then of types that aren't resolved yet (dependencies), of names, of loops of exclusions and of
-/// limits, each over all blocks in file order. Blocks of `hostextinfo` and `serviceextinfo` say nothing of
+/// block, then of names, of loops of exclusions, of loops of dependencies and of limits, each over all blocks in file
+/// order. Blocks of `hostextinfo` and `serviceextinfo` say nothing of
 /// notifications and are passed over. The work and the memory grow with the bytes, what blocks inherit, and the
-/// services, contacts and escalations that they give.
+/// services, contacts, escalations and dependencies that they give.
 pub fn load(alloc: Global, text: &[u8]) -> Result<Config, LoadFault>
     // What it gives is the text's configuration, which is accepted.
     ensures config { IfOk result (λ config. IsTextOf config text.now) }

@@ -1,0 +1,84 @@
+//! The dependencies of blocks that have no fault by themselves: the first block that lies on a loop of them, and the
+//! dependents and masters of each block.
+
+ghost use Rattle.std.specs.Prelude.{◌≡◌, ◌≤◌, length, sum_by, IfErr, IfNone, IfOk, IfSome, OnOk};
+ghost use Rattle.due_model.specs.Limits.{max_dependencies};
+ghost use Rattle.object_dependencies.specs.Limits as dependent;
+ghost use Rattle.object_dependencies.specs.Loops.{HasNoDependencyLoop, IsFirstLooped};
+ghost use Rattle.object_dependencies.specs.Pairs.{ArePairsBelow};
+ghost use Rattle.object_groups.specs.Objects.{objects_in};
+ghost use Rattle.object_reader.specs.declared.block.BlockKind.TheVariants.{Service};
+ghost use Rattle.object_resolve.specs.Fault.{IsAmong};
+ghost use Rattle.object_resolve.specs.First.{IsNowhere};
+ghost use Rattle.object_resolve.specs.Resolve.{IsDependencyLooped, IsFirstDependencyLooped};
+ghost use Rattle.object_resolve.specs.Tables.{AreTables};
+ghost use Rattle.object_services.specs.Limits.{AreHostLists, AreWithinLimit};
+
+use crate::fault::{BlockFault, LoadFault, of_place};
+use crate::tables::{Tables, groups_in};
+use object_dependencies::blocks::DependencyBlocks;
+use object_dependencies::pairs::{DependencyPairs, LimitFault};
+use object_dependency_loops::loops::loop_of;
+use object_inheritance::templates::Templates;
+use object_services::services::ServiceHosts;
+use std::alloc::{AllocError, Global};
+
+/// The dependents and masters of each block, where `hosts` are the hosts of each service block.
+pub(crate) fn pairs_in<'a>(
+    alloc: Global,
+    templates: &Templates<'a>,
+    tables: &mut Tables<'a>,
+    hosts: &ServiceHosts,
+) -> Result<DependencyPairs, LimitFault>
+    requires tables { AreTables templates.now tables.old }
+    requires hosts { AreHostLists templates.now (objects_in templates.now Service) hosts.now }
+    ensures same { tables.new ≡ tables.old }
+    ensures pairs { IfOk result (ArePairsBelow templates.now hosts.now
+        (length templates.now)) }
+    ensures few { IfOk result (λ made. sum_by length made ≤ max_dependencies) }
+    ensures fault { IfErr result (dependent.IsRefusal templates.now hosts.now) }
+{
+    let mut groups = groups_in(alloc, templates, tables, hosts)?;
+    let blocks = DependencyBlocks::new(alloc, templates, &tables.services, hosts, &tables.hosts)?;
+    DependencyPairs::new(alloc, &blocks, &mut tables.hosts, &mut groups)
+}
+
+/// The place of the first block that lies on a loop of dependencies, where `hosts` are the hosts of each service block.
+fn looped_in<'a>(
+    alloc: Global,
+    templates: &Templates<'a>,
+    tables: &mut Tables<'a>,
+    hosts: &ServiceHosts,
+) -> Result<Option<usize>, AllocError>
+    requires tables { AreTables templates.now tables.old }
+    requires hosts { AreHostLists templates.now (objects_in templates.now Service) hosts.now }
+    ensures same { tables.new ≡ tables.old }
+    ensures first { IfOk result (λ found.
+        IfSome found (IsFirstLooped templates.now hosts.now)) }
+    ensures no_loop { IfOk result (λ found.
+        IfNone found (HasNoDependencyLoop templates.now hosts.now)) }
+{
+    let mut groups = groups_in(alloc, templates, tables, hosts)?;
+    let blocks = DependencyBlocks::new(alloc, templates, &tables.services, hosts, &tables.hosts)?;
+    loop_of(alloc, &blocks, &mut tables.hosts, &mut groups)
+}
+
+/// Finds the first block that lies on a loop of dependencies, where the objects keep within their limit.
+pub(crate) fn check_dependency_loops<'a>(
+    alloc: Global,
+    templates: &Templates<'a>,
+    tables: &mut Tables<'a>,
+    hosts: &ServiceHosts,
+) -> Result<(), LoadFault>
+    requires tables { AreTables templates.now tables.old }
+    requires hosts { AreHostLists templates.now (objects_in templates.now Service) hosts.now }
+    requires keeps { AreWithinLimit templates.now }
+    ensures same { tables.new ≡ tables.old }
+    ensures none { OnOk result (IsNowhere (IsDependencyLooped templates.now)) }
+    ensures fault { IfErr result (IsAmong (IsFirstDependencyLooped templates.now)) }
+{
+    match looped_in(alloc, templates, tables, hosts)? {
+        Some(place) => Err(of_place(templates.blocks(), place, BlockFault::DependencyLoop)),
+        None => Ok(()),
+    }
+}
