@@ -236,14 +236,14 @@ const FAULTS: [(&str, &str); 19] = [
         "define hostescalation{\nhost_name h\nescalation_period work\n}\n",
         "line 8: UnknownName",
     ),
-    // Values of all blocks come before names, and dependencies before both names and escalations.
+    // Values of all blocks come before names.
     (
         "define hostescalation{\nhost_name i\n}\ndefine hostescalation{\n}\n",
         "line 11: MissingDirective",
     ),
     (
         "define hostescalation{\nhost_name i\n}\ndefine hostdependency{\nhost_name h\ndependent_host_name h\n}\n",
-        "line 11: NotYet",
+        "line 8: UnknownName",
     ),
 ];
 
