@@ -1,8 +1,9 @@
 -- What a block gives itself comes first.
 use Rattle.std.proofs.Common.{◌≡◌, ℕ, zero, suc, Bool, true, false, cond, List, [], ◌∷◌, ◌++◌, length, map, get_or, Option, Some, None, refl, sym, ap, ◌∙◌}
 use Rattle.std.specs.Prelude.{codes, filter_map, is_some, slice_get}
-use Rattle.std.specs.Option.{option_to_list}
+use Rattle.std.specs.Option.{option_map, option_to_list}
 use Rattle.std.proofs.lemmas.Bool.{false≢true}
+use Rattle.std.proofs.lemmas.List.{append-nil}
 use Rattle.object_reader.specs.declared.block.Block.{Block}
 use Rattle.object_inheritance.specs.Inherited.{first_given, given, given_along, is_additive, joined_entries, list, list_given, own, own_entries, sources, stays, value}
 use Rattle.object_inheritance.specs.Templates.{template_graph, template_place, templates_of}
@@ -68,3 +69,26 @@ along-own all (block ∷ blocks) directive place same none =
 pub value-plain : (blocks : List Block) (directive : List ℕ) (place : ℕ) → own blocks (codes "use") place ≡ None → value blocks directive place ≡ own blocks directive place
 unfolding given
 value-plain blocks directive place none = along-own blocks blocks directive place refl (no-sources blocks directive place none)
+
+-- what is given along its line is what the block gives itself
+only-own : (all : List Block) (blocks : List Block) (directive : List ℕ) (place : ℕ) → all ≡ blocks → sources all directive place ≡ []
+    → given_along (length blocks) all directive place ≡ option_to_list (own all directive place)
+unfolding given_along
+only-own all [] directive place same none = sym (ap (λ (bs : List Block). option_to_list (own bs directive place)) same)
+only-own all (block ∷ blocks) directive place same none =
+    ap (λ places. option_to_list (own all directive place) ++ first_given (map (given_along (length blocks) all directive) places)) none
+    ∙ append-nil (option_to_list (own all directive place))
+
+list-alone : (found : Option (List ℕ)) → list_given (option_to_list found) ≡ option_map own_entries found
+list-alone None = refl
+list-alone (Some text) = by_kind (is_additive text)
+  where
+    by_kind : (b : Bool) → Some (cond b [] [] ++ own_entries text) ≡ Some (own_entries text)
+    by_kind true = refl
+    by_kind false = refl
+
+pub list-plain : (blocks : List Block) (directive : List ℕ) (place : ℕ) → own blocks (codes "use") place ≡ None
+    → list blocks directive place ≡ option_map own_entries (own blocks directive place)
+unfolding given
+list-plain blocks directive place none =
+    ap list_given (only-own blocks blocks directive place refl (no-sources blocks directive place none)) ∙ list-alone (own blocks directive place)

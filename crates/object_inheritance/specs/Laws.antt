@@ -1,5 +1,6 @@
 -- Laws of what blocks inherit, of any blocks.
 use Rattle.std.specs.Prelude.{◌≡◌, ℕ, false, List, None, Some, codes}
+use Rattle.std.specs.Option.{option_map}
 use Rattle.object_reader.specs.declared.block.Block.{Block}
 use Rattle.object_inheritance.specs.Inherited.{is_additive, list, own, own_entries, value}
 
@@ -19,3 +20,9 @@ abbrev pub PlainBlockHasItsOwn : Type 0
 PlainBlockHasItsOwn = (blocks : List Block) (directive : List ℕ) (place : ℕ)
     → own blocks (codes "use") place ≡ None
     → value blocks directive place ≡ own blocks directive place
+
+-- and of a list its own entries, whether it begins with + or not.
+abbrev pub PlainListHasItsOwn : Type 0
+PlainListHasItsOwn = (blocks : List Block) (directive : List ℕ) (place : ℕ)
+    → own blocks (codes "use") place ≡ None
+    → list blocks directive place ≡ option_map own_entries (own blocks directive place)

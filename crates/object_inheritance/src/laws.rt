@@ -1,7 +1,7 @@
 //! Laws of what blocks inherit (chapter "Object Inheritance"). Each is the contract of a function with nothing
 //! to do.
 
-ghost use Rattle.object_inheritance.specs.Laws.{OwnListWins, OwnValueWins, PlainBlockHasItsOwn};
+ghost use Rattle.object_inheritance.specs.Laws.{OwnListWins, OwnValueWins, PlainBlockHasItsOwn, PlainListHasItsOwn};
 
 /// A directive that a block gives itself never comes from a template; nor do the entries of a list, unless
 /// it begins with `+`.
@@ -12,5 +12,6 @@ pub fn own_value_wins()
 
 /// A block without `use` has what it gives itself.
 pub fn plain_block_has_its_own()
-    ensures { PlainBlockHasItsOwn }
+    ensures value { PlainBlockHasItsOwn }
+    ensures list { PlainListHasItsOwn }
 {}

@@ -1,3 +1,4 @@
 pub mod TableLemmas
 pub mod OwnLemmas
 pub mod ObjectLemmas
+pub mod LawLemmas

@@ -2,6 +2,7 @@
 //! "Object Inheritance" and "Notifications"): what a block gives, and what a service takes from its host.
 #![tactic(auto)]
 
+pub mod laws;
 pub mod objects;
 mod own;
 mod tables;

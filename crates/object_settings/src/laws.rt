@@ -1,0 +1,13 @@
+//! Laws of the objects of blocks. Each is the contract of a function with nothing to do.
+
+ghost use Rattle.object_settings.specs.Laws.{PlainHostHasItsOwn};
+
+use object_inheritance::laws::plain_block_has_its_own;
+
+/// Without templates and groups, a host block gives what it says itself: its own directives, or the defaults,
+/// and the contacts that it names.
+pub fn plain_host_has_its_own()
+    ensures { PlainHostHasItsOwn }
+{
+    plain_block_has_its_own();
+}
