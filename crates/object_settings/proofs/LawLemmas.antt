@@ -1,8 +1,9 @@
 -- Hosts of plain blocks.
-use Rattle.std.proofs.Common.{◌≡◌, ℕ, Bool, true, false, cond, List, [], Option, Some, None, refl, sym, ap, subst, ◌∙◌, ◌⊎◌, inl, inr}
+use Rattle.std.proofs.Common.{◌≡◌, ℕ, Bool, true, false, cond, List, [], ◌∷◌, Option, Some, None, refl, sym, ap, subst, ◌∙◌, ◌⊎◌, inl, inr}
 use Rattle.std.specs.Prelude.{codes, Contains, is_none, map, not, ◌==◌, ◌↔◌, unwrap_or}
 use Rattle.std.specs.Option.{option_and_then, option_map, option_map_or}
 use Rattle.std.proofs.lemmas.Bool.{false≢true}
+use Rattle.lemmas.proofs.Elements.{Contains-none}
 use Rattle.due_model.specs.Options.{every_letter}
 use Rattle.due_model.specs.declared.config.Object.{Object}
 use Rattle.due_model.specs.declared.config.PeriodId.{PeriodId}
@@ -37,8 +38,8 @@ map-twice ps (Some text) = refl
 -- an empty list names nothing
 lists-none : (names : List (List ℕ)) (entries : List (List ℕ)) (k : ℕ) → entries ≡ [] → Lists names entries k → ⊥
 lists-none names [] k empty (inl both) = false≢true both.0
-lists-none names [] k empty (inr here) = here
-lists-none names (e ∷ es) k empty listed = absurd (false≢true (sym (ap is_empty empty)))
+lists-none names [] k empty (inr here) = Contains-none k here
+lists-none names (e ∷ es) k empty listed = absurd (false≢true (ap is_empty empty))
   where
     is_empty : List (List ℕ) → Bool
     is_empty [] = true
@@ -51,7 +52,7 @@ listed-plain blocks place k plain none are = (from, λ named. inl (subst (λ es.
   where
     from : IsListed blocks contact_directives place k → Lists (names_in blocks Contact) plain k
     from (inl named) = subst (λ es. Lists (names_in blocks Contact) es k) are named
-    from (inr member) = absurd (lists-none (names_in blocks ContactGroup) (list_at blocks (codes "contact_groups") place) member.0 none member.1.0)
+    from (inr member) = absurd (lists-none (names_in blocks ContactGroup) (list_at blocks (codes "contact_groups") place) member.0 none member.1)
 
 pub plain-host : PlainBlockHasItsOwn → PlainListHasItsOwn → PlainHostHasItsOwn
 plain-host has lists_has blocks place object none alone of =
