@@ -58,13 +58,13 @@ pub plain-host : PlainBlockHasItsOwn → PlainListHasItsOwn → PlainHostHasItsO
 plain-host has lists_has blocks place object none alone of =
     let settings = of.settings in
     let number : (directive : List ℕ) → own_number blocks directive place ≡ option_and_then number_in (own blocks directive place)
-        = λ directive. ap (option_and_then number_in) (has blocks directive place none) in
+    = λ directive. ap (option_and_then number_in) (has blocks directive place none) in
     let no_group : list_at blocks (codes "contact_groups") place ≡ [] = ap (λ (found : Option (List (List ℕ))). unwrap_or found []) (lists_has blocks (codes "contact_groups") place none)
-        ∙ ap (λ (found : Option (List ℕ)). unwrap_or (option_map own_entries found) []) alone in
+    ∙ ap (λ (found : Option (List ℕ)). unwrap_or (option_map own_entries found) []) alone in
     let named : list_at blocks (codes "contacts") place ≡ unwrap_or (option_map own_entries (own blocks (codes "contacts") place)) []
-        = ap (λ (found : Option (List (List ℕ))). unwrap_or found []) (lists_has blocks (codes "contacts") place none) in
+    = ap (λ (found : Option (List (List ℕ))). unwrap_or found []) (lists_has blocks (codes "contacts") place none) in
     let contacts = subst (λ (p : ℕ). AreThose (IsListed blocks contact_directives p) (map (λ contact. contact.0) object.contacts))
-        (cond-same (gives_neither blocks contact_directives place) place) settings.contacts in
+    (cond-same (gives_neither blocks contact_directives place) place) settings.contacts in
     record {
       name = of.name ∙ ap (λ (found : Option (List ℕ)). unwrap_or found []) (has blocks (codes "host_name") place none);
       host = of.host;
