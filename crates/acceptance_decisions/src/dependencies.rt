@@ -1,95 +1,21 @@
-//! Notification dependencies: which of them fail. Values are those of worked examples, or reckoned by hand.
+//! Notification dependencies: which of them fail, in the worked examples, along a long chain and in a deep diamond.
 
-use acceptance_inputs::accepted::is_accepted;
-use acceptance_inputs::configs::object;
-use acceptance_inputs::periods::{Row, periods};
+ghost use Rattle.std.specs.Prelude.{◌≡◌, length};
+ghost use Rattle.due_model.specs.Accepted.{IsAccepted};
+
+use acceptance_inputs::dependencies::{
+    EXAMPLES, Example, Question, chain, config_of, depend_on, hosts_with,
+};
 use dependency::order::Order;
-use due_model::config::{Config, Dependency, ObjectId, PeriodId, Range};
-use due_model::limits::{LAST_MOMENT, MAX_OBJECTS};
-use due_model::objects::Objects;
-use due_model::sequence::Sequence;
-use due_model::state::{State, StateSet};
+use due_model::config::{Config, Dependency, ObjectId};
+use due_model::limits::LAST_MOMENT;
+use due_model::state::State;
 use due_model::zone::Zone;
 use std::alloc::{AllocError, Global};
 use std::process::Abort;
 use std::test::Fail;
 use time_period::compile::compile_all;
-
-/// Every moment; none; and Thursday from 09:00 to 10:00.
-const ROWS: [Row; 3] = [
-    Row {
-        first: 0,
-        last: 6,
-        ranges: &[Range {
-            start: 0,
-            end: 86_400,
-        }],
-        excludes: &[],
-    },
-    Row {
-        first: 0,
-        last: 6,
-        ranges: &[],
-        excludes: &[],
-    },
-    Row {
-        first: 4,
-        last: 4,
-        ranges: &[Range {
-            start: 32_400,
-            end: 36_000,
-        }],
-        excludes: &[],
-    },
-];
-
-/// The criteria `n`.
-const NONE: StateSet = StateSet {
-    pending: false,
-    up: false,
-    down: false,
-    unreachable: false,
-    fine: false,
-    warning: false,
-    unknown: false,
-    critical: false,
-};
-
-/// The criteria `c`.
-const ON_CRITICAL: StateSet = StateSet {
-    pending: false,
-    up: false,
-    down: false,
-    unreachable: false,
-    fine: false,
-    warning: false,
-    unknown: false,
-    critical: true,
-};
-
-/// The criteria `p`.
-const ON_PENDING: StateSet = StateSet {
-    pending: true,
-    up: false,
-    down: false,
-    unreachable: false,
-    fine: false,
-    warning: false,
-    unknown: false,
-    critical: false,
-};
-
-/// The criteria `a`.
-const ON_ALL: StateSet = StateSet {
-    pending: true,
-    up: true,
-    down: true,
-    unreachable: true,
-    fine: true,
-    warning: true,
-    unknown: true,
-    critical: true,
-};
+use time_period::compiled::Compiled;
 
 /// How many entries the long chain has.
 const LONG: u16 = 10_000;
@@ -97,260 +23,187 @@ const LONG: u16 = 10_000;
 /// How many layers the diamond has, of two objects each.
 const LAYERS: u16 = 2_000;
 
-/// Each object's state, a moment, an object, and whether a dependency of it fails then.
-type Case<'a> = (&'a [State], u64, u16, bool);
-
-/// An entry of object `dependent` on object `master`.
-fn entry(dependent: u16, master: u16, inherits: bool, states: StateSet) -> Dependency {
-    Dependency {
-        dependent: ObjectId(dependent),
-        master: ObjectId(master),
-        inherits,
-        states,
-        period: None,
-    }
-}
-
-/// The same, in a period of `ROWS`.
-fn entry_in(period: u16, dependent: u16, master: u16) -> Dependency {
-    Dependency {
-        dependent: ObjectId(dependent),
-        master: ObjectId(master),
-        inherits: true,
-        states: ON_CRITICAL,
-        period: Some(PeriodId(period)),
-    }
-}
-
-/// So many hosts, of one name.
-fn hosts(alloc: Global, count: u16) -> Result<Objects, AllocError> {
-    let mut hosts = Vec::new(alloc);
-    for _host in 0..count {
-        hosts.push(object(alloc, "host", None)?)?;
-    }
-    if hosts.len() > MAX_OBJECTS {
-        return Err(AllocError);
-    }
-    Objects::new(alloc, hosts)
-}
-
-/// So many hosts, the periods of `ROWS` and these entries.
-fn config_of(alloc: Global, count: u16, entries: Vec<Dependency>) -> Result<Config, AllocError> {
-    let mut config = periods(alloc, &ROWS)?;
-    config.objects = hosts(alloc, count)?;
-    config.dependencies = Sequence::new(entries);
-    Ok(config)
+/// Compares what an order answers to one question.
+fn answers(
+    rt: &impl Abort,
+    config: &Config,
+    periods: &[Compiled],
+    order: &mut Order,
+    question: Question<'_>,
+)
+    requires objects { length order.old.entries ≡ length config.now.objects }
+    requires periods { order.old.periods ≡ length periods.now }
+    ensures { order.new ≡ order.old }
+{
+    let (states, moment, object, wanted) = question;
+    assert_eq!(rt; states.len(), config.objects.len());
+    let t = moment.min(LAST_MOMENT);
+    let found = order.fails(states, periods, &Zone::Utc, t, ObjectId(object));
+    assert_eq!(rt; found, wanted, "object {object} at {moment}");
 }
 
 /// Compares what one order answers, one question after another.
-fn answers(
+fn answers_each(
+    rt: &impl Abort,
+    config: &Config,
+    periods: &[Compiled],
+    order: &mut Order,
+    questions: &[Question<'_>],
+)
+    requires objects { length order.old.entries ≡ length config.now.objects }
+    requires periods { order.old.periods ≡ length periods.now }
+{
+    for question in questions {
+        answers(rt, config, periods, order, *question);
+    }
+}
+
+/// Compares what the order of a configuration answers, with its periods as they are worked out.
+fn order_answers(
     rt: &impl Abort,
     alloc: Global,
     config: &Config,
-    cases: &[Case<'_>],
-) -> Result<(), Fail> {
-    assert!(rt; is_accepted(config));
-    let periods = compile_all(alloc, config)?;
+    periods: &[Compiled],
+    questions: &[Question<'_>],
+) -> Result<(), Fail>
+    requires accepted { IsAccepted config.now }
+    requires periods { length periods.now ≡ length config.now.periods }
+{
     let mut order = Order::new(alloc, config)?;
-    for case in cases {
-        let (states, moment, object, wanted) = *case;
-        assert_eq!(rt; states.len(), config.objects.len());
-        let t = moment.min(LAST_MOMENT);
-        let found = order.fails(states, periods.as_slice(), &Zone::Utc, t, ObjectId(object));
-        assert_eq!(rt; found, wanted, "object {object} at {moment}");
+    answers_each(rt, config, periods, &mut order, questions);
+    Ok(())
+}
+
+/// Compares what the order of a configuration answers.
+fn gives(
+    rt: &impl Abort,
+    alloc: Global,
+    config: &Config,
+    questions: &[Question<'_>],
+) -> Result<(), Fail>
+    requires { IsAccepted config.now }
+{
+    let periods = compile_all(alloc, config)?;
+    order_answers(rt, alloc, config, periods.as_slice(), questions)
+}
+
+/// Compares what the order of an example answers.
+fn try_example(rt: &impl Abort, alloc: Global, example: Example) -> Result<(), Fail> {
+    let config = config_of(alloc, example)?;
+    gives(rt, alloc, &config, example.questions)
+}
+
+#[test]
+fn worked_examples(rt: HostRuntime) -> Result<(), Fail> {
+    for example in &EXAMPLES {
+        try_example(&rt, rt.alloc(), *example)?;
     }
     Ok(())
 }
 
-/// The same for a few entries.
-fn given(
-    rt: &impl Abort,
-    alloc: Global,
-    count: u16,
-    entries: &[Dependency],
-    cases: &[Case<'_>],
-) -> Result<(), Fail> {
-    let config = config_of(alloc, count, Vec::from_slice(alloc, entries)?)?;
-    answers(rt, alloc, &config, cases)
-}
-
-/// A state for the first object and another one for so many others.
-fn one_and_others(
+/// A state for the first of so many objects, and another one for the others.
+fn states(
     alloc: Global,
     first: State,
-    others: u16,
-    state: State,
+    others: State,
+    count: u16,
 ) -> Result<Vec<State>, AllocError> {
-    let mut states = Vec::new(alloc);
-    states.push(first)?;
-    for _object in 0..others {
-        states.push(state)?;
+    let mut states = vec![in alloc; others; usize::from(count)]?;
+    if let Some(state) = states.first_mut() {
+        *state = first;
     }
     Ok(states)
 }
 
-/// Each object but the first depends on the one before it.
-fn long_chain(alloc: Global) -> Result<Vec<Dependency>, AllocError> {
-    let mut entries = Vec::new(alloc);
-    for master in 0..LONG {
-        entries.push(entry(master + 1, master, true, ON_CRITICAL))?;
-    }
-    Ok(entries)
+/// Many hosts, of which each depends by some chain on the first one, but another.
+#[derive(Clone, Copy)]
+struct Many {
+    hosts: u16,
+    /// A host near the first one that depends on it.
+    near: u16,
+    /// A host that doesn't.
+    free: u16,
 }
 
-/// Each object of a layer depends on both of the layer before it.
-fn diamond(alloc: Global) -> Result<Vec<Dependency>, AllocError> {
-    let mut entries = Vec::new(alloc);
-    for layer in 1..LAYERS {
-        let low = layer * 2;
-        entries.push(entry(low, low - 2, true, ON_CRITICAL))?;
-        entries.push(entry(low, low - 1, true, ON_CRITICAL))?;
-        entries.push(entry(low + 1, low - 2, true, ON_CRITICAL))?;
-        entries.push(entry(low + 1, low - 1, true, ON_CRITICAL))?;
-    }
-    Ok(entries)
+/// Asks of the last host, and of the two near the first one, where the first is CRITICAL and where it is fine.
+fn many_give(
+    rt: &impl Abort,
+    alloc: Global,
+    config: &Config,
+    many: Many,
+    critical: &[State],
+    fine: &[State],
+) -> Result<(), Fail>
+    requires { IsAccepted config.now }
+{
+    let last = many.hosts.saturating_sub(1);
+    let questions = [
+        (critical, 0, last, true),
+        (fine, 0, last, false),
+        (critical, 0, many.near, true),
+        (critical, 0, many.free, false),
+    ];
+    gives(rt, alloc, config, &questions)
 }
 
-/// Web, C, B and A, of which A depends on B and B on C; C and A are CRITICAL.
-const WORKED: [State; 4] = [
-    State::Pending,
-    State::Critical,
-    State::Pending,
-    State::Critical,
-];
-
-#[test]
-fn worked_chain_inherits(rt: HostRuntime) -> Result<(), Fail> {
-    let entries = [
-        entry(3, 2, true, ON_CRITICAL),
-        entry(2, 1, false, ON_CRITICAL),
-    ];
-    let cases = [
-        (WORKED.as_slice(), 1000, 3, true),
-        (WORKED.as_slice(), 1000, 2, true),
-        (WORKED.as_slice(), 1000, 1, false),
-        (WORKED.as_slice(), 1000, 0, false),
-        (WORKED.as_slice(), 1000, 4, false),
-    ];
-    given(&rt, rt.alloc(), 4, &entries, &cases)
+/// Makes the states, and asks of these.
+fn try_states(rt: &impl Abort, alloc: Global, config: &Config, many: Many) -> Result<(), Fail>
+    requires { IsAccepted config.now }
+{
+    let critical = states(alloc, State::Critical, State::Fine, many.hosts)?;
+    let fine = states(alloc, State::Fine, State::Pending, many.hosts)?;
+    many_give(
+        rt,
+        alloc,
+        config,
+        many,
+        critical.as_slice(),
+        fine.as_slice(),
+    )
 }
 
-#[test]
-fn worked_chain_does_not_inherit(rt: HostRuntime) -> Result<(), Fail> {
-    let entries = [
-        entry(3, 2, false, ON_CRITICAL),
-        entry(2, 1, true, ON_CRITICAL),
-    ];
-    let cases = [
-        (WORKED.as_slice(), 1000, 3, false),
-        (WORKED.as_slice(), 1000, 2, true),
-    ];
-    given(&rt, rt.alloc(), 4, &entries, &cases)
-}
-
-/// Where the master never had a state, an entry with the criteria `p` or `a` fails, and one with `n` does not.
-#[test]
-fn criteria(rt: HostRuntime) -> Result<(), Fail> {
-    let entries = [
-        entry(1, 0, false, NONE),
-        entry(2, 0, false, ON_PENDING),
-        entry(3, 0, false, ON_ALL),
-        entry(4, 0, false, ON_CRITICAL),
-        entry(5, 0, false, NONE),
-        entry(5, 0, false, ON_ALL),
-    ];
-    let never = [State::Pending; 6];
-    let up = [State::Up; 6];
-    let critical = [State::Critical; 6];
-    let cases = [
-        (never.as_slice(), 0, 1, false),
-        (never.as_slice(), 0, 2, true),
-        (never.as_slice(), 0, 3, true),
-        (never.as_slice(), 0, 4, false),
-        (never.as_slice(), 0, 5, true),
-        (up.as_slice(), 0, 2, false),
-        (up.as_slice(), 0, 3, true),
-        (critical.as_slice(), 0, 1, false),
-        (critical.as_slice(), 0, 4, true),
-    ];
-    given(&rt, rt.alloc(), 6, &entries, &cases)
-}
-
-/// From object 2 the second link is valid from 09:00 to 10:00, from object 4 the first one; object 5's never is.
-/// 1970-01-01 was a Thursday.
-#[test]
-fn links_in_their_periods(rt: HostRuntime) -> Result<(), Fail> {
-    let entries = [
-        entry_in(2, 1, 0),
-        entry_in(0, 2, 1),
-        entry_in(0, 3, 0),
-        entry_in(2, 4, 3),
-        entry_in(1, 5, 0),
-    ];
-    let mut states = [State::Fine; 6];
-    states[0] = State::Critical;
-    let cases = [
-        (states.as_slice(), 32_399, 2, false),
-        (states.as_slice(), 32_400, 2, true),
-        (states.as_slice(), 35_999, 2, true),
-        (states.as_slice(), 36_000, 2, false),
-        (states.as_slice(), 32_399, 4, false),
-        (states.as_slice(), 32_400, 4, true),
-        (states.as_slice(), 36_000, 4, false),
-        (states.as_slice(), 36_000, 3, true),
-        (states.as_slice(), 32_400, 5, false),
-        (states.as_slice(), 118_800, 4, false),
-        (states.as_slice(), LAST_MOMENT, 3, true),
-    ];
-    given(&rt, rt.alloc(), 6, &entries, &cases)
-}
-
-/// States change between the questions to one order.
-#[test]
-fn states_that_change(rt: HostRuntime) -> Result<(), Fail> {
-    let entries = [
-        entry(2, 1, true, ON_CRITICAL),
-        entry(1, 0, true, ON_CRITICAL),
-    ];
-    let fine = [State::Fine; 3];
-    let critical = [State::Critical, State::Fine, State::Warning];
-    let cases = [
-        (fine.as_slice(), 0, 2, false),
-        (critical.as_slice(), 0, 2, true),
-        (fine.as_slice(), 0, 2, false),
-        (fine.as_slice(), 0, 1, false),
-        (critical.as_slice(), 0, 1, true),
-        (critical.as_slice(), 0, 2, true),
-        (critical.as_slice(), 0, 0, false),
-    ];
-    given(&rt, rt.alloc(), 3, &entries, &cases)
+/// The same of these dependencies.
+fn try_many(
+    rt: &impl Abort,
+    alloc: Global,
+    many: Many,
+    dependencies: &[Dependency],
+) -> Result<(), Fail> {
+    let config = hosts_with(alloc, many.hosts, dependencies)?;
+    try_states(rt, alloc, &config, many)
 }
 
 #[test]
 fn chain_of_ten_thousand(rt: HostRuntime) -> Result<(), Fail> {
-    let config = config_of(rt.alloc(), LONG + 1, long_chain(rt.alloc())?)?;
-    let critical = one_and_others(rt.alloc(), State::Critical, LONG, State::Fine)?;
-    let fine = one_and_others(rt.alloc(), State::Fine, LONG, State::Warning)?;
-    let cases = [
-        (critical.as_slice(), 0, LONG, true),
-        (fine.as_slice(), 0, LONG, false),
-        (critical.as_slice(), 0, 1, true),
-        (critical.as_slice(), 0, 0, false),
-    ];
-    answers(&rt, rt.alloc(), &config, &cases)
+    let many = Many {
+        hosts: LONG + 1,
+        near: 1,
+        free: 0,
+    };
+    let dependencies = chain(rt.alloc(), LONG)?;
+    try_many(&rt, rt.alloc(), many, dependencies.as_slice())
+}
+
+/// Each object of a layer depends on both of the layer before it.
+fn diamond(alloc: Global) -> Result<Vec<Dependency>, AllocError> {
+    let mut made = Vec::new(alloc);
+    for layer in 1..LAYERS {
+        let low = layer * 2;
+        let masters = [low - 2, low - 1];
+        depend_on(&mut made, low, &masters)?;
+        depend_on(&mut made, low + 1, &masters)?;
+    }
+    Ok(made)
 }
 
 /// From the last layer two to the power of 2,000 chains lead to the first one.
 #[test]
 fn diamond_of_two_thousand_layers(rt: HostRuntime) -> Result<(), Fail> {
-    let config = config_of(rt.alloc(), LAYERS * 2, diamond(rt.alloc())?)?;
-    let critical = one_and_others(rt.alloc(), State::Critical, LAYERS * 2 - 1, State::Fine)?;
-    let fine = one_and_others(rt.alloc(), State::Fine, LAYERS * 2 - 1, State::Pending)?;
-    let cases = [
-        (critical.as_slice(), 0, LAYERS * 2 - 1, true),
-        (fine.as_slice(), 0, LAYERS * 2 - 1, false),
-        (critical.as_slice(), 0, 3, true),
-        (critical.as_slice(), 0, 1, false),
-    ];
-    answers(&rt, rt.alloc(), &config, &cases)
+    let many = Many {
+        hosts: LAYERS * 2,
+        near: 3,
+        free: 1,
+    };
+    let dependencies = diamond(rt.alloc())?;
+    try_many(&rt, rt.alloc(), many, dependencies.as_slice())
 }

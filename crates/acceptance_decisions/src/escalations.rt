@@ -1,19 +1,18 @@
 //! The interval after a notification, and who is notified. Values are those of the manual's escalations that overlap
 //! (chapter "Notification Escalations"), or reckoned by hand.
 
+ghost use Rattle.std.specs.Prelude.{◌<◌, length};
 ghost use Rattle.due_model.specs.Accepted.{IsAccepted};
 ghost use Rattle.time_period.specs.Days.{AreCompiled};
 ghost use Rattle.escalation.specs.ByObject.{IsByObject};
 
-use acceptance_inputs::accepted::is_accepted;
-use acceptance_inputs::periods::{Row, periods};
-use due_model::config::{
-    Config, Contact, ContactId, Escalation, Object, ObjectId, Period, PeriodId, Range, Rights,
-};
+use acceptance_inputs::options::RECOVERY_ALONE;
+use acceptance_inputs::periods::PeriodRow;
+use acceptance_inputs::rows::{ContactRow, EscalationRow, ObjectRow, Rows, accepted_config_of};
+use due_model::config::{Config, ContactId, ObjectId, PeriodId, Range};
 use due_model::limits::LAST_MOMENT;
-use due_model::objects::Objects;
-use due_model::options::{OptionLetter, OptionLetters};
-use due_model::sequence::Sequence;
+use due_model::options::OptionLetter;
+use due_model::proper::has_object;
 use due_model::zone::Zone;
 use escalation::by_object::ByObject;
 use escalation::contacts::{contacts, own_contacts};
@@ -38,120 +37,91 @@ const MAIL: ObjectId = ObjectId(1);
 
 const SHOP: ObjectId = ObjectId(2);
 
-/// Recoveries alone.
-const RECOVERY: OptionLetters = OptionLetters {
-    down: false,
-    unreachable: false,
-    warning: false,
-    unknown: false,
-    critical: false,
-    recovery: true,
-    flapping: false,
-    downtime: false,
-};
-
 /// Noon to one o'clock on Thursday.
-const LUNCH: Row = Row {
-    first: 4,
-    last: 4,
+const LUNCH: PeriodRow<'static> = PeriodRow {
     ranges: &[Range {
         start: 43_200,
         end: 46_800,
     }],
-    excludes: &[],
+    ..PeriodRow::THURSDAY
 };
 
-/// A host's own interval and contacts.
-#[derive(Clone, Copy)]
-struct Own {
-    interval: u32,
-    contacts: &'static [ContactId],
-}
-
-const OWN: [Own; 3] = [
-    Own {
+const OWN: [ObjectRow; 3] = [
+    ObjectRow {
         interval: 10,
         contacts: &[ANN],
+        ..ObjectRow::WEB
     },
-    Own {
+    ObjectRow {
         interval: 1,
         contacts: &[DAN, BOB, DAN],
+        ..ObjectRow::WEB
     },
-    Own {
+    ObjectRow {
         interval: 0,
         contacts: &[CAT],
+        ..ObjectRow::WEB
     },
 ];
 
-/// An escalation.
-#[derive(Clone, Copy)]
-struct Given {
-    object: ObjectId,
-    first: u32,
-    last: u32,
-    interval: u32,
-    period: Option<PeriodId>,
-    options: OptionLetters,
-    contacts: &'static [ContactId],
-}
-
 /// Those of web overlap as in the manual. They stand among those of mail and of shop, as a text may have them.
-const GIVEN: [Given; 6] = [
-    Given {
+const GIVEN: [EscalationRow; 6] = [
+    EscalationRow {
         object: MAIL,
-        first: 1,
-        last: 0,
         interval: 30,
         period: Some(PeriodId(0)),
-        options: OptionLetters::ALL,
         contacts: &[CAT, ANN, CAT],
+        ..EscalationRow::EACH
     },
-    Given {
+    EscalationRow {
         object: WEB,
         first: 3,
         last: 5,
         interval: 45,
-        period: None,
-        options: OptionLetters::ALL,
         contacts: &[BOB],
+        ..EscalationRow::EACH
     },
-    Given {
+    EscalationRow {
         object: MAIL,
         first: 2,
         last: 2,
         interval: 0,
-        period: None,
-        options: OptionLetters::ALL,
         contacts: &[ANN],
+        ..EscalationRow::EACH
     },
-    Given {
+    EscalationRow {
         object: SHOP,
         first: 5,
-        last: 0,
         interval: 1_000_000,
-        period: None,
-        options: OptionLetters::ALL,
-        contacts: &[],
+        ..EscalationRow::EACH
     },
-    Given {
+    EscalationRow {
         object: WEB,
         first: 4,
-        last: 0,
         interval: 60,
-        period: None,
-        options: OptionLetters::ALL,
         contacts: &[CAT],
+        ..EscalationRow::EACH
     },
-    Given {
+    EscalationRow {
         object: MAIL,
         first: 0,
         last: 3,
         interval: 5,
-        period: None,
-        options: RECOVERY,
+        options: RECOVERY_ALONE,
         contacts: &[DAN, ANN],
+        ..EscalationRow::EACH
     },
 ];
+
+/// Four contacts, and all of these.
+const ROWS: Rows<'static> = Rows {
+    lanes: 1,
+    contacts: &[ContactRow::FREE; 4],
+    objects: &OWN,
+    periods: &[LUNCH],
+    escalations: &GIVEN,
+    dependencies: &[],
+};
 
 /// A host, the number, letter and moment of a notification, the seconds until the next one, and who is notified.
 type Case = (ObjectId, u64, OptionLetter, u64, u64, &'static [ContactId]);
@@ -189,91 +159,17 @@ const MIXED: [Case; 11] = [
     (SHOP, 5, DOWN, 0, 60_000_000, &[]),
 ];
 
-/// The hosts.
-fn hosts(alloc: Global) -> Result<Objects, AllocError> {
-    let mut made = Vec::new(alloc);
-    for own in OWN.as_slice() {
-        made.push(host(alloc, *own)?)?;
-    }
-    if made.len() > 3 {
-        return Err(AllocError);
-    }
-    Objects::new(alloc, made)
-}
-
-/// A host with these settings.
-fn host(alloc: Global, own: Own) -> Result<Object, AllocError> {
-    Ok(Object {
-        name: Sequence::new(Vec::new(alloc)),
-        host: None,
-        enabled: true,
-        options: OptionLetters::ALL,
-        period: None,
-        interval: own.interval,
-        delay: 0,
-        contacts: Sequence::new(Vec::from_slice(alloc, own.contacts)?),
-    })
-}
-
-/// Rights that restrict nothing, on no lane.
-fn rights(alloc: Global) -> Rights {
-    Rights {
-        enabled: true,
-        options: OptionLetters::ALL,
-        period: None,
-        lanes: Sequence::new(Vec::new(alloc)),
-    }
-}
-
-/// Four contacts.
-fn people(alloc: Global) -> Result<Sequence<Contact>, AllocError> {
-    let mut made = Vec::new(alloc);
-    for _contact in 0..4u8 {
-        made.push(Contact {
-            name: Sequence::new(Vec::new(alloc)),
-            hosts: rights(alloc),
-            services: rights(alloc),
-        })?;
-    }
-    Ok(Sequence::new(made))
-}
-
-/// The escalations.
-fn escalations(alloc: Global) -> Result<Sequence<Escalation>, AllocError> {
-    let mut made = Vec::new(alloc);
-    for given in GIVEN.as_slice() {
-        made.push(Escalation {
-            object: given.object,
-            first: given.first,
-            last: given.last,
-            interval: given.interval,
-            period: given.period,
-            options: given.options,
-            contacts: Sequence::new(Vec::from_slice(alloc, given.contacts)?),
-        })?;
-    }
-    Ok(Sequence::new(made))
-}
-
-/// One period.
-fn lunch(alloc: Global) -> Result<Sequence<Period>, AllocError> {
-    let Config { periods, .. } = periods(alloc, &[LUNCH])?;
-    Ok(periods)
-}
-
-/// All of them.
-fn config(alloc: Global) -> Result<Config, AllocError> {
-    Ok(Config {
-        objects: hosts(alloc)?,
-        contacts: people(alloc)?,
-        lanes: Sequence::new(Vec::new(alloc)),
-        periods: lunch(alloc)?,
-        escalations: escalations(alloc)?,
-        dependencies: Sequence::new(Vec::new(alloc)),
-    })
-}
-
 /// Compares the interval and the contacts of one notification.
+fn are(rt: &impl Abort, case: Case, seconds: u64, told: &[ContactId]) {
+    let (object, number, _, _, wanted, wanted_contacts) = case;
+    assert_eq!(rt;
+        (seconds, told),
+        (wanted, wanted_contacts),
+        "{object:?}, number {number}"
+    );
+}
+
+/// Compares the interval and the contacts of one notification with what is found.
 fn is_as_told(
     rt: &impl Abort,
     alloc: Global,
@@ -286,47 +182,61 @@ fn is_as_told(
     requires grouped { IsByObject config.now by_object.now }
     requires compiled { AreCompiled config.now all.now }
 {
-    let (object, number, letter, moment, wanted, wanted_contacts) = case;
+    let (object, number, letter, moment, ..) = case;
+    assert!(rt; has_object(config, object));
     let t = moment.min(LAST_MOMENT);
-    if usize::from(object.0) >= config.objects.len() {
-        panic!(rt; "no host {object:?}");
-    }
     let zone = Zone::Utc;
     let seconds = matching_interval(config, by_object, object, number, letter, t, all, &zone);
     let mut told = Vec::new(alloc);
     contacts(
         alloc, config, by_object, object, number, letter, t, all, &zone, &mut told,
     )?;
-    assert_eq!(rt;
-        (seconds, told.as_slice()),
-        (wanted, wanted_contacts),
-        "{object:?}, number {number}"
-    );
+    are(rt, case, seconds, told.as_slice());
     Ok(())
 }
 
 /// Compares those of several.
-fn are_as_told(rt: &impl Abort, alloc: Global, cases: &[Case]) -> Result<(), Fail> {
-    let config = config(alloc)?;
-    if !is_accepted(&config) {
-        panic!(rt; "not accepted");
-    }
-    let by_object = ByObject::new(alloc, &config)?;
-    let all = compile_all(alloc, &config)?;
+fn are_as_told(
+    rt: &impl Abort,
+    alloc: Global,
+    config: &Config,
+    by_object: &ByObject,
+    all: &[Compiled],
+    cases: &[Case],
+) -> Result<(), Fail>
+    requires accepted { IsAccepted config.now }
+    requires grouped { IsByObject config.now by_object.now }
+    requires compiled { AreCompiled config.now all.now }
+{
     for case in cases {
-        is_as_told(rt, alloc, &config, &by_object, all.as_slice(), *case)?;
+        is_as_told(rt, alloc, config, by_object, all, *case)?;
     }
     Ok(())
 }
 
+/// The same, where the escalations are yet to be grouped and the periods to be worked out.
+fn all_as_told(rt: &impl Abort, alloc: Global, config: &Config, cases: &[Case]) -> Result<(), Fail>
+    requires { IsAccepted config.now }
+{
+    let by_object = ByObject::new(alloc, config)?;
+    let all = compile_all(alloc, config)?;
+    are_as_told(rt, alloc, config, &by_object, all.as_slice(), cases)
+}
+
+/// The same of the configuration of `ROWS`.
+fn as_told(rt: &impl Abort, alloc: Global, cases: &[Case]) -> Result<(), Fail> {
+    let config = accepted_config_of(alloc, ROWS)?;
+    all_as_told(rt, alloc, &config, cases)
+}
+
 #[test]
 fn overlapping(rt: HostRuntime) -> Result<(), Fail> {
-    are_as_told(&rt, rt.alloc(), &OVERLAP)
+    as_told(&rt, rt.alloc(), &OVERLAP)
 }
 
 #[test]
 fn periods_options_and_zero(rt: HostRuntime) -> Result<(), Fail> {
-    are_as_told(&rt, rt.alloc(), &MIXED)
+    as_told(&rt, rt.alloc(), &MIXED)
 }
 
 /// The own contacts of each object, one after the other.
@@ -341,13 +251,16 @@ fn own_of_each(alloc: Global, config: &Config) -> Result<Vec<ContactId>, AllocEr
 }
 
 /// Each host's own contacts are added to those of the host before.
+fn own_are_added(rt: &impl Abort, alloc: Global, config: &Config) -> Result<(), Fail>
+    requires { IsAccepted config.now }
+{
+    let told = own_of_each(alloc, config)?;
+    assert_eq!(rt; told.as_slice(), [ANN, BOB, DAN, CAT].as_slice());
+    Ok(())
+}
+
 #[test]
 fn own_alone(rt: HostRuntime) -> Result<(), Fail> {
-    let config = config(rt.alloc())?;
-    if !is_accepted(&config) {
-        panic!(&rt; "not accepted");
-    }
-    let told = own_of_each(rt.alloc(), &config)?;
-    assert_eq!(&rt; told.as_slice(), [ANN, BOB, DAN, CAT].as_slice());
-    Ok(())
+    let config = accepted_config_of(rt.alloc(), ROWS)?;
+    own_are_added(&rt, rt.alloc(), &config)
 }

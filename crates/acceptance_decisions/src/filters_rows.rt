@@ -1,11 +1,14 @@
 //! What the filters say of views and contacts, by the rules of the manual's chapter "Notifications".
 
-ghost use Rattle.std.specs.Prelude.{◌≤◌, IfSome, IsTrue};
+ghost use Rattle.std.specs.Prelude.{◌≤◌, IfOk, IfSome, IsTrue};
+ghost use Rattle.due_model.specs.Accepted.{IsAccepted};
 ghost use Rattle.due_model.specs.Limits.{last_moment, max_number};
 ghost use Rattle.filters.specs.Attempt.{IsLastInRange};
 ghost use Rattle.time_period.specs.Days.{AreCompiled};
 
-use acceptance_inputs::periods::{Row, periods};
+use acceptance_inputs::accepted::accepted;
+use acceptance_inputs::options::{DOWN_ALONE, NO_LETTER};
+use acceptance_inputs::periods::{PeriodRow, periods_alone};
 use due_model::config::{Config, Contact, ContactId, PeriodId, Range, Rights};
 use due_model::limits::{LAST_MOMENT, MAX_NUMBER};
 use due_model::notice::{Filter, Kind};
@@ -24,21 +27,12 @@ use time_period::compile::compile_all;
 use time_period::compiled::Compiled;
 
 /// A period that never holds, and Thursdays. 1970-01-01 was one.
-const PERIODS: [Row; 2] = [
-    Row {
-        first: 0,
-        last: 6,
-        ranges: &[],
-        excludes: &[],
-    },
-    Row {
+const PERIODS: [PeriodRow<'static>; 2] = [
+    PeriodRow::NEVER,
+    PeriodRow {
         first: 4,
         last: 4,
-        ranges: &[Range {
-            start: 0,
-            end: 86_400,
-        }],
-        excludes: &[],
+        ..PeriodRow::ALWAYS
     },
 ];
 
@@ -48,17 +42,6 @@ const THURSDAYS: Option<PeriodId> = Some(PeriodId(1));
 
 /// When most notifications here are attempted.
 const MOMENT: u64 = 1_000;
-
-const NO_LETTER: OptionLetters = OptionLetters {
-    down: false,
-    unreachable: false,
-    warning: false,
-    unknown: false,
-    critical: false,
-    recovery: false,
-    flapping: false,
-    downtime: false,
-};
 
 /// A notice went out long ago, and nothing stops the next one, whatever its kind.
 const OPEN: View = View {
@@ -89,158 +72,94 @@ const ALL: [Kind; 7] = [
     Kind::DowntimeCancelled,
 ];
 
-/// A view, the kinds that this filter stops there, and kinds that nothing stops.
-struct Only {
-    view: View,
-    filter: Filter,
-    stopped: &'static [Kind],
-    passed: &'static [Kind],
-}
+/// A view, the one filter that refuses it, and the kinds that it stops; nothing stops the others.
+type Only = (View, Filter, &'static [Kind]);
 
 /// Views that one filter alone refuses, or that it lets pass.
-const ONLY: [Only; 12] = [
-    Only {
-        view: View {
+const ONLY: [Only; 11] = [
+    (
+        View {
             program: false,
             ..OPEN
         },
-        filter: Filter::Program,
-        stopped: &ALL,
-        passed: &[],
-    },
-    Only {
-        view: View {
+        Filter::Program,
+        &ALL,
+    ),
+    (
+        View {
             enabled: false,
             ..OPEN
         },
-        filter: Filter::Disabled,
-        stopped: &ALL,
-        passed: &[],
-    },
-    Only {
-        view: View { down: true, ..OPEN },
-        filter: Filter::Downtime,
-        stopped: &[
-            Kind::Problem,
-            Kind::Recovery,
-            Kind::FlappingStart,
-            Kind::FlappingStop,
-        ],
-        passed: &[
-            Kind::DowntimeStart,
-            Kind::DowntimeEnd,
-            Kind::DowntimeCancelled,
-        ],
-    },
-    Only {
-        view: View {
+        Filter::Disabled,
+        &ALL,
+    ),
+    (View { down: true, ..OPEN }, Filter::Downtime, &NO_DOWNTIME),
+    (
+        View {
             flapping: true,
             ..OPEN
         },
-        filter: Filter::Flapping,
-        stopped: &OF_PROBLEM,
-        passed: &OTHERS,
-    },
-    Only {
-        view: View {
+        Filter::Flapping,
+        &OF_PROBLEM,
+    ),
+    (
+        View {
             options: NO_LETTER,
             ..OPEN
         },
-        filter: Filter::Options,
-        stopped: &ALL,
-        passed: &[],
-    },
-    Only {
-        view: View { sent: 0, ..OPEN },
-        filter: Filter::NoProblem,
-        stopped: &[Kind::Recovery],
-        passed: &[
-            Kind::Problem,
-            Kind::FlappingStart,
-            Kind::FlappingStop,
-            Kind::DowntimeStart,
-            Kind::DowntimeEnd,
-            Kind::DowntimeCancelled,
-        ],
-    },
-    Only {
-        view: View {
+        Filter::Options,
+        &ALL,
+    ),
+    (
+        View { sent: 0, ..OPEN },
+        Filter::NoProblem,
+        &[Kind::Recovery],
+    ),
+    (
+        View {
             period: NEVER,
             ..OPEN
         },
-        filter: Filter::Period,
-        stopped: &ALL,
-        passed: &[],
-    },
-    Only {
-        view: View {
+        Filter::Period,
+        &ALL,
+    ),
+    (
+        View {
             depends: true,
             ..OPEN
         },
-        filter: Filter::Dependency,
-        stopped: &OF_PROBLEM,
-        passed: &OTHERS,
-    },
-    Only {
-        view: View {
-            sent: 0,
-            delay: 16,
-            last: None,
-            ..OPEN
-        },
-        filter: Filter::FirstDelay,
-        stopped: &[Kind::Problem],
-        passed: &OTHERS,
-    },
-    Only {
-        view: View { delay: 16, ..OPEN },
-        filter: Filter::FirstDelay,
-        stopped: &[],
-        passed: &ALL,
-    },
-    Only {
-        view: View {
-            last: Some(Last {
-                state: State::Down,
-                moment: 941,
-                gap: 60,
-            }),
-            ..OPEN
-        },
-        filter: Filter::Interval,
-        stopped: &[Kind::Problem],
-        passed: &NOT_PROBLEM,
-    },
-    Only {
-        view: View {
+        Filter::Dependency,
+        &OF_PROBLEM,
+    ),
+    (View { delay: 16, ..OPEN }, Filter::FirstDelay, &[]),
+    (FROM_INTERVAL, Filter::Interval, &[Kind::Problem]),
+    (
+        View {
             period: None,
             ..OPEN
         },
-        filter: Filter::Interval,
-        stopped: &[],
-        passed: &ALL,
-    },
+        Filter::Interval,
+        &[],
+    ),
+];
+
+/// The kinds that aren't about a downtime.
+const NO_DOWNTIME: [Kind; 4] = [
+    Kind::Problem,
+    Kind::Recovery,
+    Kind::FlappingStart,
+    Kind::FlappingStop,
 ];
 
 const OF_PROBLEM: [Kind; 2] = [Kind::Problem, Kind::Recovery];
 
-/// The kinds that aren't about a problem.
-const OTHERS: [Kind; 5] = [
-    Kind::FlappingStart,
-    Kind::FlappingStop,
-    Kind::DowntimeStart,
-    Kind::DowntimeEnd,
-    Kind::DowntimeCancelled,
-];
-
-const NOT_PROBLEM: [Kind; 6] = [
-    Kind::Recovery,
-    Kind::FlappingStart,
-    Kind::FlappingStop,
-    Kind::DowntimeStart,
-    Kind::DowntimeEnd,
-    Kind::DowntimeCancelled,
-];
+/// Nothing went out yet, and the first notice is delayed.
+const DELAYED: View = View {
+    sent: 0,
+    delay: 16,
+    last: None,
+    ..OPEN
+};
 
 // Views that a filter and each later one refuse.
 const FROM_INTERVAL: View = View {
@@ -303,8 +222,8 @@ struct Case {
     found: Option<Filter>,
 }
 
-/// Views that a filter and each later one refuse, a kind, and the first filter that stops it.
-const CHAIN: [(View, Kind, Option<Filter>); 13] = [
+/// Views that a filter and each later one refuse, and one that is delayed, a kind, and the first filter that stops it.
+const CHAIN: [(View, Kind, Option<Filter>); 19] = [
     (FROM_PROGRAM, Kind::Problem, Some(Filter::Program)),
     (FROM_DISABLED, Kind::Recovery, Some(Filter::Disabled)),
     (FROM_DOWNTIME, Kind::Problem, Some(Filter::Downtime)),
@@ -318,6 +237,12 @@ const CHAIN: [(View, Kind, Option<Filter>); 13] = [
     (FROM_FIRST_DELAY, Kind::Problem, Some(Filter::FirstDelay)),
     (FROM_INTERVAL, Kind::Problem, Some(Filter::Interval)),
     (FROM_INTERVAL, Kind::Recovery, None),
+    (DELAYED, Kind::Problem, Some(Filter::FirstDelay)),
+    (DELAYED, Kind::FlappingStart, None),
+    (DELAYED, Kind::FlappingStop, None),
+    (DELAYED, Kind::DowntimeStart, None),
+    (DELAYED, Kind::DowntimeEnd, None),
+    (DELAYED, Kind::DowntimeCancelled, None),
 ];
 
 /// A problem that nothing stops.
@@ -405,10 +330,7 @@ const MOMENTS: [Case; 9] = [
 
 /// One letter each.
 const LETTERS: [OptionLetters; 8] = [
-    OptionLetters {
-        down: true,
-        ..NO_LETTER
-    },
+    DOWN_ALONE,
     OptionLetters {
         unreachable: true,
         ..NO_LETTER
@@ -493,10 +415,7 @@ const HELD: [Held; 9] = [
         ..FREE
     },
     Held {
-        options: OptionLetters {
-            down: true,
-            ..NO_LETTER
-        },
+        options: DOWN_ALONE,
         other: Some(Filter::ContactOptions),
         ..FREE
     },
@@ -573,22 +492,32 @@ fn gives(rt: &impl Abort, periods: &[Compiled], case: Case) {
     );
 }
 
-/// Compares what stops attempts of these kinds.
-fn kinds_give(
+/// Compares what stops an attempt of a kind.
+fn kind_gives(
     rt: &impl Abort,
     periods: &[Compiled],
     view: View,
-    kinds: &[Kind],
+    kind: Kind,
     found: Option<Filter>,
 ) {
-    for kind in kinds {
-        let case = Case {
-            view,
-            kind: *kind,
-            found,
-            ..PASSES
+    let case = Case {
+        view,
+        kind,
+        found,
+        ..PASSES
+    };
+    gives(rt, periods, case);
+}
+
+/// This filter alone stops attempts, of these kinds.
+fn only_stops(rt: &impl Abort, periods: &[Compiled], view: View, filter: Filter, stopped: &[Kind]) {
+    for kind in ALL {
+        let found = if stopped.contains(&kind) {
+            Some(filter)
+        } else {
+            None
         };
-        gives(rt, periods, case);
+        kind_gives(rt, periods, view, kind, found);
     }
 }
 
@@ -617,9 +546,9 @@ fn letter_gives(rt: &impl Abort, periods: &[Compiled], kind: Kind, state: State,
 
 /// Views that one filter alone refuses.
 fn only_one_filter(rt: &impl Abort, periods: &[Compiled]) {
-    for only in &ONLY {
-        kinds_give(rt, periods, only.view, only.stopped, Some(only.filter));
-        kinds_give(rt, periods, only.view, only.passed, None);
+    for row in &ONLY {
+        let (view, filter, stopped) = *row;
+        only_stops(rt, periods, view, filter, stopped);
     }
 }
 
@@ -627,7 +556,7 @@ fn only_one_filter(rt: &impl Abort, periods: &[Compiled]) {
 fn first_of_several(rt: &impl Abort, periods: &[Compiled]) {
     for row in &CHAIN {
         let (view, kind, found) = *row;
-        kinds_give(rt, periods, view, &[kind], found);
+        kind_gives(rt, periods, view, kind, found);
     }
 }
 
@@ -641,19 +570,24 @@ fn letters(rt: &impl Abort, periods: &[Compiled]) {
 
 /// The periods of `PERIODS`, worked out.
 fn worked_out(alloc: Global) -> Result<Vec<Compiled>, AllocError> {
-    let config = periods(alloc, &PERIODS)?;
+    let config = periods_alone(alloc, &PERIODS)?;
     compile_all(alloc, &config)
+}
+
+/// All tables of views.
+fn views(rt: &impl Abort, periods: &[Compiled]) {
+    only_one_filter(rt, periods);
+    first_of_several(rt, periods);
+    letters(rt, periods);
+    for case in &MOMENTS {
+        gives(rt, periods, *case);
+    }
 }
 
 #[test]
 fn filters_of_objects(rt: HostRuntime) -> Result<(), Fail> {
     let all = worked_out(rt.alloc())?;
-    only_one_filter(&rt, all.as_slice());
-    first_of_several(&rt, all.as_slice());
-    letters(&rt, all.as_slice());
-    for case in &MOMENTS {
-        gives(&rt, all.as_slice(), *case);
-    }
+    views(&rt, all.as_slice());
     Ok(())
 }
 
@@ -667,23 +601,32 @@ fn rights(alloc: Global, held: Held) -> Rights {
     }
 }
 
+/// A contact without a name and lanes.
+fn contact(alloc: Global, hosts: Held, services: Held) -> Contact {
+    Contact {
+        name: Sequence::new(Vec::new(alloc)),
+        hosts: rights(alloc, hosts),
+        services: rights(alloc, services),
+    }
+}
+
 /// Two contacts for each row: of the first it says what holds for hosts, of the second what holds for services.
-/// They have no names and no lanes.
 fn contacts(alloc: Global) -> Result<Vec<Contact>, AllocError> {
     let mut made = Vec::new(alloc);
     for held in &HELD {
-        made.push(Contact {
-            name: Sequence::new(Vec::new(alloc)),
-            hosts: rights(alloc, *held),
-            services: rights(alloc, FREE),
-        })?;
-        made.push(Contact {
-            name: Sequence::new(Vec::new(alloc)),
-            hosts: rights(alloc, FREE),
-            services: rights(alloc, *held),
-        })?;
+        made.push(contact(alloc, *held, FREE))?;
+        made.push(contact(alloc, FREE, *held))?;
     }
     Ok(made)
+}
+
+/// The configuration of these contacts and of `PERIODS`.
+fn config(alloc: Global) -> Result<Config, AllocError>
+    ensures { IfOk result (λ config. IsAccepted config) }
+{
+    let mut config = periods_alone(alloc, &PERIODS)?;
+    config.contacts = Sequence::new(contacts(alloc)?);
+    accepted(config)
 }
 
 /// Compares what stops a notice to a contact, of each kind, about a service or a host.
@@ -731,12 +674,17 @@ fn contacts_give(rt: &impl Abort, config: &Config, periods: &[Compiled])
     }
 }
 
+/// The same with the periods of the configuration, worked out.
+fn all_give(rt: &impl Abort, alloc: Global, config: &Config) -> Result<(), Fail>
+    requires { IsAccepted config.now }
+{
+    let all = compile_all(alloc, config)?;
+    contacts_give(rt, config, all.as_slice());
+    Ok(())
+}
+
 #[test]
 fn filters_of_contacts(rt: HostRuntime) -> Result<(), Fail> {
-    let contacts = contacts(rt.alloc())?;
-    let mut config = periods(rt.alloc(), &PERIODS)?;
-    let all = compile_all(rt.alloc(), &config)?;
-    config.contacts = Sequence::new(contacts);
-    contacts_give(&rt, &config, all.as_slice());
-    Ok(())
+    let config = config(rt.alloc())?;
+    all_give(&rt, rt.alloc(), &config)
 }

@@ -2,14 +2,16 @@
 //! Escalations". Values are reckoned by hand.
 
 ghost use Rattle.std.specs.Prelude.{◌<◌, length};
+ghost use Rattle.due_model.specs.Accepted.{IsAccepted};
 ghost use Rattle.outcomes.specs.Outcome.{IsInRange};
 ghost use Rattle.outcomes.specs.Rules.{AreRules};
 
-use acceptance_inputs::accepted::is_accepted;
-use acceptance_inputs::rows::{ContactRow, EscalationRow, ObjectRow, Rows, config_of};
+use acceptance_inputs::notices::{DOWN, STOPPED};
+use acceptance_inputs::options::DOWN_ALONE;
+use acceptance_inputs::periods::PeriodRow;
+use acceptance_inputs::rows::{ContactRow, EscalationRow, ObjectRow, Rows, accepted_config_of};
 use due_model::config::{Config, ContactId, LaneId, ObjectId, PeriodId, Range};
 use due_model::notice::{Filter, Kind, Notice, Outcome, Suppression};
-use due_model::options::OptionLetters;
 use due_model::proper::has_object;
 use due_model::state::State;
 use due_model::zone::Zone;
@@ -37,16 +39,7 @@ const PEOPLE: &[ContactRow] = &[
     },
     ContactRow {
         name: "bob",
-        options: OptionLetters {
-            down: true,
-            unreachable: false,
-            warning: false,
-            unknown: false,
-            critical: false,
-            recovery: false,
-            flapping: false,
-            downtime: false,
-        },
+        options: DOWN_ALONE,
         lanes: &[LaneId(1)],
         ..ContactRow::FREE
     },
@@ -62,25 +55,21 @@ const WEB: Rows<'static> = Rows {
     lanes: 2,
     contacts: PEOPLE,
     objects: &[ObjectRow {
-        name: "web",
-        host: None,
-        options: OptionLetters::ALL,
-        period: None,
-        interval: 1,
-        delay: 0,
         contacts: &[ContactId(1), ContactId(0)],
+        ..ObjectRow::WEB
     }],
-    periods: &[Range {
-        start: 43_200,
-        end: 46_800,
+    periods: &[PeriodRow {
+        ranges: &[Range {
+            start: 43_200,
+            end: 46_800,
+        }],
+        ..PeriodRow::NEVER
     }],
     escalations: &[EscalationRow {
-        object: ObjectId(0),
         first: 2,
         last: 2,
-        interval: 1,
-        period: None,
         contacts: &[ContactId(2), ContactId(1)],
+        ..EscalationRow::EACH
     }],
     dependencies: &[],
 };
@@ -94,100 +83,70 @@ enum Said {
     Stopped(Option<u16>, Filter),
 }
 
-/// A notification about web, the object's filter that stops it, if one does, and what is said of it in this order.
-#[derive(Clone, Copy)]
-struct Row {
-    kind: Kind,
-    state: State,
-    number: u64,
-    stopped: Option<Filter>,
-    said: &'static [Said],
-}
+/// The kind, state and number of a notification about web, the object's filter that stops it, if one does, and what is
+/// said of it, in order.
+type Row = (Kind, State, u64, Option<Filter>, &'static [Said]);
 
+/// Ann is told on both lanes, and bob isn't of this letter.
+const ANN_ALONE: &[Said] = &[
+    Said::Told(0, 0),
+    Said::Told(0, 1),
+    Said::Stopped(Some(1), Filter::ContactOptions),
+];
+
+/// Bob is told of the second problem, and it isn't cat's time.
+const BOB_ALONE: &[Said] = &[
+    Said::Told(1, 1),
+    Said::Stopped(Some(2), Filter::ContactPeriod),
+];
+
+/// The recovery after two notices goes to those that the second reached.
+const NEITHER: &[Said] = &[
+    Said::Stopped(Some(1), Filter::ContactOptions),
+    Said::Stopped(Some(2), Filter::ContactPeriod),
+];
+
+/// The recovery after one notice goes to the object's own contacts, though the second would reach others.
 const ROWS: [Row; 6] = [
-    Row {
-        kind: Kind::Problem,
-        state: State::Down,
-        number: 1,
-        stopped: None,
-        said: &[Said::Told(0, 0), Said::Told(0, 1), Said::Told(1, 1)],
-    },
-    Row {
-        kind: Kind::Problem,
-        state: State::Down,
-        number: 2,
-        stopped: None,
-        said: &[
-            Said::Told(1, 1),
-            Said::Stopped(Some(2), Filter::ContactPeriod),
-        ],
-    },
-    // The recovery after two notices goes to those that the second reached.
-    Row {
-        kind: Kind::Recovery,
-        state: State::Up,
-        number: 3,
-        stopped: None,
-        said: &[
-            Said::Stopped(Some(1), Filter::ContactOptions),
-            Said::Stopped(Some(2), Filter::ContactPeriod),
-        ],
-    },
-    // The recovery after one notice goes to the object's own contacts, though the second would reach others.
-    Row {
-        kind: Kind::Recovery,
-        state: State::Up,
-        number: 2,
-        stopped: None,
-        said: &[
-            Said::Told(0, 0),
-            Said::Told(0, 1),
-            Said::Stopped(Some(1), Filter::ContactOptions),
-        ],
-    },
-    Row {
-        kind: Kind::FlappingStart,
-        state: State::Down,
-        number: 2,
-        stopped: None,
-        said: &[
-            Said::Told(0, 0),
-            Said::Told(0, 1),
-            Said::Stopped(Some(1), Filter::ContactOptions),
-        ],
-    },
-    Row {
-        kind: Kind::Problem,
-        state: State::Down,
-        number: 2,
-        stopped: Some(Filter::Interval),
-        said: &[Said::Stopped(None, Filter::Interval)],
-    },
+    (
+        Kind::Problem,
+        State::Down,
+        1,
+        None,
+        &[Said::Told(0, 0), Said::Told(0, 1), Said::Told(1, 1)],
+    ),
+    (Kind::Problem, State::Down, 2, None, BOB_ALONE),
+    (Kind::Recovery, State::Up, 3, None, NEITHER),
+    (Kind::Recovery, State::Up, 2, None, ANN_ALONE),
+    (Kind::FlappingStart, State::Down, 2, None, ANN_ALONE),
+    (
+        Kind::Problem,
+        State::Down,
+        2,
+        Some(Filter::Interval),
+        &[Said::Stopped(None, Filter::Interval)],
+    ),
 ];
 
 /// The outcome of a row.
 fn outcome(row: Row) -> Outcome
     ensures { IsInRange result }
 {
-    let Row {
-        kind,
-        state,
-        number,
-        ..
-    } = row;
-    match row.stopped {
+    let (kind, state, number, stopped, _) = row;
+    let moment = MOMENT;
+    match stopped {
         None => Outcome::Sent {
             kind,
             state,
             number,
-            moment: MOMENT,
+            moment,
             gap: 60,
         },
         Some(filter) => Outcome::Suppressed {
             kind,
             state,
             number,
-            moment: MOMENT,
+            moment,
             filter,
         },
     }
@@ -195,63 +154,75 @@ fn outcome(row: Row) -> Outcome
 
 /// What a row says of one message, as an entry.
 fn entry(row: Row, said: Said) -> Entry {
+    let (kind, state, number, ..) = row;
     match said {
         Said::Told(contact, lane) => Entry::Sent(Notice {
             event: EVENT,
-            moment: MOMENT,
-            object: ObjectId(0),
-            kind: row.kind,
-            state: row.state,
-            number: row.number,
+            kind,
+            state,
+            number,
             contact: ContactId(contact),
             lane: LaneId(lane),
+            ..DOWN
         }),
         Said::Stopped(contact, filter) => Entry::Withheld(Suppression {
             event: EVENT,
-            moment: MOMENT,
-            object: ObjectId(0),
-            kind: row.kind,
-            state: row.state,
-            number: row.number,
+            kind,
+            state,
+            number,
             filter,
             contact: contact.map(ContactId),
+            ..STOPPED
         }),
     }
 }
 
 /// Compares entries with what a row says.
 fn are_said(rt: &impl Abort, found: &[Entry], row: Row) {
-    assert_eq!(rt; found.len(), row.said.len());
-    for (found, said) in found.iter().zip(row.said) {
+    let (.., said) = row;
+    assert_eq!(rt; found.len(), said.len());
+    for (found, said) in found.iter().zip(said) {
         assert_eq!(rt; *found, entry(row, *said));
     }
 }
 
-/// Compares what the outcome of a row adds to what stands there.
-fn adds(rt: &impl Abort, alloc: Global, rules: &Rules<'_>, row: Row) -> Result<(), Fail>
+/// Compares what the outcome of a row adds.
+fn adds(
+    rt: &impl Abort,
+    alloc: Global,
+    rules: &Rules<'_>,
+    receivers: &mut Vec<ContactId>,
+    row: Row,
+) -> Result<(), Fail>
+    requires rules { AreRules rules.now }
+    requires object { 0 < length rules.now.config.now.objects }
+{
+    let mut entries = Vec::new(alloc);
+    let now = outcome(row);
+    let web = ObjectId(0);
+    add_messages(alloc, rules, web, EVENT, now, receivers, &mut entries)?;
+    are_said(rt, entries.as_slice(), row);
+    Ok(())
+}
+
+/// Compares what the outcome of each row adds.
+fn each_adds(rt: &impl Abort, alloc: Global, rules: &Rules<'_>) -> Result<(), Fail>
     requires rules { AreRules rules.now }
     requires object { 0 < length rules.now.config.now.objects }
 {
     // What the list of receivers held is no matter.
     let mut receivers = Vec::from_slice(alloc, &[ContactId(0)])?;
-    let mut entries = Vec::new(alloc);
-    let now = outcome(row);
-    add_messages(
-        alloc,
-        rules,
-        ObjectId(0),
-        EVENT,
-        now,
-        &mut receivers,
-        &mut entries,
-    )?;
-    are_said(rt, entries.as_slice(), row);
+    for row in ROWS {
+        adds(rt, alloc, rules, &mut receivers, row)?;
+    }
     Ok(())
 }
 
 /// Compares what the outcome of each row adds in a configuration.
-fn each_adds(rt: &impl Abort, alloc: Global, config: &Config, rows: &[Row]) -> Result<(), Fail> {
-    assert!(rt; is_accepted(config) && has_object(config, ObjectId(0)));
+fn all_add(rt: &impl Abort, alloc: Global, config: &Config) -> Result<(), Fail>
+    requires { IsAccepted config.now }
+{
+    assert!(rt; has_object(config, ObjectId(0)));
     let by_object = ByObject::new(alloc, config)?;
     let all = compile_all(alloc, config)?;
     let zone = Zone::Utc;
@@ -261,16 +232,13 @@ fn each_adds(rt: &impl Abort, alloc: Global, config: &Config, rows: &[Row]) -> R
         periods: all.as_slice(),
         escalations: &by_object,
     };
-    for row in rows {
-        adds(rt, alloc, &rules, *row)?;
-    }
-    Ok(())
+    each_adds(rt, alloc, &rules)
 }
 
 #[test]
 fn messages_of_outcomes(rt: HostRuntime) -> Result<(), Fail> {
-    let config = config_of(rt.alloc(), WEB)?;
-    each_adds(&rt, rt.alloc(), &config, &ROWS)
+    let config = accepted_config_of(rt.alloc(), WEB)?;
+    all_add(&rt, rt.alloc(), &config)
 }
 
 #[test]

@@ -1,7 +1,7 @@
 //! Whether a configuration is an accepted one, looked at clause by clause. A test builds any configuration, asks
 //! here, and then calls what wants an accepted one.
 
-ghost use Rattle.std.specs.Prelude.{◌≤◌, ◌<◌, All, IfSome, IsTrue, length};
+ghost use Rattle.std.specs.Prelude.{◌≡◌, ◌≤◌, ◌<◌, All, IfOk, IfSome, IsTrue, length};
 ghost use Rattle.due_model.specs.Accepted.{ContactFits, DependencyFits, EscalationFits};
 ghost use Rattle.due_model.specs.Accepted.{HasContacts, HasPeriod, IsAccepted, IsHost};
 ghost use Rattle.due_model.specs.Accepted.{ObjectFits, RangeFits, RightsFit};
@@ -15,6 +15,7 @@ use due_model::limits::{
     MAX_CONTACTS, MAX_DEPENDENCIES, MAX_ESCALATIONS, MAX_LANES, MAX_NUMBER, MAX_OBJECTS,
     MAX_PERIODS,
 };
+use std::alloc::AllocError;
 
 /// Whether this configuration is accepted, and its order shows that nothing loops: each period excludes only
 /// periods of a smaller number, and each object depends only on objects of a smaller number. It takes no memory.
@@ -31,6 +32,18 @@ pub fn is_accepted(config: &Config) -> bool
         return false;
     }
     do_dependencies_fit(config)
+}
+
+/// The configuration, if it is seen to be accepted. It is refused as memory is.
+pub fn accepted(config: Config) -> Result<Config, AllocError>
+    ensures accepted { IfOk result (λ given. IsAccepted given) }
+    ensures same { IfOk result (λ given. given ≡ config) }
+{
+    if is_accepted(&config) {
+        Ok(config)
+    } else {
+        Err(AllocError)
+    }
 }
 
 /// Whether there are no more objects, contacts and lanes than there may be.

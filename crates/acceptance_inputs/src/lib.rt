@@ -1,9 +1,13 @@
-//! What tests are run on: configurations, texts and readers that the tests of more than one crate need.
+//! What tests are run on: configurations, events, texts and readers that the tests of more than one crate need.
 #![tactic(auto)]
 
 pub mod accepted;
 pub mod configs;
+pub mod dependencies;
 pub mod events;
+pub mod notices;
+pub mod numbers;
+pub mod options;
 pub mod periods;
 pub mod readers;
 pub mod rows;

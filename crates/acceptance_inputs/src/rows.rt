@@ -1,13 +1,19 @@
-//! Small configurations as tables, for the worked rows: the same rights of a contact for hosts and for services.
+//! Small configurations as tables: the same rights of a contact for hosts and for services.
 
+ghost use Rattle.std.specs.Prelude.{◌≡◌, IfOk, length};
+ghost use Rattle.due_model.specs.Accepted.{IsAccepted};
+
+use crate::accepted::accepted;
+use crate::configs::of_objects;
+use crate::periods::{PeriodRow, periods};
 use due_model::config::{
-    Config, Contact, ContactId, Dependency, Escalation, Lane, LaneId, Object, ObjectId, Period,
-    PeriodId, Range, Rights,
+    Config, Contact, ContactId, Dependency, Escalation, Lane, LaneId, Object, ObjectId, PeriodId,
+    Rights,
 };
 use due_model::limits::MAX_OBJECTS;
 use due_model::objects::Objects;
 use due_model::options::OptionLetters;
-use due_model::sequence::{Sequence, Text};
+use due_model::sequence::Sequence;
 use std::alloc::{AllocError, Global};
 
 /// A contact, with what it is notified of, and on which lanes.
@@ -43,7 +49,27 @@ pub struct ObjectRow {
     pub contacts: &'static [ContactId],
 }
 
-/// An escalation of one object, with every letter.
+impl ObjectRow {
+    /// A host that tells the first contact of everything at all times, and again after a minute.
+    pub const WEB: ObjectRow = ObjectRow {
+        name: "web",
+        host: None,
+        options: OptionLetters::ALL,
+        period: None,
+        interval: 1,
+        delay: 0,
+        contacts: &[ContactId(0)],
+    };
+
+    /// A service of the first object that tells the first contact in the same way.
+    pub const PING: ObjectRow = ObjectRow {
+        name: "PING",
+        host: Some(ObjectId(0)),
+        ..ObjectRow::WEB
+    };
+}
+
+/// An escalation of one object.
 #[derive(Clone, Copy)]
 pub struct EscalationRow {
     pub object: ObjectId,
@@ -51,56 +77,91 @@ pub struct EscalationRow {
     pub last: u32,
     pub interval: u32,
     pub period: Option<PeriodId>,
+    pub options: OptionLetters,
     pub contacts: &'static [ContactId],
 }
 
-/// A configuration. Each period has one range, the same on all seven days.
+impl EscalationRow {
+    /// Of each notification of the first object, at all times; it tells nobody, and again after a minute.
+    pub const EACH: EscalationRow = EscalationRow {
+        object: ObjectId(0),
+        first: 1,
+        last: 0,
+        interval: 1,
+        period: None,
+        options: OptionLetters::ALL,
+        contacts: &[],
+    };
+}
+
+/// A configuration.
 #[derive(Clone, Copy)]
 pub struct Rows<'a> {
     /// How many commands there are.
     pub lanes: u8,
     pub contacts: &'a [ContactRow],
     pub objects: &'a [ObjectRow],
-    pub periods: &'a [Range],
+    pub periods: &'a [PeriodRow<'a>],
     pub escalations: &'a [EscalationRow],
     pub dependencies: &'a [Dependency],
 }
 
-fn text(alloc: Global, text: &str) -> Result<Text, AllocError> {
-    Ok(Sequence::new(Vec::from_slice(alloc, text.as_bytes())?))
+impl Rows<'static> {
+    /// Nothing.
+    pub const NONE: Rows<'static> = Rows {
+        lanes: 0,
+        contacts: &[],
+        objects: &[],
+        periods: &[],
+        escalations: &[],
+        dependencies: &[],
+    };
 }
 
-fn rights(alloc: Global, row: ContactRow) -> Result<Rights, AllocError> {
+/// A list of these items.
+pub(crate) fn list<T: Copy>(alloc: Global, items: &[T]) -> Result<Sequence<T>, AllocError>
+    ensures { IfOk result (λ made. made ≡ items.now) }
+{
+    Ok(Sequence::new(Vec::from_slice(alloc, items)?))
+}
+
+/// What a contact is notified of.
+fn rights(alloc: Global, row: &ContactRow) -> Result<Rights, AllocError> {
     Ok(Rights {
         enabled: row.enabled,
         options: row.options,
         period: row.period,
-        lanes: Sequence::new(Vec::from_slice(alloc, row.lanes)?),
+        lanes: list(alloc, row.lanes)?,
     })
 }
 
-fn contact(alloc: Global, row: ContactRow) -> Result<Contact, AllocError> {
-    let name = text(alloc, row.name)?;
+/// Adds the contact of a row.
+fn add_contact(alloc: Global, made: &mut Vec<Contact>, row: &ContactRow) -> Result<(), AllocError> {
     let hosts = rights(alloc, row)?;
     let services = rights(alloc, row)?;
-    Ok(Contact {
+    let name = list(alloc, row.name.as_bytes())?;
+    made.push(Contact {
         name,
         hosts,
         services,
-    })
+    })?;
+    Ok(())
 }
 
+/// The contacts of rows.
 fn contacts(alloc: Global, rows: &[ContactRow]) -> Result<Sequence<Contact>, AllocError> {
     let mut made = Vec::new(alloc);
     for row in rows {
-        made.push(contact(alloc, *row)?)?;
+        add_contact(alloc, &mut made, row)?;
     }
     Ok(Sequence::new(made))
 }
 
-fn object(alloc: Global, row: ObjectRow) -> Result<Object, AllocError> {
-    let name = text(alloc, row.name)?;
-    Ok(Object {
+/// Adds the object of a row.
+fn add_object(alloc: Global, made: &mut Vec<Object>, row: &ObjectRow) -> Result<(), AllocError> {
+    let name = list(alloc, row.name.as_bytes())?;
+    let contacts = list(alloc, row.contacts)?;
+    made.push(Object {
         name,
         host: row.host,
         enabled: true,
@@ -108,92 +169,122 @@ fn object(alloc: Global, row: ObjectRow) -> Result<Object, AllocError> {
         period: row.period,
         interval: row.interval,
         delay: row.delay,
-        contacts: Sequence::new(Vec::from_slice(alloc, row.contacts)?),
-    })
+        contacts,
+    })?;
+    Ok(())
 }
 
+/// The objects of the first 65,535 rows.
 fn objects(alloc: Global, rows: &[ObjectRow]) -> Result<Objects, AllocError> {
     let mut made = Vec::new(alloc);
     for row in rows {
-        made.push(object(alloc, *row)?)?;
+        add_object(alloc, &mut made, row)?;
     }
     made.truncate(MAX_OBJECTS);
     Objects::new(alloc, made)
 }
 
-fn ranges(alloc: Global, range: Range) -> Result<Sequence<Range>, AllocError> {
-    Ok(Sequence::new(Vec::from_slice(alloc, &[range])?))
-}
-
-fn period(alloc: Global, range: Range) -> Result<Period, AllocError> {
-    let days = [
-        ranges(alloc, range)?,
-        ranges(alloc, range)?,
-        ranges(alloc, range)?,
-        ranges(alloc, range)?,
-        ranges(alloc, range)?,
-        ranges(alloc, range)?,
-        ranges(alloc, range)?,
-    ];
-    let name = text(alloc, "work")?;
-    Ok(Period {
-        name,
-        days,
-        excludes: Sequence::new(Vec::new(alloc)),
-    })
-}
-
-fn periods(alloc: Global, rows: &[Range]) -> Result<Sequence<Period>, AllocError> {
-    let mut made = Vec::new(alloc);
-    for row in rows {
-        made.push(period(alloc, *row)?)?;
-    }
-    Ok(Sequence::new(made))
-}
-
-fn escalation(alloc: Global, row: EscalationRow) -> Result<Escalation, AllocError> {
-    Ok(Escalation {
+/// Adds the escalation of a row.
+fn add_escalation(
+    alloc: Global,
+    made: &mut Vec<Escalation>,
+    row: &EscalationRow,
+) -> Result<(), AllocError> {
+    let contacts = list(alloc, row.contacts)?;
+    made.push(Escalation {
         object: row.object,
         first: row.first,
         last: row.last,
         interval: row.interval,
         period: row.period,
-        options: OptionLetters::ALL,
-        contacts: Sequence::new(Vec::from_slice(alloc, row.contacts)?),
-    })
+        options: row.options,
+        contacts,
+    })?;
+    Ok(())
 }
 
+/// The escalations of rows.
 fn escalations(alloc: Global, rows: &[EscalationRow]) -> Result<Sequence<Escalation>, AllocError> {
     let mut made = Vec::new(alloc);
     for row in rows {
-        made.push(escalation(alloc, *row)?)?;
+        add_escalation(alloc, &mut made, row)?;
     }
     Ok(Sequence::new(made))
 }
 
+/// Adds a command.
+fn add_lane(alloc: Global, made: &mut Vec<Lane>) -> Result<(), AllocError> {
+    let name = list(alloc, b"mail")?;
+    made.push(Lane { name })?;
+    Ok(())
+}
+
+/// So many commands.
 fn lanes(alloc: Global, count: u8) -> Result<Sequence<Lane>, AllocError> {
     let mut made = Vec::new(alloc);
     for _lane in 0..count {
-        let name = text(alloc, "mail")?;
-        made.push(Lane { name })?;
+        add_lane(alloc, &mut made)?;
     }
     Ok(Sequence::new(made))
 }
 
+/// Gives a configuration all of these rows but the objects.
+fn fill(alloc: Global, config: &mut Config, rows: Rows<'_>) -> Result<(), AllocError>
+    ensures { IfOk result (λ _. length config.new.periods ≡ length rows.entry.periods.now) }
+{
+    config.contacts = contacts(alloc, rows.contacts)?;
+    config.lanes = lanes(alloc, rows.lanes)?;
+    config.escalations = escalations(alloc, rows.escalations)?;
+    config.dependencies = list(alloc, rows.dependencies)?;
+    config.periods = periods(alloc, rows.periods)?;
+    Ok(())
+}
+
 /// The configuration of these rows, of the first 65,535 objects. It need not be accepted: `is_accepted` tells.
-pub fn config_of(alloc: Global, rows: Rows<'_>) -> Result<Config, AllocError> {
-    let objects = objects(alloc, rows.objects)?;
-    let contacts = contacts(alloc, rows.contacts)?;
-    let lanes = lanes(alloc, rows.lanes)?;
-    let periods = periods(alloc, rows.periods)?;
-    let escalations = escalations(alloc, rows.escalations)?;
-    let dependencies = Sequence::new(Vec::from_slice(alloc, rows.dependencies)?);
-    Ok(Config {
+pub fn config_of(alloc: Global, rows: Rows<'_>) -> Result<Config, AllocError>
+    ensures periods { IfOk result (λ config. length config.periods ≡ length rows.entry.periods.now) }
+{
+    let mut config = of_objects(alloc, objects(alloc, rows.objects)?);
+    fill(alloc, &mut config, rows)?;
+    Ok(config)
+}
+
+/// The configuration of these rows, if it is accepted. It is refused as memory is.
+pub fn accepted_config_of(alloc: Global, rows: Rows<'_>) -> Result<Config, AllocError>
+    ensures accepted { IfOk result (λ config. IsAccepted config) }
+    ensures periods { IfOk result (λ config. length config.periods ≡ length rows.entry.periods.now) }
+{
+    accepted(config_of(alloc, rows)?)
+}
+
+/// A name, and the host of a service, or none of a host.
+pub type Named = (&'static str, Option<ObjectId>);
+
+/// The row of each name.
+fn rows_named(alloc: Global, names: &[Named]) -> Result<Vec<ObjectRow>, AllocError> {
+    let mut rows = Vec::new(alloc);
+    for named in names {
+        let (name, host) = *named;
+        rows.push(ObjectRow {
+            name,
+            host,
+            contacts: &[],
+            ..ObjectRow::WEB
+        })?;
+    }
+    Ok(rows)
+}
+
+/// Objects alone.
+fn objects_alone(objects: &[ObjectRow]) -> Rows<'_> {
+    Rows {
         objects,
-        contacts,
-        lanes,
-        periods,
-        escalations,
-        dependencies,
-    })
+        ..Rows::NONE
+    }
+}
+
+/// Objects of these names, and nothing else. It need not be accepted.
+pub fn named(alloc: Global, names: &[Named]) -> Result<Config, AllocError> {
+    let rows = rows_named(alloc, names)?;
+    config_of(alloc, objects_alone(rows.as_slice()))
 }

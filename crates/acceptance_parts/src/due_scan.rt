@@ -1,7 +1,6 @@
 //! The index of due times against a plain scan over all objects, on generated calls.
 
-ghost use Rattle.std.specs.Prelude.{◌<◌};
-
+use acceptance_inputs::numbers::Numbers;
 use due_model::config::ObjectId;
 use due_times::Index;
 use std::alloc::{AllocError, Global};
@@ -23,32 +22,12 @@ const SEEDS: u64 = 8;
 /// Moments are below this number, so that many are the same.
 const MOMENTS: u64 = 60;
 
-/// Numbers that look random: a linear congruential generator, of which the high bits count.
-#[derive(Clone, Copy)]
-struct Numbers {
-    state: u64,
-}
-
-impl Numbers {
-    /// A number less than this.
-    fn below(&mut self, end: u64) -> u64
-        requires { 0 < end }
-        ensures { result < end }
-    {
-        self.state = self
-            .state
-            .wrapping_mul(6_364_136_223_846_793_005)
-            .wrapping_add(1_442_695_040_888_963_407);
-        (self.state >> 33) % end
-    }
-
-    /// A moment, or none.
-    fn moment(&mut self) -> Option<u64> {
-        if self.below(4) == 0 {
-            None
-        } else {
-            Some(self.below(MOMENTS))
-        }
+/// A moment, or none.
+fn any_moment(numbers: &mut Numbers) -> Option<u64> {
+    if numbers.once_in(4) {
+        None
+    } else {
+        Some(numbers.below(MOMENTS))
     }
 }
 
@@ -165,7 +144,7 @@ fn call(
             same(rt, index, scan, None, None);
         }
         _ => {
-            let moment = numbers.moment();
+            let moment = any_moment(numbers);
             index.set(ObjectId(object), moment)?;
             scan.set(usize::from(object), moment);
         }
@@ -175,7 +154,7 @@ fn call(
 
 /// Makes the calls of a seed.
 fn calls(rt: &impl Abort, index: &mut Index, scan: &mut Scan, seed: u64) -> Result<(), AllocError> {
-    let mut numbers = Numbers { state: seed };
+    let mut numbers = Numbers::new(seed);
     index.reserve(RESERVED)?;
     for _call in 0..CALLS {
         call(rt, index, scan, &mut numbers)?;
@@ -183,17 +162,22 @@ fn calls(rt: &impl Abort, index: &mut Index, scan: &mut Scan, seed: u64) -> Resu
     Ok(())
 }
 
+/// Makes the calls of a seed, and says how many objects were handed out.
+fn handed_out(rt: &impl Abort, alloc: Global, seed: u64) -> Result<u64, AllocError> {
+    let mut index = Index::new(alloc);
+    let mut scan = Scan::new(alloc)?;
+    calls(rt, &mut index, &mut scan, seed)?;
+    Ok(scan.handed_out)
+}
+
 #[test]
 fn index_and_scan_say_the_same(rt: HostRuntime) -> Result<(), Fail> {
-    let mut handed_out = 0u64;
+    let mut count = 0u64;
     for seed in 0..SEEDS {
-        let mut index = Index::new(rt.alloc());
-        let mut scan = Scan::new(rt.alloc())?;
-        calls(&rt, &mut index, &mut scan, seed)?;
-        handed_out = handed_out.wrapping_add(scan.handed_out);
+        count = count.wrapping_add(handed_out(&rt, rt.alloc(), seed)?);
     }
     // Many were handed out, so the calls are tried on something.
-    assert!(&rt; handed_out > 200, "{handed_out}");
+    assert!(&rt; count > 200, "{count}");
     Ok(())
 }
 
@@ -205,16 +189,26 @@ fn three_due(index: &mut Index) -> Result<(), AllocError> {
     index.set(ObjectId(6), Some(70))
 }
 
+/// Compares the first object from a number on whose moment has come.
+fn next_is(rt: &impl Abort, index: &Index, from: u32, t: u64, object: Option<u16>) {
+    assert!(rt; index.next_due(from, t) == object.map(ObjectId), "{from} at {t}");
+}
+
+/// Compares what is due before two are taken out, and after.
+fn are_next(rt: &impl Abort, index: &mut Index) {
+    next_is(rt, index, 0, 49, None);
+    next_is(rt, index, 0, 60, Some(1));
+    next_is(rt, index, 2, 60, Some(4));
+    next_is(rt, index, 5, 69, None);
+    index.take_due(60);
+    assert_eq!(rt; index.examined(), 2);
+    next_is(rt, index, 0, 70, Some(6));
+}
+
 #[test]
 fn due_objects_in_order(rt: HostRuntime) -> Result<(), Fail> {
     let mut index = Index::new(rt.alloc());
     three_due(&mut index)?;
-    assert!(rt; index.next_due(0, 49) == None);
-    assert!(rt; index.next_due(0, 60) == Some(ObjectId(1)));
-    assert!(rt; index.next_due(2, 60) == Some(ObjectId(4)));
-    assert!(rt; index.next_due(5, 69) == None);
-    index.take_due(60);
-    assert_eq!(rt; index.examined(), 2);
-    assert!(rt; index.next_due(0, 70) == Some(ObjectId(6)));
+    are_next(&rt, &mut index);
     Ok(())
 }

@@ -1,90 +1,126 @@
 //! The log of suppressions, a lane's record, and the index of due times.
 
-use due_model::config::{ContactId, LaneId, ObjectId};
-use due_model::notice::{Filter, Kind, Notice, Suppression};
-use due_model::state::State;
+use acceptance_inputs::notices::{DOWN, STOPPED};
+use due_model::config::ObjectId;
+use due_model::notice::{Notice, Suppression};
 use due_times::Index;
+use std::alloc::AllocError;
 use std::process::Abort;
 use std::test::Fail;
 use suppression_log::Log;
 use undelivered::{LaneRecord, TakeFault, Why};
 
-/// A suppression of object 0 at an event.
+/// A suppression at an event.
 fn stopped(event: u64) -> Suppression {
-    Suppression {
-        event,
-        moment: 1000,
-        object: ObjectId(0),
-        kind: Kind::Problem,
-        state: State::Down,
-        number: 1,
-        filter: Filter::Downtime,
-        contact: None,
-    }
+    Suppression { event, ..STOPPED }
 }
 
-/// A notice of object 0 at an event.
+/// A notice of an event.
 fn due(event: u64) -> Notice {
-    Notice {
-        event,
-        moment: 1000,
-        object: ObjectId(0),
-        kind: Kind::Problem,
-        state: State::Down,
-        number: 1,
-        contact: ContactId(0),
-        lane: LaneId(0),
-    }
+    Notice { event, ..DOWN }
+}
+
+/// Compares what a log has.
+fn has(rt: &impl Abort, log: &Log, lines: &[Suppression]) {
+    assert_eq!(rt; log.lines(), lines);
+}
+
+/// A log of two suppressions, and of one after it is cleared.
+fn keeps(rt: &impl Abort, log: &mut Log) -> Result<(), AllocError> {
+    log.reserve(1)?;
+    log.push(stopped(0))?;
+    log.push(stopped(1))?;
+    has(rt, log, &[stopped(0), stopped(1)]);
+    log.clear();
+    has(rt, log, &[]);
+    log.push(stopped(2))?;
+    has(rt, log, &[stopped(2)]);
+    Ok(())
 }
 
 #[test]
 fn suppressions_in_order(rt: HostRuntime) -> Result<(), Fail> {
     let mut log = Log::new(rt.alloc());
-    log.reserve(1)?;
-    log.push(stopped(0))?;
-    log.push(stopped(1))?;
-    assert_eq!(rt; log.lines(), [stopped(0), stopped(1)].as_slice());
-    log.clear();
-    assert_eq!(rt; log.lines().len(), 0);
-    log.push(stopped(2))?;
-    assert_eq!(rt; log.lines(), [stopped(2)].as_slice());
+    keeps(&rt, &mut log)?;
+    Ok(())
+}
+
+/// Compares what becomes of a notice that a lane is to take up.
+fn takes_up(rt: &impl Abort, record: &mut LaneRecord, event: u64, taken: Result<(), TakeFault>) {
+    assert!(rt; record.take_up(due(event)) == taken);
+}
+
+/// Compares what a record has.
+fn has_parts(rt: &impl Abort, record: &LaneRecord) {
+    let parts = record.parts();
+    assert_eq!(rt;
+        (parts.taken, parts.undelivered),
+        ([due(0)].as_slice(), [due(1), due(2)].as_slice())
+    );
+    assert!(rt; parts.hand == None && parts.why == Some(Why::Asked));
+}
+
+/// A record through each call.
+fn records(rt: &impl Abort, record: &mut LaneRecord) -> Result<(), AllocError> {
+    takes_up(rt, record, 0, Ok(()));
+    takes_up(rt, record, 1, Err(TakeFault::NotIdle));
+    assert!(rt; record.parts().hand == Some(due(0)));
+    record.settle();
+    takes_up(rt, record, 1, Ok(()));
+    record.close(Why::Asked);
+    takes_up(rt, record, 2, Err(TakeFault::Closed));
+    record.drain(due(2))?;
+    has_parts(rt, record);
     Ok(())
 }
 
 #[test]
 fn record_of_a_lane(rt: HostRuntime) -> Result<(), Fail> {
     let mut record = LaneRecord::new(rt.alloc());
-    assert!(rt; record.take_up(due(0)) == Ok(()));
-    assert!(rt; record.take_up(due(1)) == Err(TakeFault::NotIdle));
-    assert!(rt; record.parts().hand == Some(due(0)));
-    record.settle();
-    assert!(rt; record.take_up(due(1)) == Ok(()));
-    record.close(Why::Asked);
-    assert!(rt; record.take_up(due(2)) == Err(TakeFault::Closed));
-    record.drain(due(2))?;
-    let parts = record.parts();
-    assert_eq!(rt; parts.taken, [due(0)].as_slice());
-    assert_eq!(rt; parts.undelivered, [due(1), due(2)].as_slice());
-    assert!(rt; parts.hand == None);
-    assert!(rt; parts.why == Some(Why::Asked));
+    records(&rt, &mut record)?;
     Ok(())
+}
+
+/// When objects are due.
+const DUE: [(u16, Option<u64>); 5] = [
+    (2, Some(60)),
+    (0, Some(120)),
+    (6, Some(60)),
+    (1, Some(90)),
+    (1, None),
+];
+
+/// A moment, and the object that is then handed out.
+const HANDED_OUT: [(u64, Option<u16>); 6] = [
+    (59, None),
+    (60, Some(2)),
+    (60, Some(6)),
+    (119, None),
+    (200, Some(0)),
+    (200, None),
+];
+
+/// Sets when objects are due.
+fn set_due(index: &mut Index) -> Result<(), AllocError> {
+    index.reserve(3)?;
+    for (object, moment) in DUE {
+        index.set(ObjectId(object), moment)?;
+    }
+    Ok(())
+}
+
+/// Compares the objects that are handed out.
+fn hands_out(rt: &impl Abort, index: &mut Index) {
+    for (moment, object) in HANDED_OUT {
+        assert!(rt; index.pop_due(moment) == object.map(ObjectId), "at {moment}");
+    }
+    assert_eq!(rt; index.examined(), 3);
 }
 
 #[test]
 fn due_times_in_order(rt: HostRuntime) -> Result<(), Fail> {
     let mut index = Index::new(rt.alloc());
-    index.reserve(3)?;
-    index.set(ObjectId(2), Some(60))?;
-    index.set(ObjectId(0), Some(120))?;
-    index.set(ObjectId(6), Some(60))?;
-    index.set(ObjectId(1), Some(90))?;
-    index.set(ObjectId(1), None)?;
-    assert!(rt; index.pop_due(59) == None);
-    assert!(rt; index.pop_due(60) == Some(ObjectId(2)));
-    assert!(rt; index.pop_due(60) == Some(ObjectId(6)));
-    assert!(rt; index.pop_due(119) == None);
-    assert!(rt; index.pop_due(200) == Some(ObjectId(0)));
-    assert!(rt; index.pop_due(200) == None);
-    assert_eq!(rt; index.examined(), 3);
+    set_due(&mut index)?;
+    hands_out(&rt, &mut index);
     Ok(())
 }

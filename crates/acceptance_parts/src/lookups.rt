@@ -1,14 +1,14 @@
 //! The plain look-ups of periods and dependencies. Values are those of worked examples, or reckoned by hand; periods are
 //! compared with the same as they are worked out.
 
-use acceptance_inputs::accepted::is_accepted;
-use acceptance_inputs::configs::object;
-use acceptance_inputs::periods::{Row, periods};
-use due_model::config::{Config, Dependency, ObjectId, PeriodId, Range};
-use due_model::limits::{LAST_MOMENT, MAX_OBJECTS};
-use due_model::objects::Objects;
-use due_model::sequence::Sequence;
-use due_model::state::{State, StateSet};
+ghost use Rattle.due_model.specs.Accepted.{IsAccepted};
+
+use crate::periods::{Case, ROWS};
+use acceptance_inputs::dependencies::{EXAMPLES, Example, Question, chain, config_of, hosts_with};
+use acceptance_inputs::periods::{PeriodRow, diamond, periods_alone};
+use due_model::config::{Config, Dependency, ObjectId, PeriodId};
+use due_model::limits::LAST_MOMENT;
+use due_model::state::State;
 use due_model::zone::Zone;
 use slow_lookups::dependencies::dependency_fails;
 use slow_lookups::periods::{in_period, next_in};
@@ -18,77 +18,6 @@ use std::test::Fail;
 use time_period::compile::compile_all;
 use time_period::compiled::Compiled;
 use zone_times::given::zone_given;
-
-/// Tea, lunch without tea, a Thursday without lunch, and two ranges of one day.
-const ROWS: [Row; 4] = [
-    Row {
-        first: 4,
-        last: 4,
-        ranges: &[Range {
-            start: 45_000,
-            end: 45_900,
-        }],
-        excludes: &[],
-    },
-    Row {
-        first: 4,
-        last: 4,
-        ranges: &[Range {
-            start: 43_200,
-            end: 46_800,
-        }],
-        excludes: &[PeriodId(0)],
-    },
-    Row {
-        first: 4,
-        last: 4,
-        ranges: &[Range {
-            start: 0,
-            end: 86_400,
-        }],
-        excludes: &[PeriodId(1)],
-    },
-    Row {
-        first: 4,
-        last: 5,
-        ranges: &[
-            Range {
-                start: 44_000,
-                end: 45_000,
-            },
-            Range {
-                start: 45_000,
-                end: 46_000,
-            },
-        ],
-        excludes: &[],
-    },
-];
-
-/// Two hours of Sunday.
-const SUNDAYS: [Row; 2] = [
-    Row {
-        first: 0,
-        last: 0,
-        ranges: &[Range {
-            start: 7_200,
-            end: 10_800,
-        }],
-        excludes: &[],
-    },
-    Row {
-        first: 0,
-        last: 0,
-        ranges: &[Range {
-            start: 3_600,
-            end: 7_200,
-        }],
-        excludes: &[],
-    },
-];
-
-/// A period's number, a moment, and the least moment of the period from there on.
-type Case = (u16, u64, Option<u64>);
 
 /// A period's number, a moment, and whether it is in the period.
 type Moment = (u16, u64, bool);
@@ -101,9 +30,9 @@ const BY_UTC: [Case; 9] = [
     (1, 45_000, Some(45_900)),
     (0, 44_999, Some(45_000)),
     (0, 45_000, Some(45_000)),
-    (3, 43_999, Some(44_000)),
-    (3, 44_999, Some(44_999)),
-    (3, 45_999, Some(45_999)),
+    (11, 43_999, Some(44_000)),
+    (11, 44_999, Some(44_999)),
+    (11, 45_999, Some(45_999)),
 ];
 
 const IN_BY_UTC: [Moment; 9] = [
@@ -111,14 +40,14 @@ const IN_BY_UTC: [Moment; 9] = [
     (2, 45_600, true),
     (0, 45_899, true),
     (0, 45_900, false),
-    (3, 46_000, false),
-    (3, 130_400, true),
-    (3, 216_800, false),
+    (11, 46_000, false),
+    (11, 130_400, true),
+    (11, 216_800, false),
     (2, 0, true),
     (2, LAST_MOMENT, false),
 ];
 
-/// The hour that is left out in March 2024, and the one that comes twice in November.
+/// The hour that is left out in March 2024, and the one that comes twice in November: two hours of Sunday.
 const BY_NEW_YORK: [Case; 1] = [(0, 1_710_046_800, Some(1_710_655_200))];
 
 const IN_BY_NEW_YORK: [Moment; 5] = [
@@ -129,48 +58,23 @@ const IN_BY_NEW_YORK: [Moment; 5] = [
     (1, 1_730_617_200, false),
 ];
 
-/// How many pairs stand one above the other.
+/// How many pairs of periods the diamond has.
 const LEVELS: usize = 4;
 
-/// The periods that are excluded, pair by pair.
-const PAIRS: [PeriodId; 6] = [
-    PeriodId(0),
-    PeriodId(1),
-    PeriodId(2),
-    PeriodId(3),
-    PeriodId(4),
-    PeriodId(5),
+/// The periods of the diamond at one moment: every second pair holds.
+const IN_DIAMOND: [Moment; 8] = [
+    (0, 5, true),
+    (1, 5, true),
+    (2, 5, false),
+    (3, 5, false),
+    (4, 5, true),
+    (5, 5, true),
+    (6, 5, false),
+    (7, 5, false),
 ];
-
-/// The criteria `n`.
-const NONE: StateSet = StateSet {
-    pending: false,
-    up: false,
-    down: false,
-    unreachable: false,
-    fine: false,
-    warning: false,
-    unknown: false,
-    critical: false,
-};
-
-/// The criteria `c`.
-const ON_CRITICAL: StateSet = StateSet {
-    critical: true,
-    ..NONE
-};
-
-/// The criteria `p`.
-const ON_PENDING: StateSet = StateSet {
-    pending: true,
-    ..NONE
-};
 
 /// How many entries the long chain has.
 const LONG: u16 = 2_000;
-
-/// Each object's state, a moment, an object, and whether a dependency of it fails then.
-type Question<'a> = (&'a [State], u64, u16, bool);
 
 /// Compares whether a moment is in a period.
 fn is_in(
@@ -202,7 +106,7 @@ fn comes(
     Ok(())
 }
 
-/// Compares what the periods of these rows give in a zone.
+/// Compares what the periods of a configuration give in a zone.
 fn all_give(
     rt: &impl Abort,
     alloc: Global,
@@ -220,64 +124,31 @@ fn all_give(
     Ok(())
 }
 
-/// An entry of object `dependent` on object `master`.
-fn entry(dependent: u16, master: u16, inherits: bool, states: StateSet) -> Dependency {
-    Dependency {
-        dependent: ObjectId(dependent),
-        master: ObjectId(master),
-        inherits,
-        states,
-        period: None,
-    }
-}
-
-/// So many hosts, of one name.
-fn hosts(alloc: Global, count: u16) -> Result<Objects, AllocError> {
-    let mut hosts = Vec::new(alloc);
-    for _host in 0..count {
-        hosts.push(object(alloc, "host", None)?)?;
-    }
-    if hosts.len() > MAX_OBJECTS {
-        return Err(AllocError);
-    }
-    Objects::new(alloc, hosts)
-}
-
-/// Compares what is answered of so many hosts with these entries and the periods of `ROWS`.
-fn answers(
+/// Compares what the periods of these rows give in a zone.
+fn rows_give(
     rt: &impl Abort,
     alloc: Global,
-    count: u16,
-    entries: &[Dependency],
-    questions: &[Question<'_>],
+    rows: &[PeriodRow<'_>],
+    zone: &Zone,
+    cases: &[Case],
+    moments: &[Moment],
 ) -> Result<(), Fail> {
-    let mut config = periods(alloc, &ROWS)?;
-    config.objects = hosts(alloc, count)?;
-    config.dependencies = Sequence::new(Vec::from_slice(alloc, entries)?);
-    assert!(rt; is_accepted(&config));
-    for question in questions {
-        let (states, moment, object, wanted) = *question;
-        let t = moment.min(LAST_MOMENT);
-        let fails = dependency_fails(alloc, &config, &Zone::Utc, states, t, ObjectId(object))?;
-        assert_eq!(rt; fails, wanted, "object {object} at {moment}");
-    }
-    Ok(())
+    let config = periods_alone(alloc, rows)?;
+    all_give(rt, alloc, &config, zone, cases, moments)
 }
 
 #[test]
 fn nested_exclusions(rt: HostRuntime) -> Result<(), Fail> {
-    let config = periods(rt.alloc(), &ROWS)?;
-    all_give(&rt, rt.alloc(), &config, &Zone::Utc, &BY_UTC, &IN_BY_UTC)
+    rows_give(&rt, rt.alloc(), &ROWS, &Zone::Utc, &BY_UTC, &IN_BY_UTC)
 }
 
 #[test]
 fn summer_time(rt: HostRuntime) -> Result<(), Fail> {
-    let config = periods(rt.alloc(), &SUNDAYS)?;
     match zone_given(rt.alloc(), Some("EST5EDT,M3.2.0,M11.1.0"), None) {
-        Ok(zone) => all_give(
+        Ok(zone) => rows_give(
             &rt,
             rt.alloc(),
-            &config,
+            &ROWS[4..6],
             &zone,
             &BY_NEW_YORK,
             &IN_BY_NEW_YORK,
@@ -286,13 +157,25 @@ fn summer_time(rt: HostRuntime) -> Result<(), Fail> {
     }
 }
 
+/// Each period excludes both of the level below.
+#[test]
+fn every_second_level_of_a_diamond(rt: HostRuntime) -> Result<(), Fail> {
+    let rows = diamond(rt.alloc(), LEVELS)?;
+    rows_give(&rt, rt.alloc(), rows.as_slice(), &Zone::Utc, &[], &IN_DIAMOND)
+}
+
+/// No period is always.
+fn is_always(rt: &impl Abort, alloc: Global, config: &Config) -> Result<(), Fail> {
+    let next = next_in(alloc, config, &Zone::Utc, None, 77)?;
+    let is_in = in_period(alloc, config, &Zone::Utc, None, 77)?;
+    assert_eq!(rt; (next, is_in), (Some(77), true));
+    Ok(())
+}
+
 #[test]
 fn no_period_is_always(rt: HostRuntime) -> Result<(), Fail> {
-    let config = periods(rt.alloc(), &[])?;
-    let next = next_in(rt.alloc(), &config, &Zone::Utc, None, 77)?;
-    let is_in = in_period(rt.alloc(), &config, &Zone::Utc, None, 77)?;
-    assert_eq!(&rt; (next, is_in), (Some(77), true));
-    Ok(())
+    let config = periods_alone(rt.alloc(), &[])?;
+    is_always(&rt, rt.alloc(), &config)
 }
 
 /// Goes over a Thursday's noon with a period that is worked out.
@@ -311,134 +194,103 @@ fn goes_over(
     Ok(())
 }
 
+/// The same with each of them.
+fn goes_over_each(
+    rt: &impl Abort,
+    alloc: Global,
+    config: &Config,
+    all: &[Compiled],
+) -> Result<(), Fail> {
+    for (number, period) in all.iter().enumerate() {
+        goes_over(rt, alloc, config, number as u16, period)?;
+    }
+    Ok(())
+}
+
+/// The same with the periods of a configuration, as they are worked out.
+fn goes_over_all(rt: &impl Abort, alloc: Global, config: &Config) -> Result<(), Fail>
+    requires { IsAccepted config.now }
+{
+    let all = compile_all(alloc, config)?;
+    goes_over_each(rt, alloc, config, all.as_slice())
+}
+
 #[test]
 fn as_worked_out(rt: HostRuntime) -> Result<(), Fail> {
-    let config = periods(rt.alloc(), &ROWS)?;
-    let all = compile_all(rt.alloc(), &config)?;
-    for (number, period) in all.as_slice().iter().enumerate() {
-        goes_over(&rt, rt.alloc(), &config, number as u16, period)?;
+    let config = periods_alone(rt.alloc(), &ROWS)?;
+    goes_over_all(&rt, rt.alloc(), &config)
+}
+
+/// Compares what is answered to questions about dependencies.
+fn answers(
+    rt: &impl Abort,
+    alloc: Global,
+    config: &Config,
+    questions: &[Question<'_>],
+) -> Result<(), Fail>
+    requires { IsAccepted config.now }
+{
+    for question in questions {
+        let (states, moment, object, wanted) = *question;
+        let t = moment.min(LAST_MOMENT);
+        let fails = dependency_fails(alloc, config, &Zone::Utc, states, t, ObjectId(object))?;
+        assert_eq!(rt; fails, wanted, "object {object} at {moment}");
     }
     Ok(())
 }
 
-/// Each period excludes both of the level below, so every second level never holds.
+/// Compares what is answered to questions about an example.
+fn example_answers(
+    rt: &impl Abort,
+    alloc: Global,
+    example: Example,
+    questions: &[Question<'_>],
+) -> Result<(), Fail> {
+    let config = config_of(alloc, example)?;
+    answers(rt, alloc, &config, questions)
+}
+
 #[test]
-fn diamond(rt: HostRuntime) -> Result<(), Fail> {
-    let mut rows = Vec::new(rt.alloc());
-    for level in 0..LEVELS {
-        let low = if level == 0 { 0 } else { level * 2 - 2 };
-        let row = Row {
-            first: 0,
-            last: 6,
-            ranges: &[Range {
-                start: 0,
-                end: 86_400,
-            }],
-            excludes: &PAIRS[low..level * 2],
-        };
-        rows.push(row)?;
-        rows.push(row)?;
-    }
-    let config = periods(rt.alloc(), rows.as_slice())?;
-    for number in 0..8u16 {
-        let case = (number, 5, number / 2 % 2 == 0);
-        is_in(&rt, rt.alloc(), &config, &Zone::Utc, case)?;
+fn worked_examples(rt: HostRuntime) -> Result<(), Fail> {
+    for example in &EXAMPLES {
+        example_answers(&rt, rt.alloc(), *example, example.questions)?;
     }
     Ok(())
 }
 
-/// Web, C, B and A, of which A depends on B and B on C; C and A are CRITICAL.
-const WORKED: [State; 4] = [
-    State::Pending,
-    State::Critical,
-    State::Pending,
-    State::Critical,
-];
-
+/// An object beyond the states never had one: of the third example, the entry with the criteria `p` fails.
 #[test]
-fn worked_chain_inherits(rt: HostRuntime) -> Result<(), Fail> {
-    let entries = [
-        entry(3, 2, true, ON_CRITICAL),
-        entry(2, 1, false, ON_CRITICAL),
-    ];
-    let questions = [
-        (WORKED.as_slice(), 1000, 3, true),
-        (WORKED.as_slice(), 1000, 2, true),
-        (WORKED.as_slice(), 1000, 1, false),
-        (WORKED.as_slice(), 1000, 4, false),
-    ];
-    answers(&rt, rt.alloc(), 4, &entries, &questions)
+fn no_states(rt: HostRuntime) -> Result<(), Fail> {
+    let question = ([].as_slice(), 0, 2, true);
+    example_answers(&rt, rt.alloc(), EXAMPLES[2], &[question])
 }
 
-#[test]
-fn worked_chain_does_not_inherit(rt: HostRuntime) -> Result<(), Fail> {
-    let entries = [
-        entry(3, 2, false, ON_CRITICAL),
-        entry(2, 1, true, ON_CRITICAL),
-    ];
-    let questions = [
-        (WORKED.as_slice(), 1000, 3, false),
-        (WORKED.as_slice(), 1000, 2, true),
-    ];
-    answers(&rt, rt.alloc(), 4, &entries, &questions)
+/// Of a chain of which the first object is CRITICAL, the last one fails and the first doesn't.
+fn last_fails(
+    rt: &impl Abort,
+    alloc: Global,
+    dependencies: &[Dependency],
+    states: &[State],
+) -> Result<(), Fail> {
+    let config = hosts_with(alloc, LONG + 1, dependencies)?;
+    let questions = [(states, 0, LONG, true), (states, 0, 0, false)];
+    answers(rt, alloc, &config, &questions)
 }
 
-/// Where the master never had a state, an entry with the criteria `p` fails, and one with `n` or `c` does not.
-#[test]
-fn pending_master(rt: HostRuntime) -> Result<(), Fail> {
-    let entries = [
-        entry(1, 0, false, NONE),
-        entry(2, 0, false, ON_PENDING),
-        entry(3, 0, false, ON_CRITICAL),
-        entry(4, 0, false, ON_PENDING),
-        entry(4, 0, false, NONE),
-    ];
-    let none: [State; 0] = [];
-    let never = [State::Pending; 5];
-    let up = [State::Up; 5];
-    let questions = [
-        (never.as_slice(), 0, 1, false),
-        (never.as_slice(), 0, 2, true),
-        (never.as_slice(), 0, 3, false),
-        (never.as_slice(), 0, 4, true),
-        (none.as_slice(), 0, 2, true),
-        (up.as_slice(), 0, 2, false),
-        (up.as_slice(), 0, 4, false),
-    ];
-    answers(&rt, rt.alloc(), 5, &entries, &questions)
+/// The first object is CRITICAL.
+fn first_critical(alloc: Global) -> Result<Vec<State>, AllocError> {
+    let mut states = vec![in alloc; State::Fine; usize::from(LONG) + 1]?;
+    if let Some(state) = states.first_mut() {
+        *state = State::Critical;
+    }
+    Ok(states)
 }
 
-/// The second link is valid at lunch without tea. 1970-01-01 was a Thursday.
-#[test]
-fn links_in_their_periods(rt: HostRuntime) -> Result<(), Fail> {
-    let mut lunch = entry(1, 0, true, ON_CRITICAL);
-    lunch.period = Some(PeriodId(1));
-    let entries = [lunch, entry(2, 1, true, ON_CRITICAL)];
-    let states = [State::Critical, State::Fine, State::Fine];
-    let questions = [
-        (states.as_slice(), 43_199, 2, false),
-        (states.as_slice(), 43_200, 2, true),
-        (states.as_slice(), 44_999, 1, true),
-        (states.as_slice(), 45_000, 2, false),
-        (states.as_slice(), 45_900, 2, true),
-        (states.as_slice(), 46_800, 2, false),
-        (states.as_slice(), LAST_MOMENT, 2, false),
-    ];
-    answers(&rt, rt.alloc(), 3, &entries, &questions)
-}
-
+/// The entries stand from the last object to the first.
 #[test]
 fn chain_of_two_thousand(rt: HostRuntime) -> Result<(), Fail> {
-    let mut entries = Vec::new(rt.alloc());
-    let mut states = Vec::new(rt.alloc());
-    states.push(State::Critical)?;
-    for master in 0..LONG {
-        entries.push(entry(LONG - master, LONG - master - 1, true, ON_CRITICAL))?;
-        states.push(State::Fine)?;
-    }
-    let questions = [
-        (states.as_slice(), 0, LONG, true),
-        (states.as_slice(), 0, 0, false),
-    ];
-    answers(&rt, rt.alloc(), LONG + 1, entries.as_slice(), &questions)
+    let states = first_critical(rt.alloc())?;
+    let mut dependencies = chain(rt.alloc(), LONG)?;
+    dependencies.as_mut_slice().reverse();
+    last_fails(&rt, rt.alloc(), dependencies.as_slice(), states.as_slice())
 }

@@ -1,17 +1,14 @@
 //! Objects by name.
 
-use acceptance_inputs::configs::object;
+use acceptance_inputs::rows::{Named, named};
 use due_model::config::ObjectId;
 use due_model::objects::Objects;
-use std::alloc::{AllocError, Global};
+use std::alloc::Global;
 use std::process::Abort;
 use std::test::Fail;
 
-/// More objects than a list here has.
-const MANY: usize = 100;
-
 /// Hosts, and services of the host of this number; the last one's host isn't in the list.
-const OBJECTS: [(&str, Option<ObjectId>); 6] = [
+const OBJECTS: [Named; 6] = [
     ("web", None),
     ("db", None),
     ("disk", Some(ObjectId(1))),
@@ -21,7 +18,9 @@ const OBJECTS: [(&str, Option<ObjectId>); 6] = [
 ];
 
 /// A host's name, a service's, and the object that they name.
-const FOUND: [(&[u8], Option<&[u8]>, Option<ObjectId>); 9] = [
+type Found = (&'static [u8], Option<&'static [u8]>, Option<ObjectId>);
+
+const FOUND: [Found; 9] = [
     (b"web", None, Some(ObjectId(0))),
     (b"db", None, Some(ObjectId(1))),
     (b"disk", None, None),
@@ -33,35 +32,33 @@ const FOUND: [(&[u8], Option<&[u8]>, Option<ObjectId>); 9] = [
     (b"we", None, None),
 ];
 
-/// The objects of a list of names and hosts.
-fn objects(
+/// Compares what is found among objects.
+fn are_found(rt: &impl Abort, objects: &Objects, rows: &[Found]) {
+    for row in rows {
+        let (host, service, found) = *row;
+        assert_eq!(rt; objects.find(host, service), found, "{host:?} {service:?}");
+    }
+}
+
+/// Compares how many objects of these names there are, and what is found among them.
+fn gives(
     rt: &impl Abort,
     alloc: Global,
-    names: &[(&'static str, Option<ObjectId>)],
-) -> Result<Objects, AllocError> {
-    let mut objects = Vec::new(alloc);
-    for named in names {
-        let (name, host) = *named;
-        objects.push(object(alloc, name, host)?)?;
-    }
-    assert!(rt; objects.len() < MANY);
-    Objects::new(alloc, objects)
+    names: &[Named],
+    rows: &[Found],
+) -> Result<(), Fail> {
+    let config = named(alloc, names)?;
+    assert_eq!(rt; config.objects.len(), names.len());
+    are_found(rt, &config.objects, rows);
+    Ok(())
 }
 
 #[test]
 fn finds_by_name(rt: HostRuntime) -> Result<(), Fail> {
-    let objects = objects(&rt, rt.alloc(), &OBJECTS)?;
-    for row in &FOUND {
-        let (host, service, found) = *row;
-        assert_eq!(rt; objects.find(host, service), found, "{host:?} {service:?}");
-    }
-    Ok(())
+    gives(&rt, rt.alloc(), &OBJECTS, &FOUND)
 }
 
 #[test]
 fn finds_nothing_in_an_empty_list(rt: HostRuntime) -> Result<(), Fail> {
-    let objects = objects(&rt, rt.alloc(), &[])?;
-    assert_eq!(rt; objects.find(b"web", None), None);
-    assert_eq!(rt; objects.len(), 0);
-    Ok(())
+    gives(&rt, rt.alloc(), &[], &[(b"web", None, None)])
 }

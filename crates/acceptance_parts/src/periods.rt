@@ -2,7 +2,8 @@
 
 ghost use Rattle.std.specs.Prelude.{◌≤◌};
 
-use acceptance_inputs::periods::{Row, periods};
+use acceptance_inputs::numbers::Numbers;
+use acceptance_inputs::periods::{PeriodRow, diamond, numbered, periods_alone};
 use due_model::config::{PeriodId, Range};
 use due_model::limits::LAST_MOMENT;
 use due_model::zone::Zone;
@@ -14,60 +15,47 @@ use time_period::compiled::Compiled;
 use zone_times::given::zone_given;
 
 /// Tea, lunch without tea, a Thursday without lunch; never; two hours of Sunday, and one of Monday; Thursday, work,
-/// ranges that touch, and the end of Saturday.
-const ROWS: [Row; 11] = [
-    Row {
-        first: 4,
-        last: 4,
+/// ranges that touch, the end of Saturday, and ranges that touch on two days.
+pub(crate) const ROWS: [PeriodRow<'static>; 12] = [
+    PeriodRow {
         ranges: &[Range {
             start: 45_000,
             end: 45_900,
         }],
-        excludes: &[],
+        ..PeriodRow::THURSDAY
     },
-    Row {
-        first: 4,
-        last: 4,
+    PeriodRow {
         ranges: &[Range {
             start: 43_200,
             end: 46_800,
         }],
         excludes: &[PeriodId(0)],
+        ..PeriodRow::THURSDAY
     },
-    Row {
+    PeriodRow {
         first: 4,
         last: 4,
-        ranges: &[Range {
-            start: 0,
-            end: 86_400,
-        }],
         excludes: &[PeriodId(1)],
+        ..PeriodRow::ALWAYS
     },
-    Row {
-        first: 0,
-        last: 6,
-        ranges: &[],
-        excludes: &[],
-    },
-    Row {
-        first: 0,
+    PeriodRow::NEVER,
+    PeriodRow {
         last: 0,
         ranges: &[Range {
             start: 7_200,
             end: 10_800,
         }],
-        excludes: &[],
+        ..PeriodRow::NEVER
     },
-    Row {
-        first: 0,
+    PeriodRow {
         last: 0,
         ranges: &[Range {
             start: 3_600,
             end: 7_200,
         }],
-        excludes: &[],
+        ..PeriodRow::NEVER
     },
-    Row {
+    PeriodRow {
         first: 1,
         last: 1,
         ranges: &[Range {
@@ -76,16 +64,12 @@ const ROWS: [Row; 11] = [
         }],
         excludes: &[],
     },
-    Row {
+    PeriodRow {
         first: 4,
         last: 4,
-        ranges: &[Range {
-            start: 0,
-            end: 86_400,
-        }],
-        excludes: &[],
+        ..PeriodRow::ALWAYS
     },
-    Row {
+    PeriodRow {
         first: 1,
         last: 5,
         ranges: &[Range {
@@ -94,9 +78,7 @@ const ROWS: [Row; 11] = [
         }],
         excludes: &[],
     },
-    Row {
-        first: 4,
-        last: 4,
+    PeriodRow {
         ranges: &[
             Range {
                 start: 7_200,
@@ -107,21 +89,35 @@ const ROWS: [Row; 11] = [
                 end: 7_200,
             },
         ],
-        excludes: &[],
+        ..PeriodRow::THURSDAY
     },
-    Row {
+    PeriodRow {
         first: 6,
-        last: 6,
         ranges: &[Range {
             start: 82_800,
             end: 86_400,
         }],
+        ..PeriodRow::NEVER
+    },
+    PeriodRow {
+        first: 4,
+        last: 5,
+        ranges: &[
+            Range {
+                start: 44_000,
+                end: 45_000,
+            },
+            Range {
+                start: 45_000,
+                end: 46_000,
+            },
+        ],
         excludes: &[],
     },
 ];
 
 /// A period's number, a moment, and the least moment of the period from there on.
-type Case = (usize, u64, Option<u64>);
+pub(crate) type Case = (u16, u64, Option<u64>);
 
 /// 1970-01-01 was a Thursday.
 const BY_UTC: [Case; 21] = [
@@ -267,54 +263,42 @@ const SPANS: [Range; 13] = [
     },
 ];
 
-/// How many pairs stand one above the other.
+/// How many pairs of periods the diamond has, one above the other.
 const LEVELS: usize = 20;
 
-/// The periods that are excluded, pair by pair.
-const PAIRS: [PeriodId; 38] = [
-    PeriodId(0),
-    PeriodId(1),
-    PeriodId(2),
-    PeriodId(3),
-    PeriodId(4),
-    PeriodId(5),
-    PeriodId(6),
-    PeriodId(7),
-    PeriodId(8),
-    PeriodId(9),
-    PeriodId(10),
-    PeriodId(11),
-    PeriodId(12),
-    PeriodId(13),
-    PeriodId(14),
-    PeriodId(15),
-    PeriodId(16),
-    PeriodId(17),
-    PeriodId(18),
-    PeriodId(19),
-    PeriodId(20),
-    PeriodId(21),
-    PeriodId(22),
-    PeriodId(23),
-    PeriodId(24),
-    PeriodId(25),
-    PeriodId(26),
-    PeriodId(27),
-    PeriodId(28),
-    PeriodId(29),
-    PeriodId(30),
-    PeriodId(31),
-    PeriodId(32),
-    PeriodId(33),
-    PeriodId(34),
-    PeriodId(35),
-    PeriodId(36),
-    PeriodId(37),
+/// Every second level of the diamond never holds.
+const IN_DIAMOND: [Case; 2] = [(36, 5, Some(5)), (39, 5, None)];
+
+/// A rule or a zone file, what the periods of `ROWS` give in that zone, and when its clocks are changed.
+type Zoned = (
+    Option<&'static str>,
+    Option<&'static [u8]>,
+    &'static [Case],
+    &'static [u64],
+);
+
+const ZONES: [Zoned; 6] = [
+    (None, None, &BY_UTC, &[]),
+    (
+        Some("EST5EDT,M3.2.0,M11.1.0"),
+        None,
+        &BY_NEW_YORK,
+        &CHANGES_OF_NEW_YORK,
+    ),
+    (None, Some(&NEW_YORK), &BY_NEW_YORK, &CHANGES_OF_NEW_YORK),
+    (
+        Some("<+1030>-10:30<+11>-11,M10.1.0,M4.1.0"),
+        None,
+        &BY_LORD_HOWE,
+        &CHANGES_OF_LORD_HOWE,
+    ),
+    (Some("AAA-5:30:15"), None, &AHEAD, &[]),
+    (Some("AAA5:30:15"), None, &BEHIND, &[]),
 ];
 
 /// The periods of these rows, worked out.
-fn worked_out(alloc: Global, rows: &[Row]) -> Result<Vec<Compiled>, AllocError> {
-    let config = periods(alloc, rows)?;
+fn worked_out(alloc: Global, rows: &[PeriodRow<'_>]) -> Result<Vec<Compiled>, AllocError> {
+    let config = periods_alone(alloc, rows)?;
     compile_all(alloc, &config)
 }
 
@@ -322,34 +306,30 @@ fn worked_out(alloc: Global, rows: &[Row]) -> Result<Vec<Compiled>, AllocError> 
 fn gives(rt: &impl Abort, all: &[Compiled], zone: &Zone, case: Case) {
     let (number, moment, next) = case;
     let t = moment.min(LAST_MOMENT);
-    let found = match all.get(number) {
+    let found = match all.get(usize::from(number)) {
         Some(period) => (period.next(zone, t), period.contains(zone, t)),
         None => panic!(rt; "no period {number}"),
     };
     assert_eq!(rt; found, (next, next == Some(t)), "period {number} from {t}");
 }
 
-/// Compares what the periods of `ROWS` give in a zone.
-fn all_give(rt: &impl Abort, alloc: Global, zone: &Zone, cases: &[Case]) -> Result<(), Fail> {
-    let all = worked_out(alloc, &ROWS)?;
+/// Compares what periods give in a zone.
+fn all_give(rt: &impl Abort, all: &[Compiled], zone: &Zone, cases: &[Case]) {
     for case in cases {
-        gives(rt, all.as_slice(), zone, *case);
+        gives(rt, all, zone, *case);
     }
-    Ok(())
 }
 
-/// The same in the zone of a rule, or of a zone file.
-fn given(
+/// Compares what the periods of these rows give by UTC.
+fn rows_give(
     rt: &impl Abort,
     alloc: Global,
-    rule: Option<&str>,
-    file: Option<&[u8]>,
+    rows: &[PeriodRow<'_>],
     cases: &[Case],
 ) -> Result<(), Fail> {
-    match zone_given(alloc, rule, file) {
-        Ok(zone) => all_give(rt, alloc, &zone, cases),
-        Err(fault) => panic!(rt; "{fault:?}"),
-    }
+    let all = worked_out(alloc, rows)?;
+    all_give(rt, all.as_slice(), &Zone::Utc, cases);
+    Ok(())
 }
 
 /// Goes back second by second over a moment at which a zone's clocks are changed.
@@ -365,56 +345,81 @@ fn walk(rt: &impl Abort, period: &Compiled, zone: &Zone, change: u64) {
     }
 }
 
-/// The same for each period of `ROWS` and each of these moments.
-fn walks(
-    rt: &impl Abort,
-    alloc: Global,
-    rule: Option<&str>,
-    file: Option<&[u8]>,
-    changes: &[u64],
-) -> Result<(), Fail> {
-    let all = worked_out(alloc, &ROWS)?;
+/// The same with each of these periods, over each of these moments.
+fn walk_all(rt: &impl Abort, all: &[Compiled], zone: &Zone, changes: &[u64]) {
+    for change in changes {
+        for period in all {
+            walk(rt, period, zone, *change);
+        }
+    }
+}
+
+/// Compares what periods give in a zone, and goes over the changes of its clocks.
+fn zone_gives(rt: &impl Abort, alloc: Global, all: &[Compiled], zoned: Zoned) {
+    let (rule, file, cases, changes) = zoned;
     match zone_given(alloc, rule, file) {
         Ok(zone) => {
-            for change in changes {
-                for period in all.as_slice() {
-                    walk(rt, period, &zone, *change);
-                }
-            }
+            all_give(rt, all, &zone, cases);
+            walk_all(rt, all, &zone, changes);
         }
         Err(fault) => panic!(rt; "{fault:?}"),
     }
+}
+
+/// The same in each zone.
+fn zones_give(rt: &impl Abort, alloc: Global, all: &[Compiled]) {
+    for zoned in &ZONES {
+        zone_gives(rt, alloc, all, *zoned);
+    }
+}
+
+#[test]
+fn weeks_and_changes_of_clocks(rt: HostRuntime) -> Result<(), Fail> {
+    let all = worked_out(rt.alloc(), &ROWS)?;
+    zones_give(&rt, rt.alloc(), all.as_slice());
     Ok(())
 }
 
+#[test]
+fn each_weekday(rt: HostRuntime) -> Result<(), Fail> {
+    let mut rows = [PeriodRow::ALWAYS; 7];
+    for (weekday, row) in rows.iter_mut().enumerate() {
+        row.first = weekday as u8;
+        row.last = weekday as u8;
+    }
+    rows_give(&rt, rt.alloc(), &rows, &WEEKDAYS)
+}
+
+/// Each period excludes both of the level below.
+#[test]
+fn every_second_level_of_a_diamond(rt: HostRuntime) -> Result<(), Fail> {
+    let rows = diamond(rt.alloc(), LEVELS)?;
+    rows_give(&rt, rt.alloc(), rows.as_slice(), &IN_DIAMOND)
+}
+
 /// A number from 0 to `most`.
-fn pick(state: &mut u64, most: u8) -> u8
+fn pick(numbers: &mut Numbers, most: u8) -> u8
     ensures { result ≤ most }
 {
-    *state = state
-        .wrapping_mul(6_364_136_223_846_793_005)
-        .wrapping_add(1_442_695_040_888_963_407);
-    ((*state >> 33) % (u64::from(most) + 1)) as u8
+    numbers.below(u64::from(most) + 1) as u8
 }
 
 /// A period of some of `SPANS`, on Thursday and days beside it, that excludes some of the periods before it.
-fn generated(state: &mut u64, number: u8) -> Row
-    requires { number ≤ 38 }
-{
-    let from = usize::from(pick(state, 10));
-    let count = usize::from(pick(state, 3));
-    let low = pick(state, number);
-    let high = low + pick(state, number - low);
-    Row {
-        first: pick(state, 4),
-        last: 4 + pick(state, 2),
+fn generated(numbers: &mut Numbers, number: u8) -> PeriodRow<'static> {
+    let from = usize::from(pick(numbers, 10));
+    let count = usize::from(pick(numbers, 3));
+    let low = pick(numbers, number);
+    let high = low + pick(numbers, number - low);
+    PeriodRow {
+        first: pick(numbers, 4),
+        last: 4 + pick(numbers, 2),
         ranges: &SPANS[from..from + count],
-        excludes: &PAIRS[usize::from(low)..usize::from(high)],
+        excludes: numbered(usize::from(low), usize::from(high)),
     }
 }
 
 /// Whether a moment of UTC is in the ranges of a row.
-fn is_in(row: &Row, t: u64) -> bool {
+fn is_in(row: &PeriodRow<'_>, t: u64) -> bool {
     let weekday = (t / 86_400 + 4) % 7;
     let second = t % 86_400;
     u64::from(row.first) <= weekday
@@ -428,7 +433,7 @@ fn has_bit(bits: u64, place: usize) -> bool {
 }
 
 /// A bit for each row: whether its period holds at a moment of UTC. Rows exclude rows before them alone.
-fn held(rows: &[Row], t: u64) -> u64 {
+fn held(rows: &[PeriodRow<'_>], t: u64) -> u64 {
     let mut bits = 0u64;
     for (number, row) in rows.iter().enumerate() {
         let excluded = row
@@ -443,7 +448,7 @@ fn held(rows: &[Row], t: u64) -> u64 {
 }
 
 /// Goes back in steps of ten minutes over a Thursday and a Friday.
-fn walk_rows(rt: &impl Abort, rows: &[Row], all: &[Compiled], number: usize) {
+fn walk_rows(rt: &impl Abort, rows: &[PeriodRow<'_>], all: &[Compiled], number: usize) {
     let mut wanted = match all.get(number) {
         Some(period) => period.next(&Zone::Utc, 172_800),
         None => panic!(rt; "no period {number}"),
@@ -453,110 +458,34 @@ fn walk_rows(rt: &impl Abort, rows: &[Row], all: &[Compiled], number: usize) {
         if has_bit(held(rows, t), number) {
             wanted = Some(t);
         }
-        gives(rt, all, &Zone::Utc, (number, t, wanted));
+        gives(rt, all, &Zone::Utc, (number as u16, t, wanted));
     }
 }
 
-#[test]
-fn weeks_by_utc(rt: HostRuntime) -> Result<(), Fail> {
-    given(&rt, rt.alloc(), None, None, &BY_UTC)
-}
-
-#[test]
-fn summer_time_by_rule(rt: HostRuntime) -> Result<(), Fail> {
-    let rule = Some("EST5EDT,M3.2.0,M11.1.0");
-    given(&rt, rt.alloc(), rule, None, &BY_NEW_YORK)
-}
-
-#[test]
-fn summer_time_by_file(rt: HostRuntime) -> Result<(), Fail> {
-    given(&rt, rt.alloc(), None, Some(&NEW_YORK), &BY_NEW_YORK)
-}
-
-#[test]
-fn half_an_hour_in_the_south(rt: HostRuntime) -> Result<(), Fail> {
-    let rule = Some("<+1030>-10:30<+11>-11,M10.1.0,M4.1.0");
-    given(&rt, rt.alloc(), rule, None, &BY_LORD_HOWE)
-}
-
-#[test]
-fn seconds_in_the_offset(rt: HostRuntime) -> Result<(), Fail> {
-    given(&rt, rt.alloc(), Some("AAA-5:30:15"), None, &AHEAD)?;
-    given(&rt, rt.alloc(), Some("AAA5:30:15"), None, &BEHIND)
-}
-
-#[test]
-fn walks_by_rule(rt: HostRuntime) -> Result<(), Fail> {
-    let rule = Some("EST5EDT,M3.2.0,M11.1.0");
-    walks(&rt, rt.alloc(), rule, None, &CHANGES_OF_NEW_YORK)
-}
-
-#[test]
-fn walks_by_file(rt: HostRuntime) -> Result<(), Fail> {
-    walks(&rt, rt.alloc(), None, Some(&NEW_YORK), &CHANGES_OF_NEW_YORK)
-}
-
-#[test]
-fn walks_in_the_south(rt: HostRuntime) -> Result<(), Fail> {
-    let rule = Some("<+1030>-10:30<+11>-11,M10.1.0,M4.1.0");
-    walks(&rt, rt.alloc(), rule, None, &CHANGES_OF_LORD_HOWE)
-}
-
-#[test]
-fn each_weekday(rt: HostRuntime) -> Result<(), Fail> {
-    let mut rows = Vec::new(rt.alloc());
-    for weekday in 0..7u8 {
-        rows.push(Row {
-            first: weekday,
-            last: weekday,
-            ranges: &ROWS[7].ranges,
-            excludes: &[],
-        })?;
+/// The same with each period of a nest.
+fn walk_nest(rt: &impl Abort, rows: &[PeriodRow<'_>], all: &[Compiled]) {
+    for number in 0..rows.len() {
+        walk_rows(rt, rows, all, number);
     }
-    let all = worked_out(rt.alloc(), rows.as_slice())?;
-    for case in &WEEKDAYS {
-        gives(&rt, all.as_slice(), &Zone::Utc, *case);
+}
+
+/// Makes a nest of eight periods, and goes over each.
+fn try_nest(rt: &impl Abort, alloc: Global, numbers: &mut Numbers) -> Result<(), Fail> {
+    let mut rows = [PeriodRow::NEVER; 8];
+    for (number, row) in rows.iter_mut().enumerate() {
+        *row = generated(numbers, number as u8);
     }
+    let all = worked_out(alloc, &rows)?;
+    walk_nest(rt, &rows, all.as_slice());
     Ok(())
 }
 
 /// Periods that exclude periods before them, some of which exclude others.
 #[test]
 fn generated_nests(rt: HostRuntime) -> Result<(), Fail> {
-    let mut state = 20;
+    let mut numbers = Numbers::new(20);
     for _nest in 0..4u8 {
-        let mut rows = Vec::new(rt.alloc());
-        for number in 0..8u8 {
-            rows.push(generated(&mut state, number))?;
-        }
-        let all = worked_out(rt.alloc(), rows.as_slice())?;
-        for number in 0..8usize {
-            walk_rows(&rt, rows.as_slice(), all.as_slice(), number);
-        }
+        try_nest(&rt, rt.alloc(), &mut numbers)?;
     }
-    Ok(())
-}
-
-/// Each period excludes both of the level below, so every second level never holds.
-#[test]
-fn diamond(rt: HostRuntime) -> Result<(), Fail> {
-    let mut rows = Vec::new(rt.alloc());
-    for level in 0..LEVELS {
-        let low = if level == 0 { 0 } else { level * 2 - 2 };
-        let row = Row {
-            first: 0,
-            last: 6,
-            ranges: &[Range {
-                start: 0,
-                end: 86_400,
-            }],
-            excludes: &PAIRS[low..level * 2],
-        };
-        rows.push(row)?;
-        rows.push(row)?;
-    }
-    let all = worked_out(rt.alloc(), rows.as_slice())?;
-    gives(&rt, all.as_slice(), &Zone::Utc, (36, 5, Some(5)));
-    gives(&rt, all.as_slice(), &Zone::Utc, (39, 5, None));
     Ok(())
 }

@@ -1,6 +1,6 @@
 //! Runs of worlds: the worked examples, long lists of steps, and a world at its limits.
 
-ghost use Rattle.std.specs.Prelude.{◌≡◌, ◌<◌, All, IfOk, IsTrue, length};
+ghost use Rattle.std.specs.Prelude.{◌≡◌, ◌<◌, All, IsTrue, length};
 ghost use Rattle.due_laws.specs.Rows.{base};
 ghost use Rattle.due_model.specs.Accepted.{IsAccepted};
 ghost use Rattle.world_steps.specs.Steps.{IsProperStep};
@@ -32,42 +32,50 @@ fn is_proper_step(config: &Config, step: Step) -> bool
 fn are_proper_steps(config: &Config, steps: &[Step]) -> bool
     ensures { IsTrue result → All (IsProperStep config.now) steps.now }
 {
-    for step in steps {
-        if !is_proper_step(config, *step) {
-            return false;
-        }
-    }
-    true
+    steps.iter().all(|step| is_proper_step(config, *step))
 }
 
-/// Applies each step, and gives the places of those that aren't enabled, counted from 1.
-fn refused(
+/// Applies a step, which is enabled or isn't.
+fn applies(
     rt: &impl Abort,
-    alloc: Global,
     config: &Config,
     world: &mut World,
-    steps: &[Step],
-) -> Result<Vec<usize>, Fail>
+    step: Step,
+    is_enabled: bool,
+) -> Result<(), Fail>
     requires { (world_setup world.old).config ≡ config.now }
     ensures { world_setup world.new ≡ world_setup world.old }
 {
-    let mut places = Vec::new(alloc);
-    for (place, step) in steps.iter().enumerate() {
-        assert!(rt; is_proper_step(config, *step));
-        match world.apply(*step) {
-            Ok(()) => {}
-            Err(StepFault::NotEnabled) => places.push(place.saturating_add(1))?,
-            Err(StepFault::NoMemory) => return Err(AllocError.into()),
-        }
+    assert!(rt; is_proper_step(config, step));
+    match world.apply(step) {
+        Ok(()) => check(rt, is_enabled),
+        Err(StepFault::NotEnabled) => check(rt, !is_enabled),
+        Err(StepFault::NoMemory) => return Err(AllocError.into()),
     }
-    Ok(places)
+    Ok(())
 }
 
-fn hard(moment: u64, state: State) -> Step {
-    Step::Post(Event {
-        moment,
-        kind: EventKind::Hard(ObjectId(0), state),
-    })
+/// Compares whether a step was enabled.
+fn check(rt: &impl Abort, is_right: bool) {
+    assert!(rt; is_right, "a step was enabled, or refused");
+}
+
+/// Applies each step, of which those at these places, counted from 1, aren't enabled.
+fn refuses(
+    rt: &impl Abort,
+    config: &Config,
+    world: &mut World,
+    steps: &[Step],
+    places: &[usize],
+) -> Result<(), Fail>
+    requires { (world_setup world.old).config ≡ config.now }
+    ensures { world_setup world.new ≡ world_setup world.old }
+{
+    for (place, step) in steps.iter().enumerate() {
+        let is_enabled = !places.contains(&place.saturating_add(1));
+        applies(rt, config, world, *step, is_enabled)?;
+    }
+    Ok(())
 }
 
 const TWO_TRIES: Settings = Settings {
@@ -94,34 +102,12 @@ const MAIL: LaneId = LaneId(0);
 /// The last of sixteen lanes.
 const LAST: LaneId = LaneId(15);
 
-/// A step of the lane "mail".
-fn on_mail(step: LaneStep) -> Step {
-    Step::Lane(MAIL, step)
-}
-
 /// These notices are of these events.
 fn are_of(rt: &impl Abort, notices: &[Notice], events: &[u64]) {
     assert_eq!(rt; notices.len(), events.len());
     for (notice, event) in notices.iter().zip(events) {
         assert_eq!(rt; notice.event, *event);
     }
-}
-
-/// Steps of which those at these places, counted from 1, aren't enabled.
-fn refuses(
-    rt: &impl Abort,
-    alloc: Global,
-    config: &Config,
-    world: &mut World,
-    steps: &[Step],
-    places: &[usize],
-) -> Result<(), Fail>
-    requires { (world_setup world.old).config ≡ config.now }
-    ensures { world_setup world.new ≡ world_setup world.old }
-{
-    let found = refused(rt, alloc, config, world, steps)?;
-    assert_eq!(rt; found.as_slice(), places);
-    Ok(())
 }
 
 /// What the channel took, what is in its hand and what it gave up are of these events.
@@ -146,110 +132,98 @@ fn has_line(
     Ok(())
 }
 
-/// A world of this configuration refuses these of the steps, and its line is then this, part by part.
-fn plays_in(
+/// Steps, the places of those that are refused, and the line at last: what the channel took, what is in its hand, and
+/// what it gave up, by their events.
+type Run = (&'static [Step], &'static [usize], [&'static [u64]; 3]);
+
+const DOWN: Step = Step::Post(Event {
+    moment: 1000,
+    kind: EventKind::Hard(ObjectId(0), State::Down),
+});
+
+const UP: Step = Step::Post(Event {
+    moment: 1010,
+    kind: EventKind::Hard(ObjectId(0), State::Up),
+});
+
+const DECIDE: Step = Step::Decide(0);
+
+const PUT: Step = Step::Put(0, MAIL);
+
+const PICK: Step = Step::Lane(MAIL, LaneStep::Pick);
+
+const ASK: Step = Step::Lane(MAIL, LaneStep::Ask);
+
+const SETTLE: Step = Step::Lane(MAIL, LaneStep::Settle);
+
+const FAIL: Step = Step::Lane(MAIL, LaneStep::Fail);
+
+const CLOSE: Step = Step::Lane(MAIL, LaneStep::Close);
+
+const DRAIN: Step = Step::Lane(MAIL, LaneStep::Drain);
+
+/// A lane is asked to close and does, with its message settled and unsettled; a message is tried twice.
+const RUNS: [Run; 3] = [
+    (
+        &[
+            DOWN, DECIDE, PUT, PICK, ASK, SETTLE, CLOSE, UP, DECIDE, PUT, PICK, DRAIN,
+        ],
+        &[11],
+        [&[0], &[], &[1]],
+    ),
+    (
+        &[
+            DOWN, DECIDE, PUT, PICK, ASK, CLOSE, UP, DECIDE, PUT, PICK, DRAIN,
+        ],
+        &[10],
+        [&[], &[], &[0, 1]],
+    ),
+    (
+        &[DOWN, DECIDE, PUT, PICK, CLOSE, FAIL, FAIL, FAIL, CLOSE],
+        &[5, 8],
+        [&[], &[], &[0]],
+    ),
+];
+
+/// A world goes as a run says.
+fn goes(
     rt: &impl Abort,
     alloc: Global,
     config: &Config,
-    steps: &[Step],
-    places: &[usize],
-    line: [&[u64]; 3],
+    world: &mut World,
+    run: Run,
 ) -> Result<(), Fail>
+    requires config { (world_setup world.old).config ≡ config.now }
+    requires base { config.now ≡ base }
+{
+    let (steps, places, line) = run;
+    refuses(rt, config, world, steps, places)?;
+    has_line(rt, alloc, world, line)
+}
+
+/// A new world with one decider goes as a run says.
+fn plays(rt: &impl Abort, alloc: Global, config: &Config, run: Run) -> Result<(), Fail>
     requires { config.now ≡ base }
 {
     let zone = Zone::Utc;
     let mut world = World::new(alloc, config, &zone, TWO_TRIES, &[true])?;
-    refuses(rt, alloc, config, &mut world, steps, places)?;
-    has_line(rt, alloc, &world, line)
+    goes(rt, alloc, config, &mut world, run)
 }
 
-/// A world of BASE with one decider refuses these of the steps, and its line is then this, part by part.
-fn plays(
-    rt: &impl Abort,
-    alloc: Global,
-    steps: &[Step],
-    places: &[usize],
-    line: [&[u64]; 3],
-) -> Result<(), Fail> {
-    let config = base(alloc)?;
-    plays_in(rt, alloc, &config, steps, places, line)
+/// The same of each run.
+fn plays_each(rt: &impl Abort, alloc: Global, config: &Config) -> Result<(), Fail>
+    requires { config.now ≡ base }
+{
+    for run in &RUNS {
+        plays(rt, alloc, config, *run)?;
+    }
+    Ok(())
 }
-
-const ASK_AND_CLOSE: [Step; 12] = [
-    Step::Post(Event {
-        moment: 1000,
-        kind: EventKind::Hard(ObjectId(0), State::Down),
-    }),
-    Step::Decide(0),
-    Step::Put(0, MAIL),
-    Step::Lane(MAIL, LaneStep::Pick),
-    Step::Lane(MAIL, LaneStep::Ask),
-    Step::Lane(MAIL, LaneStep::Settle),
-    Step::Lane(MAIL, LaneStep::Close),
-    Step::Post(Event {
-        moment: 1010,
-        kind: EventKind::Hard(ObjectId(0), State::Up),
-    }),
-    Step::Decide(0),
-    Step::Put(0, MAIL),
-    Step::Lane(MAIL, LaneStep::Pick),
-    Step::Lane(MAIL, LaneStep::Drain),
-];
 
 #[test]
-fn ask_and_close(rt: HostRuntime) -> Result<(), Fail> {
-    plays(&rt, rt.alloc(), &ASK_AND_CLOSE, &[11], [&[0], &[], &[1]])
-}
-
-const ASK_AND_CLOSE_UNSETTLED: [Step; 11] = [
-    Step::Post(Event {
-        moment: 1000,
-        kind: EventKind::Hard(ObjectId(0), State::Down),
-    }),
-    Step::Decide(0),
-    Step::Put(0, MAIL),
-    Step::Lane(MAIL, LaneStep::Pick),
-    Step::Lane(MAIL, LaneStep::Ask),
-    Step::Lane(MAIL, LaneStep::Close),
-    Step::Post(Event {
-        moment: 1010,
-        kind: EventKind::Hard(ObjectId(0), State::Up),
-    }),
-    Step::Decide(0),
-    Step::Put(0, MAIL),
-    Step::Lane(MAIL, LaneStep::Pick),
-    Step::Lane(MAIL, LaneStep::Drain),
-];
-
-#[test]
-fn ask_and_close_unsettled(rt: HostRuntime) -> Result<(), Fail> {
-    plays(
-        &rt,
-        rt.alloc(),
-        &ASK_AND_CLOSE_UNSETTLED,
-        &[10],
-        [&[], &[], &[0, 1]],
-    )
-}
-
-const TRIED_TWICE: [Step; 9] = [
-    Step::Post(Event {
-        moment: 1000,
-        kind: EventKind::Hard(ObjectId(0), State::Down),
-    }),
-    Step::Decide(0),
-    Step::Put(0, MAIL),
-    Step::Lane(MAIL, LaneStep::Pick),
-    Step::Lane(MAIL, LaneStep::Close),
-    Step::Lane(MAIL, LaneStep::Fail),
-    Step::Lane(MAIL, LaneStep::Fail),
-    Step::Lane(MAIL, LaneStep::Fail),
-    Step::Lane(MAIL, LaneStep::Close),
-];
-
-#[test]
-fn two_tries(rt: HostRuntime) -> Result<(), Fail> {
-    plays(&rt, rt.alloc(), &TRIED_TWICE, &[5, 8], [&[], &[], &[0]])
+fn asks_closes_and_tries(rt: HostRuntime) -> Result<(), Fail> {
+    let config = base(rt.alloc())?;
+    plays_each(&rt, rt.alloc(), &config)
 }
 
 /// A change of web's state at a moment, which is decided, put, picked and settled.
@@ -259,13 +233,9 @@ fn change(moment: u64) -> [Step; 5] {
     } else {
         State::Up
     };
-    [
-        hard(moment, state),
-        Step::Decide(0),
-        Step::Put(0, MAIL),
-        on_mail(LaneStep::Pick),
-        on_mail(LaneStep::Settle),
-    ]
+    let kind = EventKind::Hard(ObjectId(0), state);
+    let event = Event { moment, kind };
+    [Step::Post(event), DECIDE, PUT, PICK, SETTLE]
 }
 
 /// So many changes of web's state.
@@ -287,7 +257,32 @@ fn has_taken(rt: &impl Abort, alloc: Global, world: &World<'_>, count: u64) -> R
     Ok(())
 }
 
-/// A world of this configuration takes each of so many changes to the channel.
+/// A world does each of these steps.
+fn does_all(rt: &impl Abort, config: &Config, world: &mut World, steps: &[Step])
+    requires { (world_setup world.old).config ≡ config.now }
+    ensures { world_setup world.new ≡ world_setup world.old }
+{
+    assert!(rt; are_proper_steps(config, steps));
+    assert_eq!(rt; world.run(steps), Ok(()));
+}
+
+/// A world takes each of so many changes to the channel.
+fn takes_all(
+    rt: &impl Abort,
+    alloc: Global,
+    config: &Config,
+    world: &mut World,
+    steps: &[Step],
+    count: u64,
+) -> Result<(), Fail>
+    requires config { (world_setup world.old).config ≡ config.now }
+    requires base { config.now ≡ base }
+{
+    does_all(rt, config, world, steps);
+    has_taken(rt, alloc, world, count)
+}
+
+/// A new world does.
 fn takes_changes(
     rt: &impl Abort,
     alloc: Global,
@@ -299,9 +294,7 @@ fn takes_changes(
 {
     let zone = Zone::Utc;
     let mut world = World::new(alloc, config, &zone, LEAST, &[true])?;
-    assert!(rt; are_proper_steps(config, steps));
-    assert_eq!(rt; world.run(steps), Ok(()));
-    has_taken(rt, alloc, &world, count)
+    takes_all(rt, alloc, config, &mut world, steps, count)
 }
 
 #[test]
@@ -327,24 +320,6 @@ fn crowd(alloc: Global) -> Result<Vec<Step>, AllocError> {
     Ok(steps)
 }
 
-/// A world of many deciders and lanes, after the crowd of steps.
-fn crowded<'a>(
-    rt: &impl Abort,
-    alloc: Global,
-    config: &'a Config,
-    zone: &'a Zone,
-) -> Result<World<'a>, Fail>
-    requires accepted { IsAccepted config.now }
-    requires lanes { length config.now.lanes ≡ 16 }
-    ensures { IfOk result (λ world. (world_setup world).config ≡ config.now) }
-{
-    let steps = crowd(alloc)?;
-    let mut world = World::new(alloc, config, zone, MOST, &[true; 16])?;
-    assert!(rt; are_proper_steps(config, steps.as_slice()));
-    assert_eq!(rt; world.run(steps.as_slice()), Ok(()));
-    Ok(world)
-}
-
 /// What waits on the last lane of a world about an object, in the queue and in the outbox, is of these events.
 fn has_waiting(
     rt: &impl Abort,
@@ -364,20 +339,44 @@ fn has_waiting(
 }
 
 /// The last lane has a notice of the first decider in its queue, and one of the last in the outbox.
-fn last_lane_is_full(rt: &impl Abort, alloc: Global, config: &Config) -> Result<(), Fail>
+fn last_lane_is_full(rt: &impl Abort, alloc: Global, world: &mut World) -> Result<(), Fail>
+    requires lanes { length (world_setup world.old).config.lanes ≡ 16 }
+    requires objects { length (world_setup world.old).config.objects ≡ 8 }
+{
+    assert_eq!(rt; world.apply(Step::Put(7, LAST)), Err(StepFault::NotEnabled));
+    has_waiting(rt, alloc, world, ObjectId(0), &[0], &[])?;
+    has_waiting(rt, alloc, world, ObjectId(7), &[], &[7])
+}
+
+/// The same after the crowd of steps.
+fn is_crowded(
+    rt: &impl Abort,
+    alloc: Global,
+    config: &Config,
+    world: &mut World,
+) -> Result<(), Fail>
+    requires config { (world_setup world.old).config ≡ config.now }
+    requires lanes { length config.now.lanes ≡ 16 }
+    requires objects { length config.now.objects ≡ 8 }
+{
+    let steps = crowd(alloc)?;
+    does_all(rt, config, world, steps.as_slice());
+    last_lane_is_full(rt, alloc, world)
+}
+
+/// The same in a new world of many deciders and lanes.
+fn may_be_crowded(rt: &impl Abort, alloc: Global, config: &Config) -> Result<(), Fail>
     requires accepted { IsAccepted config.now }
     requires lanes { length config.now.lanes ≡ 16 }
     requires objects { length config.now.objects ≡ 8 }
 {
     let zone = Zone::Utc;
-    let mut world = crowded(rt, alloc, config, &zone)?;
-    assert_eq!(rt; world.apply(Step::Put(7, LAST)), Err(StepFault::NotEnabled));
-    has_waiting(rt, alloc, &world, ObjectId(0), &[0], &[])?;
-    has_waiting(rt, alloc, &world, ObjectId(7), &[], &[7])
+    let mut world = World::new(alloc, config, &zone, MOST, &[true; 16])?;
+    is_crowded(rt, alloc, config, &mut world)
 }
 
 #[test]
 fn at_the_limits(rt: HostRuntime) -> Result<(), Fail> {
     let config = wide(rt.alloc())?;
-    last_lane_is_full(&rt, rt.alloc(), &config)
+    may_be_crowded(&rt, rt.alloc(), &config)
 }

@@ -1,15 +1,21 @@
-//! Worked rows of services, periods, escalations, dependencies, downtimes, flapping and all filters, through the
-//! slow program. A row is a table of the configuration, the events, and what each object says, in short.
+//! Worked rows of hosts, services, periods, escalations, dependencies, downtimes, flapping and all filters, through the
+//! slow program. A row is a table of the configuration, the events, and what an object says, in short.
 
-use acceptance_inputs::accepted::is_accepted;
-use acceptance_inputs::events::are_proper;
-use acceptance_inputs::rows::{ContactRow, EscalationRow, ObjectRow, Rows, config_of};
+ghost use Rattle.std.specs.Prelude.{◌<◌, All, length};
+ghost use Rattle.due_model.specs.Accepted.{IsAccepted};
+ghost use Rattle.due_model.specs.Proper.{IsProper};
+
+use acceptance_inputs::dependencies::ON_CRITICAL;
+use acceptance_inputs::events::{Happening, are_proper, events_of};
+use acceptance_inputs::notices::{DOWN, STOPPED};
+use acceptance_inputs::options::DOWN_ALONE;
+use acceptance_inputs::periods::PeriodRow;
+use acceptance_inputs::rows::{ContactRow, EscalationRow, ObjectRow, Rows, accepted_config_of};
 use due_model::config::{Config, ContactId, Dependency, LaneId, ObjectId, PeriodId, Range};
 use due_model::event::{DowntimeChange, Event, EventKind};
 use due_model::notice::{Filter, Kind, Notice, Suppression};
-use due_model::options::OptionLetters;
 use due_model::proper::has_object;
-use due_model::state::{State, StateSet};
+use due_model::state::State;
 use due_model::zone::Zone;
 use slow_rules::slow::{slow_due, slow_sup};
 use std::alloc::Global;
@@ -23,136 +29,204 @@ type Told = (u64, u64, Kind, State, u64, u16);
 /// A suppression in short: event, moment, kind, state, number, filter, contact.
 type Stopped = (u64, u64, Kind, State, u64, Filter, Option<u16>);
 
-fn told(notice: Notice) -> Told {
-    (
-        notice.event,
-        notice.moment,
-        notice.kind,
-        notice.state,
-        notice.number,
-        notice.contact.0,
-    )
-}
-
-fn stopped(suppression: Suppression) -> Stopped {
-    (
-        suppression.event,
-        suppression.moment,
-        suppression.kind,
-        suppression.state,
-        suppression.number,
-        suppression.filter,
-        suppression.contact.map(|contact| contact.0),
-    )
-}
-
-/// The slow program says this of an object in a zone, by the one lane.
-fn says(
-    rt: &impl Abort,
-    alloc: Global,
-    config: &Config,
-    zone: &Zone,
-    events: &[Event],
-    object: ObjectId,
-    notices: &[Told],
-    suppressions: &[Stopped],
-) -> Result<(), Fail> {
-    assert!(rt; is_accepted(config) && has_object(config, object) && are_proper(config, events));
-    let mut due = Vec::new(alloc);
-    for notice in slow_due(alloc, config, zone, events, object, LaneId(0))?.as_slice() {
-        due.push(told(*notice))?;
-    }
-    assert_eq!(rt; due.as_slice(), notices);
-    let mut sup = Vec::new(alloc);
-    for suppression in slow_sup(alloc, config, zone, events, object)?.as_slice() {
-        sup.push(stopped(*suppression))?;
-    }
-    assert_eq!(rt; sup.as_slice(), suppressions);
-    Ok(())
-}
-
-/// The configuration of these rows says this of an object after these events.
-fn gives(
-    rt: &impl Abort,
-    alloc: Global,
-    rows: Rows<'_>,
-    events: &[Event],
+/// What an object says by the one lane, in the zone of a rule, or in UTC.
+struct Row {
+    name: &'static str,
+    rows: Rows<'static>,
+    rule: Option<&'static str>,
+    events: &'static [Happening],
     object: u16,
-    notices: &[Told],
-    suppressions: &[Stopped],
-) -> Result<(), Fail> {
-    let config = config_of(alloc, rows)?;
-    says(
-        rt,
-        alloc,
-        &config,
-        &Zone::Utc,
-        events,
-        ObjectId(object),
-        notices,
-        suppressions,
-    )
+    notices: &'static [Told],
+    suppressions: &'static [Stopped],
 }
 
-const ANN: &[ContactId] = &[ContactId(0)];
+/// The first object says nothing of no events.
+const EMPTY: Row = Row {
+    name: "empty feed",
+    rows: BASE,
+    rule: None,
+    events: &[],
+    object: 0,
+    notices: &[],
+    suppressions: &[],
+};
 
 const BOB: &[ContactId] = &[ContactId(1)];
 
 const CAT: &[ContactId] = &[ContactId(2)];
 
-const PEOPLE: &[ContactRow] = &[
-    ContactRow {
-        name: "ann",
-        ..ContactRow::FREE
-    },
-    ContactRow {
-        name: "bob",
-        ..ContactRow::FREE
-    },
-    ContactRow {
-        name: "cat",
-        ..ContactRow::FREE
-    },
-];
-
-const WEB: ObjectRow = ObjectRow {
-    name: "web",
-    host: None,
-    options: OptionLetters::ALL,
-    period: None,
-    interval: 1,
-    delay: 0,
-    contacts: ANN,
-};
-
 const BASE: Rows<'static> = Rows {
     lanes: 1,
-    contacts: PEOPLE,
-    objects: &[WEB],
-    periods: &[],
-    escalations: &[],
-    dependencies: &[],
+    contacts: &[ContactRow::FREE; 3],
+    objects: &[ObjectRow::WEB],
+    ..Rows::NONE
 };
 
-fn at(moment: u64, kind: EventKind) -> Event {
-    Event { moment, kind }
-}
+const THIRD_TO_BOB: Rows<'static> = Rows {
+    escalations: &[EscalationRow {
+        first: 3,
+        last: 3,
+        contacts: BOB,
+        ..EscalationRow::EACH
+    }],
+    ..BASE
+};
 
-fn clock(moment: u64) -> Event {
-    at(moment, EventKind::Clock)
-}
+const OVERLAP: Rows<'static> = Rows {
+    objects: &[ObjectRow {
+        interval: 10,
+        ..ObjectRow::WEB
+    }],
+    escalations: &[
+        EscalationRow {
+            first: 3,
+            last: 5,
+            interval: 45,
+            contacts: BOB,
+            ..EscalationRow::EACH
+        },
+        EscalationRow {
+            first: 4,
+            interval: 60,
+            contacts: CAT,
+            ..EscalationRow::EACH
+        },
+    ],
+    ..BASE
+};
 
-fn hard(moment: u64, object: u16, state: State) -> Event {
-    at(moment, EventKind::Hard(ObjectId(object), state))
-}
+const NEVER_AFTER_FOUR: Rows<'static> = Rows {
+    objects: &[ObjectRow::WEB, ObjectRow::PING],
+    escalations: &[EscalationRow {
+        object: ObjectId(1),
+        first: 4,
+        last: 6,
+        interval: 0,
+        contacts: BOB,
+        ..EscalationRow::EACH
+    }],
+    ..BASE
+};
+
+const AT_WORK: Rows<'static> = Rows {
+    objects: &[ObjectRow {
+        period: Some(PeriodId(0)),
+        ..ObjectRow::WEB
+    }],
+    periods: &[PeriodRow {
+        ranges: &[Range {
+            start: 32_400,
+            end: 61_200,
+        }],
+        ..PeriodRow::NEVER
+    }],
+    ..BASE
+};
+
+/// Service 3 depends on 2, which depends on 1, and inherits its dependency.
+const CHAIN: Rows<'static> = Rows {
+    objects: &[
+        ObjectRow::WEB,
+        ObjectRow::PING,
+        ObjectRow::PING,
+        ObjectRow::PING,
+    ],
+    dependencies: &[
+        Dependency {
+            dependent: ObjectId(3),
+            master: ObjectId(2),
+            inherits: true,
+            states: ON_CRITICAL,
+            period: None,
+        },
+        Dependency {
+            dependent: ObjectId(2),
+            master: ObjectId(1),
+            inherits: false,
+            states: ON_CRITICAL,
+            period: None,
+        },
+    ],
+    ..BASE
+};
+
+const DELAYED: Rows<'static> = Rows {
+    objects: &[ObjectRow {
+        delay: 2,
+        ..ObjectRow::WEB
+    }],
+    ..BASE
+};
+
+const OF_DOWN_ALONE: Rows<'static> = Rows {
+    contacts: &[ContactRow {
+        options: DOWN_ALONE,
+        ..ContactRow::FREE
+    }],
+    ..BASE
+};
+
+/// An escalation outside its period reaches nobody.
+const AT_NIGHT: Rows<'static> = Rows {
+    periods: &[PeriodRow {
+        ranges: &[Range {
+            start: 0,
+            end: 1110,
+        }],
+        ..PeriodRow::NEVER
+    }],
+    escalations: &[EscalationRow {
+        first: 2,
+        period: Some(PeriodId(0)),
+        contacts: BOB,
+        ..EscalationRow::EACH
+    }],
+    ..BASE
+};
+
+const CLOCK: EventKind = EventKind::Clock;
+
+const WEB_DOWN: EventKind = EventKind::Hard(ObjectId(0), State::Down);
+
+const WEB_UP: EventKind = EventKind::Hard(ObjectId(0), State::Up);
+
+const PING_CRITICAL: EventKind = EventKind::Hard(ObjectId(1), State::Critical);
+
+const START: EventKind = EventKind::Downtime(ObjectId(0), DowntimeChange::Start);
+
+const END: EventKind = EventKind::Downtime(ObjectId(0), DowntimeChange::End);
+
+const CANCELLED: EventKind = EventKind::Downtime(ObjectId(0), DowntimeChange::Cancelled);
+
+const THREE_AND_UP: &[Happening] = &[
+    (1000, WEB_DOWN),
+    (1060, CLOCK),
+    (1120, CLOCK),
+    (1130, WEB_UP),
+];
+
+/// Downtimes of a host nest, and stop its services' notices.
+const NESTED: &[Happening] = &[
+    (1000, START),
+    (1010, PING_CRITICAL),
+    (1020, START),
+    (1030, END),
+    (1040, CANCELLED),
+    (1050, END),
+];
+
+const IN_CHAIN: &[Happening] = &[
+    (1000, PING_CRITICAL),
+    (1000, EventKind::Hard(ObjectId(3), State::Critical)),
+];
 
 const PROBLEM: Kind = Kind::Problem;
 
 const RECOVERY: Kind = Kind::Recovery;
 
-const DOWN: State = State::Down;
+const IS_DOWN: State = State::Down;
 
-const UP: State = State::Up;
+const IS_UP: State = State::Up;
 
 const PENDING: State = State::Pending;
 
@@ -160,457 +234,367 @@ const WARNING: State = State::Warning;
 
 const CRITICAL: State = State::Critical;
 
-fn downtime_events() -> [Event; 3] {
-    [
-        at(
-            1000,
-            EventKind::Downtime(ObjectId(0), DowntimeChange::Start),
-        ),
-        hard(1010, 0, DOWN),
-        hard(1020, 0, UP),
-    ]
-}
-
-#[test]
-fn downtime(rt: HostRuntime) -> Result<(), Fail> {
-    gives(
-        &rt,
-        rt.alloc(),
-        BASE,
-        &downtime_events(),
-        0,
-        &[(0, 1000, Kind::DowntimeStart, PENDING, 0, 0)],
-        &[
-            (1, 1010, PROBLEM, DOWN, 1, Filter::Downtime, None),
-            (2, 1020, RECOVERY, UP, 1, Filter::Downtime, None),
+const ROWS: [Row; 19] = [
+    EMPTY,
+    Row {
+        name: "one host down",
+        events: &[(1000, WEB_DOWN)],
+        notices: &[(0, 1000, PROBLEM, IS_DOWN, 1, 0)],
+        ..EMPTY
+    },
+    Row {
+        name: "renotify",
+        events: &[(1000, WEB_DOWN), (1059, CLOCK), (1060, CLOCK)],
+        notices: &[
+            (0, 1000, PROBLEM, IS_DOWN, 1, 0),
+            (2, 1060, PROBLEM, IS_DOWN, 2, 0),
         ],
-    )
-}
-
-fn flapping_events() -> [Event; 5] {
-    [
-        at(1000, EventKind::Flapping(ObjectId(0), true)),
-        hard(1010, 0, DOWN),
-        at(1020, EventKind::Flapping(ObjectId(0), false)),
-        clock(1069),
-        clock(1070),
-    ]
-}
-
-#[test]
-fn flapping(rt: HostRuntime) -> Result<(), Fail> {
-    gives(
-        &rt,
-        rt.alloc(),
-        BASE,
-        &flapping_events(),
-        0,
-        &[
+        ..EMPTY
+    },
+    Row {
+        name: "same state too soon",
+        events: &[
+            (1000, WEB_DOWN),
+            (1030, WEB_DOWN),
+            (1059, CLOCK),
+            (1060, CLOCK),
+        ],
+        notices: &[
+            (0, 1000, PROBLEM, IS_DOWN, 1, 0),
+            (3, 1060, PROBLEM, IS_DOWN, 2, 0),
+        ],
+        suppressions: &[(1, 1030, PROBLEM, IS_DOWN, 2, Filter::Interval, None)],
+        ..EMPTY
+    },
+    Row {
+        name: "program switch",
+        events: &[
+            (1000, EventKind::Program(false)),
+            (1000, WEB_DOWN),
+            (1005, EventKind::Program(true)),
+            (1010, WEB_UP),
+        ],
+        suppressions: &[
+            (1, 1000, PROBLEM, IS_DOWN, 1, Filter::Program, None),
+            (3, 1010, RECOVERY, IS_UP, 1, Filter::NoProblem, None),
+        ],
+        ..EMPTY
+    },
+    Row {
+        name: "downtime",
+        events: &[(1000, START), (1010, WEB_DOWN), (1020, WEB_UP)],
+        notices: &[(0, 1000, Kind::DowntimeStart, PENDING, 0, 0)],
+        suppressions: &[
+            (1, 1010, PROBLEM, IS_DOWN, 1, Filter::Downtime, None),
+            (2, 1020, RECOVERY, IS_UP, 1, Filter::Downtime, None),
+        ],
+        ..EMPTY
+    },
+    Row {
+        name: "flapping",
+        events: &[
+            (1000, EventKind::Flapping(ObjectId(0), true)),
+            (1010, WEB_DOWN),
+            (1020, EventKind::Flapping(ObjectId(0), false)),
+            (1069, CLOCK),
+            (1070, CLOCK),
+        ],
+        notices: &[
             (0, 1000, Kind::FlappingStart, PENDING, 0, 0),
-            (2, 1020, Kind::FlappingStop, DOWN, 0, 0),
-            (4, 1070, PROBLEM, DOWN, 1, 0),
+            (2, 1020, Kind::FlappingStop, IS_DOWN, 0, 0),
+            (4, 1070, PROBLEM, IS_DOWN, 1, 0),
         ],
-        &[(1, 1010, PROBLEM, DOWN, 1, Filter::Flapping, None)],
-    )
-}
-
-const THIRD_TO_BOB: Rows<'static> = Rows {
-    escalations: &[EscalationRow {
-        object: ObjectId(0),
-        first: 3,
-        last: 3,
-        interval: 1,
-        period: None,
-        contacts: BOB,
-    }],
-    ..BASE
-};
-
-fn three_and_up_events() -> [Event; 4] {
-    [
-        hard(1000, 0, DOWN),
-        clock(1060),
-        clock(1120),
-        hard(1130, 0, UP),
-    ]
-}
-
-#[test]
-fn escalation_recovery(rt: HostRuntime) -> Result<(), Fail> {
-    gives(
-        &rt,
-        rt.alloc(),
-        THIRD_TO_BOB,
-        &three_and_up_events(),
-        0,
-        &[
-            (0, 1000, PROBLEM, DOWN, 1, 0),
-            (1, 1060, PROBLEM, DOWN, 2, 0),
-            (2, 1120, PROBLEM, DOWN, 3, 1),
-            (3, 1130, RECOVERY, UP, 4, 1),
+        suppressions: &[(1, 1010, PROBLEM, IS_DOWN, 1, Filter::Flapping, None)],
+        ..EMPTY
+    },
+    Row {
+        name: "escalation recovery",
+        rows: THIRD_TO_BOB,
+        events: THREE_AND_UP,
+        notices: &[
+            (0, 1000, PROBLEM, IS_DOWN, 1, 0),
+            (1, 1060, PROBLEM, IS_DOWN, 2, 0),
+            (2, 1120, PROBLEM, IS_DOWN, 3, 1),
+            (3, 1130, RECOVERY, IS_UP, 4, 1),
         ],
-        &[],
-    )
-}
-
-const OVERLAP: Rows<'static> = Rows {
-    objects: &[ObjectRow {
-        interval: 10,
-        ..WEB
-    }],
-    escalations: &[
-        EscalationRow {
-            object: ObjectId(0),
-            first: 3,
-            last: 5,
-            interval: 45,
-            period: None,
-            contacts: BOB,
-        },
-        EscalationRow {
-            object: ObjectId(0),
-            first: 4,
-            last: 0,
-            interval: 60,
-            period: None,
-            contacts: CAT,
-        },
-    ],
-    ..BASE
-};
-
-fn overlap_events() -> [Event; 10] {
-    [
-        hard(0, 0, DOWN),
-        clock(600),
-        clock(1200),
-        clock(1800),
-        clock(3899),
-        clock(3900),
-        clock(6600),
-        clock(9300),
-        clock(12_899),
-        clock(12_900),
-    ]
-}
-
-#[test]
-fn manual_overlap(rt: HostRuntime) -> Result<(), Fail> {
-    gives(
-        &rt,
-        rt.alloc(),
-        OVERLAP,
-        &overlap_events(),
-        0,
-        &[
-            (0, 0, PROBLEM, DOWN, 1, 0),
-            (1, 600, PROBLEM, DOWN, 2, 0),
-            (2, 1200, PROBLEM, DOWN, 3, 1),
-            (5, 3900, PROBLEM, DOWN, 4, 1),
-            (5, 3900, PROBLEM, DOWN, 4, 2),
-            (6, 6600, PROBLEM, DOWN, 5, 1),
-            (6, 6600, PROBLEM, DOWN, 5, 2),
-            (7, 9300, PROBLEM, DOWN, 6, 2),
-            (9, 12_900, PROBLEM, DOWN, 7, 2),
+        ..EMPTY
+    },
+    Row {
+        name: "manual overlap",
+        rows: OVERLAP,
+        events: &[
+            (0, WEB_DOWN),
+            (600, CLOCK),
+            (1200, CLOCK),
+            (1800, CLOCK),
+            (3899, CLOCK),
+            (3900, CLOCK),
+            (6600, CLOCK),
+            (9300, CLOCK),
+            (12_899, CLOCK),
+            (12_900, CLOCK),
         ],
-        &[],
-    )
-}
-
-const PING: ObjectRow = ObjectRow {
-    name: "PING",
-    host: Some(ObjectId(0)),
-    options: OptionLetters::ALL,
-    period: None,
-    interval: 1,
-    delay: 0,
-    contacts: ANN,
-};
-
-const NEVER_AFTER_FOUR: Rows<'static> = Rows {
-    objects: &[WEB, PING],
-    escalations: &[EscalationRow {
-        object: ObjectId(1),
-        first: 4,
-        last: 6,
-        interval: 0,
-        period: None,
-        contacts: BOB,
-    }],
-    ..BASE
-};
-
-fn never_events() -> [Event; 8] {
-    [
-        hard(1000, 1, WARNING),
-        clock(1060),
-        clock(1120),
-        clock(1180),
-        clock(1240),
-        clock(9999),
-        hard(10_000, 1, CRITICAL),
-        clock(20_000),
-    ]
-}
-
-#[test]
-fn interval_zero(rt: HostRuntime) -> Result<(), Fail> {
-    gives(
-        &rt,
-        rt.alloc(),
-        NEVER_AFTER_FOUR,
-        &never_events(),
-        1,
-        &[
+        notices: &[
+            (0, 0, PROBLEM, IS_DOWN, 1, 0),
+            (1, 600, PROBLEM, IS_DOWN, 2, 0),
+            (2, 1200, PROBLEM, IS_DOWN, 3, 1),
+            (5, 3900, PROBLEM, IS_DOWN, 4, 1),
+            (5, 3900, PROBLEM, IS_DOWN, 4, 2),
+            (6, 6600, PROBLEM, IS_DOWN, 5, 1),
+            (6, 6600, PROBLEM, IS_DOWN, 5, 2),
+            (7, 9300, PROBLEM, IS_DOWN, 6, 2),
+            (9, 12_900, PROBLEM, IS_DOWN, 7, 2),
+        ],
+        ..EMPTY
+    },
+    Row {
+        name: "interval zero",
+        rows: NEVER_AFTER_FOUR,
+        events: &[
+            (1000, EventKind::Hard(ObjectId(1), State::Warning)),
+            (1060, CLOCK),
+            (1120, CLOCK),
+            (1180, CLOCK),
+            (1240, CLOCK),
+            (9999, CLOCK),
+            (10_000, PING_CRITICAL),
+            (20_000, CLOCK),
+        ],
+        object: 1,
+        notices: &[
             (0, 1000, PROBLEM, WARNING, 1, 0),
             (1, 1060, PROBLEM, WARNING, 2, 0),
             (2, 1120, PROBLEM, WARNING, 3, 0),
             (3, 1180, PROBLEM, WARNING, 4, 1),
             (6, 10_000, PROBLEM, CRITICAL, 5, 1),
         ],
-        &[],
-    )
-}
-
-const AT_WORK: Rows<'static> = Rows {
-    objects: &[ObjectRow {
-        period: Some(PeriodId(0)),
-        ..WEB
-    }],
-    periods: &[Range {
-        start: 32_400,
-        end: 61_200,
-    }],
-    ..BASE
-};
-
-fn work_events() -> [Event; 3] {
-    [hard(61_200, 0, DOWN), clock(118_799), clock(118_800)]
-}
-
-#[test]
-fn work_hours(rt: HostRuntime) -> Result<(), Fail> {
-    gives(
-        &rt,
-        rt.alloc(),
-        AT_WORK,
-        &work_events(),
-        0,
-        &[(2, 118_800, PROBLEM, DOWN, 1, 0)],
-        &[(0, 61_200, PROBLEM, DOWN, 1, Filter::Period, None)],
-    )
-}
-
-/// The night of 10 March 2024, on which the clocks of New York go on by an hour: work begins at 13:00 UTC.
-fn spring_events() -> [Event; 3] {
-    [
-        hard(1_710_046_800, 0, DOWN),
-        clock(1_710_075_599),
-        clock(1_710_075_600),
-    ]
-}
-
-/// The object's period is read in a zone.
-fn wakes_in_spring(rt: &impl Abort, alloc: Global, config: &Config) -> Result<(), Fail> {
-    let Ok(zone) = zone_given(alloc, Some("EST5EDT,M3.2.0,M11.1.0"), None) else {
-        panic!(rt; "no zone");
-    };
-    says(
-        rt,
-        alloc,
-        config,
-        &zone,
-        &spring_events(),
-        ObjectId(0),
-        &[(2, 1_710_075_600, PROBLEM, DOWN, 1, 0)],
-        &[(0, 1_710_046_800, PROBLEM, DOWN, 1, Filter::Period, None)],
-    )
-}
-
-#[test]
-fn work_hours_in_a_zone(rt: HostRuntime) -> Result<(), Fail> {
-    let config = config_of(rt.alloc(), AT_WORK)?;
-    wakes_in_spring(&rt, rt.alloc(), &config)
-}
-
-const IF_CRITICAL: StateSet = StateSet {
-    pending: false,
-    up: false,
-    down: false,
-    unreachable: false,
-    fine: false,
-    warning: false,
-    unknown: false,
-    critical: true,
-};
-
-/// Service 3 depends on 2, which depends on 1, and inherits its dependency.
-const CHAIN: Rows<'static> = Rows {
-    objects: &[WEB, PING, PING, PING],
-    dependencies: &[
-        Dependency {
-            dependent: ObjectId(3),
-            master: ObjectId(2),
-            inherits: true,
-            states: IF_CRITICAL,
-            period: None,
-        },
-        Dependency {
-            dependent: ObjectId(2),
-            master: ObjectId(1),
-            inherits: false,
-            states: IF_CRITICAL,
-            period: None,
-        },
-    ],
-    ..BASE
-};
-
-fn chain_events() -> [Event; 2] {
-    [hard(1000, 1, CRITICAL), hard(1000, 3, CRITICAL)]
-}
-
-#[test]
-fn dependency_chain(rt: HostRuntime) -> Result<(), Fail> {
-    let alloc = rt.alloc();
-    let sent = [(0, 1000, PROBLEM, CRITICAL, 1, 0)];
-    let held = [(1, 1000, PROBLEM, CRITICAL, 1, Filter::Dependency, None)];
-    gives(&rt, alloc, CHAIN, &chain_events(), 1, &sent, &[])?;
-    gives(&rt, alloc, CHAIN, &chain_events(), 3, &[], &held)
-}
-
-const DELAYED: Rows<'static> = Rows {
-    objects: &[ObjectRow { delay: 2, ..WEB }],
-    ..BASE
-};
-
-fn delayed_events() -> [Event; 3] {
-    [hard(1000, 0, DOWN), clock(1119), clock(1120)]
-}
-
-#[test]
-fn first_delay(rt: HostRuntime) -> Result<(), Fail> {
-    gives(
-        &rt,
-        rt.alloc(),
-        DELAYED,
-        &delayed_events(),
-        0,
-        &[(2, 1120, PROBLEM, DOWN, 1, 0)],
-        &[(0, 1000, PROBLEM, DOWN, 1, Filter::FirstDelay, None)],
-    )
-}
-
-const DOWN_ALONE: Rows<'static> = Rows {
-    contacts: &[ContactRow {
-        name: "ann",
-        options: OptionLetters {
-            down: true,
-            unreachable: false,
-            warning: false,
-            unknown: false,
-            critical: false,
-            recovery: false,
-            flapping: false,
-            downtime: false,
-        },
-        ..ContactRow::FREE
-    }],
-    ..BASE
-};
-
-fn down_and_up_events() -> [Event; 2] {
-    [hard(1000, 0, DOWN), hard(1010, 0, UP)]
-}
-
-#[test]
-fn contact_options(rt: HostRuntime) -> Result<(), Fail> {
-    gives(
-        &rt,
-        rt.alloc(),
-        DOWN_ALONE,
-        &down_and_up_events(),
-        0,
-        &[(0, 1000, PROBLEM, DOWN, 1, 0)],
-        &[(1, 1010, RECOVERY, UP, 2, Filter::ContactOptions, Some(0))],
-    )
-}
-
-fn change(moment: u64, change: DowntimeChange) -> Event {
-    at(moment, EventKind::Downtime(ObjectId(0), change))
-}
-
-/// Downtimes of a host nest, and stop its services' notices.
-fn nested_events() -> [Event; 6] {
-    [
-        change(1000, DowntimeChange::Start),
-        hard(1010, 1, CRITICAL),
-        change(1020, DowntimeChange::Start),
-        change(1030, DowntimeChange::End),
-        change(1040, DowntimeChange::Cancelled),
-        change(1050, DowntimeChange::End),
-    ]
-}
-
-#[test]
-fn nested_downtimes(rt: HostRuntime) -> Result<(), Fail> {
-    let alloc = rt.alloc();
-    let told = [
-        (0, 1000, Kind::DowntimeStart, PENDING, 0, 0),
-        (4, 1040, Kind::DowntimeCancelled, PENDING, 0, 0),
-    ];
-    let held = [(1, 1010, PROBLEM, CRITICAL, 1, Filter::Downtime, None)];
-    gives(
-        &rt,
-        alloc,
-        NEVER_AFTER_FOUR,
-        &nested_events(),
-        0,
-        &told,
-        &[],
-    )?;
-    gives(
-        &rt,
-        alloc,
-        NEVER_AFTER_FOUR,
-        &nested_events(),
-        1,
-        &[],
-        &held,
-    )
-}
-
-/// An escalation outside its period reaches nobody.
-const AT_NIGHT: Rows<'static> = Rows {
-    periods: &[Range {
-        start: 0,
-        end: 1110,
-    }],
-    escalations: &[EscalationRow {
-        object: ObjectId(0),
-        first: 2,
-        last: 0,
-        interval: 1,
-        period: Some(PeriodId(0)),
-        contacts: BOB,
-    }],
-    ..BASE
-};
-
-#[test]
-fn escalation_period(rt: HostRuntime) -> Result<(), Fail> {
-    gives(
-        &rt,
-        rt.alloc(),
-        AT_NIGHT,
-        &three_and_up_events(),
-        0,
-        &[
-            (0, 1000, PROBLEM, DOWN, 1, 0),
-            (1, 1060, PROBLEM, DOWN, 2, 1),
-            (2, 1120, PROBLEM, DOWN, 3, 0),
-            (3, 1130, RECOVERY, UP, 4, 0),
+        ..EMPTY
+    },
+    Row {
+        name: "work hours",
+        rows: AT_WORK,
+        events: &[(61_200, WEB_DOWN), (118_799, CLOCK), (118_800, CLOCK)],
+        notices: &[(2, 118_800, PROBLEM, IS_DOWN, 1, 0)],
+        suppressions: &[(0, 61_200, PROBLEM, IS_DOWN, 1, Filter::Period, None)],
+        ..EMPTY
+    },
+    // The night of 10 March 2024, on which the clocks of New York go on by an hour: work begins at 13:00 UTC.
+    Row {
+        name: "work hours in a zone",
+        rows: AT_WORK,
+        rule: Some("EST5EDT,M3.2.0,M11.1.0"),
+        events: &[
+            (1_710_046_800, WEB_DOWN),
+            (1_710_075_599, CLOCK),
+            (1_710_075_600, CLOCK),
         ],
-        &[],
-    )
+        notices: &[(2, 1_710_075_600, PROBLEM, IS_DOWN, 1, 0)],
+        suppressions: &[(0, 1_710_046_800, PROBLEM, IS_DOWN, 1, Filter::Period, None)],
+        ..EMPTY
+    },
+    Row {
+        name: "dependency chain, the first master",
+        rows: CHAIN,
+        events: IN_CHAIN,
+        object: 1,
+        notices: &[(0, 1000, PROBLEM, CRITICAL, 1, 0)],
+        ..EMPTY
+    },
+    Row {
+        name: "dependency chain, the last dependent",
+        rows: CHAIN,
+        events: IN_CHAIN,
+        object: 3,
+        suppressions: &[(1, 1000, PROBLEM, CRITICAL, 1, Filter::Dependency, None)],
+        ..EMPTY
+    },
+    Row {
+        name: "first delay",
+        rows: DELAYED,
+        events: &[(1000, WEB_DOWN), (1119, CLOCK), (1120, CLOCK)],
+        notices: &[(2, 1120, PROBLEM, IS_DOWN, 1, 0)],
+        suppressions: &[(0, 1000, PROBLEM, IS_DOWN, 1, Filter::FirstDelay, None)],
+        ..EMPTY
+    },
+    Row {
+        name: "contact options",
+        rows: OF_DOWN_ALONE,
+        events: &[(1000, WEB_DOWN), (1010, WEB_UP)],
+        notices: &[(0, 1000, PROBLEM, IS_DOWN, 1, 0)],
+        suppressions: &[(1, 1010, RECOVERY, IS_UP, 2, Filter::ContactOptions, Some(0))],
+        ..EMPTY
+    },
+    Row {
+        name: "nested downtimes of the host",
+        rows: NEVER_AFTER_FOUR,
+        events: NESTED,
+        notices: &[
+            (0, 1000, Kind::DowntimeStart, PENDING, 0, 0),
+            (4, 1040, Kind::DowntimeCancelled, PENDING, 0, 0),
+        ],
+        ..EMPTY
+    },
+    Row {
+        name: "nested downtimes, its service",
+        rows: NEVER_AFTER_FOUR,
+        events: NESTED,
+        object: 1,
+        suppressions: &[(1, 1010, PROBLEM, CRITICAL, 1, Filter::Downtime, None)],
+        ..EMPTY
+    },
+    Row {
+        name: "escalation period",
+        rows: AT_NIGHT,
+        events: THREE_AND_UP,
+        notices: &[
+            (0, 1000, PROBLEM, IS_DOWN, 1, 0),
+            (1, 1060, PROBLEM, IS_DOWN, 2, 1),
+            (2, 1120, PROBLEM, IS_DOWN, 3, 0),
+            (3, 1130, RECOVERY, IS_UP, 4, 0),
+        ],
+        ..EMPTY
+    },
+];
+
+/// The notice that is told in short.
+fn notice(told: Told, object: ObjectId) -> Notice {
+    let (event, moment, kind, state, number, contact) = told;
+    Notice {
+        event,
+        moment,
+        object,
+        kind,
+        state,
+        number,
+        contact: ContactId(contact),
+        ..DOWN
+    }
+}
+
+/// The suppression that is told in short.
+fn suppression(stopped: Stopped, object: ObjectId) -> Suppression {
+    let (event, moment, kind, state, number, filter, contact) = stopped;
+    Suppression {
+        event,
+        moment,
+        object,
+        kind,
+        state,
+        number,
+        filter,
+        contact: contact.map(ContactId),
+        ..STOPPED
+    }
+}
+
+/// Compares notices with those of a row.
+fn are_notices(rt: &impl Abort, found: &[Notice], row: &Row) {
+    assert_eq!(rt; found.len(), row.notices.len(), "{}", row.name);
+    for (found, told) in found.iter().zip(row.notices) {
+        assert_eq!(rt; *found, notice(*told, ObjectId(row.object)), "{}", row.name);
+    }
+}
+
+/// Compares suppressions with those of a row.
+fn are_suppressions(rt: &impl Abort, found: &[Suppression], row: &Row) {
+    assert_eq!(rt; found.len(), row.suppressions.len(), "{}", row.name);
+    for (found, stopped) in found.iter().zip(row.suppressions) {
+        assert_eq!(rt;
+            *found,
+            suppression(*stopped, ObjectId(row.object)),
+            "{}",
+            row.name
+        );
+    }
+}
+
+/// Compares the notices of a row with those that the slow program gives.
+fn gives_notices(
+    rt: &impl Abort,
+    alloc: Global,
+    config: &Config,
+    zone: &Zone,
+    events: &[Event],
+    row: &Row,
+) -> Result<(), Fail>
+    requires accepted { IsAccepted config.now }
+    requires proper { All (IsProper config.now) events.now }
+    requires object { row.now.object < length config.now.objects }
+{
+    let object = ObjectId(row.object);
+    let due = slow_due(alloc, config, zone, events, object, LaneId(0))?;
+    are_notices(rt, due.as_slice(), row);
+    Ok(())
+}
+
+/// Compares the suppressions of a row with those that the slow program gives.
+fn gives_suppressions(
+    rt: &impl Abort,
+    alloc: Global,
+    config: &Config,
+    zone: &Zone,
+    events: &[Event],
+    row: &Row,
+) -> Result<(), Fail>
+    requires accepted { IsAccepted config.now }
+    requires proper { All (IsProper config.now) events.now }
+    requires object { row.now.object < length config.now.objects }
+{
+    let sup = slow_sup(alloc, config, zone, events, ObjectId(row.object))?;
+    are_suppressions(rt, sup.as_slice(), row);
+    Ok(())
+}
+
+/// Compares what a row says with what the slow program does, after these events in this zone.
+fn says(
+    rt: &impl Abort,
+    alloc: Global,
+    config: &Config,
+    zone: &Zone,
+    events: &[Event],
+    row: &Row,
+) -> Result<(), Fail>
+    requires { IsAccepted config.now }
+{
+    assert!(rt; has_object(config, ObjectId(row.object)) && are_proper(config, events));
+    gives_notices(rt, alloc, config, zone, events, row)?;
+    gives_suppressions(rt, alloc, config, zone, events, row)
+}
+
+/// The same in this zone.
+fn says_in(
+    rt: &impl Abort,
+    alloc: Global,
+    config: &Config,
+    zone: &Zone,
+    row: &Row,
+) -> Result<(), Fail>
+    requires { IsAccepted config.now }
+{
+    let events = events_of(alloc, row.events)?;
+    says(rt, alloc, config, zone, events.as_slice(), row)
+}
+
+/// The same in the zone of the row.
+fn says_in_its_zone(rt: &impl Abort, alloc: Global, config: &Config, row: &Row) -> Result<(), Fail>
+    requires { IsAccepted config.now }
+{
+    match zone_given(alloc, row.rule, None) {
+        Ok(zone) => says_in(rt, alloc, config, &zone, row),
+        Err(fault) => panic!(rt; "{fault:?}"),
+    }
+}
+
+/// The same with the configuration of the row.
+fn gives(rt: &impl Abort, alloc: Global, row: &Row) -> Result<(), Fail> {
+    let config = accepted_config_of(alloc, row.rows)?;
+    says_in_its_zone(rt, alloc, &config, row)
+}
+
+#[test]
+fn worked_rows(rt: HostRuntime) -> Result<(), Fail> {
+    for row in &ROWS {
+        gives(&rt, rt.alloc(), row)?;
+    }
+    Ok(())
 }
