@@ -1,12 +1,9 @@
 //! The feed against its rules, line by line and in any pieces.
 
-use acceptance_inputs::configs::object;
 use acceptance_inputs::readers::{Exes, Pieces, in_pieces};
+use acceptance_inputs::rows::{Named, named};
 use due_model::config::{Config, ObjectId};
 use due_model::event::{Event, EventKind};
-use due_model::limits::MAX_OBJECTS;
-use due_model::objects::Objects;
-use due_model::sequence::Sequence;
 use due_model::state::State;
 use event_feed::{FeedFault, Feeder, read_line, stop_fault};
 use std::alloc::{AllocError, Global};
@@ -28,39 +25,13 @@ pub(crate) type Row = (&'static str, Given);
 pub(crate) type Said = (&'static str, Result<EventKind, FeedFault>);
 
 /// The objects, by their names, and the host of each that is a service.
-const NAMES: [(&str, Option<ObjectId>); 5] = [
+const NAMES: [Named; 5] = [
     ("web", None),
     ("my host", None),
     ("disk", Some(ObjectId(0))),
     ("Größe von /var", Some(ObjectId(1))),
     ("bücher", None),
 ];
-
-/// These objects.
-fn objects(alloc: Global) -> Result<Objects, AllocError> {
-    let mut objects = Vec::new(alloc);
-    for named in &NAMES {
-        let (name, host) = *named;
-        objects.push(object(alloc, name, host)?)?;
-    }
-    if objects.len() > MAX_OBJECTS {
-        return Err(AllocError);
-    }
-    Objects::new(alloc, objects)
-}
-
-/// The configuration of these objects.
-fn config(alloc: Global) -> Result<Config, AllocError> {
-    let objects = objects(alloc)?;
-    Ok(Config {
-        objects,
-        contacts: Sequence::new(Vec::new(alloc)),
-        lanes: Sequence::new(Vec::new(alloc)),
-        periods: Sequence::new(Vec::new(alloc)),
-        escalations: Sequence::new(Vec::new(alloc)),
-        dependencies: Sequence::new(Vec::new(alloc)),
-    })
-}
 
 /// Compares what one line gives.
 fn line_gives(rt: &impl Abort, config: &Config, line: &[u8], given: Given) {
@@ -643,7 +614,7 @@ fn try_in(rt: &impl Abort, alloc: Global, config: &Config, case: Case) -> Result
 
 /// Tries one case with the configuration. This function alone owns one: each that does takes long to prove.
 pub(crate) fn try_case(rt: &impl Abort, alloc: Global, case: Case) -> Result<(), Fail> {
-    let config = config(alloc)?;
+    let config = named(alloc, &NAMES)?;
     try_in(rt, alloc, &config, case)
 }
 
