@@ -28,6 +28,7 @@ fn answers(
     rt: &impl Abort,
     config: &Config,
     periods: &[Compiled],
+    zone: &Zone,
     order: &mut Order,
     question: Question<'_>,
 )
@@ -38,7 +39,7 @@ fn answers(
     let (states, moment, object, wanted) = question;
     assert_eq!(rt; states.len(), config.objects.len());
     let t = moment.min(LAST_MOMENT);
-    let found = order.fails(states, periods, &Zone::Utc, t, ObjectId(object));
+    let found = order.fails(states, periods, zone, t, ObjectId(object));
     assert_eq!(rt; found, wanted, "object {object} at {moment}");
 }
 
@@ -47,6 +48,7 @@ fn answers_each(
     rt: &impl Abort,
     config: &Config,
     periods: &[Compiled],
+    zone: &Zone,
     order: &mut Order,
     questions: &[Question<'_>],
 )
@@ -54,7 +56,7 @@ fn answers_each(
     requires periods { order.old.periods ≡ length periods.now }
 {
     for question in questions {
-        answers(rt, config, periods, order, *question);
+        answers(rt, config, periods, zone, order, *question);
     }
 }
 
@@ -64,13 +66,14 @@ fn order_answers(
     alloc: Global,
     config: &Config,
     periods: &[Compiled],
+    zone: &Zone,
     questions: &[Question<'_>],
 ) -> Result<(), Fail>
     requires accepted { IsAccepted config.now }
     requires periods { length periods.now ≡ length config.now.periods }
 {
     let mut order = Order::new(alloc, config)?;
-    answers_each(rt, config, periods, &mut order, questions);
+    answers_each(rt, config, periods, zone, &mut order, questions);
     Ok(())
 }
 
@@ -84,7 +87,8 @@ fn gives(
     requires { IsAccepted config.now }
 {
     let periods = compile_all(alloc, config)?;
-    order_answers(rt, alloc, config, periods.as_slice(), questions)
+    let zone = Zone::Utc;
+    order_answers(rt, alloc, config, periods.as_slice(), &zone, questions)
 }
 
 /// Compares what the order of an example answers.

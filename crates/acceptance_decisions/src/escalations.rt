@@ -176,6 +176,7 @@ fn is_as_told(
     config: &Config,
     by_object: &ByObject,
     all: &[Compiled],
+    zone: &Zone,
     case: Case,
 ) -> Result<(), Fail>
     requires accepted { IsAccepted config.now }
@@ -185,11 +186,10 @@ fn is_as_told(
     let (object, number, letter, moment, ..) = case;
     assert!(rt; has_object(config, object));
     let t = moment.min(LAST_MOMENT);
-    let zone = Zone::Utc;
-    let seconds = matching_interval(config, by_object, object, number, letter, t, all, &zone);
+    let seconds = matching_interval(config, by_object, object, number, letter, t, all, zone);
     let mut told = Vec::new(alloc);
     contacts(
-        alloc, config, by_object, object, number, letter, t, all, &zone, &mut told,
+        alloc, config, by_object, object, number, letter, t, all, zone, &mut told,
     )?;
     are(rt, case, seconds, told.as_slice());
     Ok(())
@@ -202,6 +202,7 @@ fn are_as_told(
     config: &Config,
     by_object: &ByObject,
     all: &[Compiled],
+    zone: &Zone,
     cases: &[Case],
 ) -> Result<(), Fail>
     requires accepted { IsAccepted config.now }
@@ -209,18 +210,33 @@ fn are_as_told(
     requires compiled { AreCompiled config.now all.now }
 {
     for case in cases {
-        is_as_told(rt, alloc, config, by_object, all, *case)?;
+        is_as_told(rt, alloc, config, by_object, all, zone, *case)?;
     }
     Ok(())
 }
 
-/// The same, where the escalations are yet to be grouped and the periods to be worked out.
+/// The same by UTC, where the periods are yet to be worked out.
+fn grouped_as_told(
+    rt: &impl Abort,
+    alloc: Global,
+    config: &Config,
+    by_object: &ByObject,
+    cases: &[Case],
+) -> Result<(), Fail>
+    requires accepted { IsAccepted config.now }
+    requires grouped { IsByObject config.now by_object.now }
+{
+    let all = compile_all(alloc, config)?;
+    let zone = Zone::Utc;
+    are_as_told(rt, alloc, config, by_object, all.as_slice(), &zone, cases)
+}
+
+/// The same, where the escalations are yet to be grouped.
 fn all_as_told(rt: &impl Abort, alloc: Global, config: &Config, cases: &[Case]) -> Result<(), Fail>
     requires { IsAccepted config.now }
 {
     let by_object = ByObject::new(alloc, config)?;
-    let all = compile_all(alloc, config)?;
-    are_as_told(rt, alloc, config, &by_object, all.as_slice(), cases)
+    grouped_as_told(rt, alloc, config, &by_object, cases)
 }
 
 /// The same of the configuration of `ROWS`.
@@ -250,12 +266,17 @@ fn own_of_each(alloc: Global, config: &Config) -> Result<Vec<ContactId>, AllocEr
     Ok(told)
 }
 
+/// Compares the own contacts of each object.
+fn are_own(rt: &impl Abort, told: &[ContactId]) {
+    assert!(rt; *told == [ANN, BOB, DAN, CAT], "{told:?}");
+}
+
 /// Each host's own contacts are added to those of the host before.
 fn own_are_added(rt: &impl Abort, alloc: Global, config: &Config) -> Result<(), Fail>
     requires { IsAccepted config.now }
 {
     let told = own_of_each(alloc, config)?;
-    assert_eq!(rt; told.as_slice(), [ANN, BOB, DAN, CAT].as_slice());
+    are_own(rt, told.as_slice());
     Ok(())
 }
 

@@ -471,15 +471,14 @@ fn is_last_within_limits(last: Option<Last>) -> bool
 }
 
 /// Compares what stops one attempt.
-fn gives(rt: &impl Abort, periods: &[Compiled], case: Case) {
-    let zone = Zone::Utc;
+fn gives(rt: &impl Abort, periods: &[Compiled], zone: &Zone, case: Case) {
     let attempt = Attempt {
         moment: case.moment,
         kind: case.kind,
         state: case.state,
         letter: case.kind.letter(case.state),
         service: false,
-        zone: &zone,
+        zone,
         periods,
     };
     assert!(rt; attempt.moment <= LAST_MOMENT && is_within_limits(case.view));
@@ -496,6 +495,7 @@ fn gives(rt: &impl Abort, periods: &[Compiled], case: Case) {
 fn kind_gives(
     rt: &impl Abort,
     periods: &[Compiled],
+    zone: &Zone,
     view: View,
     kind: Kind,
     found: Option<Filter>,
@@ -506,7 +506,7 @@ fn kind_gives(
         found,
         ..PASSES
     };
-    gives(rt, periods, case);
+    gives(rt, periods, zone, case);
 }
 
 /// This filter alone stops attempts, of these kinds.
@@ -517,12 +517,19 @@ fn only_stops(rt: &impl Abort, periods: &[Compiled], view: View, filter: Filter,
         } else {
             None
         };
-        kind_gives(rt, periods, view, kind, found);
+        kind_gives(rt, periods, zone, view, kind, found);
     }
 }
 
 /// Compares which sets of one letter let an attempt through: that of its letter alone.
-fn letter_gives(rt: &impl Abort, periods: &[Compiled], kind: Kind, state: State, own: usize) {
+fn letter_gives(
+    rt: &impl Abort,
+    periods: &[Compiled],
+    zone: &Zone,
+    kind: Kind,
+    state: State,
+    own: usize,
+) {
     for (place, options) in LETTERS.iter().enumerate() {
         let found = if place == own {
             None
@@ -540,31 +547,31 @@ fn letter_gives(rt: &impl Abort, periods: &[Compiled], kind: Kind, state: State,
             moment: MOMENT,
             found,
         };
-        gives(rt, periods, case);
+        gives(rt, periods, zone, case);
     }
 }
 
 /// Views that one filter alone refuses.
-fn only_one_filter(rt: &impl Abort, periods: &[Compiled]) {
+fn only_one_filter(rt: &impl Abort, periods: &[Compiled], zone: &Zone) {
     for row in &ONLY {
         let (view, filter, stopped) = *row;
-        only_stops(rt, periods, view, filter, stopped);
+        only_stops(rt, periods, zone, view, filter, stopped);
     }
 }
 
 /// Views that several refuse.
-fn first_of_several(rt: &impl Abort, periods: &[Compiled]) {
+fn first_of_several(rt: &impl Abort, periods: &[Compiled], zone: &Zone) {
     for row in &CHAIN {
         let (view, kind, found) = *row;
-        kind_gives(rt, periods, view, kind, found);
+        kind_gives(rt, periods, zone, view, kind, found);
     }
 }
 
 /// The letter of each attempt.
-fn letters(rt: &impl Abort, periods: &[Compiled]) {
+fn letters(rt: &impl Abort, periods: &[Compiled], zone: &Zone) {
     for row in &BY_LETTER {
         let (kind, state, own) = *row;
-        letter_gives(rt, periods, kind, state, own);
+        letter_gives(rt, periods, zone, kind, state, own);
     }
 }
 
@@ -575,19 +582,20 @@ fn worked_out(alloc: Global) -> Result<Vec<Compiled>, AllocError> {
 }
 
 /// All tables of views.
-fn views(rt: &impl Abort, periods: &[Compiled]) {
-    only_one_filter(rt, periods);
-    first_of_several(rt, periods);
-    letters(rt, periods);
+fn views(rt: &impl Abort, periods: &[Compiled], zone: &Zone) {
+    only_one_filter(rt, periods, zone);
+    first_of_several(rt, periods, zone);
+    letters(rt, periods, zone);
     for case in &MOMENTS {
-        gives(rt, periods, *case);
+        gives(rt, periods, zone, *case);
     }
 }
 
 #[test]
 fn filters_of_objects(rt: HostRuntime) -> Result<(), Fail> {
     let all = worked_out(rt.alloc())?;
-    views(&rt, all.as_slice());
+    let zone = Zone::Utc;
+    views(&rt, all.as_slice(), &zone);
     Ok(())
 }
 
@@ -634,6 +642,7 @@ fn contact_gives(
     rt: &impl Abort,
     config: &Config,
     periods: &[Compiled],
+    zone: &Zone,
     place: usize,
     service: bool,
     held: Held,
@@ -641,7 +650,6 @@ fn contact_gives(
     requires { AreCompiled config.now periods.now }
 {
     assert!(rt; place < config.contacts.len() && place < 100);
-    let zone = Zone::Utc;
     for kind in &ALL {
         let attempt = Attempt {
             moment: MOMENT,
@@ -649,7 +657,7 @@ fn contact_gives(
             state: State::Down,
             letter: kind.letter(State::Down),
             service,
-            zone: &zone,
+            zone,
             periods,
         };
         let found = contact_verdict(config, ContactId(place as u16), &attempt).err();
@@ -663,14 +671,14 @@ fn contact_gives(
 }
 
 /// Compares what stops notices to the contacts of `HELD`.
-fn contacts_give(rt: &impl Abort, config: &Config, periods: &[Compiled])
+fn contacts_give(rt: &impl Abort, config: &Config, periods: &[Compiled], zone: &Zone)
     requires { AreCompiled config.now periods.now }
 {
     for (place, held) in HELD.iter().enumerate() {
-        contact_gives(rt, config, periods, 2 * place, false, *held);
-        contact_gives(rt, config, periods, 2 * place, true, FREE);
-        contact_gives(rt, config, periods, 2 * place + 1, false, FREE);
-        contact_gives(rt, config, periods, 2 * place + 1, true, *held);
+        contact_gives(rt, config, periods, zone, 2 * place, false, *held);
+        contact_gives(rt, config, periods, zone, 2 * place, true, FREE);
+        contact_gives(rt, config, periods, zone, 2 * place + 1, false, FREE);
+        contact_gives(rt, config, periods, zone, 2 * place + 1, true, *held);
     }
 }
 
@@ -679,7 +687,8 @@ fn all_give(rt: &impl Abort, alloc: Global, config: &Config) -> Result<(), Fail>
     requires { IsAccepted config.now }
 {
     let all = compile_all(alloc, config)?;
-    contacts_give(rt, config, all.as_slice());
+    let zone = Zone::Utc;
+    contacts_give(rt, config, all.as_slice(), &zone);
     Ok(())
 }
 

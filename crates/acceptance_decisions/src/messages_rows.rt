@@ -3,6 +3,7 @@
 
 ghost use Rattle.std.specs.Prelude.{◌<◌, length};
 ghost use Rattle.due_model.specs.Accepted.{IsAccepted};
+ghost use Rattle.escalation.specs.ByObject.{IsByObject};
 ghost use Rattle.outcomes.specs.Outcome.{IsInRange};
 ghost use Rattle.outcomes.specs.Rules.{AreRules};
 
@@ -218,21 +219,35 @@ fn each_adds(rt: &impl Abort, alloc: Global, rules: &Rules<'_>) -> Result<(), Fa
     Ok(())
 }
 
-/// Compares what the outcome of each row adds in a configuration.
-fn all_add(rt: &impl Abort, alloc: Global, config: &Config) -> Result<(), Fail>
-    requires { IsAccepted config.now }
+/// The same by UTC, where the periods are yet to be worked out.
+fn grouped_add(
+    rt: &impl Abort,
+    alloc: Global,
+    config: &Config,
+    by_object: &ByObject,
+) -> Result<(), Fail>
+    requires accepted { IsAccepted config.now }
+    requires grouped { IsByObject config.now by_object.now }
+    requires object { 0 < length config.now.objects }
 {
-    assert!(rt; has_object(config, ObjectId(0)));
-    let by_object = ByObject::new(alloc, config)?;
     let all = compile_all(alloc, config)?;
     let zone = Zone::Utc;
     let rules = Rules {
         config,
         zone: &zone,
         periods: all.as_slice(),
-        escalations: &by_object,
+        escalations: by_object,
     };
     each_adds(rt, alloc, &rules)
+}
+
+/// The same, where the escalations are yet to be grouped.
+fn all_add(rt: &impl Abort, alloc: Global, config: &Config) -> Result<(), Fail>
+    requires { IsAccepted config.now }
+{
+    assert!(rt; has_object(config, ObjectId(0)));
+    let by_object = ByObject::new(alloc, config)?;
+    grouped_add(rt, alloc, config, &by_object)
 }
 
 #[test]

@@ -191,7 +191,10 @@ fn three_due(index: &mut Index) -> Result<(), AllocError> {
 
 /// Compares the first object from a number on whose moment has come.
 fn next_is(rt: &impl Abort, index: &Index, from: u32, t: u64, object: Option<u16>) {
-    assert!(rt; index.next_due(from, t) == object.map(ObjectId), "{from} at {t}");
+    assert!(rt;
+        index.next_due(from, t) == object.map(ObjectId),
+        "{from} at {t}"
+    );
 }
 
 /// Compares what is due before two are taken out, and after.

@@ -112,7 +112,10 @@ fn set_due(index: &mut Index) -> Result<(), AllocError> {
 /// Compares the objects that are handed out.
 fn hands_out(rt: &impl Abort, index: &mut Index) {
     for (moment, object) in HANDED_OUT {
-        assert!(rt; index.pop_due(moment) == object.map(ObjectId), "at {moment}");
+        assert!(rt;
+            index.pop_due(moment) == object.map(ObjectId),
+            "at {moment}"
+        );
     }
     assert_eq!(rt; index.examined(), 3);
 }

@@ -161,13 +161,20 @@ fn summer_time(rt: HostRuntime) -> Result<(), Fail> {
 #[test]
 fn every_second_level_of_a_diamond(rt: HostRuntime) -> Result<(), Fail> {
     let rows = diamond(rt.alloc(), LEVELS)?;
-    rows_give(&rt, rt.alloc(), rows.as_slice(), &Zone::Utc, &[], &IN_DIAMOND)
+    rows_give(
+        &rt,
+        rt.alloc(),
+        rows.as_slice(),
+        &Zone::Utc,
+        &[],
+        &IN_DIAMOND,
+    )
 }
 
 /// No period is always.
-fn is_always(rt: &impl Abort, alloc: Global, config: &Config) -> Result<(), Fail> {
-    let next = next_in(alloc, config, &Zone::Utc, None, 77)?;
-    let is_in = in_period(alloc, config, &Zone::Utc, None, 77)?;
+fn is_always(rt: &impl Abort, alloc: Global, config: &Config, zone: &Zone) -> Result<(), Fail> {
+    let next = next_in(alloc, config, zone, None, 77)?;
+    let is_in = in_period(alloc, config, zone, None, 77)?;
     assert_eq!(rt; (next, is_in), (Some(77), true));
     Ok(())
 }
@@ -175,7 +182,8 @@ fn is_always(rt: &impl Abort, alloc: Global, config: &Config) -> Result<(), Fail
 #[test]
 fn no_period_is_always(rt: HostRuntime) -> Result<(), Fail> {
     let config = periods_alone(rt.alloc(), &[])?;
-    is_always(&rt, rt.alloc(), &config)
+    let zone = Zone::Utc;
+    is_always(&rt, rt.alloc(), &config, &zone)
 }
 
 /// Goes over a Thursday's noon with a period that is worked out.
@@ -183,13 +191,14 @@ fn goes_over(
     rt: &impl Abort,
     alloc: Global,
     config: &Config,
+    zone: &Zone,
     number: u16,
     period: &Compiled,
 ) -> Result<(), Fail> {
     for step in 0..41u64 {
         let t = 43_000 + step * 100;
-        let case = (number, t, period.contains(&Zone::Utc, t));
-        is_in(rt, alloc, config, &Zone::Utc, case)?;
+        let case = (number, t, period.contains(zone, t));
+        is_in(rt, alloc, config, zone, case)?;
     }
     Ok(())
 }
@@ -199,10 +208,11 @@ fn goes_over_each(
     rt: &impl Abort,
     alloc: Global,
     config: &Config,
+    zone: &Zone,
     all: &[Compiled],
 ) -> Result<(), Fail> {
     for (number, period) in all.iter().enumerate() {
-        goes_over(rt, alloc, config, number as u16, period)?;
+        goes_over(rt, alloc, config, zone, number as u16, period)?;
     }
     Ok(())
 }
@@ -212,7 +222,8 @@ fn goes_over_all(rt: &impl Abort, alloc: Global, config: &Config) -> Result<(), 
     requires { IsAccepted config.now }
 {
     let all = compile_all(alloc, config)?;
-    goes_over_each(rt, alloc, config, all.as_slice())
+    let zone = Zone::Utc;
+    goes_over_each(rt, alloc, config, &zone, all.as_slice())
 }
 
 #[test]
@@ -221,8 +232,25 @@ fn as_worked_out(rt: HostRuntime) -> Result<(), Fail> {
     goes_over_all(&rt, rt.alloc(), &config)
 }
 
-/// Compares what is answered to questions about dependencies.
+/// Compares what is answered to a question about dependencies.
 fn answers(
+    rt: &impl Abort,
+    alloc: Global,
+    config: &Config,
+    zone: &Zone,
+    question: Question<'_>,
+) -> Result<(), Fail>
+    requires { IsAccepted config.now }
+{
+    let (states, moment, object, wanted) = question;
+    let t = moment.min(LAST_MOMENT);
+    let fails = dependency_fails(alloc, config, zone, states, t, ObjectId(object))?;
+    assert_eq!(rt; fails, wanted, "object {object} at {moment}");
+    Ok(())
+}
+
+/// Compares what is answered to questions about dependencies by UTC.
+fn answers_each(
     rt: &impl Abort,
     alloc: Global,
     config: &Config,
@@ -230,11 +258,9 @@ fn answers(
 ) -> Result<(), Fail>
     requires { IsAccepted config.now }
 {
+    let zone = Zone::Utc;
     for question in questions {
-        let (states, moment, object, wanted) = *question;
-        let t = moment.min(LAST_MOMENT);
-        let fails = dependency_fails(alloc, config, &Zone::Utc, states, t, ObjectId(object))?;
-        assert_eq!(rt; fails, wanted, "object {object} at {moment}");
+        answers(rt, alloc, config, &zone, *question)?;
     }
     Ok(())
 }
@@ -247,7 +273,7 @@ fn example_answers(
     questions: &[Question<'_>],
 ) -> Result<(), Fail> {
     let config = config_of(alloc, example)?;
-    answers(rt, alloc, &config, questions)
+    answers_each(rt, alloc, &config, questions)
 }
 
 #[test]
@@ -274,7 +300,7 @@ fn last_fails(
 ) -> Result<(), Fail> {
     let config = hosts_with(alloc, LONG + 1, dependencies)?;
     let questions = [(states, 0, LONG, true), (states, 0, 0, false)];
-    answers(rt, alloc, &config, &questions)
+    answers_each(rt, alloc, &config, &questions)
 }
 
 /// The first object is CRITICAL.

@@ -41,12 +41,7 @@ fn are_found(rt: &impl Abort, objects: &Objects, rows: &[Found]) {
 }
 
 /// Compares how many objects of these names there are, and what is found among them.
-fn gives(
-    rt: &impl Abort,
-    alloc: Global,
-    names: &[Named],
-    rows: &[Found],
-) -> Result<(), Fail> {
+fn gives(rt: &impl Abort, alloc: Global, names: &[Named], rows: &[Found]) -> Result<(), Fail> {
     let config = named(alloc, names)?;
     assert_eq!(rt; config.objects.len(), names.len());
     are_found(rt, &config.objects, rows);

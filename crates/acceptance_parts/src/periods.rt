@@ -328,7 +328,8 @@ fn rows_give(
     cases: &[Case],
 ) -> Result<(), Fail> {
     let all = worked_out(alloc, rows)?;
-    all_give(rt, all.as_slice(), &Zone::Utc, cases);
+    let zone = Zone::Utc;
+    all_give(rt, all.as_slice(), &zone, cases);
     Ok(())
 }
 
@@ -448,9 +449,15 @@ fn held(rows: &[PeriodRow<'_>], t: u64) -> u64 {
 }
 
 /// Goes back in steps of ten minutes over a Thursday and a Friday.
-fn walk_rows(rt: &impl Abort, rows: &[PeriodRow<'_>], all: &[Compiled], number: usize) {
+fn walk_rows(
+    rt: &impl Abort,
+    rows: &[PeriodRow<'_>],
+    all: &[Compiled],
+    zone: &Zone,
+    number: usize,
+) {
     let mut wanted = match all.get(number) {
-        Some(period) => period.next(&Zone::Utc, 172_800),
+        Some(period) => period.next(zone, 172_800),
         None => panic!(rt; "no period {number}"),
     };
     for back in 1..289u64 {
@@ -458,14 +465,15 @@ fn walk_rows(rt: &impl Abort, rows: &[PeriodRow<'_>], all: &[Compiled], number: 
         if has_bit(held(rows, t), number) {
             wanted = Some(t);
         }
-        gives(rt, all, &Zone::Utc, (number as u16, t, wanted));
+        gives(rt, all, zone, (number as u16, t, wanted));
     }
 }
 
 /// The same with each period of a nest.
 fn walk_nest(rt: &impl Abort, rows: &[PeriodRow<'_>], all: &[Compiled]) {
+    let zone = Zone::Utc;
     for number in 0..rows.len() {
-        walk_rows(rt, rows, all, number);
+        walk_rows(rt, rows, all, &zone, number);
     }
 }
 
