@@ -23,14 +23,14 @@ enum Told {
 type Step = (u64, Told, u64, Option<u64>);
 
 /// The example `renotify`: an interval of 60 seconds.
-const RENOTIFY: [Step; 3] = [
+const RENOTIFY: &[Step] = &[
     (1000, Told::Hard(State::Down), 1, None),
     (1000, Told::Sent(60), 2, Some(1060)),
     (1060, Told::Sent(60), 3, Some(1120)),
 ];
 
 /// The example `interval-zero`: from the fourth notice on an escalation with interval 0 matches.
-const INTERVAL_ZERO: [Step; 7] = [
+const INTERVAL_ZERO: &[Step] = &[
     (1000, Told::Hard(State::Warning), 1, None),
     (1000, Told::Sent(60), 2, Some(1060)),
     (1060, Told::Sent(60), 3, Some(1120)),
@@ -41,7 +41,7 @@ const INTERVAL_ZERO: [Step; 7] = [
 ];
 
 /// The example `first-delay`: a delay of 120 seconds.
-const FIRST_DELAY: [Step; 3] = [
+const FIRST_DELAY: &[Step] = &[
     (1000, Told::Hard(State::Down), 1, None),
     (
         1000,
@@ -53,7 +53,7 @@ const FIRST_DELAY: [Step; 3] = [
 ];
 
 /// The example `work-hours`: the period holds again the next morning.
-const WORK_HOURS: [Step; 3] = [
+const WORK_HOURS: &[Step] = &[
     (61_200, Told::Hard(State::Down), 1, None),
     (
         61_200,
@@ -65,7 +65,7 @@ const WORK_HOURS: [Step; 3] = [
 ];
 
 /// The example `flapping`, and then the same state again, the recovery, and the next problem.
-const NEXT_PROBLEM: [Step; 10] = [
+const NEXT_PROBLEM: &[Step] = &[
     (1010, Told::Hard(State::Down), 1, None),
     (1010, Told::Stopped(Filter::Flapping, None), 1, Some(1070)),
     (1070, Told::Sent(60), 2, Some(1130)),
@@ -79,7 +79,7 @@ const NEXT_PROBLEM: [Step; 10] = [
 ];
 
 /// When a problem is attempted again after each filter; never, where its period never holds or an interval is 0.
-const EACH_FILTER: [Step; 12] = [
+const EACH_FILTER: &[Step] = &[
     (1000, Told::Hard(State::Down), 1, None),
     (1000, Told::Stopped(Filter::Program, Some(7)), 1, Some(1060)),
     (1010, Told::Stopped(Filter::Disabled, None), 1, Some(1070)),
@@ -149,12 +149,7 @@ fn goes(rt: &impl Abort, steps: &[Step]) -> Book {
 
 #[test]
 fn worked_rows(rt: HostRuntime) -> Result<(), Fail> {
-    for steps in [
-        RENOTIFY.as_slice(),
-        FIRST_DELAY.as_slice(),
-        WORK_HOURS.as_slice(),
-        EACH_FILTER.as_slice(),
-    ] {
+    for steps in [RENOTIFY, FIRST_DELAY, WORK_HOURS, EACH_FILTER] {
         let _book = goes(&rt, steps);
     }
     Ok(())
@@ -162,7 +157,7 @@ fn worked_rows(rt: HostRuntime) -> Result<(), Fail> {
 
 #[test]
 fn last_notice_of_a_problem(rt: HostRuntime) -> Result<(), Fail> {
-    let book = goes(&rt, &INTERVAL_ZERO);
+    let book = goes(&rt, INTERVAL_ZERO);
     let last = Last {
         state: State::Critical,
         moment: 10_000,
@@ -174,7 +169,7 @@ fn last_notice_of_a_problem(rt: HostRuntime) -> Result<(), Fail> {
 
 #[test]
 fn next_problem(rt: HostRuntime) -> Result<(), Fail> {
-    let book = goes(&rt, &NEXT_PROBLEM);
+    let book = goes(&rt, NEXT_PROBLEM);
     assert!(rt; (book.sent(), book.last(), book.began()) == (0, None, 1120));
     Ok(())
 }

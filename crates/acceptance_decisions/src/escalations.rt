@@ -46,7 +46,7 @@ const LUNCH: PeriodRow<'static> = PeriodRow {
     ..PeriodRow::THURSDAY
 };
 
-const OWN: [ObjectRow; 3] = [
+const OWN: &[ObjectRow] = &[
     ObjectRow {
         interval: 10,
         contacts: &[ANN],
@@ -65,7 +65,7 @@ const OWN: [ObjectRow; 3] = [
 ];
 
 /// Those of web overlap as in the manual. They stand among those of mail and of shop, as a text may have them.
-const GIVEN: [EscalationRow; 6] = [
+const GIVEN: &[EscalationRow] = &[
     EscalationRow {
         object: MAIL,
         interval: 30,
@@ -117,9 +117,9 @@ const GIVEN: [EscalationRow; 6] = [
 const ROWS: Rows<'static> = Rows {
     lanes: 1,
     contacts: &[ContactRow::FREE; 4],
-    objects: &OWN,
+    objects: OWN,
     periods: &[LUNCH],
-    escalations: &GIVEN,
+    escalations: GIVEN,
     dependencies: &[],
 };
 
@@ -131,7 +131,7 @@ const DOWN: OptionLetter = OptionLetter::Down;
 const UP: OptionLetter = OptionLetter::Recovery;
 
 /// The numbers of web: none of two, one, both, and the last one without end.
-const OVERLAP: [Case; 9] = [
+const OVERLAP: &[Case] = &[
     (WEB, 1, DOWN, 0, 600, &[ANN]),
     (WEB, 2, DOWN, 600, 600, &[ANN]),
     (WEB, 3, DOWN, 1_200, 2_700, &[BOB]),
@@ -145,7 +145,7 @@ const OVERLAP: [Case; 9] = [
 
 /// A period or options leave an escalation out; an interval of 0 is the least; the own one, though less, is none
 /// of those compared; an escalation may name nobody.
-const MIXED: [Case; 11] = [
+const MIXED: &[Case] = &[
     (MAIL, 1, DOWN, 43_199, 60, &[BOB, DAN]),
     (MAIL, 1, DOWN, 43_200, 1_800, &[ANN, CAT]),
     (MAIL, 1, DOWN, 46_799, 1_800, &[ANN, CAT]),
@@ -247,12 +247,12 @@ fn as_told(rt: &impl Abort, alloc: Global, cases: &[Case]) -> Result<(), Fail> {
 
 #[test]
 fn overlapping(rt: HostRuntime) -> Result<(), Fail> {
-    as_told(&rt, rt.alloc(), &OVERLAP)
+    as_told(&rt, rt.alloc(), OVERLAP)
 }
 
 #[test]
 fn periods_options_and_zero(rt: HostRuntime) -> Result<(), Fail> {
-    as_told(&rt, rt.alloc(), &MIXED)
+    as_told(&rt, rt.alloc(), MIXED)
 }
 
 /// The own contacts of each object, one after the other.

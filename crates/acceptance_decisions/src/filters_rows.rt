@@ -27,7 +27,7 @@ use time_period::compile::compile_all;
 use time_period::compiled::Compiled;
 
 /// A period that never holds, and Thursdays. 1970-01-01 was one.
-const PERIODS: [PeriodRow<'static>; 2] = [
+const PERIODS: &[PeriodRow<'static>] = &[
     PeriodRow::NEVER,
     PeriodRow {
         first: 4,
@@ -62,7 +62,7 @@ const OPEN: View = View {
     }),
 };
 
-const ALL: [Kind; 7] = [
+const ALL: &[Kind] = &[
     Kind::Problem,
     Kind::Recovery,
     Kind::FlappingStart,
@@ -76,14 +76,14 @@ const ALL: [Kind; 7] = [
 type Only = (View, Filter, &'static [Kind]);
 
 /// Views that one filter alone refuses, or that it lets pass.
-const ONLY: [Only; 11] = [
+const ONLY: &[Only] = &[
     (
         View {
             program: false,
             ..OPEN
         },
         Filter::Program,
-        &ALL,
+        ALL,
     ),
     (
         View {
@@ -91,16 +91,16 @@ const ONLY: [Only; 11] = [
             ..OPEN
         },
         Filter::Disabled,
-        &ALL,
+        ALL,
     ),
-    (View { down: true, ..OPEN }, Filter::Downtime, &NO_DOWNTIME),
+    (View { down: true, ..OPEN }, Filter::Downtime, NO_DOWNTIME),
     (
         View {
             flapping: true,
             ..OPEN
         },
         Filter::Flapping,
-        &OF_PROBLEM,
+        OF_PROBLEM,
     ),
     (
         View {
@@ -108,7 +108,7 @@ const ONLY: [Only; 11] = [
             ..OPEN
         },
         Filter::Options,
-        &ALL,
+        ALL,
     ),
     (
         View { sent: 0, ..OPEN },
@@ -121,7 +121,7 @@ const ONLY: [Only; 11] = [
             ..OPEN
         },
         Filter::Period,
-        &ALL,
+        ALL,
     ),
     (
         View {
@@ -129,7 +129,7 @@ const ONLY: [Only; 11] = [
             ..OPEN
         },
         Filter::Dependency,
-        &OF_PROBLEM,
+        OF_PROBLEM,
     ),
     (View { delay: 16, ..OPEN }, Filter::FirstDelay, &[]),
     (FROM_INTERVAL, Filter::Interval, &[Kind::Problem]),
@@ -144,14 +144,14 @@ const ONLY: [Only; 11] = [
 ];
 
 /// The kinds that aren't about a downtime.
-const NO_DOWNTIME: [Kind; 4] = [
+const NO_DOWNTIME: &[Kind] = &[
     Kind::Problem,
     Kind::Recovery,
     Kind::FlappingStart,
     Kind::FlappingStop,
 ];
 
-const OF_PROBLEM: [Kind; 2] = [Kind::Problem, Kind::Recovery];
+const OF_PROBLEM: &[Kind] = &[Kind::Problem, Kind::Recovery];
 
 /// Nothing went out yet, and the first notice is delayed.
 const DELAYED: View = View {
@@ -223,7 +223,7 @@ struct Case {
 }
 
 /// Views that a filter and each later one refuse, and one that is delayed, a kind, and the first filter that stops it.
-const CHAIN: [(View, Kind, Option<Filter>); 19] = [
+const CHAIN: &[(View, Kind, Option<Filter>)] = &[
     (FROM_PROGRAM, Kind::Problem, Some(Filter::Program)),
     (FROM_DISABLED, Kind::Recovery, Some(Filter::Disabled)),
     (FROM_DOWNTIME, Kind::Problem, Some(Filter::Downtime)),
@@ -255,7 +255,7 @@ const PASSES: Case = Case {
 };
 
 /// Moments at which a filter begins or ends to stop a problem, the last moments of all, and another state.
-const MOMENTS: [Case; 9] = [
+const MOMENTS: &[Case] = &[
     Case {
         view: FROM_FIRST_DELAY,
         moment: 1_059,
@@ -329,7 +329,7 @@ const MOMENTS: [Case; 9] = [
 ];
 
 /// One letter each.
-const LETTERS: [OptionLetters; 8] = [
+const LETTERS: &[OptionLetters] = &[
     DOWN_ALONE,
     OptionLetters {
         unreachable: true,
@@ -362,7 +362,7 @@ const LETTERS: [OptionLetters; 8] = [
 ];
 
 /// A notification that is attempted, and the place of its letter among `LETTERS`.
-const BY_LETTER: [(Kind, State, usize); 12] = [
+const BY_LETTER: &[(Kind, State, usize)] = &[
     (Kind::Problem, State::Down, 0),
     (Kind::Problem, State::Unreachable, 1),
     (Kind::Problem, State::Warning, 2),
@@ -512,12 +512,12 @@ fn kind_gives(
 /// This filter alone stops attempts, of these kinds.
 fn only_stops(rt: &impl Abort, periods: &[Compiled], view: View, filter: Filter, stopped: &[Kind]) {
     for kind in ALL {
-        let found = if stopped.contains(&kind) {
+        let found = if stopped.contains(kind) {
             Some(filter)
         } else {
             None
         };
-        kind_gives(rt, periods, zone, view, kind, found);
+        kind_gives(rt, periods, zone, view, *kind, found);
     }
 }
 
@@ -553,7 +553,7 @@ fn letter_gives(
 
 /// Views that one filter alone refuses.
 fn only_one_filter(rt: &impl Abort, periods: &[Compiled], zone: &Zone) {
-    for row in &ONLY {
+    for row in ONLY {
         let (view, filter, stopped) = *row;
         only_stops(rt, periods, zone, view, filter, stopped);
     }
@@ -561,7 +561,7 @@ fn only_one_filter(rt: &impl Abort, periods: &[Compiled], zone: &Zone) {
 
 /// Views that several refuse.
 fn first_of_several(rt: &impl Abort, periods: &[Compiled], zone: &Zone) {
-    for row in &CHAIN {
+    for row in CHAIN {
         let (view, kind, found) = *row;
         kind_gives(rt, periods, zone, view, kind, found);
     }
@@ -569,7 +569,7 @@ fn first_of_several(rt: &impl Abort, periods: &[Compiled], zone: &Zone) {
 
 /// The letter of each attempt.
 fn letters(rt: &impl Abort, periods: &[Compiled], zone: &Zone) {
-    for row in &BY_LETTER {
+    for row in BY_LETTER {
         let (kind, state, own) = *row;
         letter_gives(rt, periods, zone, kind, state, own);
     }
@@ -577,7 +577,7 @@ fn letters(rt: &impl Abort, periods: &[Compiled], zone: &Zone) {
 
 /// The periods of `PERIODS`, worked out.
 fn worked_out(alloc: Global) -> Result<Vec<Compiled>, AllocError> {
-    let config = periods_alone(alloc, &PERIODS)?;
+    let config = periods_alone(alloc, PERIODS)?;
     compile_all(alloc, &config)
 }
 
@@ -586,7 +586,7 @@ fn views(rt: &impl Abort, periods: &[Compiled], zone: &Zone) {
     only_one_filter(rt, periods, zone);
     first_of_several(rt, periods, zone);
     letters(rt, periods, zone);
-    for case in &MOMENTS {
+    for case in MOMENTS {
         gives(rt, periods, zone, *case);
     }
 }
@@ -632,7 +632,7 @@ fn contacts(alloc: Global) -> Result<Vec<Contact>, AllocError> {
 fn config(alloc: Global) -> Result<Config, AllocError>
     ensures { IfOk result (λ config. IsAccepted config) }
 {
-    let mut config = periods_alone(alloc, &PERIODS)?;
+    let mut config = periods_alone(alloc, PERIODS)?;
     config.contacts = Sequence::new(contacts(alloc)?);
     accepted(config)
 }
@@ -650,7 +650,7 @@ fn contact_gives(
     requires { AreCompiled config.now periods.now }
 {
     assert!(rt; place < config.contacts.len() && place < 100);
-    for kind in &ALL {
+    for kind in ALL {
         let attempt = Attempt {
             moment: MOMENT,
             kind: *kind,

@@ -108,7 +108,7 @@ const NEITHER: &[Said] = &[
 ];
 
 /// The recovery after one notice goes to the object's own contacts, though the second would reach others.
-const ROWS: [Row; 6] = [
+const ROWS: &[Row] = &[
     (
         Kind::Problem,
         State::Down,
@@ -116,7 +116,7 @@ const ROWS: [Row; 6] = [
         None,
         &[Said::Told(0, 0), Said::Told(0, 1), Said::Told(1, 1)],
     ),
-    (Kind::Problem, State::Down, 2, None, BOB_ALONE),
+    SECOND,
     (Kind::Recovery, State::Up, 3, None, NEITHER),
     (Kind::Recovery, State::Up, 2, None, ANN_ALONE),
     (Kind::FlappingStart, State::Down, 2, None, ANN_ALONE),
@@ -214,7 +214,7 @@ fn each_adds(rt: &impl Abort, alloc: Global, rules: &Rules<'_>) -> Result<(), Fa
     // What the list of receivers held is no matter.
     let mut receivers = Vec::from_slice(alloc, &[ContactId(0)])?;
     for row in ROWS {
-        adds(rt, alloc, rules, &mut receivers, row)?;
+        adds(rt, alloc, rules, &mut receivers, *row)?;
     }
     Ok(())
 }
@@ -256,11 +256,14 @@ fn messages_of_outcomes(rt: HostRuntime) -> Result<(), Fail> {
     all_add(&rt, rt.alloc(), &config)
 }
 
+/// The second problem.
+const SECOND: Row = (Kind::Problem, State::Down, 2, None, BOB_ALONE);
+
 #[test]
 fn counts_of_entries(rt: HostRuntime) {
-    let mut entries = [entry(ROWS[1], Said::Told(1, 1)); 4];
-    entries[1] = entry(ROWS[1], Said::Told(0, 0));
-    entries[2] = entry(ROWS[1], Said::Stopped(Some(2), Filter::ContactPeriod));
+    let mut entries = [entry(SECOND, Said::Told(1, 1)); 4];
+    entries[1] = entry(SECOND, Said::Told(0, 0));
+    entries[2] = entry(SECOND, Said::Stopped(Some(2), Filter::ContactPeriod));
     assert_eq!(&rt;
         (
             notices_for(&entries, 0),

@@ -82,7 +82,7 @@ fn record_of_a_lane(rt: HostRuntime) -> Result<(), Fail> {
 }
 
 /// When objects are due.
-const DUE: [(u16, Option<u64>); 5] = [
+const DUE: &[(u16, Option<u64>)] = &[
     (2, Some(60)),
     (0, Some(120)),
     (6, Some(60)),
@@ -91,7 +91,7 @@ const DUE: [(u16, Option<u64>); 5] = [
 ];
 
 /// A moment, and the object that is then handed out.
-const HANDED_OUT: [(u64, Option<u16>); 6] = [
+const HANDED_OUT: &[(u64, Option<u16>)] = &[
     (59, None),
     (60, Some(2)),
     (60, Some(6)),
@@ -103,7 +103,8 @@ const HANDED_OUT: [(u64, Option<u16>); 6] = [
 /// Sets when objects are due.
 fn set_due(index: &mut Index) -> Result<(), AllocError> {
     index.reserve(3)?;
-    for (object, moment) in DUE {
+    for row in DUE {
+        let (object, moment) = *row;
         index.set(ObjectId(object), moment)?;
     }
     Ok(())
@@ -111,7 +112,8 @@ fn set_due(index: &mut Index) -> Result<(), AllocError> {
 
 /// Compares the objects that are handed out.
 fn hands_out(rt: &impl Abort, index: &mut Index) {
-    for (moment, object) in HANDED_OUT {
+    for row in HANDED_OUT {
+        let (moment, object) = *row;
         assert!(rt;
             index.pop_due(moment) == object.map(ObjectId),
             "at {moment}"

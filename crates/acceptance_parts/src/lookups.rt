@@ -23,7 +23,7 @@ use zone_times::given::zone_given;
 type Moment = (u16, u64, bool);
 
 /// 1970-01-01 was a Thursday.
-const BY_UTC: [Case; 9] = [
+const BY_UTC: &[Case] = &[
     (2, 43_800, Some(45_000)),
     (2, 45_600, Some(45_600)),
     (2, 46_200, Some(46_800)),
@@ -35,7 +35,7 @@ const BY_UTC: [Case; 9] = [
     (11, 45_999, Some(45_999)),
 ];
 
-const IN_BY_UTC: [Moment; 9] = [
+const IN_BY_UTC: &[Moment] = &[
     (2, 43_800, false),
     (2, 45_600, true),
     (0, 45_899, true),
@@ -48,9 +48,9 @@ const IN_BY_UTC: [Moment; 9] = [
 ];
 
 /// The hour that is left out in March 2024, and the one that comes twice in November: two hours of Sunday.
-const BY_NEW_YORK: [Case; 1] = [(0, 1_710_046_800, Some(1_710_655_200))];
+const BY_NEW_YORK: &[Case] = &[(0, 1_710_046_800, Some(1_710_655_200))];
 
-const IN_BY_NEW_YORK: [Moment; 5] = [
+const IN_BY_NEW_YORK: &[Moment] = &[
     (1, 1_730_609_999, false),
     (1, 1_730_610_000, true),
     (1, 1_730_613_600, true),
@@ -62,7 +62,7 @@ const IN_BY_NEW_YORK: [Moment; 5] = [
 const LEVELS: usize = 4;
 
 /// The periods of the diamond at one moment: every second pair holds.
-const IN_DIAMOND: [Moment; 8] = [
+const IN_DIAMOND: &[Moment] = &[
     (0, 5, true),
     (1, 5, true),
     (2, 5, false),
@@ -139,7 +139,7 @@ fn rows_give(
 
 #[test]
 fn nested_exclusions(rt: HostRuntime) -> Result<(), Fail> {
-    rows_give(&rt, rt.alloc(), &ROWS, &Zone::Utc, &BY_UTC, &IN_BY_UTC)
+    rows_give(&rt, rt.alloc(), &ROWS, &Zone::Utc, BY_UTC, IN_BY_UTC)
 }
 
 #[test]
@@ -150,8 +150,8 @@ fn summer_time(rt: HostRuntime) -> Result<(), Fail> {
             rt.alloc(),
             &ROWS[4..6],
             &zone,
-            &BY_NEW_YORK,
-            &IN_BY_NEW_YORK,
+            BY_NEW_YORK,
+            IN_BY_NEW_YORK,
         ),
         Err(fault) => panic!(&rt; "{fault:?}"),
     }
@@ -167,7 +167,7 @@ fn every_second_level_of_a_diamond(rt: HostRuntime) -> Result<(), Fail> {
         rows.as_slice(),
         &Zone::Utc,
         &[],
-        &IN_DIAMOND,
+        IN_DIAMOND,
     )
 }
 
@@ -276,9 +276,12 @@ fn example_answers(
     answers_each(rt, alloc, &config, questions)
 }
 
+/// The worked examples.
+const WORKED: &[Example] = &EXAMPLES;
+
 #[test]
 fn worked_examples(rt: HostRuntime) -> Result<(), Fail> {
-    for example in &EXAMPLES {
+    for example in WORKED {
         example_answers(&rt, rt.alloc(), *example, example.questions)?;
     }
     Ok(())

@@ -8,7 +8,7 @@ use std::process::Abort;
 use std::test::Fail;
 
 /// Hosts, and services of the host of this number; the last one's host isn't in the list.
-const OBJECTS: [Named; 6] = [
+const OBJECTS: &[Named] = &[
     ("web", None),
     ("db", None),
     ("disk", Some(ObjectId(1))),
@@ -20,7 +20,7 @@ const OBJECTS: [Named; 6] = [
 /// A host's name, a service's, and the object that they name.
 type Found = (&'static [u8], Option<&'static [u8]>, Option<ObjectId>);
 
-const FOUND: [Found; 9] = [
+const FOUND: &[Found] = &[
     (b"web", None, Some(ObjectId(0))),
     (b"db", None, Some(ObjectId(1))),
     (b"disk", None, None),
@@ -50,7 +50,7 @@ fn gives(rt: &impl Abort, alloc: Global, names: &[Named], rows: &[Found]) -> Res
 
 #[test]
 fn finds_by_name(rt: HostRuntime) -> Result<(), Fail> {
-    gives(&rt, rt.alloc(), &OBJECTS, &FOUND)
+    gives(&rt, rt.alloc(), OBJECTS, FOUND)
 }
 
 #[test]

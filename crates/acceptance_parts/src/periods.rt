@@ -120,7 +120,7 @@ pub(crate) const ROWS: [PeriodRow<'static>; 12] = [
 pub(crate) type Case = (u16, u64, Option<u64>);
 
 /// 1970-01-01 was a Thursday.
-const BY_UTC: [Case; 21] = [
+const BY_UTC: &[Case] = &[
     (2, 43_800, Some(45_000)),
     (2, 45_600, Some(45_600)),
     (2, 46_200, Some(46_800)),
@@ -145,7 +145,7 @@ const BY_UTC: [Case; 21] = [
 ];
 
 /// The hour that is left out in March 2024, and the one that comes twice in November.
-const BY_NEW_YORK: [Case; 5] = [
+const BY_NEW_YORK: &[Case] = &[
     (4, 1_710_046_800, Some(1_710_655_200)),
     (5, 1_730_609_999, Some(1_730_610_000)),
     (5, 1_730_613_600, Some(1_730_613_600)),
@@ -154,39 +154,39 @@ const BY_NEW_YORK: [Case; 5] = [
 ];
 
 /// Clocks are 10:30 ahead, and 11:00 from October to April.
-const BY_LORD_HOWE: [Case; 2] = [
+const BY_LORD_HOWE: &[Case] = &[
     (6, 1_704_000_000, Some(1_704_027_600)),
     (6, 1_718_000_000, Some(1_718_544_600)),
 ];
 
 /// Clocks are 5:30:15 ahead.
-const AHEAD: [Case; 3] = [
+const AHEAD: &[Case] = &[
     (7, 0, Some(0)),
     (7, 66_584, Some(66_584)),
     (7, 66_585, Some(584_985)),
 ];
 
 /// Clocks are 5:30:15 behind.
-const BEHIND: [Case; 3] = [
+const BEHIND: &[Case] = &[
     (7, 19_814, Some(19_815)),
     (7, 106_214, Some(106_214)),
     (7, 106_215, Some(624_615)),
 ];
 
 /// New York's year 2024 as a table: 5 hours behind, 4 from 10 March 07:00 UTC to 3 November 06:00 UTC.
-const NEW_YORK: [u8; 74] = [
+const NEW_YORK: &[u8] = &[
     84, 90, 105, 102, 0, 0, 0, 0, 0, 0, 0, 0, 0, 0, 0, 0, 0, 0, 0, 0, 0, 0, 0, 0, 0, 0, 0, 0, 0, 0,
     0, 0, 0, 0, 0, 2, 0, 0, 0, 2, 0, 0, 0, 8, 101, 237, 90, 112, 103, 39, 17, 96, 1, 0, 255, 255,
     185, 176, 0, 0, 255, 255, 199, 192, 1, 4, 69, 83, 84, 0, 69, 68, 84, 0,
 ];
 
 /// When New York's clocks were changed in 2024, and Lord Howe's.
-const CHANGES_OF_NEW_YORK: [u64; 2] = [1_710_054_000, 1_730_613_600];
+const CHANGES_OF_NEW_YORK: &[u64] = &[1_710_054_000, 1_730_613_600];
 
-const CHANGES_OF_LORD_HOWE: [u64; 2] = [1_712_415_600, 1_728_142_200];
+const CHANGES_OF_LORD_HOWE: &[u64] = &[1_712_415_600, 1_728_142_200];
 
 /// Each weekday by itself, from 00:00 to 24:00, by UTC: from the epoch on, in its last second, and at its end.
-const WEEKDAYS: [Case; 21] = [
+const WEEKDAYS: &[Case] = &[
     (0, 0, Some(259_200)),
     (0, 345_599, Some(345_599)),
     (0, 345_600, Some(864_000)),
@@ -267,7 +267,7 @@ const SPANS: [Range; 13] = [
 const LEVELS: usize = 20;
 
 /// Every second level of the diamond never holds.
-const IN_DIAMOND: [Case; 2] = [(36, 5, Some(5)), (39, 5, None)];
+const IN_DIAMOND: &[Case] = &[(36, 5, Some(5)), (39, 5, None)];
 
 /// A rule or a zone file, what the periods of `ROWS` give in that zone, and when its clocks are changed.
 type Zoned = (
@@ -277,23 +277,23 @@ type Zoned = (
     &'static [u64],
 );
 
-const ZONES: [Zoned; 6] = [
-    (None, None, &BY_UTC, &[]),
+const ZONES: &[Zoned] = &[
+    (None, None, BY_UTC, &[]),
     (
         Some("EST5EDT,M3.2.0,M11.1.0"),
         None,
-        &BY_NEW_YORK,
-        &CHANGES_OF_NEW_YORK,
+        BY_NEW_YORK,
+        CHANGES_OF_NEW_YORK,
     ),
-    (None, Some(&NEW_YORK), &BY_NEW_YORK, &CHANGES_OF_NEW_YORK),
+    (None, Some(NEW_YORK), BY_NEW_YORK, CHANGES_OF_NEW_YORK),
     (
         Some("<+1030>-10:30<+11>-11,M10.1.0,M4.1.0"),
         None,
-        &BY_LORD_HOWE,
-        &CHANGES_OF_LORD_HOWE,
+        BY_LORD_HOWE,
+        CHANGES_OF_LORD_HOWE,
     ),
-    (Some("AAA-5:30:15"), None, &AHEAD, &[]),
-    (Some("AAA5:30:15"), None, &BEHIND, &[]),
+    (Some("AAA-5:30:15"), None, AHEAD, &[]),
+    (Some("AAA5:30:15"), None, BEHIND, &[]),
 ];
 
 /// The periods of these rows, worked out.
@@ -369,7 +369,7 @@ fn zone_gives(rt: &impl Abort, alloc: Global, all: &[Compiled], zoned: Zoned) {
 
 /// The same in each zone.
 fn zones_give(rt: &impl Abort, alloc: Global, all: &[Compiled]) {
-    for zoned in &ZONES {
+    for zoned in ZONES {
         zone_gives(rt, alloc, all, *zoned);
     }
 }
@@ -388,14 +388,14 @@ fn each_weekday(rt: HostRuntime) -> Result<(), Fail> {
         row.first = weekday as u8;
         row.last = weekday as u8;
     }
-    rows_give(&rt, rt.alloc(), &rows, &WEEKDAYS)
+    rows_give(&rt, rt.alloc(), &rows, WEEKDAYS)
 }
 
 /// Each period excludes both of the level below.
 #[test]
 fn every_second_level_of_a_diamond(rt: HostRuntime) -> Result<(), Fail> {
     let rows = diamond(rt.alloc(), LEVELS)?;
-    rows_give(&rt, rt.alloc(), rows.as_slice(), &IN_DIAMOND)
+    rows_give(&rt, rt.alloc(), rows.as_slice(), IN_DIAMOND)
 }
 
 /// A number from 0 to `most`.
@@ -477,14 +477,24 @@ fn walk_nest(rt: &impl Abort, rows: &[PeriodRow<'_>], all: &[Compiled]) {
     }
 }
 
-/// Makes a nest of eight periods, and goes over each.
-fn try_nest(rt: &impl Abort, alloc: Global, numbers: &mut Numbers) -> Result<(), Fail> {
-    let mut rows = [PeriodRow::NEVER; 8];
-    for (number, row) in rows.iter_mut().enumerate() {
-        *row = generated(numbers, number as u8);
-    }
-    let all = worked_out(alloc, &rows)?;
-    walk_nest(rt, &rows, all.as_slice());
+/// Eight periods.
+fn nest(numbers: &mut Numbers) -> [PeriodRow<'static>; 8] {
+    [
+        generated(numbers, 0),
+        generated(numbers, 1),
+        generated(numbers, 2),
+        generated(numbers, 3),
+        generated(numbers, 4),
+        generated(numbers, 5),
+        generated(numbers, 6),
+        generated(numbers, 7),
+    ]
+}
+
+/// Works the periods of a nest out, and goes over each.
+fn try_nest(rt: &impl Abort, alloc: Global, rows: &[PeriodRow<'_>]) -> Result<(), Fail> {
+    let all = worked_out(alloc, rows)?;
+    walk_nest(rt, rows, all.as_slice());
     Ok(())
 }
 
@@ -493,7 +503,7 @@ fn try_nest(rt: &impl Abort, alloc: Global, numbers: &mut Numbers) -> Result<(),
 fn generated_nests(rt: HostRuntime) -> Result<(), Fail> {
     let mut numbers = Numbers::new(20);
     for _nest in 0..4u8 {
-        try_nest(&rt, rt.alloc(), &mut numbers)?;
+        try_nest(&rt, rt.alloc(), &nest(&mut numbers))?;
     }
     Ok(())
 }

@@ -163,7 +163,7 @@ const CLOSE: Step = Step::Lane(MAIL, LaneStep::Close);
 const DRAIN: Step = Step::Lane(MAIL, LaneStep::Drain);
 
 /// A lane is asked to close and does, with its message settled and unsettled; a message is tried twice.
-const RUNS: [Run; 3] = [
+const RUNS: &[Run] = &[
     (
         &[
             DOWN, DECIDE, PUT, PICK, ASK, SETTLE, CLOSE, UP, DECIDE, PUT, PICK, DRAIN,
@@ -214,7 +214,7 @@ fn plays(rt: &impl Abort, alloc: Global, config: &Config, run: Run) -> Result<()
 fn plays_each(rt: &impl Abort, alloc: Global, config: &Config) -> Result<(), Fail>
     requires { config.now ≡ base }
 {
-    for run in &RUNS {
+    for run in RUNS {
         plays(rt, alloc, config, *run)?;
     }
     Ok(())
