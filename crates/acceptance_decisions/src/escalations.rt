@@ -268,7 +268,7 @@ fn own_of_each(alloc: Global, config: &Config) -> Result<Vec<ContactId>, AllocEr
 
 /// Compares the own contacts of each object.
 fn are_own(rt: &impl Abort, told: &[ContactId]) {
-    assert!(rt; *told == [ANN, BOB, DAN, CAT], "{told:?}");
+    assert!(rt; told == [ANN, BOB, DAN, CAT].as_slice(), "{told:?}");
 }
 
 /// Each host's own contacts are added to those of the host before.

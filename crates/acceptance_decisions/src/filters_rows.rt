@@ -510,7 +510,14 @@ fn kind_gives(
 }
 
 /// This filter alone stops attempts, of these kinds.
-fn only_stops(rt: &impl Abort, periods: &[Compiled], view: View, filter: Filter, stopped: &[Kind]) {
+fn only_stops(
+    rt: &impl Abort,
+    periods: &[Compiled],
+    zone: &Zone,
+    view: View,
+    filter: Filter,
+    stopped: &[Kind],
+) {
     for kind in ALL {
         let found = if stopped.contains(kind) {
             Some(filter)
