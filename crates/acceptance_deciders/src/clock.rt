@@ -6,13 +6,11 @@ ghost use Rattle.due_model.specs.Proper.{IsProper};
 ghost use Rattle.decider.specs.Share.{IsShare};
 
 use crate::said::examined;
-use acceptance_inputs::accepted::is_accepted;
 use acceptance_inputs::events::are_proper;
-use acceptance_inputs::rows::{ContactRow, ObjectRow, Rows, config_of};
+use acceptance_inputs::rows::{ContactRow, ObjectRow, Rows, accepted_config_of};
 use decider::Share;
-use due_model::config::{Config, ContactId, ObjectId};
+use due_model::config::{Config, ObjectId};
 use due_model::event::{Event, EventKind};
-use due_model::options::OptionLetters;
 use due_model::state::State;
 use std::alloc::{AllocError, Global};
 use std::process::Abort;
@@ -39,38 +37,36 @@ const DECIDERS: u8 = 8;
 /// A host that is told of again after so many minutes.
 fn host(interval: u32) -> ObjectRow {
     ObjectRow {
-        name: "host",
-        host: None,
-        options: OptionLetters::ALL,
-        period: None,
         interval,
-        delay: 0,
-        contacts: &[ContactId(0)],
+        ..ObjectRow::WEB
     }
 }
 
 /// The hosts.
 fn hosts(alloc: Global) -> Result<Vec<ObjectRow>, AllocError> {
-    let mut made = Vec::new(alloc);
-    made.push(host(1))?;
-    for _host in 0..SLOW_HOSTS {
-        made.push(host(1_000_000))?;
+    let mut made = vec![in alloc; host(1_000_000); usize::from(SLOW_HOSTS) + 1]?;
+    if let Some(first) = made.first_mut() {
+        *first = host(1);
     }
     Ok(made)
 }
 
-/// The configuration of the hosts, with one contact.
-fn config(alloc: Global) -> Result<Config, AllocError> {
-    let objects = hosts(alloc)?;
-    let rows = Rows {
+/// These hosts with one contact.
+fn rows(objects: &[ObjectRow]) -> Rows<'_> {
+    Rows {
         lanes: 1,
         contacts: &[ContactRow::FREE],
-        objects: objects.as_slice(),
-        periods: &[],
-        escalations: &[],
-        dependencies: &[],
-    };
-    config_of(alloc, rows)
+        objects,
+        ..Rows::NONE
+    }
+}
+
+/// The configuration of the hosts.
+fn config(alloc: Global) -> Result<Config, AllocError>
+    ensures { IfOk result (λ config. IsAccepted config) }
+{
+    let objects = hosts(alloc)?;
+    accepted_config_of(alloc, rows(objects.as_slice()))
 }
 
 /// All hosts are down at 0; then the clock comes, so many times.
@@ -116,18 +112,40 @@ fn judges(
     share: Share,
     judged: u64,
 ) -> Result<(), Fail>
+    requires accepted { IsAccepted config.now }
     requires share { IsShare share }
 {
     let events = events(alloc, clocks)?;
-    assert!(rt; is_accepted(config));
     has_judged(rt, alloc, config, events.as_slice(), share, judged)
+}
+
+/// After each of the clock's events one decider has judged what is ready.
+fn judges_what_is_ready(rt: &impl Abort, alloc: Global, config: &Config) -> Result<(), Fail>
+    requires { IsAccepted config.now }
+{
+    for (clocks, judged) in JUDGED.iter().enumerate() {
+        judges(rt, alloc, config, clocks + 1, SOLE, *judged)?;
+    }
+    Ok(())
 }
 
 #[test]
 fn clock_judges_what_is_ready(rt: HostRuntime) -> Result<(), Fail> {
     let config = config(rt.alloc())?;
-    for (clocks, judged) in JUDGED.iter().enumerate() {
-        judges(&rt, rt.alloc(), &config, clocks + 1, SOLE, *judged)?;
+    judges_what_is_ready(&rt, rt.alloc(), &config)
+}
+
+/// Each of several deciders judges its share.
+fn judges_each_share(rt: &impl Abort, alloc: Global, config: &Config) -> Result<(), Fail>
+    requires { IsAccepted config.now }
+{
+    for decider in 0..DECIDERS {
+        let share = Share {
+            decider,
+            deciders: DECIDERS,
+        };
+        let judged = if decider == 0 { 2 } else { 0 };
+        judges(rt, alloc, config, MOMENTS.len(), share, judged)?;
     }
     Ok(())
 }
@@ -136,13 +154,5 @@ fn clock_judges_what_is_ready(rt: HostRuntime) -> Result<(), Fail> {
 #[test]
 fn clock_judges_its_share(rt: HostRuntime) -> Result<(), Fail> {
     let config = config(rt.alloc())?;
-    for decider in 0..DECIDERS {
-        let share = Share {
-            decider,
-            deciders: DECIDERS,
-        };
-        let judged = if decider == 0 { 2 } else { 0 };
-        judges(&rt, rt.alloc(), &config, MOMENTS.len(), share, judged)?;
-    }
-    Ok(())
+    judges_each_share(&rt, rt.alloc(), &config)
 }

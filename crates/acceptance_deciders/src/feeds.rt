@@ -7,6 +7,7 @@ ghost use Rattle.due_model.specs.Proper.{IsProper};
 use crate::comparison::compare;
 use crate::said::Said;
 use acceptance_inputs::events::are_proper;
+use acceptance_inputs::numbers::Numbers;
 use due_model::config::Config;
 use due_model::event::Event;
 use due_model::notice::{Filter, Kind};
@@ -46,29 +47,15 @@ const LINES: u32 = 60;
 /// How many feeds are made for a configuration.
 const SEEDS: u64 = 5;
 
+/// More hosts than there are.
+const MANY: u64 = 1_000_000;
+
 /// A host of a generated configuration.
 #[derive(Clone, Copy, Debug)]
 struct Host {
     name: &'static str,
     contacts: &'static str,
     interval: u32,
-}
-
-/// Numbers that look random: a linear congruential generator, of which the high bits count.
-#[derive(Clone, Copy, Debug)]
-struct Numbers {
-    state: u64,
-}
-
-impl Numbers {
-    /// The next number.
-    fn next(&mut self) -> u64 {
-        self.state = self
-            .state
-            .wrapping_mul(6_364_136_223_846_793_005)
-            .wrapping_add(1_442_695_040_888_963_407);
-        self.state >> 33
-    }
 }
 
 /// The text that gives these hosts.
@@ -91,7 +78,7 @@ fn objects(alloc: Global, hosts: &[Host]) -> Result<String, AllocError> {
 
 /// A hard state of a host.
 fn state_name(number: u64) -> &'static str {
-    match number % 5 {
+    match number {
         0 | 1 => "DOWN",
         2 => "UNREACHABLE",
         _ => "UP",
@@ -100,13 +87,13 @@ fn state_name(number: u64) -> &'static str {
 
 /// Adds a line of the feed after its stamp.
 fn add_line(text: &mut String, hosts: &[Host], numbers: &mut Numbers) -> Result<(), AllocError> {
-    let host = numbers.next();
-    let state = state_name(numbers.next());
-    match numbers.next() % 12 {
+    let host = numbers.below(MANY) as usize;
+    let state = state_name(numbers.below(5));
+    match numbers.below(12) {
         0 => text.push_str("DISABLE_NOTIFICATIONS\n"),
         1 | 2 => text.push_str("ENABLE_NOTIFICATIONS\n"),
         3..=6 => text.push_str("CLOCK\n"),
-        _ => match hosts.get(host as usize % hosts.len().max(1)) {
+        _ => match hosts.get(host % hosts.len().max(1)) {
             None => text.push_str("CLOCK\n"),
             Some(host) => {
                 let name = host.name;
@@ -119,9 +106,9 @@ fn add_line(text: &mut String, hosts: &[Host], numbers: &mut Numbers) -> Result<
 /// A feed over these hosts. Its stamps mostly rise, by so many seconds, and sometimes fall.
 fn feed(alloc: Global, hosts: &[Host], seed: u64, step: u32) -> Result<String, AllocError> {
     let mut text = String::new(alloc);
-    let mut numbers = Numbers { state: seed };
+    let mut numbers = Numbers::new(seed);
     for line in 0..LINES {
-        let moment = u64::from(line) * u64::from(step) + numbers.next() % 100;
+        let moment = u64::from(line) * u64::from(step) + numbers.below(100);
         write!(text, "[{moment}] ")?;
         add_line(&mut text, hosts, &mut numbers)?;
     }
@@ -283,29 +270,20 @@ fn has_all_stopped(rt: &impl Abort, counts: &Counts) {
     assert!(rt; counts.stopped.iter().all(|count| *count > 0), "{counts:?}");
 }
 
+const WEB: Host = Host {
+    name: "web",
+    contacts: "ann,bob",
+    interval: 0,
+};
+
 /// A host, and so many seconds between the lines of a feed.
 const ONE_HOST: [(Host, u32); 3] = [
+    (WEB, 40),
+    (Host { interval: 1, ..WEB }, 40),
     (
         Host {
-            name: "web",
-            contacts: "ann,bob",
-            interval: 0,
-        },
-        40,
-    ),
-    (
-        Host {
-            name: "web",
-            contacts: "ann,bob",
-            interval: 1,
-        },
-        40,
-    ),
-    (
-        Host {
-            name: "web",
-            contacts: "ann,bob",
             interval: 30,
+            ..WEB
         },
         400,
     ),
@@ -323,15 +301,11 @@ fn one_host(rt: HostRuntime) -> Result<(), Fail> {
 }
 
 const THREE_HOSTS: [Host; 3] = [
-    Host {
-        name: "web",
-        contacts: "ann,bob",
-        interval: 1,
-    },
+    Host { interval: 1, ..WEB },
     Host {
         name: "db",
         contacts: "bob",
-        interval: 0,
+        ..WEB
     },
     Host {
         name: "gate",

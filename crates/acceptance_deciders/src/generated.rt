@@ -2,15 +2,15 @@
 //! downtimes and flapping. On each, the slow program, one decider, and two, three and eight say the same; what was due
 //! or suppressed after some of the events is the front of that after all of them, and no notice stands twice.
 
-ghost use Rattle.std.specs.Prelude.{◌<◌, All, length};
+ghost use Rattle.std.specs.Prelude.{◌<◌, All, IfOk, length};
 ghost use Rattle.due_model.specs.Accepted.{IsAccepted};
 ghost use Rattle.due_model.specs.Proper.{IsProper};
 
 use crate::comparison;
-use acceptance_inputs::accepted::is_accepted;
 use acceptance_inputs::events::are_proper;
+use acceptance_inputs::numbers::Numbers;
 use acceptance_inputs::periods::PeriodRow;
-use acceptance_inputs::rows::{ContactRow, EscalationRow, ObjectRow, Rows, config_of};
+use acceptance_inputs::rows::{ContactRow, EscalationRow, ObjectRow, Rows, accepted_config_of};
 use due_model::config::{Config, ContactId, Dependency, LaneId, ObjectId, PeriodId, Range};
 use due_model::event::{DowntimeChange, Event, EventKind};
 use due_model::notice::Notice;
@@ -37,15 +37,6 @@ const LANES: u8 = 2;
 /// How many periods each has.
 const PERIODS: u16 = 3;
 
-/// The hosts of the objects.
-const HOSTS: [Option<ObjectId>; 5] = [
-    None,
-    None,
-    Some(ObjectId(0)),
-    Some(ObjectId(1)),
-    Some(ObjectId(1)),
-];
-
 /// Whom objects and escalations name.
 const NAMED: [&[ContactId]; 4] = [
     &[ContactId(0)],
@@ -62,267 +53,228 @@ const ON: [&[LaneId]; 4] = [
     &[LaneId(0), LaneId(0)],
 ];
 
-/// Numbers that look random: a linear congruential generator, of which the high bits count.
-#[derive(Clone, Copy)]
-struct Numbers {
-    state: u64,
+/// Most of the letters.
+fn letters(numbers: &mut Numbers) -> OptionLetters {
+    OptionLetters {
+        down: !numbers.once_in(6),
+        unreachable: !numbers.once_in(6),
+        warning: !numbers.once_in(6),
+        unknown: !numbers.once_in(6),
+        critical: !numbers.once_in(6),
+        recovery: !numbers.once_in(6),
+        flapping: !numbers.once_in(6),
+        downtime: !numbers.once_in(6),
+    }
 }
 
-impl Numbers {
-    /// The next number.
-    fn next(&mut self) -> u64 {
-        self.state = self
-            .state
-            .wrapping_mul(6_364_136_223_846_793_005)
-            .wrapping_add(1_442_695_040_888_963_407);
-        self.state >> 33
+/// A period, or none.
+fn any_period(numbers: &mut Numbers) -> Option<PeriodId> {
+    if numbers.once_in(2) {
+        Some(PeriodId(numbers.below(u64::from(PERIODS)) as u16))
+    } else {
+        None
     }
+}
 
-    /// A number less than this.
-    fn below(&mut self, end: u64) -> u64
-        requires { 0 < end }
-        ensures { result < end }
-    {
-        self.next() % end
+/// Whom an object or an escalation names.
+fn named(numbers: &mut Numbers) -> &'static [ContactId] {
+    NAMED[numbers.below(4) as usize]
+}
+
+/// The states of a dependency's list.
+fn states(numbers: &mut Numbers) -> StateSet {
+    StateSet {
+        pending: numbers.once_in(3),
+        up: numbers.once_in(3),
+        down: !numbers.once_in(3),
+        unreachable: numbers.once_in(3),
+        fine: numbers.once_in(3),
+        warning: numbers.once_in(3),
+        unknown: numbers.once_in(3),
+        critical: !numbers.once_in(3),
     }
+}
 
-    /// True once in so many times.
-    fn once_in(&mut self, times: u64) -> bool
-        requires { 0 < times }
-    {
-        self.below(times) == 0
+/// A period of each day.
+fn daily(ranges: &[Range]) -> PeriodRow<'_> {
+    PeriodRow {
+        first: 0,
+        last: 6,
+        ranges,
+        excludes: &[],
     }
+}
 
-    /// Most of the letters.
-    fn letters(&mut self) -> OptionLetters {
-        OptionLetters {
-            down: !self.once_in(6),
-            unreachable: !self.once_in(6),
-            warning: !self.once_in(6),
-            unknown: !self.once_in(6),
-            critical: !self.once_in(6),
-            recovery: !self.once_in(6),
-            flapping: !self.once_in(6),
-            downtime: !self.once_in(6),
-        }
+/// The ranges of the periods: of the first, from a moment of a day's first hour on, and of the others some minutes.
+fn ranges(numbers: &mut Numbers) -> [Range; 3] {
+    let late = Range {
+        start: numbers.below(3_600) as u32,
+        end: 86_400,
+    };
+    [late, some_minutes(numbers), some_minutes(numbers)]
+}
+
+/// Some minutes of a day.
+fn some_minutes(numbers: &mut Numbers) -> Range {
+    let start = numbers.below(3_600) as u32;
+    let end = start + 1 + numbers.below(3_600) as u32;
+    Range { start, end }
+}
+
+/// A contact.
+fn contact(numbers: &mut Numbers) -> ContactRow {
+    ContactRow {
+        name: "contact",
+        enabled: !numbers.once_in(8),
+        options: letters(numbers),
+        period: any_period(numbers),
+        lanes: ON[numbers.below(4) as usize],
     }
+}
 
-    /// A period, or none.
-    fn period(&mut self) -> Option<PeriodId> {
-        if self.once_in(2) {
-            Some(PeriodId(self.below(u64::from(PERIODS)) as u16))
-        } else {
-            None
-        }
-    }
-
-    /// Whom an object or an escalation names.
-    fn named(&mut self) -> &'static [ContactId] {
-        NAMED[self.below(4) as usize]
-    }
-
-    /// On which lanes a contact is told.
-    fn on(&mut self) -> &'static [LaneId] {
-        ON[self.below(4) as usize]
-    }
-
-    /// The states of a dependency's list.
-    fn states(&mut self) -> StateSet {
-        StateSet {
-            pending: self.once_in(3),
-            up: self.once_in(3),
-            down: !self.once_in(3),
-            unreachable: self.once_in(3),
-            fine: self.once_in(3),
-            warning: self.once_in(3),
-            unknown: self.once_in(3),
-            critical: !self.once_in(3),
-        }
-    }
-
-    /// The first period, or none. The slow program goes over the seconds to the next one of an object's period, and
-    /// over less than an hour of the first.
-    fn from_a_moment_on(&mut self) -> Option<PeriodId> {
-        if self.once_in(2) {
+/// The object of this host, or a host. Its period is the first, or none: the slow program goes over the seconds to the
+/// next moment of an object's period, and over less than an hour of the first.
+fn object(numbers: &mut Numbers, host: Option<ObjectId>) -> ObjectRow {
+    ObjectRow {
+        name: "object",
+        host,
+        options: letters(numbers),
+        period: if numbers.once_in(2) {
             Some(PeriodId(0))
         } else {
             None
-        }
-    }
-
-    /// The first period: each day from a moment of its first hour on.
-    fn late(&mut self) -> Range {
-        Range {
-            start: self.below(3_600) as u32,
-            end: 86_400,
-        }
-    }
-
-    /// A period of some minutes of each day.
-    fn range(&mut self) -> Range {
-        let start = self.below(3_600) as u32;
-        let end = start + 1 + self.below(3_600) as u32;
-        Range { start, end }
-    }
-
-    /// A contact.
-    fn contact(&mut self) -> ContactRow {
-        ContactRow {
-            name: "contact",
-            enabled: !self.once_in(8),
-            options: self.letters(),
-            period: self.period(),
-            lanes: self.on(),
-        }
-    }
-
-    /// The object of this host, or a host.
-    fn object(&mut self, host: Option<ObjectId>) -> ObjectRow {
-        ObjectRow {
-            name: "object",
-            host,
-            options: self.letters(),
-            period: self.from_a_moment_on(),
-            interval: self.below(4) as u32,
-            delay: self.below(2) as u32,
-            contacts: self.named(),
-        }
-    }
-
-    /// An escalation of some object.
-    fn escalation(&mut self) -> EscalationRow {
-        let first = self.below(4) as u32;
-        EscalationRow {
-            object: ObjectId(self.below(u64::from(OBJECTS)) as u16),
-            first,
-            last: if self.once_in(2) { 0 } else { first + 1 },
-            interval: self.below(4) as u32,
-            period: self.period(),
-            options: OptionLetters::ALL,
-            contacts: self.named(),
-        }
-    }
-
-    /// A dependency of some object on one before it.
-    fn dependency(&mut self) -> Dependency {
-        let dependent = 1 + self.below(u64::from(OBJECTS) - 1);
-        Dependency {
-            dependent: ObjectId(dependent as u16),
-            master: ObjectId(self.below(dependent) as u16),
-            inherits: self.once_in(2),
-            states: self.states(),
-            period: self.period(),
-        }
-    }
-
-    /// A hard state of a host.
-    fn host_state(&mut self) -> State {
-        match self.below(4) {
-            0 => State::Up,
-            1 => State::Unreachable,
-            _ => State::Down,
-        }
-    }
-
-    /// A hard state of a service.
-    fn service_state(&mut self) -> State {
-        match self.below(6) {
-            0 => State::Fine,
-            1 => State::Warning,
-            2 => State::Unknown,
-            _ => State::Critical,
-        }
-    }
-
-    /// A hard state of this object.
-    fn hard(&mut self, object: u16) -> EventKind {
-        let state = if object < 2 {
-            self.host_state()
-        } else {
-            self.service_state()
-        };
-        EventKind::Hard(ObjectId(object), state)
-    }
-
-    /// A change of the downtimes of this object.
-    fn downtime(&mut self, object: u16) -> EventKind {
-        let change = match self.below(5) {
-            0 | 1 => DowntimeChange::Start,
-            2 | 3 => DowntimeChange::End,
-            _ => DowntimeChange::Cancelled,
-        };
-        EventKind::Downtime(ObjectId(object), change)
-    }
-
-    /// What an event says.
-    fn event(&mut self) -> EventKind {
-        let object = self.below(u64::from(OBJECTS)) as u16;
-        match self.below(16) {
-            0 => EventKind::Program(!self.once_in(3)),
-            1 => EventKind::Flapping(ObjectId(object), self.once_in(2)),
-            2 | 3 => self.downtime(object),
-            4..=8 => EventKind::Clock,
-            _ => self.hard(object),
-        }
+        },
+        interval: numbers.below(4) as u32,
+        delay: numbers.below(2) as u32,
+        contacts: named(numbers),
     }
 }
 
-/// A period of these ranges on each day.
-fn daily(ranges: &[Range]) -> PeriodRow<'_> {
-    PeriodRow {
-        ranges,
-        ..PeriodRow::NEVER
+/// An escalation of some object.
+fn escalation(numbers: &mut Numbers) -> EscalationRow {
+    let first = numbers.below(4) as u32;
+    EscalationRow {
+        object: ObjectId(numbers.below(u64::from(OBJECTS)) as u16),
+        first,
+        last: if numbers.once_in(2) { 0 } else { first + 1 },
+        interval: numbers.below(4) as u32,
+        period: any_period(numbers),
+        options: OptionLetters::ALL,
+        contacts: named(numbers),
     }
 }
 
-/// The escalations of a configuration.
-fn escalations(alloc: Global, numbers: &mut Numbers) -> Result<Vec<EscalationRow>, AllocError> {
-    let mut made = Vec::new(alloc);
-    for _escalation in 0..4u8 {
-        made.push(numbers.escalation())?;
+/// A dependency of some object on one before it.
+fn dependency(numbers: &mut Numbers) -> Dependency {
+    let dependent = 1 + numbers.below(u64::from(OBJECTS) - 1);
+    Dependency {
+        dependent: ObjectId(dependent as u16),
+        master: ObjectId(numbers.below(dependent) as u16),
+        inherits: numbers.once_in(2),
+        states: states(numbers),
+        period: any_period(numbers),
     }
-    Ok(made)
 }
 
-/// The dependencies of a configuration.
-fn dependencies(alloc: Global, numbers: &mut Numbers) -> Result<Vec<Dependency>, AllocError> {
-    let mut made = Vec::new(alloc);
-    for _dependency in 0..3u8 {
-        made.push(numbers.dependency())?;
+/// A hard state of a host.
+fn host_state(numbers: &mut Numbers) -> State {
+    match numbers.below(4) {
+        0 => State::Up,
+        1 => State::Unreachable,
+        _ => State::Down,
     }
-    Ok(made)
 }
 
-/// The objects of a configuration.
-fn objects(alloc: Global, numbers: &mut Numbers) -> Result<Vec<ObjectRow>, AllocError> {
-    let mut made = Vec::new(alloc);
-    for host in &HOSTS {
-        made.push(numbers.object(*host))?;
+/// A hard state of a service.
+fn service_state(numbers: &mut Numbers) -> State {
+    match numbers.below(6) {
+        0 => State::Fine,
+        1 => State::Warning,
+        2 => State::Unknown,
+        _ => State::Critical,
     }
-    Ok(made)
+}
+
+/// A hard state of this object.
+fn hard(numbers: &mut Numbers, object: u16) -> EventKind {
+    let state = if object < 2 {
+        host_state(numbers)
+    } else {
+        service_state(numbers)
+    };
+    EventKind::Hard(ObjectId(object), state)
+}
+
+/// A change of the downtimes of this object.
+fn downtime(numbers: &mut Numbers, object: u16) -> EventKind {
+    let change = match numbers.below(5) {
+        0 | 1 => DowntimeChange::Start,
+        2 | 3 => DowntimeChange::End,
+        _ => DowntimeChange::Cancelled,
+    };
+    EventKind::Downtime(ObjectId(object), change)
+}
+
+/// What an event says.
+fn any_event(numbers: &mut Numbers) -> EventKind {
+    let object = numbers.below(u64::from(OBJECTS)) as u16;
+    match numbers.below(16) {
+        0 => EventKind::Program(!numbers.once_in(3)),
+        1 => EventKind::Flapping(ObjectId(object), numbers.once_in(2)),
+        2 | 3 => downtime(numbers, object),
+        4..=8 => EventKind::Clock,
+        _ => hard(numbers, object),
+    }
+}
+
+/// Two hosts, a service of each, and one more of the second.
+fn objects(numbers: &mut Numbers) -> [ObjectRow; 5] {
+    [
+        object(numbers, None),
+        object(numbers, None),
+        object(numbers, Some(ObjectId(0))),
+        object(numbers, Some(ObjectId(1))),
+        object(numbers, Some(ObjectId(1))),
+    ]
+}
+
+/// Four escalations.
+fn escalations(numbers: &mut Numbers) -> [EscalationRow; 4] {
+    [
+        escalation(numbers),
+        escalation(numbers),
+        escalation(numbers),
+        escalation(numbers),
+    ]
 }
 
 /// The configuration of a seed.
-fn config(alloc: Global, numbers: &mut Numbers) -> Result<Config, AllocError> {
-    let contacts = [numbers.contact(), numbers.contact(), numbers.contact()];
-    let ranges = [numbers.late(), numbers.range(), numbers.range()];
+fn config(alloc: Global, numbers: &mut Numbers) -> Result<Config, AllocError>
+    ensures { IfOk result (λ config. IsAccepted config) }
+{
+    let contacts = [contact(numbers), contact(numbers), contact(numbers)];
+    let ranges = ranges(numbers);
+    let objects = objects(numbers);
+    let escalations = escalations(numbers);
+    let dependencies = [
+        dependency(numbers),
+        dependency(numbers),
+        dependency(numbers),
+    ];
     let periods = [
         daily(&ranges[..1]),
         daily(&ranges[1..2]),
         daily(&ranges[2..]),
     ];
-    let objects = objects(alloc, numbers)?;
-    let escalations = escalations(alloc, numbers)?;
-    let dependencies = dependencies(alloc, numbers)?;
     let rows = Rows {
         lanes: LANES,
         contacts: &contacts,
-        objects: objects.as_slice(),
+        objects: &objects,
         periods: &periods,
-        escalations: escalations.as_slice(),
-        dependencies: dependencies.as_slice(),
+        escalations: &escalations,
+        dependencies: &dependencies,
     };
-    config_of(alloc, rows)
+    accepted_config_of(alloc, rows)
 }
 
 /// The events of a seed. Their stamps mostly rise, over some hours, and sometimes fall.
@@ -330,7 +282,7 @@ fn events(alloc: Global, numbers: &mut Numbers) -> Result<Vec<Event>, AllocError
     let mut made = Vec::new(alloc);
     for place in 0..EVENTS {
         let moment = place * 240 + numbers.below(400);
-        let kind = numbers.event();
+        let kind = any_event(numbers);
         made.push(Event { moment, kind })?;
     }
     Ok(made)
@@ -352,6 +304,11 @@ fn stand_once(rt: &impl Abort, notices: &[Notice]) {
     }
 }
 
+/// What was said after some of the events is the front of what is said after all.
+fn is_front<T: PartialEq>(rt: &impl Abort, object: ObjectId, all: &[T], front: &[T]) {
+    assert!(rt; all.starts_with(front), "{object:?}");
+}
+
 /// Of an object and a lane: what was due after some of the events is the front of what is due after all, and no
 /// notice stands twice.
 fn due_grows(
@@ -371,10 +328,7 @@ fn due_grows(
     let all = slow_due(alloc, config, &Zone::Utc, events, object, lane)?;
     let front = slow_due(alloc, config, &Zone::Utc, some, object, lane)?;
     stand_once(rt, all.as_slice());
-    assert!(rt;
-        all.as_slice().starts_with(front.as_slice()),
-        "{object:?} on {lane:?}"
-    );
+    is_front(rt, object, all.as_slice(), front.as_slice());
     Ok(all.len())
 }
 
@@ -394,7 +348,7 @@ fn suppressions_grow(
 {
     let all = slow_sup(alloc, config, &Zone::Utc, events, object)?;
     let front = slow_sup(alloc, config, &Zone::Utc, some, object)?;
-    assert!(rt; all.as_slice().starts_with(front.as_slice()), "{object:?}");
+    is_front(rt, object, all.as_slice(), front.as_slice());
     Ok(all.len())
 }
 
@@ -431,10 +385,26 @@ fn compare(
     events: &[Event],
     some: &[Event],
     counts: &mut Counts,
-) -> Result<(), Fail> {
-    assert!(rt; is_accepted(config) && are_proper(config, events) && are_proper(config, some));
+) -> Result<(), Fail>
+    requires { IsAccepted config.now }
+{
+    assert!(rt; are_proper(config, events) && are_proper(config, some));
     let _said = comparison::compare(rt, alloc, config, events)?;
     each_grows(rt, alloc, config, events, some, counts)
+}
+
+/// Compares what the next configuration says after these events, and after a part of them.
+fn compare_next(
+    rt: &impl Abort,
+    alloc: Global,
+    numbers: &mut Numbers,
+    events: &[Event],
+    counts: &mut Counts,
+) -> Result<(), Fail> {
+    let length = numbers.below(EVENTS) as usize;
+    let (some, _rest) = events.split_at(length.min(events.len()));
+    let config = config(alloc, numbers)?;
+    compare(rt, alloc, &config, events, some, counts)
 }
 
 /// Compares what the configuration of a seed says after its events, and after a part of them.
@@ -444,12 +414,9 @@ fn compare_seed(
     seed: u64,
     counts: &mut Counts,
 ) -> Result<(), Fail> {
-    let mut numbers = Numbers { state: seed };
+    let mut numbers = Numbers::new(seed);
     let events = events(alloc, &mut numbers)?;
-    let length = numbers.below(EVENTS) as usize;
-    let (some, _rest) = events.as_slice().split_at(length.min(events.len()));
-    let config = config(alloc, &mut numbers)?;
-    compare(rt, alloc, &config, events.as_slice(), some, counts)
+    compare_next(rt, alloc, &mut numbers, events.as_slice(), counts)
 }
 
 #[test]
