@@ -1,20 +1,19 @@
 -- What is kept of each block, by what is kept of the templates that it uses.
 use Rattle.std.proofs.Common.{◌≡◌, ℕ, zero, suc, ◌+◌, ◌<◌, ◌≤◌, Bool, true, false, cond, List, [], ◌∷◌, ◌++◌, append_assoc, length, map, drop, get_or, set, Option, Some, None, refl, sym, ap, subst, eqb, eqb-true, eq-eqb, ⊎_elim, ◌∙◌, Bor, arith}
 use Rattle.std.specs.Prelude.{All, Contains, find, is_some, reverse, unwrap_or}
-use Rattle.std.specs.Option.{option_to_list, option_and_then}
+use Rattle.std.specs.Option.{option_to_list}
 use Rattle.std.proofs.lemmas.Bool.{false≢true, cases_lt}
-use Rattle.std.proofs.lemmas.Option.{slice_get-get_or}
 use Rattle.std.proofs.lemmas.Grind.{get_or_default_zero}
-use Rattle.std.proofs.lemmas.List.{get_or-set_other, get_or-set_same, length-set, map-append, reverse-append, reverse-reverse}
+use Rattle.std.proofs.lemmas.List.{get_or_past, get_or-set_other, get_or-set_same, length-set, map-append, reverse-append, reverse-reverse}
 use Rattle.graph.specs.Edges.{Leads}
 use Rattle.graph_order.specs.Order.{IsOrder}
 use Rattle.object_reader.specs.declared.block.Block.{Block}
-use Rattle.object_inheritance.specs.Columns.{given_from, HasGiven, HasGivenFrom, IsGivenAt, line_of}
+use Rattle.object_inheritance.specs.Columns.{given_from, HasGiven, HasGivenFrom, IsGivenAt, IsKeptAt, line_of}
 use Rattle.object_inheritance.specs.Inherited.{AreInherited, first_given, given, own, own_entries, is_additive, joined_entries, list_given, sources}
 use Rattle.object_inheritance.specs.Templates.{template_graph}
-use Rattle.object_values.specs.Values.{texts, value_in}
+use Rattle.object_values.specs.Values.{texts}
 use Rattle.object_inheritance.specs.declared.inherited.Given.{Given}
-use Rattle.object_inheritance.proofs.InheritedLemmas.{graph-long, sources-lead}
+use Rattle.object_inheritance.proofs.InheritedLemmas.{given-past, graph-long, sources-lead}
 use Rattle.object_inheritance.proofs.UseLemmas.{leads-within}
 
 -- ---- the first for which anything is given
@@ -63,43 +62,52 @@ module _ (blocks : List Block) (directive : List ℕ) where
       (first-found kept places (λ q at. each q (suc at.0, omega (arith, at.1), at.2)))
 
   module _ (inherited : AreInherited blocks) (place : ℕ) (column : List (Option Given)) (further : Option ℕ)
-      (used : (q : ℕ) → Leads (template_graph blocks) place q → IsGivenAt blocks directive q (get_or column q None))
+      (used : (q : ℕ) → Leads (template_graph blocks) place q → IsKeptAt blocks directive q (get_or column q None))
       (found : further ≡ find (λ q. is_some (get_or column q None)) (sources blocks directive place)) where
     equation : given blocks directive place ≡ option_to_list (own blocks directive place) ++ given_from blocks directive further
     equation = inherited directive place ∙ ap (λ line. option_to_list (own blocks directive place) ++ line)
-        (first-found (λ q. get_or column q None) (sources blocks directive place) (λ q at. used q (sources-lead blocks directive place q at))
+        (first-found (λ q. get_or column q None) (sources blocks directive place) (λ q at. (used q (sources-lead blocks directive place q at)).line)
         ∙ ap (given_from blocks directive) (sym found))
 
     pub given-own : (text : Bor (List ℕ)) → own blocks directive place ≡ Some text.now
-        → IsGivenAt blocks directive place (Some (record { text = text; further = further }))
-    given-own text is = equation ∙ ap (λ (gives : Option (List ℕ)). option_to_list gives ++ given_from blocks directive further) is
+        → IsKeptAt blocks directive place (Some (record { text = text; source = place; further = further }))
+    given-own text is = record {
+      line = equation ∙ ap (λ (gives : Option (List ℕ)). option_to_list gives ++ given_from blocks directive further) is;
+      source = refl;
+    }
 
-    pub given-none : own blocks directive place ≡ None → further ≡ None → IsGivenAt blocks directive place None
-    given-none is none = equation ∙ ap (λ (gives : Option (List ℕ)). option_to_list gives ++ given_from blocks directive further) is ∙ ap (given_from blocks directive) none
+    none-line : own blocks directive place ≡ None → further ≡ None → IsGivenAt blocks directive place None
+    none-line is none = equation ∙ ap (λ (gives : Option (List ℕ)). option_to_list gives ++ given_from blocks directive further) is ∙ ap (given_from blocks directive) none
 
-    pub given-taken : (q : ℕ) → own blocks directive place ≡ None → further ≡ Some q → IsGivenAt blocks directive place (get_or column q None)
-    given-taken q is some = equation ∙ ap (λ (gives : Option (List ℕ)). option_to_list gives ++ given_from blocks directive further) is
+    pub given-none : own blocks directive place ≡ None → further ≡ None → IsKeptAt blocks directive place None
+    given-none is none = record { line = none-line is none; source = tt }
+
+    taken-line : (q : ℕ) → own blocks directive place ≡ None → further ≡ Some q → given blocks directive place ≡ given blocks directive q
+    taken-line q is some = equation ∙ ap (λ (gives : Option (List ℕ)). option_to_list gives ++ given_from blocks directive further) is
         ∙ ap (given_from blocks directive) some
-        ∙ used q (sources-lead blocks directive place q (find-contains (λ k. is_some (get_or column k None)) (sources blocks directive place) q (sym found ∙ some)))
 
-pub own-is : (blocks : List Block) (directive : List ℕ) (place : ℕ) (d : Block) → place < length blocks
-    → own blocks directive place ≡ value_in (get_or blocks place d).directives directive
-own-is blocks directive place d low = ap (option_and_then (λ (block : Block). value_in block.directives directive)) (slice_get-get_or blocks place d low)
+    from-other : (q : ℕ) (kept : Option Given) → given blocks directive place ≡ given blocks directive q → IsKeptAt blocks directive q kept → IsKeptAt blocks directive place kept
+    from-other q None same has = record { line = same ∙ has.line; source = tt }
+    from-other q (Some one) same has = record { line = same ∙ has.line; source = has.source ∙ sym same }
+
+    pub given-taken : (q : ℕ) → own blocks directive place ≡ None → further ≡ Some q → IsKeptAt blocks directive place (get_or column q None)
+    given-taken q is some = from-other q (get_or column q None) (taken-line q is some)
+        (used q (sources-lead blocks directive place q (find-contains (λ k. is_some (get_or column k None)) (sources blocks directive place) q (sym found ∙ some))))
 
 -- ---- along the order, from its end
 
 module _ (blocks : List Block) (directive order : List ℕ) where
   pub used-done : (i : ℕ) (column : List (Option Given)) → i < length order → IsOrder (template_graph blocks) order
       → HasGivenFrom blocks directive order (i + 1) column
-      → (q : ℕ) → Leads (template_graph blocks) (get_or order i 0) q → IsGivenAt blocks directive q (get_or column q None)
+      → (q : ℕ) → Leads (template_graph blocks) (get_or order i 0) q → IsKeptAt blocks directive q (get_or column q None)
   used-done i column low ordered has q leads =
       let at = ordered.each q (subst (λ (n : ℕ). q < n) (sym (graph-long blocks)) (leads-within blocks (get_or order i 0) q leads)) in
       let here : get_or order at.0 0 ≡ q = sym (get_or_default_zero order at.0 q at.1) ∙ at.2 in
       let later : i < at.0 = ordered.forward i at.0 low at.1 (subst (λ (k : ℕ). Leads (template_graph blocks) (get_or order i 0) k) (sym here) leads) in
-      subst (λ (k : ℕ). IsGivenAt blocks directive k (get_or column k None)) here (has.done at.0 (omega (arith, later)) at.1)
+      subst (λ (k : ℕ). IsKeptAt blocks directive k (get_or column k None)) here (has.done at.0 (omega (arith, later)) at.1)
 
   pub one-more : (i : ℕ) (column : List (Option Given)) (place : ℕ) (kept : Option Given) → i < length order → place < length blocks → place ≡ get_or order i 0
-      → HasGivenFrom blocks directive order (i + 1) column → IsGivenAt blocks directive place kept
+      → HasGivenFrom blocks directive order (i + 1) column → IsKeptAt blocks directive place kept
       → HasGivenFrom blocks directive order i (set column place kept)
   one-more i column place kept low within is has here = record {
     begun = omega (arith, low);
@@ -108,10 +116,10 @@ module _ (blocks : List Block) (directive order : List ℕ) where
   }
     where
       by_place : (j : ℕ) (b : Bool) → eqb (get_or order j 0) place ≡ b → i ≤ j → j < length order
-          → IsGivenAt blocks directive (get_or order j 0) (get_or (set column place kept) (get_or order j 0) None)
+          → IsKeptAt blocks directive (get_or order j 0) (get_or (set column place kept) (get_or order j 0) None)
       by_place j true same from inside =
-          subst (λ (k : ℕ). IsGivenAt blocks directive k (get_or (set column place kept) k None)) (sym (eqb-true (get_or order j 0) place same))
-          (subst (λ (x : Option Given). IsGivenAt blocks directive place x)
+          subst (λ (k : ℕ). IsKeptAt blocks directive k (get_or (set column place kept) k None)) (sym (eqb-true (get_or order j 0) place same))
+          (subst (λ (x : Option Given). IsKeptAt blocks directive place x)
           (sym (get_or-set_same column place kept None (let long = has.long in omega (arith, long, within)))) here)
       by_place j false other from inside =
           let differs : get_or order j 0 ≡ place → ⊥ = λ same. false≢true (sym other ∙ eq-eqb (get_or order j 0) place same) in
@@ -119,17 +127,22 @@ module _ (blocks : List Block) (directive order : List ℕ) where
           (λ (later : i < j). omega (arith, later))
           (λ (back : j ≤ i). absurd (differs (ap (λ (k : ℕ). get_or order k 0) (let same : j ≡ i = omega arith in same) ∙ sym is)))
           (cases_lt i j) in
-          subst (λ (x : Option Given). IsGivenAt blocks directive (get_or order j 0) x)
+          subst (λ (x : Option Given). IsKeptAt blocks directive (get_or order j 0) x)
           (sym (get_or-set_other column place (get_or order j 0) kept None differs)) (has.done j past inside)
 
   pub all-done : (left : ℕ) (column : List (Option Given)) → left ≡ 0 → IsOrder (template_graph blocks) order → HasGivenFrom blocks directive order left column → HasGiven blocks directive column
-  all-done left column none ordered has = record {
-    long = has.long;
-    each = λ place low.
-        let at = ordered.each place (subst (λ (n : ℕ). place < n) (sym (graph-long blocks)) low) in
-        let here : get_or order at.0 0 ≡ place = sym (get_or_default_zero order at.0 place at.1) ∙ at.2 in
-        subst (λ (k : ℕ). IsGivenAt blocks directive k (get_or column k None)) here (has.done at.0 (omega (arith, none)) at.1);
-  }
+  all-done left column none ordered has = record { each = λ place. ⊎_elim (inside place) (past place) (cases_lt place (length blocks)) }
+    where
+      inside : (place : ℕ) → place < length blocks → IsKeptAt blocks directive place (get_or column place None)
+      inside place low =
+          let at = ordered.each place (subst (λ (n : ℕ). place < n) (sym (graph-long blocks)) low) in
+          let here : get_or order at.0 0 ≡ place = sym (get_or_default_zero order at.0 place at.1) ∙ at.2 in
+          subst (λ (k : ℕ). IsKeptAt blocks directive k (get_or column k None)) here (has.done at.0 (omega (arith, none)) at.1)
+
+      past : (place : ℕ) → length blocks ≤ place → IsKeptAt blocks directive place (get_or column place None)
+      past place high =
+          subst (λ (kept : Option Given). IsKeptAt blocks directive place kept) (sym (get_or_past column place None (let long = has.long in omega (arith, long, high))))
+          (record { line = given-past blocks directive place high; source = tt })
 
 -- ---- lists
 

@@ -3,4 +3,5 @@ mod UseLemmas
 mod FaultLemmas
 mod InheritedLemmas
 mod ColumnLemmas
+mod LineLemmas
 mod LawLemmas

@@ -1,8 +1,10 @@
 -- How it is kept what all blocks have for one directive.
-use Rattle.std.specs.Prelude.{◌≡◌, ℕ, ◌<◌, ◌≤◌, List, [], ◌∷◌, length, Option, None, Some, slice_index, slice_index_or}
+use Rattle.std.specs.Prelude.{◌≡◌, ℕ, ◌<◌, ◌≤◌, List, [], ◌∷◌, length, Option, None, Some, IfSome, slice_index, slice_index_or}
+use Rattle.std.proofs.Common.{Bor}
+use Rattle.std.specs.Option.{option_copied}
 use Rattle.object_reader.specs.declared.block.Block.{Block}
 use Rattle.object_inheritance.specs.declared.inherited.Given.{Given}
-use Rattle.object_inheritance.specs.Inherited.{given}
+use Rattle.object_inheritance.specs.Inherited.{given, own}
 
 -- the blocks, and a directive
 pub record Column : Type 0 where
@@ -23,12 +25,16 @@ line_of blocks directive (Some kept) = kept.text.now ∷ given_from blocks direc
 abbrev pub IsGivenAt : List Block → List ℕ → ℕ → Option Given → Type 0
 IsGivenAt blocks directive place kept = given blocks directive place ≡ line_of blocks directive kept
 
--- the same of each block
+-- The same, and the block from which the text is has the same for the directive.
+pub record IsKeptAt (blocks : List Block) (directive : List ℕ) (place : ℕ)
+    (kept : Option Given) : Type 0 where
+  pub line : IsGivenAt blocks directive place kept
+  pub source : IfSome kept (λ one. given blocks directive one.source ≡ given blocks directive place)
+
+-- The same of each block. Where nothing is kept, nothing is given.
 pub record HasGiven (blocks : List Block) (directive : List ℕ)
     (column : List (Option Given)) : Type 0 where
-  pub long : length column ≡ length blocks
-  pub each : (place : ℕ) → place < length blocks
-      → IsGivenAt blocks directive place (slice_index_or column place None)
+  pub each : (place : ℕ) → IsKeptAt blocks directive place (slice_index_or column place None)
 
 -- the same of the blocks from the place `left` of the order on
 pub record HasGivenFrom (blocks : List Block) (directive : List ℕ) (order : List ℕ) (left : ℕ)
@@ -36,5 +42,12 @@ pub record HasGivenFrom (blocks : List Block) (directive : List ℕ) (order : Li
   pub begun : left ≤ length order
   pub long : length column ≡ length blocks
   pub done : (j : ℕ) → left ≤ j → j < length order
-      → IsGivenAt blocks directive (slice_index order j)
+      → IsKeptAt blocks directive (slice_index order j)
       (slice_index_or column (slice_index order j) None)
+
+-- the texts are what the blocks give themselves
+pub record AreOwnOf (blocks : List Block) (directive : List ℕ)
+    (texts : List (Option (Bor (List ℕ)))) : Type 0 where
+  pub long : length texts ≡ length blocks
+  pub each : (place : ℕ) → place < length blocks
+      → option_copied (slice_index_or texts place None) ≡ own blocks directive place

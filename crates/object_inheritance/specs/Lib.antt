@@ -4,4 +4,5 @@ pub mod Inherited
 pub mod Faults
 pub mod Registered
 pub mod Columns
+pub mod Lines
 pub mod Laws

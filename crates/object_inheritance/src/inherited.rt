@@ -2,18 +2,22 @@
 //! (chapter "Object Inheritance").
 
 ghost use Rattle.std.specs.Prelude.{◌≡◌, ℕ, ◌<◌, ◌++◌, [], None, length, find, is_some};
-ghost use Rattle.std.specs.Prelude.{reverse, slice_index_or, All, IfOk, IfSome, OnOk, if◌then◌else◌};
+ghost use Rattle.std.specs.Prelude.{reverse, slice_index_or, All, IfNone, IfOk, IfSome, OnOk};
+ghost use Rattle.std.specs.Prelude.{◌==◌, Some, if◌then◌else◌};
 ghost use Rattle.std.specs.Option.{option_copied, option_map};
 ghost use Rattle.graph.specs.Edges.{Leads};
-ghost use Rattle.object_inheritance.specs.Columns.{given_from, IsGivenAt, line_of};
-ghost use Rattle.object_inheritance.specs.Inherited.{is_additive, list, name, name_of, own_entries};
+ghost use Rattle.object_inheritance.specs.Columns.{AreOwnOf, given_from, HasGiven, IsKeptAt, line_of};
+ghost use Rattle.object_inheritance.specs.Inherited.{AreInherited, given, is_additive, list, name};
+ghost use Rattle.object_inheritance.specs.Inherited.{joined_entries, name_of, own, own_entries};
+ghost use Rattle.object_inheritance.specs.Lines.{AreOwn};
 ghost use Rattle.object_inheritance.specs.Inherited.{sources, stays, value};
 ghost use Rattle.object_inheritance.specs.Templates.{template_graph};
 ghost use Rattle.object_values.specs.Values.{texts};
 
+use crate::lines::Line;
 use crate::templates::Templates;
 use object_reader::block::Block;
-use object_values::values::{entries, equals, value_in};
+use object_values::values::{entries, equals};
 use std::alloc::{AllocError, Global};
 use std::marker::Model;
 
@@ -76,6 +80,8 @@ fn push_reversed<'a>(
 pub(crate) struct Given<'a> {
     /// The nearest text: the block's own, or that of the template from which the block takes it.
     text: &'a [u8],
+    /// Where the block stands that gives that text itself.
+    source: u32,
     /// Where the template stands from which the block of that text would take one.
     further: Option<u32>,
 }
@@ -115,29 +121,103 @@ fn further_of(
     first_with(column, graph.ends(place))
 }
 
-/// What is given to the block at the place, where the column has it of the templates that it uses.
+/// What is given to the block at the place, where the column has it of the templates that it uses, and `gives` is
+/// what it gives itself.
 fn given_at<'a>(
     templates: &Templates<'a>,
     column: &[Option<Given<'a>>],
     directive: &[u8],
+    gives: Option<&'a [u8]>,
     place: u32,
 ) -> Option<Given<'a>>
     requires within { place < length templates.now }
     requires long { length column.now ≡ length templates.now }
+    requires inherited { AreInherited templates.now }
+    requires own { option_copied gives ≡ own templates.now directive.now place }
     requires used { (q : ℕ) → Leads (template_graph templates.now) place q
-        → IsGivenAt templates.now directive.now q (slice_index_or column.now q None) }
-    ensures { IsGivenAt templates.now directive.now place result }
+        → IsKeptAt templates.now directive.now q (slice_index_or column.now q None) }
+    ensures { IsKeptAt templates.now directive.now place result }
 {
     let further = further_of(templates, column, directive, place);
-    let blocks = templates.blocks();
-    let block = &blocks[place as usize];
-    match value_in(block.directives.as_slice(), directive) {
-        Some(text) => Some(Given { text, further }),
+    match gives {
+        Some(text) => Some(Given {
+            text,
+            source: place,
+            further,
+        }),
         None => match further {
             Some(template) => column[template as usize],
             None => None,
         },
     }
+}
+
+/// Notes what a block gives itself.
+fn put_line<'a>(own: &mut Vec<Option<&'a [u8]>>, line: Line<'a>)
+    ensures long { length own.new.items ≡ length own.old.items }
+    ensures each { (place : ℕ) → place < length own.old.items
+        → slice_index_or own.new.items place None
+        ≡ (if line.entry.place == place then Some line.entry.text
+        else slice_index_or own.old.items place None) }
+{
+    let place = line.place as usize;
+    if place < own.len() {
+        own[place] = Some(line.text);
+    }
+}
+
+/// What so many blocks give themselves, of which these are the lines.
+fn own_texts<'a>(
+    alloc: Global,
+    count: usize,
+    lines: &[Line<'a>],
+) -> Result<Vec<Option<&'a [u8]>>, AllocError>
+    ensures { IfOk result (λ own. AreOwn count lines.now own.items) }
+{
+    let mut own = vec![in alloc; None; count]?;
+    for line in lines {
+        put_line(&mut own, *line);
+    }
+    Ok(own)
+}
+
+/// What is given to all blocks, of which `own` is what they give themselves.
+fn column_of<'a>(
+    alloc: Global,
+    templates: &Templates<'a>,
+    directive: &[u8],
+    own: &[Option<&'a [u8]>],
+) -> Result<Vec<Option<Given<'a>>>, AllocError>
+    requires { AreOwnOf templates.now directive.now own.now }
+    ensures { IfOk result (λ column. HasGiven templates.now directive.now column.items) }
+{
+    let blocks = templates.blocks();
+    let order = templates.order();
+    let mut column = vec![in alloc; None; blocks.len()]?;
+    let mut left = order.len();
+    while left > 0 {
+        left -= 1;
+        let place = order[left];
+        let text = own[place as usize];
+        column[place as usize] = given_at(templates, column.as_slice(), directive, text, place);
+    }
+    Ok(column)
+}
+
+/// What is given to all blocks; nothing is kept where nothing is given to any.
+fn given_column<'a>(
+    alloc: Global,
+    templates: &Templates<'a>,
+    directive: &'a [u8],
+) -> Result<Vec<Option<Given<'a>>>, AllocError>
+    ensures { IfOk result (λ column. HasGiven templates.now directive.now column.items) }
+{
+    let lines = templates.lines(directive);
+    if lines.is_empty() {
+        return Ok(Vec::new(alloc));
+    }
+    let own = own_texts(alloc, templates.blocks().len(), lines)?;
+    column_of(alloc, templates, directive, own.as_slice())
 }
 
 /// What all blocks have for one directive. It takes some 32 bytes a block. Contracts see the blocks and the
@@ -174,14 +254,7 @@ impl<'a> Values<'a> {
             ≡ record { blocks = templates.now; directive = directive.now }) }
     {
         let blocks = templates.blocks();
-        let order = templates.order();
-        let mut column = vec![in alloc; None; blocks.len()]?;
-        let mut left = order.len();
-        while left > 0 {
-            left -= 1;
-            let place = order[left];
-            column[place as usize] = given_at(templates, column.as_slice(), directive, place);
-        }
+        let column = given_column(alloc, templates, directive)?;
         Ok(Values {
             blocks,
             directive,
@@ -191,12 +264,26 @@ impl<'a> Values<'a> {
 
     /// What is given to the block at the place.
     fn given(&self, place: usize) -> Option<Given<'a>>
-        ensures { IsGivenAt self.now.blocks self.now.directive place result }
+        ensures { IsKeptAt self.now.blocks self.now.directive place result }
     {
         if place < self.column.len() {
             self.column[place]
         } else {
             None
+        }
+    }
+
+    /// A block that has for the directive what the block at the place has, by itself or by its templates: the one that
+    /// gives the value itself, so that it is the same for all that take it from one template. None where the block
+    /// at the place has none.
+    pub fn source(&self, place: usize) -> Option<usize>
+        ensures same { IfSome result (λ source. given self.now.blocks self.now.directive source
+            ≡ given self.now.blocks self.now.directive place) }
+        ensures none { IfNone result (given self.now.blocks self.now.directive place ≡ []) }
+    {
+        match self.given(place) {
+            Some(given) => Some(given.source as usize),
+            None => None,
         }
     }
 
@@ -233,6 +320,33 @@ impl<'a> Values<'a> {
         self.given(given.further? as usize)
     }
 
+    /// The entries of a list that is added to what is inherited.
+    fn joined(&self, alloc: Global, first: Given<'a>) -> Result<Vec<&'a [u8]>, AllocError>
+        ensures { IfOk result (λ entries. texts entries.items
+            ≡ joined_entries (line_of self.now.blocks self.now.directive (Some first.entry))) }
+    {
+        let mut given = Some(first);
+        let mut list = Vec::new(alloc);
+        while let Some(next) = given {
+            push_reversed(alloc, &mut list, next.text)?;
+            given = self.beside(next);
+        }
+        list.as_mut_slice().reverse();
+        Ok(list)
+    }
+
+    /// The entries of the list that is given.
+    fn entries(&self, alloc: Global, given: Given<'a>) -> Result<Vec<&'a [u8]>, AllocError>
+        ensures { IfOk result (λ entries. texts entries.items
+            ≡ joined_entries (line_of self.now.blocks self.now.directive (Some given.entry))) }
+    {
+        if is_additive(given.text) {
+            self.joined(alloc, given)
+        } else {
+            own_entries(alloc, given.text)
+        }
+    }
+
     /// The entries that the block at the place has for the directive, where it is a list of names; none where
     /// neither it nor a template gives one, which isn't an empty list. The time grows with the texts of the
     /// additive lists that are joined. A refused growth leaves nothing.
@@ -240,16 +354,9 @@ impl<'a> Values<'a> {
         ensures { IfOk result (λ found. option_map (λ entries. texts entries.items) found
             ≡ list self.now.blocks self.now.directive place) }
     {
-        let mut given = self.given(place);
-        if given.is_none() {
-            return Ok(None);
+        match self.given(place) {
+            None => Ok(None),
+            Some(given) => Ok(Some(self.entries(alloc, given)?)),
         }
-        let mut list = Vec::new(alloc);
-        while let Some(next) = given {
-            push_reversed(alloc, &mut list, next.text)?;
-            given = self.beside(next);
-        }
-        list.as_mut_slice().reverse();
-        Ok(Some(list))
     }
 }

@@ -5,6 +5,7 @@
 pub mod inherited;
 pub mod kinds;
 pub mod laws;
+mod lines;
 mod names;
 pub mod registered;
 pub mod templates;

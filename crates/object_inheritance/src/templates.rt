@@ -1,6 +1,6 @@
 //! Templates, and their faults (chapter "Object Inheritance").
 
-ghost use Rattle.std.specs.Prelude.{◌≡◌, ◌<◌, ◌==◌, false, length, All, None, IfErr, IfNone};
+ghost use Rattle.std.specs.Prelude.{◌≡◌, ℕ, ◌<◌, ◌==◌, false, length, All, None, IfErr, IfNone};
 ghost use Rattle.std.specs.Prelude.{IfOk, IfSome, OnOk};
 ghost use Rattle.std.specs.Option.{option_map_or};
 ghost use Rattle.graph.specs.Chains.{HasNoLoop};
@@ -8,10 +8,12 @@ ghost use Rattle.graph.specs.Edges.{Leads};
 ghost use Rattle.graph_order.specs.Loops.{IsFirstOnLoop};
 ghost use Rattle.graph_order.specs.Order.{IsOrder};
 ghost use Rattle.object_inheritance.specs.Faults.{AreFree, fault_by, is_doubled, IsRefusal, uses_unknown};
-ghost use Rattle.object_inheritance.specs.Inherited.{AreInherited, AreShort};
+ghost use Rattle.object_inheritance.specs.Inherited.{AreInherited, AreShort, own};
+ghost use Rattle.object_inheritance.specs.Lines.{last_at};
 ghost use Rattle.object_inheritance.specs.Templates.{template_graph};
 ghost use Rattle.object_inheritance.specs.declared.templates.InheritanceFault.TheVariants.{NoMemory};
 
+use crate::lines::{Line, Lines};
 use crate::names::{TemplateNames, template_name};
 use crate::uses::{template_graph, uses_unknown};
 use graph::edges::Graph;
@@ -129,6 +131,7 @@ pub struct Templates<'a> {
     graph: Graph,
     /// Each block stands before the templates that it uses.
     order: Vec<u32>,
+    lines: Lines<'a>,
 }
 
 impl<'a> Model for Templates<'a> {
@@ -140,7 +143,7 @@ impl<'a> Model for Templates<'a> {
 
     ghost view = { λ s. s.blocks.now };
 
-    ghost invariant = { λ s. IsOrdered s.blocks.now s.graph s.order.items };
+    ghost invariant = { λ s. IsOrdered s.blocks.now s.graph s.order.items s.lines };
 }
 
 impl<'a> Templates<'a> {
@@ -158,11 +161,13 @@ impl<'a> Templates<'a> {
         let graph = template_graph(alloc, &names)?;
         let looped = first_on_loop(alloc, &graph)?;
         check_templates(alloc, &names, looped)?;
+        let lines = Lines::new(alloc, blocks)?;
         match order(alloc, &graph)? {
             Some(order) => Ok(Templates {
                 blocks,
                 graph,
                 order,
+                lines,
             }),
             None => unreachable!(),
         }
@@ -195,5 +200,12 @@ impl<'a> Templates<'a> {
         ensures within { All (λ place. place < length self.now) result.now }
     {
         self.order.as_slice()
+    }
+
+    /// What the blocks give themselves for the directive, in file order. The last line of a block counts.
+    pub(crate) fn lines(&self, directive: &'a [u8]) -> &[Line<'a>]
+        ensures { (place : ℕ) → last_at place result.now ≡ own self.now directive.now place }
+    {
+        self.lines.of(directive)
     }
 }
