@@ -5,6 +5,8 @@
 #[cfg(test)]
 mod inheritance;
 #[cfg(test)]
+mod near_base;
+#[cfg(test)]
 mod object_text;
 #[cfg(test)]
 mod resolver;
