@@ -108,10 +108,13 @@ fn registered_fault(
     ensures { IfOk result (λ fault. fault
         ≡ registered_fault values.now.blocks place column block.now) }
 {
-    if is_registered(block) {
-        column_fault(alloc, values, column, block.kind, place)
-    } else {
-        Ok(None)
+    match column_fault(alloc, values, column, block.kind, place)? {
+        None => Ok(None),
+        Some(fault) => Ok(if is_registered(block) {
+            Some(fault)
+        } else {
+            None
+        }),
     }
 }
 
@@ -143,10 +146,7 @@ fn side_fault(
     ensures { IfOk result (λ fault. fault
         ≡ side_fault needs.now.blocks place needs.now.side block.now) }
 {
-    if !is_registered(block) {
-        return Ok(None);
-    }
-    if needs.lacks(alloc, block.kind, place)? {
+    if needs.lacks(alloc, block.kind, place)? && is_registered(block) {
         Ok(Some(ValueFault::MissingDirective))
     } else {
         Ok(None)

@@ -9,7 +9,7 @@ use Rattle.object_groups.specs.Members.{IsMember}
 use Rattle.object_groups.specs.Names.{Lists}
 use Rattle.object_groups.specs.Objects.{list_at, names_in}
 use Rattle.object_inheritance.specs.Columns.{Column}
-use Rattle.object_inheritance.specs.Inherited.{value}
+use Rattle.object_inheritance.specs.Inherited.{given, value}
 
 -- Two directives: by one a block lists objects, by the other groups of them. The type tells which objects.
 pub record Directives : Type 0 where
@@ -50,6 +50,11 @@ pub record AreThose (P : ℕ → Type 0) (numbers : List ℕ) : Type 0 where
 abbrev pub gives_neither : List Block → Directives → (place : ℕ) → Bool
 gives_neither blocks listing place =
     is_none (value blocks listing.objects place) && is_none (value blocks listing.groups place)
+
+-- Two blocks have the same for both directives, by themselves or by their templates.
+pub record IsAlike (blocks : List Block) (listing : Directives) (one other : ℕ) : Type 0 where
+  pub objects : given blocks listing.objects one ≡ given blocks listing.objects other
+  pub groups : given blocks listing.groups one ≡ given blocks listing.groups other
 
 -- ---- how it is kept and found
 

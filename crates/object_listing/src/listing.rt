@@ -1,9 +1,10 @@
 //! What blocks list by two directives.
 
-ghost use Rattle.std.specs.Prelude.{◌≡◌, ◌<◌, length, All, IfOk};
+ghost use Rattle.std.specs.Prelude.{◌≡◌, ◌<◌, length, true, All, IfOk, IfSome};
 ghost use Rattle.object_groups.specs.Groups.{object_kind};
 ghost use Rattle.object_groups.specs.Objects.{names_in};
-ghost use Rattle.object_listing.specs.Listing.{AreThose, gives_neither, IsListed};
+ghost use Rattle.object_inheritance.specs.Inherited.{given};
+ghost use Rattle.object_listing.specs.Listing.{AreThose, gives_neither, IsAlike, IsListed};
 
 use crate::numbers::{listed, push_groups, put_in_order};
 use object_groups::groups::{GroupKind, Groups};
@@ -13,6 +14,16 @@ use object_inheritance::templates::Templates;
 use object_reader::block::Block;
 use std::alloc::{AllocError, Global};
 use std::marker::Model;
+
+/// Whether two blocks have the same for the directive of the values, as one block gives it to both.
+fn are_alike(values: &Values, one: usize, other: usize) -> bool
+    ensures { result ≡ true → given values.now.blocks values.now.directive one
+        ≡ given values.now.blocks values.now.directive other }
+{
+    let first = values.source(one);
+    let second = values.source(other);
+    first == second
+}
 
 /// What blocks list by two directives: by one objects, by the other groups of them, as `contacts` and
 /// `contact_groups`. It takes some 64 bytes a block. Contracts see the blocks and the directives.
@@ -81,6 +92,33 @@ impl<'a> Listing<'a> {
         ensures { result ≡ gives_neither self.now.blocks self.now.directives place }
     {
         self.objects.value(place).is_none() && self.groups.value(place).is_none()
+    }
+
+    /// A block that gives one of the directives which the block at the place has; none where it has neither.
+    fn giver(&self, place: usize) -> Option<usize> {
+        match self.groups.source(place) {
+            Some(source) => Some(source),
+            None => self.objects.source(place),
+        }
+    }
+
+    /// A block that has for both directives what the block at the place has, by itself or by its templates; it lists the
+    /// same. It is the same for all blocks that take both from one template. None where the block at the place has
+    /// neither, and where it takes them from different blocks.
+    pub fn source(&self, place: usize) -> Option<usize>
+        ensures { IfSome result (λ source.
+            IsAlike self.now.blocks self.now.directives source place) }
+    {
+        let Some(source) = self.giver(place) else {
+            return None;
+        };
+        if !are_alike(&self.objects, source, place) {
+            return None;
+        }
+        if !are_alike(&self.groups, source, place) {
+            return None;
+        }
+        Some(source)
     }
 
     /// The objects that the block at the place lists, by their numbers, each once and in order: those that its list

@@ -1,19 +1,24 @@
 -- The first block that names something that isn't there, reference by reference.
 use Rattle.std.proofs.Common.{◌≡◌, ℕ, zero, suc, ◌+◌, ◌<◌, ◌≤◌, Bool, true, false, ◌&&◌, ◌||◌, List, [], ◌∷◌, length, take, get_or, Option, Some, None, refl, sym, ap, subst, ⊎_elim, ◌∙◌, ◌⊎◌, inl, inr, arith}
-use Rattle.std.specs.Prelude.{slice_get}
+use Rattle.std.specs.Prelude.{map, replicate, slice_get, unwrap_or}
 use Rattle.std.specs.List.{list_any}
-use Rattle.std.specs.Option.{option_map_or}
+use Rattle.std.specs.Option.{option_map, option_map_or}
 use Rattle.std.proofs.lemmas.Bool.{cases_lt, false≢true}
 use Rattle.std.proofs.lemmas.List.{take_more}
 use Rattle.std.proofs.lemmas.List.Folds.{list_any-append}
+use Rattle.object_groups.specs.Names.{has_unknown}
 use Rattle.object_inheritance.specs.Columns.{Column}
+use Rattle.object_inheritance.specs.Inherited.{given, list_given, name_of}
 use Rattle.object_reader.specs.declared.block.Block.{Block}
 use Rattle.object_reader.specs.declared.block.BlockKind.{BlockKind}
 use Rattle.object_reader.specs.declared.block.BlockKind.TheVariants.{Host, HostGroup, Service, ServiceGroup, Contact, ContactGroup, TimePeriod, Command, HostEscalation, ServiceEscalation, HostDependency, ServiceDependency, HostExtInfo, ServiceExtInfo}
+use Rattle.object_values.specs.Values.{command_name}
+use Rattle.object_names.specs.declared.references.Reading.{Reading}
+use Rattle.object_names.specs.declared.references.Reading.TheVariants.{NamesOrAll, Names, Period, Commands}
 use Rattle.object_names.specs.declared.references.Reference.{Reference}
 use Rattle.object_names.specs.First.{IsFirst, lower}
-use Rattle.object_names.specs.References.{all_references, is_reference_of, references}
-use Rattle.object_names.specs.Unknown.{has_unknown_by, HasUnknown, HasUnknownAmong, is_registered, is_unknown_by, names_unknown, names_unknown_by}
+use Rattle.object_names.specs.References.{all_references, directive_of, is_reference_of, reading_of, references}
+use Rattle.object_names.specs.Unknown.{AreKnown, has_unknown_by, HasUnknown, HasUnknownAmong, is_registered, is_unknown, is_unknown_by, lacks_any, lacks_period, names_unknown, names_unknown_by}
 use Rattle.object_names.proofs.FirstLemmas.{first-either, first-same}
 
 -- ---- the blocks one after another
@@ -138,3 +143,56 @@ pub all-first : (blocks : List Block) (found : Option ℕ) → IsFirst (HasUnkno
 all-first blocks found first =
     first-same (HasUnknownAmong blocks all_references) (HasUnknown blocks) found
     (λ n some. sym (by-block blocks n (slice_get blocks n)) ∙ some) (λ n some. by-block blocks n (slice_get blocks n) ∙ some) first
+
+-- ---- blocks of which it is known
+
+-- the same is given, so the same is unknown
+unknown-alike : (reading : Reading) (names : List (List ℕ)) (blocks : List Block) (directive : List ℕ) (one other : ℕ) → given blocks directive one ≡ given blocks directive other
+    → is_unknown reading names blocks directive one ≡ is_unknown reading names blocks directive other
+unknown-alike NamesOrAll names blocks directive one other same = ap (λ (line : List (List ℕ)). has_unknown names (unwrap_or (list_given line) [])) same
+unknown-alike Names names blocks directive one other same = ap (λ (line : List (List ℕ)). lacks_any names (unwrap_or (list_given line) [])) same
+unknown-alike Period names blocks directive one other same = ap (λ (line : List (List ℕ)). lacks_period names (option_map name_of (slice_get line 0))) same
+unknown-alike Commands names blocks directive one other same = ap (λ (line : List (List ℕ)). lacks_any names (map command_name (unwrap_or (list_given line) []))) same
+
+unknown-nothing : (reading : Reading) (names : List (List ℕ)) (blocks : List Block) (directive : List ℕ) (place : ℕ) → given blocks directive place ≡ []
+    → is_unknown reading names blocks directive place ≡ false
+unknown-nothing NamesOrAll names blocks directive place none = ap (λ (line : List (List ℕ)). has_unknown names (unwrap_or (list_given line) [])) none
+unknown-nothing Names names blocks directive place none = ap (λ (line : List (List ℕ)). lacks_any names (unwrap_or (list_given line) [])) none
+unknown-nothing Period names blocks directive place none = ap (λ (line : List (List ℕ)). lacks_period names (option_map name_of (slice_get line 0))) none
+unknown-nothing Commands names blocks directive place none = ap (λ (line : List (List ℕ)). lacks_any names (map command_name (unwrap_or (list_given line) []))) none
+
+and-last : (a b : Bool) → (a && b && false) ≡ false
+and-last true true = refl
+and-last true false = refl
+and-last false b = refl
+
+module _ (blocks : List Block) (reference : Reference) (directive : List ℕ) (is : directive ≡ directive_of reference) where
+  -- a block whose names are all there
+  pub by-known : (place : ℕ) (block : Block) → is_unknown_by blocks place reference ≡ false → false ≡ names_unknown_by blocks place reference block
+  by-known place block known = sym (ap (λ (unknown : Bool). is_reference_of reference block.kind && is_registered block && unknown) known ∙ and-last (is_reference_of reference block.kind) (is_registered block))
+
+  pub by-alike : (one other : ℕ) → given blocks directive one ≡ given blocks directive other → is_unknown_by blocks one reference ≡ is_unknown_by blocks other reference
+  by-alike one other same = unknown-alike (reading_of reference) _ blocks (directive_of reference) one other
+      (subst (λ (d : List ℕ). given blocks d one ≡ given blocks d other) is same)
+
+  pub by-nothing : (place : ℕ) → given blocks directive place ≡ [] → is_unknown_by blocks place reference ≡ false
+  by-nothing place none = unknown-nothing (reading_of reference) _ blocks (directive_of reference) place
+      (subst (λ (d : List ℕ). given blocks d place ≡ []) is none)
+
+  -- one block more is known
+  pub known-more : (place : ℕ) (old new : List Bool) → is_unknown_by blocks place reference ≡ false → AreKnown blocks reference old
+      → ((other : ℕ) → get_or new other false ≡ true → (get_or old other false ≡ true) ⊎ (other ≡ place)) → AreKnown blocks reference new
+  known-more place old new here known notes other marked = ⊎_elim
+      (λ before. known other before)
+      (λ same. ap (λ (p : ℕ). is_unknown_by blocks p reference) same ∙ here)
+      (notes other marked)
+
+get_or-none : (n : ℕ) (place : ℕ) → get_or (replicate n false) place false ≡ false
+get_or-none zero place = refl
+get_or-none (suc n) zero = refl
+get_or-none (suc n) (suc place) = get_or-none n place
+
+-- no block is marked
+pub none-known : (blocks : List Block) (reference : Reference) (n : ℕ) (known : List Bool) → known ≡ replicate n false → AreKnown blocks reference known
+none-known blocks reference n known is place marked =
+    absurd (false≢true (sym (ap (λ (marks : List Bool). get_or marks place false) is ∙ get_or-none n place) ∙ marked))

@@ -1,5 +1,5 @@
 -- Names that blocks mention and that nothing has (chapter "Object Definitions").
-use Rattle.std.specs.Prelude.{◌≡◌, ℕ, Bool, true, false, ◌&&◌, List, [], ◌∷◌, map, codes, is_none, Option, None, Some, slice_get}
+use Rattle.std.specs.Prelude.{◌≡◌, ℕ, Bool, true, false, ◌&&◌, List, [], ◌∷◌, map, codes, is_none, Option, None, Some, slice_get, slice_index_or}
 use Rattle.std.specs.List.{list_any}
 use Rattle.std.specs.Option.{option_map_or}
 use Rattle.object_groups.specs.Names.{has_unknown, number_of}
@@ -75,3 +75,8 @@ has_unknown_by blocks place reference =
 abbrev pub HasUnknownAmong : List Block → List Reference → ℕ → Type 0
 HasUnknownAmong blocks references place =
     list_any (has_unknown_by blocks place) references ≡ true
+
+-- the blocks that are marked name nothing by the reference that isn't there
+abbrev pub AreKnown : List Block → Reference → List Bool → Type 0
+AreKnown blocks reference known = (place : ℕ)
+    → slice_index_or known place false ≡ true → is_unknown_by blocks place reference ≡ false

@@ -1,12 +1,13 @@
 //! Names that blocks mention and that nothing has.
 
-ghost use Rattle.std.specs.Prelude.{◌≡◌, map, true, IfOk};
+ghost use Rattle.std.specs.Prelude.{◌≡◌, ℕ, ◌⊎◌, false, map, slice_index_or, true, IfOk, OnOk};
 ghost use Rattle.std.specs.Option.{option_copied};
 ghost use Rattle.object_inheritance.specs.Inherited.{name};
 ghost use Rattle.object_names.specs.First.{IsFirst};
 ghost use Rattle.object_names.specs.Named.{block_kind};
 ghost use Rattle.object_names.specs.References.{directive_of, named_of, reading_of};
-ghost use Rattle.object_names.specs.Unknown.{HasUnknown, HasUnknownAmong, has_unknown_by, is_registered};
+ghost use Rattle.object_names.specs.Unknown.{AreKnown, HasUnknown, HasUnknownAmong};
+ghost use Rattle.object_names.specs.Unknown.{has_unknown_by, is_registered};
 ghost use Rattle.object_names.specs.Unknown.{is_unknown, lacks, lacks_any, lacks_period, names_unknown_by};
 ghost use Rattle.object_groups.specs.Objects.{names_in};
 ghost use Rattle.object_values.specs.Values.{command_name, texts};
@@ -94,26 +95,56 @@ fn is_registered(block: &Block) -> bool
     registers(value_in(block.directives.as_slice(), "register".as_bytes()))
 }
 
+/// Whether it is known of the block at the place that it names nothing unknown.
+fn is_known(known: &[bool], place: usize) -> bool
+    ensures { result ≡ slice_index_or known.now place false }
+{
+    place < known.len() && known[place]
+}
+
+/// Notes that the block at the place names nothing unknown.
+fn note(known: &mut Vec<bool>, place: usize)
+    ensures { (other : ℕ) → slice_index_or known.new.items other false ≡ true
+        → (slice_index_or known.old.items other false ≡ true) ⊎ (other ≡ place) }
+{
+    if place < known.len() {
+        known[place] = true;
+    }
+}
+
 /// Whether the block, which stands at the place, is registered and names by the reference something that
-/// none of the names is.
+/// none of the names is. `known` are blocks that name nothing unknown: what several blocks take from one template is
+/// looked at once.
 fn names_unknown<'a>(
     alloc: Global,
     values: &Values<'a>,
     reference: Reference,
     names: &Names<'a>,
+    known: &mut Vec<bool>,
     block: &Block,
     place: usize,
 ) -> Result<bool, AllocError>
     requires directive { values.now.directive ≡ directive_of reference }
     requires names { names.now ≡ names_in values.now.blocks (block_kind (named_of reference)) }
-    ensures { IfOk result (λ unknown. unknown
+    requires known { AreKnown values.now.blocks reference known.old.items }
+    ensures known { OnOk result (AreKnown values.now.blocks reference known.new.items) }
+    ensures unknown { IfOk result (λ unknown. unknown
         ≡ names_unknown_by values.now.blocks place reference block.now) }
 {
-    if is_reference_of(reference, block.kind) && is_registered(block) {
-        is_unknown(alloc, values, reading_of(reference), names, place)
-    } else {
-        Ok(false)
+    if !is_reference_of(reference, block.kind) {
+        return Ok(false);
     }
+    let Some(source) = values.source(place) else {
+        return Ok(false);
+    };
+    if is_known(known.as_slice(), source) {
+        return Ok(false);
+    }
+    if is_unknown(alloc, values, reading_of(reference), names, place)? {
+        return Ok(is_registered(block));
+    }
+    note(known, source);
+    Ok(false)
 }
 
 /// The place of the first block that names something which none of the names is, by the reference of which these are
@@ -131,8 +162,9 @@ fn first_in<'a>(
     ensures { IfOk result (IsFirst (λ place.
         has_unknown_by values.now.blocks place reference ≡ true)) }
 {
+    let mut known = vec![in alloc; false; blocks.len()]?;
     for (place, block) in blocks.iter().enumerate() {
-        if names_unknown(alloc, values, reference, names, block, place)? {
+        if names_unknown(alloc, values, reference, names, &mut known, block, place)? {
             return Ok(Some(place));
         }
     }

@@ -1,5 +1,6 @@
 -- How the objects are made: what each block gives is found once, and then taken for each of its objects.
-use Rattle.std.specs.Prelude.{◌≡◌, ℕ, true, List, ◌++◌, map, codes, unwrap_or, None, Some, slice_get, if◌then◌else◌}
+use Rattle.std.specs.Prelude.{◌≡◌, ℕ, true, List, ◌++◌, map, codes, unwrap_or, Option, None, Some, slice_get, slice_index_or, if◌then◌else◌}
+use Rattle.std.proofs.Common.{Vec, Global}
 use Rattle.std.specs.List.{AllZip}
 use Rattle.due_model.specs.Objects.{object_id}
 use Rattle.due_model.specs.declared.config.ContactId.{ContactId}
@@ -38,6 +39,12 @@ pub record AreTables (blocks : List Block) (contacts : ListingOf) (times : Times
   pub contacts_are : contacts ≡ record { blocks = blocks; directives = contact_directives }
   pub times_are : AreTimes blocks times
   pub filters_are : AreFilters blocks filters
+
+-- The contacts that are kept for blocks are those that the blocks list.
+abbrev pub AreKnown : List Block → List (Option (Vec ContactId Global)) → Type 0
+AreKnown blocks known = (place : ℕ) (kept : Vec ContactId Global)
+    → slice_index_or known place None ≡ Some kept
+    → AreThose (IsListed blocks contact_directives place) (map (λ contact. contact.0) kept.items)
 
 -- what the block at the place gives, with the name of its object
 pub record IsOwn (blocks : List Block) (kind : OptionKind) (name : List ℕ) (place : ℕ)

@@ -15,7 +15,7 @@ ghost use Rattle.object_settings.specs.Own.{AddsObjects, AddsServices, IsHostTak
 ghost use Rattle.object_settings.specs.Settings.{AreObjectsOf, service_origins};
 
 use crate::own::{Own, object_of};
-use crate::tables::Tables;
+use crate::tables::{Tables, none_known};
 use due_model::config::{Object, ObjectId};
 use due_model::objects::Objects as ObjectTable;
 use object_groups::groups::Groups;
@@ -46,9 +46,11 @@ fn owns_of<'a>(
         AllZip (IsOwnOfHost tables.now) (objects_in tables.now Host) owns.items) }
 {
     let mut owns = Vec::new(alloc);
+    let mut known = none_known(alloc, tables.block_count())?;
     for (number, place) in hosts.places().iter().enumerate() {
         let name = hosts.names().name(number);
-        let own = tables.own_at(alloc, contacts, periods, OptionKind::Host, name, *place)?;
+        let listed = tables.contacts_at(alloc, contacts, &mut known, *place)?;
+        let own = tables.own_at(listed, periods, OptionKind::Host, name, *place);
         owns.push(own)?;
     }
     Ok(owns)
@@ -113,7 +115,8 @@ fn push_services_at<'a>(
         objects.old.items objects.new.items) }
 {
     listed_are_objects();
-    let own = tables.own_at(alloc, contacts, periods, OptionKind::Service, name, place)?;
+    let listed = tables.listed_at(alloc, contacts, place)?;
+    let own = tables.own_at(listed, periods, OptionKind::Service, name, place);
     push_block(alloc, objects, owns, &own, hosts)?;
     Ok(())
 }

@@ -16,5 +16,5 @@ push_block-requires-clause-few c =
 
 pub returns-clause-added : goal.returns-clause-added
 returns-clause-added c =
-    block-objects c.args.tables.now c.args.place c.args.name.now c.args.owns.now c.in_ok-own.own c.args.hosts.now c.args.objects.now.items c.push_block.new.objects.items
-    c.requires.owns c.requires.named c.in_ok-own.ensures.own c.in_ok-push_block.ensures
+    block-objects c.args.tables.now c.args.place c.args.name.now c.args.owns.now c.own_at.result c.args.hosts.now c.args.objects.now.items c.push_block.new.objects.items
+    c.requires.owns c.requires.named c.own_at.ensures c.in_ok-push_block.ensures

@@ -7,8 +7,8 @@ use Rattle.object_readings.specs.Readings.{is_on, letters_at, number_at, own_num
 use Rattle.object_settings.proofs.TableLemmas.{kept-are, read-are}
 use Rattle.object_settings.proofs.tables.Tables.own_at.Goals as goal
 
-pub returns-clause-own : goal.returns-clause-own
-returns-clause-own c =
+pub returns : goal.returns
+returns c =
     let blocks = c.args.self.now in
     let inside = c.self.inside.blocks.now in
     let times = c.self.inside.times in
@@ -25,5 +25,5 @@ returns-clause-own c =
           ∙ read-are (λ bs d. own_period (names_in blocks TimePeriod) bs d place) blocks inside (codes "notification_period") times.periods same c.self.invariant.times_are.periods_are;
       lacks = c.gives_neither.ensures
           ∙ ap (λ (l : ListingOf). gives_neither l.blocks l.directives place) (kept-are blocks inside c.self.inside.contacts same c.self.invariant.contacts_are);
-      contacts = c.in_ok-contacts.ensures.contacts;
+      contacts = c.requires.contacts;
     }

@@ -3,7 +3,7 @@ use Rattle.std.proofs.lemmas.Result.{IfOk-weaker}
 use Rattle.object_listing.specs.Listing.{ListingOf}
 use Rattle.object_groups.specs.Groups.{GroupsOf}
 use Rattle.object_settings.proofs.TableLemmas.{contacts-are, contacts-few, kept-are}
-use Rattle.object_settings.proofs.tables.Tables.contacts_at.Goals as goal
+use Rattle.object_settings.proofs.tables.Tables.listed_at.Goals as goal
 
 pub objects_at-requires : goal.objects_at-requires
 objects_at-requires c =
