@@ -4,5 +4,4 @@ pub mod Limits
 pub mod Laws
 pub mod Doubled
 pub mod Alike
-pub mod Unknown
 pub mod Numbers

@@ -113,7 +113,7 @@ fn first_sharing<'a>(
 }
 
 /// The lower of two numbers that may be there.
-pub(crate) fn lower(first: Option<usize>, second: Option<usize>) -> Option<usize>
+fn lower(first: Option<usize>, second: Option<usize>) -> Option<usize>
     ensures { result ≡ lower first second }
 {
     let Some(one) = first else {
