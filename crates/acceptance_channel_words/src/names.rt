@@ -25,7 +25,12 @@ const ROWS: [(&str, &[&str], Outcome); 5] = [
     ("one", &["mail=mailbox:x"], Outcome::Lanes(1)),
     (
         "an unknown one after a doubled one",
-        &["mail=mailbox:x", "mail=mailbox:x", "Mail=mailbox:x", "b=mailbox:x"],
+        &[
+            "mail=mailbox:x",
+            "mail=mailbox:x",
+            "Mail=mailbox:x",
+            "b=mailbox:x",
+        ],
         Outcome::NoCommand("Mail"),
     ),
     (
@@ -33,7 +38,11 @@ const ROWS: [(&str, &[&str], Outcome); 5] = [
         &["mail=mailbox:x", "mail=command:x"],
         Outcome::Doubled("mail"),
     ),
-    ("part of a name", &["mai=mailbox:x"], Outcome::NoCommand("mai")),
+    (
+        "part of a name",
+        &["mai=mailbox:x"],
+        Outcome::NoCommand("mai"),
+    ),
 ];
 
 /// Whether the fault is this outcome.

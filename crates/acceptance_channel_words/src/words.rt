@@ -16,13 +16,25 @@ type Row = (
 );
 
 const ROWS: [Row; 24] = [
-    ("mail=mailbox:/var/mail/ann", Some(("mail", "mailbox", "/var/mail/ann"))),
+    (
+        "mail=mailbox:/var/mail/ann",
+        Some(("mail", "mailbox", "/var/mail/ann")),
+    ),
     ("mail=mailbox:a=b:c", Some(("mail", "mailbox", "a=b:c"))),
     ("a b=mailbox: ", Some(("a b", "mailbox", " "))),
-    ("page=pager:localhost:7000", Some(("page", "pager", "localhost:7000"))),
-    ("page=pager:[::1]:65535", Some(("page", "pager", "[::1]:65535"))),
+    (
+        "page=pager:localhost:7000",
+        Some(("page", "pager", "localhost:7000")),
+    ),
+    (
+        "page=pager:[::1]:65535",
+        Some(("page", "pager", "[::1]:65535")),
+    ),
     ("page=pager:h:0001", Some(("page", "pager", "h:0001"))),
-    ("send=command:/bin/mail -s x", Some(("send", "command", "/bin/mail -s x"))),
+    (
+        "send=command:/bin/mail -s x",
+        Some(("send", "command", "/bin/mail -s x")),
+    ),
     ("send=command: x", Some(("send", "command", " x"))),
     ("", None),
     ("mail", None),
