@@ -1,9 +1,11 @@
 //! A channel word.
 
-ghost use Rattle.std.specs.Prelude.{◌≡◌, ◌≢◌, ◌<◌, [], ◌∷◌, ◌++◌, filter, length, map, IfNone, IfOk, IfSome, OnOk};
+ghost use Rattle.std.specs.Prelude.{◌≡◌, ◌≢◌, ◌<◌, [], ◌∷◌, ◌++◌, filter, length, map};
+ghost use Rattle.std.specs.Prelude.{IfNone, IfOk, IfSome, OnOk};
 ghost use Rattle.channel_words.specs.declared.word.ChannelWord.{ChannelWord};
 ghost use Rattle.channel_words.specs.declared.word.Device.{Device};
-ghost use Rattle.channel_words.specs.Words.{IsDevice, IsWhole, device_text, has_word, is_word, kind_word, said_of};
+ghost use Rattle.channel_words.specs.Words.{IsDevice, IsWhole, device_text, has_word};
+ghost use Rattle.channel_words.specs.Words.{is_word, kind_word, said_of};
 ghost use Rattle.channel_words.specs.Words.{word_text, words_in};
 
 use crate::address::is_address;
