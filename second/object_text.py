@@ -1,0 +1,102 @@
+"""Object text: its lines, its blocks, and the first fault that a text has."""
+import re
+from dataclasses import dataclass, field
+
+TYPES = """host hostgroup service servicegroup contact contactgroup timeperiod command hostescalation serviceescalation
+hostdependency servicedependency hostextinfo serviceextinfo""".split()
+MOST_BYTES, MOST_OF_A_LINE = 16_777_216, 4_096
+BLANKS = " \t"
+
+
+class Refused(Exception):
+    """The text is refused, and what standard error says of it."""
+
+    def __init__(self, fault, line=None):
+        super().__init__(f"objects: {fault}" if line is None else f"objects: line {line}: {fault}")
+
+
+@dataclass
+class Directive:
+    name: str
+    value: str
+    has_colon: bool
+
+
+@dataclass
+class Block:
+    type: str
+    line: int
+    directives: list = field(default_factory=list)
+
+
+def joined_lines(data):
+    """Gives each joined line with the number of its first physical line."""
+    physical = data.split(b"\n")
+    ended = len(physical) - 1
+    if physical[-1] == b"":
+        physical.pop()
+    place = 0
+    while place < len(physical):
+        first, text, goes_on = place + 1, b"", True
+        while goes_on and place < len(physical):
+            raw = physical[place]
+            line = raw.removesuffix(b"\r") if place < ended else raw
+            if len(raw) > MOST_OF_A_LINE:
+                raise Refused("LineTooLong", first)
+            try:
+                line.decode()
+            except UnicodeDecodeError:
+                raise Refused("NotUtf8", first) from None
+            goes_on = line.endswith(b"\\") and not line.endswith(b"\\\\")
+            line = line.removesuffix(b"\\")
+            text += line if place + 1 == first else line.lstrip(BLANKS.encode())
+            place += 1
+        yield first, text.decode()
+
+
+def meant(text):
+    """What a joined line says, without its comment and its escapes."""
+    text = text.strip(BLANKS)
+    if text[:1] in ("#", ";"):
+        return ""
+    return re.split(r"(?<!\\);", text, maxsplit=1)[0].strip(BLANKS).replace("\\;", ";")
+
+
+def directive(kind, text, line):
+    words = re.split(r"[ \t]+", text)
+    with_colon = [place for place, word in enumerate(words) if ":" in word]
+    if kind == "timeperiod" and with_colon and with_colon[0] > 0:
+        place = with_colon[0]
+        return Directive(" ".join(words[:place]), "".join(words[place:]), True)
+    value = text[len(words[0]):].strip(BLANKS)
+    if not value:
+        raise Refused("NoValue", line)
+    return Directive(words[0], value, bool(with_colon))
+
+
+def read(data):
+    """The blocks of a text."""
+    if len(data) > MOST_BYTES:
+        raise Refused("TooLarge")
+    blocks, block = [], None
+    for line, joined in joined_lines(data):
+        text = meant(joined)
+        if not text:
+            continue
+        if block is None:
+            opening = re.fullmatch(r"define[ \t]+([^ \t{]+)[ \t]*\{", text)
+            if not opening:
+                raise Refused("NotADefine", line)
+            if opening[1] not in TYPES:
+                raise Refused("UnknownType", line)
+            block = Block(opening[1], line)
+        elif text == "}":
+            blocks.append(block)
+            block = None
+        elif re.split(r"[ \t]+", text)[0] == "define":
+            raise Refused("Unclosed", block.line)
+        else:
+            block.directives.append(directive(block.type, text, line))
+    if block is not None:
+        raise Refused("Unclosed", block.line)
+    return blocks
