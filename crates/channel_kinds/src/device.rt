@@ -28,8 +28,7 @@ impl<
     W: Write + Send + Drop,
     S: Read + Write + Send + Drop,
     R: Processes<Started = SystemProcess> + Send + Drop,
-> Channel for DeviceChannel<W, S, R>
-{
+> Channel for DeviceChannel<W, S, R> {
     ghost taken = { λ s. (kept_of s).taken };
 
     ghost room = { λ s. (kept_of s).room };
