@@ -1,37 +1,29 @@
 //! The program `notify-run`: its command line, and how each command ends.
 #![tactic(auto)]
 
-ghost use Rattle.std.specs.Prelude.{◌≡◌, IfOk};
+ghost use Rattle.std.specs.Prelude.{◌≡◌};
 ghost use Rattle.std.specs.Process.{exit_status};
 ghost use Rattle.command_output.specs.Outcome.{outcome_status};
-ghost use Rattle.due_model.specs.Accepted.{IsAccepted};
 ghost use Rattle.notify_run.specs.CommandLine.{AreSettingsFit};
 ghost use Rattle.notify_run.specs.RunFault.{run_status};
 ghost use Rattle.notify_run.specs.Zones.{zone_fault_status};
 
+mod channels;
 mod command_line;
 mod run_fault;
+mod sending;
 mod zone;
 
-use channel::Channel;
-use channel_kinds::mailbox::Mailbox;
-use channel_kinds::pager::Pager;
-use channel_kinds::spawned::Spawned;
-use channel_words::{ChannelFault, Device, lanes_of, read_words, words_in};
 use clap::error::ErrorKind;
-use command_input::read_object_file;
 use command_line::{Request, command, request_of};
 use command_output::{CommandFault, Ending, exit_status};
-use due_model::config::Config;
 use due_model::zone::Zone;
-use engine::Post;
 use replay::{replay_files, replay_in};
-use run_command::run;
 use run_fault::RunFault;
+use sending::do_run;
 use std::alloc::AllocError;
 use std::env;
-use std::fs::{File, OpenOptions};
-use std::net::TcpStream;
+use std::fs::File;
 use std::process::ExitCode;
 use text_lines::AnyReader;
 use trace::trace_in;
@@ -105,68 +97,6 @@ fn do_trace(rt: &HostRuntime, zone: &Zone, settings: Settings) -> Result<Ending,
     trace_in(rt.alloc(), zone, settings, input, &mut rt.stdout())
 }
 
-/// The configuration of a file of object text.
-fn config_of_file(rt: &HostRuntime, path: &str) -> Result<Config, CommandFault>
-    ensures { IfOk result (λ config. IsAccepted config) }
-{
-    match File::open(rt, path) {
-        Ok(file) => read_object_file(rt.alloc(), AnyReader::new(file)),
-        Err(_) => Err(CommandFault::Unreadable),
-    }
-}
-
-/// Does a run. The shape of all words is looked at before the object text is read; their names once that is accepted; then the
-/// channels are opened, in the order of the words.
-fn do_run<'a>(
-    rt: HostRuntime,
-    zone: &Zone,
-    objects: &str,
-    settings: Settings,
-    channels: Option<&[&'a str]>,
-) -> Result<Ending, RunFault<'a>>
-    requires { settings.deciders ≡ 1 }
-{
-    let alloc = rt.alloc();
-    let words = match channels {
-        Some(channels) => read_words(alloc, channels)?,
-        None => Vec::new(alloc),
-    };
-    let config = config_of_file(&rt, objects)?;
-    let lanes = lanes_of(alloc, &config, &words)?;
-    let mut posts = Vec::new(alloc);
-    for (word, lane) in words.iter().zip(lanes.iter()) {
-        let not_opened = ChannelFault::NotOpened(word.name);
-        let channel: Box<dyn Channel> = match word.device {
-            Device::Mailbox(path) => {
-                let Ok(file) = OpenOptions::new().append(true).create(true).open(&rt, path) else {
-                    return Err(RunFault::Channel(not_opened));
-                };
-                Box::new(alloc, Mailbox::new(alloc, file))?
-            }
-            Device::Pager(address) => {
-                let Ok(stream) = TcpStream::connect(&rt, address) else {
-                    return Err(RunFault::Channel(not_opened));
-                };
-                Box::new(alloc, Pager::new(alloc, stream))?
-            }
-            Device::Command(line) => {
-                let line = words_in(alloc, line)?;
-                let Some((program, arguments)) = line.split_first() else {
-                    return Err(RunFault::Channel(not_opened));
-                };
-                Box::new(alloc, Spawned::new(alloc, rt, program, arguments)?)?
-            }
-        };
-        posts.push(Post {
-            lane: *lane,
-            channel,
-        })?;
-    }
-    let feed = AnyReader::new(rt.stdin());
-    let mut writer = rt.stdout();
-    Ok(run(alloc, &config, zone, settings, posts, feed, &mut writer)?)
-}
-
 /// Says on standard error what a run failed with, if it did, and gives its exit status.
 fn status_of_run<R: Eprint>(rt: &R, outcome: Result<Ending, RunFault<'_>>) -> ExitCode
     ensures { exit_status result ≡ run_status outcome.entry }
@@ -198,7 +128,7 @@ fn status_of_request(rt: &HostRuntime, request: Request<'_, '_>) -> ExitCode
             channels,
             ..
         } => {
-            let outcome = do_run(*rt, &zone, objects, settings, channels);
+            let outcome = do_run(rt, &zone, objects, settings, channels);
             return status_of_run(rt, outcome);
         }
     };
