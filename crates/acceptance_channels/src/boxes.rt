@@ -5,11 +5,12 @@ use crate::given::{DOWN, DOWN_TEXT, are, are_receipts, check, letter};
 use channel::letter::Letter;
 use channel::memory::MemoryChannel;
 use channel::{Channel, Kind};
+use channel_kinds::device::DeviceChannel;
 use channel_kinds::mailbox::Mailbox;
 use channel_kinds::pager::Pager;
 use channel_kinds::spawned::Spawned;
 use std::alloc::Global;
-use std::io::{self, PipeReader, Read};
+use std::io::{self, PipeReader, PipeWriter, Read};
 use std::process::Abort;
 use std::test::Fail;
 
@@ -85,5 +86,46 @@ fn a_mailbox(rt: HostRuntime) -> Result<(), Fail> {
     drive(&rt, &mut channel, &down, Kind::Mailbox, 65_536);
     drop(channel);
     check_written(&rt, rt.alloc(), reader)?;
+    Ok(())
+}
+
+/// A channel of one of the three kinds.
+type OneOfThree<R> = DeviceChannel<PipeWriter, Agreeing, R>;
+
+#[test]
+fn a_mailbox_as_one_of_three(rt: HostRuntime) -> Result<(), Fail> {
+    let down = letter(rt.alloc(), DOWN)?;
+    let (reader, writer) = io::pipe(&rt)?;
+    let channel: OneOfThree<HostRuntime> = DeviceChannel::Mailbox(Mailbox::new(rt.alloc(), writer));
+    let mut channel: Box<dyn Channel> = Box::new(rt.alloc(), channel)?;
+    drive(&rt, &mut channel, &down, Kind::Mailbox, 65_536);
+    drop(channel);
+    check_written(&rt, rt.alloc(), reader)?;
+    Ok(())
+}
+
+#[test]
+fn a_pager_as_one_of_three(rt: HostRuntime) -> Result<(), Fail> {
+    let down = letter(rt.alloc(), DOWN)?;
+    let channel: OneOfThree<HostRuntime> = DeviceChannel::Pager(Pager::new(
+        rt.alloc(),
+        Agreeing { reads: 0 },
+    ));
+    let mut channel: Box<dyn Channel> = Box::new(rt.alloc(), channel)?;
+    drive(&rt, &mut channel, &down, Kind::Pager, 1_024);
+    Ok(())
+}
+
+#[test]
+fn a_program_as_one_of_three(rt: HostRuntime) -> Result<(), Fail> {
+    let down = letter(rt.alloc(), DOWN)?;
+    let channel: OneOfThree<HostRuntime> = DeviceChannel::Spawned(Spawned::new(
+        rt.alloc(),
+        rt,
+        "/bin/cat",
+        &[],
+    )?);
+    let mut channel: Box<dyn Channel> = Box::new(rt.alloc(), channel)?;
+    drive(&rt, &mut channel, &down, Kind::Spawned, 16_384);
     Ok(())
 }

@@ -1,4 +1,5 @@
 pub mod Answer
+pub mod Device
 pub mod Mailbox
 pub mod Pager
 pub mod Spawned

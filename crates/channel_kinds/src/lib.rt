@@ -1,8 +1,9 @@
 //! The channels with a device: a mailbox that is a file, a pager that answers, and a program that is started for
-//! each letter.
+//! each letter; and a channel of one of these kinds.
 #![tactic(auto)]
 
 mod answer;
+pub mod device;
 pub mod mailbox;
 pub mod pager;
 pub mod spawned;

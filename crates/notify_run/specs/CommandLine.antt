@@ -1,18 +1,26 @@
 -- What the words of a command line ask, and which words there are.
-use Rattle.std.specs.Prelude.{◌≡◌, ℕ, List, [], ◌∷◌, Some, pos, true, false, codes}
-use Rattle.std.specs.Option.{option_copied}
-use Rattle.clap.specs.Matches.{first_value}
+use Rattle.std.specs.Prelude.{◌≡◌, ℕ, List, [], ◌∷◌, map, Some, pos, true, false, codes}
+use Rattle.std.specs.Option.{option_copied, option_map}
+use Rattle.clap.specs.Lexer.{usize_max}
+use Rattle.clap.specs.Matches.{first_value, matched_of, raw_values}
 use Rattle.clap.specs.declared.parser.matches.Found.{Found}
 use Rattle.clap.specs.Words.{App, Rule, Shape, new_app, new_rule, with_rule}
 use Rattle.clap.specs.declared.builder.value_parser.ValueParser.TheVariants.{Signed}
 use Rattle.notify_run.specs.declared.command_line.Request.{Request}
 use Rattle.notify_run.specs.declared.command_line.ZoneWords.{ZoneWords}
-use Rattle.notify_run.specs.declared.command_line.Request.TheVariants.{Replay, Trace}
+use Rattle.notify_run.specs.declared.command_line.Request.TheVariants.{Replay, Trace, Run}
 
 -- the name of the command that is asked for
 abbrev pub request_name : Request → List ℕ
 request_name (Replay objects zone) = codes "replay"
 request_name (Trace settings zone) = codes "trace"
+request_name (Run objects settings zone channels) = codes "run"
+
+-- a run has one decider
+abbrev pub AreSettingsFit : Request → Type 0
+AreSettingsFit (Replay objects zone) = Unit {0}
+AreSettingsFit (Trace settings zone) = Unit {0}
+AreSettingsFit (Run objects settings zone channels) = settings.deciders ≡ 1
 
 -- the texts that the options of a command hold of the zone
 pub record IsZoneOf (options : Found) (words : ZoneWords) : Type 0 where
@@ -24,11 +32,22 @@ abbrev pub IsReplayOf : Found → Request → Type 0
 IsReplayOf options (Replay objects zone) =
     (option_copied objects ≡ first_value options (codes "objects")) × IsZoneOf options zone
 IsReplayOf options (Trace settings zone) = ⊥
+IsReplayOf options (Run objects settings zone channels) = ⊥
 
 -- what those of `trace` hold of the zone
 abbrev pub IsTraceOf : Found → Request → Type 0
 IsTraceOf options (Replay objects zone) = ⊥
 IsTraceOf options (Trace settings zone) = IsZoneOf options zone
+IsTraceOf options (Run objects settings zone channels) = ⊥
+
+-- and those of `run`: the file, the zone, and the channel words
+abbrev pub IsRunOf : Found → Request → Type 0
+IsRunOf options (Replay objects zone) = ⊥
+IsRunOf options (Trace settings zone) = ⊥
+IsRunOf options (Run objects settings zone channels) =
+    (Some objects.now ≡ first_value options (codes "objects")) × IsZoneOf options zone
+    × (option_map (λ words. map (λ word. word.now) words.now) channels
+    ≡ option_map raw_values (matched_of options (codes "channel")))
 
 -- `--NAME NUMBER`, with a number from 1 to `most`, or with `default` where it is left out
 abbrev pub number_option : List ℕ → List ℕ → ℕ → Rule
@@ -46,6 +65,13 @@ text_option name = record (new_rule name) {
   value_names = 1;
 }
 
+-- words without an option, of which there may be any number
+abbrev pub word_list : List ℕ → Rule
+word_list name = record (new_rule name) {
+  range = Some (record { start_inclusive = 1; end_inclusive = usize_max });
+  value_names = 1;
+}
+
 -- beside its other options a command has two by which a zone is given
 abbrev pub with_zone : App → App
 with_zone app = with_rule (with_rule app (text_option (codes "zone"))) (text_option (codes "zone-file"))
@@ -54,19 +80,25 @@ with_zone app = with_rule (with_rule app (text_option (codes "zone"))) (text_opt
 abbrev pub replay_words : App
 replay_words = with_zone (with_rule (new_app (codes "replay")) (text_option (codes "objects")))
 
--- `trace` has three more: how many deciders, how many notices a lane's queue holds, how many tries
-abbrev pub trace_words : App
-trace_words = with_zone (record {
-  top = record (new_app (codes "trace")).top {
-    rules = number_option (codes "deciders") (codes "1") 8
-        ∷ number_option (codes "queue") (codes "64") 1024
-        ∷ number_option (codes "tries") (codes "3") 10
-        ∷ [];
-  };
-  subs = [];
-})
+-- two say how many notices a lane's queue holds, and how many tries a message has
+abbrev pub with_lane_options : App → App
+with_lane_options app =
+    with_rule (with_rule app (number_option (codes "queue") (codes "64") 1024))
+    (number_option (codes "tries") (codes "3") 10)
 
--- `notify-run` has these two commands, `--version`, no command `help`, and asks for one of the two
+-- `trace` has these, and how many deciders there are
+abbrev pub trace_words : App
+trace_words =
+    with_zone (with_lane_options (with_rule (new_app (codes "trace"))
+    (number_option (codes "deciders") (codes "1") 8)))
+
+-- `run` has the file of the object text, which must be given, the same options, and the channel words
+abbrev pub run_words : App
+run_words =
+    with_rule (with_zone (with_lane_options (with_rule (new_app (codes "run"))
+    (record (text_option (codes "objects")) { required = true })))) (word_list (codes "channel"))
+
+-- `notify-run` has these three commands, `--version`, no command `help`, and asks for one of the three
 abbrev pub program_words : App
 program_words = record {
   top = record (new_app (codes "notify-run")).top {
@@ -76,5 +108,5 @@ program_words = record {
     subcommand_required = true;
     arg_required_else_help = true;
   };
-  subs = replay_words.top ∷ trace_words.top ∷ [];
+  subs = replay_words.top ∷ trace_words.top ∷ run_words.top ∷ [];
 }

@@ -1,2 +1,4 @@
+pub mod Channels
 pub mod CommandLine
+pub mod RunFault
 pub mod Zones

@@ -3,9 +3,10 @@
 ghost use Rattle.std.specs.Prelude.{◌≡◌, codes, false, IfOk, IfSome, is_some, Some, true};
 ghost use Rattle.clap.specs.Matches.{found_of};
 ghost use Rattle.clap.specs.Words.{app_of, rule_of, subcommand_name_of};
-ghost use Rattle.notify_run.specs.CommandLine.{IsReplayOf, IsTraceOf, IsZoneOf};
-ghost use Rattle.notify_run.specs.CommandLine.{program_words, replay_words, request_name};
-ghost use Rattle.notify_run.specs.CommandLine.{text_option, trace_words, with_zone};
+ghost use Rattle.notify_run.specs.CommandLine.{AreSettingsFit, IsReplayOf, IsRunOf, IsTraceOf, IsZoneOf};
+ghost use Rattle.notify_run.specs.CommandLine.{number_option, program_words, replay_words};
+ghost use Rattle.notify_run.specs.CommandLine.{request_name, run_words, text_option, trace_words};
+ghost use Rattle.notify_run.specs.CommandLine.{with_lane_options, with_zone, word_list};
 
 use clap::{Arg, ArgMatches, Command, value_parser};
 use std::alloc::{AllocError, Global};
@@ -18,8 +19,10 @@ const VERSION: &str = "0.2.0";
 const STATUSES: &str = "\
 Exit status:
   0  done
-  1  the object text was refused, the input or the output failed, or the feed ended early
+  1  the object text was refused, the input or the output failed, a channel wasn't opened,
+     or the feed ended early
   2  the command line is wrong, or its zone can't be read
+  3  something wasn't delivered
   4  memory ran out
 
 Faults are named on standard error, those of the object text with their line.";
@@ -68,6 +71,32 @@ A lane is named by its command: one that a contact lists. Standard output gets
 
 where each list is `event:contact`, separated by commas, or `-`.";
 
+/// What `notify-run run --help` says.
+const RUN: &str = "\
+Reads a feed of events from standard input, and sends what they make due: the messages of
+each notification command go to the channel that a word names for it.
+
+  NAME=mailbox:PATH               appended to the file, which is made if it isn't there
+  NAME=pager:HOST:PORT            to the peer at that address, which answers each with OK
+  NAME=command:PROGRAM ARGUMENT.. to the input of the program, started for each message
+
+NAME is a command that a contact lists. The program and its arguments are separated by
+spaces; nothing quotes a space. What an event makes due is tried before the next line of
+the feed is waited for. A message that fails is tried again, up to --tries; then its
+command's channel is closed, and that and all later messages of the command stay
+undelivered. Standard output gets, as the feed comes,
+
+  R;line;fault                                             a refused line of the feed
+  S;event;moment;object;kind;state;filter                  what a filter of the object stopped
+  C;event;moment;object;kind;state;number;contact;filter   a contact that was refused
+
+and once the feed is over, for each command that contacts list,
+
+  T;command;event;object;contact                           a message that its channel took
+  U;command;event;object;contact                           a message that is undelivered
+  Z;command;why                                            why it was closed: FeedOver, Failed,
+                                                           NoChannel or NoMemory";
+
 /// What a command line says of the zone of local times: neither, for UTC, or one of the two; both are one too many.
 #[derive(Clone, Copy, Debug, PartialEq, Eq)]
 pub struct ZoneWords<'a> {
@@ -79,7 +108,7 @@ pub struct ZoneWords<'a> {
 
 /// What the program is asked to do.
 #[derive(Clone, Copy, Debug, PartialEq, Eq)]
-pub enum Request<'a> {
+pub enum Request<'m, 'a> {
     /// A report, of the object text in the file, or of what stands before the feed on standard input.
     Replay {
         objects: Option<&'a str>,
@@ -90,14 +119,23 @@ pub enum Request<'a> {
         settings: Settings,
         zone: ZoneWords<'a>,
     },
+    /// A run, of the object text in the file and the feed on standard input, with one decider.
+    Run {
+        objects: &'a str,
+        settings: Settings,
+        zone: ZoneWords<'a>,
+        /// The channel words, in order, if there are some.
+        channels: Option<&'m [&'a str]>,
+    },
 }
 
-impl<'a> Request<'a> {
+impl<'a> Request<'_, 'a> {
     /// What it says of the zone.
     pub fn zone(self) -> ZoneWords<'a> {
         match self {
             Request::Replay { zone, .. } => zone,
             Request::Trace { zone, .. } => zone,
+            Request::Run { zone, .. } => zone,
         }
     }
 }
@@ -159,6 +197,19 @@ fn trace_command<'a>(alloc: Global) -> Result<Command<'a>, AllocError>
         .value_parser(value_parser!(u8).range(1..=8))
         .default_value("1")
         .help("How many deciders share the objects, 1 to 8");
+    let command = Command::new(alloc, "trace")
+        .about("The engine's design at work, step by step, in an order that you choose")
+        .long_about(TRACE)
+        .arg(deciders)?;
+    let with_lanes = with_lane_options(alloc, command)?;
+    with_zone(alloc, with_lanes)
+}
+
+/// Adds the options of a lane: how long its queue is, and how often it tries a message.
+fn with_lane_options<'a>(alloc: Global, command: Command<'a>) -> Result<Command<'a>, AllocError>
+    ensures words { IfOk result (λ command_with. app_of command_with
+        ≡ with_lane_options (app_of command.entry)) }
+{
     let queue = Arg::new(alloc, "queue")
         .long("queue")
         .value_name("NUMBER")
@@ -171,13 +222,32 @@ fn trace_command<'a>(alloc: Global) -> Result<Command<'a>, AllocError>
         .value_parser(value_parser!(u8).range(1..=10))
         .default_value("3")
         .help("How often a message is tried, 1 to 10");
-    let command = Command::new(alloc, "trace")
-        .about("The engine's design at work, step by step, in an order that you choose")
-        .long_about(TRACE)
-        .arg(deciders)?
-        .arg(queue)?
-        .arg(tries)?;
-    with_zone(alloc, command)
+    command.arg(queue)?.arg(tries)
+}
+
+/// The words of channels, of which there may be any number.
+fn channel_words<'a>(alloc: Global) -> Arg<'a>
+    ensures rule { rule_of result ≡ word_list (codes "channel") }
+    ensures local { result.global ≡ false }
+{
+    Arg::new(alloc, "channel")
+        .value_name("CHANNEL")
+        .num_args(1..)
+        .help("Where the messages of a command go: NAME=KIND:..")
+}
+
+/// The command `run`, its options and its words.
+fn run_command<'a>(alloc: Global) -> Result<Command<'a>, AllocError>
+    ensures words { IfOk result (λ command. app_of command ≡ run_words) }
+{
+    let objects = text_option(alloc, "objects", "FILE", "The file of object text").required(true);
+    let command = Command::new(alloc, "run")
+        .about("Sends what is due, from an object file and a feed of events")
+        .long_about(RUN)
+        .arg(objects)?;
+    let with_lanes = with_lane_options(alloc, command)?;
+    let with_options = with_zone(alloc, with_lanes)?;
+    with_options.arg(channel_words(alloc))
 }
 
 /// The commands of `notify-run`. A refused growth is the only error.
@@ -193,7 +263,8 @@ pub fn command<'a>(alloc: Global) -> Result<Command<'a>, AllocError>
         .subcommand_required(true)
         .arg_required_else_help(true)
         .subcommand(replay_command(alloc)?)?
-        .subcommand(trace_command(alloc)?)
+        .subcommand(trace_command(alloc)?)?
+        .subcommand(run_command(alloc)?)
 }
 
 /// The settings of a trace. Each option has a default, and its range is that of the settings, so that there are
@@ -216,7 +287,7 @@ fn zone_words<'a>(options: &ArgMatches<'a>) -> ZoneWords<'a>
 }
 
 /// What the options of `replay` ask.
-fn replay_request<'a>(options: &ArgMatches<'a>) -> Request<'a>
+fn replay_request<'m, 'a>(options: &'m ArgMatches<'a>) -> Request<'m, 'a>
     ensures named { request_name result ≡ codes "replay" }
     ensures options { IsReplayOf (found_of options.now) result }
 {
@@ -227,7 +298,7 @@ fn replay_request<'a>(options: &ArgMatches<'a>) -> Request<'a>
 }
 
 /// What the options of `trace` ask.
-fn trace_request<'a>(options: &ArgMatches<'a>) -> Option<Request<'a>>
+fn trace_request<'m, 'a>(options: &'m ArgMatches<'a>) -> Option<Request<'m, 'a>>
     ensures named { IfSome result (λ request. request_name request ≡ codes "trace") }
     ensures options { IfSome result (IsTraceOf (found_of options.now)) }
 {
@@ -237,8 +308,34 @@ fn trace_request<'a>(options: &ArgMatches<'a>) -> Option<Request<'a>>
     })
 }
 
+/// The settings of a run: those of its options, and one decider.
+fn run_settings(options: &ArgMatches<'_>) -> Option<Settings>
+    ensures { IfSome result (λ settings. settings.deciders ≡ 1) }
+{
+    let queue = options.get_one::<u16>("queue")?;
+    let tries = options.get_one::<u8>("tries")?;
+    Settings::new(1, queue, tries)
+}
+
+/// What the options of `run` ask.
+fn run_request<'m, 'a>(options: &'m ArgMatches<'a>) -> Option<Request<'m, 'a>>
+    ensures named { IfSome result (λ request. request_name request ≡ codes "run") }
+    ensures options { IfSome result (IsRunOf (found_of options.now)) }
+    ensures settings { IfSome result AreSettingsFit }
+{
+    let objects = options.get_str("objects")?;
+    let settings = run_settings(options)?;
+    Some(Request::Run {
+        objects,
+        settings,
+        zone: zone_words(options),
+        channels: options.get_strs("channel"),
+    })
+}
+
 /// What a command line that was read asks.
-pub fn request_of<'a>(matches: &ArgMatches<'a>) -> Option<Request<'a>>
+pub fn request_of<'m, 'a>(matches: &'m ArgMatches<'a>) -> Option<Request<'m, 'a>>
+    ensures settings { IfSome result AreSettingsFit }
     ensures named { IfSome result (λ request.
         subcommand_name_of matches.now ≡ Some (request_name request)) }
     ensures replay { subcommand_name_of matches.now ≡ Some (codes "replay")
@@ -247,6 +344,7 @@ pub fn request_of<'a>(matches: &ArgMatches<'a>) -> Option<Request<'a>>
     match matches.subcommand() {
         Some(("replay", options)) => Some(replay_request(options)),
         Some(("trace", options)) => trace_request(options),
+        Some(("run", options)) => run_request(options),
         _ => None,
     }
 }

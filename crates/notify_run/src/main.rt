@@ -4,9 +4,14 @@
 ghost use Rattle.std.specs.Prelude.{◌≡◌};
 ghost use Rattle.std.specs.Process.{exit_status};
 ghost use Rattle.command_output.specs.Outcome.{outcome_status};
+ghost use Rattle.notify_run.specs.CommandLine.{AreSettingsFit};
+ghost use Rattle.notify_run.specs.RunFault.{run_status};
 ghost use Rattle.notify_run.specs.Zones.{zone_fault_status};
 
+mod channels;
 mod command_line;
+mod run_fault;
+mod sending;
 mod zone;
 
 use clap::error::ErrorKind;
@@ -14,6 +19,8 @@ use command_line::{Request, command, request_of};
 use command_output::{CommandFault, Ending, exit_status};
 use due_model::zone::Zone;
 use replay::{replay_files, replay_in};
+use run_fault::RunFault;
+use sending::do_run;
 use std::alloc::AllocError;
 use std::env;
 use std::fs::File;
@@ -90,8 +97,24 @@ fn do_trace(rt: &HostRuntime, zone: &Zone, settings: Settings) -> Result<Ending,
     trace_in(rt.alloc(), zone, settings, input, &mut rt.stdout())
 }
 
+/// Says on standard error what a run failed with, if it did, and gives its exit status.
+fn status_of_run<R: Eprint>(rt: &R, outcome: Result<Ending, RunFault<'_>>) -> ExitCode
+    ensures { exit_status result ≡ run_status outcome.entry }
+{
+    match outcome {
+        Ok(ending) => status_of(rt, Ok(ending)),
+        Err(RunFault::Command(fault)) => status_of(rt, Err(fault)),
+        Err(RunFault::Channel(fault)) => {
+            let _ = rt.eprintln(format_args!("{fault}"));
+            ExitCode::from(fault.status())
+        }
+    }
+}
+
 /// Does what is asked, and gives the exit status. The zone is read before anything else.
-fn status_of_request(rt: &HostRuntime, request: Request<'_>) -> ExitCode {
+fn status_of_request(rt: &HostRuntime, request: Request<'_, '_>) -> ExitCode
+    requires { AreSettingsFit request }
+{
     let zone = match zone_of(rt, request.zone()) {
         Ok(zone) => zone,
         Err(fault) => return status_of_zone(rt, fault),
@@ -99,6 +122,15 @@ fn status_of_request(rt: &HostRuntime, request: Request<'_>) -> ExitCode {
     let outcome = match request {
         Request::Replay { objects, .. } => do_replay(rt, &zone, objects),
         Request::Trace { settings, .. } => do_trace(rt, &zone, settings),
+        Request::Run {
+            objects,
+            settings,
+            channels,
+            ..
+        } => {
+            let outcome = do_run(rt, &zone, objects, settings, channels);
+            return status_of_run(rt, outcome);
+        }
     };
     status_of(rt, outcome)
 }

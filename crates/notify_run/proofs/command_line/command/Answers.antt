@@ -29,7 +29,10 @@ returns c =
     let trace_is = c.in_ok-trace_command.ensures.words in
     let replay_added = c.in_ok-subcommand.ensures.shape (third_is_false _ _ _ _ (ap (λ (a : App). a.top.is_plain) replay_is))
     ∙ ap₂ with_subcommand settings (ap (λ (a : App). a.top) replay_is) in
+    let run_is = c.in_ok-run_command.ensures.words in
+    let trace_added = c.in_ok-subcommand-2.ensures.shape (third_is_false _ _ _ _ (ap (λ (a : App). a.top.is_plain) trace_is))
+    ∙ ap₂ with_subcommand replay_added (ap (λ (a : App). a.top) trace_is) in
     record {
-      words = IfOk-weaker c.subcommand-2.result _ _ (λ r h. h.shape (third_is_false _ _ _ _ (ap (λ (a : App). a.top.is_plain) trace_is))
-          ∙ ap₂ with_subcommand replay_added (ap (λ (a : App). a.top) trace_is)) c.subcommand-2.ensures;
+      words = IfOk-weaker c.subcommand-3.result _ _ (λ r h. h.shape (third_is_false _ _ _ _ (ap (λ (a : App). a.top.is_plain) run_is))
+          ∙ ap₂ with_subcommand trace_added (ap (λ (a : App). a.top) run_is)) c.subcommand-3.ensures;
     }

@@ -6,7 +6,7 @@ use Rattle.clap.specs.Words.{Rule, app_of, new_app, new_rule, rule_of, signed_be
 use Rattle.clap.specs.declared.builder.arg.Arg.{Arg}
 use Rattle.clap.specs.declared.builder.value_parser.ValueParser.{ValueParser}
 use Rattle.clap.specs.declared.builder.value_parser.ValueParser.TheVariants.{Signed}
-use Rattle.notify_run.specs.CommandLine.{number_option, with_zone}
+use Rattle.notify_run.specs.CommandLine.{number_option, with_lane_options, with_zone}
 use Rattle.notify_run.proofs.command_line.trace_command.Goals as goal
 
 -- the parser of numbers from 0 to `top`, within narrower bounds
@@ -19,14 +19,8 @@ is_global a = a.global
 pub returns : goal.returns
 returns c =
     let given = c.value_parser-2.ensures.given in
-    let given-2 = c.value_parser-4.ensures.given in
-    let given-3 = c.value_parser-6.ensures.given in
     let wide : c.range.result ≡ narrowed 255 c.new-2.result.start c.new-2.result.end = rw c.value_parser.ensures at c.range.ensures in
     let range : c.range.result ≡ Signed (pos 1) (pos 8) = wide ∙ ap₂ (narrowed 255) c.new-2.ensures.start c.new-2.ensures.end in
-    let wide-2 : c.range-2.result ≡ narrowed 65535 c.new-4.result.start c.new-4.result.end = rw c.value_parser-3.ensures at c.range-2.ensures in
-    let range-2 : c.range-2.result ≡ Signed (pos 1) (pos 1024) = wide-2 ∙ ap₂ (narrowed 65535) c.new-4.ensures.start c.new-4.ensures.end in
-    let wide-3 : c.range-3.result ≡ narrowed 255 c.new-6.result.start c.new-6.result.end = rw c.value_parser-5.ensures at c.range-3.ensures in
-    let range-3 : c.range-3.result ≡ Signed (pos 1) (pos 10) = wide-3 ∙ ap₂ (narrowed 255) c.new-6.ensures.start c.new-6.ensures.end in
     let parser : c.value_parser-2.result.value_parser ≡ Some (Signed (pos 1) (pos 8)) = given.1 ∙ ap Some (given.2 ∙ range) in
     let long = ap rule_of c.long.ensures ∙ ap (λ (r : Rule). record r { long = Some (codes "deciders") }) c.new.ensures.rule in
     let named = ap rule_of c.value_name.ensures ∙ ap (λ (r : Rule). record r { value_names = 1 }) long in
@@ -36,26 +30,7 @@ returns c =
     ∙ ap rule_of c.default_value.ensures ∙ ap (λ (r : Rule). record r { defaults = codes "1" ∷ [] }) parsed in
     let local = ap is_global c.help-deciders.ensures ∙ ap is_global c.default_value.ensures ∙ ap is_global c.value_parser-2.ensures.others
     ∙ ap is_global c.value_name.ensures ∙ ap is_global c.long.ensures ∙ c.new.ensures.optional.1 in
-    let parser-2 : c.value_parser-4.result.value_parser ≡ Some (Signed (pos 1) (pos 1024)) = given-2.1 ∙ ap Some (given-2.2 ∙ range-2) in
-    let long-2 = ap rule_of c.long-2.ensures ∙ ap (λ (r : Rule). record r { long = Some (codes "queue") }) c.new-3.ensures.rule in
-    let named-2 = ap rule_of c.value_name-2.ensures ∙ ap (λ (r : Rule). record r { value_names = 1 }) long-2 in
-    let parsed-2 = ap rule_of c.value_parser-4.ensures.others
-    ∙ ap₂ (λ (r : Rule) (p : Option ValueParser). record r { parser = p }) named-2 parser-2 in
-    let queue : rule_of c.help-queue.result ≡ number_option (codes "queue") (codes "64") 1024 = ap rule_of c.help-queue.ensures
-    ∙ ap rule_of c.default_value-2.ensures ∙ ap (λ (r : Rule). record r { defaults = codes "64" ∷ [] }) parsed-2 in
-    let local-2 = ap is_global c.help-queue.ensures ∙ ap is_global c.default_value-2.ensures ∙ ap is_global c.value_parser-4.ensures.others
-    ∙ ap is_global c.value_name-2.ensures ∙ ap is_global c.long-2.ensures ∙ c.new-3.ensures.optional.1 in
-    let parser-3 : c.value_parser-6.result.value_parser ≡ Some (Signed (pos 1) (pos 10)) = given-3.1 ∙ ap Some (given-3.2 ∙ range-3) in
-    let long-3 = ap rule_of c.long-3.ensures ∙ ap (λ (r : Rule). record r { long = Some (codes "tries") }) c.new-5.ensures.rule in
-    let named-3 = ap rule_of c.value_name-3.ensures ∙ ap (λ (r : Rule). record r { value_names = 1 }) long-3 in
-    let parsed-3 = ap rule_of c.value_parser-6.ensures.others
-    ∙ ap₂ (λ (r : Rule) (p : Option ValueParser). record r { parser = p }) named-3 parser-3 in
-    let tries : rule_of c.help-tries.result ≡ number_option (codes "tries") (codes "3") 10 = ap rule_of c.help-tries.ensures
-    ∙ ap rule_of c.default_value-3.ensures ∙ ap (λ (r : Rule). record r { defaults = codes "3" ∷ [] }) parsed-3 in
-    let local-3 = ap is_global c.help-tries.ensures ∙ ap is_global c.default_value-3.ensures ∙ ap is_global c.value_parser-6.ensures.others
-    ∙ ap is_global c.value_name-3.ensures ∙ ap is_global c.long-3.ensures ∙ c.new-5.ensures.optional.1 in
-    let bare : app_of c.long_about.result ≡ new_app (codes "trace") = ap app_of_fields c.long_about.ensures ∙ ap app_of_fields c.about.ensures ∙ c.new-7.ensures.app in
-    let one = c.in_ok-arg.ensures.shape local ∙ ap₂ with_rule bare deciders in
-    let two = c.in_ok-arg-2.ensures.shape local-2 ∙ ap₂ with_rule one queue in
-    let three = c.in_ok-command.ensures.shape local-3 ∙ ap₂ with_rule two tries in
-    record { words = IfOk-weaker c.with_zone.result _ _ (λ r h. h ∙ ap with_zone three) c.with_zone.ensures.words }
+    let bare : app_of c.long_about.result ≡ new_app (codes "trace") = ap app_of_fields c.long_about.ensures ∙ ap app_of_fields c.about.ensures ∙ c.new-3.ensures.app in
+    let one = c.in_ok-command.ensures.shape local ∙ ap₂ with_rule bare deciders in
+    let laned = c.in_ok-with_lanes.ensures.words ∙ ap with_lane_options one in
+    record { words = IfOk-weaker c.with_zone.result _ _ (λ r h. h ∙ ap with_zone laned) c.with_zone.ensures.words }

@@ -1,0 +1,80 @@
+//! The lanes that words name.
+
+use acceptance_inputs::configs::base;
+use channel_words::{ChannelFault, lanes_of, read_words};
+use due_model::config::LaneId;
+use std::alloc::{AllocError, Global};
+use std::process::Abort;
+
+/// Compares.
+fn check(rt: &impl Abort, holds: bool, what: &str) {
+    assert!(rt; holds, "{what}");
+}
+
+/// What becomes of words whose one lane is `mail`.
+#[derive(Clone, Copy, PartialEq, Eq)]
+enum Outcome {
+    /// As many lanes, each of them the first.
+    Lanes(usize),
+    NoCommand(&'static str),
+    Doubled(&'static str),
+}
+
+const ROWS: [(&str, &[&str], Outcome); 5] = [
+    ("none", &[], Outcome::Lanes(0)),
+    ("one", &["mail=mailbox:x"], Outcome::Lanes(1)),
+    (
+        "an unknown one after a doubled one",
+        &[
+            "mail=mailbox:x",
+            "mail=mailbox:x",
+            "Mail=mailbox:x",
+            "b=mailbox:x",
+        ],
+        Outcome::NoCommand("Mail"),
+    ),
+    (
+        "a doubled one",
+        &["mail=mailbox:x", "mail=command:x"],
+        Outcome::Doubled("mail"),
+    ),
+    (
+        "part of a name",
+        &["mai=mailbox:x"],
+        Outcome::NoCommand("mai"),
+    ),
+];
+
+/// Whether the fault is this outcome.
+fn is_fault(fault: ChannelFault<'_>, outcome: Outcome) -> bool {
+    match (fault, outcome) {
+        (ChannelFault::NoCommand(name), Outcome::NoCommand(wanted)) => name == wanted,
+        (ChannelFault::Doubled(name), Outcome::Doubled(wanted)) => name == wanted,
+        _ => false,
+    }
+}
+
+/// Whether the lanes are this outcome.
+fn are_lanes(lanes: &[LaneId], outcome: Outcome) -> bool {
+    outcome == Outcome::Lanes(lanes.len()) && lanes.iter().all(|lane| *lane == LaneId(0))
+}
+
+/// Whether these words have this outcome.
+fn ends_so(alloc: Global, words: &[&str], outcome: Outcome) -> Result<bool, AllocError> {
+    let config = base(alloc)?;
+    let Ok(words) = read_words(alloc, words) else {
+        return Ok(false);
+    };
+    match lanes_of(alloc, &config, &words) {
+        Ok(lanes) => Ok(are_lanes(&lanes, outcome)),
+        Err(fault) => Ok(is_fault(fault, outcome)),
+    }
+}
+
+#[test]
+fn names(rt: HostRuntime) -> Result<(), AllocError> {
+    for (what, words, outcome) in ROWS {
+        check(&rt, ends_so(rt.alloc(), words, outcome)?, what);
+    }
+    Ok(())
+}

@@ -1,0 +1,91 @@
+//! A run: its checks in their order, its channels, and the feed.
+
+ghost use Rattle.std.specs.Prelude.{◌≡◌, [], map, unwrap_or, IfErr, IfOk};
+ghost use Rattle.std.specs.Option.{option_map};
+ghost use Rattle.due_model.specs.Accepted.{IsAccepted};
+ghost use Rattle.notify_run.specs.RunFault.{IsCommandFault, RunFails};
+
+use crate::channels::{OpenedChannel, open_channels};
+use crate::run_fault::RunFault;
+use channel::Channel;
+use channel_words::{lanes_of, read_words};
+use command_input::read_object_file;
+use command_output::{CommandFault, Ending};
+use due_model::config::{Config, LaneId};
+use due_model::zone::Zone;
+use engine::Post;
+use run_command::run;
+use std::fs::File;
+use text_lines::AnyReader;
+use world_steps::Settings;
+
+/// Does a run. The shape of all words is looked at before the object text is read; their names once that is accepted; then
+/// the channels are opened, in the order of the words; and then the feed is read.
+pub fn do_run<'a>(
+    rt: &HostRuntime,
+    zone: &Zone,
+    objects: &str,
+    settings: Settings,
+    channels: Option<&[&'a str]>,
+) -> Result<Ending, RunFault<'a>>
+    requires { settings.deciders ≡ 1 }
+    // What it fails with, and that the earlier checks went well.
+    ensures fault { let texts = map (λ text. text.now)
+        (unwrap_or (option_map (λ given. given.now) channels.entry) []) in IfErr result (RunFails texts) }
+{
+    let alloc = rt.alloc();
+    let words = read_words(alloc, texts_of(channels))?;
+    let config = config_of_file(rt, objects)?;
+    let lanes = lanes_of(alloc, &config, &words)?;
+    let opened = open_channels(rt, &words)?;
+    let ending = run_through(rt, &config, zone, settings, &lanes, opened)?;
+    Ok(ending)
+}
+
+/// The texts of the channel words, which may be none.
+fn texts_of<'m, 'a>(channels: Option<&'m [&'a str]>) -> &'m [&'a str]
+    ensures { result.now ≡ unwrap_or (option_map (λ given. given.now) channels.entry) [] }
+{
+    match channels {
+        Some(texts) => texts,
+        None => &[],
+    }
+}
+
+/// The configuration of a file of object text.
+fn config_of_file(rt: &HostRuntime, path: &str) -> Result<Config, CommandFault>
+    ensures { IfOk result (λ config. IsAccepted config) }
+{
+    match File::open(rt, path) {
+        Ok(file) => read_object_file(rt.alloc(), AnyReader::new(file)),
+        Err(_) => Err(CommandFault::Unreadable),
+    }
+}
+
+/// Reads the feed, with channels for these lanes, one each in order.
+fn run_through<'a>(
+    rt: &HostRuntime,
+    config: &Config,
+    zone: &Zone,
+    settings: Settings,
+    lanes: &[LaneId],
+    channels: Vec<OpenedChannel>,
+) -> Result<Ending, RunFault<'a>>
+    requires accepted { IsAccepted config.now }
+    requires deciders { settings.deciders ≡ 1 }
+    ensures { IfErr result IsCommandFault }
+{
+    let alloc = rt.alloc();
+    let mut posts = Vec::new(alloc);
+    for (lane, channel) in lanes.iter().zip(channels) {
+        let channel: Box<dyn Channel> = Box::new(alloc, channel)?;
+        posts.push(Post {
+            lane: *lane,
+            channel,
+        })?;
+    }
+    let feed = AnyReader::new(rt.stdin());
+    let mut writer = rt.stdout();
+    let ending = run(alloc, config, zone, settings, posts, feed, &mut writer)?;
+    Ok(ending)
+}
