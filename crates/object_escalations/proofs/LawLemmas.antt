@@ -14,14 +14,13 @@ use Rattle.lemmas.proofs.Numbers.{below_more, flat_range_more}
 use Rattle.object_escalations.specs.Entries.{ComesFrom, Origin, origins_at, origins_below}
 use Rattle.object_escalations.specs.Escalated.{AreEscalated, GiveEscalations, PassesLimit, SpeaksOf}
 use Rattle.object_escalations.specs.Laws.{CountIsTheSum, EscalatedAreObjects, OneForEach, OnePlacePasses, WithinPassesNowhere}
-use Rattle.object_escalations.specs.Listed.{escalation_directives}
-use Rattle.object_escalations.proofs.EscalatedLemmas.{listed-within, sum-more}
+use Rattle.object_escalations.proofs.EscalatedLemmas.{sum-more}
 use Rattle.object_groups.specs.Objects.{name_at, names_in, objects_in}
-use Rattle.object_listing.specs.Laws.{ListedAreObjects}
-use Rattle.object_listing.specs.Listing.{AreThose, host_directives}
+use Rattle.object_listing.specs.Listing.{AreThose}
+use Rattle.object_reached.specs.declared.roles.Role.TheVariants.{Escalated}
+use Rattle.object_reached.specs.Laws.{SpokenAreObjects}
 use Rattle.object_reader.specs.declared.block.Block.{Block}
 use Rattle.object_reader.specs.declared.block.BlockKind.TheVariants.{Host, Service}
-use Rattle.object_service_groups.specs.Laws.{MembersAreServices}
 use Rattle.object_services.specs.Numbers.{Pair, pairs_of}
 
 -- ---- numbers that rise
@@ -102,19 +101,15 @@ names-long : (blocks : List Block) → length (names_in blocks Host) ≡ length 
 unfolding names_in
 names-long blocks = length-map (objects_in blocks Host) (name_at blocks Host)
 
-spoken-within : ListedAreObjects → MembersAreServices → (blocks : List Block) (lists : List (List ℕ)) (place number : ℕ) → SpeaksOf blocks lists place number
+spoken-within : SpokenAreObjects → (blocks : List Block) (lists : List (List ℕ)) (place number : ℕ) → SpeaksOf blocks lists place number
     → number < length (objects_in blocks Host) + sum_by length lists
-spoken-within listed members blocks lists place number (inl host) =
-    let low : number < length (names_in blocks Host) = listed blocks host_directives place number host.1 in
-    let long = names-long blocks in
-    omega (arith, low, long)
-spoken-within listed members blocks lists place number (inr (at, (service, is, speaks))) =
-    let low = listed-within members blocks lists escalation_directives place service speaks in
+spoken-within spoken blocks lists place number speaks =
+    let low = spoken blocks lists Escalated place number speaks in
     let long = names-long blocks in
     let count = pairs-count (names_in blocks Service) lists in
-    omega (arith, low, is, long, count)
+    omega (arith, low, long, count)
 
-module _ (listed : ListedAreObjects) (members : MembersAreServices) (blocks : List Block) (lists : List (List ℕ)) where
+module _ (law : SpokenAreObjects) (blocks : List Block) (lists : List (List ℕ)) where
   abbrev IsWithin : ℕ → Type 0
   IsWithin number = number < length (objects_in blocks Host) + sum_by length lists
 
@@ -123,11 +118,11 @@ module _ (listed : ListedAreObjects) (members : MembersAreServices) (blocks : Li
   all-within [] (s ∷ ss) all = absurd all
   all-within (p ∷ ps) [] all = absurd all
   all-within (p ∷ ps) (s ∷ ss) all = All-cons (All IsWithin) s ss
-      (All-from_get_or IsWithin s 0 (λ i low. spoken-within listed members blocks lists p (get_or s i 0) ((all.0.exactly (get_or s i 0)).0 (Contains-get_or s i 0 low))))
+      (All-from_get_or IsWithin s 0 (λ i low. spoken-within law blocks lists p (get_or s i 0) ((all.0.exactly (get_or s i 0)).0 (Contains-get_or s i 0 low))))
       (all-within ps ss all.1)
 
-pub escalated-objects : ListedAreObjects → MembersAreServices → EscalatedAreObjects
-escalated-objects listed members blocks lists place spoken are = all-within listed members blocks lists (range_with_len 0 place) spoken are
+pub escalated-objects : SpokenAreObjects → EscalatedAreObjects
+escalated-objects law blocks lists place spoken are = all-within law blocks lists (range_with_len 0 place) spoken are
 
 -- ---- the count is one
 

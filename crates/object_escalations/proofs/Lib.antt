@@ -1,6 +1,3 @@
-mod ServiceLemmas
-mod AddsLemmas
-mod ListedLemmas
 mod EscalatedLemmas
 mod GivenLemmas
 mod LawLemmas

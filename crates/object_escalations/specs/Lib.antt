@@ -1,5 +1,3 @@
-pub mod Services
-pub mod Listed
 pub mod Escalated
 pub mod Given
 pub mod Entries

@@ -3,15 +3,13 @@
 ghost use Rattle.object_escalations.specs.Laws.{CountIsTheSum, EscalatedAreObjects, OneForEach};
 ghost use Rattle.object_escalations.specs.Laws.{OnePlacePasses, WithinPassesNowhere};
 
-use object_listing::laws::listed_are_objects;
-use object_service_groups::laws::members_are_services;
+use object_reached::laws::spoken_are_objects;
 
 /// What escalation blocks speak of are hosts and services.
 pub fn escalated_are_objects()
     ensures { EscalatedAreObjects }
 {
-    listed_are_objects();
-    members_are_services();
+    spoken_are_objects();
 }
 
 /// Blocks give one escalation for each object of which one speaks.

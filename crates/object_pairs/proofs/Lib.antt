@@ -1,5 +1,6 @@
 pub mod PairLemmas
 pub mod WantedLemmas
+pub mod WithLemmas
 pub mod FoundLemmas
 pub mod UnknownLemmas
 pub mod MemberLemmas

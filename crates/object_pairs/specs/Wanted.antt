@@ -39,6 +39,10 @@ abbrev pub AreAllWanted : (hosts : List (List ℕ)) → List Key → Column → 
 AreAllWanted hosts keys values places =
     All (λ place. AreWanted hosts keys (list_at values.blocks values.directive place)) places
 
+-- a host with each of these descriptions is there
+abbrev pub AreWith : List Key → (descriptions : List (List ℕ)) → (host : ℕ) → Type 0
+AreWith keys descriptions host = All (λ description. has keys (host, description) ≡ true) descriptions
+
 -- ---- what is found
 
 -- what came to a set: those of the hosts, with the description, that are wanted

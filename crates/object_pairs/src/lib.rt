@@ -5,4 +5,4 @@
 pub mod members;
 pub mod pairs;
 pub mod unknown;
-mod wanted;
+pub mod wanted;

@@ -4,7 +4,9 @@ ghost use Rattle.std.specs.Prelude.{◌≡◌, ◌∷◌, [], ℕ, All, IfOk, On
 ghost use Rattle.object_groups.specs.declared.groups.GroupKind.TheVariants.{HostGroups};
 ghost use Rattle.object_groups.specs.Objects.{list_at};
 ghost use Rattle.object_pairs.specs.Pairs.{pairs_in};
-ghost use Rattle.object_pairs.specs.Wanted.{AddsFound, AreAllWanted, AreFound, AreWanted, has, IsWanted, Keeps};
+ghost use Rattle.object_pairs.specs.Wanted.{AddsFound, AreAllWanted, AreFound, AreWanted, AreWith, has, IsWanted};
+ghost use Rattle.object_pairs.specs.Wanted.{Keeps};
+ghost use Rattle.object_values.specs.Values.{texts};
 
 use crate::pairs::by_two;
 use indexmap::IndexSet;
@@ -82,6 +84,38 @@ pub(crate) fn wanted_in<'a>(
     Ok(wanted)
 }
 
+/// Adds the host with each of the descriptions.
+fn want_each<'a>(
+    wanted: &mut IndexSet<(usize, &'a [u8])>,
+    host: usize,
+    descriptions: &[&'a [u8]],
+) -> Result<(), AllocError>
+    ensures keeps { OnOk result (Keeps wanted.old.keys wanted.new.keys) }
+    ensures all { OnOk result (AreWith wanted.new.keys (texts descriptions.now) host) }
+{
+    for description in descriptions {
+        want(wanted, Some(host), *description)?;
+    }
+    Ok(())
+}
+
+/// Adds each of the hosts, by its number, with each of the descriptions: the time grows with the hosts times the
+/// descriptions, and the memory with those of these pairs that weren't there. After a refused growth some of them
+/// may be missing.
+pub fn want_all<'a>(
+    wanted: &mut IndexSet<(usize, &'a [u8])>,
+    hosts: &[usize],
+    descriptions: &[&'a [u8]],
+) -> Result<(), AllocError>
+    ensures keeps { OnOk result (Keeps wanted.old.keys wanted.new.keys) }
+    ensures all { OnOk result (All (AreWith wanted.new.keys (texts descriptions.now)) hosts.now) }
+{
+    for host in hosts {
+        want_each(wanted, *host, descriptions)?;
+    }
+    Ok(())
+}
+
 /// Adds the host, with the description, if that is wanted.
 fn add_if_wanted<'a>(
     found: &mut IndexSet<(usize, &'a [u8])>,
@@ -115,8 +149,11 @@ fn add_found<'a>(
     Ok(())
 }
 
-/// The services among what is wanted.
-pub(crate) fn found_among<'a>(
+/// The services among the pairs that are wanted, each the number of a host and a description: those of which a
+/// service block with the description has the host. `services` are the service blocks and `hosts` the host groups of
+/// the same blocks. Where any pair is wanted the time grows with that of `hosts_at` for each service block; the memory
+/// grows with what is wanted, however many services there are. A refused growth leaves the groups as they were.
+pub fn found_among<'a>(
     alloc: Global,
     services: &ServiceBlocks<'a>,
     hosts: &mut Groups<'a>,

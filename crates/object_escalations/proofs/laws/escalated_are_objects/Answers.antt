@@ -2,4 +2,4 @@ use Rattle.object_escalations.proofs.LawLemmas.{escalated-objects}
 use Rattle.object_escalations.proofs.laws.escalated_are_objects.Goals as goal
 
 pub returns : goal.returns
-returns c = escalated-objects c.listed_are_objects.ensures c.members_are_services.ensures
+returns c = escalated-objects c.spoken_are_objects.ensures

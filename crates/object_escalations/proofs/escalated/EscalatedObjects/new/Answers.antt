@@ -1,11 +1,11 @@
 use Rattle.std.proofs.Common.{◌≡◌, ◌+◌, ◌<◌, ◌∙◌, List, ap, arith, get_or, length, map, refl, subst, sym}
 use Rattle.std.proofs.lemmas.Option.{slice_get_read}
 use Rattle.due_model.specs.Limits.{max_escalations}
-use Rattle.object_escalations.specs.Escalated.{AreSpokenOf, SpeaksOf}
-use Rattle.object_escalations.specs.Listed.{ServiceListingOf}
+use Rattle.object_escalations.specs.Escalated.{SpeaksOf}
 use Rattle.object_groups.specs.declared.groups.GroupKind.TheVariants.{HostGroups}
 use Rattle.object_groups.specs.Objects.{names_in, objects_in}
 use Rattle.object_listing.specs.Listing.{AreThose}
+use Rattle.object_reached.specs.Reached.{AreSpokenOf, ReachedOf}
 use Rattle.object_reader.specs.declared.block.Block.{Block}
 use Rattle.object_reader.specs.declared.block.BlockKind.TheVariants.{Service}
 use Rattle.object_services.specs.Limits.{AreHostLists}
@@ -30,7 +30,7 @@ returns-then-total-gt-MAX_ESCALATIONS-clause-fault c =
     let within : i < length blocks = omega (arith, long, c.loop-place-test.true) in
     let is : x ≡ get_or blocks i x = c.block-item.is ∙ ap (λ (list : List Block). get_or list i x) c.blocks-block-items.ensures.value in
     let spoken : AreThose (SpeaksOf blocks lists i) items =
-    (subst (λ (bs : List Block). AreSpokenOf bs c.in_ok-table.table i items) (ap (λ (l : ServiceListingOf). l.blocks) c.in_ok-listing.ensures) c.in_ok-objects.ensures.objects) lists c.requires.lists
+    (subst (λ (r : ReachedOf). AreSpokenOf r.blocks c.in_ok-table.table r.role i items) c.in_ok-reached.ensures c.in_ok-objects.ensures.objects) lists c.requires.lists
     (c.in_ok-table.ensures.services ∙ ap (λ (bs : List Block). pairs_of (names_in bs Service) lists) c.requires.services) in
     let over : max_escalations < c.loop-place.count + length items = omega (arith, c.saturating_add-total.ensures, c.len.ensures, c.if-total-gt-MAX_ESCALATIONS.true, c.in_ok-objects.objects.ok) in
     first-over blocks lists i x (map (λ list. list.items) c.loop-place.found.items) items c.loop-place.count within (slice_get_read blocks (length blocks) i x refl within is)
@@ -43,7 +43,7 @@ loop-place-preserved c =
     let i = c.loop-place.place in
     let items = c.in_ok-objects.objects.items in
     let spoken : AreThose (SpeaksOf blocks lists i) items =
-    (subst (λ (bs : List Block). AreSpokenOf bs c.in_ok-table.table i items) (ap (λ (l : ServiceListingOf). l.blocks) c.in_ok-listing.ensures) c.in_ok-objects.ensures.objects) lists c.requires.lists
+    (subst (λ (r : ReachedOf). AreSpokenOf r.blocks c.in_ok-table.table r.role i items) c.in_ok-reached.ensures c.in_ok-objects.ensures.objects) lists c.requires.lists
     (c.in_ok-table.ensures.services ∙ ap (λ (bs : List Block). pairs_of (names_in bs Service) lists) c.requires.services) in
     let total : c.saturating_add-total.result ≡ c.loop-place.count + length items =
     omega (arith, c.saturating_add-total.ensures, c.len.ensures, c.if-total-gt-MAX_ESCALATIONS.false, c.in_ok-objects.objects.ok) in

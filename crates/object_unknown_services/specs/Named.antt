@@ -1,0 +1,42 @@
+-- Services that escalations and dependencies name by hosts and descriptions (chapters "Notification Escalations" and
+-- "Host and Service Dependencies").
+use Rattle.std.specs.Prelude.{◌≡◌, ℕ, ◌↔◌, true, List, [], Contains, if◌then◌else◌}
+use Rattle.object_groups.specs.Names.{is_all}
+use Rattle.object_groups.specs.Objects.{is_object_at, list_at}
+use Rattle.object_inheritance.specs.Columns.{Column}
+use Rattle.object_listing.specs.Listing.{IsListed, ListingOf}
+use Rattle.object_reached.specs.declared.roles.Role.{Role}
+use Rattle.object_reached.specs.Listed.{of_hosts}
+use Rattle.object_reached.specs.Roles.{directives_of, service_kind}
+use Rattle.object_reader.specs.declared.block.Block.{Block}
+
+-- The descriptions that a list names: its entries; none where it is * alone, which is all services of the hosts.
+abbrev pub descriptions_in : (entries : List (List ℕ)) → List (List ℕ)
+descriptions_in entries = if is_all entries then [] else entries
+
+-- The block at the place is registered, of the type that speaks of services in that role, and names a host with a
+-- description: it lists the host, by itself or by a host group, and the description, by the directives of the role.
+abbrev pub NamesService : List Block → Role → (place host : ℕ) → (description : List ℕ) → Type 0
+NamesService blocks role place host description =
+    (is_object_at blocks (service_kind role) place ≡ true)
+    × IsListed blocks (of_hosts (directives_of role)) place host
+    × Contains (descriptions_in (list_at blocks (directives_of role).descriptions place)) description
+
+-- ---- how they are found
+
+-- what all blocks have for the directives of the role
+pub record IsNaming (blocks : List Block) (role : Role) (hosts : ListingOf) (descriptions : Column) : Type 0 where
+  pub hosts_are : hosts ≡ record { blocks = blocks; directives = of_hosts (directives_of role) }
+  pub descriptions_are :
+      descriptions ≡ record { blocks = blocks; directive = (directives_of role).descriptions }
+
+-- the descriptions that the block at the place names in that role; none where it isn't of the type
+abbrev pub descriptions_at : List Block → Role → (place : ℕ) → List (List ℕ)
+descriptions_at blocks role place = if is_object_at blocks (service_kind role) place
+    then descriptions_in (list_at blocks (directives_of role).descriptions place) else []
+
+-- what the block at the place names in that role is exactly each of these hosts with each of these descriptions
+abbrev pub AreNamed : List Block → Role → (place : ℕ) → (hosts : List ℕ) → (descriptions : List (List ℕ)) → Type 0
+AreNamed blocks role place hosts descriptions = (host : ℕ) (description : List ℕ)
+    → (Contains hosts host × Contains descriptions description)
+    ↔ NamesService blocks role place host description

@@ -1,0 +1,182 @@
+//! The hosts and descriptions by which blocks name services.
+
+ghost use Rattle.std.specs.Prelude.{◌≡◌, ◌<◌, length, IfOk};
+ghost use Rattle.object_groups.specs.declared.groups.GroupKind.TheVariants.{HostGroups};
+ghost use Rattle.object_groups.specs.Objects.{list_at};
+ghost use Rattle.object_listing.specs.Listing.{AreThose, IsListed};
+ghost use Rattle.object_reached.specs.Listed.{of_hosts};
+ghost use Rattle.object_reached.specs.Roles.{dependent_directives, directives_of, plain_directives};
+ghost use Rattle.object_unknown_services.specs.Named.{AreNamed, descriptions_at, descriptions_in};
+ghost use Rattle.object_values.specs.Values.{texts};
+
+use object_groups::groups::{GroupKind, Groups};
+use object_groups::names::is_all;
+use object_groups::objects::{is_object, list_at};
+use object_inheritance::inherited::Values;
+use object_inheritance::templates::Templates;
+use object_listing::listing::Listing;
+use object_reached::roles::Role;
+use object_reader::block::Block;
+use std::alloc::{AllocError, Global};
+use std::marker::Model;
+
+/// Hosts, by their numbers, and descriptions: each of the ones with each of the others.
+#[derive(Drop)]
+pub(crate) struct Named<'a> {
+    pub(crate) hosts: Vec<usize>,
+    pub(crate) descriptions: Vec<&'a [u8]>,
+}
+
+/// The hosts that the blocks list in a role.
+fn hosts_of<'a>(
+    alloc: Global,
+    templates: &Templates<'a>,
+    role: Role,
+) -> Result<Listing<'a>, AllocError>
+    ensures { IfOk result (λ made. made
+        ≡ record { blocks = templates.now; directives = of_hosts (directives_of role) }) }
+{
+    let kind = GroupKind::HostGroups;
+    match role {
+        Role::Escalated | Role::Master => {
+            Listing::new(alloc, templates, kind, "host_name", "hostgroup_name")
+        }
+        Role::Dependent => Listing::new(
+            alloc,
+            templates,
+            kind,
+            "dependent_host_name",
+            "dependent_hostgroup_name",
+        ),
+    }
+}
+
+/// The directive by which blocks list descriptions in a role.
+fn description_directive(role: Role) -> &'static str
+    ensures { result.now ≡ (directives_of role).descriptions }
+{
+    match role {
+        Role::Escalated | Role::Master => "service_description",
+        Role::Dependent => "dependent_service_description",
+    }
+}
+
+/// The descriptions that the list of the block at the place names.
+fn descriptions_of<'a>(
+    alloc: Global,
+    values: &Values<'a>,
+    place: usize,
+) -> Result<Vec<&'a [u8]>, AllocError>
+    ensures { IfOk result (λ found. texts found.items
+        ≡ descriptions_in (list_at values.now.blocks values.now.directive place)) }
+{
+    let entries = list_at(alloc, values, place)?;
+    if is_all(entries.as_slice()) {
+        return Ok(Vec::new(alloc));
+    }
+    Ok(entries)
+}
+
+/// What blocks name as services in one role: by hosts and host groups, and by descriptions. It takes some 96 bytes a
+/// block. Contracts see the blocks and the role.
+#[derive(Drop)]
+pub(crate) struct Naming<'a> {
+    blocks: &'a [Block],
+    role: Role,
+    hosts: Listing<'a>,
+    descriptions: Values<'a>,
+}
+
+impl<'a> Model for Naming<'a> {
+    ghost use Rattle.object_reached.specs.Reached.{ReachedOf};
+    ghost use Rattle.object_unknown_services.specs.Named.{IsNaming};
+
+    ghost Value = { ReachedOf };
+
+    ghost view = { λ s. record { blocks = s.blocks.now; role = s.role } };
+
+    ghost invariant = { λ s. IsNaming s.blocks.now s.role s.hosts s.descriptions };
+}
+
+impl<'a> Naming<'a> {
+    /// What the blocks name in the role. A refused growth leaves nothing.
+    pub(crate) fn new(
+        alloc: Global,
+        templates: &Templates<'a>,
+        role: Role,
+    ) -> Result<Naming<'a>, AllocError>
+        ensures { IfOk result (λ made. made ≡ record { blocks = templates.now; role = role }) }
+    {
+        Ok(Naming {
+            blocks: templates.blocks(),
+            role,
+            hosts: hosts_of(alloc, templates, role)?,
+            descriptions: Values::new(alloc, templates, description_directive(role).as_bytes())?,
+        })
+    }
+
+    /// The blocks.
+    fn blocks(&self) -> &'a [Block]
+        ensures { result.now ≡ self.now.blocks }
+    {
+        self.blocks
+    }
+
+    /// The descriptions that the block at the place names; none where it doesn't speak of services in the role.
+    fn descriptions_at(&self, alloc: Global, place: usize) -> Result<Vec<&'a [u8]>, AllocError>
+        requires { place < length self.now.blocks }
+        ensures { IfOk result (λ found. texts found.items
+            ≡ descriptions_at self.now.blocks self.now.role place) }
+    {
+        let blocks = self.blocks();
+        if is_object(self.role.service_kind(), &blocks[place]) {
+            let found = descriptions_of(alloc, &self.descriptions, place)?;
+            return Ok(found);
+        }
+        Ok(Vec::new(alloc))
+    }
+
+    /// The hosts that the block at the place lists.
+    fn hosts_at(
+        &self,
+        alloc: Global,
+        hosts: &mut Groups<'a>,
+        place: usize,
+    ) -> Result<Vec<usize>, AllocError>
+        requires { hosts.old ≡ record { blocks = self.now.blocks; kind = HostGroups } }
+        ensures same { hosts.new ≡ hosts.old }
+        ensures hosts { IfOk result (λ found. AreThose
+            (IsListed self.now.blocks (of_hosts (directives_of self.now.role)) place) found.items) }
+    {
+        let found = self.hosts.objects_at(alloc, hosts, place)?;
+        Ok(found)
+    }
+
+    /// The hosts and descriptions by which the block at the place names services in the role. `hosts` are the host
+    /// groups of the same blocks. Without descriptions no host is looked for. A refused growth changes nothing.
+    pub(crate) fn named_at(
+        &self,
+        alloc: Global,
+        hosts: &mut Groups<'a>,
+        place: usize,
+    ) -> Result<Named<'a>, AllocError>
+        requires within { place < length self.now.blocks }
+        requires hosts { hosts.old ≡ record { blocks = self.now.blocks; kind = HostGroups } }
+        ensures same { hosts.new ≡ hosts.old }
+        ensures named { IfOk result (λ named. AreNamed self.now.blocks self.now.role place
+            named.hosts.items (texts named.descriptions.items)) }
+    {
+        let descriptions = self.descriptions_at(alloc, place)?;
+        if descriptions.is_empty() {
+            return Ok(Named {
+                hosts: Vec::new(alloc),
+                descriptions,
+            });
+        }
+        let reached = self.hosts_at(alloc, hosts, place)?;
+        Ok(Named {
+            hosts: reached,
+            descriptions,
+        })
+    }
+}
