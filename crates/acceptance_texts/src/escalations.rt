@@ -165,6 +165,106 @@ fn escalations_are_those_that_the_rules_give(rt: HostRuntime) -> Result<(), Fail
     Ok(())
 }
 
+/// Blocks after that site, from line 55 on, that name hosts with descriptions: what they give, or the fault where no
+/// service block gives one of them.
+const NAMED: [(&str, &str); 20] = [
+    (
+        "define serviceescalation{\nhost_name a\nservice_description X\n}\n",
+        "line 55: UnknownName",
+    ),
+    // Each host that the block names or reaches has to have each description.
+    (
+        "define serviceescalation{\nhost_name a,b\nservice_description T\n}\n",
+        "line 55: UnknownName",
+    ),
+    (
+        "define serviceescalation{\nhostgroup_name x\nservice_description S,T\n}\n",
+        "line 55: UnknownName",
+    ),
+    (
+        "define serviceescalation{\nhost_name *\nservice_description T\n}\n",
+        "line 55: UnknownName",
+    ),
+    // `*` alone is what the host has; beside another it is a name.
+    (
+        "define serviceescalation{\nhost_name b\nservice_description *\n}\n",
+        "3 0-0 7 - [wucrfs]: 2\n",
+    ),
+    (
+        "define serviceescalation{\nhost_name b\nservice_description *,S\n}\n",
+        "line 55: UnknownName",
+    ),
+    // Hosts and descriptions beside a service group.
+    (
+        "define serviceescalation{\nservicegroup_name v\nhost_name b\nservice_description T\n}\n",
+        "line 55: UnknownName",
+    ),
+    // The masters and the dependents of a dependency, kept or not.
+    (
+        "define servicedependency{\nhost_name a\nservice_description T\ndependent_hostgroup_name x\ndependent_service_description S\n}\n",
+        "",
+    ),
+    (
+        "define servicedependency{\nhost_name b\nservice_description T\ndependent_host_name b\ndependent_service_description S\n}\n",
+        "line 55: UnknownName",
+    ),
+    (
+        "define servicedependency{\nhost_name a\nservice_description T\ndependent_host_name b\ndependent_service_description T\nnotification_failure_criteria c\n}\n",
+        "line 55: UnknownName",
+    ),
+    (
+        "define servicedependency{\nservicegroup_name v\ndependent_hostgroup_name y\ndependent_service_description T\n}\n",
+        "line 55: UnknownName",
+    ),
+    (
+        "define servicedependency{\nservicegroup_name v\nhost_name a\nservice_description X\ndependent_servicegroup_name v\n}\n",
+        "line 55: UnknownName",
+    ),
+    // A service of a block further on is one, one of a template isn't, and a template names nothing.
+    (
+        "define serviceescalation{\nhost_name b\nservice_description X\n}\ndefine service{\nservice_description X\nhost_name b\n}\n",
+        "5 0-0 30 - [wucrfs]: 1\n",
+    ),
+    (
+        "define serviceescalation{\nhost_name b\nservice_description X\n}\ndefine service{\nservice_description X\nhost_name b\nregister 0\n}\n",
+        "line 55: UnknownName",
+    ),
+    (
+        "define serviceescalation{\nname t\nhost_name b\nservice_description X\nregister 0\n}\n",
+        "",
+    ),
+    (
+        "define serviceescalation{\nname t\nservice_description X\nregister 0\n}\ndefine serviceescalation{\nuse t\nhost_name b\n}\n",
+        "line 60: UnknownName",
+    ),
+    // The first block counts, whichever its fault; values come before names, and loops after them.
+    (
+        "define host{\nhost_name a\n}\ndefine serviceescalation{\nhost_name a\nservice_description X\n}\n",
+        "line 55: Doubled",
+    ),
+    (
+        "define serviceescalation{\nhost_name a\nservice_description X\n}\ndefine host{\nhost_name a\n}\n",
+        "line 55: UnknownName",
+    ),
+    (
+        "define serviceescalation{\nhost_name a\nservice_description X\n}\ndefine host{\n}\n",
+        "line 59: MissingDirective",
+    ),
+    (
+        "define timeperiod{\ntimeperiod_name p\nexclude p\n}\ndefine serviceescalation{\nhost_name a\nservice_description X\n}\n",
+        "line 59: UnknownName",
+    ),
+];
+
+#[test]
+fn services_that_no_block_gives_are_unknown(rt: HostRuntime) -> Result<(), Fail> {
+    for row in &NAMED {
+        let (text, wanted) = *row;
+        gives_after(&rt, rt.alloc(), SITE, text, wanted)?;
+    }
+    Ok(())
+}
+
 /// A host and a service group, on seven lines.
 const SMALL: &str =
     "define host{\nhost_name h\n}\ndefine servicegroup{\nservicegroup_name v\n\n}\n";

@@ -9,6 +9,7 @@ use Rattle.object_names.specs.First.{IsFirst, lower}
 use Rattle.object_names.specs.Named.{block_kind}
 use Rattle.object_names.specs.Unknown.{names_unknown}
 use Rattle.object_names.proofs.FirstLemmas.{first-either}
+use Rattle.object_reached.specs.Roles.{service_kind}
 use Rattle.object_reader.specs.declared.block.Block.{Block}
 use Rattle.object_reader.specs.declared.block.BlockKind.TheVariants.{Service, ServiceGroup}
 use Rattle.object_resolve.specs.Fault.{IsAmong, IsOfPlace}
@@ -55,7 +56,8 @@ doubled-within blocks place (inr gives) =
 
 unknown-within : (blocks : List Block) (place : ℕ) → IsUnknownAt blocks place → place < length blocks
 unknown-within blocks place (inl named) = at-within (names_unknown blocks place) blocks place named
-unknown-within blocks place (inr member) = at-within (is_object ServiceGroup) blocks place member.0
+unknown-within blocks place (inr (inl member)) = at-within (is_object ServiceGroup) blocks place member.0
+unknown-within blocks place (inr (inr service)) = at-within (is_object (service_kind service.0)) blocks place service.3.0
 
 pub misnamed-within : (blocks : List Block) (place : ℕ) → IsMisnamed blocks place → place < length blocks
 misnamed-within blocks place (inl doubled) = doubled-within blocks place doubled

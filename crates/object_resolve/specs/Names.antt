@@ -8,6 +8,7 @@ use Rattle.object_resolve.specs.First.{IsFirstAt}
 use Rattle.object_resolve.specs.declared.fault.BlockFault.{BlockFault}
 use Rattle.object_resolve.specs.declared.fault.BlockFault.TheVariants.{Doubled, UnknownName}
 use Rattle.object_services.specs.Doubled as services
+use Rattle.object_unknown_services.specs.Unknown.{HasUnknownService}
 
 -- the service block at the place gives a service that one before it gives
 abbrev pub GivesDoubledService : List Block → ℕ → Type 0
@@ -19,10 +20,15 @@ GivesDoubledService blocks place = (number : ℕ)
 abbrev pub IsDoubledAt : List Block → ℕ → Type 0
 IsDoubledAt blocks place = names.IsDoubled blocks place ⊎ GivesDoubledService blocks place
 
--- The block at the place names something that isn't there: by a list, as a period or a command, or by the members
--- of a service group.
+-- The block at the place names a host and a service that isn't there: by the members of a service group, or by the
+-- hosts and descriptions of an escalation or a dependency.
+abbrev pub HasUnknownPair : List Block → ℕ → Type 0
+HasUnknownPair blocks place = HasUnknownMember blocks place ⊎ HasUnknownService blocks place
+
+-- The block at the place names something that isn't there: by a list, as a period or a command, or as a host with a
+-- service.
 abbrev pub IsUnknownAt : List Block → ℕ → Type 0
-IsUnknownAt blocks place = HasUnknown blocks place ⊎ HasUnknownMember blocks place
+IsUnknownAt blocks place = HasUnknown blocks place ⊎ HasUnknownPair blocks place
 
 abbrev pub IsMisnamed : List Block → ℕ → Type 0
 IsMisnamed blocks place = IsDoubledAt blocks place ⊎ IsUnknownAt blocks place

@@ -5,7 +5,7 @@ ghost use Rattle.object_names.specs.First.{IsFirst};
 ghost use Rattle.object_resolve.specs.Fault.{IsAmong};
 ghost use Rattle.object_resolve.specs.First.{IsNowhere};
 ghost use Rattle.object_resolve.specs.Names.{GivesDoubledService, IsDoubledAt, IsFirstMisnamed, IsMisnamed};
-ghost use Rattle.object_resolve.specs.Names.{IsUnknownAt};
+ghost use Rattle.object_resolve.specs.Names.{HasUnknownPair, IsUnknownAt};
 ghost use Rattle.object_resolve.specs.Tables.{AreTables};
 
 use crate::fault::{BlockFault, LoadFault, of_place};
@@ -16,6 +16,7 @@ use object_names::first::lower;
 use object_names::unknown::first_unknown as first_unknown_name;
 use object_pairs::unknown::first_unknown_member;
 use object_services::doubled::first_doubled as first_doubled_number;
+use object_unknown_services::unknown::first_unknown_service;
 use std::alloc::{AllocError, Global};
 
 /// The place of the first service block that gives a service which one before it gives.
@@ -41,6 +42,21 @@ fn first_doubled(alloc: Global, tables: &mut Tables) -> Result<Option<usize>, Al
     Ok(lower(first_doubled_object(&tables.objects), service))
 }
 
+/// The place of the first block that names a host and a service that isn't there.
+fn first_unknown_pair<'a>(
+    alloc: Global,
+    templates: &Templates<'a>,
+    tables: &mut Tables<'a>,
+) -> Result<Option<usize>, AllocError>
+    requires { AreTables templates.now tables.old }
+    ensures same { tables.new ≡ tables.old }
+    ensures first { IfOk result (IsFirst (HasUnknownPair templates.now)) }
+{
+    let member = first_unknown_member(alloc, templates, &tables.services, &mut tables.hosts)?;
+    let named = first_unknown_service(alloc, templates, &tables.services, &mut tables.hosts)?;
+    Ok(lower(member, named))
+}
+
 /// The place of the first block that names something that isn't there.
 fn first_unknown<'a>(
     alloc: Global,
@@ -52,8 +68,8 @@ fn first_unknown<'a>(
     ensures first { IfOk result (IsFirst (IsUnknownAt templates.now)) }
 {
     let name = first_unknown_name(alloc, templates, &tables.objects)?;
-    let member = first_unknown_member(alloc, templates, &tables.services, &mut tables.hosts)?;
-    Ok(lower(name, member))
+    let pair = first_unknown_pair(alloc, templates, tables)?;
+    Ok(lower(name, pair))
 }
 
 /// Finds the first block with a fault of names. Of one block's two, that it names something unknown counts.
