@@ -231,10 +231,11 @@ came_more c start given now events refused answer new events' refused' f next le
 
 -- ---- what a line makes of what was read
 
-pub offered : (c : Config) (start : Feed) (old new : Intake) (e : Event) → HasRead c start old → GivesEvent c old.feed e new.feed → new.events ≡ old.events → new.refused ≡ old.refused → Offers c start e new
-offered c start old new e h gives events refused = record {
+pub offered : (c : Config) (start : Feed) (said : List Answer) (old new : Intake) (e : Event) → HasRead c start said old → GivesEvent c old.feed e new.feed → new.events ≡ old.events → new.refused ≡ old.refused
+    → Offers c start said e new
+offered c start said old new e h gives events refused = record {
   before = old.feed;
-  read = subst (λ (t : List Event × List RefusedLine). HasRead c start (record { feed = old.feed; events = t.0; refused = t.1 }))
+  read = subst (λ (t : List Event × List RefusedLine). HasRead c start said (record { feed = old.feed; events = t.0; refused = t.1 }))
       (ap (λ (xs : List Event). (xs, old.refused)) (sym events) ∙ ap (λ (xs : List RefusedLine). (new.events, xs)) (sym refused)) h;
   gives = gives;
 }
@@ -245,11 +246,10 @@ is_line fault new e fits = let k : IsTrue (is_line_fault fault.fault) = subst (�
 not_memory : (fault : FeedFault) → is_line_fault fault ≡ true → fault ≢ NoMemory
 not_memory fault is same = let bad : is_line_fault NoMemory ≡ true = ap is_line_fault (sym same) ∙ is in cc
 
-pub refused_more : (c : Config) (start : Feed) (old new : Intake) (fault : RefusedLine) → HasRead c start old → GivesFault c.objects old.feed fault new.feed → new.feed.stop ≡ None
-    → new.events ≡ old.events → new.refused ≡ old.refused ++ fault ∷ [] → HasRead c start new
-refused_more c start old new fault h gives stop events refused = record {
-  given = h.given ++ refusal fault ∷ [];
-  first = came_more c start h.given old.feed old.events old.refused (refusal fault) new.feed new.events new.refused h.first
+pub refused_more : (c : Config) (start : Feed) (said : List Answer) (old new : Intake) (fault : RefusedLine) → HasRead c start said old → GivesFault c.objects old.feed fault new.feed → new.feed.stop ≡ None
+    → new.events ≡ old.events → new.refused ≡ old.refused ++ fault ∷ [] → HasRead c start (said ++ refusal fault ∷ []) new
+refused_more c start said old new fault h gives stop events refused = record {
+  first = came_more c start said old.feed old.events old.refused (refusal fault) new.feed new.events new.refused h.first
       (fault_next c.objects old.feed new.feed fault stop gives).0 gives.line gives.number (fault_passes c.objects old.feed fault new.feed stop gives) refl
       (fault_next c.objects old.feed new.feed fault stop gives).1 (events ∙ sym (append-nil old.events)) refused (ap length events);
   goes_on = stop;
@@ -260,14 +260,14 @@ refused_more c start old new fault h gives stop events refused = record {
 }
 
 -- the answer of an event that was read
-answer_of : Event → Intake → Answer
+pub answer_of : Event → Intake → Answer
 answer_of e now = record { line = now.feed.line; given = Ok e }
 
-pub event_accepted : (c : Config) (start : Feed) (e : Event) (now : Intake) → Offers c start e now → length now.events ≢ max_events → HasRead c start (accepted e now)
+pub event_accepted : (c : Config) (start : Feed) (said : List Answer) (e : Event) (now : Intake) → Offers c start said e now → length now.events ≢ max_events
+    → HasRead c start (said ++ answer_of e now ∷ []) (accepted e now)
 unfolding answer_of
-event_accepted c start e now h few = record {
-  given = h.read.given ++ answer_of e now ∷ [];
-  first = came_more c start h.read.given h.before now.events now.refused (answer_of e now) now.feed (now.events ++ e ∷ []) now.refused h.read.first
+event_accepted c start said e now h few = record {
+  first = came_more c start said h.before now.events now.refused (answer_of e now) now.feed (now.events ++ e ∷ []) now.refused h.read.first
       (event_answers c h.before now.feed e now.feed.line refl h.gives) h.gives.line refl (event_passes c h.before e now.feed h.gives) (ne_eqb (length now.events) max_events few)
       refl refl (sym (append-nil now.refused)) (length-append now.events (e ∷ []));
   goes_on = h.gives.goes_on;
@@ -289,28 +289,30 @@ taken_last can_fail c start given now events refused last taken cut events' refu
       cut_is = sym cuts ∙ ap is_cut (sym all);
     }
 
-pub over_whole : (can_fail : Bool) (c : Config) (start : Feed) (old new : Intake) → HasRead c start old → GivesNone c.objects old.feed new.feed → new.events ≡ old.events → new.refused ≡ old.refused
-    → HasEnded can_fail c start false new
-over_whole can_fail c start old new h gives events refused = record {
-  given = h.given ++ [];
-  of_feed = given_then can_fail c start h.given old.feed old.events old.refused [] h.first (none_given can_fail c.objects old.feed new.feed gives.answers);
-  taken = taken_last can_fail c start h.given old.feed old.events old.refused [] [] false new.events new.refused h.first refl (ap is_cut (append-nil h.given) ∙ h.first.not_cut)
-      (events ∙ h.first.events_are ∙ ap events_in (sym (append-nil h.given))) (refused ∙ h.first.refused_are ∙ ap refusals_in (sym (append-nil h.given)));
+pub over_whole : (can_fail : Bool) (c : Config) (start : Feed) (said : List Answer) (old new : Intake) → HasRead c start said old → GivesNone c.objects old.feed new.feed → new.events ≡ old.events → new.refused ≡ old.refused
+    → HasEnded can_fail c start said false new
+over_whole can_fail c start said old new h gives events refused = record {
+  given = said ++ [];
+  said_is = sym (h.first.taken [] ∙ append-nil said);
+  of_feed = given_then can_fail c start said old.feed old.events old.refused [] h.first (none_given can_fail c.objects old.feed new.feed gives.answers);
+  taken = taken_last can_fail c start said old.feed old.events old.refused [] [] false new.events new.refused h.first refl (ap is_cut (append-nil said) ∙ h.first.not_cut)
+      (events ∙ h.first.events_are ∙ ap events_in (sym (append-nil said))) (refused ∙ h.first.refused_are ∙ ap refusals_in (sym (append-nil said)));
   proper = subst (λ (xs : List Event). All (IsProper c) xs) (sym events) h.proper;
   named = subst (λ (xs : List RefusedLine). All (λ r. r.fault ≢ NoMemory) xs) (sym refused) h.named;
 }
 
 -- with one refusal more
-cut_by : (can_fail : Bool) (c : Config) (start : Feed) (old : Intake) (new : Intake) (last : List Answer) (fault : RefusedLine) → HasRead c start old → AreGivenBy can_fail c.objects old.feed last
+cut_by : (can_fail : Bool) (c : Config) (start : Feed) (said : List Answer) (old : Intake) (new : Intake) (last : List Answer) (fault : RefusedLine) → HasRead c start said old → AreGivenBy can_fail c.objects old.feed last
     → taken_after (length old.events) last ≡ refusal fault ∷ [] → ends_feed (Err fault.fault) ≡ true → fault.fault ≢ NoMemory → new.events ≡ old.events → new.refused ≡ old.refused ++ fault ∷ []
-    → HasEnded can_fail c start true new
-cut_by can_fail c start old new last fault h of taken short other events refused = record {
-  given = h.given ++ last;
-  of_feed = given_then can_fail c start h.given old.feed old.events old.refused last h.first of;
-  taken = taken_last can_fail c start h.given old.feed old.events old.refused last (refusal fault ∷ []) true new.events new.refused h.first taken
-      (any_push (λ (a : Answer). ends_feed a.given) h.given (refusal fault) true h.first.not_cut short)
-      (events ∙ sym (append-nil old.events) ∙ ap (λ (xs : List Event). xs ++ []) h.first.events_are ∙ sym (events_push h.given (refusal fault)))
-      (refused ∙ ap (λ (xs : List RefusedLine). xs ++ fault ∷ []) h.first.refused_are ∙ sym (refusals_push h.given (refusal fault)));
+    → HasEnded can_fail c start (said ++ refusal fault ∷ []) true new
+cut_by can_fail c start said old new last fault h of taken short other events refused = record {
+  given = said ++ last;
+  said_is = sym (h.first.taken last ∙ ap (λ more. said ++ more) taken);
+  of_feed = given_then can_fail c start said old.feed old.events old.refused last h.first of;
+  taken = taken_last can_fail c start said old.feed old.events old.refused last (refusal fault ∷ []) true new.events new.refused h.first taken
+      (any_push (λ (a : Answer). ends_feed a.given) said (refusal fault) true h.first.not_cut short)
+      (events ∙ sym (append-nil old.events) ∙ ap (λ (xs : List Event). xs ++ []) h.first.events_are ∙ sym (events_push said (refusal fault)))
+      (refused ∙ ap (λ (xs : List RefusedLine). xs ++ fault ∷ []) h.first.refused_are ∙ sym (refusals_push said (refusal fault)));
   proper = subst (λ (xs : List Event). All (IsProper c) xs) (sym events) h.proper;
   named = subst (λ (xs : List RefusedLine). All (λ r. r.fault ≢ NoMemory) xs) (sym refused) (All-push (λ (r : RefusedLine). r.fault ≢ NoMemory) old.refused fault h.named other);
 }
@@ -326,18 +328,19 @@ stop_not_memory stop fault e same = by stop (subst (λ (f : FeedFault). stop_fau
     by TooManyBytes k = cc
     by TooManyLines k = cc
 
-pub over_cut : (can_fail : Bool) (c : Config) (start : Feed) (old new : Intake) (fault : RefusedLine) (stop : Stop) → HasRead c start old → new.feed.stop ≡ Some stop → GivesFault c.objects old.feed fault new.feed
+pub over_cut : (can_fail : Bool) (c : Config) (start : Feed) (said : List Answer) (old new : Intake) (fault : RefusedLine) (stop : Stop) → HasRead c start said old → new.feed.stop ≡ Some stop → GivesFault c.objects old.feed fault new.feed
     → (IsSome new.feed.stop → AreGivenBy can_fail c.objects old.feed (refusal fault ∷ [])) → new.events ≡ old.events → new.refused ≡ old.refused ++ fault ∷ []
-    → HasEnded can_fail c start true new
-over_cut can_fail c start old new fault stop h is gives last events refused =
+    → HasEnded can_fail c start (said ++ refusal fault ∷ []) true new
+over_cut can_fail c start said old new fault stop h is gives last events refused =
     let both = fault_last can_fail c.objects old.feed new.feed fault stop is gives last in
-    cut_by can_fail c start old new (refusal fault ∷ []) fault h both.0 refl both.1 (stop_not_memory stop fault.fault (subst (λ s. FaultFits fault.fault s) is gives.fits)) events refused
+    cut_by can_fail c start said old new (refusal fault ∷ []) fault h both.0 refl both.1 (stop_not_memory stop fault.fault (subst (λ s. FaultFits fault.fault s) is gives.fits)) events refused
 
-pub event_refused : (can_fail : Bool) (c : Config) (start : Feed) (e : Event) (now : Intake) → Offers c start e now → length now.events ≡ max_events → HasEnded can_fail c start true (ended now)
+pub event_refused : (can_fail : Bool) (c : Config) (start : Feed) (said : List Answer) (e : Event) (now : Intake) → Offers c start said e now → length now.events ≡ max_events
+    → HasEnded can_fail c start (said ++ refusal (record { line = now.feed.line; fault = Ended }) ∷ []) true (ended now)
 unfolding answer_of
-event_refused can_fail c start e now h full =
+event_refused can_fail c start said e now h full =
     let next = next_given can_fail c.objects h.before now.feed (answer_of e now) (event_answers c h.before now.feed e now.feed.line refl h.gives) in
-    cut_by can_fail c start (record now { feed = h.before }) (ended now) (answer_of e now ∷ next.0) (record { line = now.feed.line; fault = Ended }) h.read next.1
+    cut_by can_fail c start said (record now { feed = h.before }) (ended now) (answer_of e now ∷ next.0) (record { line = now.feed.line; fault = Ended }) h.read next.1
     (ap (λ b. cond b (record { line = now.feed.line; given = Err Ended } ∷ []) (answer_of e now ∷ taken_after (length now.events + 1) next.0)) (eq-eqb (length now.events) max_events full))
     refl (λ same. cc) refl refl
 
@@ -357,8 +360,8 @@ front_by c start given now events (Some before) (Some after) known e taken =
           ∙ ap (λ (xs : List Event). xs ++ events_in (taken_after (length events) others)) (sym e),
     )
 
-pub read_front : (c : Config) (start : Feed) (now : Intake) → HasRead c start now → IsFrontOfFeed c start now.events
-read_front c start now h = front_by c start h.given now.feed now.events start.bytes now.feed.bytes h.first.answers h.first.events_are h.first.taken
+pub read_front : (c : Config) (start : Feed) (said : List Answer) (now : Intake) → HasRead c start said now → IsFrontOfFeed c start now.events
+read_front c start said now h = front_by c start said now.feed now.events start.bytes now.feed.bytes h.first.answers h.first.events_are h.first.taken
 
-pub offered_front : (c : Config) (start : Feed) (e : Event) (now : Intake) → Offers c start e now → IsFrontOfFeed c start now.events
-offered_front c start e now h = read_front c start (record now { feed = h.before }) h.read
+pub offered_front : (c : Config) (start : Feed) (said : List Answer) (e : Event) (now : Intake) → Offers c start said e now → IsFrontOfFeed c start now.events
+offered_front c start said e now h = read_front c start said (record now { feed = h.before }) h.read

@@ -2,7 +2,7 @@
 use Rattle.std.proofs.Common.{◌≡◌, ◌≢◌, ◌==◌, ℕ, ◌<◌, All, Bool, true, false, cond, is_some, List, [], ◌∷◌, ◌++◌, length, reverse, slice_get, Option, None, Some, IfSome, Result, Ok, Err, IfOk, OnErr, is_err, refl, sym, ap, subst, ◌∙◌, inl, inr, arith, append_assoc}
 use Rattle.std.specs.Result.{result_unwrap_or}
 use Rattle.std.proofs.lemmas.List.{append-nil}
-use Rattle.std.proofs.lemmas.List.Elements.{All-nil, All-cons, All-head, All-tail, filter-append}
+use Rattle.std.proofs.lemmas.List.Elements.{All-nil, All-cons, All-head, All-same, All-tail, filter-append}
 use Rattle.std.proofs.lemmas.Option.{slice_get_within}
 use Rattle.due_model.specs.declared.config.Config.{Config}
 use Rattle.due_model.specs.declared.config.LaneId.{LaneId}
@@ -18,15 +18,14 @@ use Rattle.steps.specs.Lanes.{about}
 use Rattle.text_lines.specs.Lines.{pieces}
 use Rattle.engine.specs.declared.run_end.RunEnd.{RunEnd}
 use Rattle.engine.specs.Due.{HaveCauses, IsLog, IsNamed, LanesAreDue, LanesBeginDue, made_due, of_object, suppressed}
-use Rattle.engine.specs.Feed.{AreTaken, HasEnded, Intake, IsFrontOfFeed, IsWhatWasRead, count_after, event_in, events_in, events_of, is_unnumbered, taken_after}
+use Rattle.engine.specs.Feed.{AreTaken, HasEnded, Intake, IsFrontOfFeed, IsWhatWasRead, count_after, event_in, events_in, events_of, is_unnumbered, refusals_in, taken_after}
 use Rattle.engine.specs.Lanes.{IsCause, LaneParts, LaneValue, MayBeShut, joined}
 use Rattle.engine.specs.Lists.{IsFrontOf}
-use Rattle.engine.specs.Run.{IsRunEnd}
-use Rattle.engine.specs.Served.{DeskValue, GoesOn, Holds, IsOver, IsStart, IsStopped, Stands, held_at, lane_at}
+use Rattle.engine.specs.Run.{After, EndsAfter, IsRunEnd, IsTakenOf, last_turn}
+use Rattle.engine.specs.Served.{DeskValue, Holds, IsFirst, IsOver, IsStopped, held_at, lane_at}
 use Rattle.engine.proofs.DeskLaws.{stands_holds}
 use Rattle.engine.proofs.DueLaws.{made_due_named, made_due_of, suppressed_is_sup}
 use Rattle.engine.proofs.IntakeLaws.{offered_front, read_front}
-use Rattle.engine.proofs.LineLaws.{goes_told, start_goes_on}
 
 -- ---- the events are a front of the feed's, also where the reading broke off
 
@@ -67,8 +66,8 @@ given_front can_fail c start given h = by_bytes start.bytes h
     by_bytes None h = tt
     by_bytes (Some xs) h = given_by can_fail given (answers_from c.objects start xs) start.line (pieces xs) h
 
-ended_front : (can_fail : Bool) (c : Config) (start : Feed) (cut : Bool) (now : Intake) → HasEnded can_fail c start cut now → IsFrontOfFeed c start now.events
-ended_front can_fail c start cut now h = subst (λ (xs : List Event). IsFrontOfFeed c start xs) (sym h.taken.events_are) (given_front can_fail c start h.given h.of_feed)
+ended_front : (can_fail : Bool) (c : Config) (start : Feed) (said : List Answer) (cut : Bool) (now : Intake) → HasEnded can_fail c start said cut now → IsFrontOfFeed c start now.events
+ended_front can_fail c start said cut now h = subst (λ (xs : List Event). IsFrontOfFeed c start xs) (sym h.taken.events_are) (given_front can_fail c start h.given h.of_feed)
 
 -- ---- what a run leaves
 
@@ -87,20 +86,23 @@ pub left_of : (lanes given : List LaneValue) (ends : List LaneParts) → given �
     → AreLeft lanes ends
 left_of lanes given ends same count number held causes = subst (λ (xs : List LaneValue). AreLeft xs ends) same (record { count = count; number = number; held = held; causes = causes })
 
-module _ (can_fail : Bool) (c : Config) (zone : Zone) (posted : ℕ → Bool) (start : Feed) (intake : Intake) (desk : DeskValue) (end : RunEnd) (events : end.events.items ≡ intake.events)
+module _ (can_fail : Bool) (c : Config) (zone : Zone) (posted : ℕ → Bool) (start : Feed) (said : List Answer) (intake : Intake) (desk : DeskValue) (end : RunEnd) (events : end.events.items ≡ intake.events)
     (refused : end.refused.items ≡ intake.refused) (log : end.log.items ≡ desk.log) (left : AreLeft desk.lanes end.lanes.items) where
   within : (l : ℕ) (lane : LaneParts) → slice_get end.lanes.items l ≡ Some lane → l < length desk.lanes
   within l lane found = omega (arith, slice_get_within end.lanes.items l lane found, left.count)
 
   from_holds : (memory : Bool) → end.memory ≡ memory → Holds c zone posted memory (reverse intake.events) desk
-      → (memory ≡ false → (given : List Answer) × AreGivenBy can_fail c.objects start given × AreTaken given intake.events intake.refused end.cut)
-      → IsFrontOfFeed c start intake.events → All (IsProper c) intake.events → All (λ r. r.fault ≢ fault.NoMemory) intake.refused → IsRunEnd can_fail c zone posted start end
-  from_holds memory is h read front proper named = record {
+      → (memory ≡ false → (given : List Answer) × AreGivenBy can_fail c.objects start given × AreTaken given intake.events intake.refused end.cut × (said ≡ taken_after 0 given))
+      → intake.events ≡ events_in said → intake.refused ≡ refusals_in said → IsFrontOfFeed c start intake.events → All (IsProper c) intake.events → All (λ r. r.fault ≢ fault.NoMemory) intake.refused → IsRunEnd can_fail c zone posted start said end
+  from_holds memory is h read events_are refused_are front proper named = record {
     read = λ none. let r = read (sym is ∙ none) in (
       r.0,
       r.1,
       subst (λ (xs : List Event). AreTaken r.0 xs end.refused.items end.cut) (sym events) (subst (λ (rs : List RefusedLine). AreTaken r.0 intake.events rs end.cut) (sym refused) r.2),
+      r.3,
     );
+    events = events ∙ events_are;
+    refused = refused ∙ refused_are;
     front = subst (λ (xs : List Event). IsFrontOfFeed c start xs) (sym events) front;
     proper = subst (λ (xs : List Event). All (IsProper c) xs) (sym events) proper;
     named = subst (λ (rs : List RefusedLine). All (λ (r : RefusedLine). r.fault ≢ fault.NoMemory) rs) (sym refused) named;
@@ -116,22 +118,23 @@ module _ (can_fail : Bool) (c : Config) (zone : Zone) (posted : ℕ → Bool) (s
         subst (λ (b : Bool). IsCause (posted l) b lane) (sym is) (left.causes l lane (posted l) memory found (h.are.causes l (within l lane found)));
   }
 
-  over_end : (cut : Bool) → end.memory ≡ false → end.cut ≡ cut → IsOver can_fail c zone posted start cut intake desk → IsRunEnd can_fail c zone posted start end
+  over_end : (cut : Bool) → end.memory ≡ false → end.cut ≡ cut → IsOver can_fail c zone posted start said cut intake desk → IsRunEnd can_fail c zone posted start said end
   over_end cut memory same o =
       from_holds false memory (stands_holds c zone posted (reverse intake.events) desk o.stands)
-      (λ none. (o.ended.given, o.ended.of_feed, subst (λ (b : Bool). AreTaken o.ended.given intake.events intake.refused b) (sym same) o.ended.taken))
-      (ended_front can_fail c start cut intake o.ended) o.ended.proper o.ended.named
+      (λ none. (o.ended.given, o.ended.of_feed, subst (λ (b : Bool). AreTaken o.ended.given intake.events intake.refused b) (sym same) o.ended.taken, o.ended.said_is))
+      (o.ended.taken.events_are ∙ ap events_in (sym o.ended.said_is)) (o.ended.taken.refused_are ∙ ap refusals_in (sym o.ended.said_is))
+      (ended_front can_fail c start said cut intake o.ended) o.ended.proper o.ended.named
 
-  stopped_end : end.memory ≡ true → IsStopped c zone posted start intake desk → IsRunEnd can_fail c zone posted start end
+  stopped_end : end.memory ≡ true → IsStopped c zone posted start said intake desk → IsRunEnd can_fail c zone posted start said end
   stopped_end memory s = elim s.read [
-    | inl r ↦ from_holds true memory s.holds (λ none. absurd (cc)) (read_front c start intake r) r.proper r.named
-    | inr o ↦ from_holds true memory s.holds (λ none. absurd (cc)) (offered_front c start o.0 intake o.1) o.1.read.proper o.1.read.named
+    | inl r ↦ from_holds true memory s.holds (λ none. absurd (cc)) r.first.events_are r.first.refused_are (read_front c start said intake r) r.proper r.named
+    | inr o ↦ from_holds true memory s.holds (λ none. absurd (cc)) o.1.read.first.events_are o.1.read.first.refused_are (offered_front c start said o.0 intake o.1) o.1.read.proper o.1.read.named
   ]
 
   pub run_end_is : {E : Type 0} (read : Result Bool E) → end.memory ≡ is_err read → end.cut ≡ result_unwrap_or read false
-      → IfOk read (λ cut. IsOver can_fail c zone posted start cut intake desk) → OnErr read (IsStopped c zone posted start intake desk) → IsRunEnd can_fail c zone posted start end
-  run_end_is (Ok cut) memory same over stopped = over_end cut memory same over
-  run_end_is (Err e) memory same over stopped = stopped_end memory stopped
+      → After can_fail c zone posted start said (last_turn read) intake desk → IsRunEnd can_fail c zone posted start said end
+  run_end_is (Ok cut) memory same over = over_end cut memory same over
+  run_end_is (Err e) memory same stopped = stopped_end memory stopped
 
 -- ---- what that says of each lane and object
 
@@ -139,11 +142,11 @@ All-front : {X : Type 0} (P : X → Type 0) (xs ys : List X) → All P (xs ++ ys
 All-front P [] ys h = All-nil P
 All-front P (x ∷ xs) ys h = All-cons P x xs (All-head P x (xs ++ ys) h) (All-front P xs ys (All-tail P x (xs ++ ys) h))
 
-module _ (can_fail : Bool) (c : Config) (zone : Zone) (posted : ℕ → Bool) (start : Feed) (end : RunEnd) (r : IsRunEnd can_fail c zone posted start end) where
+module _ (can_fail : Bool) (c : Config) (zone : Zone) (posted : ℕ → Bool) (start : Feed) (said : List Answer) (end : RunEnd) (r : IsRunEnd can_fail c zone posted start said end) where
   abbrev the_past : List Event
   the_past = reverse end.events.items
 
-  pub lanes_are_due : end.memory ≡ false → LanesAreDue c zone (reverse end.events.items) end.lanes.items
+  lanes_are_due : end.memory ≡ false → LanesAreDue c zone (reverse end.events.items) end.lanes.items
   lanes_are_due none = record {
     count = r.count;
     each = λ l lane found. record {
@@ -153,7 +156,7 @@ module _ (can_fail : Bool) (c : Config) (zone : Zone) (posted : ℕ → Bool) (s
     };
   }
 
-  pub lanes_begin_due : LanesBeginDue c zone (reverse end.events.items) end.lanes.items
+  lanes_begin_due : LanesBeginDue c zone (reverse end.events.items) end.lanes.items
   lanes_begin_due l lane found = let f = r.fronts l lane found in record {
     number = r.number l lane found;
     due = λ o inside. (
@@ -163,7 +166,7 @@ module _ (can_fail : Bool) (c : Config) (zone : Zone) (posted : ℕ → Bool) (s
     named = All-front (IsNamed c l) (joined lane) f.0 (subst (λ (ns : List Notice). All (IsNamed c l) ns) f.1 (made_due_named c zone l the_past));
   }
 
-  pub log_is : IsLog c zone (reverse end.events.items) end.log.items
+  log_is : IsLog c zone (reverse end.events.items) end.log.items
   log_is = record {
     order = r.log_is;
     each = λ o inside. ap (of_object o) r.log_is ∙ suppressed_is_sup c zone the_past o inside;
@@ -171,17 +174,17 @@ module _ (can_fail : Bool) (c : Config) (zone : Zone) (posted : ℕ → Bool) (s
 
 -- ---- of a feed of which nothing was read before
 
-module _ (can_fail : Bool) (c : Config) (zone : Zone) (posted : ℕ → Bool) (known : Option (List ℕ)) (now : Intake) (s : IsStart known now) (end : RunEnd) (r : IsRunEnd can_fail c zone posted now.feed end) where
+module _ (can_fail : Bool) (c : Config) (zone : Zone) (posted : ℕ → Bool) (known : Option (List ℕ)) (start : Feed) (s : IsFirst known start) (said : List Answer) (end : RunEnd) (r : IsRunEnd can_fail c zone posted start said end) where
   abbrev first_answers : (line last : ℕ) → Bool → List ℕ → List Answer
   first_answers line last stopped bytes = cond stopped [] (answers c.objects line last (pieces bytes))
 
   -- a fact of the bytes and the answers, seen from the start
-  from_start : (P : List ℕ → List Answer → ℕ → Type 0) → IfSome now.feed.bytes (λ bytes. P bytes (answers_from c.objects now.feed bytes) now.feed.line) → IfSome known (λ bytes. P bytes (answers c.objects 0 0 (pieces bytes)) 0)
+  from_start : (P : List ℕ → List Answer → ℕ → Type 0) → IfSome start.bytes (λ bytes. P bytes (answers_from c.objects start bytes) start.line) → IfSome known (λ bytes. P bytes (answers c.objects 0 0 (pieces bytes)) 0)
   from_start P h =
       subst (λ (b : Option (List ℕ)). IfSome b (λ bytes. P bytes (answers c.objects 0 0 (pieces bytes)) 0)) s.bytes
-      (subst (λ (n : ℕ). IfSome now.feed.bytes (λ bytes. P bytes (answers c.objects n 0 (pieces bytes)) n)) s.line
-      (subst (λ (n : ℕ). IfSome now.feed.bytes (λ bytes. P bytes (answers c.objects now.feed.line n (pieces bytes)) now.feed.line)) s.last
-      (subst (λ (b : Bool). IfSome now.feed.bytes (λ bytes. P bytes (first_answers now.feed.line now.feed.last b bytes) now.feed.line)) (ap is_some s.goes_on) h)))
+      (subst (λ (n : ℕ). IfSome start.bytes (λ bytes. P bytes (answers c.objects n 0 (pieces bytes)) n)) s.line
+      (subst (λ (n : ℕ). IfSome start.bytes (λ bytes. P bytes (answers c.objects start.line n (pieces bytes)) start.line)) s.last
+      (subst (λ (b : Bool). IfSome start.bytes (λ bytes. P bytes (first_answers start.line start.last b bytes) start.line)) (ap is_some s.goes_on) h)))
 
   and_taken : (k : Option (List ℕ)) (given : List Answer) → IfSome k (λ bytes. AreGiven can_fail given (answers c.objects 0 0 (pieces bytes)) 0 (pieces bytes)) → AreTaken given end.events.items end.refused.items end.cut
       → IfSome k (λ bytes. IsWhatWasRead can_fail c.objects bytes end.events.items end.refused.items end.cut)
@@ -192,32 +195,52 @@ module _ (can_fail : Bool) (c : Config) (zone : Zone) (posted : ℕ → Bool) (k
   later None P h = tt
   later (Some bytes) P h = h
 
-  pub what_was_read : IfSome known (λ bytes. end.memory ≡ false → IsWhatWasRead can_fail c.objects bytes end.events.items end.refused.items end.cut)
+  what_was_read : IfSome known (λ bytes. end.memory ≡ false → IsWhatWasRead can_fail c.objects bytes end.events.items end.refused.items end.cut)
   what_was_read =
       later known (λ bytes. IsWhatWasRead can_fail c.objects bytes end.events.items end.refused.items end.cut)
       (λ none. let g = r.read none in and_taken known g.0 (from_start (λ bytes all line. AreGiven can_fail g.0 all line (pieces bytes)) g.1) g.2)
 
-  pub events_front : IfSome known (λ bytes. IsFrontOf end.events.items (events_of c.objects bytes))
+  events_front : IfSome known (λ bytes. IsFrontOf end.events.items (events_of c.objects bytes))
   events_front = from_start (λ bytes all line. IsFrontOf end.events.items (events_in (taken_after 0 all))) r.front
 
--- a run that was started on such a feed
-pub ends_well : (can_fail : Bool) (c told : Config) → told ≡ c → (zone : Zone) (posted : ℕ → Bool) (known : Option (List ℕ)) (now : Intake) (desk : DeskValue) (end : RunEnd) → IsStart known now → Stands c zone posted [] desk
-    → ((z : Zone) (p : ℕ → Bool) (start : Feed) → GoesOn told z p start now desk → IsRunEnd can_fail told z p start end) → IsRunEnd can_fail c zone posted now.feed end
-ends_well can_fail c told same zone posted known now desk end s stands ends =
-    subst (λ (x : Config). IsRunEnd can_fail x zone posted now.feed end) same
-    (ends zone posted now.feed (goes_told c told same zone posted now.feed now desk (start_goes_on c zone posted known now desk s stands)))
+  and_said : (k : Option (List ℕ)) (given : List Answer) → IfSome k (λ bytes. AreGiven can_fail given (answers c.objects 0 0 (pieces bytes)) 0 (pieces bytes)) → said ≡ taken_after 0 given
+      → IfSome k (λ bytes. IsTakenOf can_fail c bytes said)
+  and_said None given h e = tt
+  and_said (Some bytes) given h e = (given, h, e)
+
+  was_taken : IfSome known (λ bytes. end.memory ≡ false → IsTakenOf can_fail c bytes said)
+  was_taken =
+      later known (λ bytes. IsTakenOf can_fail c bytes said)
+      (λ none. let g = r.read none in and_said known g.0 (from_start (λ bytes all line. AreGiven can_fail g.0 all line (pieces bytes)) g.1) g.3)
+
+  pub ends_after : EndsAfter can_fail c zone posted known said end
+  ends_after = record {
+    run = record {
+      due = lanes_are_due can_fail c zone posted start said end r;
+      log = log_is can_fail c zone posted start said end r;
+      read = what_was_read;
+      proper = r.proper;
+      named = r.named;
+      front = events_front;
+      due_front = lanes_begin_due can_fail c zone posted start said end r;
+      causes = r.causes;
+    };
+    events = r.events;
+    refused = r.refused;
+    taken = was_taken;
+  }
 
 -- ---- where memory ran out before anything was read
 
-pub unread : (known : Option (List ℕ)) (memory : Bool) (P : List ℕ → Type 0) → memory ≡ true → IfSome known (λ bytes. memory ≡ false → P bytes)
+unread : (known : Option (List ℕ)) (memory : Bool) (P : List ℕ → Type 0) → memory ≡ true → IfSome known (λ bytes. memory ≡ false → P bytes)
 unread None memory P h = tt
 unread (Some bytes) memory P h = λ e. absurd (cc)
 
-pub no_front : (known : Option (List ℕ)) (f : List ℕ → List Event) (events : List Event) → events ≡ [] → IfSome known (λ bytes. IsFrontOf events (f bytes))
+no_front : (known : Option (List ℕ)) (f : List ℕ → List Event) (events : List Event) → events ≡ [] → IfSome known (λ bytes. IsFrontOf events (f bytes))
 no_front None f events none = tt
 no_front (Some bytes) f events none = (f bytes, ap (λ (xs : List Event). xs ++ f bytes) (sym none))
 
-pub no_log : (c : Config) (zone : Zone) (events : List Event) (log : List Suppression) → events ≡ [] → log ≡ [] → IsLog c zone (reverse events) log
+no_log : (c : Config) (zone : Zone) (events : List Event) (log : List Suppression) → events ≡ [] → log ≡ [] → IsLog c zone (reverse events) log
 no_log c zone events log no_events none =
     subst (λ (xs : List Event). IsLog c zone (reverse xs) log) (sym no_events)
     (subst (λ (ss : List Suppression). IsLog c zone [] ss) (sym none) (record { order = refl; each = λ o inside. suppressed_is_sup c zone [] o inside }))
@@ -226,8 +249,26 @@ no_lane : (lanes : List LaneParts) (l : ℕ) (lane : LaneParts) → lanes ≡ []
 no_lane [] l lane none found = cc
 no_lane (x ∷ lanes) l lane none found = cc
 
-pub no_lanes_due : (c : Config) (zone : Zone) (past : List Event) (lanes : List LaneParts) → lanes ≡ [] → LanesBeginDue c zone past lanes
+no_lanes_due : (c : Config) (zone : Zone) (past : List Event) (lanes : List LaneParts) → lanes ≡ [] → LanesBeginDue c zone past lanes
 no_lanes_due c zone past lanes none = λ l lane found. absurd (no_lane lanes l lane none found)
 
-pub no_causes : (posted : ℕ → Bool) (memory : Bool) (lanes : List LaneParts) → lanes ≡ [] → HaveCauses posted memory lanes
+no_causes : (posted : ℕ → Bool) (memory : Bool) (lanes : List LaneParts) → lanes ≡ [] → HaveCauses posted memory lanes
 no_causes posted memory lanes none = λ l lane found. absurd (no_lane lanes l lane none found)
+
+pub ends_unread : (can_fail : Bool) (c : Config) (zone : Zone) (posted : ℕ → Bool) (known : Option (List ℕ)) (end : RunEnd) → end.events.items ≡ [] → end.refused.items ≡ [] → end.log.items ≡ []
+    → end.lanes.items ≡ [] → end.memory ≡ true → EndsAfter can_fail c zone posted known [] end
+ends_unread can_fail c zone posted known end events refused log lanes memory = record {
+  run = record {
+    due = λ none. absurd (cc);
+    log = no_log c zone end.events.items end.log.items events log;
+    read = unread known end.memory (λ bytes. IsWhatWasRead can_fail c.objects bytes end.events.items end.refused.items end.cut) memory;
+    proper = All-same (IsProper c) end.events.items [] events (All-nil (IsProper c));
+    named = All-same (λ (r : RefusedLine). r.fault ≢ fault.NoMemory) end.refused.items [] refused (All-nil (λ (r : RefusedLine). r.fault ≢ fault.NoMemory));
+    front = no_front known (events_of c.objects) end.events.items events;
+    due_front = no_lanes_due c zone (reverse end.events.items) end.lanes.items lanes;
+    causes = no_causes posted end.memory end.lanes.items lanes;
+  };
+  events = events;
+  refused = refused;
+  taken = unread known end.memory (λ bytes. IsTakenOf can_fail c bytes []) memory;
+}

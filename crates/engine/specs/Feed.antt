@@ -1,5 +1,5 @@
 -- What a run takes of a feed.
-use Rattle.std.specs.Prelude.{◌≡◌, ◌≢◌, ℕ, ◌+◌, ◌≤◌, Bool, false, true, not, ◌==◌, All, List, [], ◌∷◌, ◌++◌, length, flat_map, None, IfSome, Result, Ok, Err, if◌then◌else◌}
+use Rattle.std.specs.Prelude.{◌≡◌, ◌≢◌, ℕ, ◌+◌, ◌≤◌, Bool, false, true, not, ◌==◌, All, List, [], ◌∷◌, ◌++◌, length, flat_map, Option, None, Some, IfSome, Result, Ok, Err, if◌then◌else◌}
 use Rattle.std.specs.List.{list_any}
 use Rattle.due_model.specs.declared.config.Config.{Config}
 use Rattle.due_model.specs.declared.config.Object.{Object}
@@ -10,7 +10,7 @@ use Rattle.event_feed.specs.declared.fault.FeedFault.{FeedFault}
 use Rattle.event_feed.specs.declared.fault.FeedFault.TheVariants.{Ended, NoMemory}
 use Rattle.event_feed.specs.declared.fault.RefusedLine.{RefusedLine}
 use Rattle.event_feed.specs.Fault.{is_line_fault}
-use Rattle.event_feed.specs.Feed.{Answer, AreGiven, AreGivenBy, Feed, GivesEvent, answers, answers_from}
+use Rattle.event_feed.specs.Feed.{Answer, AreGiven, AreGivenBy, Feed, GivesEvent, answers, answers_from, refusal}
 use Rattle.text_lines.specs.Lines.{Known, pieces}
 use Rattle.engine.specs.declared.intake.Next.{Next}
 use Rattle.engine.specs.declared.intake.Next.TheVariants.{Accepts, Refused, Over}
@@ -116,29 +116,35 @@ pub record CameFirst (c : Config) (start : Feed) (given : List Answer) (now : Fe
       → taken_after 0 (given ++ others) ≡ given ++ taken_after (length events) others
   pub not_cut : is_cut given ≡ false
 
--- what a run has, as far as it has read
-pub record HasRead (c : Config) (start : Feed) (now : Intake) : Type 0 where
-  pub given : List Answer
-  pub first : CameFirst c start given now.feed now.events now.refused
+-- these answers, and one more, if there is one
+abbrev pub with_one : List Answer → Option Answer → List Answer
+with_one said None = said
+with_one said (Some answer) = said ++ answer ∷ []
+
+-- what a run has, as far as it has read: these answers were taken
+pub record HasRead (c : Config) (start : Feed) (said : List Answer) (now : Intake) : Type 0 where
+  pub first : CameFirst c start said now.feed now.events now.refused
   pub goes_on : now.feed.stop ≡ None
   pub proper : All (IsProper c) now.events
   pub short : length now.events ≤ max_events
   pub named : All (λ r. r.fault ≢ NoMemory) now.refused
 
 -- an event was read, and isn't accepted yet
-pub record Offers (c : Config) (start : Feed) (event : Event) (now : Intake) : Type 0 where
+pub record Offers (c : Config) (start : Feed) (said : List Answer) (event : Event)
+    (now : Intake) : Type 0 where
   pub before : Feed
-  pub read : HasRead c start (record now { feed = before })
+  pub read : HasRead c start said (record now { feed = before })
   pub gives : GivesEvent c before event now.feed
 
--- the reading is over
-pub record HasEnded (can_fail : Bool) (c : Config) (start : Feed) (cut : Bool) (now : Intake) : Type 0
-  where
-    pub given : List Answer
-    pub of_feed : AreGivenBy can_fail c.objects start given
-    pub taken : AreTaken given now.events now.refused cut
-    pub proper : All (IsProper c) now.events
-    pub named : All (λ r. r.fault ≢ NoMemory) now.refused
+-- the reading is over: these answers are all that was taken
+pub record HasEnded (can_fail : Bool) (c : Config) (start : Feed) (said : List Answer) (cut : Bool)
+    (now : Intake) : Type 0 where
+  pub given : List Answer
+  pub of_feed : AreGivenBy can_fail c.objects start given
+  pub said_is : said ≡ taken_after 0 given
+  pub taken : AreTaken given now.events now.refused cut
+  pub proper : All (IsProper c) now.events
+  pub named : All (λ r. r.fault ≢ NoMemory) now.refused
 
 -- the events are a front of those that the feed gives
 abbrev pub IsFrontOfFeed : Config → Feed → List Event → Type 0
@@ -146,11 +152,14 @@ IsFrontOfFeed c start events =
     IfSome start.bytes
     (λ bytes. IsFrontOf events (events_in (taken_after 0 (answers_from c.objects start bytes))))
 
--- what the next line of the feed makes of a run that has read so far
-abbrev pub Follows : (can_fail : Bool) → Config → (start : Feed) → Next → Intake → Type 0
-Follows can_fail c start (Accepts e) now = Offers c start e now
-Follows can_fail c start Refused now = HasRead c start now
-Follows can_fail c start (Over cut) now = HasEnded can_fail c start cut now
+-- what the next line of the feed makes of a run that has taken these answers
+abbrev pub Follows : (can_fail : Bool) → Config → (start : Feed) → (said : List Answer) → Next → Intake
+    → Type 0
+Follows can_fail c start said (Accepts e) now = Offers c start said e now
+Follows can_fail c start said Refused now =
+    (fault : RefusedLine) × HasRead c start (said ++ refusal fault ∷ []) now
+Follows can_fail c start said (Over cut) now =
+    (last : Option Answer) × HasEnded can_fail c start (with_one said last) cut now
 
 -- whether the feed goes on after it
 abbrev pub goes_on : Next → Bool

@@ -10,7 +10,7 @@ use Rattle.decider.specs.declared.outbox.Outbox.{Outbox}
 use Rattle.decider.specs.Decider.{gained}
 use Rattle.decider.specs.Fits.{Fits, kept, settings}
 use Rattle.decider.specs.Outbox.{lists, waiting_at}
-use Rattle.event_feed.specs.Feed.{Feed}
+use Rattle.event_feed.specs.Feed.{Answer, Feed}
 use Rattle.engine.specs.declared.desk.Desk.{Desk}
 use Rattle.engine.specs.Feed.{HasEnded, HasRead, Intake, Offers}
 use Rattle.engine.specs.Lists.{IsFrontOf}
@@ -103,29 +103,33 @@ pub record Holds (c : Config) (zone : Zone) (posted : ℕ → Bool) (memory : Bo
 
 -- ---- a whole run
 
--- nothing was read of a feed whose bytes are these, where they are known
+-- the first line of a feed is the next, and its bytes are these, where they are known
+pub record IsFirst (known : Option (List ℕ)) (feed : Feed) : Type 0 where
+  pub bytes : feed.bytes ≡ known
+  pub line : feed.line ≡ 0
+  pub last : feed.last ≡ 0
+  pub goes_on : feed.stop ≡ None
+
+-- nothing was read of such a feed
 pub record IsStart (known : Option (List ℕ)) (now : Intake) : Type 0 where
-  pub bytes : now.feed.bytes ≡ known
-  pub line : now.feed.line ≡ 0
-  pub last : now.feed.last ≡ 0
-  pub goes_on : now.feed.stop ≡ None
+  pub first : IsFirst known now.feed
   pub no_events : now.events ≡ []
   pub no_refused : now.refused ≡ []
 
--- a run goes on: its events are decided
-pub record GoesOn (c : Config) (zone : Zone) (posted : ℕ → Bool) (start : Feed) (intake : Intake)
-    (desk : DeskValue) : Type 0 where
-  pub read : HasRead c start intake
+-- A run goes on: it has taken these answers of the feed, and their events are decided.
+pub record GoesOn (c : Config) (zone : Zone) (posted : ℕ → Bool) (start : Feed)
+    (said : List Answer) (intake : Intake) (desk : DeskValue) : Type 0 where
+  pub read : HasRead c start said intake
   pub stands : Stands c zone posted (reverse intake.events) desk
 
 -- its feed is over
 pub record IsOver (can_fail : Bool) (c : Config) (zone : Zone) (posted : ℕ → Bool) (start : Feed)
-    (cut : Bool) (intake : Intake) (desk : DeskValue) : Type 0 where
-  pub ended : HasEnded can_fail c start cut intake
+    (said : List Answer) (cut : Bool) (intake : Intake) (desk : DeskValue) : Type 0 where
+  pub ended : HasEnded can_fail c start said cut intake
   pub stands : Stands c zone posted (reverse intake.events) desk
 
 -- memory ran out
 pub record IsStopped (c : Config) (zone : Zone) (posted : ℕ → Bool) (start : Feed)
-    (intake : Intake) (desk : DeskValue) : Type 0 where
-  pub read : HasRead c start intake ⊎ ((e : Event) × Offers c start e intake)
+    (said : List Answer) (intake : Intake) (desk : DeskValue) : Type 0 where
+  pub read : HasRead c start said intake ⊎ ((e : Event) × Offers c start said e intake)
   pub holds : Holds c zone posted true (reverse intake.events) desk

@@ -119,6 +119,13 @@ impl<'a> Desk<'a> {
         self.delivery.config
     }
 
+    /// What was suppressed so far.
+    pub(crate) fn log(&self) -> &[Suppression]
+        ensures { result.now ≡ self.now.log.items }
+    {
+        &self.log
+    }
+
     /// The log and the lanes.
     pub(crate) fn into_parts(self) -> (Vec<Suppression>, Vec<Lane>)
         ensures log { result.0.items ≡ self.entry.log.items }

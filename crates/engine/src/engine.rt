@@ -57,16 +57,9 @@ impl Engine {
         ensures causes { HaveCauses (λ l. list_any (λ post. post.lane.0 == l) posts.items)
             result.memory result.lanes.items }
     {
-        match Run::new(alloc, config, zone, reader, posts, settings) {
+        match Run::start(alloc, config, zone, reader, posts, settings) {
             Ok(run) => run.complete(),
-            Err(_) => RunEnd {
-                events: Vec::new(alloc),
-                refused: Vec::new(alloc),
-                log: Vec::new(alloc),
-                lanes: Vec::new(alloc),
-                memory: true,
-                cut: false,
-            },
+            Err(end) => end,
         }
     }
 }

@@ -1,8 +1,9 @@
 //! The reading of a feed: the events that are accepted, and the lines that are refused.
 
-ghost use Rattle.std.specs.Prelude.{◌≡◌, ◌+◌, ◌<◌, ◌≤◌, [], true, None, IfOk, OnErr, OnOk};
+ghost use Rattle.std.specs.Prelude.{◌≡◌, ◌+◌, ◌<◌, ◌≤◌, [], List, true, None, IfOk, OnErr, OnOk};
 ghost use Rattle.due_model.specs.declared.event.Event.{Event};
-ghost use Rattle.event_feed.specs.Feed.{Feed, feed_limit, feed_of};
+ghost use Rattle.event_feed.specs.Feed.{Answer, Feed, feed_limit, feed_of};
+ghost use Rattle.text_lines.specs.Lines.{has_line};
 ghost use Rattle.engine.specs.Feed.{Follows, HasRead, accepted, ended, goes_on};
 
 use due_model::config::Config;
@@ -67,8 +68,9 @@ impl<R: Input + Drop> Intake<R> {
     /// Ok there is room for the line.
     pub(crate) fn next(&mut self, config: &Config) -> Result<Next, AllocError>
         requires { self.old.read.feed.stop ≡ None }
-        ensures next { IfOk result (λ next. (start : Feed) → HasRead config.now start self.old.read
-            → Follows R.can_fail config.now start next self.new.read) }
+        ensures next { IfOk result (λ next. (start : Feed) (said : List Answer)
+            → HasRead config.now start said self.old.read
+            → Follows R.can_fail config.now start said next self.new.read) }
         ensures line { IfOk result (λ next. goes_on next ≡ true
             → self.old.read.feed.line < self.new.read.feed.line) }
         ensures limit { OnOk result (self.new.read.feed.line ≤ feed_limit + 1) }
@@ -111,6 +113,20 @@ impl<R: Input + Drop> Intake<R> {
             fault: FeedFault::Ended,
         };
         let _room = self.refused.push(refusal);
+    }
+
+    /// The refused lines.
+    pub(crate) fn refused(&self) -> &[RefusedLine]
+        ensures { result.now ≡ self.now.read.refused }
+    {
+        &self.refused
+    }
+
+    /// Whether a line that isn't empty is held whole, so that `next` calls no reader.
+    pub(crate) fn has_line(&self) -> bool
+        ensures { result ≡ has_line self.now.read.feed.held }
+    {
+        self.feeder.has_line()
     }
 
     /// The events and the refused lines.

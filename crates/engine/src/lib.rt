@@ -13,5 +13,6 @@ mod run_end;
 
 pub use engine::Engine;
 pub use post::Post;
+pub use run::{Run, Turn};
 pub use run_end::{LaneEnd, RunEnd};
 pub use steps::Settings;

@@ -1,14 +1,16 @@
-//! A run under way.
+//! A run under way, from line to line of its feed.
 
-ghost use Rattle.std.specs.Prelude.{◌≡◌, ◌+◌, ◌<◌, ◌≤◌, ◌==◌, ℕ, Bool, [], length, reverse};
-ghost use Rattle.std.specs.Prelude.{IfOk, OnErr, vec_capacity};
+ghost use Rattle.std.specs.Prelude.{◌≡◌, ◌+◌, ◌<◌, ◌≤◌, ◌==◌, ℕ, Bool, List, [], length, reverse};
+ghost use Rattle.std.specs.Prelude.{true, IfErr, IfOk, Ok, OnErr, Option, vec_capacity};
 ghost use Rattle.std.specs.List.{list_any};
+ghost use Rattle.due_model.specs.declared.config.Config.{Config};
 ghost use Rattle.due_model.specs.declared.zone.Zone.{Zone};
 ghost use Rattle.due_model.specs.Accepted.{IsAccepted};
-ghost use Rattle.event_feed.specs.Feed.{Feed, feed_limit};
-ghost use Rattle.engine.specs.Feed.{HasRead, Offers};
-ghost use Rattle.engine.specs.Run.{After, IsRunEnd};
-ghost use Rattle.engine.specs.Served.{GoesOn, IsOver, IsStart, IsStopped, Stands, desk_value};
+ghost use Rattle.event_feed.specs.Feed.{Answer, Feed, feed_limit};
+ghost use Rattle.text_lines.specs.Lines.{has_line};
+ghost use Rattle.engine.specs.Feed.{Offers, with_one};
+ghost use Rattle.engine.specs.Run.{After, EndsAfter, HasTaken, last_turn, lines_left, run_value};
+ghost use Rattle.engine.specs.Served.{GoesOn, IsStart, IsStopped, Stands, desk_value};
 
 use crate::desk::Desk;
 use crate::intake::{Intake, Next};
@@ -18,7 +20,9 @@ use crate::run_end::{LaneEnd, RunEnd};
 use decider::DecideFault;
 use due_model::config::Config;
 use due_model::event::Event;
+use due_model::notice::Suppression;
 use due_model::zone::Zone;
+use event_feed::RefusedLine;
 use std::alloc::{AllocError, Global};
 use std::io::Read;
 use steps::Settings;
@@ -26,7 +30,7 @@ use text_lines::{Input, LineReader};
 
 /// What a line of the feed makes of a run.
 #[derive(Clone, Copy)]
-pub(crate) enum Turn {
+pub enum Turn {
     /// It goes on.
     GoesOn,
     /// The feed is over, and was cut or not.
@@ -35,7 +39,7 @@ pub(crate) enum Turn {
 
 /// A run under way: what is read of the feed, and what is decided and handed out.
 #[derive(Drop)]
-pub(crate) struct Run<'a, R: Read> {
+pub struct Run<'a, R: Read> {
     intake: Intake<R>,
     desk: Desk<'a>,
     /// The room for what the lanes leave.
@@ -43,8 +47,130 @@ pub(crate) struct Run<'a, R: Read> {
 }
 
 impl<'a, R: Input + Drop> Run<'a, R> {
+    /// Begins a run, of whose feed nothing is read yet. Where a growth is refused there is no run but its end: nothing was
+    /// read, and there are no lanes.
+    pub fn start(
+        alloc: Global,
+        config: &'a Config,
+        zone: &'a Zone,
+        reader: R,
+        posts: Vec<Post>,
+        settings: Settings,
+    ) -> Result<Self, RunEnd>
+        requires { IsAccepted config.now }
+        ensures begun { IfOk result (λ run. HasTaken R.can_fail config.now zone.now
+            (λ l. list_any (λ post. post.lane.0 == l) posts.items) (R.remaining reader)
+            [] (Ok Turn.GoesOn) (run_value run)) }
+        ensures none { IfErr result (λ end. (end.memory ≡ true) × EndsAfter R.can_fail
+            config.now zone.now (λ l. list_any (λ post. post.lane.0 == l) posts.items)
+            (R.remaining reader) [] end) }
+    {
+        match Run::new(alloc, config, zone, reader, posts, settings) {
+            Ok(run) => Ok(run),
+            Err(_) => Err(RunEnd::unread(alloc)),
+        }
+    }
+
+    /// Reads the next line of the feed that says something, decides its event, and hands what that makes due to the lanes: it
+    /// is tried before this returns. One answer at most is taken. After a refused growth, the only error, and where the feed is
+    /// over, the run is to be closed. The reader is called only where `has_line` is false.
+    pub fn take_line(&mut self) -> Result<Turn, AllocError>
+        requires { (c : Config) × (zone : Zone) × (posted : ℕ → Bool) × (known : Option (List ℕ))
+            × (said : List Answer)
+            × HasTaken R.can_fail c zone posted known said (Ok Turn.GoesOn) (run_value self.old) }
+        ensures taken { (c : Config) (zone : Zone) (posted : ℕ → Bool) (known : Option (List ℕ))
+            (said : List Answer)
+            → HasTaken R.can_fail c zone posted known said (Ok Turn.GoesOn) (run_value self.old)
+            → (last : Option Answer)
+            × HasTaken R.can_fail c zone posted known (with_one said last) result
+            (run_value self.new) }
+        ensures shorter { result ≡ Ok Turn.GoesOn
+            → lines_left (run_value self.new) < lines_left (run_value self.old) }
+    {
+        self.next_turn()
+    }
+
+    /// The lines of the feed that were refused so far.
+    pub fn refused(&self) -> &[RefusedLine]
+        ensures { result.now ≡ (run_value self.now).intake.refused }
+    {
+        self.intake.refused()
+    }
+
+    /// What was suppressed so far, by event, then object, then contact.
+    pub fn log(&self) -> &[Suppression]
+        ensures { result.now ≡ (run_value self.now).desk.log }
+    {
+        self.desk.log()
+    }
+
+    /// Whether a line of the feed that isn't empty is held whole, so that `take_line` calls no reader.
+    pub fn has_line(&self) -> bool
+        ensures { result ≡ has_line (run_value self.now).intake.feed.held }
+    {
+        self.intake.has_line()
+    }
+
+    /// Closes the lanes of a run whose feed was read to its end, and was cut or not; or whose growth was refused.
+    pub fn close(self, read: Result<bool, AllocError>) -> RunEnd
+        requires { (c : Config) × (zone : Zone) × (posted : ℕ → Bool) × (known : Option (List ℕ))
+            × (said : List Answer)
+            × HasTaken R.can_fail c zone posted known said (last_turn read) (run_value self) }
+        ensures { (c : Config) (zone : Zone) (posted : ℕ → Bool) (known : Option (List ℕ))
+            (said : List Answer)
+            → HasTaken R.can_fail c zone posted known said (last_turn read) (run_value self.entry)
+            → EndsAfter R.can_fail c zone posted known said result }
+    {
+        let Run { intake, desk, ends } = self;
+        let (events, refused) = intake.into_lists();
+        let (log, lanes) = desk.into_parts();
+        RunEnd {
+            events,
+            refused,
+            log,
+            lanes: finish(lanes, ends),
+            memory: read.is_err(),
+            cut: read.unwrap_or(false),
+        }
+    }
+
+    /// Reads the feed to its end, and closes the lanes.
+    pub fn complete(mut self) -> RunEnd
+        requires { (c : Config) × (zone : Zone) × (posted : ℕ → Bool) × (known : Option (List ℕ))
+            × (said : List Answer)
+            × HasTaken R.can_fail c zone posted known said (Ok Turn.GoesOn) (run_value self) }
+        ensures { (c : Config) (zone : Zone) (posted : ℕ → Bool) (known : Option (List ℕ))
+            (said : List Answer)
+            → HasTaken R.can_fail c zone posted known said (Ok Turn.GoesOn) (run_value self.entry)
+            → (all : List Answer) × EndsAfter R.can_fail c zone posted known all result }
+    {
+        let read = self.read_all();
+        self.close(read)
+    }
+
+    /// Reads the feed to its end. The answer says whether it was cut; a refused growth is the only error.
+    fn read_all(&mut self) -> Result<bool, AllocError>
+        requires { (c : Config) × (zone : Zone) × (posted : ℕ → Bool) × (known : Option (List ℕ))
+            × (said : List Answer)
+            × HasTaken R.can_fail c zone posted known said (Ok Turn.GoesOn) (run_value self.old) }
+        ensures { (c : Config) (zone : Zone) (posted : ℕ → Bool) (known : Option (List ℕ))
+            (said : List Answer)
+            → HasTaken R.can_fail c zone posted known said (Ok Turn.GoesOn) (run_value self.old)
+            → (all : List Answer)
+            × HasTaken R.can_fail c zone posted known all (last_turn result)
+            (run_value self.new) }
+    {
+        loop {
+            match self.take_line() {
+                Ok(Turn::GoesOn) => {}
+                Ok(Turn::Over(cut)) => return Ok(cut),
+                Err(fault) => return Err(fault),
+            }
+        }
+    }
+
     /// A run of which nothing is read. A refused growth is the only error.
-    pub(crate) fn new(
+    fn new(
         alloc: Global,
         config: &'a Config,
         zone: &'a Zone,
@@ -69,53 +195,22 @@ impl<'a, R: Input + Drop> Run<'a, R> {
         })
     }
 
-    /// Reads the feed to its end, decides each event, and hands what it makes due to the lanes before the next line is read. The
-    /// answer says whether the feed was cut; a refused growth is the only error.
-    fn read_all(&mut self) -> Result<bool, AllocError>
-        requires accepted { IsAccepted self.old.desk.delivery.config.now }
-        requires goes_on { (zone : Zone) × (posted : ℕ → Bool) × (start : Feed)
-            × GoesOn self.old.desk.delivery.config.now zone posted start
-            self.old.intake.read (desk_value self.old.desk) }
-        ensures over { IfOk result (λ cut. (zone : Zone) (posted : ℕ → Bool) (start : Feed)
-            → GoesOn self.old.desk.delivery.config.now zone posted start
-            self.old.intake.read (desk_value self.old.desk)
-            → IsOver R.can_fail self.old.desk.delivery.config.now zone posted start cut
-            self.new.intake.read (desk_value self.new.desk)) }
-        ensures stopped { OnErr result ((zone : Zone) (posted : ℕ → Bool) (start : Feed)
-            → GoesOn self.old.desk.delivery.config.now zone posted start
-            self.old.intake.read (desk_value self.old.desk)
-            → IsStopped self.old.desk.delivery.config.now zone posted start
-            self.new.intake.read (desk_value self.new.desk)) }
-        ensures count { length self.new.desk.lanes.items ≡ length self.old.desk.lanes.items }
-        ensures ends { self.new.ends ≡ self.old.ends }
-    {
-        loop {
-            if let Turn::Over(cut) = self.take_line()? {
-                return Ok(cut);
-            }
-        }
-    }
-
     /// Reads the next line of the feed that says something, and does what it says.
-    fn take_line(&mut self) -> Result<Turn, AllocError>
+    fn next_turn(&mut self) -> Result<Turn, AllocError>
         requires accepted { IsAccepted self.old.desk.delivery.config.now }
-        requires goes_on { (zone : Zone) × (posted : ℕ → Bool) × (start : Feed)
-            × GoesOn self.old.desk.delivery.config.now zone posted start
+        requires goes_on { (zone : Zone) × (posted : ℕ → Bool) × (start : Feed) × (said : List Answer)
+            × GoesOn self.old.desk.delivery.config.now zone posted start said
             self.old.intake.read (desk_value self.old.desk) }
-        ensures turn { IfOk result (λ turn. (zone : Zone) (posted : ℕ → Bool) (start : Feed)
-            → GoesOn self.old.desk.delivery.config.now zone posted start
+        ensures turn { (zone : Zone) (posted : ℕ → Bool) (start : Feed) (said : List Answer)
+            → GoesOn self.old.desk.delivery.config.now zone posted start said
             self.old.intake.read (desk_value self.old.desk)
-            → After R.can_fail self.old.desk.delivery.config.now zone posted start turn
-            self.new.intake.read (desk_value self.new.desk)) }
-        ensures stopped { OnErr result ((zone : Zone) (posted : ℕ → Bool) (start : Feed)
-            → GoesOn self.old.desk.delivery.config.now zone posted start
-            self.old.intake.read (desk_value self.old.desk)
-            → IsStopped self.old.desk.delivery.config.now zone posted start
-            self.new.intake.read (desk_value self.new.desk)) }
+            → (last : Option Answer)
+            × After R.can_fail self.old.desk.delivery.config.now zone posted start
+            (with_one said last) result
+            self.new.intake.read (desk_value self.new.desk) }
         ensures line { IfOk result (λ turn. turn ≡ Turn.GoesOn
             → self.old.intake.read.feed.line < self.new.intake.read.feed.line) }
         ensures limit { IfOk result (λ turn. self.new.intake.read.feed.line ≤ feed_limit + 1) }
-        ensures config { self.new.desk.delivery.config.now ≡ self.old.desk.delivery.config.now }
         ensures ends { self.new.ends ≡ self.old.ends }
     {
         match self.intake.next(self.desk.config())? {
@@ -129,26 +224,21 @@ impl<'a, R: Input + Drop> Run<'a, R> {
     /// Where its growth is refused before all of it counts, it isn't accepted.
     fn take_event(&mut self, event: Event) -> Result<Turn, AllocError>
         requires accepted { IsAccepted self.old.desk.delivery.config.now }
-        requires offers { (zone : Zone) × (posted : ℕ → Bool) × (start : Feed)
-            × Offers self.old.desk.delivery.config.now start event self.old.intake.read
+        requires offers { (zone : Zone) × (posted : ℕ → Bool) × (start : Feed) × (said : List Answer)
+            × Offers self.old.desk.delivery.config.now start said event self.old.intake.read
             × Stands self.old.desk.delivery.config.now zone posted
             (reverse self.old.intake.read.events) (desk_value self.old.desk) }
         requires events_room { 0 < self.old.intake.events_room }
         requires refused_room { 0 < self.old.intake.refused_room }
-        ensures turn { IfOk result (λ turn. (zone : Zone) (posted : ℕ → Bool) (start : Feed)
-            → Offers self.old.desk.delivery.config.now start event self.old.intake.read
+        ensures turn { (zone : Zone) (posted : ℕ → Bool) (start : Feed) (said : List Answer)
+            → Offers self.old.desk.delivery.config.now start said event self.old.intake.read
             → Stands self.old.desk.delivery.config.now zone posted
             (reverse self.old.intake.read.events) (desk_value self.old.desk)
-            → After R.can_fail self.old.desk.delivery.config.now zone posted start turn
-            self.new.intake.read (desk_value self.new.desk)) }
-        ensures stopped { OnErr result ((zone : Zone) (posted : ℕ → Bool) (start : Feed)
-            → Offers self.old.desk.delivery.config.now start event self.old.intake.read
-            → Stands self.old.desk.delivery.config.now zone posted
-            (reverse self.old.intake.read.events) (desk_value self.old.desk)
-            → IsStopped self.old.desk.delivery.config.now zone posted start
-            self.new.intake.read (desk_value self.new.desk)) }
+            → (last : Option Answer)
+            × After R.can_fail self.old.desk.delivery.config.now zone posted start
+            (with_one said last) result
+            self.new.intake.read (desk_value self.new.desk) }
         ensures feed { self.new.intake.read.feed ≡ self.old.intake.read.feed }
-        ensures config { self.new.desk.delivery.config.now ≡ self.old.desk.delivery.config.now }
         ensures ends { self.new.ends ≡ self.old.ends }
     {
         match self.desk.decide(event) {
@@ -162,32 +252,5 @@ impl<'a, R: Input + Drop> Run<'a, R> {
         self.intake.accept(event);
         self.desk.serve()?;
         Ok(Turn::GoesOn)
-    }
-
-    /// Reads the feed to its end, and closes the lanes.
-    pub(crate) fn complete(mut self) -> RunEnd
-        requires accepted { IsAccepted self.desk.delivery.config.now }
-        requires goes_on { (zone : Zone) × (posted : ℕ → Bool) × (start : Feed)
-            × GoesOn self.desk.delivery.config.now zone posted start
-            self.intake.read (desk_value self.desk) }
-        requires none { self.ends.items ≡ [] }
-        requires room { length self.desk.lanes.items ≤ vec_capacity self.ends }
-        ensures { (zone : Zone) (posted : ℕ → Bool) (start : Feed)
-            → GoesOn self.entry.desk.delivery.config.now zone posted start
-            self.entry.intake.read (desk_value self.entry.desk)
-            → IsRunEnd R.can_fail self.entry.desk.delivery.config.now zone posted start result }
-    {
-        let read = self.read_all();
-        let Run { intake, desk, ends } = self;
-        let (events, refused) = intake.into_lists();
-        let (log, lanes) = desk.into_parts();
-        RunEnd {
-            events,
-            refused,
-            log,
-            lanes: finish(lanes, ends),
-            memory: read.is_err(),
-            cut: read.unwrap_or(false),
-        }
     }
 }

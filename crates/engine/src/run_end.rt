@@ -1,11 +1,12 @@
 //! What a run leaves.
 
-ghost use Rattle.std.specs.Prelude.{◌≡◌};
+ghost use Rattle.std.specs.Prelude.{◌≡◌, [], true};
 
 use due_model::config::LaneId;
 use due_model::event::Event;
 use due_model::notice::{Notice, Suppression};
 use event_feed::RefusedLine;
+use std::alloc::Global;
 use std::marker::Model;
 use undelivered::{LaneRecord, Why};
 
@@ -24,6 +25,26 @@ pub struct RunEnd {
     pub memory: bool,
     /// Whether the feed ended before its input: by Cut, Read or Ended.
     pub cut: bool,
+}
+
+impl RunEnd {
+    /// What a run leaves for which memory ran out before anything was read.
+    pub(crate) fn unread(alloc: Global) -> RunEnd
+        ensures events { result.events.items ≡ [] }
+        ensures refused { result.refused.items ≡ [] }
+        ensures log { result.log.items ≡ [] }
+        ensures lanes { result.lanes.items ≡ [] }
+        ensures memory { result.memory ≡ true }
+    {
+        RunEnd {
+            events: Vec::new(alloc),
+            refused: Vec::new(alloc),
+            log: Vec::new(alloc),
+            lanes: Vec::new(alloc),
+            memory: true,
+            cut: false,
+        }
+    }
 }
 
 /// A lane at the end of a run. Contracts see its number, what its channel has taken, what was given up, and why it is closed.

@@ -1,27 +1,35 @@
 //! The command `run`: the events of a feed, and the channels that take what they make due.
 #![tactic(auto)]
 
-ghost use Rattle.std.specs.Prelude.{◌≡◌, ◌==◌, false, IfErr, IfOk};
+ghost use Rattle.std.specs.Prelude.{◌≡◌, ◌==◌, ℕ, Bool, List, [], false, Err, Ok, Option, None, Some};
+ghost use Rattle.std.specs.Prelude.{IfErr, IfOk, IsErrOf, ◌⊎◌};
 ghost use Rattle.std.specs.List.{list_any};
+ghost use Rattle.due_model.specs.declared.zone.Zone.{Zone};
 ghost use Rattle.due_model.specs.Accepted.{IsAccepted};
-ghost use Rattle.engine.specs.declared.run_end.RunEnd.{RunEnd};
+ghost use Rattle.engine.specs.Run.{HasTaken, run_value};
 ghost use Rattle.command_output.specs.Outcome.{IsWriteFault};
-ghost use Rattle.command_output.specs.Output.{Writes, WritesFront};
-ghost use Rattle.run_report.specs.Report.{ending_of, report_text};
-ghost use Rattle.run_command.specs.Run.{IsRunOf};
+ghost use Rattle.run_command.specs.Report.{WritesReport, WritesReportFront, ending_of};
 
-use command_output::{CommandFault, Ending};
+mod lanes;
+mod telling;
+mod turns;
+
+use command_output::{CommandFault, Ending, Lines};
 use due_model::config::Config;
 use due_model::zone::Zone;
-use engine::{Engine, Post, Settings};
-use run_report::write_report;
+use engine::{Post, Run, RunEnd, Settings, Turn};
+use lanes::has_undelivered;
 use std::alloc::Global;
 use std::io::Write;
+use telling::Telling;
 use text_lines::Input;
 
 /// Reads a feed to its end, hands what its events make due to the channels of the lanes, and writes the report of that. What an
-/// event makes due is tried before the next line of the feed is waited for; the report is written when the feed is over.
-/// Where the output fails or memory runs out a front of a report was written; what the channels have taken they have.
+/// event makes due is tried, and its `S` and `C` lines, or the `R` line of a refused line, are written before the reader is
+/// called for more; when the feed is over, lane by lane, the `T` lines of what its channel has taken, the `U` lines of what it
+/// gave up, each in order, and its `Z` line. Where the output fails, a front of the report was written: nothing more is, and
+/// the run goes on to the end of the feed. Where memory runs out in the run it reads no further, and what is there is told.
+/// `Undelivered` says that a lane gave something up, `Short` that the feed ended before its input; of both, the latter is said.
 pub fn run<R: Input + Drop, W: Write>(
     alloc: Global,
     config: &Config,
@@ -34,19 +42,103 @@ pub fn run<R: Input + Drop, W: Write>(
     requires accepted { IsAccepted config.now }
     requires deciders { settings.deciders ≡ 1 }
     // What is written is the report of a run of the feed, and nothing else.
-    ensures report { IfOk result (λ ending. (end : RunEnd)
-        × IsRunOf R.can_fail config.now zone.now
-        (λ l. list_any (λ post. post.lane.0 == l) posts.items) (R.remaining feed) end
-        × (end.memory ≡ false) × (ending ≡ ending_of end)
-        × Writes (W.contents writer.old) (W.contents writer.new) (report_text config.now end)) }
+    ensures report { IfOk result (λ ending. WritesReport R.can_fail config.now zone.now
+        (λ l. list_any (λ post. post.lane.0 == l) posts.items) (R.remaining feed) ending
+        (W.contents writer.old) (W.contents writer.new)) }
     // Or a front of it.
-    ensures front { (end : RunEnd)
-        × IsRunOf R.can_fail config.now zone.now
-        (λ l. list_any (λ post. post.lane.0 == l) posts.items) (R.remaining feed) end
-        × WritesFront (W.contents writer.old) (W.contents writer.new)
-        (report_text config.now end) }
+    ensures front { WritesReportFront R.can_fail config.now zone.now
+        (λ l. list_any (λ post. post.lane.0 == l) posts.items) (R.remaining feed) result
+        (W.contents writer.old) (W.contents writer.new) }
     ensures fault { IfErr result (λ fault. IsWriteFault fault) }
 {
-    let end = Engine::run(alloc, config, zone, feed, posts, settings);
-    write_report(alloc, config, &end, writer)
+    match Run::start(alloc, config, zone, feed, posts, settings) {
+        Ok(begun) => tell(alloc, config, begun, writer),
+        Err(_end) => Err(CommandFault::NoMemory),
+    }
+}
+
+/// The rest of a run of whose feed nothing is read. Where there is no memory for its lines nothing is told of it.
+fn tell<R: Input + Drop, W: Write>(
+    alloc: Global,
+    config: &Config,
+    begun: Run<'_, R>,
+    writer: &mut W,
+) -> Result<Ending, CommandFault>
+    requires { (zone : Zone) × (posted : ℕ → Bool) × (known : Option (List ℕ))
+        × HasTaken R.can_fail config.now zone posted known [] (Ok Turn.GoesOn) (run_value begun) }
+    ensures report { (zone : Zone) (posted : ℕ → Bool) (known : Option (List ℕ))
+        → HasTaken R.can_fail config.now zone posted known [] (Ok Turn.GoesOn) (run_value begun)
+        → IfOk result (λ ending. WritesReport R.can_fail config.now zone posted known ending
+        (W.contents writer.old) (W.contents writer.new)) }
+    ensures front { (zone : Zone) (posted : ℕ → Bool) (known : Option (List ℕ))
+        → HasTaken R.can_fail config.now zone posted known [] (Ok Turn.GoesOn) (run_value begun)
+        → WritesReportFront R.can_fail config.now zone posted known result
+        (W.contents writer.old) (W.contents writer.new) }
+    ensures fault { IfErr result (λ fault. IsWriteFault fault) }
+{
+    match Lines::new(alloc) {
+        Ok(lines) => tell_lines(Telling::new(lines), config, begun, writer),
+        Err(_) => {
+            let _untold = begun.complete();
+            Err(CommandFault::NoMemory)
+        }
+    }
+}
+
+/// The same, where nothing was told yet.
+fn tell_lines<R: Input + Drop, W: Write>(
+    mut telling: Telling,
+    config: &Config,
+    mut begun: Run<'_, R>,
+    writer: &mut W,
+) -> Result<Ending, CommandFault>
+    requires taken { (zone : Zone) × (posted : ℕ → Bool) × (known : Option (List ℕ))
+        × HasTaken R.can_fail config.now zone posted known [] (Ok Turn.GoesOn) (run_value begun) }
+    requires held { telling.lines ≡ [] }
+    requires none { telling.fault ≡ None }
+    ensures report { (zone : Zone) (posted : ℕ → Bool) (known : Option (List ℕ))
+        → HasTaken R.can_fail config.now zone posted known [] (Ok Turn.GoesOn)
+        (run_value begun.entry)
+        → IfOk result (λ ending. WritesReport R.can_fail config.now zone posted known ending
+        (W.contents writer.old) (W.contents writer.new)) }
+    ensures front { (zone : Zone) (posted : ℕ → Bool) (known : Option (List ℕ))
+        → HasTaken R.can_fail config.now zone posted known [] (Ok Turn.GoesOn)
+        (run_value begun.entry)
+        → WritesReportFront R.can_fail config.now zone posted known result
+        (W.contents writer.old) (W.contents writer.new) }
+    ensures fault { IfErr result (λ fault. IsWriteFault fault) }
+{
+    let read = telling.tell_turns(&mut begun, config, writer);
+    let end = begun.close(read);
+    telling.tell_lanes(&end.lanes, config, writer);
+    outcome_of(&end, telling.finish(writer))
+}
+
+/// How a run ended whose report was written, or not for this fault.
+fn outcome_of(end: &RunEnd, fault: Option<CommandFault>) -> Result<Ending, CommandFault>
+    ensures ok { IfOk result (λ ending. (end.now.memory ≡ false) × (fault ≡ None)
+        × (ending ≡ ending_of end.now)) }
+    ensures output { IsErrOf result CommandFault.Output → end.now.memory ≡ false }
+    ensures fault { IfErr result (λ found. (found ≡ CommandFault.NoMemory) ⊎ (fault ≡ Some found)) }
+{
+    if end.memory {
+        return Err(CommandFault::NoMemory);
+    }
+    match fault {
+        None => Ok(ending_of(end)),
+        Some(fault) => Err(fault),
+    }
+}
+
+/// How a run ended whose report was written.
+fn ending_of(end: &RunEnd) -> Ending
+    ensures { result ≡ ending_of end.now }
+{
+    if end.cut {
+        Ending::Short
+    } else if has_undelivered(&end.lanes) {
+        Ending::Undelivered
+    } else {
+        Ending::Whole
+    }
 }

@@ -1,16 +1,16 @@
-use Rattle.std.proofs.Common.{◌≡◌, ◌+◌, ◌-◌, ℕ, Bool}
+use Rattle.std.proofs.Common.{◌≡◌, ℕ, Bool, List, Ok, Option}
+use Rattle.due_model.specs.declared.config.Config.{Config}
 use Rattle.due_model.specs.declared.zone.Zone.{Zone}
-use Rattle.event_feed.specs.Feed.{Feed, feed_limit}
-use Rattle.engine.specs.Served.{GoesOn, desk_value}
+use Rattle.event_feed.specs.Feed.{Answer}
+use Rattle.engine.specs.Run.{HasTaken, lines_left, run_value}
+use Rattle.engine.specs.declared.run.Turn.TheVariants.{GoesOn}
 use Rattle.engine.proofs.run.Run.read_all.Given as goal
 
 abbrev pub invariant-loop-cut : goal.invariant-loop-cut
 invariant-loop-cut g l =
-    (l.self.desk.delivery.config.now ≡ l.fn.self.desk.delivery.config.now)
-    × (l.self.ends ≡ l.fn.self.ends)
-    × ((zone : Zone) (posted : ℕ → Bool) (start : Feed)
-    → GoesOn l.fn.self.desk.delivery.config.now zone posted start l.fn.self.intake.read (desk_value l.fn.self.desk)
-    → GoesOn l.fn.self.desk.delivery.config.now zone posted start l.self.intake.read (desk_value l.self.desk))
+    (c : Config) (zone : Zone) (posted : ℕ → Bool) (known : Option (List ℕ)) (said : List Answer)
+    → HasTaken g.R.Input.can_fail c zone posted known said (Ok GoesOn) (run_value l.fn.self)
+    → (now : List Answer) × HasTaken g.R.Input.can_fail c zone posted known now (Ok GoesOn) (run_value l.self)
 
 abbrev pub decreases-loop-cut : goal.decreases-loop-cut
-decreases-loop-cut g l = feed_limit + 1 - l.self.intake.read.feed.line
+decreases-loop-cut g l = lines_left (run_value l.self)

@@ -1,122 +1,23 @@
-use Rattle.std.proofs.Common.{ap, refl, arith}
-use Rattle.std.proofs.lemmas.Result.{IfOk-weaker, on_err_weaker}
-use Rattle.engine.specs.Feed.{goes_on}
-use Rattle.engine.specs.Served.{desk_value}
-use Rattle.engine.proofs.DeskLaws.{err_always}
-use Rattle.engine.proofs.LineLaws.{line_offers, line_over, line_refused, line_stopped, ok_always, still_stands}
+use Rattle.std.proofs.Common.{ap, length, subst, sym, vec_capacity}
+use Rattle.due_model.specs.Accepted.{IsAccepted}
+use Rattle.engine.specs.Run.{run_value}
+use Rattle.engine.proofs.LineLaws.{goes_told, is_config, shorter_by, turn_taken}
 use Rattle.engine.proofs.run.Run.take_line.Goals as goal
 
-pub next-requires : goal.next-requires
-next-requires g c = c.requires.goes_on.3.read.goes_on
+pub next_turn-requires-clause-accepted : goal.next_turn-requires-clause-accepted
+next_turn-requires-clause-accepted g c =
+    let h = c.requires in
+    subst IsAccepted (sym (is_config g.R.Input.can_fail h.0 h.1 h.2 h.3 h.4 (run_value c.args.self.now) h.5)) h.5.accepted
 
-pub returns-in_err-event-clause-stopped : goal.returns-in_err-event-clause-stopped
-returns-in_err-event-clause-stopped g c =
-    let now = c.args.self.now in
-    err_always c.from_residual.result
-    (λ zone posted start goes. line_stopped now.desk.delivery.config.now zone posted start now.intake.read c.next.new.self.read (desk_value now.desk) goes c.in_err-event.ensures.err)
+pub next_turn-requires-clause-goes_on : goal.next_turn-requires-clause-goes_on
+next_turn-requires-clause-goes_on g c =
+    let h = c.requires in
+    (h.1, h.2, h.5.start, h.4, goes_told g.R.Input.can_fail h.0 h.1 h.2 h.3 h.4 (run_value c.args.self.now) h.5)
 
-pub returns-in_err-event-clause-config : goal.returns-in_err-event-clause-config
-returns-in_err-event-clause-config g c = refl
+pub returns-clause-taken : goal.returns-clause-taken
+returns-clause-taken g c = λ config zone posted known said h.
+    turn_taken g.R.Input.can_fail config zone posted known said c.next_turn.result (run_value c.args.self.now) (run_value c.next_turn.new.self) h
+    c.next_turn.ensures.turn (ap (λ ends. length ends.items) c.next_turn.ensures.ends) (ap vec_capacity c.next_turn.ensures.ends)
 
-pub returns-in_err-event-clause-ends : goal.returns-in_err-event-clause-ends
-returns-in_err-event-clause-ends g c = refl
-
-pub take_event-requires-clause-accepted : goal.take_event-requires-clause-accepted
-take_event-requires-clause-accepted g c = c.requires.accepted
-
-pub take_event-requires-clause-offers : goal.take_event-requires-clause-offers
-take_event-requires-clause-offers g c =
-    let now = c.args.self.now in
-    let goes = c.requires.goes_on in (
-      goes.0,
-      goes.1,
-      goes.2,
-      line_offers g.R.Input.can_fail now.desk.delivery.config.now c.config.result.now c.config.ensures goes.0 goes.1 goes.2 now.intake.read c.next.new.self.read (desk_value now.desk) goes.3
-          c.in_ok-event.field-0 c.in_ok-event.ensures.next c.next.ensures.events c.in-Accepts.event c.in-Accepts.is,
-      still_stands g.R.Input.can_fail now.desk.delivery.config.now c.config.result.now c.config.ensures goes.0 goes.1 goes.2 now.intake.read c.next.new.self.read (desk_value now.desk) goes.3
-          c.in_ok-event.field-0 c.in_ok-event.ensures.next c.next.ensures.events,
-    )
-
-pub take_event-requires-clause-events_room : goal.take_event-requires-clause-events_room
-take_event-requires-clause-events_room g c = c.in_ok-event.ensures.events_room (ap goes_on c.in-Accepts.is)
-
-pub take_event-requires-clause-refused_room : goal.take_event-requires-clause-refused_room
-take_event-requires-clause-refused_room g c = c.in_ok-event.ensures.refused_room c.in-Accepts.event c.in-Accepts.is
-
-pub returns-in-Accepts-clause-turn : goal.returns-in-Accepts-clause-turn
-returns-in-Accepts-clause-turn g c =
-    let now = c.args.self.now in
-    IfOk-weaker c.take_event.result _ _
-    (λ turn h zone posted start goes.
-    h zone posted start
-    (line_offers g.R.Input.can_fail now.desk.delivery.config.now c.config.result.now c.config.ensures zone posted start now.intake.read c.next.new.self.read (desk_value now.desk) goes
-    c.in_ok-event.field-0 c.in_ok-event.ensures.next c.next.ensures.events c.in-Accepts.event c.in-Accepts.is)
-    (still_stands g.R.Input.can_fail now.desk.delivery.config.now c.config.result.now c.config.ensures zone posted start now.intake.read c.next.new.self.read (desk_value now.desk) goes
-    c.in_ok-event.field-0 c.in_ok-event.ensures.next c.next.ensures.events))
-    c.take_event.ensures.turn
-
-pub returns-in-Accepts-clause-stopped : goal.returns-in-Accepts-clause-stopped
-returns-in-Accepts-clause-stopped g c =
-    let now = c.args.self.now in
-    on_err_weaker c.take_event.result
-    (λ h zone posted start goes.
-    h zone posted start
-    (line_offers g.R.Input.can_fail now.desk.delivery.config.now c.config.result.now c.config.ensures zone posted start now.intake.read c.next.new.self.read (desk_value now.desk) goes
-    c.in_ok-event.field-0 c.in_ok-event.ensures.next c.next.ensures.events c.in-Accepts.event c.in-Accepts.is)
-    (still_stands g.R.Input.can_fail now.desk.delivery.config.now c.config.result.now c.config.ensures zone posted start now.intake.read c.next.new.self.read (desk_value now.desk) goes
-    c.in_ok-event.field-0 c.in_ok-event.ensures.next c.next.ensures.events))
-    c.take_event.ensures.stopped
-
-pub returns-in-Accepts-clause-line : goal.returns-in-Accepts-clause-line
-returns-in-Accepts-clause-line g c =
-    let more = c.in_ok-event.ensures.line (ap goes_on c.in-Accepts.is) in
-    let same = ap (λ f. f.line) c.take_event.ensures.feed in
-    ok_always c.take_event.result _ (λ turn is. omega (arith, more, same))
-
-pub returns-in-Accepts-clause-limit : goal.returns-in-Accepts-clause-limit
-returns-in-Accepts-clause-limit g c =
-    let few = c.in_ok-event.ensures.limit in
-    let same = ap (λ f. f.line) c.take_event.ensures.feed in
-    ok_always c.take_event.result _ (λ turn. omega (arith, few, same))
-
-pub returns-in-Accepts-clause-config : goal.returns-in-Accepts-clause-config
-returns-in-Accepts-clause-config g c = c.take_event.ensures.config
-
-pub returns-in-Accepts-clause-ends : goal.returns-in-Accepts-clause-ends
-returns-in-Accepts-clause-ends g c = c.take_event.ensures.ends
-
-pub returns-in-Refused-clause-turn : goal.returns-in-Refused-clause-turn
-returns-in-Refused-clause-turn g c = λ zone posted start goes.
-    let now = c.args.self.now in
-    line_refused g.R.Input.can_fail now.desk.delivery.config.now c.config.result.now c.config.ensures zone posted start now.intake.read c.next.new.self.read (desk_value now.desk) goes
-    c.in_ok-event.field-0 c.in_ok-event.ensures.next c.next.ensures.events c.in-Refused.is
-
-pub returns-in-Refused-clause-line : goal.returns-in-Refused-clause-line
-returns-in-Refused-clause-line g c = λ is. c.in_ok-event.ensures.line (ap goes_on c.in-Refused.is)
-
-pub returns-in-Refused-clause-limit : goal.returns-in-Refused-clause-limit
-returns-in-Refused-clause-limit g c = c.in_ok-event.ensures.limit
-
-pub returns-in-Refused-clause-config : goal.returns-in-Refused-clause-config
-returns-in-Refused-clause-config g c = refl
-
-pub returns-in-Refused-clause-ends : goal.returns-in-Refused-clause-ends
-returns-in-Refused-clause-ends g c = refl
-
-pub returns-in-Over-clause-turn : goal.returns-in-Over-clause-turn
-returns-in-Over-clause-turn g c = λ zone posted start goes.
-    let now = c.args.self.now in
-    line_over g.R.Input.can_fail now.desk.delivery.config.now c.config.result.now c.config.ensures zone posted start now.intake.read c.next.new.self.read (desk_value now.desk) goes
-    c.in_ok-event.field-0 c.in_ok-event.ensures.next c.next.ensures.events c.in-Over.cut c.in-Over.is
-
-pub returns-in-Over-clause-line : goal.returns-in-Over-clause-line
-returns-in-Over-clause-line g c = λ is. absurd (cc)
-
-pub returns-in-Over-clause-limit : goal.returns-in-Over-clause-limit
-returns-in-Over-clause-limit g c = c.in_ok-event.ensures.limit
-
-pub returns-in-Over-clause-config : goal.returns-in-Over-clause-config
-returns-in-Over-clause-config g c = refl
-
-pub returns-in-Over-clause-ends : goal.returns-in-Over-clause-ends
-returns-in-Over-clause-ends g c = refl
+pub returns-clause-shorter : goal.returns-clause-shorter
+returns-clause-shorter g c = λ is. shorter_by c.next_turn.result is (run_value c.args.self.now) (run_value c.next_turn.new.self) c.next_turn.ensures.line c.next_turn.ensures.limit

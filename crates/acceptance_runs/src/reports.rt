@@ -1,0 +1,195 @@
+//! Reports of the worked examples.
+
+use crate::watchers::{Counting, Stubborn, Watching};
+use acceptance_inputs::accepted::is_accepted;
+use acceptance_inputs::configs::base;
+use channel::Channel;
+use channel::memory::MemoryChannel;
+use command_output::{CommandFault, Ending};
+use due_model::config::{Config, LaneId};
+use due_model::zone::Zone;
+use engine::{Post, Settings};
+use run_command::run;
+use std::alloc::{AllocError, Global};
+use std::cell::Cell;
+use std::io::{Read, Write};
+use std::process::Abort;
+use std::test::Fail;
+use text_lines::AnyReader;
+
+/// The greatest length of a letter's text.
+const LIMIT: u64 = 65_536;
+
+/// A channel in memory for the one lane, which fails at the calls that are listed.
+fn mail(alloc: Global, fails: &[u64]) -> Result<Vec<Post>, AllocError> {
+    let channel = MemoryChannel::new(alloc, LIMIT, fails)?;
+    let channel: Box<dyn Channel> = Box::new(alloc, channel)?;
+    let mut posts = Vec::new(alloc);
+    posts.push(Post {
+        lane: LaneId(0),
+        channel,
+    })?;
+    Ok(posts)
+}
+
+/// How a run of a feed ends, where a letter is tried twice at most.
+fn ends<R: Read + Drop, W: Write>(
+    rt: &impl Abort,
+    alloc: Global,
+    config: &Config,
+    posts: Vec<Post>,
+    feed: R,
+    out: &mut W,
+) -> Result<Ending, CommandFault> {
+    assert!(rt; is_accepted(config), "the configuration is accepted");
+    let settings = Settings::new(1, 1, 2).expect(rt, "settings in range");
+    let feed = AnyReader::new(feed);
+    run(alloc, config, &Zone::Utc, settings, posts, feed, out)
+}
+
+/// A feed, what is written, and how it ends.
+type Example = (&'static str, &'static str, Ending);
+
+/// Runs a feed, and compares what is written and how it ends.
+fn gives(
+    rt: &impl Abort,
+    alloc: Global,
+    config: &Config,
+    posts: Vec<Post>,
+    out: &mut Vec<u8>,
+    example: Example,
+) {
+    let (feed, report, ending) = example;
+    let ended = ends(rt, alloc, config, posts, feed.as_bytes(), out);
+    assert_eq!(rt; ended, Ok(ending), "{feed}");
+    assert_eq!(rt; out.as_slice(), report.as_bytes(), "{feed}");
+}
+
+const NO_CHANNEL: Example = (
+    "[1000] HOST_STATE;web;DOWN\n",
+    "U;mail;0;web;ann\nZ;mail;NoChannel\n",
+    Ending::Undelivered,
+);
+
+/// A lane without a channel gives all up.
+#[test]
+fn no_channel(rt: HostRuntime) -> Result<(), Fail> {
+    let config = base(rt.alloc())?;
+    let posts = Vec::new(rt.alloc());
+    let mut out = Vec::new(rt.alloc());
+    gives(&rt, rt.alloc(), &config, posts, &mut out, NO_CHANNEL);
+    Ok(())
+}
+
+/// A host that is down, and told of again after a minute; in between, one event that is suppressed and one line that is no event.
+const FEED: &str = "[1000] HOST_STATE;web;DOWN\n[1030] HOST_STATE;web;DOWN\n[x] CLOCK\n[1059] CLOCK\n[1060] CLOCK\n";
+
+const WHOLE: Example = (
+    FEED,
+    "S;1;1030;web;PROBLEM;DOWN;Interval\nR;3;BadStamp\nT;mail;0;web;ann\nT;mail;3;web;ann\nZ;mail;FeedOver\n",
+    Ending::Whole,
+);
+
+/// A suppressed event and a refused line are told in the order of the feed, and then what the channel has taken.
+#[test]
+fn in_the_order_of_the_feed(rt: HostRuntime) -> Result<(), Fail> {
+    let config = base(rt.alloc())?;
+    let posts = mail(rt.alloc(), &[])?;
+    let mut out = Vec::new(rt.alloc());
+    gives(&rt, rt.alloc(), &config, posts, &mut out, WHOLE);
+    Ok(())
+}
+
+const SECOND_FAILS: Example = (
+    FEED,
+    "S;1;1030;web;PROBLEM;DOWN;Interval\nR;3;BadStamp\nT;mail;0;web;ann\nU;mail;3;web;ann\nZ;mail;Failed\n",
+    Ending::Undelivered,
+);
+
+/// The second letter fails as often as it may be tried.
+#[test]
+fn second_letter_fails(rt: HostRuntime) -> Result<(), Fail> {
+    let config = base(rt.alloc())?;
+    let posts = mail(rt.alloc(), &[2, 3])?;
+    let mut out = Vec::new(rt.alloc());
+    gives(&rt, rt.alloc(), &config, posts, &mut out, SECOND_FAILS);
+    Ok(())
+}
+
+const CUT: Example = (
+    "[1000] HOST_STATE;web;DOWN\n[10",
+    "R;2;Cut\nU;mail;0;web;ann\nZ;mail;NoChannel\n",
+    Ending::Short,
+);
+
+/// A feed that is cut is said to be short, and not that something is undelivered.
+#[test]
+fn cut_and_undelivered(rt: HostRuntime) -> Result<(), Fail> {
+    let config = base(rt.alloc())?;
+    let posts = Vec::new(rt.alloc());
+    let mut out = Vec::new(rt.alloc());
+    gives(&rt, rt.alloc(), &config, posts, &mut out, CUT);
+    Ok(())
+}
+
+/// What the lines say is written before the reader is called for more: 35 bytes of the second, 13 of the third.
+fn writes_at_once(rt: &impl Abort, alloc: Global, config: &Config, posts: Vec<Post>) {
+    let written = Cell::new(0);
+    let noted = Cell::new(0);
+    let left = Cell::new(0);
+    let reader = Watching {
+        lines: FEED.as_bytes(),
+        written: &written,
+        noted: &noted,
+        left: &left,
+    };
+    let mut writer = Counting { written: &written };
+    let ended = ends(rt, alloc, config, posts, reader, &mut writer);
+    assert_eq!(rt;
+        (ended, noted.get(), written.get()),
+        (Ok(Ending::Whole), 48, 98)
+    );
+}
+
+#[test]
+fn as_it_comes(rt: HostRuntime) -> Result<(), Fail> {
+    let config = base(rt.alloc())?;
+    let posts = mail(rt.alloc(), &[])?;
+    writes_at_once(&rt, rt.alloc(), &config, posts);
+    Ok(())
+}
+
+/// Where the output fails at a call, the feed is read to its end all the same, and a front of the report was written.
+fn reads_on(rt: &impl Abort, alloc: Global, config: &Config, posts: Vec<Post>, calls: usize) {
+    let written = Cell::new(0);
+    let noted = Cell::new(0);
+    let left = Cell::new(0);
+    let reader = Watching {
+        lines: FEED.as_bytes(),
+        written: &written,
+        noted: &noted,
+        left: &left,
+    };
+    let mut writer = Stubborn {
+        calls,
+        taken: Vec::new(alloc),
+    };
+    let ended = ends(rt, alloc, config, posts, reader, &mut writer);
+    let (_feed, report, _ending) = WHOLE;
+    let front = &report.as_bytes()[..calls.saturating_mul(5).min(report.len())];
+    assert_eq!(rt;
+        (ended, left.get(), writer.taken.as_slice()),
+        (Err(CommandFault::Output), 0, front),
+        "after {calls} calls"
+    );
+}
+
+#[test]
+fn output_fails(rt: HostRuntime) -> Result<(), Fail> {
+    let config = base(rt.alloc())?;
+    for calls in 0..7 {
+        let posts = mail(rt.alloc(), &[])?;
+        reads_on(&rt, rt.alloc(), &config, posts, calls);
+    }
+    Ok(())
+}

@@ -1,0 +1,172 @@
+-- What is told of a line of the feed is what its turn added.
+use Rattle.std.proofs.Common.{◌≡◌, ℕ, ◌≤◌, Bool, true, false, List, [], ◌∷◌, ◌++◌, drop, flat_map, length, reverse, Option, Some, None, Result, Ok, Err, IfErr, IfNone, IfSome, OnOk, is_none, refl, sym, ap, subst, ◌∙◌, append_assoc, arith}
+use Rattle.std.specs.Result.{result_err}
+use Rattle.std.proofs.Math.Seq.{drop-append_seam}
+use Rattle.std.proofs.lemmas.Grind.{flat_map-append}
+use Rattle.std.proofs.lemmas.List.{append-nil, length-append, reverse-append}
+use Rattle.due_model.specs.declared.config.Config.{Config}
+use Rattle.due_model.specs.declared.event.Event.{Event}
+use Rattle.due_model.specs.declared.notice.Suppression.{Suppression}
+use Rattle.due_model.specs.declared.zone.Zone.{Zone}
+use Rattle.decider.specs.Decider.{suppressed_gained}
+use Rattle.event_feed.specs.declared.fault.FeedFault.{FeedFault}
+use Rattle.event_feed.specs.declared.fault.RefusedLine.{RefusedLine}
+use Rattle.event_feed.specs.Feed.{Answer}
+use Rattle.engine.specs.Due.{suppressed, whole_share}
+use Rattle.engine.specs.Feed.{event_in, events_in, refused_in, refusals_in, with_one}
+use Rattle.command_output.specs.declared.outcome.CommandFault.{CommandFault}
+use Rattle.command_output.specs.Outcome.{IsWriteFault}
+use Rattle.command_output.specs.Output.{Leaves, Writes, WritesFront}
+use Rattle.command_output.specs.OutputLaws.{front_less, front_longer, front_on, leaves_less, leaves_on}
+use Rattle.run_command.specs.Report.{answer_text, log_text, refused_text, told_after}
+use Rattle.run_command.specs.Told.{IsTold}
+
+-- ---- more is told
+
+-- after a fault nothing is written
+told_off : (before now : Option (List ℕ)) (text part held : List ℕ) (was : Option CommandFault) → is_none was ≡ false → IsTold before now text held was → IsTold before now (text ++ part) held was
+told_off before now text part held None e h = absurd (cc)
+told_off before now text part held (Some fault) e h = (front_longer before now text part h.0, h.1)
+
+-- the part was written, or a front of it
+by_result : (before old new : Option (List ℕ)) (text held part held' : List ℕ) (done : Result Unit CommandFault) → OnOk done (Leaves old new (held ++ part) held')
+    → WritesFront old new (held ++ part) → IfErr done (λ fault. IsWriteFault fault) → Leaves before old text held → IsTold before new (text ++ part) held' (result_err done)
+by_result before old new text held part held' (Ok x) ok front fault h = leaves_on before old new text held part held' h ok
+by_result before old new text held part held' (Err e) ok front fault h = (front_on before old new text held part h front, fault)
+
+pub told_on : (before old new : Option (List ℕ)) (text held part held' : List ℕ) (was : Option CommandFault) (done : Result Unit CommandFault) → is_none was ≡ true
+    → OnOk done (Leaves old new (held ++ part) held') → WritesFront old new (held ++ part) → IfErr done (λ fault. IsWriteFault fault)
+    → IsTold before old text held was → IsTold before new (text ++ part) held' (result_err done)
+told_on before old new text held part held' None done e ok front fault h = by_result before old new text held part held' done ok front fault h
+told_on before old new text held part held' (Some f) done e ok front fault h = absurd (cc)
+
+pub told_no_more : (before now : Option (List ℕ)) (text part held : List ℕ) (was : Option CommandFault) → is_none was ≡ false → IsTold before now text held was → IsTold before now (text ++ part) held was
+told_no_more before now text part held was e h = told_off before now text part held was e h
+
+-- what was held back was written, or a front of it
+flushed_by : (before old new : Option (List ℕ)) (text held held' : List ℕ) (done : Result Unit CommandFault) → OnOk done (Leaves old new held []) → WritesFront old new held → held' ≡ []
+    → IfErr done (λ fault. IsWriteFault fault) → Leaves before old text held → IsTold before new text held' (result_err done)
+flushed_by before old new text held held' (Ok x) ok front none fault h = subst (λ (xs : List ℕ). Leaves before new text xs) (sym none) (leaves_less before old new text held [] h ok)
+flushed_by before old new text held held' (Err e) ok front none fault h = (front_less before old new text held h front, fault)
+
+pub told_flushed : (before old new : Option (List ℕ)) (text held held' : List ℕ) (was : Option CommandFault) (done : Result Unit CommandFault) → is_none was ≡ true
+    → OnOk done (Leaves old new held []) → WritesFront old new held → held' ≡ [] → IfErr done (λ fault. IsWriteFault fault)
+    → IsTold before old text held was → IsTold before new text held' (result_err done)
+told_flushed before old new text held held' None done e ok front none fault h = flushed_by before old new text held held' done ok front none fault h
+told_flushed before old new text held held' (Some f) done e ok front none fault h = absurd (cc)
+
+-- nothing was told of nothing
+pub told_nothing : (known : Option (List ℕ)) (held : List ℕ) (was : Option CommandFault) → held ≡ [] → was ≡ None → Leaves known known [] [] → IsTold known known [] held was
+told_nothing known held was none no_fault h =
+    subst (λ (f : Option CommandFault). IsTold known known [] held f) (sym no_fault) (subst (λ (xs : List ℕ). Leaves known known [] xs) (sym none) h)
+
+-- all was told
+record HasFinished (before now : Option (List ℕ)) (text : List ℕ) (fault : Option CommandFault) : Type 0 where
+  pub whole : IfNone fault (Writes before now text)
+  pub front : WritesFront before now text
+  pub kind : IfSome fault (λ f. IsWriteFault f)
+
+finished_by : (before now : Option (List ℕ)) (text : List ℕ) (fault : Option CommandFault) → IsTold before now text [] fault → HasFinished before now text fault
+finished_by before now text None h = record { whole = subst (λ (xs : List ℕ). Writes before now xs) (sym (append-nil h.0) ∙ h.2) h.1; front = ([], h); kind = tt }
+finished_by before now text (Some f) h = record { whole = tt; front = h.0; kind = h.1 }
+
+-- ---- the lines of a feed, one after another
+
+reverse_one : (given : Result Event FeedFault) → reverse (event_in given) ≡ event_in given
+reverse_one (Ok e) = refl
+reverse_one (Err f) = refl
+
+past_after : (answer : Answer) (said : List Answer) (past : List Event) → reverse (events_in (answer ∷ said)) ++ past ≡ reverse (events_in said) ++ (event_in answer.given ++ past)
+past_after answer said past =
+    ap (λ (xs : List Event). xs ++ past) (reverse-append (event_in answer.given) (events_in said) ∙ ap (λ (xs : List Event). reverse (events_in said) ++ xs) (reverse_one answer.given))
+    ∙ append_assoc (reverse (events_in said)) (event_in answer.given) past
+
+told_push : (c : Config) (zone : Zone) (past : List Event) (said : List Answer) (last : Answer)
+    → told_after c zone past (said ++ last ∷ []) ≡ told_after c zone past said ++ answer_text c zone (reverse (events_in said) ++ past) last.line last.given
+told_push c zone past [] last = append-nil (answer_text c zone past last.line last.given)
+told_push c zone past (answer ∷ said) last =
+    let here = answer_text c zone past answer.line answer.given in
+    let after = event_in answer.given ++ past in
+    ap (λ (text : List ℕ). here ++ text) (told_push c zone after said last)
+    ∙ sym (append_assoc here (told_after c zone after said) (answer_text c zone (reverse (events_in said) ++ after) last.line last.given))
+    ∙ ap (λ (xs : List Event). (here ++ told_after c zone after said) ++ answer_text c zone xs last.line last.given) (sym (past_after answer said past))
+
+-- what a turn added of a list
+record Adds {X : Type 0} (old new added : List X) : Type 0 where
+  pub within : length old ≤ length new
+  pub added_is : drop (length old) new ≡ added
+
+adds : {X : Type 0} (old new added : List X) → new ≡ old ++ added → Adds old new added
+adds {X} old new added e = record {
+  within = omega (arith, ap length e, length-append old added);
+  added_is = ap (λ (xs : List X). drop (length old) xs) e ∙ drop-append_seam old added;
+}
+
+refused_added : Option Answer → List RefusedLine
+refused_added None = []
+refused_added (Some answer) = refused_in answer.line answer.given
+
+log_added : Config → Zone → List Event → Option Answer → List Suppression
+log_added c zone past None = []
+log_added c zone past (Some answer) = elim answer.given as (λ _. List Suppression) [ Ok e ↦ suppressed_gained c zone whole_share e past | Err f ↦ [] ]
+
+refused_one : (said : List Answer) (last : Option Answer) → refusals_in (with_one said last) ≡ refusals_in said ++ refused_added last
+refused_one said None = sym (append-nil (refusals_in said))
+refused_one said (Some answer) =
+    flat_map-append (λ (a : Answer). refused_in a.line a.given) said (answer ∷ []) ∙ ap (λ (more : List RefusedLine). refusals_in said ++ more) (append-nil (refused_in answer.line answer.given))
+
+events_one : (said : List Answer) (answer : Answer) → reverse (events_in (said ++ answer ∷ [])) ≡ event_in answer.given ++ reverse (events_in said)
+events_one said answer =
+    ap reverse (flat_map-append (λ (a : Answer). event_in a.given) said (answer ∷ []) ∙ ap (λ (more : List Event). events_in said ++ more) (append-nil (event_in answer.given)))
+    ∙ reverse-append (events_in said) (event_in answer.given) ∙ ap (λ (xs : List Event). xs ++ reverse (events_in said)) (reverse_one answer.given)
+
+suppressed_by : (c : Config) (zone : Zone) (past : List Event) (line : ℕ) (given : Result Event FeedFault)
+    → suppressed c zone (event_in given ++ past) ≡ suppressed c zone past ++ log_added c zone past (Some (record { line = line; given = given }))
+suppressed_by c zone past line (Ok e) = refl
+suppressed_by c zone past line (Err f) = sym (append-nil (suppressed c zone past))
+
+log_one : (c : Config) (zone : Zone) (said : List Answer) (last : Option Answer)
+    → suppressed c zone (reverse (events_in (with_one said last))) ≡ suppressed c zone (reverse (events_in said)) ++ log_added c zone (reverse (events_in said)) last
+log_one c zone said None = sym (append-nil (suppressed c zone (reverse (events_in said))))
+log_one c zone said (Some answer) =
+    ap (λ (xs : List Event). suppressed c zone xs) (events_one said answer) ∙ suppressed_by c zone (reverse (events_in said)) answer.line answer.given
+
+-- the lines of what was added are those of the answer
+text_by : (c : Config) (zone : Zone) (past : List Event) (line : ℕ) (given : Result Event FeedFault)
+    → answer_text c zone past line given
+    ≡ refused_text (refused_in line given) ++ log_text c (log_added c zone past (Some (record { line = line; given = given })))
+text_by c zone past line (Ok e) = refl
+text_by c zone past line (Err f) =
+    sym (append-nil (answer_text c zone past line (Err f))) ∙ ap (λ (xs : List ℕ). xs ++ []) (sym (append-nil (answer_text c zone past line (Err f))))
+
+text_one : (c : Config) (zone : Zone) (said : List Answer) (last : Option Answer)
+    → told_after c zone [] (with_one said last) ≡ told_after c zone [] said ++ (refused_text (refused_added last) ++ log_text c (log_added c zone (reverse (events_in said)) last))
+text_one c zone said None = sym (append-nil (told_after c zone [] said))
+text_one c zone said (Some answer) =
+    told_push c zone [] said answer
+    ∙ ap (λ (xs : List Event). told_after c zone [] said ++ answer_text c zone xs answer.line answer.given) (append-nil (reverse (events_in said)))
+    ∙ ap (λ (text : List ℕ). told_after c zone [] said ++ text) (text_by c zone (reverse (events_in said)) answer.line answer.given)
+
+-- The refused lines and the suppressions of a run, before a turn and after it.
+module _ (c : Config) (zone : Zone) (said : List Answer) (last : Option Answer) (refused refused' : List RefusedLine) (log log' : List Suppression)
+    (was_refused : refused ≡ refusals_in said) (was_log : log ≡ suppressed c zone (reverse (events_in said)))
+    (is_refused : refused' ≡ refusals_in (with_one said last)) (is_log : log' ≡ suppressed c zone (reverse (events_in (with_one said last)))) where
+  refused_adds : Adds refused refused' (refused_added last)
+  refused_adds = adds refused refused' (refused_added last) (is_refused ∙ refused_one said last ∙ ap (λ (xs : List RefusedLine). xs ++ refused_added last) (sym was_refused))
+
+  log_adds : Adds log log' (log_added c zone (reverse (events_in said)) last)
+  log_adds = adds log log' (log_added c zone (reverse (events_in said)) last)
+      (is_log ∙ log_one c zone said last ∙ ap (λ (xs : List Suppression). xs ++ log_added c zone (reverse (events_in said)) last) (sym was_log))
+
+  pub refused_within : length refused ≤ length refused'
+  refused_within = refused_adds.within
+
+  pub log_within : length log ≤ length log'
+  log_within = log_adds.within
+
+  -- the text after the turn is the text before it, and the lines of what is more
+  pub turn_text : told_after c zone [] said ++ (refused_text (drop (length refused) refused') ++ log_text c (drop (length log) log')) ≡ told_after c zone [] (with_one said last)
+  turn_text =
+      ap (λ (rs : List RefusedLine). told_after c zone [] said ++ (refused_text rs ++ log_text c (drop (length log) log'))) refused_adds.added_is
+      ∙ ap (λ (ls : List Suppression). told_after c zone [] said ++ (refused_text (refused_added last) ++ log_text c ls)) log_adds.added_is
+      ∙ sym (text_one c zone said last)

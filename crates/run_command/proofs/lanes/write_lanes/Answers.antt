@@ -1,0 +1,17 @@
+use Rattle.std.proofs.Common.{◌++◌, subst}
+use Rattle.command_output.specs.Output.{Leaves, WritesFront}
+use Rattle.run_command.specs.Report.{lane_lines}
+use Rattle.run_command.proofs.ReportLaws.{line_cut, line_written}
+use Rattle.run_command.proofs.lanes.write_lanes.Goals as goal
+
+pub loop-lane-preserved : goal.loop-lane-preserved
+loop-lane-preserved g c =
+    line_written (lane_lines c.args.config.now) (g.W.Write.contents c.args.writer.now) (g.W.Write.contents c.loop-lane.writer) (g.W.Write.contents c.write_lane.new.writer)
+    c.args.lines.now c.loop-lane.lines c.args.lanes.now c.loop-lane.lane-index c.lane-item.result c.loop-lane-test.true c.loop-lane.invariant c.write_lane.new.lines
+    (subst (λ lane. Leaves (g.W.Write.contents c.loop-lane.writer) (g.W.Write.contents c.write_lane.new.writer) (c.loop-lane.lines ++ lane_lines c.args.config.now lane) c.write_lane.new.lines) c.lane-item.is c.in_ok-write_lane.ensures.ok)
+
+pub returns-in_err-write_lane-clause-front : goal.returns-in_err-write_lane-clause-front
+returns-in_err-write_lane-clause-front g c =
+    line_cut (lane_lines c.args.config.now) (g.W.Write.contents c.args.writer.now) (g.W.Write.contents c.loop-lane.writer) (g.W.Write.contents c.write_lane.new.writer)
+    c.args.lines.now c.loop-lane.lines c.args.lanes.now c.loop-lane.lane-index c.lane-item.result c.loop-lane-test.true c.loop-lane.invariant
+    (subst (λ lane. WritesFront (g.W.Write.contents c.loop-lane.writer) (g.W.Write.contents c.write_lane.new.writer) (c.loop-lane.lines ++ lane_lines c.args.config.now lane)) c.lane-item.is c.in_err-write_lane.ensures.front)

@@ -1,0 +1,176 @@
+//! What a run tells, as its feed comes.
+
+ghost use Rattle.std.specs.Prelude.{◌≡◌, ◌<◌, ◌++◌, ℕ, Bool, List, [], false, Ok, Option, None, IfNone, IfSome};
+ghost use Rattle.due_model.specs.declared.zone.Zone.{Zone};
+ghost use Rattle.event_feed.specs.Feed.{Answer};
+ghost use Rattle.text_lines.specs.Lines.{has_line};
+ghost use Rattle.engine.specs.Feed.{with_one};
+ghost use Rattle.engine.specs.Run.{HasTaken, last_turn, lines_left, run_value};
+ghost use Rattle.command_output.specs.Outcome.{IsWriteFault};
+ghost use Rattle.command_output.specs.Output.{Writes, WritesFront};
+ghost use Rattle.run_command.specs.Report.{lanes_text, log_text, refused_text, told_after};
+ghost use Rattle.run_command.specs.Told.{IsTold};
+
+use crate::lanes::write_lanes;
+use crate::turns::write_turn;
+use command_output::{CommandFault, Lines};
+use due_model::config::Config;
+use due_model::notice::Suppression;
+use engine::{LaneEnd, Run, Turn};
+use event_feed::RefusedLine;
+use std::alloc::AllocError;
+use std::io::Write;
+use text_lines::Input;
+
+/// The lines of a run on their way to a writer. After a fault nothing more is written.
+#[derive(Drop)]
+pub(crate) struct Telling {
+    lines: Lines,
+    fault: Option<CommandFault>,
+}
+
+impl Telling {
+    /// Nothing was told yet.
+    pub(crate) fn new(lines: Lines) -> Telling
+        ensures held { result.lines ≡ lines }
+        ensures fault { result.fault ≡ None }
+    {
+        Telling { lines, fault: None }
+    }
+
+    /// Reads the feed of a run to its end, and tells what each line of it gives before the reader is called for more. The
+    /// answer says whether the feed was cut; a growth that the run was refused is the only error.
+    pub(crate) fn tell_turns<R: Input + Drop, W: Write>(
+        &mut self,
+        run: &mut Run<'_, R>,
+        config: &Config,
+        writer: &mut W,
+    ) -> Result<bool, AllocError>
+        requires { (zone : Zone) × (posted : ℕ → Bool) × (known : Option (List ℕ))
+            × (said : List Answer) × HasTaken R.can_fail config.now zone posted known said
+            (Ok Turn.GoesOn) (run_value run.old) }
+        ensures { (zone : Zone) (posted : ℕ → Bool) (known before : Option (List ℕ))
+            (said : List Answer)
+            → HasTaken R.can_fail config.now zone posted known said (Ok Turn.GoesOn)
+            (run_value run.old)
+            → IsTold before (W.contents writer.old) (told_after config.now zone [] said)
+            self.old.lines self.old.fault
+            → (all : List Answer)
+            × HasTaken R.can_fail config.now zone posted known all (last_turn result)
+            (run_value run.new)
+            × IsTold before (W.contents writer.new) (told_after config.now zone [] all)
+            self.new.lines self.new.fault }
+    {
+        loop {
+            self.write_before_wait(run, writer);
+            match self.take_turn(run, config, writer) {
+                Ok(Turn::GoesOn) => {}
+                Ok(Turn::Over(cut)) => return Ok(cut),
+                Err(fault) => return Err(fault),
+            }
+        }
+    }
+
+    /// Takes the next line of the feed that says something, and tells what it gives.
+    fn take_turn<R: Input + Drop, W: Write>(
+        &mut self,
+        run: &mut Run<'_, R>,
+        config: &Config,
+        writer: &mut W,
+    ) -> Result<Turn, AllocError>
+        requires { (zone : Zone) × (posted : ℕ → Bool) × (known : Option (List ℕ))
+            × (said : List Answer) × HasTaken R.can_fail config.now zone posted known said
+            (Ok Turn.GoesOn) (run_value run.old) }
+        ensures taken { (zone : Zone) (posted : ℕ → Bool) (known before : Option (List ℕ))
+            (said : List Answer)
+            → HasTaken R.can_fail config.now zone posted known said (Ok Turn.GoesOn)
+            (run_value run.old)
+            → IsTold before (W.contents writer.old) (told_after config.now zone [] said)
+            self.old.lines self.old.fault
+            → (last : Option Answer)
+            × HasTaken R.can_fail config.now zone posted known (with_one said last) result
+            (run_value run.new)
+            × IsTold before (W.contents writer.new)
+            (told_after config.now zone [] (with_one said last)) self.new.lines self.new.fault }
+        ensures shorter { result ≡ Ok Turn.GoesOn
+            → lines_left (run_value run.new) < lines_left (run_value run.old) }
+    {
+        let refused = run.refused().len();
+        let suppressed = run.log().len();
+        let turn = run.take_line();
+        self.tell_turn(
+            &run.refused()[refused..],
+            &run.log()[suppressed..],
+            config,
+            writer,
+        );
+        turn
+    }
+
+    /// Writes all that is held back, unless a line of the feed is there to be read: else the next call of the reader may wait.
+    fn write_before_wait<R: Input + Drop, W: Write>(&mut self, run: &Run<'_, R>, writer: &mut W)
+        ensures told { (before : Option (List ℕ)) (text : List ℕ)
+            → IsTold before (W.contents writer.old) text self.old.lines self.old.fault
+            → IsTold before (W.contents writer.new) text self.new.lines self.new.fault }
+        ensures all { has_line (run_value run.now).intake.feed.held ≡ false
+            → self.new.fault ≡ None → self.new.lines ≡ [] }
+    {
+        if self.fault.is_none() && !run.has_line() {
+            self.fault = self.lines.flush(writer).err();
+        }
+    }
+
+    /// Tells refused lines, and then suppressions.
+    fn tell_turn<W: Write>(
+        &mut self,
+        refused: &[RefusedLine],
+        log: &[Suppression],
+        config: &Config,
+        writer: &mut W,
+    )
+        ensures { (before : Option (List ℕ)) (text : List ℕ)
+            → IsTold before (W.contents writer.old) text self.old.lines self.old.fault
+            → IsTold before (W.contents writer.new)
+            (text ++ (refused_text refused.now ++ log_text config.now log.now))
+            self.new.lines self.new.fault }
+    {
+        if self.fault.is_none() {
+            self.fault = write_turn(&mut self.lines, writer, config, refused, log).err();
+        }
+    }
+
+    /// Tells what lanes left.
+    pub(crate) fn tell_lanes<W: Write>(
+        &mut self,
+        lanes: &[LaneEnd],
+        config: &Config,
+        writer: &mut W,
+    )
+        ensures { (before : Option (List ℕ)) (text : List ℕ)
+            → IsTold before (W.contents writer.old) text self.old.lines self.old.fault
+            → IsTold before (W.contents writer.new) (text ++ lanes_text config.now lanes.now)
+            self.new.lines self.new.fault }
+    {
+        if self.fault.is_none() {
+            self.fault = write_lanes(&mut self.lines, writer, config, lanes).err();
+        }
+    }
+
+    /// Writes all that is held back. The answer is the fault of the writing, if there was one.
+    pub(crate) fn finish<W: Write>(mut self, writer: &mut W) -> Option<CommandFault>
+        ensures whole { (before : Option (List ℕ)) (text : List ℕ)
+            → IsTold before (W.contents writer.old) text self.entry.lines self.entry.fault
+            → IfNone result (Writes before (W.contents writer.new) text) }
+        ensures front { (before : Option (List ℕ)) (text : List ℕ)
+            → IsTold before (W.contents writer.old) text self.entry.lines self.entry.fault
+            → WritesFront before (W.contents writer.new) text }
+        ensures fault { (before : Option (List ℕ)) (text : List ℕ)
+            → IsTold before (W.contents writer.old) text self.entry.lines self.entry.fault
+            → IfSome result (λ fault. IsWriteFault fault) }
+    {
+        match self.fault {
+            Some(fault) => Some(fault),
+            None => self.lines.flush(writer).err(),
+        }
+    }
+}

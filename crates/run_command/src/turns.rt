@@ -1,0 +1,72 @@
+//! The lines of what a line of the feed gives.
+
+ghost use Rattle.std.specs.Prelude.{◌≡◌, ◌++◌, IfErr, OnOk};
+ghost use Rattle.command_output.specs.Outcome.{IsWriteFault};
+ghost use Rattle.command_output.specs.Output.{Leaves, WritesFront};
+ghost use Rattle.run_command.specs.Report.{log_text, refused_text};
+
+use command_output::{CommandFault, Lines, OutputLine};
+use due_model::config::Config;
+use due_model::notice::Suppression;
+use event_feed::RefusedLine;
+use std::io::Write;
+
+/// Makes the lines of refused lines, and then of suppressions.
+pub(crate) fn write_turn<W: Write>(
+    lines: &mut Lines,
+    writer: &mut W,
+    config: &Config,
+    refused: &[RefusedLine],
+    log: &[Suppression],
+) -> Result<(), CommandFault>
+    ensures ok { OnOk result (Leaves (W.contents writer.old) (W.contents writer.new)
+        (lines.old ++ (refused_text refused.now ++ log_text config.now log.now)) lines.new) }
+    ensures front { WritesFront (W.contents writer.old) (W.contents writer.new)
+        (lines.old ++ (refused_text refused.now ++ log_text config.now log.now)) }
+    ensures fault { IfErr result (λ fault. IsWriteFault fault) }
+{
+    write_refused(lines, writer, config, refused)?;
+    write_log(lines, writer, config, log)
+}
+
+/// Makes the lines of refused lines of the feed.
+fn write_refused<W: Write>(
+    lines: &mut Lines,
+    writer: &mut W,
+    config: &Config,
+    refused: &[RefusedLine],
+) -> Result<(), CommandFault>
+    ensures ok { OnOk result (Leaves (W.contents writer.old) (W.contents writer.new)
+        (lines.old ++ refused_text refused.now) lines.new) }
+    ensures front { WritesFront (W.contents writer.old) (W.contents writer.new)
+        (lines.old ++ refused_text refused.now) }
+    ensures fault { IfErr result (λ fault. IsWriteFault fault) }
+{
+    for refusal in refused {
+        let line = OutputLine::Refused {
+            line: refusal.line,
+            fault: refusal.fault,
+        };
+        lines.write(writer, config, &line)?;
+    }
+    Ok(())
+}
+
+/// Makes the lines of suppressions.
+fn write_log<W: Write>(
+    lines: &mut Lines,
+    writer: &mut W,
+    config: &Config,
+    log: &[Suppression],
+) -> Result<(), CommandFault>
+    ensures ok { OnOk result (Leaves (W.contents writer.old) (W.contents writer.new)
+        (lines.old ++ log_text config.now log.now) lines.new) }
+    ensures front { WritesFront (W.contents writer.old) (W.contents writer.new)
+        (lines.old ++ log_text config.now log.now) }
+    ensures fault { IfErr result (λ fault. IsWriteFault fault) }
+{
+    for suppression in log {
+        lines.write(writer, config, &OutputLine::Suppression(*suppression))?;
+    }
+    Ok(())
+}

@@ -1,8 +1,0 @@
-use Rattle.std.proofs.Common.{◌++◌, flat_map, take}
-use Rattle.command_output.specs.Output.{Leaves}
-use Rattle.run_report.specs.Report.{lane_lines}
-use Rattle.run_report.proofs.lanes.write_lanes.Given as goal
-
-abbrev pub invariant-loop-lane : goal.invariant-loop-lane
-invariant-loop-lane g l =
-    Leaves (g.W.Write.contents l.fn.writer) (g.W.Write.contents l.writer) (l.fn.lines ++ flat_map (lane_lines l.config) (take l.lane-index l.lanes)) l.lines

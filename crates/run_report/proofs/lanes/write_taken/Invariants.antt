@@ -1,8 +1,0 @@
-use Rattle.std.proofs.Common.{◌++◌, flat_map, take}
-use Rattle.command_output.specs.Output.{Leaves}
-use Rattle.command_output.specs.RunLine.{taken_line}
-use Rattle.run_report.proofs.lanes.write_taken.Given as goal
-
-abbrev pub invariant-loop-notice : goal.invariant-loop-notice
-invariant-loop-notice g l =
-    Leaves (g.W.Write.contents l.fn.writer) (g.W.Write.contents l.writer) (l.fn.lines ++ flat_map (taken_line l.config l.lane.0) (take l.notice-index l.taken)) l.lines
