@@ -82,7 +82,8 @@ fn no_channel(rt: HostRuntime) -> Result<(), Fail> {
 }
 
 /// A host that is down, and told of again after a minute; in between, one event that is suppressed and one line that is no event.
-const FEED: &str = "[1000] HOST_STATE;web;DOWN\n[1030] HOST_STATE;web;DOWN\n[x] CLOCK\n[1059] CLOCK\n[1060] CLOCK\n";
+const FEED: &str =
+    "[1000] HOST_STATE;web;DOWN\n[1030] HOST_STATE;web;DOWN\n[x] CLOCK\n[1059] CLOCK\n[1060] CLOCK\n";
 
 const WHOLE: Example = (
     FEED,

@@ -20,7 +20,8 @@ use Rattle.decider.specs.Share.{is_owned, owned_numbers}
 abbrev pub ready_of : Config → Zone → Share → List Event → (o : ℕ) → Option ℕ
 ready_of c zone share past o =
     if is_owned share o
-    then option_map_or (λ settings. (book_of c zone o settings past).due) (slice_get c.objects o) None
+    then option_map_or (λ settings. (book_of c zone o settings past).due)
+    (slice_get c.objects o) None
     else None
 
 -- An index of the ready moments of the share's objects after this past.
@@ -76,7 +77,8 @@ abbrev pub HasRoom : Due → List NewBook → Type 0
 HasRoom index decided = All (λ new. new.object.0 < length index.moments) decided
 
 -- An index after an event at moment t at which these books were staged.
-pub record IsIndexAfter (k : EventKind) (t : ℕ) (decided : List NewBook) (old new : Due) : Type 0 where
+pub record IsIndexAfter (k : EventKind) (t : ℕ) (decided : List NewBook) (old new : Due)
+    : Type 0 where
   pub room : length old.moments ≤ length new.moments
   pub each : (o : ℕ)
       → at new.moments o ≡ entry_decided decided o (left_after k t (at old.moments o))

@@ -196,7 +196,8 @@ impl<'a> EventDecider<'a> {
         ensures staged { OnOk result ((past : List Event) → Fits (core_kept self.old) past
             → self.new.staged.entries.items ≡ share_entries (core_kept self.old).config
             (core_kept self.old).zone (core_kept self.old).share event past) }
-        ensures room { OnOk result (HasRoom (core_kept self.new).index self.new.staged.books.items) }
+        ensures room { OnOk result
+            (HasRoom (core_kept self.new).index self.new.staged.books.items) }
         ensures number { OnOk result (self.old.count < max_events) }
         ensures ended { IsErrOf result DecideFault.Ended ↔ (max_events ≤ self.old.count) }
     {

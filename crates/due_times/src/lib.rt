@@ -175,7 +175,8 @@ fn next_in(levels: &[Level], number: usize, from: usize, t: u64) -> Option<usize
 /// The first of the two places below a place whose moment has come at `t`.
 fn due_below(level: &Level, place: usize, t: u64) -> usize
     requires { 2 * place + 1 ≤ length level.now }
-    ensures { result ≡ (if has_come (at level.now (2 * place)) t then 2 * place else 2 * place + 1) }
+    ensures { result
+        ≡ (if has_come (at level.now (2 * place)) t then 2 * place else 2 * place + 1) }
 {
     let _count = level.len();
     let first = 2 * place;

@@ -26,7 +26,8 @@ IsNamed c l n = (n.object.0 < length c.objects) × (n.lane.0 ≡ l)
 
 -- Lane l at the end, where all that was due was handed to it: of each object its channel has taken, and then it gave up, exactly
 -- what is due on it.
-pub record LaneIsDue (c : Config) (zone : Zone) (past : List Event) (l : ℕ) (lane : LaneParts) : Type 0
+pub record LaneIsDue (c : Config) (zone : Zone) (past : List Event) (l : ℕ) (lane : LaneParts)
+    : Type 0
   where
     pub number : lane.lane.0 ≡ l
     pub due : (o : ℕ) → o < length c.objects → about o (joined lane) ≡ due c zone o l past

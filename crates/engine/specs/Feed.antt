@@ -153,7 +153,8 @@ IsFrontOfFeed c start events =
     (λ bytes. IsFrontOf events (events_in (taken_after 0 (answers_from c.objects start bytes))))
 
 -- what the next line of the feed makes of a run that has taken these answers
-abbrev pub Follows : (can_fail : Bool) → Config → (start : Feed) → (said : List Answer) → Next → Intake
+abbrev pub Follows : (can_fail : Bool) → Config → (start : Feed) → (said : List Answer) → Next
+    → Intake
     → Type 0
 Follows can_fail c start said (Accepts e) now = Offers c start said e now
 Follows can_fail c start said Refused now =

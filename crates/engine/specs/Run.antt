@@ -74,7 +74,8 @@ abbrev pub lines_left : RunValue → ℕ
 lines_left run = feed_limit + 1 - run.intake.feed.line
 
 -- what a run that was begun on this feed is after a turn: it goes on, its feed is over, or memory ran out
-abbrev pub After : {E : Type 0} → (can_fail : Bool) → Config → Zone → (posted : ℕ → Bool) → (start : Feed)
+abbrev pub After : {E : Type 0} → (can_fail : Bool) → Config → Zone → (posted : ℕ → Bool)
+    → (start : Feed)
     → (said : List Answer) → Result Turn E → Intake → DeskValue → Type 0
 After can_fail c zone posted start said (Ok turn.GoesOn) intake desk =
     GoesOn c zone posted start said intake desk

@@ -104,9 +104,11 @@ impl<'a> Desk<'a> {
         ensures ok { OnOk result ((zone : Zone) (posted : ℕ → Bool) (e : Event) (past : List Event)
             → Waits self.old.delivery.config.now zone posted e past (desk_value self.old)
             → Stands self.old.delivery.config.now zone posted (e ∷ past) (desk_value self.new)) }
-        ensures err { OnErr result ((zone : Zone) (posted : ℕ → Bool) (e : Event) (past : List Event)
+        ensures err { OnErr result ((zone : Zone) (posted : ℕ → Bool) (e : Event)
+            (past : List Event)
             → Waits self.old.delivery.config.now zone posted e past (desk_value self.old)
-            → Holds self.old.delivery.config.now zone posted true (e ∷ past) (desk_value self.new)) }
+            → Holds self.old.delivery.config.now zone posted true (e ∷ past)
+            (desk_value self.new)) }
         ensures config { self.new.delivery.config.now ≡ self.old.delivery.config.now }
     {
         serve(&mut self.lanes, self.delivery, &mut self.outbox)

@@ -55,7 +55,8 @@ impl<R: Read> Model for Intake<R> {
 impl<R: Input + Drop> Intake<R> {
     /// Nothing was read of the feed whose first line is the next of this reader. It takes no memory.
     pub(crate) fn new(alloc: Global, lines: LineReader<R>) -> Self
-        ensures { result.read ≡ record { feed = feed_of lines 0 0 None; events = []; refused = [] } }
+        ensures { result.read
+            ≡ record { feed = feed_of lines 0 0 None; events = []; refused = [] } }
     {
         Intake {
             feeder: Feeder::new(lines),

@@ -133,7 +133,8 @@ pub(crate) fn serve(
     requires outbox { length (lists outbox.old) ≡ length lanes.old.items }
     requires few { length lanes.old.items ≤ max_lanes }
     ensures count { length lanes.new.items ≡ length lanes.old.items }
-    ensures numbers { (l : ℕ) → (lane_at lanes.new.items l).lane ≡ (lane_at lanes.old.items l).lane }
+    ensures numbers { (l : ℕ)
+        → (lane_at lanes.new.items l).lane ≡ (lane_at lanes.old.items l).lane }
     ensures ok { OnOk result ((l : ℕ) → l < length lanes.old.items
         → held_at lanes.new.items l ≡ held_at lanes.old.items l ++ waiting_at outbox.old l) }
     ensures front { (l : ℕ) → l < length lanes.old.items

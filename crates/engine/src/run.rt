@@ -198,7 +198,8 @@ impl<'a, R: Input + Drop> Run<'a, R> {
     /// Reads the next line of the feed that says something, and does what it says.
     fn next_turn(&mut self) -> Result<Turn, AllocError>
         requires accepted { IsAccepted self.old.desk.delivery.config.now }
-        requires goes_on { (zone : Zone) × (posted : ℕ → Bool) × (start : Feed) × (said : List Answer)
+        requires goes_on { (zone : Zone) × (posted : ℕ → Bool) × (start : Feed)
+            × (said : List Answer)
             × GoesOn self.old.desk.delivery.config.now zone posted start said
             self.old.intake.read (desk_value self.old.desk) }
         ensures turn { (zone : Zone) (posted : ℕ → Bool) (start : Feed) (said : List Answer)
@@ -224,7 +225,8 @@ impl<'a, R: Input + Drop> Run<'a, R> {
     /// Where its growth is refused before all of it counts, it isn't accepted.
     fn take_event(&mut self, event: Event) -> Result<Turn, AllocError>
         requires accepted { IsAccepted self.old.desk.delivery.config.now }
-        requires offers { (zone : Zone) × (posted : ℕ → Bool) × (start : Feed) × (said : List Answer)
+        requires offers { (zone : Zone) × (posted : ℕ → Bool) × (start : Feed)
+            × (said : List Answer)
             × Offers self.old.desk.delivery.config.now start said event self.old.intake.read
             × Stands self.old.desk.delivery.config.now zone posted
             (reverse self.old.intake.read.events) (desk_value self.old.desk) }

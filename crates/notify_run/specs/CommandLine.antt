@@ -74,7 +74,8 @@ word_list name = record (new_rule name) {
 
 -- beside its other options a command has two by which a zone is given
 abbrev pub with_zone : App → App
-with_zone app = with_rule (with_rule app (text_option (codes "zone"))) (text_option (codes "zone-file"))
+with_zone app =
+    with_rule (with_rule app (text_option (codes "zone"))) (text_option (codes "zone-file"))
 
 -- `replay` has these, and the file of the object text
 abbrev pub replay_words : App

@@ -27,7 +27,8 @@ abbrev pub NamesOrOpeningFail : (words : List ChannelWord) → ChannelFault → 
 NamesOrOpeningFail words fault =
     (config : Config) × IsAccepted config
     × (NamesFail config (names_of words) fault
-    ⊎ ((lanes : List LaneId) × AreLanesOf config (names_of words) lanes × IsOpeningFault (names_of words) fault))
+    ⊎ ((lanes : List LaneId) × AreLanesOf config (names_of words) lanes
+    × IsOpeningFault (names_of words) fault))
 
 -- First the shape of the texts of all words; the rest is only looked at where that is right.
 abbrev pub RunFails : (texts : List (List ℕ)) → RunFault → Type 0

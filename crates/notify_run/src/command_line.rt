@@ -153,7 +153,8 @@ fn text_option<'a>(alloc: Global, name: &'a str, value: &'a str, help: &'a str) 
 
 /// Adds the options that say what zone local times are of.
 fn with_zone<'a>(alloc: Global, command: Command<'a>) -> Result<Command<'a>, AllocError>
-    ensures words { IfOk result (λ command_with. app_of command_with ≡ with_zone (app_of command.entry)) }
+    ensures words { IfOk result (λ command_with.
+        app_of command_with ≡ with_zone (app_of command.entry)) }
 {
     let rule = text_option(
         alloc,

@@ -31,7 +31,8 @@ pub fn do_run<'a>(
     requires { settings.deciders ≡ 1 }
     // What it fails with, and that the earlier checks went well.
     ensures fault { let texts = map (λ text. text.now)
-        (unwrap_or (option_map (λ given. given.now) channels.entry) []) in IfErr result (RunFails texts) }
+        (unwrap_or (option_map (λ given. given.now) channels.entry) [])
+        in IfErr result (RunFails texts) }
 {
     let alloc = rt.alloc();
     let words = read_words(alloc, texts_of(channels))?;

@@ -46,7 +46,8 @@ impl<'a> ContactValues<'a> {
         requires commands { commands.now.kind ≡ blocks.Command }
         requires periods { periods.now
             ≡ record { blocks = commands.now.blocks; kind = blocks.TimePeriod } }
-        requires few_periods { length (names_in commands.now.blocks blocks.TimePeriod) ≤ max_periods }
+        requires few_periods { length (names_in commands.now.blocks blocks.TimePeriod)
+            ≤ max_periods }
         requires few_lanes { length lanes.now ≤ max_lanes }
         ensures { IfOk result (IsContactOf commands.now.blocks lanes.now place) }
     {

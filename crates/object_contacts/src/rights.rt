@@ -169,7 +169,8 @@ impl<'a> RightsValues<'a> {
     ) -> Result<Rights, AllocError>
         requires values { AreRightsValues commands.now.blocks kind self.now }
         requires commands { commands.now.kind ≡ Command }
-        requires periods { periods.now ≡ record { blocks = commands.now.blocks; kind = TimePeriod } }
+        requires periods { periods.now
+            ≡ record { blocks = commands.now.blocks; kind = TimePeriod } }
         requires few_periods { length (names_in commands.now.blocks TimePeriod) ≤ max_periods }
         requires few_lanes { length lanes.now ≤ max_lanes }
         ensures { IfOk result (AreRightsOf commands.now.blocks lanes.now kind place) }

@@ -28,15 +28,18 @@ entry_of terms pair = record {
 }
 
 -- those of all pairs of a block
-abbrev pub entries_at : List Block → (periods : List (List ℕ)) → (parts : List (List Pair)) → (place : ℕ)
+abbrev pub entries_at : List Block → (periods : List (List ℕ)) → (parts : List (List Pair))
+    → (place : ℕ)
     → List Dependency
 entries_at blocks periods parts place =
     map (entry_of (terms_at blocks periods place)) (slice_index_or parts place [])
 
 -- and of the first so many blocks, block by block
-abbrev pub entries_in : List Block → (periods : List (List ℕ)) → (parts : List (List Pair)) → (count : ℕ)
+abbrev pub entries_in : List Block → (periods : List (List ℕ)) → (parts : List (List Pair))
+    → (count : ℕ)
     → List Dependency
-entries_in blocks periods parts count = flat_map (entries_at blocks periods parts) (range_with_len 0 count)
+entries_in blocks periods parts count =
+    flat_map (entries_at blocks periods parts) (range_with_len 0 count)
 
 -- The dependencies of the blocks: one for each pair, block by block in file order, and within a block dependent by
 -- dependent and master by master in number order; where these are the hosts of each service block, and the names of

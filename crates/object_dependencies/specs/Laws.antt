@@ -15,7 +15,8 @@ use Rattle.object_dependencies.specs.Loops.{HasNoDependencyLoop}
 abbrev pub DependenciesFit : Type 0
 DependenciesFit = (blocks : List Block) (lists periods : List (List ℕ)) (c : Config)
     → AreHostLists blocks (objects_in blocks Service) lists
-    → length c.objects ≡ length (names_in blocks Host) + length (pairs_of (names_in blocks Service) lists)
+    → length c.objects
+    ≡ length (names_in blocks Host) + length (pairs_of (names_in blocks Service) lists)
     → length c.periods ≡ length periods
     → AreDependencies blocks lists periods c.dependencies → All (DependencyFits c) c.dependencies
 

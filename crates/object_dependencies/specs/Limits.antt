@@ -16,7 +16,8 @@ GiveDependencies blocks lists place count = (parts : List (List Pair))
 pub record PassesLimit (blocks : List Block) (lists : List (List ℕ)) (place : ℕ) : Type 0 where
   pub within : place < length blocks
   pub before : (count : ℕ) × GiveDependencies blocks lists place count × (count ≤ max_dependencies)
-  pub over : (count : ℕ) × GiveDependencies blocks lists (place + 1) count × (max_dependencies < count)
+  pub over : (count : ℕ) × GiveDependencies blocks lists (place + 1) count
+      × (max_dependencies < count)
 
 -- The place and the line are those of the block that passes the limit.
 pub record IsFirstOver (blocks : List Block) (lists : List (List ℕ)) (place line : ℕ) : Type 0 where
@@ -33,7 +34,8 @@ IsRefusal blocks lists NoMemory = Unit {0}
 -- ---- how it is found
 
 -- the pairs of the blocks below the place, so many
-pub record IsSoFar (blocks : List Block) (lists : List (List ℕ)) (place : ℕ) (parts : List (List Pair))
+pub record IsSoFar (blocks : List Block) (lists : List (List ℕ)) (place : ℕ)
+    (parts : List (List Pair))
     (count : ℕ) : Type 0 where
   pub listed : ArePairsBelow blocks lists place parts
   pub counted : count ≡ sum_by length parts

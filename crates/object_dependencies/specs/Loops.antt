@@ -13,7 +13,8 @@ Depends blocks lists dependent master =
 -- back to the first.
 abbrev pub IsLoopedAt : List Block → (lists : List (List ℕ)) → (place : ℕ) → Type 0
 IsLoopedAt blocks lists place = (dependent : ℕ) × (master : ℕ)
-    × DependsAt blocks lists place dependent master × Reaches (Depends blocks lists) master dependent
+    × DependsAt blocks lists place dependent master
+    × Reaches (Depends blocks lists) master dependent
 
 -- it is such a block, and none before it is
 pub record IsFirstLooped (blocks : List Block) (lists : List (List ℕ)) (place : ℕ) : Type 0 where

@@ -43,14 +43,17 @@ IsBefore one other = (one.0 < other.0) ⊎ ((one.0 ≡ other.0) × (one.1 < othe
 
 -- Exactly the pairs of the block at the place, each once: dependents in number order, and for each the masters in number
 -- order. Other blocks than notification dependencies have none.
-pub record ArePairs (blocks : List Block) (lists : List (List ℕ)) (place : ℕ) (pairs : List Pair) : Type 0 where
+pub record ArePairs (blocks : List Block) (lists : List (List ℕ)) (place : ℕ) (pairs : List Pair)
+    : Type 0 where
   pub ordered : AllPairs IsBefore pairs
   pub exactly : (dependent master : ℕ)
       → Contains pairs (dependent, master) ↔ DependsAt blocks lists place dependent master
 
 -- these are the pairs of the blocks below the place, block by block
-abbrev pub ArePairsBelow : List Block → (lists : List (List ℕ)) → (place : ℕ) → (parts : List (List Pair)) → Type 0
-ArePairsBelow blocks lists place parts = AllZip (ArePairs blocks lists) (range_with_len 0 place) parts
+abbrev pub ArePairsBelow : List Block → (lists : List (List ℕ)) → (place : ℕ)
+    → (parts : List (List Pair)) → Type 0
+ArePairsBelow blocks lists place parts =
+    AllZip (ArePairs blocks lists) (range_with_len 0 place) parts
 
 -- ---- how they are kept
 
@@ -65,7 +68,8 @@ pub record BlocksOf : Type 0 where
   pub lists : List (List ℕ)
 
 -- what blocks have for the directives of dependencies
-pub record AreDependencyBlocks (blocks : List Block) (lists : List (List ℕ)) (masters dependents : ReachedOf)
+pub record AreDependencyBlocks (blocks : List Block) (lists : List (List ℕ))
+    (masters dependents : ReachedOf)
     (criteria : Column) (services : List services.Pair) : Type 0 where
   pub masters_are : masters ≡ record { blocks = blocks; role = Master }
   pub dependents_are : dependents ≡ record { blocks = blocks; role = Dependent }

@@ -26,7 +26,8 @@ AreLinksBelow b place edges = (from to : ℕ) → Contains edges (edge from to)
 
 -- the edges of a block with these dependents and masters, where the node of the first object is `first`
 abbrev pub edges_of : (first place : ℕ) → (dependents masters : List ℕ) → List Edge
-edges_of first place dependents masters = map (λ dependent. edge (first + dependent) place) dependents
+edges_of first place dependents masters =
+    map (λ dependent. edge (first + dependent) place) dependents
     ++ map (λ master. edge place (first + master)) masters
 
 -- to these edges came exactly those of the block at the place

@@ -16,10 +16,12 @@ use Rattle.object_values.specs.declared.options.OptionKind.TheVariants as lists
 -- the kind of the option list of the escalation at the place
 abbrev pub option_kind : List Block → (place : ℕ) → OptionKind
 option_kind blocks place =
-    if is_object_at blocks HostEscalation place then lists.HostEscalation else lists.ServiceEscalation
+    if is_object_at blocks HostEscalation place then lists.HostEscalation
+    else lists.ServiceEscalation
 
 -- the contacts of the object, where the block at the place gives none, and else those that it lists
-abbrev pub AreTold : (gives_none : Bool) → List Block → (place : ℕ) → (object : Object) → List ContactId → Type 0
+abbrev pub AreTold : (gives_none : Bool) → List Block → (place : ℕ) → (object : Object)
+    → List ContactId → Type 0
 AreTold true blocks place object contacts = contacts ≡ object.contacts
 AreTold false blocks place object contacts =
     AreThose (IsListed blocks contact_directives place) (map (λ contact. contact.0) contacts)

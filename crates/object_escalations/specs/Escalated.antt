@@ -31,7 +31,8 @@ GiveEscalations blocks lists place count = (objects : List (List ℕ))
 pub record PassesLimit (blocks : List Block) (lists : List (List ℕ)) (place : ℕ) : Type 0 where
   pub within : place < length blocks
   pub before : (count : ℕ) × GiveEscalations blocks lists place count × (count ≤ max_escalations)
-  pub over : (count : ℕ) × GiveEscalations blocks lists (place + 1) count × (max_escalations < count)
+  pub over : (count : ℕ) × GiveEscalations blocks lists (place + 1) count
+      × (max_escalations < count)
 
 -- The place and the line are those of the block that passes the limit.
 pub record IsFirstOver (blocks : List Block) (lists : List (List ℕ)) (place line : ℕ) : Type 0 where

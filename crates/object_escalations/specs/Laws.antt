@@ -11,7 +11,8 @@ use Rattle.object_reader.specs.declared.block.BlockKind.TheVariants.{Host}
 
 -- What escalation blocks speak of are hosts and services, where these are the hosts of each service block.
 abbrev pub EscalatedAreObjects : Type 0
-EscalatedAreObjects = (blocks : List Block) (lists : List (List ℕ)) (place : ℕ) (spoken : List (List ℕ))
+EscalatedAreObjects =
+    (blocks : List Block) (lists : List (List ℕ)) (place : ℕ) (spoken : List (List ℕ))
     → AreEscalated blocks lists place spoken
     → All (All (λ number. number < length (objects_in blocks Host) + sum_by length lists)) spoken
 
@@ -34,6 +35,7 @@ WithinPassesNowhere = (blocks : List Block) (lists : List (List ℕ)) (count pla
 
 -- What the blocks below a place give is the number of what they speak of: the same, however often it is counted.
 abbrev pub CountIsTheSum : Type 0
-CountIsTheSum = (blocks : List Block) (lists : List (List ℕ)) (place count : ℕ) (spoken : List (List ℕ))
+CountIsTheSum =
+    (blocks : List Block) (lists : List (List ℕ)) (place count : ℕ) (spoken : List (List ℕ))
     → GiveEscalations blocks lists place count → AreEscalated blocks lists place spoken
     → count ≡ sum_by length spoken

@@ -132,7 +132,8 @@ fault_at blocks column place =
 -- the fault of the block at the place where it lacks what it must list on the side, if it is registered
 abbrev pub side_fault : List Block → ℕ → Side → Block → Option ValueFault
 side_fault blocks place side block =
-    if is_registered block && lacks blocks place block.kind side then Some MissingDirective else None
+    if is_registered block && lacks blocks place block.kind side then Some MissingDirective
+    else None
 
 abbrev pub side_at : List Block → Side → ℕ → Option ValueFault
 side_at blocks side place =
@@ -232,7 +233,8 @@ rank DatedException = 6
 abbrev pub lower_fault : Option ValueFault → Option ValueFault → Option ValueFault
 lower_fault None second = second
 lower_fault (Some one) None = Some one
-lower_fault (Some one) (Some other) = if nat_le (rank one) (rank other) then Some one else Some other
+lower_fault (Some one) (Some other) =
+    if nat_le (rank one) (rank other) then Some one else Some other
 
 -- of two that are found the earlier, and of two of one place that whose fault counts
 abbrev pub lower : Option Found → Option Found → Option Found

@@ -20,7 +20,8 @@ dated_line name text = if is_dated name then option_map (has_time name) text els
 
 -- the names of all directives
 abbrev pub directive_names : List Block → List (List ℕ)
-directive_names blocks = flat_map (λ block. map (λ directive. directive.name) block.directives) blocks
+directive_names blocks =
+    flat_map (λ block. map (λ directive. directive.name) block.directives) blocks
 
 -- whether the block at the place has, by itself or by a template, a line of dates of that name that passes
 abbrev pub has_line : (Bool → Bool) → List Block → ℕ → List ℕ → Bool

@@ -81,7 +81,8 @@ is_registered block =
 -- of several faults the first counts
 abbrev pub fault_by : (missing number option range volatile exclusion dated : Bool)
     → Option ValueFault
-fault_by missing number option range volatile exclusion dated = if missing then Some MissingDirective
+fault_by missing number option range volatile exclusion dated =
+    if missing then Some MissingDirective
     else if number then Some BadNumber
     else if option then Some BadOption
     else if range then Some BadRange

@@ -330,7 +330,8 @@ fn date_fault<'a>(
     requires done { AreDone blocks.now dates.old done.old.items }
     requires long { length done.old.items ≡ length blocks.now }
     ensures fault { IfOk result (λ fault. fault ≡ date_at blocks.now place) }
-    ensures fresh { IfOk result (λ fault. fault ≡ None → (name : List ℕ) → noted dates.new name ≡ None) }
+    ensures fresh { IfOk result (λ fault. fault ≡ None
+        → (name : List ℕ) → noted dates.new name ≡ None) }
     ensures done { OnOk result (AreDone blocks.now dates.new done.new.items) }
     ensures long { OnOk result (length done.new.items ≡ length blocks.now) }
 {

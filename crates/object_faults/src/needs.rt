@@ -208,7 +208,8 @@ impl<'a> Needs<'a> {
 
     /// Whether the block at the place lists neither a host nor a host group.
     fn lacks_hosts(&self, alloc: Global, place: usize) -> Result<bool, AllocError>
-        ensures { IfOk result (λ lacks. lacks ≡ not (has_hosts self.now.blocks place self.now.side)) }
+        ensures { IfOk result (λ lacks.
+            lacks ≡ not (has_hosts self.now.blocks place self.now.side)) }
     {
         let has = self.has_hosts(alloc, place)?;
         Ok(!has)

@@ -11,7 +11,8 @@ use Rattle.object_listing.specs.Listing.{AreThose, Directives, IsListed}
 abbrev pub NamedAreThere : Type 0
 NamedAreThere = (blocks : List Block) (listing : Directives) (place object : ℕ) (found : List ℕ)
     → AreThose (IsListed blocks listing place) found
-    → Lists (names_in blocks (object_kind listing.kind)) (list_at blocks listing.objects place) object
+    → Lists
+    (names_in blocks (object_kind listing.kind)) (list_at blocks listing.objects place) object
     → Contains found object
 
 -- A member of a group that the list of groups names is there.

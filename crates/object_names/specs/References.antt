@@ -19,7 +19,8 @@ references HostGroup = HostMembers ∷ HostGroupMembers ∷ []
 references Service = HostNames ∷ HostGroupNames ∷ ServiceGroups
     ∷ Contacts ∷ GroupsOfContacts ∷ NotificationPeriod ∷ []
 references ServiceGroup = ServiceGroupMembers ∷ []
-references Contact = ContactGroups ∷ HostPeriod ∷ ServicePeriod ∷ HostCommands ∷ ServiceCommands ∷ []
+references Contact =
+    ContactGroups ∷ HostPeriod ∷ ServicePeriod ∷ HostCommands ∷ ServiceCommands ∷ []
 references ContactGroup = ContactMembers ∷ ContactGroupMembers ∷ []
 references TimePeriod = Excludes ∷ []
 references HostEscalation = HostNames ∷ HostGroupNames

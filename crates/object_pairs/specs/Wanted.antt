@@ -41,7 +41,8 @@ AreAllWanted hosts keys values places =
 
 -- a host with each of these descriptions is there
 abbrev pub AreWith : List Key → (descriptions : List (List ℕ)) → (host : ℕ) → Type 0
-AreWith keys descriptions host = All (λ description. has keys (host, description) ≡ true) descriptions
+AreWith keys descriptions host =
+    All (λ description. has keys (host, description) ≡ true) descriptions
 
 -- ---- what is found
 
@@ -63,7 +64,8 @@ HasServiceBelow blocks bound host description = (number : ℕ) × (number < boun
 -- exactly those of them among the wanted
 abbrev pub AreFoundBelow : List Block → (bound : ℕ) → (wanted found : List Key) → Type 0
 AreFoundBelow blocks bound wanted found = (pair : Pair)
-    → (has found pair ≡ true) ↔ ((has wanted pair ≡ true) × HasServiceBelow blocks bound pair.0 pair.1)
+    → (has found pair ≡ true)
+    ↔ ((has wanted pair ≡ true) × HasServiceBelow blocks bound pair.0 pair.1)
 
 -- exactly the services among the wanted
 abbrev pub AreFound : List Block → (wanted found : List Key) → Type 0
@@ -77,11 +79,13 @@ is_found hosts found pair =
     option_map_or (λ host. has found (host, pair.1)) (number_of hosts pair.0) false
 
 -- whether the entries aren't pairs, or a pair isn't found
-abbrev pub lacks_pair : (hosts : List (List ℕ)) → (found : List Key) → (entries : List (List ℕ)) → Bool
+abbrev pub lacks_pair : (hosts : List (List ℕ)) → (found : List Key) → (entries : List (List ℕ))
+    → Bool
 lacks_pair hosts found entries =
     option_map_or (λ pairs. not (list_all (is_found hosts found) pairs)) (by_two entries) true
 
 -- the block at the place is a service group, and that is so of what it has for the directive of the values
-abbrev pub LacksPair : List Block → (hosts : List (List ℕ)) → (found : List Key) → Column → ℕ → Type 0
+abbrev pub LacksPair : List Block → (hosts : List (List ℕ)) → (found : List Key) → Column → ℕ
+    → Type 0
 LacksPair blocks hosts found values place = (is_object_at blocks ServiceGroup place ≡ true)
     × (lacks_pair hosts found (list_at values.blocks values.directive place) ≡ true)

@@ -35,7 +35,8 @@ is_named entries description = is_all entries || is_some (number_of entries desc
 
 -- The block at the place lists the service: its host, by the lists of hosts and host groups, and its description, by
 -- the list of descriptions; where these are the services.
-abbrev pub IsDescribed : List Block → (services : List Pair) → ServiceDirectives → (place service : ℕ) → Type 0
+abbrev pub IsDescribed : List Block → (services : List Pair) → ServiceDirectives
+    → (place service : ℕ) → Type 0
 IsDescribed blocks services directives place service = (host : ℕ) × (description : List ℕ)
     × IsServiceOf services service host description
     × IsListed blocks (of_hosts directives) place host
@@ -43,13 +44,16 @@ IsDescribed blocks services directives place service = (host : ℕ) × (descript
 
 -- The block at the place lists a group of which the service is a member, in a list in which * is a name; where these
 -- are the hosts of each service block.
-abbrev pub IsGrouped : List Block → (lists : List (List ℕ)) → ServiceDirectives → (place service : ℕ) → Type 0
+abbrev pub IsGrouped : List Block → (lists : List (List ℕ)) → ServiceDirectives
+    → (place service : ℕ) → Type 0
 IsGrouped blocks lists directives place service = (group : ℕ)
-    × Contains (numbers_of (names_in blocks ServiceGroup) (list_at blocks directives.groups place)) group
+    × Contains
+    (numbers_of (names_in blocks ServiceGroup) (list_at blocks directives.groups place)) group
     × IsMember (grouping blocks lists) group service
 
 -- The block at the place lists the service, by either.
-abbrev pub IsServiceListed : List Block → (lists : List (List ℕ)) → ServiceDirectives → (place service : ℕ) → Type 0
+abbrev pub IsServiceListed : List Block → (lists : List (List ℕ)) → ServiceDirectives
+    → (place service : ℕ) → Type 0
 IsServiceListed blocks lists directives place service =
     IsDescribed blocks (pairs_of (names_in blocks Service) lists) directives place service
     ⊎ IsGrouped blocks lists directives place service
@@ -92,4 +96,5 @@ OfSome {X} member xs service = (x : X) × Contains xs x × member x service
 abbrev pub AddsMembers : List Block → (Q : ℕ → Type 0) → (old new : List ℕ) → Type 0
 AddsMembers blocks Q old new = (lists : List (List ℕ))
     → AreHostLists blocks (objects_in blocks Service) lists
-    → Adds (λ service. (group : ℕ) × Q group × IsMember (grouping blocks lists) group service) old new
+    → Adds (λ service. (group : ℕ) × Q group
+    × IsMember (grouping blocks lists) group service) old new

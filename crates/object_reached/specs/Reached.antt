@@ -29,7 +29,8 @@ SpeaksOf blocks lists role place object =
 
 -- the objects of which the block at the place speaks, each once and in number order, whichever lists are the hosts of
 -- the service blocks
-abbrev pub AreSpokenOf : List Block → (services : List Pair) → Role → (place : ℕ) → (found : List ℕ) → Type 0
+abbrev pub AreSpokenOf : List Block → (services : List Pair) → Role → (place : ℕ)
+    → (found : List ℕ) → Type 0
 AreSpokenOf blocks services role place found = (lists : List (List ℕ))
     → AreHostLists blocks (objects_in blocks Service) lists
     → services ≡ pairs_of (names_in blocks Service) lists
@@ -44,10 +45,12 @@ pub record ReachedOf : Type 0 where
 
 -- what all blocks have for the directives of the role
 abbrev pub IsReached : List Block → Role → ServiceListingOf → Type 0
-IsReached blocks role listing = listing ≡ record { blocks = blocks; directives = directives_of role }
+IsReached blocks role listing =
+    listing ≡ record { blocks = blocks; directives = directives_of role }
 
 -- the services that the block at the place lists, by their numbers
-abbrev pub AreServicesOf : List Block → (services : List Pair) → ServiceDirectives → (place : ℕ) → (found : List ℕ) → Type 0
+abbrev pub AreServicesOf : List Block → (services : List Pair) → ServiceDirectives → (place : ℕ)
+    → (found : List ℕ) → Type 0
 AreServicesOf blocks services directives place found = (lists : List (List ℕ))
     → AreHostLists blocks (objects_in blocks Service) lists
     → services ≡ pairs_of (names_in blocks Service) lists

@@ -7,7 +7,8 @@ use Rattle.object_services.specs.Numbers.{Pair}
 
 -- the service at that place is on the host, and has that description
 abbrev pub IsServiceOf : List Pair → (service host : ℕ) → (description : List ℕ) → Type 0
-IsServiceOf services service host description = slice_get services service ≡ Some (host, description)
+IsServiceOf services service host description =
+    slice_get services service ≡ Some (host, description)
 
 -- ---- how they are kept
 
@@ -20,7 +21,8 @@ hosts_in services = map (λ service. service.0) services
 
 -- an edge from each service's host to the service, of the first so many
 abbrev pub host_edges : (hosts : List ℕ) → (count : ℕ) → List Edge
-host_edges hosts count = map (λ service. edge (slice_index_or hosts service 0) service) (range_with_len 0 count)
+host_edges hosts count =
+    map (λ service. edge (slice_index_or hosts service 0) service) (range_with_len 0 count)
 
 -- a graph in which each host leads to its services
 pub record IsByHost (hosts : List ℕ) (graph : List (List ℕ)) : Type 0 where

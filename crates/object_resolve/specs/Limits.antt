@@ -30,7 +30,8 @@ AreFewEscalations blocks = (hosts : List (List ℕ))
 abbrev pub AreFewDependencies : List Block → Type 0
 AreFewDependencies blocks = (hosts : List (List ℕ))
     × AreHostLists blocks (objects_in blocks Service) hosts
-    × ((count : ℕ) × GiveDependencies blocks hosts (length blocks) count × (count ≤ max_dependencies))
+    × ((count : ℕ) × GiveDependencies blocks hosts (length blocks) count
+    × (count ≤ max_dependencies))
 
 -- The blocks keep within the limits: of hosts and services together, of escalations, of dependencies, and of the others.
 pub record AreWithin (blocks : List Block) : Type 0 where

@@ -51,7 +51,8 @@ pub(crate) struct Counts {
 
 /// The place of the command of the first lane that is one too many.
 fn lane_over(commands: &Objects, lanes: &[usize]) -> Option<usize>
-    ensures { result ≡ option_and_then (slice_get (objects_in commands.now.blocks commands.now.kind))
+    ensures { result
+        ≡ option_and_then (slice_get (objects_in commands.now.blocks commands.now.kind))
         (slice_get lanes.now max_lanes) }
 {
     match lanes.get(MAX_LANES) {

@@ -26,7 +26,8 @@ pub record AreAlike (names : List (List ℕ)) (graph : List (List ℕ)) : Type 0
 -- of the blocks of these numbers the block shares a host with one before it
 abbrev pub SharesAmong : List Block → (numbers : List ℕ) → ℕ → Type 0
 SharesAmong blocks numbers number = Contains numbers number
-    × ((earlier : ℕ) × (earlier < number) × Contains numbers earlier × ShareHost blocks earlier number)
+    × ((earlier : ℕ) × (earlier < number) × Contains numbers earlier
+    × ShareHost blocks earlier number)
 
 -- exactly the hosts of the blocks of these numbers
 abbrev pub HasSeen : List Block → (numbers : List ℕ) → (seen : ℕ → Bool) → Type 0

@@ -27,7 +27,8 @@ GiveObjects blocks place count = (lists : List (List ℕ))
 
 -- The blocks keep within the limit of objects.
 abbrev pub AreWithinLimit : List Block → Type 0
-AreWithinLimit blocks = (count : ℕ) × GiveObjects blocks (length blocks) count × (count ≤ max_objects)
+AreWithinLimit blocks =
+    (count : ℕ) × GiveObjects blocks (length blocks) count × (count ≤ max_objects)
 
 -- The blocks pass the limit at the place: with the block there they give more objects than fit, and without it
 -- they don't.
@@ -61,6 +62,7 @@ Noted blocks place true old new count = (hosts : List ℕ) × AreHosts blocks pl
 Noted blocks place false old new count = (new ≡ old) × (count ≡ 0)
 
 -- the hosts of the service blocks below the place, and how many objects all blocks below it give
-pub record IsSoFar (blocks : List Block) (place : ℕ) (lists : List (List ℕ)) (count : ℕ) : Type 0 where
+pub record IsSoFar (blocks : List Block) (place : ℕ) (lists : List (List ℕ)) (count : ℕ)
+    : Type 0 where
   pub listed : AreHostLists blocks (objects_below blocks Service place) lists
   pub counted : count ≡ length (objects_below blocks Host place) + sum_by length lists

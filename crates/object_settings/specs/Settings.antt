@@ -82,7 +82,8 @@ host_origins blocks = map (λ place. record { place = place; host = None }) (obj
 -- the services of the service block of that number, where these are the hosts of each: host by host
 abbrev pub block_origins : List Block → (hosts : List (List ℕ)) → ℕ → List Origin
 block_origins blocks hosts number = map
-    (λ host. record { place = slice_index_or (objects_in blocks Service) number 0; host = Some host })
+    (λ host. record
+    { place = slice_index_or (objects_in blocks Service) number 0; host = Some host })
     (slice_index_or hosts number [])
 
 -- those of all service blocks, block by block

@@ -20,12 +20,14 @@ abbrev pub NamesService : List Block → Role → (place host : ℕ) → (descri
 NamesService blocks role place host description =
     (is_object_at blocks (service_kind role) place ≡ true)
     × IsListed blocks (of_hosts (directives_of role)) place host
-    × Contains (descriptions_in (list_at blocks (directives_of role).descriptions place)) description
+    × Contains
+    (descriptions_in (list_at blocks (directives_of role).descriptions place)) description
 
 -- ---- how they are found
 
 -- what all blocks have for the directives of the role
-pub record IsNaming (blocks : List Block) (role : Role) (hosts : ListingOf) (descriptions : Column) : Type 0 where
+pub record IsNaming (blocks : List Block) (role : Role) (hosts : ListingOf) (descriptions : Column)
+    : Type 0 where
   pub hosts_are : hosts ≡ record { blocks = blocks; directives = of_hosts (directives_of role) }
   pub descriptions_are :
       descriptions ≡ record { blocks = blocks; directive = (directives_of role).descriptions }
@@ -36,7 +38,8 @@ descriptions_at blocks role place = if is_object_at blocks (service_kind role) p
     then descriptions_in (list_at blocks (directives_of role).descriptions place) else []
 
 -- what the block at the place names in that role is exactly each of these hosts with each of these descriptions
-abbrev pub AreNamed : List Block → Role → (place : ℕ) → (hosts : List ℕ) → (descriptions : List (List ℕ)) → Type 0
+abbrev pub AreNamed : List Block → Role → (place : ℕ) → (hosts : List ℕ)
+    → (descriptions : List (List ℕ)) → Type 0
 AreNamed blocks role place hosts descriptions = (host : ℕ) (description : List ℕ)
     → (Contains hosts host × Contains descriptions description)
     ↔ NamesService blocks role place host description

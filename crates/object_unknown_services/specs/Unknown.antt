@@ -32,9 +32,11 @@ abbrev pub AreWantedBelow : List Block → List Key → (bound : ℕ) → Type 0
 AreWantedBelow blocks keys bound = (place : ℕ) → place < bound → IsWantedAt blocks keys place
 
 -- one of these hosts with one of these descriptions isn't found
-abbrev pub LacksAny : (found : List Key) → (hosts : List ℕ) → (descriptions : List (List ℕ)) → Type 0
+abbrev pub LacksAny : (found : List Key) → (hosts : List ℕ) → (descriptions : List (List ℕ))
+    → Type 0
 LacksAny found hosts descriptions = (host : ℕ) × (description : List ℕ)
-    × Contains hosts host × Contains descriptions description × (has found (host, description) ≡ false)
+    × Contains hosts host × Contains descriptions description
+    × (has found (host, description) ≡ false)
 
 -- something that the block at the place names in that role isn't found
 abbrev pub LacksIn : List Block → (found : List Key) → Role → (place : ℕ) → Type 0
@@ -48,7 +50,8 @@ LacksAt blocks found place = (role : Role) × LacksIn blocks found role place
 -- ---- what is kept
 
 -- what the blocks name in each of the roles
-pub record AreNamings (blocks : List Block) (escalated masters dependents : ReachedOf) : Type 0 where
+pub record AreNamings (blocks : List Block) (escalated masters dependents : ReachedOf)
+    : Type 0 where
   pub escalated_are : escalated ≡ record { blocks = blocks; role = Escalated }
   pub masters_are : masters ≡ record { blocks = blocks; role = Master }
   pub dependents_are : dependents ≡ record { blocks = blocks; role = Dependent }
