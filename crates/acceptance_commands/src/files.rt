@@ -6,6 +6,7 @@ use command_output::{CommandFault, Ending};
 use due_model::zone::Zone;
 use object_reader::fault::LineFault;
 use object_resolve::LoadFault;
+use progress::Unwatched;
 use replay::{replay_files, replay_in};
 use std::alloc::Global;
 use std::process::Abort;
@@ -33,7 +34,14 @@ fn gives(
 ) {
     let mut out = Vec::new(alloc);
     let zone = Zone::Utc;
-    let found = replay_files(alloc, &zone, objects.as_bytes(), feed.as_bytes(), &mut out);
+    let found = replay_files(
+        alloc,
+        &zone,
+        objects.as_bytes(),
+        feed.as_bytes(),
+        &mut out,
+        &mut Unwatched,
+    );
     assert_eq!(rt;
         (found, out.as_slice()),
         (ended, report.as_bytes()),
@@ -81,7 +89,7 @@ fn a_mark_is_a_line_of_the_file(rt: HostRuntime) -> Result<(), Fail> {
 fn replays_in(rt: &impl Abort, alloc: Global, zone: &Zone) -> Result<(), Fail> {
     let text = input(alloc, FEED)?;
     let mut out = Vec::new(alloc);
-    let ended = replay_in(alloc, zone, text.as_bytes(), &mut out);
+    let ended = replay_in(alloc, zone, text.as_bytes(), &mut out, &mut Unwatched);
     assert_eq!(rt;
         (ended, out.as_slice()),
         (Ok(Ending::Whole), REPORT.as_bytes())

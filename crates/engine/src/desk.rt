@@ -7,15 +7,15 @@ ghost use Rattle.due_model.specs.declared.zone.Zone.{Zone};
 ghost use Rattle.due_model.specs.Accepted.{IsAccepted};
 ghost use Rattle.due_model.specs.Limits.{max_events};
 ghost use Rattle.due_model.specs.Proper.{IsProper};
-ghost use Rattle.engine.specs.Served.{Holds, Stands, Waits, desk_value};
+ghost use Rattle.engine.specs.Served.{Holds, Stands, Waits, desk_value, lane_at};
 
 use crate::lane::{Delivery, Lane};
 use crate::lanes::{new_lanes, serve};
 use crate::post::Post;
 use decider::{DecideFault, Decider, Outbox, Share};
-use due_model::config::Config;
+use due_model::config::{Config, LaneId};
 use due_model::event::Event;
-use due_model::notice::Suppression;
+use due_model::notice::{Notice, Suppression};
 use due_model::zone::Zone;
 use std::alloc::{AllocError, Global};
 use steps::Settings;
@@ -126,6 +126,16 @@ impl<'a> Desk<'a> {
         ensures { result.now ≡ self.now.log.items }
     {
         &self.log
+    }
+
+    /// What the channel of a lane has taken so far, in order; nothing where there is no such lane.
+    pub(crate) fn taken(&self, lane: LaneId) -> &[Notice]
+        ensures { result.now ≡ (lane_at self.now.lanes.items lane.0).kept.taken }
+    {
+        match self.lanes.get(lane.0 as usize) {
+            Some(lane) => lane.taken(),
+            None => &[],
+        }
     }
 
     /// The log and the lanes.

@@ -112,6 +112,13 @@ impl Lane {
         }
     }
 
+    /// What its channel has taken so far, in order.
+    pub(crate) fn taken(&self) -> &[Notice]
+        ensures { result.now ≡ self.now.kept.taken }
+    {
+        self.record.parts().taken
+    }
+
     /// The lane at the end of the feed. One that serves is closed, and its channel dropped.
     pub(crate) fn finish(self) -> LaneEnd
         ensures lane { result.lane ≡ self.lane }

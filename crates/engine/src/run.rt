@@ -10,7 +10,7 @@ ghost use Rattle.event_feed.specs.Feed.{Answer, Feed, feed_limit};
 ghost use Rattle.text_lines.specs.Lines.{has_line};
 ghost use Rattle.engine.specs.Feed.{Offers, with_one};
 ghost use Rattle.engine.specs.Run.{After, EndsAfter, HasTaken, last_turn, lines_left, run_value};
-ghost use Rattle.engine.specs.Served.{GoesOn, IsStart, IsStopped, Stands, desk_value};
+ghost use Rattle.engine.specs.Served.{GoesOn, IsStart, IsStopped, Stands, desk_value, lane_at};
 
 use crate::desk::Desk;
 use crate::intake::{Intake, Next};
@@ -18,9 +18,9 @@ use crate::lanes::finish;
 use crate::post::Post;
 use crate::run_end::{LaneEnd, RunEnd};
 use decider::DecideFault;
-use due_model::config::Config;
+use due_model::config::{Config, LaneId};
 use due_model::event::Event;
-use due_model::notice::Suppression;
+use due_model::notice::{Notice, Suppression};
 use due_model::zone::Zone;
 use event_feed::RefusedLine;
 use std::alloc::{AllocError, Global};
@@ -102,6 +102,13 @@ impl<'a, R: Input + Drop> Run<'a, R> {
         ensures { result.now ≡ (run_value self.now).desk.log }
     {
         self.desk.log()
+    }
+
+    /// What the channel of a lane has taken so far, in order; nothing where there is no such lane.
+    pub fn taken(&self, lane: LaneId) -> &[Notice]
+        ensures { result.now ≡ (lane_at (run_value self.now).desk.lanes lane.0).kept.taken }
+    {
+        self.desk.taken(lane)
     }
 
     /// Whether a line of the feed that isn't empty is held whole, so that `take_line` calls no reader.

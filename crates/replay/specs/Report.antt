@@ -1,5 +1,5 @@
 -- The report of a feed: for each of its lines the refusal, or what the event adds.
-use Rattle.std.specs.Prelude.{◌≡◌, ℕ, ◌+◌, ◌<◌, ◌≤◌, Bool, false, not, ◌||◌, ◌==◌, All, List, [], ◌∷◌, ◌++◌, length, flat_map, ◌⊎◌, IfSome, Option, None, Result, Ok, Err, if◌then◌else◌}
+use Rattle.std.specs.Prelude.{◌≡◌, ℕ, ◌+◌, ◌<◌, ◌≤◌, Bool, false, true, not, ◌||◌, ◌==◌, All, List, [], ◌∷◌, ◌++◌, length, flat_map, ◌⊎◌, IfSome, Option, None, Result, Ok, Err, if◌then◌else◌}
 use Rattle.due_model.specs.declared.config.Config.{Config}
 use Rattle.due_model.specs.declared.config.Object.{Object}
 use Rattle.due_model.specs.declared.event.Event.{Event}
@@ -36,6 +36,11 @@ line_of (Withheld s) = line.Suppression s
 
 abbrev pub entry_text : Config → Entry → List ℕ
 entry_text c entry = line_text c (line_of entry)
+
+-- whether an entry is a message that is due
+abbrev pub is_sent : Entry → Bool
+is_sent (Sent notice) = true
+is_sent (Withheld suppression) = false
 
 -- the lines of entries
 abbrev pub entries_text : Config → List Entry → List ℕ

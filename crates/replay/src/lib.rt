@@ -10,6 +10,7 @@ mod report;
 use command_input::{read_object_file, read_objects};
 use command_output::{CommandFault, Ending};
 use due_model::zone::Zone;
+use progress::{Unwatched, Watcher};
 use report::Report;
 use std::alloc::Global;
 use std::io::Write;
@@ -33,15 +34,17 @@ pub fn replay<R: Input + Drop, W: Write>(
         (W.contents writer.old) (W.contents writer.new))) }
 {
     let zone = Zone::Utc;
-    replay_in(alloc, &zone, reader, writer)
+    replay_in(alloc, &zone, reader, writer, &mut Unwatched)
 }
 
-/// The same, for local times of a zone.
-pub fn replay_in<R: Input + Drop, W: Write>(
+/// The same, for local times of a zone. A watcher is told how far it is whenever the feed may be waited for: how many events
+/// were decided, and how many messages they made due.
+pub fn replay_in<R: Input + Drop, W: Write, P: Watcher>(
     alloc: Global,
     zone: &Zone,
     reader: R,
     writer: &mut W,
+    watcher: &mut P,
 ) -> Result<Ending, CommandFault>
     ensures report { IfSome (R.remaining reader) (λ bytes. IfOk result (λ ending.
         Reports R.can_fail bytes zone.now ending (W.contents writer.old) (W.contents writer.new))) }
@@ -52,17 +55,18 @@ pub fn replay_in<R: Input + Drop, W: Write>(
     let mut lines = LineReader::new(alloc, reader)?;
     let config = read_objects(alloc, &mut lines)?;
     let mut report = Report::new(alloc, &config, zone, lines)?;
-    report.write(writer)
+    report.write(writer, watcher)
 }
 
 /// The same, where the object text is one input, all of it, and the feed another. The feed isn't read before the object
 /// text is accepted.
-pub fn replay_files<O: Input + Drop, R: Input + Drop, W: Write>(
+pub fn replay_files<O: Input + Drop, R: Input + Drop, W: Write, P: Watcher>(
     alloc: Global,
     zone: &Zone,
     objects: O,
     feed: R,
     writer: &mut W,
+    watcher: &mut P,
 ) -> Result<Ending, CommandFault>
     ensures report { IfSome (O.remaining objects) (λ text. IfSome (R.remaining feed) (λ bytes.
         IfOk result (λ ending. ReportsOf R.can_fail text bytes zone.now ending
@@ -74,5 +78,5 @@ pub fn replay_files<O: Input + Drop, R: Input + Drop, W: Write>(
     let config = read_object_file(alloc, objects)?;
     let lines = LineReader::new(alloc, feed)?;
     let mut report = Report::new(alloc, &config, zone, lines)?;
-    report.write(writer)
+    report.write(writer, watcher)
 }

@@ -1,6 +1,6 @@
 //! The report of a feed, line by line as it comes.
 
-ghost use Rattle.std.specs.Prelude.{◌≡◌, ◌+◌, ◌<◌, ◌≤◌, ◌∷◌, ◌++◌, [], List};
+ghost use Rattle.std.specs.Prelude.{◌≡◌, ◌+◌, ◌<◌, ◌≤◌, ◌∷◌, ◌++◌, [], List, filter, length};
 ghost use Rattle.std.specs.Prelude.{false, true, IfErr, IfNone, IfOk, IfSome, None, Ok, OnOk};
 ghost use Rattle.command_output.specs.Outcome.{IsWriteFault};
 ghost use Rattle.command_output.specs.Output.{Leaves, WritesFront};
@@ -12,7 +12,8 @@ ghost use Rattle.due_model.specs.Proper.{IsProper};
 ghost use Rattle.due_model.specs.declared.event.Event.{Event};
 ghost use Rattle.event_feed.specs.Feed.{feed_limit, feed_of};
 ghost use Rattle.replay.specs.Report.{Ends, GoesOn, WritesPart, WritesReport, WritesReportFront};
-ghost use Rattle.replay.specs.Report.{answer_text, entries_text, is_ended, line_of, whole_share};
+ghost use Rattle.replay.specs.Report.{answer_text, entries_text, is_ended, is_sent, line_of};
+ghost use Rattle.replay.specs.Report.{whole_share};
 ghost use Rattle.text_lines.specs.Lines.{has_line};
 
 use command_output::{CommandFault, Ending, Lines, OutputLine};
@@ -22,6 +23,7 @@ use due_model::event::Event;
 use due_model::zone::Zone;
 use event_feed::{FeedFault, Feeder};
 use messages::entries::Entry;
+use progress::{Progress, Watcher};
 use std::alloc::{AllocError, Global};
 use std::io::{Read, Write};
 use text_lines::{Input, LineReader};
@@ -40,6 +42,7 @@ pub(crate) struct Report<'a, R: Read> {
     feeder: Feeder<R>,
     decider: EventDecider<'a>,
     lines: Lines,
+    progress: Progress,
     ghost settings: { settings (core_kept decider) ≡ (config.now, zone.now, whole_share) },
 }
 
@@ -64,11 +67,16 @@ impl<'a, R: Input + Drop> Report<'a, R> {
             feeder: Feeder::new(lines),
             decider: EventDecider::new(alloc, config, zone, WHOLE)?,
             lines: Lines::new(alloc)?,
+            progress: Progress::new(),
         })
     }
 
-    /// Writes the report of the feed from its beginning.
-    pub(crate) fn write<W: Write>(&mut self, writer: &mut W) -> Result<Ending, CommandFault>
+    /// Writes the report of the feed from its beginning, and tells how far it is, in events and in messages that are due.
+    pub(crate) fn write<W: Write, P: Watcher>(
+        &mut self,
+        writer: &mut W,
+        watcher: &mut P,
+    ) -> Result<Ending, CommandFault>
         requires goes_on { self.old.feeder.stop ≡ None }
         requires fits { Fits (core_kept self.old.decider) [] }
         requires held { self.old.lines ≡ [] }
@@ -80,7 +88,8 @@ impl<'a, R: Input + Drop> Report<'a, R> {
         ensures fault { IfErr result (λ fault. IsWriteFault fault) }
     {
         loop {
-            write_before_wait(&mut self.lines, &self.feeder, writer)?;
+            let progress = self.progress;
+            write_before_wait(&mut self.lines, &self.feeder, writer, watcher, progress)?;
             match self.take_line(writer)? {
                 None => {}
                 Some(ending) => {
@@ -167,7 +176,9 @@ impl<'a, R: Input + Drop> Report<'a, R> {
         match self.decider.decide(event) {
             Ok(()) => {
                 let entries = self.decider.entries();
+                let messages = count_messages(entries);
                 write_entries(&mut self.lines, writer, self.config, entries)?;
+                self.progress = self.progress.with_event().with_messages(messages);
                 Ok(None)
             }
             Err(DecideFault::Ended) => {
@@ -183,11 +194,14 @@ impl<'a, R: Input + Drop> Report<'a, R> {
     }
 }
 
-/// Writes all lines, unless a line of the feed is there to be read: else the next call of the reader may wait.
-fn write_before_wait<R: Input + Drop, W: Write>(
+/// Writes all lines, and tells how far it is, unless a line of the feed is there to be read: else the next call of the
+/// reader may wait.
+fn write_before_wait<R: Input + Drop, W: Write, P: Watcher>(
     lines: &mut Lines,
     feeder: &Feeder<R>,
     writer: &mut W,
+    watcher: &mut P,
+    progress: Progress,
 ) -> Result<(), CommandFault>
     ensures ok { OnOk result
         (Leaves (W.contents writer.old) (W.contents writer.new) lines.old lines.new) }
@@ -195,11 +209,22 @@ fn write_before_wait<R: Input + Drop, W: Write>(
     ensures front { WritesFront (W.contents writer.old) (W.contents writer.new) lines.old }
     ensures fault { IfErr result (λ fault. IsWriteFault fault) }
 {
+    watcher.make_way();
     if feeder.has_line() {
         Ok(())
     } else {
-        lines.flush(writer)
+        let flushed = lines.flush(writer);
+        watcher.tell(progress);
+        flushed
     }
+}
+
+/// How many messages are among entries.
+fn count_messages(entries: &[Entry]) -> usize
+    ensures { result ≡ length (filter is_sent entries.now) }
+{
+    let sent = entries.iter().filter(|entry| matches!(entry, Entry::Sent(_)));
+    sent.count()
 }
 
 /// Makes the lines of entries, in order.
