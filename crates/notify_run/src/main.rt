@@ -18,12 +18,14 @@ use clap::error::ErrorKind;
 use command_line::{Request, command, request_of};
 use command_output::{CommandFault, Ending, exit_status};
 use due_model::zone::Zone;
+use progress::{ProgressLine, Watcher};
 use replay::{replay_files, replay_in};
 use run_fault::RunFault;
 use sending::do_run;
 use std::alloc::AllocError;
 use std::env;
 use std::fs::File;
+use std::io::IsTerminal;
 use std::process::ExitCode;
 use text_lines::AnyReader;
 use trace::trace_in;
@@ -78,17 +80,32 @@ fn status_of_zone<R: Eprint>(rt: &R, fault: ZoneFault) -> ExitCode
     }
 }
 
-/// Does a replay: with the object text of a file, or of the input.
+/// Does a replay: with the object text of a file, or of the input. A terminal at standard error shows how far it is.
 fn do_replay(rt: &HostRuntime, zone: &Zone, objects: Option<&str>) -> Result<Ending, CommandFault> {
+    let mut line = ProgressLine::new(rt, rt.stderr().is_terminal());
+    let outcome = replay_through(rt, zone, objects, &mut line);
+    line.finish();
+    outcome
+}
+
+/// The same, where somebody watches.
+fn replay_through<P: Watcher>(
+    rt: &HostRuntime,
+    zone: &Zone,
+    objects: Option<&str>,
+    watcher: &mut P,
+) -> Result<Ending, CommandFault> {
     let alloc = rt.alloc();
     let input = AnyReader::new(rt.stdin());
+    let mut writer = rt.stdout();
     let Some(path) = objects else {
-        return replay_in(alloc, zone, input, &mut rt.stdout());
+        return replay_in(alloc, zone, input, &mut writer, watcher);
     };
     let Ok(file) = File::open(rt, path) else {
         return Err(CommandFault::Unreadable);
     };
-    replay_files(alloc, zone, AnyReader::new(file), input, &mut rt.stdout())
+    let objects = AnyReader::new(file);
+    replay_files(alloc, zone, objects, input, &mut writer, watcher)
 }
 
 /// Does a trace.

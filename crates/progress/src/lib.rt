@@ -62,6 +62,7 @@ pub trait Watcher {
 }
 
 /// Nobody watches.
+#[derive(Clone, Copy, Drop)]
 pub struct Unwatched;
 
 impl Watcher for Unwatched {

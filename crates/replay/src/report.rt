@@ -93,6 +93,7 @@ impl<'a, R: Input + Drop> Report<'a, R> {
             match self.take_line(writer)? {
                 None => {}
                 Some(ending) => {
+                    watcher.make_way();
                     self.lines.flush(writer)?;
                     return Ok(ending);
                 }
