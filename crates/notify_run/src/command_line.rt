@@ -84,13 +84,13 @@ NAME is a command that a contact lists. The program and its arguments are separa
 spaces; nothing quotes a space. What an event makes due is tried before the next line of
 the feed is waited for. A message that fails is tried again, up to --tries; then its
 command's channel is closed, and that and all later messages of the command stay
-undelivered. Standard output gets, once the feed is over,
+undelivered. Standard output gets, as the feed comes,
 
   R;line;fault                                             a refused line of the feed
   S;event;moment;object;kind;state;filter                  what a filter of the object stopped
   C;event;moment;object;kind;state;number;contact;filter   a contact that was refused
 
-and for each command that contacts list
+and once it is over, for each command that contacts list,
 
   T;command;event;object;contact                           a message that its channel took
   U;command;event;object;contact                           a message that is undelivered
