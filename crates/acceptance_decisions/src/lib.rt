@@ -1,5 +1,4 @@
-//! Tests of what a decision is made of: filters, problem counts, escalations, dependencies, messages. There is no code
-//! here.
+//! Tests of what a decision is made of: problem counts, escalations, dependencies, messages. There is no code here.
 #![tactic(auto)]
 
 #[cfg(test)]
@@ -8,7 +7,5 @@ mod books;
 mod dependencies;
 #[cfg(test)]
 mod escalations;
-#[cfg(test)]
-mod filters_rows;
 #[cfg(test)]
 mod messages_rows;

@@ -1,20 +1,11 @@
-//! Tests of object text: how it is read, what its templates give and what it means, on values from outside. There is
-//! no code here.
+//! Tests of object text: how it is read, what its templates give, and what it means, block by block. There is no code here.
 #![tactic(auto)]
 
 #[cfg(test)]
-mod escalations;
-#[cfg(test)]
 mod inheritance;
-#[cfg(test)]
-mod near_base;
 #[cfg(test)]
 mod object_text;
 #[cfg(test)]
 mod resolver;
 #[cfg(test)]
 mod shown;
-#[cfg(test)]
-mod site;
-#[cfg(test)]
-mod site_shown;
