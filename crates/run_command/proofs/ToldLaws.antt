@@ -102,13 +102,17 @@ adds {X} old new added e = record {
   added_is = ap (λ (xs : List X). drop (length old) xs) e ∙ drop-append_seam old added;
 }
 
-refused_added : Option Answer → List RefusedLine
+abbrev refused_added : Option Answer → List RefusedLine
 refused_added None = []
 refused_added (Some answer) = refused_in answer.line answer.given
 
-log_added : Config → Zone → List Event → Option Answer → List Suppression
+abbrev log_in : Config → Zone → List Event → Result Event FeedFault → List Suppression
+log_in c zone past (Ok e) = suppressed_gained c zone whole_share e past
+log_in c zone past (Err f) = []
+
+abbrev log_added : Config → Zone → List Event → Option Answer → List Suppression
 log_added c zone past None = []
-log_added c zone past (Some answer) = elim answer.given as (λ _. List Suppression) [ Ok e ↦ suppressed_gained c zone whole_share e past | Err f ↦ [] ]
+log_added c zone past (Some answer) = log_in c zone past answer.given
 
 refused_one : (said : List Answer) (last : Option Answer) → refusals_in (with_one said last) ≡ refusals_in said ++ refused_added last
 refused_one said None = sym (append-nil (refusals_in said))

@@ -159,13 +159,13 @@ impl Telling {
     /// Writes all that is held back. The answer is the fault of the writing, if there was one.
     pub(crate) fn finish<W: Write>(mut self, writer: &mut W) -> Option<CommandFault>
         ensures whole { (before : Option (List ℕ)) (text : List ℕ)
-            → IsTold before (W.contents writer.old) text self.entry.lines self.entry.fault
+            → IsTold before (W.contents writer.old) text self.lines self.fault
             → IfNone result (Writes before (W.contents writer.new) text) }
         ensures front { (before : Option (List ℕ)) (text : List ℕ)
-            → IsTold before (W.contents writer.old) text self.entry.lines self.entry.fault
+            → IsTold before (W.contents writer.old) text self.lines self.fault
             → WritesFront before (W.contents writer.new) text }
         ensures fault { (before : Option (List ℕ)) (text : List ℕ)
-            → IsTold before (W.contents writer.old) text self.entry.lines self.entry.fault
+            → IsTold before (W.contents writer.old) text self.lines self.fault
             → IfSome result (λ fault. IsWriteFault fault) }
     {
         match self.fault {
