@@ -1,10 +1,10 @@
 -- What is told of a line of the feed is what its turn added.
-use Rattle.std.proofs.Common.{◌≡◌, ℕ, ◌≤◌, Bool, true, false, List, [], ◌∷◌, ◌++◌, ◌⊎◌, inl, inr, drop, flat_map, length, reverse, Option, Some, None, Result, Ok, Err, IfErr, IfNone, IfOk, IfSome, OnOk, is_some, refl, sym, ap, subst, ◌∙◌, append_assoc, arith}
+use Rattle.std.proofs.Common.{◌≡◌, ℕ, ◌≤◌, Bool, true, false, List, [], ◌∷◌, ◌++◌, ◌⊎◌, inl, inr, ◌-◌, take, drop, flat_map, length, reverse, Option, Some, None, Result, Ok, Err, IfErr, IfNone, IfOk, IfSome, OnOk, is_some, refl, sym, ap, subst, ◌∙◌, append_assoc, arith}
 use Rattle.std.specs.Result.{result_err}
 use Rattle.std.specs.declared.alloc.AllocError.{AllocError}
 use Rattle.std.proofs.Math.Seq.{drop-append_seam}
 use Rattle.std.proofs.lemmas.Grind.{flat_map-append}
-use Rattle.std.proofs.lemmas.List.{append-nil, length-append, reverse-append}
+use Rattle.std.proofs.lemmas.List.{append-nil, length-append, reverse-append, take_rest}
 use Rattle.due_model.specs.declared.config.Config.{Config}
 use Rattle.due_model.specs.declared.event.Event.{Event}
 use Rattle.due_model.specs.declared.notice.Suppression.{Suppression}
@@ -17,14 +17,15 @@ use Rattle.engine.specs.declared.run.Turn.{Turn}
 use Rattle.engine.specs.declared.run_end.RunEnd.{RunEnd}
 use Rattle.engine.specs.Due.{suppressed, whole_share}
 use Rattle.engine.specs.Feed.{event_in, events_in, refused_in, refusals_in, with_one}
-use Rattle.engine.specs.Run.{EndsAfter, RunValue}
+use Rattle.engine.specs.Lanes.{LaneParts}
+use Rattle.engine.specs.Run.{EndsAfter, HasTaken, RunValue}
 use Rattle.command_output.specs.declared.outcome.CommandFault.{CommandFault}
 use Rattle.command_output.specs.declared.outcome.CommandFault.TheVariants as command
 use Rattle.command_output.specs.declared.outcome.Ending.{Ending}
 use Rattle.command_output.specs.Outcome.{IsWriteFault}
 use Rattle.command_output.specs.Output.{Leaves, Writes, WritesFront}
 use Rattle.command_output.specs.OutputLaws.{front_longer, front_on, leaves_all, leaves_on}
-use Rattle.run_command.specs.Report.{WritesReport, answer_text, ending_of, log_text, refused_text, report_text, told_after}
+use Rattle.run_command.specs.Report.{WritesReport, answer_text, ending_of, lanes_text, log_text, refused_text, report_text, told_after}
 use Rattle.run_command.specs.Told.{HasTold, IsTold}
 
 -- ---- more is told
@@ -88,15 +89,19 @@ told_push c zone past (answer ∷ said) last =
     ∙ sym (append_assoc here (told_after c zone after said) (answer_text c zone (reverse (events_in said) ++ after) last.line last.given))
     ∙ ap (λ (xs : List Event). (here ++ told_after c zone after said) ++ answer_text c zone xs last.line last.given) (sym (past_after answer said past))
 
+-- what comes in a list after as many as the other has
+abbrev pub later : {X : Type 0} (old new : List X) → List X
+later old new = take (length new - length old) (drop (length old) new)
+
 -- what a turn added of a list
 pub record Adds {X : Type 0} (old new added : List X) : Type 0 where
   pub within : length old ≤ length new
-  pub added_is : drop (length old) new ≡ added
+  pub added_is : later old new ≡ added
 
 adds : {X : Type 0} (old new added : List X) → new ≡ old ++ added → Adds old new added
 adds {X} old new added e = record {
   within = omega (arith, ap length e, length-append old added);
-  added_is = ap (λ (xs : List X). drop (length old) xs) e ∙ drop-append_seam old added;
+  added_is = take_rest new (length old) ∙ ap (λ (xs : List X). drop (length old) xs) e ∙ drop-append_seam old added;
 }
 
 abbrev refused_added : Option Answer → List RefusedLine
@@ -163,13 +168,19 @@ module _ (c : Config) (zone : Zone) (said : List Answer) (last : Option Answer) 
 -- the text after a turn is the text before it, and the lines of what is more
 pub turn_text : (c : Config) (zone : Zone) (said : List Answer) (last : Option Answer) (refused refused' : List RefusedLine) (log log' : List Suppression)
     → Adds refused refused' (refused_added last) → Adds log log' (log_added c zone (reverse (events_in said)) last)
-    → told_after c zone [] said ++ (refused_text (drop (length refused) refused') ++ log_text c (drop (length log) log')) ≡ told_after c zone [] (with_one said last)
+    → told_after c zone [] said ++ (refused_text (later refused refused') ++ log_text c (later log log')) ≡ told_after c zone [] (with_one said last)
 turn_text c zone said last refused refused' log log' of_refused of_log =
-    ap (λ (rs : List RefusedLine). told_after c zone [] said ++ (refused_text rs ++ log_text c (drop (length log) log'))) of_refused.added_is
+    ap (λ (rs : List RefusedLine). told_after c zone [] said ++ (refused_text rs ++ log_text c (later log log'))) of_refused.added_is
     ∙ ap (λ (ls : List Suppression). told_after c zone [] said ++ (refused_text (refused_added last) ++ log_text c ls)) of_log.added_is
     ∙ sym (text_one c zone said last)
 
 -- ---- a turn
+
+-- nothing was taken yet, and nothing told
+pub told_begun : (can_fail : Bool) (c : Config) (zone : Zone) (posted : ℕ → Bool) (known before : Option (List ℕ)) (read : Result Turn AllocError) (run : RunValue)
+    (held : List ℕ) (fault : Option CommandFault) → HasTaken can_fail c zone posted known [] read run → held ≡ [] → fault ≡ None
+    → HasTold can_fail c zone posted known before [] read run before held fault
+told_begun can_fail c zone posted known before read run held fault taken none no_fault = record { taken = taken; told = told_nothing before held fault none no_fault }
 
 module _ (can_fail : Bool) (c : Config) (zone : Zone) (posted : ℕ → Bool) (known before : Option (List ℕ)) (said : List Answer) (run : RunValue)
     (now : Option (List ℕ)) (held : List ℕ) (fault : Option CommandFault) where
@@ -180,6 +191,11 @@ module _ (can_fail : Bool) (c : Config) (zone : Zone) (posted : ℕ → Bool) (k
   turn_is made is e h = (with_one said h.0, subst (λ (t : Result Turn AllocError). HasTold can_fail c zone posted known before (with_one said h.0) t run now held fault) e h.1)
 
 -- ---- when it is over
+
+-- the lanes were told too
+pub lanes_told : (c : Config) (zone : Zone) (before now : Option (List ℕ)) (said : List Answer) (lanes lanes' : List LaneParts) (held : List ℕ) (fault : Option CommandFault) → lanes ≡ lanes'
+    → IsTold before now (told_after c zone [] said ++ lanes_text c lanes) held fault → IsTold before now (report_text c zone said lanes') held fault
+lanes_told c zone before now said lanes lanes' held fault is h = subst (λ (ls : List LaneParts). IsTold before now (told_after c zone [] said ++ lanes_text c ls) held fault) is h
 
 of_no_fault : {P : Type 0} (fault : Option CommandFault) → fault ≡ None → IfNone fault P → P
 of_no_fault None is h = h
