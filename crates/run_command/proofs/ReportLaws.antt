@@ -1,5 +1,5 @@
 -- Lines that are made one after another.
-use Rattle.std.proofs.Common.{◌≡◌, ℕ, ◌+◌, ◌<◌, ◌≤◌, List, [], ◌∷◌, ◌++◌, flat_map, length, take, drop, get_or, Option, sym, ap, subst, ◌∙◌, append_assoc}
+use Rattle.std.proofs.Common.{◌≡◌, ℕ, ◌+◌, ◌<◌, ◌≤◌, List, [], ◌∷◌, ◌++◌, flat_map, length, take, drop, get_or, Option, Result, Ok, Err, OnOk, sym, ap, subst, ◌∙◌, append_assoc}
 use Rattle.std.proofs.lemmas.Grind.{flat_map-append}
 use Rattle.std.proofs.lemmas.List.{append-nil, take-append-drop, take_all, take_more}
 use Rattle.due_model.specs.declared.config.Config.{Config}
@@ -53,6 +53,12 @@ part_on old mid new held text part now now' before step =
 pub part_cut : (old mid new : Option (List ℕ)) (held text part now : List ℕ) → Leaves old mid (held ++ text) now → WritesFront mid new (now ++ part) → WritesFront old new (held ++ (text ++ part))
 part_cut old mid new held text part now before step =
     subst (λ all. WritesFront old new all) (append_assoc held text part) (front_on old mid new (held ++ text) now part before step)
+
+-- the same of a part that is the last, if it was made
+pub part_last : {E : Type 0} (done : Result Unit E) (old mid new : Option (List ℕ)) (held text part now now' : List ℕ) → Leaves old mid (held ++ text) now → OnOk done (Leaves mid new (now ++ part) now')
+    → OnOk done (Leaves old new (held ++ (text ++ part)) now')
+part_last (Ok x) old mid new held text part now now' before step = part_on old mid new held text part now now' before step
+part_last (Err e) old mid new held text part now now' before step = tt
 
 -- a front of the beginning is one of the whole
 pub part_begun : (old new : Option (List ℕ)) (held text part : List ℕ) → WritesFront old new (held ++ text) → WritesFront old new (held ++ (text ++ part))

@@ -67,11 +67,13 @@ fn tell<R: Input + Drop, W: Write>(
     requires { (zone : Zone) × (posted : ℕ → Bool) × (known : Option (List ℕ))
         × HasTaken R.can_fail config.now zone posted known [] (Ok Turn.GoesOn) (run_value begun) }
     ensures report { (zone : Zone) (posted : ℕ → Bool) (known : Option (List ℕ))
-        → HasTaken R.can_fail config.now zone posted known [] (Ok Turn.GoesOn) (run_value begun)
+        → HasTaken R.can_fail config.now zone posted known [] (Ok Turn.GoesOn)
+        (run_value begun.entry)
         → IfOk result (λ ending. WritesReport R.can_fail config.now zone posted known ending
         (W.contents writer.old) (W.contents writer.new)) }
     ensures front { (zone : Zone) (posted : ℕ → Bool) (known : Option (List ℕ))
-        → HasTaken R.can_fail config.now zone posted known [] (Ok Turn.GoesOn) (run_value begun)
+        → HasTaken R.can_fail config.now zone posted known [] (Ok Turn.GoesOn)
+        (run_value begun.entry)
         → WritesReportFront R.can_fail config.now zone posted known result
         (W.contents writer.old) (W.contents writer.new) }
     ensures fault { IfErr result (λ fault. IsWriteFault fault) }

@@ -5,11 +5,11 @@ ghost use Rattle.due_model.specs.declared.zone.Zone.{Zone};
 ghost use Rattle.event_feed.specs.Feed.{Answer};
 ghost use Rattle.text_lines.specs.Lines.{has_line};
 ghost use Rattle.engine.specs.Feed.{with_one};
-ghost use Rattle.engine.specs.Run.{HasTaken, last_turn, lines_left, run_value};
+ghost use Rattle.engine.specs.Run.{last_turn, lines_left, run_value};
 ghost use Rattle.command_output.specs.Outcome.{IsWriteFault};
 ghost use Rattle.command_output.specs.Output.{Writes, WritesFront};
-ghost use Rattle.run_command.specs.Report.{lanes_text, log_text, refused_text, told_after};
-ghost use Rattle.run_command.specs.Told.{IsTold};
+ghost use Rattle.run_command.specs.Report.{lanes_text, log_text, refused_text};
+ghost use Rattle.run_command.specs.Told.{HasTold, IsTold};
 
 use crate::lanes::write_lanes;
 use crate::turns::write_turn;
@@ -47,19 +47,16 @@ impl Telling {
         writer: &mut W,
     ) -> Result<bool, AllocError>
         requires { (zone : Zone) × (posted : ℕ → Bool) × (known : Option (List ℕ))
-            × (said : List Answer) × HasTaken R.can_fail config.now zone posted known said
-            (Ok Turn.GoesOn) (run_value run.old) }
+            × (before : Option (List ℕ)) × (said : List Answer)
+            × HasTold R.can_fail config.now zone posted known before said (Ok Turn.GoesOn)
+            (run_value run.old) (W.contents writer.old) self.old.lines self.old.fault }
         ensures { (zone : Zone) (posted : ℕ → Bool) (known before : Option (List ℕ))
             (said : List Answer)
-            → HasTaken R.can_fail config.now zone posted known said (Ok Turn.GoesOn)
-            (run_value run.old)
-            → IsTold before (W.contents writer.old) (told_after config.now zone [] said)
-            self.old.lines self.old.fault
+            → HasTold R.can_fail config.now zone posted known before said (Ok Turn.GoesOn)
+            (run_value run.old) (W.contents writer.old) self.old.lines self.old.fault
             → (all : List Answer)
-            × HasTaken R.can_fail config.now zone posted known all (last_turn result)
-            (run_value run.new)
-            × IsTold before (W.contents writer.new) (told_after config.now zone [] all)
-            self.new.lines self.new.fault }
+            × HasTold R.can_fail config.now zone posted known before all (last_turn result)
+            (run_value run.new) (W.contents writer.new) self.new.lines self.new.fault }
     {
         loop {
             self.write_before_wait(run, writer);
@@ -78,20 +75,20 @@ impl Telling {
         config: &Config,
         writer: &mut W,
     ) -> Result<Turn, AllocError>
-        requires { (zone : Zone) × (posted : ℕ → Bool) × (known : Option (List ℕ))
-            × (said : List Answer) × HasTaken R.can_fail config.now zone posted known said
-            (Ok Turn.GoesOn) (run_value run.old) }
-        ensures taken { (zone : Zone) (posted : ℕ → Bool) (known before : Option (List ℕ))
+        requires told { (zone : Zone) × (posted : ℕ → Bool) × (known : Option (List ℕ))
+            × (before : Option (List ℕ)) × (said : List Answer)
+            × HasTold R.can_fail config.now zone posted known before said (Ok Turn.GoesOn)
+            (run_value run.old) (W.contents writer.old) self.old.lines self.old.fault }
+        // Where the reader may be called nothing is held back, unless the writing failed.
+        requires written { has_line (run_value run.old).intake.feed.held ≡ false
+            → self.old.fault ≡ None → self.old.lines ≡ [] }
+        ensures told { (zone : Zone) (posted : ℕ → Bool) (known before : Option (List ℕ))
             (said : List Answer)
-            → HasTaken R.can_fail config.now zone posted known said (Ok Turn.GoesOn)
-            (run_value run.old)
-            → IsTold before (W.contents writer.old) (told_after config.now zone [] said)
-            self.old.lines self.old.fault
+            → HasTold R.can_fail config.now zone posted known before said (Ok Turn.GoesOn)
+            (run_value run.old) (W.contents writer.old) self.old.lines self.old.fault
             → (last : Option Answer)
-            × HasTaken R.can_fail config.now zone posted known (with_one said last) result
-            (run_value run.new)
-            × IsTold before (W.contents writer.new)
-            (told_after config.now zone [] (with_one said last)) self.new.lines self.new.fault }
+            × HasTold R.can_fail config.now zone posted known before (with_one said last) result
+            (run_value run.new) (W.contents writer.new) self.new.lines self.new.fault }
         ensures shorter { result ≡ Ok Turn.GoesOn
             → lines_left (run_value run.new) < lines_left (run_value run.old) }
     {
@@ -159,13 +156,13 @@ impl Telling {
     /// Writes all that is held back. The answer is the fault of the writing, if there was one.
     pub(crate) fn finish<W: Write>(mut self, writer: &mut W) -> Option<CommandFault>
         ensures whole { (before : Option (List ℕ)) (text : List ℕ)
-            → IsTold before (W.contents writer.old) text self.entry.lines self.entry.fault
+            → IsTold before (W.contents writer.old) text self.lines self.fault
             → IfNone result (Writes before (W.contents writer.new) text) }
         ensures front { (before : Option (List ℕ)) (text : List ℕ)
-            → IsTold before (W.contents writer.old) text self.entry.lines self.entry.fault
+            → IsTold before (W.contents writer.old) text self.lines self.fault
             → WritesFront before (W.contents writer.new) text }
         ensures fault { (before : Option (List ℕ)) (text : List ℕ)
-            → IsTold before (W.contents writer.old) text self.entry.lines self.entry.fault
+            → IsTold before (W.contents writer.old) text self.lines self.fault
             → IfSome result (λ fault. IsWriteFault fault) }
     {
         match self.fault {

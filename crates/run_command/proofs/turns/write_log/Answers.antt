@@ -1,6 +1,6 @@
 use Rattle.command_output.specs.ReportLine.{suppression_line}
 use Rattle.run_command.proofs.ReportLaws.{line_cut, line_written}
-use Rattle.run_command.proofs.write_log.Goals as goal
+use Rattle.run_command.proofs.turns.write_log.Goals as goal
 
 pub loop-suppression-preserved : goal.loop-suppression-preserved
 loop-suppression-preserved g c =

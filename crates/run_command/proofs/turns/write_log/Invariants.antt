@@ -1,7 +1,7 @@
 use Rattle.std.proofs.Common.{◌++◌, flat_map, take}
 use Rattle.command_output.specs.Output.{Leaves}
 use Rattle.command_output.specs.ReportLine.{suppression_line}
-use Rattle.run_command.proofs.write_log.Given as goal
+use Rattle.run_command.proofs.turns.write_log.Given as goal
 
 abbrev pub invariant-loop-suppression : goal.invariant-loop-suppression
 invariant-loop-suppression g l =

@@ -1,7 +1,7 @@
 use Rattle.event_feed.specs.declared.fault.RefusedLine.{RefusedLine}
 use Rattle.command_output.specs.ReportLine.{refused_line}
 use Rattle.run_command.proofs.ReportLaws.{line_cut, line_written}
-use Rattle.run_command.proofs.write_refused.Goals as goal
+use Rattle.run_command.proofs.turns.write_refused.Goals as goal
 
 pub loop-refusal-preserved : goal.loop-refusal-preserved
 loop-refusal-preserved g c =

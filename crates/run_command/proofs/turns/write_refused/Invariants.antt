@@ -1,7 +1,7 @@
 use Rattle.std.proofs.Common.{◌++◌, flat_map, take}
 use Rattle.command_output.specs.Output.{Leaves}
 use Rattle.command_output.specs.ReportLine.{refused_line}
-use Rattle.run_command.proofs.write_refused.Given as goal
+use Rattle.run_command.proofs.turns.write_refused.Given as goal
 
 abbrev pub invariant-loop-refusal : goal.invariant-loop-refusal
 invariant-loop-refusal g l =
