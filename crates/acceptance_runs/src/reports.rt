@@ -1,6 +1,6 @@
 //! Reports of the worked examples.
 
-use crate::watchers::{Counting, Stubborn, Watching};
+use crate::watchers::{Counting, Noting, Stubborn, Watching};
 use acceptance_inputs::accepted::is_accepted;
 use acceptance_inputs::configs::base;
 use channel::Channel;
@@ -9,6 +9,7 @@ use command_output::{CommandFault, Ending};
 use due_model::config::{Config, LaneId};
 use due_model::zone::Zone;
 use engine::{Post, Settings};
+use progress::{Progress, Unwatched, Watcher};
 use run_command::run;
 use std::alloc::{AllocError, Global};
 use std::cell::Cell;
@@ -41,10 +42,24 @@ fn ends<R: Read + Drop, W: Write>(
     feed: R,
     out: &mut W,
 ) -> Result<Ending, CommandFault> {
+    ends_watched(rt, alloc, config, posts, feed, out, &mut Unwatched)
+}
+
+/// The same, where somebody watches.
+fn ends_watched<R: Read + Drop, W: Write, P: Watcher>(
+    rt: &impl Abort,
+    alloc: Global,
+    config: &Config,
+    posts: Vec<Post>,
+    feed: R,
+    out: &mut W,
+    watcher: &mut P,
+) -> Result<Ending, CommandFault> {
     assert!(rt; is_accepted(config), "the configuration is accepted");
     let settings = Settings::new(1, 1, 2).expect(rt, "settings in range");
     let feed = AnyReader::new(feed);
-    run(alloc, config, &Zone::Utc, settings, posts, feed, out)
+    let zone = Zone::Utc;
+    run(alloc, config, &zone, settings, posts, feed, out, watcher)
 }
 
 /// A feed, what is written, and how it ends.
@@ -192,5 +207,30 @@ fn output_fails(rt: HostRuntime) -> Result<(), Fail> {
         let posts = mail(rt.alloc(), &[])?;
         reads_on(&rt, rt.alloc(), &config, posts, calls);
     }
+    Ok(())
+}
+
+/// Four events, of which two letters were taken; a line that was refused isn't an event.
+fn tells_how_far(rt: &impl Abort, alloc: Global, config: &Config, posts: Vec<Post>) {
+    let mut out = Vec::new(alloc);
+    let mut watcher = Noting {
+        last: Progress::new(),
+        ways: 0,
+    };
+    let feed = FEED.as_bytes();
+    let ended = ends_watched(rt, alloc, config, posts, feed, &mut out, &mut watcher);
+    let wanted = Progress {
+        events: 4,
+        messages: 2,
+    };
+    assert_eq!(rt; (ended, watcher.last), (Ok(Ending::Whole), wanted));
+    assert!(rt; watcher.ways > 0, "lines were written");
+}
+
+#[test]
+fn how_far_it_is(rt: HostRuntime) -> Result<(), Fail> {
+    let config = base(rt.alloc())?;
+    let posts = mail(rt.alloc(), &[])?;
+    tells_how_far(&rt, rt.alloc(), &config, posts);
     Ok(())
 }

@@ -1,5 +1,6 @@
-//! Readers and writers that note what was asked of them.
+//! Readers, writers and watchers that note what was asked of them.
 
+use progress::{Progress, Watcher};
 use std::cell::Cell;
 use std::io::{self, ErrorKind, Read, Write};
 
@@ -66,5 +67,22 @@ impl Write for Stubborn {
 
     fn flush(&mut self) -> io::Result<()> {
         Ok(())
+    }
+}
+
+/// A watcher that notes what it was told last, and how often it had to make way.
+#[derive(Drop)]
+pub(crate) struct Noting {
+    pub(crate) last: Progress,
+    pub(crate) ways: u64,
+}
+
+impl Watcher for Noting {
+    fn tell(&mut self, progress: Progress) {
+        self.last = progress;
+    }
+
+    fn make_way(&mut self) {
+        self.ways = self.ways.saturating_add(1);
     }
 }

@@ -14,8 +14,10 @@ use command_output::{CommandFault, Ending};
 use due_model::config::{Config, LaneId};
 use due_model::zone::Zone;
 use engine::Post;
+use progress::ProgressLine;
 use run_command::run;
 use std::fs::File;
+use std::io::IsTerminal;
 use text_lines::AnyReader;
 use world_steps::Settings;
 
@@ -63,7 +65,7 @@ fn config_of_file(rt: &HostRuntime, path: &str) -> Result<Config, CommandFault>
     }
 }
 
-/// Reads the feed, with channels for these lanes, one each in order.
+/// Reads the feed, with channels for these lanes, one each in order. A terminal at standard error shows how far it is.
 fn run_through<'a>(
     rt: &HostRuntime,
     config: &Config,
@@ -86,7 +88,17 @@ fn run_through<'a>(
         })?;
     }
     let feed = AnyReader::new(rt.stdin());
-    let mut writer = rt.stdout();
-    let ending = run(alloc, config, zone, settings, posts, feed, &mut writer)?;
-    Ok(ending)
+    let mut line = ProgressLine::new(rt, rt.stderr().is_terminal());
+    let outcome = run(
+        alloc,
+        config,
+        zone,
+        settings,
+        posts,
+        feed,
+        &mut rt.stdout(),
+        &mut line,
+    );
+    line.finish();
+    Ok(outcome?)
 }

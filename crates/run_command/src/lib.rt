@@ -19,6 +19,7 @@ use due_model::config::Config;
 use due_model::zone::Zone;
 use engine::{Post, Run, RunEnd, Settings, Turn};
 use lanes::has_undelivered;
+use progress::Watcher;
 use std::alloc::Global;
 use std::io::Write;
 use telling::Telling;
@@ -29,8 +30,9 @@ use text_lines::Input;
 /// called for more; when the feed is over, lane by lane, the `T` lines of what its channel has taken, the `U` lines of what it
 /// gave up, each in order, and its `Z` line. Where the output fails, a front of the report was written: nothing more is, and
 /// the run goes on to the end of the feed. Where memory runs out in the run it reads no further, and what is there is told.
-/// `Undelivered` says that a lane gave something up, `Short` that the feed ended before its input; of both, the latter is said.
-pub fn run<R: Input + Drop, W: Write>(
+/// The watcher is told how far it is whenever the feed may be waited for: how many events were decided, and how many letters
+/// channels have taken. `Undelivered` says that a lane gave something up, `Short` that the feed ended before its input; of both, the latter is said.
+pub fn run<R: Input + Drop, W: Write, P: Watcher>(
     alloc: Global,
     config: &Config,
     zone: &Zone,
@@ -38,6 +40,7 @@ pub fn run<R: Input + Drop, W: Write>(
     posts: Vec<Post>,
     feed: R,
     writer: &mut W,
+    watcher: &mut P,
 ) -> Result<Ending, CommandFault>
     requires accepted { IsAccepted config.now }
     requires deciders { settings.deciders ≡ 1 }
@@ -52,17 +55,18 @@ pub fn run<R: Input + Drop, W: Write>(
     ensures fault { IfErr result (λ fault. IsWriteFault fault) }
 {
     match Run::start(alloc, config, zone, feed, posts, settings) {
-        Ok(begun) => tell(alloc, config, begun, writer),
+        Ok(begun) => tell(alloc, config, begun, writer, watcher),
         Err(_end) => Err(CommandFault::NoMemory),
     }
 }
 
 /// The rest of a run of whose feed nothing is read. Where there is no memory for its lines nothing is told of it.
-fn tell<R: Input + Drop, W: Write>(
+fn tell<R: Input + Drop, W: Write, P: Watcher>(
     alloc: Global,
     config: &Config,
     begun: Run<'_, R>,
     writer: &mut W,
+    watcher: &mut P,
 ) -> Result<Ending, CommandFault>
     requires { (zone : Zone) × (posted : ℕ → Bool) × (known : Option (List ℕ))
         × HasTaken R.can_fail config.now zone posted known [] (Ok Turn.GoesOn) (run_value begun) }
@@ -79,7 +83,7 @@ fn tell<R: Input + Drop, W: Write>(
     ensures fault { IfErr result (λ fault. IsWriteFault fault) }
 {
     match Lines::new(alloc) {
-        Ok(lines) => tell_lines(Telling::new(lines), config, begun, writer),
+        Ok(lines) => tell_lines(Telling::new(lines), config, begun, writer, watcher),
         Err(_) => {
             let _untold = begun.complete();
             Err(CommandFault::NoMemory)
@@ -88,11 +92,12 @@ fn tell<R: Input + Drop, W: Write>(
 }
 
 /// The same, where nothing was told yet.
-fn tell_lines<R: Input + Drop, W: Write>(
+fn tell_lines<R: Input + Drop, W: Write, P: Watcher>(
     mut telling: Telling,
     config: &Config,
     mut begun: Run<'_, R>,
     writer: &mut W,
+    watcher: &mut P,
 ) -> Result<Ending, CommandFault>
     requires taken { (zone : Zone) × (posted : ℕ → Bool) × (known : Option (List ℕ))
         × HasTaken R.can_fail config.now zone posted known [] (Ok Turn.GoesOn) (run_value begun) }
@@ -110,7 +115,8 @@ fn tell_lines<R: Input + Drop, W: Write>(
         (W.contents writer.old) (W.contents writer.new) }
     ensures fault { IfErr result (λ fault. IsWriteFault fault) }
 {
-    let read = telling.tell_turns(&mut begun, config, writer);
+    let read = telling.tell_turns(&mut begun, config, writer, watcher);
+    watcher.make_way();
     let end = begun.close(read);
     telling.tell_lanes(&end.lanes, config, writer);
     outcome_of(&end, telling.finish(writer))

@@ -14,10 +14,11 @@ ghost use Rattle.run_command.specs.Told.{HasTold, IsTold};
 use crate::lanes::write_lanes;
 use crate::turns::write_turn;
 use command_output::{CommandFault, Lines};
-use due_model::config::Config;
+use due_model::config::{Config, LaneId};
 use due_model::notice::Suppression;
 use engine::{LaneEnd, Run, Turn};
 use event_feed::RefusedLine;
+use progress::{Progress, Watcher};
 use std::alloc::AllocError;
 use std::io::Write;
 use text_lines::Input;
@@ -27,6 +28,8 @@ use text_lines::Input;
 pub(crate) struct Telling {
     lines: Lines,
     fault: Option<CommandFault>,
+    /// The events that were decided, for whoever watches.
+    events: Progress,
 }
 
 impl Telling {
@@ -35,16 +38,22 @@ impl Telling {
         ensures held { result.lines ≡ lines }
         ensures fault { result.fault ≡ None }
     {
-        Telling { lines, fault: None }
+        Telling {
+            lines,
+            fault: None,
+            events: Progress::new(),
+        }
     }
 
     /// Reads the feed of a run to its end, and tells what each line of it gives before the reader is called for more. The
-    /// answer says whether the feed was cut; a growth that the run was refused is the only error.
-    pub(crate) fn tell_turns<R: Input + Drop, W: Write>(
+    /// answer says whether the feed was cut; a growth that the run was refused is the only error. The watcher is told of the
+    /// events that were decided and the letters that were taken.
+    pub(crate) fn tell_turns<R: Input + Drop, W: Write, P: Watcher>(
         &mut self,
         run: &mut Run<'_, R>,
         config: &Config,
         writer: &mut W,
+        watcher: &mut P,
     ) -> Result<bool, AllocError>
         requires { (zone : Zone) × (posted : ℕ → Bool) × (known : Option (List ℕ))
             × (before : Option (List ℕ)) × (said : List Answer)
@@ -59,7 +68,8 @@ impl Telling {
             (run_value run.new) (W.contents writer.new) self.new.lines self.new.fault }
     {
         loop {
-            self.write_before_wait(run, writer);
+            watcher.make_way();
+            self.write_before_wait(run, config, writer, watcher);
             match self.take_turn(run, config, writer) {
                 Ok(Turn::GoesOn) => {}
                 Ok(Turn::Over(cut)) => return Ok(cut),
@@ -95,6 +105,9 @@ impl Telling {
         let refused = run.refused().len();
         let suppressed = run.log().len();
         let turn = run.take_line();
+        if run.refused().len() == refused {
+            self.events = self.events.with_event();
+        }
         self.tell_turn(
             &run.refused()[refused..],
             &run.log()[suppressed..],
@@ -104,17 +117,28 @@ impl Telling {
         turn
     }
 
-    /// Writes all that is held back, unless a line of the feed is there to be read: else the next call of the reader may wait.
-    fn write_before_wait<R: Input + Drop, W: Write>(&mut self, run: &Run<'_, R>, writer: &mut W)
+    /// Writes all that is held back, and tells how far it is, unless a line of the feed is there to be read: else the next call
+    /// of the reader may wait.
+    fn write_before_wait<R: Input + Drop, W: Write, P: Watcher>(
+        &mut self,
+        run: &Run<'_, R>,
+        config: &Config,
+        writer: &mut W,
+        watcher: &mut P,
+    )
         ensures told { (before : Option (List ℕ)) (text : List ℕ)
             → IsTold before (W.contents writer.old) text self.old.lines self.old.fault
             → IsTold before (W.contents writer.new) text self.new.lines self.new.fault }
         ensures all { has_line (run_value run.now).intake.feed.held ≡ false
             → self.new.fault ≡ None → self.new.lines ≡ [] }
     {
-        if self.fault.is_none() && !run.has_line() {
+        if run.has_line() {
+            return;
+        }
+        if self.fault.is_none() {
             self.fault = self.lines.flush(writer).err();
         }
+        watcher.tell(self.events.with_messages(count_taken(run, config)));
     }
 
     /// Tells refused lines, and then suppressions.
@@ -170,4 +194,13 @@ impl Telling {
             None => self.lines.flush(writer).err(),
         }
     }
+}
+
+/// How many letters the channels of a run have taken so far, up to the greatest `usize`.
+fn count_taken<R: Input + Drop>(run: &Run<'_, R>, config: &Config) -> usize {
+    let mut count: usize = 0;
+    for lane in 0..config.lanes.len() {
+        count = count.saturating_add(run.taken(LaneId(lane as u8)).len());
+    }
+    count
 }
