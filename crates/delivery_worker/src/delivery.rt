@@ -46,6 +46,7 @@ pub fn deliver_notice<B: Bell>(
     ensures failed { IsErrOf result Why.Failed
         → TriesFailed tries (limit channel.old) (length (letter_of config.now notice))
         (failures channel.old) (failures channel.new) }
+    ensures memory { IsErrOf result Why.NoMemory → failures channel.new ≡ failures channel.old }
     ensures sooner { OnOk result (failures channel.new < failures channel.old + tries) }
     ensures not_over { ¬ IsErrOf result Why.FeedOver }
     ensures has_channel { ¬ IsErrOf result Why.NoChannel }
