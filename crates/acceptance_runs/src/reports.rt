@@ -21,28 +21,20 @@ use text_lines::AnyReader;
 /// The greatest length of a letter's text.
 const LIMIT: u64 = 65_536;
 
-/// A channel in memory for the one lane, which fails at the calls that are listed.
-fn mail(alloc: Global, fails: &[u64]) -> Result<Vec<Post>, AllocError> {
-    let channel = MemoryChannel::new(alloc, LIMIT, fails)?;
-    let channel: Box<dyn Channel> = Box::new(alloc, channel)?;
-    let mut posts = Vec::new(alloc);
-    posts.push(Post {
-        lane: LaneId(0),
-        channel,
-    })?;
-    Ok(posts)
-}
+/// How a run ends.
+type Ended = Result<Ending, CommandFault>;
 
-/// How a run of a feed ends, where a letter is tried twice at most.
+/// How a run of a feed ends, where a letter is tried twice at most. The one lane has a channel in memory, which fails at the
+/// calls that are listed, or none.
 fn ends<R: Read + Drop, W: Write>(
     rt: &impl Abort,
     alloc: Global,
     config: &Config,
-    posts: Vec<Post>,
+    fails: Option<&[u64]>,
     feed: R,
     out: &mut W,
-) -> Result<Ending, CommandFault> {
-    ends_watched(rt, alloc, config, posts, feed, out, &mut Unwatched)
+) -> Result<Ended, AllocError> {
+    ends_watched(rt, alloc, config, fails, feed, out, &mut Unwatched)
 }
 
 /// The same, where somebody watches.
@@ -50,16 +42,25 @@ fn ends_watched<R: Read + Drop, W: Write, P: Watcher>(
     rt: &impl Abort,
     alloc: Global,
     config: &Config,
-    posts: Vec<Post>,
+    fails: Option<&[u64]>,
     feed: R,
     out: &mut W,
     watcher: &mut P,
-) -> Result<Ending, CommandFault> {
+) -> Result<Ended, AllocError> {
     assert!(rt; is_accepted(config), "the configuration is accepted");
     let settings = Settings::new(1, 1, 2).expect(rt, "settings in range");
+    let mut posts = Vec::new(alloc);
+    if let Some(fails) = fails {
+        let channel = MemoryChannel::new(alloc, LIMIT, fails)?;
+        let channel: Box<dyn Channel> = Box::new(alloc, channel)?;
+        posts.push(Post {
+            lane: LaneId(0),
+            channel,
+        })?;
+    }
     let feed = AnyReader::new(feed);
     let zone = Zone::Utc;
-    run(alloc, config, &zone, settings, posts, feed, out, watcher)
+    Ok(run(alloc, config, &zone, settings, posts, feed, out, watcher))
 }
 
 /// A feed, what is written, and how it ends.
@@ -70,14 +71,15 @@ fn gives(
     rt: &impl Abort,
     alloc: Global,
     config: &Config,
-    posts: Vec<Post>,
+    fails: Option<&[u64]>,
     out: &mut Vec<u8>,
     example: Example,
-) {
+) -> Result<(), AllocError> {
     let (feed, report, ending) = example;
-    let ended = ends(rt, alloc, config, posts, feed.as_bytes(), out);
+    let ended = ends(rt, alloc, config, fails, feed.as_bytes(), out)?;
     assert_eq!(rt; ended, Ok(ending), "{feed}");
     assert_eq!(rt; out.as_slice(), report.as_bytes(), "{feed}");
+    Ok(())
 }
 
 const NO_CHANNEL: Example = (
@@ -90,9 +92,8 @@ const NO_CHANNEL: Example = (
 #[test]
 fn no_channel(rt: HostRuntime) -> Result<(), Fail> {
     let config = base(rt.alloc())?;
-    let posts = Vec::new(rt.alloc());
     let mut out = Vec::new(rt.alloc());
-    gives(&rt, rt.alloc(), &config, posts, &mut out, NO_CHANNEL);
+    gives(&rt, rt.alloc(), &config, None, &mut out, NO_CHANNEL)?;
     Ok(())
 }
 
@@ -110,9 +111,8 @@ const WHOLE: Example = (
 #[test]
 fn in_the_order_of_the_feed(rt: HostRuntime) -> Result<(), Fail> {
     let config = base(rt.alloc())?;
-    let posts = mail(rt.alloc(), &[])?;
     let mut out = Vec::new(rt.alloc());
-    gives(&rt, rt.alloc(), &config, posts, &mut out, WHOLE);
+    gives(&rt, rt.alloc(), &config, Some(&[]), &mut out, WHOLE)?;
     Ok(())
 }
 
@@ -126,9 +126,15 @@ const SECOND_FAILS: Example = (
 #[test]
 fn second_letter_fails(rt: HostRuntime) -> Result<(), Fail> {
     let config = base(rt.alloc())?;
-    let posts = mail(rt.alloc(), &[2, 3])?;
     let mut out = Vec::new(rt.alloc());
-    gives(&rt, rt.alloc(), &config, posts, &mut out, SECOND_FAILS);
+    gives(
+        &rt,
+        rt.alloc(),
+        &config,
+        Some(&[2, 3]),
+        &mut out,
+        SECOND_FAILS,
+    )?;
     Ok(())
 }
 
@@ -142,14 +148,13 @@ const CUT: Example = (
 #[test]
 fn cut_and_undelivered(rt: HostRuntime) -> Result<(), Fail> {
     let config = base(rt.alloc())?;
-    let posts = Vec::new(rt.alloc());
     let mut out = Vec::new(rt.alloc());
-    gives(&rt, rt.alloc(), &config, posts, &mut out, CUT);
+    gives(&rt, rt.alloc(), &config, None, &mut out, CUT)?;
     Ok(())
 }
 
 /// What the lines say is written before the reader is called for more: 35 bytes of the second, 13 of the third.
-fn writes_at_once(rt: &impl Abort, alloc: Global, config: &Config, posts: Vec<Post>) {
+fn writes_at_once(rt: &impl Abort, alloc: Global, config: &Config) -> Result<(), AllocError> {
     let written = Cell::new(0);
     let noted = Cell::new(0);
     let left = Cell::new(0);
@@ -160,23 +165,28 @@ fn writes_at_once(rt: &impl Abort, alloc: Global, config: &Config, posts: Vec<Po
         left: &left,
     };
     let mut writer = Counting { written: &written };
-    let ended = ends(rt, alloc, config, posts, reader, &mut writer);
+    let ended = ends(rt, alloc, config, Some(&[]), reader, &mut writer)?;
     assert_eq!(rt;
         (ended, noted.get(), written.get()),
         (Ok(Ending::Whole), 48, 98)
     );
+    Ok(())
 }
 
 #[test]
 fn as_it_comes(rt: HostRuntime) -> Result<(), Fail> {
     let config = base(rt.alloc())?;
-    let posts = mail(rt.alloc(), &[])?;
-    writes_at_once(&rt, rt.alloc(), &config, posts);
+    writes_at_once(&rt, rt.alloc(), &config)?;
     Ok(())
 }
 
 /// Where the output fails at a call, the feed is read to its end all the same, and a front of the report was written.
-fn reads_on(rt: &impl Abort, alloc: Global, config: &Config, posts: Vec<Post>, calls: usize) {
+fn reads_on(
+    rt: &impl Abort,
+    alloc: Global,
+    config: &Config,
+    calls: usize,
+) -> Result<(), AllocError> {
     let written = Cell::new(0);
     let noted = Cell::new(0);
     let left = Cell::new(0);
@@ -190,7 +200,7 @@ fn reads_on(rt: &impl Abort, alloc: Global, config: &Config, posts: Vec<Post>, c
         calls,
         taken: Vec::new(alloc),
     };
-    let ended = ends(rt, alloc, config, posts, reader, &mut writer);
+    let ended = ends(rt, alloc, config, Some(&[]), reader, &mut writer)?;
     let (_feed, report, _ending) = WHOLE;
     let front = &report.as_bytes()[..calls.saturating_mul(5).min(report.len())];
     assert_eq!(rt;
@@ -198,39 +208,39 @@ fn reads_on(rt: &impl Abort, alloc: Global, config: &Config, posts: Vec<Post>, c
         (Err(CommandFault::Output), 0, front),
         "after {calls} calls"
     );
+    Ok(())
 }
 
 #[test]
 fn output_fails(rt: HostRuntime) -> Result<(), Fail> {
     let config = base(rt.alloc())?;
     for calls in 0..7 {
-        let posts = mail(rt.alloc(), &[])?;
-        reads_on(&rt, rt.alloc(), &config, posts, calls);
+        reads_on(&rt, rt.alloc(), &config, calls)?;
     }
     Ok(())
 }
 
 /// Four events, of which two letters were taken; a line that was refused isn't an event.
-fn tells_how_far(rt: &impl Abort, alloc: Global, config: &Config, posts: Vec<Post>) {
+fn tells_how_far(rt: &impl Abort, alloc: Global, config: &Config) -> Result<(), AllocError> {
     let mut out = Vec::new(alloc);
     let mut watcher = Noting {
         last: Progress::new(),
         ways: 0,
     };
     let feed = FEED.as_bytes();
-    let ended = ends_watched(rt, alloc, config, posts, feed, &mut out, &mut watcher);
+    let ended = ends_watched(rt, alloc, config, Some(&[]), feed, &mut out, &mut watcher)?;
     let wanted = Progress {
         events: 4,
         messages: 2,
     };
     assert_eq!(rt; (ended, watcher.last), (Ok(Ending::Whole), wanted));
     assert!(rt; watcher.ways > 0, "lines were written");
+    Ok(())
 }
 
 #[test]
 fn how_far_it_is(rt: HostRuntime) -> Result<(), Fail> {
     let config = base(rt.alloc())?;
-    let posts = mail(rt.alloc(), &[])?;
-    tells_how_far(&rt, rt.alloc(), &config, posts);
+    tells_how_far(&rt, rt.alloc(), &config)?;
     Ok(())
 }
