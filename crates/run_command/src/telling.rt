@@ -105,9 +105,8 @@ impl Telling {
         let refused = run.refused().len();
         let suppressed = run.log().len();
         let turn = run.take_line();
-        if run.refused().len() == refused {
-            self.events = self.events.with_event();
-        }
+        let is_event = run.refused().len() == refused;
+        self.events = counted(self.events, is_event);
         self.tell_turn(
             &run.refused()[refused..],
             &run.log()[suppressed..],
@@ -196,11 +195,21 @@ impl Telling {
     }
 }
 
+/// The events that were decided, after a line that gave one, or none.
+fn counted(events: Progress, is_event: bool) -> Progress {
+    if is_event {
+        events.with_event()
+    } else {
+        events
+    }
+}
+
 /// How many letters the channels of a run have taken so far, up to the greatest `usize`.
 fn count_taken<R: Input + Drop>(run: &Run<'_, R>, config: &Config) -> usize {
+    let lanes = u8::try_from(config.lanes.len()).unwrap_or(u8::MAX);
     let mut count: usize = 0;
-    for lane in 0..config.lanes.len() {
-        count = count.saturating_add(run.taken(LaneId(lane as u8)).len());
+    for lane in 0..lanes {
+        count = count.saturating_add(run.taken(LaneId(lane)).len());
     }
     count
 }
