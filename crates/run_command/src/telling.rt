@@ -134,10 +134,20 @@ impl Telling {
         if run.has_line() {
             return;
         }
+        self.write_held(writer);
+        watcher.tell(self.events.with_messages(count_taken(run, config)));
+    }
+
+    /// Writes all that is held back, unless the writing failed before.
+    fn write_held<W: Write>(&mut self, writer: &mut W)
+        ensures told { (before : Option (List ℕ)) (text : List ℕ)
+            → IsTold before (W.contents writer.old) text self.old.lines self.old.fault
+            → IsTold before (W.contents writer.new) text self.new.lines self.new.fault }
+        ensures all { self.new.fault ≡ None → self.new.lines ≡ [] }
+    {
         if self.fault.is_none() {
             self.fault = self.lines.flush(writer).err();
         }
-        watcher.tell(self.events.with_messages(count_taken(run, config)));
     }
 
     /// Tells refused lines, and then suppressions.
