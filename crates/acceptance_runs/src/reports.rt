@@ -228,8 +228,7 @@ fn tells_how_far(rt: &impl Abort, alloc: Global, config: &Config) -> Result<(), 
         ways: 0,
     };
     let feed = FEED.as_bytes();
-    let fails: Option<&[u64]> = Some(&[]);
-    let ended = ends_watched(rt, alloc, config, fails, feed, &mut out, &mut watcher)?;
+    let ended = ends_watched(rt, alloc, config, Some(&[]), feed, &mut out, &mut watcher)?;
     let wanted = Progress {
         events: 4,
         messages: 2,

@@ -5,15 +5,12 @@ use Rattle.std.proofs.lemmas.List.{append-nil, take-append-drop, take_all, take_
 use Rattle.due_model.specs.declared.config.Config.{Config}
 use Rattle.due_model.specs.declared.config.LaneId.{LaneId}
 use Rattle.due_model.specs.declared.notice.Notice.{Notice}
-use Rattle.due_model.specs.declared.notice.Suppression.{Suppression}
-use Rattle.event_feed.specs.declared.fault.RefusedLine.{RefusedLine}
-use Rattle.engine.specs.declared.run_end.RunEnd.{RunEnd}
 use Rattle.undelivered.specs.declared.Why.{Why}
 use Rattle.engine.specs.Lanes.{LaneParts}
-use Rattle.command_output.specs.Output.{Leaves, Writes, WritesFront}
-use Rattle.command_output.specs.OutputLaws.{front_begun, front_less, front_on, leaves_less, leaves_on}
+use Rattle.command_output.specs.Output.{Leaves, WritesFront}
+use Rattle.command_output.specs.OutputLaws.{front_begun, front_on, leaves_on}
 use Rattle.command_output.specs.RunLine.{closed_line, taken_line, undelivered_line}
-use Rattle.run_command.specs.Report.{lane_lines, lanes_text, letters_text, log_text, refused_text, report_text}
+use Rattle.run_command.specs.Report.{lane_lines, letters_text}
 
 module _ {X : Type 0} (f : X → List ℕ) (old mid new : Option (List ℕ)) (held now : List ℕ) (xs : List X) (i : ℕ) (d : X) (within : i < length xs)
     (before : Leaves old mid (held ++ flat_map f (take i xs)) now) where

@@ -31,7 +31,8 @@ use text_lines::Input;
 /// gave up, each in order, and its `Z` line. Where the output fails, a front of the report was written: nothing more is, and
 /// the run goes on to the end of the feed. Where memory runs out in the run it reads no further, and what is there is told.
 /// The watcher is told how far it is whenever the feed may be waited for: how many events were decided, and how many letters
-/// channels have taken. `Undelivered` says that a lane gave something up, `Short` that the feed ended before its input; of both, the latter is said.
+/// channels have taken. `Undelivered` says that a lane gave something up, `Short` that the feed ended before its input; of
+/// both, the latter is said.
 pub fn run<R: Input + Drop, W: Write, P: Watcher>(
     alloc: Global,
     config: &Config,

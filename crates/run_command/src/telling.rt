@@ -105,9 +105,8 @@ impl Telling {
         let refused = run.refused().len();
         let suppressed = run.log().len();
         let turn = run.take_line();
-        if run.refused().len() == refused {
-            self.events = self.events.with_event();
-        }
+        let is_event = run.refused().len() == refused;
+        self.events = counted(self.events, is_event);
         self.tell_turn(
             &run.refused()[refused..],
             &run.log()[suppressed..],
@@ -135,10 +134,20 @@ impl Telling {
         if run.has_line() {
             return;
         }
+        self.write_held(writer);
+        watcher.tell(self.events.with_messages(count_taken(run, config)));
+    }
+
+    /// Writes all that is held back, unless the writing failed before.
+    fn write_held<W: Write>(&mut self, writer: &mut W)
+        ensures told { (before : Option (List ℕ)) (text : List ℕ)
+            → IsTold before (W.contents writer.old) text self.old.lines self.old.fault
+            → IsTold before (W.contents writer.new) text self.new.lines self.new.fault }
+        ensures all { self.new.fault ≡ None → self.new.lines ≡ [] }
+    {
         if self.fault.is_none() {
             self.fault = self.lines.flush(writer).err();
         }
-        watcher.tell(self.events.with_messages(count_taken(run, config)));
     }
 
     /// Tells refused lines, and then suppressions.
@@ -196,11 +205,21 @@ impl Telling {
     }
 }
 
+/// The events that were decided, after a line that gave one, or none.
+fn counted(events: Progress, is_event: bool) -> Progress {
+    if is_event {
+        events.with_event()
+    } else {
+        events
+    }
+}
+
 /// How many letters the channels of a run have taken so far, up to the greatest `usize`.
 fn count_taken<R: Input + Drop>(run: &Run<'_, R>, config: &Config) -> usize {
+    let lanes = u8::try_from(config.lanes.len()).unwrap_or(u8::MAX);
     let mut count: usize = 0;
-    for lane in 0..config.lanes.len() {
-        count = count.saturating_add(run.taken(LaneId(lane as u8)).len());
+    for lane in 0..lanes {
+        count = count.saturating_add(run.taken(LaneId(lane)).len());
     }
     count
 }

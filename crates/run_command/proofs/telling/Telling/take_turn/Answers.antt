@@ -13,13 +13,13 @@ pub slice_bounds-tell_turn-count : goal.slice_bounds-tell_turn-count
 slice_bounds-tell_turn-count g c =
     let h = c.requires.told in
     let t = c.take_line-turn.ensures.taken c.args.config.now h.0 h.1 h.2 h.4 h.5.taken in
-    (refused_adds h.4 t.0 c.refused-refused.result.now c.refused.result.now (c.refused-refused.ensures ∙ h.5.taken.refused) (c.refused.ensures ∙ t.1.refused)).within
+    (refused_adds h.4 t.0 c.refused-refused.result.now c.refused-2.result.now (c.refused-refused.ensures ∙ h.5.taken.refused) (c.refused-2.ensures ∙ t.1.refused)).within
 
 pub slice_bounds-tell_turn-start : goal.slice_bounds-tell_turn-start
 slice_bounds-tell_turn-start g c =
     let h = c.requires.told in
     let t = c.take_line-turn.ensures.taken c.args.config.now h.0 h.1 h.2 h.4 h.5.taken in
-    (refused_adds h.4 t.0 c.refused-refused.result.now c.refused.result.now (c.refused-refused.ensures ∙ h.5.taken.refused) (c.refused.ensures ∙ t.1.refused)).within
+    (refused_adds h.4 t.0 c.refused-refused.result.now c.refused-2.result.now (c.refused-refused.ensures ∙ h.5.taken.refused) (c.refused-2.ensures ∙ t.1.refused)).within
 
 pub slice_bounds-tell_turn-count-2 : goal.slice_bounds-tell_turn-count-2
 slice_bounds-tell_turn-count-2 g c =
@@ -36,13 +36,13 @@ slice_bounds-tell_turn-start-2 g c =
 pub returns-clause-told : goal.returns-clause-told
 returns-clause-told g c = λ zone posted known before said h.
     let t = c.take_line-turn.ensures.taken c.args.config.now zone posted known said h.taken in
-    let refused = refused_adds said t.0 c.refused-refused.result.now c.refused.result.now (c.refused-refused.ensures ∙ h.taken.refused) (c.refused.ensures ∙ t.1.refused) in
+    let refused = refused_adds said t.0 c.refused-refused.result.now c.refused-2.result.now (c.refused-refused.ensures ∙ h.taken.refused) (c.refused-2.ensures ∙ t.1.refused) in
     let log = log_adds c.args.config.now zone said t.0 c.log-suppressed.result.now c.log.result.now (c.log-suppressed.ensures ∙ h.taken.log) (c.log.ensures ∙ t.1.log) in (
       t.0,
       record {
         taken = t.1;
         told = subst (λ text. IsTold before (g.W.Write.contents c.tell_turn.new.writer) text c.tell_turn.new.self.lines c.tell_turn.new.self.fault)
-            (turn_text c.args.config.now zone said t.0 c.refused-refused.result.now c.refused.result.now c.log-suppressed.result.now c.log.result.now refused log)
+            (turn_text c.args.config.now zone said t.0 c.refused-refused.result.now c.refused-2.result.now c.log-suppressed.result.now c.log.result.now refused log)
             (c.tell_turn.ensures before (told_after c.args.config.now zone [] said) h.told);
       },
     )
