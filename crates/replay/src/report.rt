@@ -224,7 +224,9 @@ fn write_before_wait<R: Input + Drop, W: Write, P: Watcher>(
 fn count_messages(entries: &[Entry]) -> usize
     ensures { result ≡ length (filter is_sent entries.now) }
 {
-    let sent = entries.iter().filter(|entry| matches!(entry, Entry::Sent(_)));
+    let sent = entries
+        .iter()
+        .filter(|entry| matches!(entry, Entry::Sent(_)));
     sent.count()
 }
 
