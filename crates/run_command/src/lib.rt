@@ -1,7 +1,8 @@
 //! The command `run`: the events of a feed, and the channels that take what they make due.
 #![tactic(auto)]
 
-ghost use Rattle.std.specs.Prelude.{◌≡◌, ◌==◌, ℕ, Bool, List, [], false, Err, Ok, Option, None, Some};
+ghost use Rattle.std.specs.Prelude.{◌≡◌, ◌==◌, ℕ, Bool, List, [], false};
+ghost use Rattle.std.specs.Prelude.{Err, Ok, Option, None, Some};
 ghost use Rattle.std.specs.Prelude.{IfErr, IfOk, IsErrOf, ◌⊎◌};
 ghost use Rattle.std.specs.List.{list_any};
 ghost use Rattle.due_model.specs.declared.zone.Zone.{Zone};

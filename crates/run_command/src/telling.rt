@@ -1,6 +1,7 @@
 //! What a run tells, as its feed comes.
 
-ghost use Rattle.std.specs.Prelude.{◌≡◌, ◌<◌, ◌++◌, ℕ, Bool, List, [], false, Ok, Option, None, IfNone, IfSome};
+ghost use Rattle.std.specs.Prelude.{◌≡◌, ◌<◌, ◌++◌, ℕ, Bool, List, [], false};
+ghost use Rattle.std.specs.Prelude.{Ok, Option, None, IfNone, IfSome};
 ghost use Rattle.due_model.specs.declared.zone.Zone.{Zone};
 ghost use Rattle.event_feed.specs.Feed.{Answer};
 ghost use Rattle.text_lines.specs.Lines.{has_line};
