@@ -1,5 +1,5 @@
 -- The text of a letter: seven lines, and an empty one.
-use Rattle.std.specs.Prelude.{ℕ, List, [], ◌∷◌, ◌++◌, codes, decimal}
+use Rattle.std.specs.Prelude.{◌≡◌, ℕ, List, [], ◌∷◌, ◌++◌, codes, decimal}
 use Rattle.due_model.specs.declared.config.Config.{Config}
 use Rattle.due_model.specs.declared.notice.Notice.{Notice}
 use Rattle.notice_text.specs.Names.{kind_name, state_name}
@@ -27,3 +27,7 @@ number_lines n =
 -- the text of a notice's letter
 abbrev pub letter_of : Config → Notice → List ℕ
 letter_of c n = subject_lines c n ++ number_lines n ++ 10 ∷ []
+
+-- a text is that of the notice's letter, in some configuration
+abbrev pub IsLetter : Notice → (text : List ℕ) → Type 0
+IsLetter n text = (c : Config) × (text ≡ letter_of c n)

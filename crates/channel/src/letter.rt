@@ -1,7 +1,7 @@
 //! The letter of a notice.
 
 ghost use Rattle.std.specs.Prelude.{◌≡◌, ◌++◌, decimal, IfOk, OnOk};
-ghost use Rattle.channel.specs.Letter.{letter_of, line, number_lines, subject_lines};
+ghost use Rattle.channel.specs.Letter.{IsLetter, letter_of, line, number_lines, subject_lines};
 ghost use Rattle.notice_text.specs.Texts.{number_text, object_text};
 
 use due_model::config::{Config, ObjectId};
@@ -12,12 +12,13 @@ use notice_text::names::{kind_name, state_name};
 use notice_text::texts;
 use std::alloc::{AllocError, Global};
 
-/// What a channel is given: a notice, and the text that tells it.
+/// What a channel is given: a notice, and the text that tells it. No letter says anything else.
 #[derive(Drop)]
 pub struct Letter {
     pub notice: Notice,
     /// The bytes that go out.
     pub text: Text,
+    ghost said: { ¬ ¬ IsLetter notice text },
 }
 
 /// The letter of a notice: a line each for the contact, the kind, the object, its state, the number of the

@@ -14,6 +14,7 @@ pub record Seen : Type 0 where
   pub limit : ℕ
   pub kind : Kind
   pub count : ℕ
+  pub asks : ℕ
 
 -- so many tries of a letter of this size failed
 pub record HasTried (tries size : ℕ) (old new : Seen) : Type 0 where
@@ -23,6 +24,7 @@ pub record HasTried (tries size : ℕ) (old new : Seen) : Type 0 where
   pub kind : new.kind ≡ old.kind
   pub count : new.count ≡ old.count
   pub failed : TriesFailed tries old.limit size old.failures new.failures
+  pub asked : RisesBy tries old.asks new.asks
 
 -- none yet
 pub tried_start : (size : ℕ) (seen : Seen) → HasTried 0 size seen seen
@@ -33,6 +35,7 @@ tried_start size seen = record {
   kind = refl;
   count = refl;
   failed = start (cases_lt seen.limit size);
+  asked = inl (omega arith);
 }
   where
     start : (seen.limit < size) ⊎ (size ≤ seen.limit) → TriesFailed 0 seen.limit size seen.failures seen.failures
@@ -40,7 +43,7 @@ tried_start size seen = record {
     start (inr fits) = inl (fits, inl (omega arith))
 
 -- a count that rose rises by one more
-rises_more : (k old mid new : ℕ) → RisesBy k old mid → IsCounted mid new → RisesBy (k + 1) old new
+pub rises_more : (k old mid new : ℕ) → RisesBy k old mid → IsCounted mid new → RisesBy (k + 1) old new
 rises_more k old mid new (inl a) (inl b) = inl (omega (arith, a, b))
 rises_more k old mid new (inl a) (inr b) = inr (omega (arith, b.0, b.1), omega (arith, a, b.1), omega (arith, a, b.1))
 rises_more k old mid new (inr a) (inl b) = inr (omega (arith, a.0, b), omega (arith, a.1, b), omega (arith, a.2, b))

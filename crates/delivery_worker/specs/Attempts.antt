@@ -5,6 +5,8 @@ use Rattle.due_model.specs.declared.notice.Notice.{Notice}
 use Rattle.undelivered.specs.Record.{Record}
 use Rattle.undelivered.specs.declared.Why.{Why}
 use Rattle.undelivered.specs.declared.Why.TheVariants.{NoMemory}
+use Rattle.delivery_worker.specs.declared.Attempted.{Attempted}
+use Rattle.delivery_worker.specs.declared.Attempted.TheVariants.{Settled, Asked, Failed}
 
 -- a count rose by so many, or by fewer and stands at the greatest that a u64 holds
 abbrev pub RisesBy : (more old new : ℕ) → Type 0
@@ -16,6 +18,27 @@ RisesBy more old new =
 abbrev pub TriesFailed : (tries limit size old new : ℕ) → Type 0
 TriesFailed tries limit size old new =
     ((size ≤ limit) × RisesBy tries old new) ⊎ ((limit < size) × (new ≡ old))
+
+-- how often the bell is asked where so many tries failed: before each of them, and before what comes of the next
+abbrev pub asks_for : Attempted → (failed : ℕ) → ℕ
+asks_for Settled failed = failed + 1
+asks_for Asked failed = failed + 1
+asks_for Failed failed = failed
+
+-- how many of the tries failed: all of them, or fewer
+abbrev pub IsOfTries : Attempted → (failed tries : ℕ) → Type 0
+IsOfTries Settled failed tries = failed < tries
+IsOfTries Asked failed tries = failed < tries
+IsOfTries Failed failed tries = failed ≡ tries
+
+-- So many tries failed, and before each, and before what came of the next, the bell was asked.
+pub record HasTriedAndAsked (answer : Attempted) (tries limit size old new asks_old asks_new : ℕ)
+    : Type 0
+  where
+    pub failed : ℕ
+    pub count : IsOfTries answer failed tries
+    pub tried : TriesFailed failed limit size old new
+    pub asked : RisesBy (asks_for answer failed) asks_old asks_new
 
 -- the record once its channel has taken a notice
 abbrev pub with_taken : Notice → Record → Record

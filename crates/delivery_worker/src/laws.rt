@@ -2,7 +2,7 @@
 
 ghost use Rattle.std.specs.Prelude.{◌≡◌, ◌≢◌, ◌↔◌, ◌+◌, ◌<◌, ◌≤◌, [], ◌∷◌, ◌++◌, length};
 ghost use Rattle.channel.specs.Channels.{receipt_of};
-ghost use Rattle.delivery_worker.specs.Attempts.{TriesFailed};
+ghost use Rattle.delivery_worker.specs.Attempts.{HasTriedAndAsked, TriesFailed};
 
 use crate::{Attempted, Bell};
 use channel::letter::Letter;
@@ -25,6 +25,9 @@ pub fn attempt<B: Bell>(
     // Asked: the bell's count rose, and by one.
     ensures asked { (result ≡ Attempted.Asked) ↔ (B.count bell.old < B.count bell.new) }
     ensures bell { B.count bell.new ≤ B.count bell.old + 1 }
+    // It was asked before each try that failed, and once more where that wasn't the end.
+    ensures tries { HasTriedAndAsked result tries (limit channel.old) (length letter.now.text)
+        (failures channel.old) (failures channel.new) (B.asks bell.old) (B.asks bell.new) }
     // Failed: so many tries failed. Otherwise it was fewer.
     ensures failed { result ≡ Attempted.Failed
         → TriesFailed tries (limit channel.old) (length letter.now.text)

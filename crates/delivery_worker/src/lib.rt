@@ -3,6 +3,7 @@
 #![tactic(auto)]
 
 ghost use Rattle.std.specs.Prelude.{◌≡◌, ◌+◌, if◌then◌else◌};
+ghost use Rattle.channel.specs.Channels.{IsCounted};
 
 pub mod delivery;
 pub mod laws;
@@ -14,10 +15,14 @@ pub trait Bell {
     // How often it has said so.
     ghost count: { Self → ℕ };
 
+    // How often it was asked, up to 2^64 - 1.
+    ghost asks: { Self → ℕ };
+
     /// Whether the lane is to close. Each true answer is counted, and where the count stands at `u64::MAX` the answer is
     /// false.
     fn asked(&mut self) -> bool
-        ensures { count self.new ≡ count self.old + (if result then 1 else 0) };
+        ensures count { count self.new ≡ count self.old + (if result then 1 else 0) }
+        ensures asks { IsCounted (asks self.old) (asks self.new) };
 
     /// How many true answers there were.
     fn count(&self) -> u64
