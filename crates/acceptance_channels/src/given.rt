@@ -8,6 +8,7 @@ use due_model::notice::{Kind, Notice};
 use due_model::sequence::Sequence;
 use due_model::state::State;
 use std::alloc::{AllocError, Global};
+use std::mem::replace;
 use std::process::Abort;
 
 /// Web is down at event 0.
@@ -48,14 +49,21 @@ pub(crate) fn letter(alloc: Global, notice: Notice) -> Result<Letter, AllocError
     letter_text(alloc, &config, notice)
 }
 
-/// A letter of so many bytes.
+/// How many bytes the letter of `DOWN` has beside the contact's name.
+const BESIDE_NAME: usize = 76;
+
+/// A letter of so many bytes, at least 76: that of `DOWN` to a contact whose name is as long as that takes.
 pub(crate) fn long_letter(alloc: Global, count: usize) -> Result<Letter, AllocError> {
-    let mut text = Vec::new(alloc);
-    text.resize(count, b'x')?;
-    Ok(Letter {
-        notice: DOWN,
-        text: Sequence::new(text),
-    })
+    let mut config = base(alloc)?;
+    let nobody = Sequence::new(Vec::new(alloc));
+    let mut contacts = replace(&mut config.contacts, nobody).into_vec();
+    if let Some(contact) = contacts.first_mut() {
+        let mut name = Vec::new(alloc);
+        name.resize(count.saturating_sub(BESIDE_NAME), b'x')?;
+        contact.name = Sequence::new(name);
+    }
+    config.contacts = Sequence::new(contacts);
+    letter_text(alloc, &config, DOWN)
 }
 
 /// The letters of both.

@@ -7,6 +7,7 @@ use Rattle.engine.specs.Served.{lane_at}
 -- what a lane leaves
 pub record IsEndOf (lane : LaneValue) (end : LaneParts) : Type 0 where
   pub number : end.lane ≡ lane.lane
+  pub taken : end.taken ≡ lane.kept.taken
   pub held_is : joined end ≡ held lane
   pub cause : (posted memory : Bool) → MayBeShut posted memory lane.kept.why → IsCause posted memory end
 

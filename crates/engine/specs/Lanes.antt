@@ -19,12 +19,13 @@ pub record LaneParts : Type 0 where
 abbrev pub joined : LaneParts → List Notice
 joined lane = lane.taken ++ lane.undelivered
 
--- A lane's close has its cause: where the feed is over nothing is undelivered, a lane has no channel exactly where none was
--- given, memory ran out only where the run says so, and nobody asks.
+-- A lane's close has its cause: where the feed is over nothing is undelivered, a lane has no channel, and has taken nothing,
+-- exactly where none was given, memory ran out only where the run says so, and nobody asks.
 pub record IsCause (posted memory : Bool) (lane : LaneParts) : Type 0 where
   pub over : lane.why ≡ FeedOver → lane.undelivered ≡ []
   pub unposted : lane.why ≡ NoChannel → posted ≡ false
   pub no_channel : posted ≡ false → lane.why ≡ NoChannel
+  pub untaken : lane.why ≡ NoChannel → lane.taken ≡ []
   pub ran_out : lane.why ≡ NoMemory → memory ≡ true
   pub unasked : lane.why ≢ Asked
 
@@ -48,12 +49,14 @@ no_lane = record {
   kept = record { taken = []; hand = None; undelivered = []; why = None };
 }
 
--- A lane has nothing in hand between two notices. While it serves it is open, and nothing was given up; else it is shut.
+-- A lane has nothing in hand between two notices. While it serves it is open, and nothing was given up; else it is shut. Without
+-- a channel from the first it has taken nothing.
 pub record Stands (lane : LaneValue) : Type 0 where
   pub hand : lane.kept.hand ≡ None
   pub serving : lane.serves ≡ true → lane.kept.why ≡ None
   pub nothing : lane.serves ≡ true → lane.kept.undelivered ≡ []
   pub shut : lane.serves ≡ false → lane.kept.why ≢ None
+  pub untaken : lane.kept.why ≡ Some NoChannel → lane.kept.taken ≡ []
 
 -- why a lane may be shut while the feed goes on
 pub record MayBeShut (posted memory : Bool) (why : Option Why) : Type 0 where

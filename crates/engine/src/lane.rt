@@ -76,6 +76,10 @@ impl Lane {
         notice: Notice,
     ) -> Result<(), AllocError>
         ensures lane { self.new.lane ≡ self.old.lane }
+        // What it has taken grows by the notice, while its channel serves on; or by nothing.
+        ensures taken { (self.new.kept.taken ≡ self.old.kept.taken)
+            ⊎ ((self.new.kept.taken ≡ self.old.kept.taken ++ notice ∷ [])
+            × (self.new.serves ≡ true)) }
         ensures ok { OnOk result (held self.new ≡ held self.old ++ notice ∷ []) }
         ensures err { OnErr result ((held self.new ≡ held self.old)
             ⊎ (held self.new ≡ held self.old ++ notice ∷ [])) }
@@ -89,7 +93,7 @@ impl Lane {
         let Some(channel) = &mut self.channel else {
             return self.record.drain(notice);
         };
-        let mut bell = Silent;
+        let mut bell = Silent::new();
         match deliver_notice(
             delivery.alloc,
             delivery.config,
@@ -122,6 +126,7 @@ impl Lane {
     /// The lane at the end of the feed. One that serves is closed, and its channel dropped.
     pub(crate) fn finish(self) -> LaneEnd
         ensures lane { result.lane ≡ self.lane }
+        ensures taken { result.taken ≡ self.kept.taken }
         ensures held { joined result ≡ held self }
         ensures cause { (posted : Bool) (memory : Bool)
             → MayBeShut posted memory self.kept.why

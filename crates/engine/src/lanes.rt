@@ -166,6 +166,8 @@ pub(crate) fn finish(lanes: Vec<Lane>, mut ends: Vec<LaneEnd>) -> Vec<LaneEnd>
     ensures count { length result.items ≡ length lanes.items }
     ensures number { (l : ℕ) (lane : LaneParts) → slice_get result.items l ≡ Some lane
         → lane.lane ≡ (lane_at lanes.items l).lane }
+    ensures taken { (l : ℕ) (lane : LaneParts) → slice_get result.items l ≡ Some lane
+        → lane.taken ≡ (lane_at lanes.items l).kept.taken }
     ensures held { (l : ℕ) (lane : LaneParts) → slice_get result.items l ≡ Some lane
         → joined lane ≡ held_at lanes.items l }
     ensures causes { (l : ℕ) (lane : LaneParts) (posted memory : Bool)

@@ -1,7 +1,7 @@
 //! A run under way, from line to line of its feed.
 
 ghost use Rattle.std.specs.Prelude.{◌≡◌, ◌+◌, ◌<◌, ◌≤◌, ◌==◌, ℕ, Bool, List, [], length, reverse};
-ghost use Rattle.std.specs.Prelude.{true, IfErr, IfOk, Ok, OnErr, Option, vec_capacity};
+ghost use Rattle.std.specs.Prelude.{slice_get, true, IfErr, IfOk, Ok, OnErr, Option, Some, vec_capacity};
 ghost use Rattle.std.specs.List.{list_any};
 ghost use Rattle.due_model.specs.declared.config.Config.{Config};
 ghost use Rattle.due_model.specs.declared.zone.Zone.{Zone};
@@ -9,6 +9,7 @@ ghost use Rattle.due_model.specs.Accepted.{IsAccepted};
 ghost use Rattle.event_feed.specs.Feed.{Answer, Feed, feed_limit};
 ghost use Rattle.text_lines.specs.Lines.{has_line};
 ghost use Rattle.engine.specs.Feed.{Offers, with_one};
+ghost use Rattle.engine.specs.Lanes.{LaneParts};
 ghost use Rattle.engine.specs.Run.{After, EndsAfter, HasTaken, last_turn, lines_left, run_value};
 ghost use Rattle.engine.specs.Served.{GoesOn, IsStart, IsStopped, Stands, desk_value, lane_at};
 
@@ -123,10 +124,13 @@ impl<'a, R: Input + Drop> Run<'a, R> {
         requires { (c : Config) × (zone : Zone) × (posted : ℕ → Bool) × (known : Option (List ℕ))
             × (said : List Answer)
             × HasTaken R.can_fail c zone posted known said (last_turn read) (run_value self) }
-        ensures { (c : Config) (zone : Zone) (posted : ℕ → Bool) (known : Option (List ℕ))
+        ensures end { (c : Config) (zone : Zone) (posted : ℕ → Bool) (known : Option (List ℕ))
             (said : List Answer)
             → HasTaken R.can_fail c zone posted known said (last_turn read) (run_value self.entry)
             → EndsAfter R.can_fail c zone posted known said result }
+        // What each lane's channel has taken is what it had taken before the close.
+        ensures taken { (l : ℕ) (lane : LaneParts) → slice_get result.lanes.items l ≡ Some lane
+            → lane.taken ≡ (lane_at (run_value self.entry).desk.lanes l).kept.taken }
     {
         let Run { intake, desk, ends } = self;
         let (events, refused) = intake.into_lists();

@@ -1,6 +1,6 @@
 //! A run: its checks in their order, its channels, and the feed.
 
-ghost use Rattle.std.specs.Prelude.{◌≡◌, [], map, unwrap_or, IfErr, IfOk};
+ghost use Rattle.std.specs.Prelude.{[], map, unwrap_or, IfErr, IfOk};
 ghost use Rattle.std.specs.Option.{option_map};
 ghost use Rattle.due_model.specs.Accepted.{IsAccepted};
 ghost use Rattle.notify_run.specs.RunFault.{IsCommandFault, RunFails};
@@ -30,7 +30,6 @@ pub fn do_run<'a>(
     settings: Settings,
     channels: Option<&[&'a str]>,
 ) -> Result<Ending, RunFault<'a>>
-    requires { settings.deciders ≡ 1 }
     // What it fails with, and that the earlier checks went well.
     ensures fault { let texts = map (λ text. text.now)
         (unwrap_or (option_map (λ given. given.now) channels.entry) [])
@@ -74,8 +73,7 @@ fn run_through<'a>(
     lanes: &[LaneId],
     channels: Vec<OpenedChannel>,
 ) -> Result<Ending, RunFault<'a>>
-    requires accepted { IsAccepted config.now }
-    requires deciders { settings.deciders ≡ 1 }
+    requires { IsAccepted config.now }
     ensures { IfErr result IsCommandFault }
 {
     let alloc = rt.alloc();

@@ -44,8 +44,7 @@ pub fn run<R: Input + Drop, W: Write, P: Watcher>(
     writer: &mut W,
     watcher: &mut P,
 ) -> Result<Ending, CommandFault>
-    requires accepted { IsAccepted config.now }
-    requires deciders { settings.deciders ≡ 1 }
+    requires { IsAccepted config.now }
     // What is written is the report of a run of the feed, and nothing else.
     ensures report { IfOk result (λ ending. WritesReport R.can_fail config.now zone.now
         (λ l. list_any (λ post. post.lane.0 == l) posts.items) (R.remaining feed) ending

@@ -25,7 +25,7 @@ returns-clause-report g c = λ zone posted known h.
     let told = lanes_told c.args.config.now zone writes (g.W.Write.contents c.tell_lanes.new.writer) all.0 c.deref.result.now c.close-end.result.lanes.items _ _ c.deref.ensures.value
     (c.tell_lanes.ensures writes (told_after c.args.config.now zone [] all.0) all.1.told) in
     whole_told g.R.Input.can_fail c.args.config.now zone posted known writes (g.W.Write.contents c.finish.new.writer) all.0 c.close-end.result c.finish.result c.outcome_of.result
-    c.outcome_of.ensures.ok (c.close-end.ensures c.args.config.now zone posted known all.0 all.1.taken)
+    c.outcome_of.ensures.ok (c.close-end.ensures.end c.args.config.now zone posted known all.0 all.1.taken)
     (c.finish.ensures.whole writes (report_text c.args.config.now zone all.0 c.close-end.result.lanes.items) told)
 
 pub returns-clause-front : goal.returns-clause-front
@@ -37,7 +37,7 @@ returns-clause-front g c = λ zone posted known h.
     (c.tell_lanes.ensures writes (told_after c.args.config.now zone [] all.0) all.1.told) in (
       all.0,
       c.close-end.result,
-      c.close-end.ensures c.args.config.now zone posted known all.0 all.1.taken,
+      c.close-end.ensures.end c.args.config.now zone posted known all.0 all.1.taken,
       c.outcome_of.ensures.output,
       c.finish.ensures.front writes (report_text c.args.config.now zone all.0 c.close-end.result.lanes.items) told,
     )

@@ -22,7 +22,7 @@ loop-lane-preserved g c =
     let pushed : c.push-room.new.self.items ≡ c.loop-lane.ends.items ++ c.finish.result ∷ [] = search rules in
     let more : vec_capacity c.loop-lane.ends ≤ vec_capacity c.push-room.new.self = search rules in (
       finished_more _ _ _ _ _ _ _ _ c.in-Some.lane c.finish.result c.loop-lane.invariant.0 steps pushed more
-          (record { number = c.finish.ensures.lane; held_is = c.finish.ensures.held; cause = c.finish.ensures.cause }),
+          (record { number = c.finish.ensures.lane; taken = c.finish.ensures.taken; held_is = c.finish.ensures.held; cause = c.finish.ensures.cause }),
       let was = c.loop-lane.invariant.1 in
           let gone = c.in-Some.ensures.steps.1 in
           let short = ap length steps in
@@ -38,6 +38,11 @@ pub returns-clause-number : goal.returns-clause-number
 returns-clause-number g c = λ l lane found.
     let none = nothing_left (into_iter_items c.loop-lane.lane-iterator) _ c.loop-lane.invariant.1 c.in-None.ensures.steps.0 in
     let end = (finished_all _ _ _ _ _ c.loop-lane.invariant.0 none).1 l lane found in end.number
+
+pub returns-clause-taken : goal.returns-clause-taken
+returns-clause-taken g c = λ l lane found.
+    let none = nothing_left (into_iter_items c.loop-lane.lane-iterator) _ c.loop-lane.invariant.1 c.in-None.ensures.steps.0 in
+    let end = (finished_all _ _ _ _ _ c.loop-lane.invariant.0 none).1 l lane found in end.taken
 
 pub returns-clause-held : goal.returns-clause-held
 returns-clause-held g c = λ l lane found.

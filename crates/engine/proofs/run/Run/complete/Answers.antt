@@ -12,4 +12,4 @@ close-requires g c =
 pub returns : goal.returns
 returns g c = λ config zone posted known said h.
     let all = c.read_all-read.ensures config zone posted known said h in
-    (all.0, c.close.ensures config zone posted known all.0 all.1)
+    (all.0, c.close.ensures.end config zone posted known all.0 all.1)
