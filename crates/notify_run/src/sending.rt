@@ -1,6 +1,6 @@
 //! A run: its checks in their order, its channels, and the feed.
 
-ghost use Rattle.std.specs.Prelude.{[], map, unwrap_or, IfErr, IfOk};
+ghost use Rattle.std.specs.Prelude.{◌≡◌, [], map, unwrap_or, IfErr, IfOk};
 ghost use Rattle.std.specs.Option.{option_map};
 ghost use Rattle.due_model.specs.Accepted.{IsAccepted};
 ghost use Rattle.notify_run.specs.RunFault.{IsCommandFault, RunFails};
