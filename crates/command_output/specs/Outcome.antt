@@ -1,5 +1,5 @@
 -- How a command ends: the text of what it fails with, and the exit status.
-use Rattle.std.specs.Prelude.{ℕ, List, codes, ◌++◌, Result, Ok, Err}
+use Rattle.std.specs.Prelude.{◌≡◌, ℕ, Bool, true, List, codes, ◌++◌, Result, Ok, Err}
 use Rattle.object_resolve.specs.declared.fault.LoadFault.{LoadFault}
 use Rattle.object_resolve.specs.declared.fault.LoadFault.TheVariants as load
 use Rattle.object_resolve.specs.Fault.{fault_text as load_text}
@@ -39,9 +39,9 @@ abbrev pub outcome_status : Result Ending CommandFault → ℕ
 outcome_status (Ok ending) = ending_status ending
 outcome_status (Err fault) = fault_status fault
 
--- a fault of the writing
-abbrev pub IsWriteFault : CommandFault → Type 0
-IsWriteFault (Objects fault) = ⊥
-IsWriteFault Unreadable = ⊥
-IsWriteFault Output = Unit {0}
-IsWriteFault NoMemory = Unit {0}
+-- a fault of the writing, to a writer that can fail or can't
+abbrev pub IsWriteFault : (can_fail : Bool) → CommandFault → Type 0
+IsWriteFault can_fail (Objects fault) = ⊥
+IsWriteFault can_fail Unreadable = ⊥
+IsWriteFault can_fail Output = can_fail ≡ true
+IsWriteFault can_fail NoMemory = Unit {0}

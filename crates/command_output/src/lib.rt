@@ -9,9 +9,11 @@ mod output;
 mod output_line;
 mod report_line;
 mod run_line;
+mod sink;
 mod trace_line;
 
 pub use lines::Lines;
 pub use outcome::{CommandFault, Ending, exit_status};
 pub use output_line::OutputLine;
+pub use sink::{AnyWriter, Sink};
 pub use trace_line::{LaneLine, StepRefusal};

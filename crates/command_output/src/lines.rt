@@ -8,9 +8,9 @@ ghost use Rattle.command_output.specs.OutputLine.{line_text};
 use crate::outcome::CommandFault;
 use crate::output::Buffer;
 use crate::output_line::{OutputLine, push_line};
+use crate::sink::Sink;
 use due_model::config::Config;
 use std::alloc::{AllocError, Global};
-use std::io::Write;
 use std::marker::Model;
 
 /// The lines of a command on their way to a writer. Contracts see the bytes that are held back.
@@ -41,7 +41,7 @@ impl Lines {
     }
 
     /// Writes a line, now or with later ones. After `Err` nothing more is to be written.
-    pub fn write<W: Write>(
+    pub fn write<W: Sink>(
         &mut self,
         writer: &mut W,
         config: &Config,
@@ -51,7 +51,7 @@ impl Lines {
             (self.old ++ line_text config.now line.now) self.new) }
         ensures front { WritesFront (W.contents writer.old) (W.contents writer.new)
             (self.old ++ line_text config.now line.now) }
-        ensures fault { IfErr result (λ fault. IsWriteFault fault) }
+        ensures fault { IfErr result (λ fault. IsWriteFault W.can_fail fault) }
     {
         self.line.clear();
         if push_line(&mut self.line, config, line).is_err() {
@@ -62,7 +62,7 @@ impl Lines {
     }
 
     /// Writes what is held back, since nothing more will come for want of memory.
-    pub fn out_of_memory<W: Write>(&mut self, writer: &mut W) -> CommandFault
+    pub fn out_of_memory<W: Sink>(&mut self, writer: &mut W) -> CommandFault
         ensures front { WritesFront (W.contents writer.old) (W.contents writer.new) self.old }
         ensures fault { result ≡ CommandFault.NoMemory }
     {
@@ -71,12 +71,12 @@ impl Lines {
     }
 
     /// Writes all that is held back. After `Err` nothing more is to be written.
-    pub fn flush<W: Write>(&mut self, writer: &mut W) -> Result<(), CommandFault>
+    pub fn flush<W: Sink>(&mut self, writer: &mut W) -> Result<(), CommandFault>
         ensures ok { OnOk result
             (Leaves (W.contents writer.old) (W.contents writer.new) self.old []) }
         ensures front { WritesFront (W.contents writer.old) (W.contents writer.new) self.old }
         ensures empty { self.new ≡ [] }
-        ensures fault { IfErr result (λ fault. IsWriteFault fault) }
+        ensures fault { IfErr result (λ fault. IsWriteFault W.can_fail fault) }
     {
         self.buffer.flush(writer)?;
         Ok(())

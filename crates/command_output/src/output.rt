@@ -1,11 +1,11 @@
 //! What the program writes: a buffer before a writer.
 
 ghost use Rattle.std.specs.Prelude.{◌≡◌, ◌+◌, ◌≤◌, [], ◌++◌, length, vec_len};
-ghost use Rattle.std.specs.Prelude.{vec_capacity, IfOk, OnOk};
+ghost use Rattle.std.specs.Prelude.{vec_capacity, false, IfOk, IsOk, OnOk};
 ghost use Rattle.command_output.specs.Output.{Leaves, WritesFront};
 
+use crate::sink::Sink;
 use std::alloc::{AllocError, Global};
-use std::io::Write;
 use std::marker::Model;
 
 /// How many bytes are held back before they are written.
@@ -43,12 +43,13 @@ impl Buffer {
 
     /// Adds bytes, and writes those before them where there is no room. After `Err` nothing more is to be
     /// written.
-    pub fn push<W: Write>(&mut self, writer: &mut W, bytes: &[u8]) -> Result<(), OutputFailed>
+    pub fn push<W: Sink>(&mut self, writer: &mut W, bytes: &[u8]) -> Result<(), OutputFailed>
         ensures ok { OnOk result
             (Leaves (W.contents writer.old) (W.contents writer.new)
             (self.old ++ bytes.now) self.new) }
         ensures front { WritesFront (W.contents writer.old) (W.contents writer.new)
             (self.old ++ bytes.now) }
+        ensures sure { W.can_fail ≡ false → IsOk result }
     {
         if bytes.len() <= ROOM - self.bytes.len() {
             append(&mut self.bytes, bytes);
@@ -63,10 +64,11 @@ impl Buffer {
     }
 
     /// Writes all that is held back. After `Err` nothing more is to be written.
-    pub fn flush<W: Write>(&mut self, writer: &mut W) -> Result<(), OutputFailed>
+    pub fn flush<W: Sink>(&mut self, writer: &mut W) -> Result<(), OutputFailed>
         ensures ok { OnOk result
             (Leaves (W.contents writer.old) (W.contents writer.new) self.old []) }
         ensures front { WritesFront (W.contents writer.old) (W.contents writer.new) self.old }
+        ensures sure { W.can_fail ≡ false → IsOk result }
         ensures empty { self.new ≡ [] }
     {
         let written = write_whole(writer, &self.bytes);
@@ -88,13 +90,14 @@ fn append(held: &mut Vec<u8>, bytes: &[u8])
 
 /// Writes all of the bytes, in as many calls as the writer wants. Where it fails or takes nothing, a front of
 /// them was written.
-fn write_whole<W: Write>(writer: &mut W, bytes: &[u8]) -> Result<(), OutputFailed>
+fn write_whole<W: Sink>(writer: &mut W, bytes: &[u8]) -> Result<(), OutputFailed>
     ensures ok { OnOk result (Leaves (W.contents writer.old) (W.contents writer.new) bytes.now []) }
     ensures front { WritesFront (W.contents writer.old) (W.contents writer.new) bytes.now }
+    ensures sure { W.can_fail ≡ false → IsOk result }
 {
     let mut rest = bytes;
     while !rest.is_empty() {
-        match writer.write(rest) {
+        match writer.write_some(rest) {
             Ok(0) | Err(_) => return Err(OutputFailed),
             Ok(count) => rest = &rest[count..],
         }
