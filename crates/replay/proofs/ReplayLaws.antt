@@ -62,8 +62,8 @@ report_of_input can_fail c c' zone zone' known start reading feed r old new begi
     report_by can_fail c zone known reading r old new (subst (λ (k : Option (List ℕ)). GivesObjects c k (to_come reading)) (begins ∙ nothing_held known) of)
     (subst (λ (t : Config × Zone × Feed). IfOk r (λ ending. WritesReport can_fail t.0 t.1 t.2 ending old new)) (same_all c c' zone zone' feed (feed_of reading 0 0 None) e f is) h)
 
-fails_as : (can_fail : Bool) (c : Config) (zone : Zone) (bytes : List ℕ) (reading : Reading) (fault : CommandFault) (old new : Option (List ℕ))
-    → GivesObjects c (Some bytes) (to_come reading) → WritesReportFront can_fail c zone (feed_of reading 0 0 None) old new → IsWriteFault fault → FailsWith can_fail bytes zone fault old new
+fails_as : {w : Bool} (can_fail : Bool) (c : Config) (zone : Zone) (bytes : List ℕ) (reading : Reading) (fault : CommandFault) (old new : Option (List ℕ))
+    → GivesObjects c (Some bytes) (to_come reading) → WritesReportFront can_fail c zone (feed_of reading 0 0 None) old new → IsWriteFault w fault → FailsWith can_fail bytes zone fault old new
 fails_as can_fail c zone bytes reading (Objects fault) old new of h w = absurd w
 fails_as can_fail c zone bytes reading Unreadable old new of h w = absurd w
 fails_as can_fail c zone bytes reading Output old new of h w =
@@ -71,16 +71,16 @@ fails_as can_fail c zone bytes reading Output old new of h w =
 fails_as can_fail c zone bytes reading NoMemory old new of h w =
     let both = given_of can_fail c bytes (to_come reading) h.0 of h.1 in inr (c, h.0, both.0, both.1, h.2)
 
-fault_by : (can_fail : Bool) (c : Config) (zone : Zone) (known : Option (List ℕ)) (reading : Reading) (r : Result Ending CommandFault) (old new : Option (List ℕ))
-    → GivesObjects c known (to_come reading) → WritesReportFront can_fail c zone (feed_of reading 0 0 None) old new → IfErr r (λ fault. IsWriteFault fault)
+fault_by : {w : Bool} (can_fail : Bool) (c : Config) (zone : Zone) (known : Option (List ℕ)) (reading : Reading) (r : Result Ending CommandFault) (old new : Option (List ℕ))
+    → GivesObjects c known (to_come reading) → WritesReportFront can_fail c zone (feed_of reading 0 0 None) old new → IfErr r (λ fault. IsWriteFault w fault)
     → IfSome known (λ bytes. IfErr r (λ fault. FailsWith can_fail bytes zone fault old new))
 fault_by can_fail c zone None reading r old new of h w = tt
 fault_by can_fail c zone (Some bytes) reading (Ok ending) old new of h w = tt
 fault_by can_fail c zone (Some bytes) reading (Err fault) old new of h w = fails_as can_fail c zone bytes reading fault old new of h w
 
-pub fault_of_input : (can_fail : Bool) (c c' : Config) (zone zone' : Zone) (known : Option (List ℕ)) (start reading : Reading) (feed : Feed) (r : Result Ending CommandFault) (old new : Option (List ℕ))
+pub fault_of_input : {w : Bool} (can_fail : Bool) (c c' : Config) (zone zone' : Zone) (known : Option (List ℕ)) (start reading : Reading) (feed : Feed) (r : Result Ending CommandFault) (old new : Option (List ℕ))
     → to_come start ≡ prepend_known [] known → feed ≡ feed_of reading 0 0 None → GivesObjects c (to_come start) (to_come reading)
-    → c' ≡ c → zone' ≡ zone → WritesReportFront can_fail c' zone' feed old new → IfErr r (λ fault. IsWriteFault fault)
+    → c' ≡ c → zone' ≡ zone → WritesReportFront can_fail c' zone' feed old new → IfErr r (λ fault. IsWriteFault w fault)
     → IfSome known (λ bytes. IfErr r (λ fault. FailsWith can_fail bytes zone fault old new))
 fault_of_input can_fail c c' zone zone' known start reading feed r old new begins is of e f h w =
     fault_by can_fail c zone known reading r old new (subst (λ (k : Option (List ℕ)). GivesObjects c k (to_come reading)) (begins ∙ nothing_held known) of)
@@ -133,20 +133,20 @@ module _ (can_fail : Bool) (c c' : Config) (zone zone' : Zone) (texts known : Op
           IfOk-weaker r (λ ending. WritesReport can_fail c zone (feed_of reading 0 0 None) ending old new) (λ ending. ReportsOf can_fail text bytes zone ending old new)
           (λ ending all. (c, all.0, of, given_by can_fail c reading all.0 bytes come all.1, all.2, all.3)) written
 
-  pub fault_of_files : (text_can_fail : Bool) → WritesReportFront can_fail c' zone' feed old new → IfErr r (λ fault. IsWriteFault fault)
+  pub fault_of_files : {w : Bool} (text_can_fail : Bool) → WritesReportFront can_fail c' zone' feed old new → IfErr r (λ fault. IsWriteFault w fault)
       → IfSome texts (λ text. IfSome known (λ bytes. IfErr r (λ fault. FailsOf text_can_fail can_fail text bytes zone fault old new)))
   fault_of_files text_can_fail h w = by texts known r of come w
     where
       front : WritesReportFront can_fail c zone (feed_of reading 0 0 None) old new
       front = subst (λ (t : Config × Zone × Feed). WritesReportFront can_fail t.0 t.1 t.2 old new) (same_all c c' zone zone' feed (feed_of reading 0 0 None) e f is) h
 
-      each : (text bytes : List ℕ) (fault : CommandFault) → IsTextOf c text → to_come reading ≡ Some bytes → IsWriteFault fault → FailsOf text_can_fail can_fail text bytes zone fault old new
+      each : {w : Bool} (text bytes : List ℕ) (fault : CommandFault) → IsTextOf c text → to_come reading ≡ Some bytes → IsWriteFault w fault → FailsOf text_can_fail can_fail text bytes zone fault old new
       each text bytes (Objects fault) of come w = absurd w
       each text bytes Unreadable of come w = absurd w
       each text bytes Output of come w = (c, front.0, of, given_by can_fail c reading front.0 bytes come front.1, front.2)
       each text bytes NoMemory of come w = inr (c, front.0, of, given_by can_fail c reading front.0 bytes come front.1, front.2)
 
-      by : (texts known : Option (List ℕ)) (r : Result Ending CommandFault) → IsFileOf c texts → to_come reading ≡ known → IfErr r (λ fault. IsWriteFault fault)
+      by : {w : Bool} (texts known : Option (List ℕ)) (r : Result Ending CommandFault) → IsFileOf c texts → to_come reading ≡ known → IfErr r (λ fault. IsWriteFault w fault)
           → IfSome texts (λ text. IfSome known (λ bytes. IfErr r (λ fault. FailsOf text_can_fail can_fail text bytes zone fault old new)))
       by None known r of come w = tt
       by (Some text) None r of come w = tt

@@ -1,26 +1,25 @@
 //! The command `replay`: object text and a feed of events, and of each event what the rules make due.
 #![tactic(auto)]
 
-ghost use Rattle.std.specs.Prelude.{◌≡◌, IfErr, IfOk, IfSome};
+ghost use Rattle.std.specs.Prelude.{◌≡◌, false, IfErr, IfOk, IfSome, IsErrOf};
 ghost use Rattle.replay.specs.Replay.{FailsOf, FailsWith, Reports, ReportsOf};
 ghost use Rattle.due_model.specs.declared.zone.Zone.{Zone};
 
 mod report;
 
 use command_input::{read_object_file, read_objects};
-use command_output::{CommandFault, Ending};
+use command_output::{CommandFault, Ending, Sink};
 use due_model::zone::Zone;
 use progress::{Unwatched, Watcher};
 use report::Report;
 use std::alloc::Global;
-use std::io::Write;
 use text_lines::{Input, LineReader};
 
 /// Reads object text up to a line `%events`, and then a feed, and writes the report of the feed. The feed is read and
 /// the report written as it comes: what an event adds is written before the reader is called for more, and memory grows
 /// with the configuration alone. Where the object text is refused nothing is written; where the output fails or memory
 /// runs out, a front of the report was.
-pub fn replay<R: Input + Drop, W: Write>(
+pub fn replay<R: Input + Drop, W: Sink>(
     alloc: Global,
     reader: R,
     writer: &mut W,
@@ -32,6 +31,8 @@ pub fn replay<R: Input + Drop, W: Write>(
     ensures fault { IfSome (R.remaining reader) (λ bytes. IfErr result (λ fault.
         FailsWith R.can_fail bytes Zone.Utc fault
         (W.contents writer.old) (W.contents writer.new))) }
+    // The output failed only where a call of the writer did.
+    ensures sure { W.can_fail ≡ false → ¬ IsErrOf result CommandFault.Output }
 {
     let zone = Zone::Utc;
     replay_in(alloc, &zone, reader, writer, &mut Unwatched)
@@ -39,7 +40,7 @@ pub fn replay<R: Input + Drop, W: Write>(
 
 /// The same, for local times of a zone. A watcher is told how far it is whenever the feed may be waited for: how many events
 /// were decided, and how many messages they made due.
-pub fn replay_in<R: Input + Drop, W: Write, P: Watcher>(
+pub fn replay_in<R: Input + Drop, W: Sink, P: Watcher>(
     alloc: Global,
     zone: &Zone,
     reader: R,
@@ -51,6 +52,8 @@ pub fn replay_in<R: Input + Drop, W: Write, P: Watcher>(
     ensures fault { IfSome (R.remaining reader) (λ bytes. IfErr result (λ fault.
         FailsWith R.can_fail bytes zone.now fault
         (W.contents writer.old) (W.contents writer.new))) }
+    // The output failed only where a call of the writer did.
+    ensures sure { W.can_fail ≡ false → ¬ IsErrOf result CommandFault.Output }
 {
     let mut lines = LineReader::new(alloc, reader)?;
     let config = read_objects(alloc, &mut lines)?;
@@ -60,7 +63,7 @@ pub fn replay_in<R: Input + Drop, W: Write, P: Watcher>(
 
 /// The same, where the object text is one input, all of it, and the feed another. The feed isn't read before the object
 /// text is accepted.
-pub fn replay_files<O: Input + Drop, R: Input + Drop, W: Write, P: Watcher>(
+pub fn replay_files<O: Input + Drop, R: Input + Drop, W: Sink, P: Watcher>(
     alloc: Global,
     zone: &Zone,
     objects: O,
@@ -74,6 +77,7 @@ pub fn replay_files<O: Input + Drop, R: Input + Drop, W: Write, P: Watcher>(
     ensures fault { IfSome (O.remaining objects) (λ text. IfSome (R.remaining feed) (λ bytes.
         IfErr result (λ fault. FailsOf O.can_fail R.can_fail text bytes zone.now fault
         (W.contents writer.old) (W.contents writer.new)))) }
+    ensures sure { W.can_fail ≡ false → ¬ IsErrOf result CommandFault.Output }
 {
     let config = read_object_file(alloc, objects)?;
     let lines = LineReader::new(alloc, feed)?;

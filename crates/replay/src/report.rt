@@ -16,7 +16,7 @@ ghost use Rattle.replay.specs.Report.{answer_text, entries_text, is_ended, is_se
 ghost use Rattle.replay.specs.Report.{whole_share};
 ghost use Rattle.text_lines.specs.Lines.{has_line};
 
-use command_output::{CommandFault, Ending, Lines, OutputLine};
+use command_output::{CommandFault, Ending, Lines, OutputLine, Sink};
 use decider::{DecideFault, EventDecider, Share};
 use due_model::config::Config;
 use due_model::event::Event;
@@ -25,7 +25,7 @@ use event_feed::{FeedFault, Feeder};
 use messages::entries::Entry;
 use progress::{Progress, Watcher};
 use std::alloc::{AllocError, Global};
-use std::io::{Read, Write};
+use std::io::Read;
 use text_lines::{Input, LineReader};
 
 /// The share of the one decider of a replay: all objects.
@@ -72,7 +72,7 @@ impl<'a, R: Input + Drop> Report<'a, R> {
     }
 
     /// Writes the report of the feed from its beginning, and tells how far it is, in events and in messages that are due.
-    pub(crate) fn write<W: Write, P: Watcher>(
+    pub(crate) fn write<W: Sink, P: Watcher>(
         &mut self,
         writer: &mut W,
         watcher: &mut P,
@@ -85,7 +85,7 @@ impl<'a, R: Input + Drop> Report<'a, R> {
             self.old.feeder ending (W.contents writer.old) (W.contents writer.new)) }
         ensures front { WritesReportFront R.can_fail self.old.config.now self.old.zone.now
             self.old.feeder (W.contents writer.old) (W.contents writer.new) }
-        ensures fault { IfErr result (λ fault. IsWriteFault fault) }
+        ensures fault { IfErr result (λ fault. IsWriteFault W.can_fail fault) }
     {
         loop {
             let progress = self.progress;
@@ -103,7 +103,7 @@ impl<'a, R: Input + Drop> Report<'a, R> {
 
     /// Reads the next line of the feed that says something, and makes the lines of what it gives. The answer says
     /// how the feed ended, once it has.
-    fn take_line<W: Write>(&mut self, writer: &mut W) -> Result<Option<Ending>, CommandFault>
+    fn take_line<W: Sink>(&mut self, writer: &mut W) -> Result<Option<Ending>, CommandFault>
         requires goes_on { self.old.feeder.stop ≡ None }
         requires fits { (past : List Event) × Fits (core_kept self.old.decider) past }
         ensures config { self.new.config.now ≡ self.old.config.now }
@@ -119,7 +119,7 @@ impl<'a, R: Input + Drop> Report<'a, R> {
             self.old.config.now self.old.zone.now (core_kept self.old.decider) self.old.feeder
             (W.contents writer.old) self.old.lines (W.contents writer.new) }
         ensures limit { self.new.feeder.line ≤ feed_limit + 1 }
-        ensures fault { IfErr result (λ fault. IsWriteFault fault) }
+        ensures fault { IfErr result (λ fault. IsWriteFault W.can_fail fault) }
     {
         match self.feeder.next(self.config) {
             Ok(None) => Ok(Some(Ending::Whole)),
@@ -143,7 +143,7 @@ impl<'a, R: Input + Drop> Report<'a, R> {
 
     /// Decides the event of this line, and makes its lines. An event that would have the number 2^32 is
     /// refused, and the answer is `Short`.
-    fn decide_event<W: Write>(
+    fn decide_event<W: Sink>(
         &mut self,
         writer: &mut W,
         event: Event,
@@ -172,7 +172,7 @@ impl<'a, R: Input + Drop> Report<'a, R> {
             → WritesFront (W.contents writer.old) (W.contents writer.new)
             (self.old.lines ++ answer_text self.old.config.now self.old.zone.now past
             (record { line = line; given = Ok event })) }
-        ensures fault { IfErr result (λ fault. IsWriteFault fault) }
+        ensures fault { IfErr result (λ fault. IsWriteFault W.can_fail fault) }
     {
         match self.decider.decide(event) {
             Ok(()) => {
@@ -197,7 +197,7 @@ impl<'a, R: Input + Drop> Report<'a, R> {
 
 /// Writes all lines, and tells how far it is, unless a line of the feed is there to be read: else the next call of the
 /// reader may wait.
-fn write_before_wait<R: Input + Drop, W: Write, P: Watcher>(
+fn write_before_wait<R: Input + Drop, W: Sink, P: Watcher>(
     lines: &mut Lines,
     feeder: &Feeder<R>,
     writer: &mut W,
@@ -208,7 +208,7 @@ fn write_before_wait<R: Input + Drop, W: Write, P: Watcher>(
         (Leaves (W.contents writer.old) (W.contents writer.new) lines.old lines.new) }
     ensures all { OnOk result (has_line feeder.now.held ≡ false → lines.new ≡ []) }
     ensures front { WritesFront (W.contents writer.old) (W.contents writer.new) lines.old }
-    ensures fault { IfErr result (λ fault. IsWriteFault fault) }
+    ensures fault { IfErr result (λ fault. IsWriteFault W.can_fail fault) }
 {
     watcher.make_way();
     if feeder.has_line() {
@@ -231,7 +231,7 @@ fn count_messages(entries: &[Entry]) -> usize
 }
 
 /// Makes the lines of entries, in order.
-fn write_entries<W: Write>(
+fn write_entries<W: Sink>(
     lines: &mut Lines,
     writer: &mut W,
     config: &Config,
@@ -241,7 +241,7 @@ fn write_entries<W: Write>(
         (lines.old ++ entries_text config.now entries.now) lines.new) }
     ensures front { WritesFront (W.contents writer.old) (W.contents writer.new)
         (lines.old ++ entries_text config.now entries.now) }
-    ensures fault { IfErr result (λ fault. IsWriteFault fault) }
+    ensures fault { IfErr result (λ fault. IsWriteFault W.can_fail fault) }
 {
     for entry in entries {
         lines.write(writer, config, &line_of(entry))?;

@@ -6,14 +6,13 @@ ghost use Rattle.command_output.specs.Output.{Leaves, WritesFront};
 ghost use Rattle.run_command.specs.Report.{has_undelivered, lane_lines, lanes_text, letters_text};
 ghost use Rattle.command_output.specs.RunLine.{taken_line, undelivered_line};
 
-use command_output::{CommandFault, Lines, OutputLine};
+use command_output::{CommandFault, Lines, OutputLine, Sink};
 use due_model::config::{Config, LaneId};
 use due_model::notice::Notice;
 use engine::LaneEnd;
-use std::io::Write;
 
 /// Makes the lines of lanes, lane by lane.
-pub(crate) fn write_lanes<W: Write>(
+pub(crate) fn write_lanes<W: Sink>(
     lines: &mut Lines,
     writer: &mut W,
     config: &Config,
@@ -23,7 +22,7 @@ pub(crate) fn write_lanes<W: Write>(
         (lines.old ++ lanes_text config.now lanes.now) lines.new) }
     ensures front { WritesFront (W.contents writer.old) (W.contents writer.new)
         (lines.old ++ lanes_text config.now lanes.now) }
-    ensures fault { IfErr result (λ fault. IsWriteFault fault) }
+    ensures fault { IfErr result (λ fault. IsWriteFault W.can_fail fault) }
 {
     for lane in lanes {
         write_lane(lines, writer, config, lane)?;
@@ -32,7 +31,7 @@ pub(crate) fn write_lanes<W: Write>(
 }
 
 /// Makes the lines of a lane: what its channel has taken, what it gave up, and why it is closed.
-fn write_lane<W: Write>(
+fn write_lane<W: Sink>(
     lines: &mut Lines,
     writer: &mut W,
     config: &Config,
@@ -42,7 +41,7 @@ fn write_lane<W: Write>(
         (lines.old ++ lane_lines config.now lane.now) lines.new) }
     ensures front { WritesFront (W.contents writer.old) (W.contents writer.new)
         (lines.old ++ lane_lines config.now lane.now) }
-    ensures fault { IfErr result (λ fault. IsWriteFault fault) }
+    ensures fault { IfErr result (λ fault. IsWriteFault W.can_fail fault) }
 {
     let number = lane.lane();
     let taken = lane.taken();
@@ -56,7 +55,7 @@ fn write_lane<W: Write>(
 }
 
 /// Makes the lines of what a lane's channel has taken.
-fn write_taken<W: Write>(
+fn write_taken<W: Sink>(
     lines: &mut Lines,
     writer: &mut W,
     config: &Config,
@@ -67,7 +66,7 @@ fn write_taken<W: Write>(
         (lines.old ++ letters_text (taken_line config.now lane.0) taken.now) lines.new) }
     ensures front { WritesFront (W.contents writer.old) (W.contents writer.new)
         (lines.old ++ letters_text (taken_line config.now lane.0) taken.now) }
-    ensures fault { IfErr result (λ fault. IsWriteFault fault) }
+    ensures fault { IfErr result (λ fault. IsWriteFault W.can_fail fault) }
 {
     for notice in taken {
         let line = OutputLine::Taken {
@@ -80,7 +79,7 @@ fn write_taken<W: Write>(
 }
 
 /// Makes the lines of what a lane gave up.
-fn write_undelivered<W: Write>(
+fn write_undelivered<W: Sink>(
     lines: &mut Lines,
     writer: &mut W,
     config: &Config,
@@ -92,7 +91,7 @@ fn write_undelivered<W: Write>(
         lines.new) }
     ensures front { WritesFront (W.contents writer.old) (W.contents writer.new)
         (lines.old ++ letters_text (undelivered_line config.now lane.0) undelivered.now) }
-    ensures fault { IfErr result (λ fault. IsWriteFault fault) }
+    ensures fault { IfErr result (λ fault. IsWriteFault W.can_fail fault) }
 {
     for notice in undelivered {
         let line = OutputLine::Undelivered {

@@ -15,14 +15,13 @@ mod lanes;
 mod telling;
 mod turns;
 
-use command_output::{CommandFault, Ending, Lines};
+use command_output::{CommandFault, Ending, Lines, Sink};
 use due_model::config::Config;
 use due_model::zone::Zone;
 use engine::{Post, Run, RunEnd, Settings, Turn};
 use lanes::has_undelivered;
 use progress::Watcher;
 use std::alloc::Global;
-use std::io::Write;
 use telling::Telling;
 use text_lines::Input;
 
@@ -34,7 +33,7 @@ use text_lines::Input;
 /// The watcher is told how far it is whenever the feed may be waited for: how many events were decided, and how many letters
 /// channels have taken. `Undelivered` says that a lane gave something up, `Short` that the feed ended before its input; of
 /// both, the latter is said.
-pub fn run<R: Input + Drop, W: Write, P: Watcher>(
+pub fn run<R: Input + Drop, W: Sink, P: Watcher>(
     alloc: Global,
     config: &Config,
     zone: &Zone,
@@ -53,7 +52,7 @@ pub fn run<R: Input + Drop, W: Write, P: Watcher>(
     ensures front { WritesReportFront R.can_fail config.now zone.now
         (λ l. list_any (λ post. post.lane.0 == l) posts.items) (R.remaining feed) result
         (W.contents writer.old) (W.contents writer.new) }
-    ensures fault { IfErr result (λ fault. IsWriteFault fault) }
+    ensures fault { IfErr result (λ fault. IsWriteFault W.can_fail fault) }
 {
     match Run::start(alloc, config, zone, feed, posts, settings) {
         Ok(begun) => tell(alloc, config, begun, writer, watcher),
@@ -62,7 +61,7 @@ pub fn run<R: Input + Drop, W: Write, P: Watcher>(
 }
 
 /// The rest of a run of whose feed nothing is read. Where there is no memory for its lines nothing is told of it.
-fn tell<R: Input + Drop, W: Write, P: Watcher>(
+fn tell<R: Input + Drop, W: Sink, P: Watcher>(
     alloc: Global,
     config: &Config,
     begun: Run<'_, R>,
@@ -81,7 +80,7 @@ fn tell<R: Input + Drop, W: Write, P: Watcher>(
         (run_value begun.entry)
         → WritesReportFront R.can_fail config.now zone posted known result
         (W.contents writer.old) (W.contents writer.new) }
-    ensures fault { IfErr result (λ fault. IsWriteFault fault) }
+    ensures fault { IfErr result (λ fault. IsWriteFault W.can_fail fault) }
 {
     match Lines::new(alloc) {
         Ok(lines) => tell_lines(Telling::new(lines), config, begun, writer, watcher),
@@ -93,7 +92,7 @@ fn tell<R: Input + Drop, W: Write, P: Watcher>(
 }
 
 /// The same, where nothing was told yet.
-fn tell_lines<R: Input + Drop, W: Write, P: Watcher>(
+fn tell_lines<R: Input + Drop, W: Sink, P: Watcher>(
     mut telling: Telling,
     config: &Config,
     mut begun: Run<'_, R>,
@@ -114,7 +113,7 @@ fn tell_lines<R: Input + Drop, W: Write, P: Watcher>(
         (run_value begun.entry)
         → WritesReportFront R.can_fail config.now zone posted known result
         (W.contents writer.old) (W.contents writer.new) }
-    ensures fault { IfErr result (λ fault. IsWriteFault fault) }
+    ensures fault { IfErr result (λ fault. IsWriteFault W.can_fail fault) }
 {
     let read = telling.tell_turns(&mut begun, config, writer, watcher);
     watcher.make_way();

@@ -14,14 +14,13 @@ ghost use Rattle.run_command.specs.Told.{HasTold, IsTold};
 
 use crate::lanes::write_lanes;
 use crate::turns::write_turn;
-use command_output::{CommandFault, Lines};
+use command_output::{CommandFault, Lines, Sink};
 use due_model::config::{Config, LaneId};
 use due_model::notice::Suppression;
 use engine::{LaneEnd, Run, Turn};
 use event_feed::RefusedLine;
 use progress::{Progress, Watcher};
 use std::alloc::AllocError;
-use std::io::Write;
 use text_lines::Input;
 
 /// The lines of a run on their way to a writer. After a fault nothing more is written.
@@ -49,7 +48,7 @@ impl Telling {
     /// Reads the feed of a run to its end, and tells what each line of it gives before the reader is called for more. The
     /// answer says whether the feed was cut; a growth that the run was refused is the only error. The watcher is told of the
     /// events that were decided and the letters that were taken.
-    pub(crate) fn tell_turns<R: Input + Drop, W: Write, P: Watcher>(
+    pub(crate) fn tell_turns<R: Input + Drop, W: Sink, P: Watcher>(
         &mut self,
         run: &mut Run<'_, R>,
         config: &Config,
@@ -58,14 +57,14 @@ impl Telling {
     ) -> Result<bool, AllocError>
         requires { (zone : Zone) × (posted : ℕ → Bool) × (known : Option (List ℕ))
             × (before : Option (List ℕ)) × (said : List Answer)
-            × HasTold R.can_fail config.now zone posted known before said (Ok Turn.GoesOn)
+            × HasTold R.can_fail W.can_fail config.now zone posted known before said (Ok Turn.GoesOn)
             (run_value run.old) (W.contents writer.old) self.old.lines self.old.fault }
         ensures { (zone : Zone) (posted : ℕ → Bool) (known before : Option (List ℕ))
             (said : List Answer)
-            → HasTold R.can_fail config.now zone posted known before said (Ok Turn.GoesOn)
+            → HasTold R.can_fail W.can_fail config.now zone posted known before said (Ok Turn.GoesOn)
             (run_value run.old) (W.contents writer.old) self.old.lines self.old.fault
             → (all : List Answer)
-            × HasTold R.can_fail config.now zone posted known before all (last_turn result)
+            × HasTold R.can_fail W.can_fail config.now zone posted known before all (last_turn result)
             (run_value run.new) (W.contents writer.new) self.new.lines self.new.fault }
     {
         loop {
@@ -80,7 +79,7 @@ impl Telling {
     }
 
     /// Takes the next line of the feed that says something, and tells what it gives.
-    fn take_turn<R: Input + Drop, W: Write>(
+    fn take_turn<R: Input + Drop, W: Sink>(
         &mut self,
         run: &mut Run<'_, R>,
         config: &Config,
@@ -88,17 +87,17 @@ impl Telling {
     ) -> Result<Turn, AllocError>
         requires told { (zone : Zone) × (posted : ℕ → Bool) × (known : Option (List ℕ))
             × (before : Option (List ℕ)) × (said : List Answer)
-            × HasTold R.can_fail config.now zone posted known before said (Ok Turn.GoesOn)
+            × HasTold R.can_fail W.can_fail config.now zone posted known before said (Ok Turn.GoesOn)
             (run_value run.old) (W.contents writer.old) self.old.lines self.old.fault }
         // Where the reader may be called nothing is held back, unless the writing failed.
         requires written { has_line (run_value run.old).intake.feed.held ≡ false
             → self.old.fault ≡ None → self.old.lines ≡ [] }
         ensures told { (zone : Zone) (posted : ℕ → Bool) (known before : Option (List ℕ))
             (said : List Answer)
-            → HasTold R.can_fail config.now zone posted known before said (Ok Turn.GoesOn)
+            → HasTold R.can_fail W.can_fail config.now zone posted known before said (Ok Turn.GoesOn)
             (run_value run.old) (W.contents writer.old) self.old.lines self.old.fault
             → (last : Option Answer)
-            × HasTold R.can_fail config.now zone posted known before (with_one said last) result
+            × HasTold R.can_fail W.can_fail config.now zone posted known before (with_one said last) result
             (run_value run.new) (W.contents writer.new) self.new.lines self.new.fault }
         ensures shorter { result ≡ Ok Turn.GoesOn
             → lines_left (run_value run.new) < lines_left (run_value run.old) }
@@ -119,7 +118,7 @@ impl Telling {
 
     /// Writes all that is held back, and tells how far it is, unless a line of the feed is there to be read: else the next call
     /// of the reader may wait.
-    fn write_before_wait<R: Input + Drop, W: Write, P: Watcher>(
+    fn write_before_wait<R: Input + Drop, W: Sink, P: Watcher>(
         &mut self,
         run: &Run<'_, R>,
         config: &Config,
@@ -127,8 +126,8 @@ impl Telling {
         watcher: &mut P,
     )
         ensures told { (before : Option (List ℕ)) (text : List ℕ)
-            → IsTold before (W.contents writer.old) text self.old.lines self.old.fault
-            → IsTold before (W.contents writer.new) text self.new.lines self.new.fault }
+            → IsTold W.can_fail before (W.contents writer.old) text self.old.lines self.old.fault
+            → IsTold W.can_fail before (W.contents writer.new) text self.new.lines self.new.fault }
         ensures all { has_line (run_value run.now).intake.feed.held ≡ false
             → self.new.fault ≡ None → self.new.lines ≡ [] }
     {
@@ -140,10 +139,10 @@ impl Telling {
     }
 
     /// Writes all that is held back, unless the writing failed before.
-    fn write_held<W: Write>(&mut self, writer: &mut W)
+    fn write_held<W: Sink>(&mut self, writer: &mut W)
         ensures told { (before : Option (List ℕ)) (text : List ℕ)
-            → IsTold before (W.contents writer.old) text self.old.lines self.old.fault
-            → IsTold before (W.contents writer.new) text self.new.lines self.new.fault }
+            → IsTold W.can_fail before (W.contents writer.old) text self.old.lines self.old.fault
+            → IsTold W.can_fail before (W.contents writer.new) text self.new.lines self.new.fault }
         ensures all { self.new.fault ≡ None → self.new.lines ≡ [] }
     {
         if self.fault.is_none() {
@@ -152,7 +151,7 @@ impl Telling {
     }
 
     /// Tells refused lines, and then suppressions.
-    fn tell_turn<W: Write>(
+    fn tell_turn<W: Sink>(
         &mut self,
         refused: &[RefusedLine],
         log: &[Suppression],
@@ -160,8 +159,8 @@ impl Telling {
         writer: &mut W,
     )
         ensures { (before : Option (List ℕ)) (text : List ℕ)
-            → IsTold before (W.contents writer.old) text self.old.lines self.old.fault
-            → IsTold before (W.contents writer.new)
+            → IsTold W.can_fail before (W.contents writer.old) text self.old.lines self.old.fault
+            → IsTold W.can_fail before (W.contents writer.new)
             (text ++ (refused_text refused.now ++ log_text config.now log.now))
             self.new.lines self.new.fault }
     {
@@ -171,15 +170,15 @@ impl Telling {
     }
 
     /// Tells what lanes left.
-    pub(crate) fn tell_lanes<W: Write>(
+    pub(crate) fn tell_lanes<W: Sink>(
         &mut self,
         lanes: &[LaneEnd],
         config: &Config,
         writer: &mut W,
     )
         ensures { (before : Option (List ℕ)) (text : List ℕ)
-            → IsTold before (W.contents writer.old) text self.old.lines self.old.fault
-            → IsTold before (W.contents writer.new) (text ++ lanes_text config.now lanes.now)
+            → IsTold W.can_fail before (W.contents writer.old) text self.old.lines self.old.fault
+            → IsTold W.can_fail before (W.contents writer.new) (text ++ lanes_text config.now lanes.now)
             self.new.lines self.new.fault }
     {
         if self.fault.is_none() {
@@ -188,16 +187,16 @@ impl Telling {
     }
 
     /// Writes all that is held back. The answer is the fault of the writing, if there was one.
-    pub(crate) fn finish<W: Write>(mut self, writer: &mut W) -> Option<CommandFault>
+    pub(crate) fn finish<W: Sink>(mut self, writer: &mut W) -> Option<CommandFault>
         ensures whole { (before : Option (List ℕ)) (text : List ℕ)
-            → IsTold before (W.contents writer.old) text self.lines self.fault
+            → IsTold W.can_fail before (W.contents writer.old) text self.lines self.fault
             → IfNone result (Writes before (W.contents writer.new) text) }
         ensures front { (before : Option (List ℕ)) (text : List ℕ)
-            → IsTold before (W.contents writer.old) text self.lines self.fault
+            → IsTold W.can_fail before (W.contents writer.old) text self.lines self.fault
             → WritesFront before (W.contents writer.new) text }
         ensures fault { (before : Option (List ℕ)) (text : List ℕ)
-            → IsTold before (W.contents writer.old) text self.lines self.fault
-            → IfSome result (λ fault. IsWriteFault fault) }
+            → IsTold W.can_fail before (W.contents writer.old) text self.lines self.fault
+            → IfSome result (λ fault. IsWriteFault W.can_fail fault) }
     {
         match self.fault {
             Some(fault) => Some(fault),

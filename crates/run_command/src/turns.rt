@@ -5,14 +5,13 @@ ghost use Rattle.command_output.specs.Outcome.{IsWriteFault};
 ghost use Rattle.command_output.specs.Output.{Leaves, WritesFront};
 ghost use Rattle.run_command.specs.Report.{log_text, refused_text};
 
-use command_output::{CommandFault, Lines, OutputLine};
+use command_output::{CommandFault, Lines, OutputLine, Sink};
 use due_model::config::Config;
 use due_model::notice::Suppression;
 use event_feed::RefusedLine;
-use std::io::Write;
 
 /// Makes the lines of refused lines, and then of suppressions.
-pub(crate) fn write_turn<W: Write>(
+pub(crate) fn write_turn<W: Sink>(
     lines: &mut Lines,
     writer: &mut W,
     config: &Config,
@@ -23,14 +22,14 @@ pub(crate) fn write_turn<W: Write>(
         (lines.old ++ (refused_text refused.now ++ log_text config.now log.now)) lines.new) }
     ensures front { WritesFront (W.contents writer.old) (W.contents writer.new)
         (lines.old ++ (refused_text refused.now ++ log_text config.now log.now)) }
-    ensures fault { IfErr result (λ fault. IsWriteFault fault) }
+    ensures fault { IfErr result (λ fault. IsWriteFault W.can_fail fault) }
 {
     write_refused(lines, writer, config, refused)?;
     write_log(lines, writer, config, log)
 }
 
 /// Makes the lines of refused lines of the feed.
-fn write_refused<W: Write>(
+fn write_refused<W: Sink>(
     lines: &mut Lines,
     writer: &mut W,
     config: &Config,
@@ -40,7 +39,7 @@ fn write_refused<W: Write>(
         (lines.old ++ refused_text refused.now) lines.new) }
     ensures front { WritesFront (W.contents writer.old) (W.contents writer.new)
         (lines.old ++ refused_text refused.now) }
-    ensures fault { IfErr result (λ fault. IsWriteFault fault) }
+    ensures fault { IfErr result (λ fault. IsWriteFault W.can_fail fault) }
 {
     for refusal in refused {
         let line = OutputLine::Refused {
@@ -53,7 +52,7 @@ fn write_refused<W: Write>(
 }
 
 /// Makes the lines of suppressions.
-fn write_log<W: Write>(
+fn write_log<W: Sink>(
     lines: &mut Lines,
     writer: &mut W,
     config: &Config,
@@ -63,7 +62,7 @@ fn write_log<W: Write>(
         (lines.old ++ log_text config.now log.now) lines.new) }
     ensures front { WritesFront (W.contents writer.old) (W.contents writer.new)
         (lines.old ++ log_text config.now log.now) }
-    ensures fault { IfErr result (λ fault. IsWriteFault fault) }
+    ensures fault { IfErr result (λ fault. IsWriteFault W.can_fail fault) }
 {
     for suppression in log {
         lines.write(writer, config, &OutputLine::Suppression(*suppression))?;

@@ -48,21 +48,21 @@ accepted : (can_fail : Bool) (c : Config) (bytes : List ℕ) (rest : Option (Lis
 accepted can_fail c bytes None of = absurd of
 accepted can_fail c bytes (Some rest) of = of.0
 
-fails_as : (can_fail : Bool) (c : Config) (bytes : List ℕ) (rest : Option (List ℕ)) (fault : CommandFault) (old new : Option (List ℕ)) → GivesObjects c (Some bytes) rest → IsWriteFault fault → FailsWith can_fail bytes fault old new
+fails_as : {w : Bool} (can_fail : Bool) (c : Config) (bytes : List ℕ) (rest : Option (List ℕ)) (fault : CommandFault) (old new : Option (List ℕ)) → GivesObjects c (Some bytes) rest → IsWriteFault w fault → FailsWith can_fail bytes fault old new
 fails_as can_fail c bytes rest (Objects fault) old new of w = absurd w
 fails_as can_fail c bytes rest Unreadable old new of w = absurd w
 fails_as can_fail c bytes rest Output old new of w = (c, accepted can_fail c bytes rest of)
 fails_as can_fail c bytes rest NoMemory old new of w = inr (c, accepted can_fail c bytes rest of)
 
-fault_by : (can_fail : Bool) (c : Config) (known rest : Option (List ℕ)) (r : Result Ending CommandFault) (old new : Option (List ℕ)) → GivesObjects c known rest
-    → IfErr r (λ fault. IsWriteFault fault) → IfSome known (λ bytes. IfErr r (λ fault. FailsWith can_fail bytes fault old new))
+fault_by : {w : Bool} (can_fail : Bool) (c : Config) (known rest : Option (List ℕ)) (r : Result Ending CommandFault) (old new : Option (List ℕ)) → GivesObjects c known rest
+    → IfErr r (λ fault. IsWriteFault w fault) → IfSome known (λ bytes. IfErr r (λ fault. FailsWith can_fail bytes fault old new))
 fault_by can_fail c None rest r old new of w = tt
 fault_by can_fail c (Some bytes) rest (Ok ending) old new of w = tt
 fault_by can_fail c (Some bytes) rest (Err fault) old new of w = fails_as can_fail c bytes rest fault old new of w
 
-pub fault_of_input : (can_fail : Bool) (c : Config) (known rest : Option (List ℕ)) (start : Reading) (r : Result Ending CommandFault) (old new : Option (List ℕ))
+pub fault_of_input : {w : Bool} (can_fail : Bool) (c : Config) (known rest : Option (List ℕ)) (start : Reading) (r : Result Ending CommandFault) (old new : Option (List ℕ))
     → to_come start ≡ prepend_known [] known → GivesObjects c (to_come start) rest
-    → IfErr r (λ fault. IsWriteFault fault) → IfSome known (λ bytes. IfErr r (λ fault. FailsWith can_fail bytes fault old new))
+    → IfErr r (λ fault. IsWriteFault w fault) → IfSome known (λ bytes. IfErr r (λ fault. FailsWith can_fail bytes fault old new))
 fault_of_input can_fail c known rest start r old new begins of w =
     fault_by can_fail c known rest r old new (subst (λ (k : Option (List ℕ)). GivesObjects c k rest) (begins ∙ nothing_held known) of) w
 

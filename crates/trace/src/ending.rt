@@ -12,14 +12,13 @@ use crate::feed::AfterFeed;
 use crate::lanes::write_lanes;
 use crate::run::Run;
 use crate::step_lines::do_steps;
-use command_output::{CommandFault, Ending, Lines};
+use command_output::{CommandFault, Ending, Lines, Sink};
 use std::alloc::Global;
-use std::io::Write;
 use text_lines::{Input, LineReader};
 
 /// Does the steps that come after a feed, and writes their refused lines, and then what the lanes hold, where all was
 /// read.
-pub(crate) fn write_end<R: Input + Drop, W: Write>(
+pub(crate) fn write_end<R: Input + Drop, W: Sink>(
     alloc: Global,
     lines: &mut Lines,
     writer: &mut W,
@@ -32,7 +31,7 @@ pub(crate) fn write_end<R: Input + Drop, W: Write>(
         WritesEnd R.can_fail run.old.config.now run.old.deciders (world_setup run.old.world)
         (run_state run.old) run.old.is_over after rest ending
         (W.contents writer.old) (W.contents writer.new) lines.old lines.new)) }
-    ensures fault { IfErr result (λ fault. IsWriteFault fault) }
+    ensures fault { IfErr result (λ fault. IsWriteFault W.can_fail fault) }
 {
     match after {
         AfterFeed::Steps => write_steps(alloc, lines, writer, run, source),
@@ -49,7 +48,7 @@ pub(crate) fn write_end<R: Input + Drop, W: Write>(
 }
 
 /// Does the steps, and writes what the lanes hold, where all of them were read.
-fn write_steps<R: Input + Drop, W: Write>(
+fn write_steps<R: Input + Drop, W: Sink>(
     alloc: Global,
     lines: &mut Lines,
     writer: &mut W,
@@ -61,7 +60,7 @@ fn write_steps<R: Input + Drop, W: Write>(
         WritesEnd R.can_fail run.old.config.now run.old.deciders (world_setup run.old.world)
         (run_state run.old) run.old.is_over AfterFeed.Steps rest ending
         (W.contents writer.old) (W.contents writer.new) lines.old lines.new)) }
-    ensures fault { IfErr result (λ fault. IsWriteFault fault) }
+    ensures fault { IfErr result (λ fault. IsWriteFault W.can_fail fault) }
 {
     if !do_steps(lines, writer, run, source)? {
         return Ok(Ending::Short);

@@ -12,11 +12,10 @@ ghost use Rattle.trace.specs.FeedRun.{EndsFeed, GoesOn, ReadsFeed, Unmoved};
 ghost use Rattle.trace.specs.Run.{Fits};
 
 use crate::run::Run;
-use command_output::{CommandFault, Lines, OutputLine};
+use command_output::{CommandFault, Lines, OutputLine, Sink};
 use due_model::event::Event;
 use due_model::limits::MAX_EVENTS;
 use event_feed::{FeedFault, Feeder, RefusedLine};
-use std::io::Write;
 use text_lines::{Input, Stop};
 
 /// The line that separates the feed from the step lines.
@@ -37,7 +36,7 @@ pub(crate) enum AfterFeed {
 
 /// Reads a feed up to a line that is the mark, or to its end, keeps its events, and writes its refused lines. The
 /// answer says what comes after it.
-pub(crate) fn read_feed<R: Input + Drop, W: Write>(
+pub(crate) fn read_feed<R: Input + Drop, W: Sink>(
     lines: &mut Lines,
     writer: &mut W,
     run: &mut Run<'_>,
@@ -51,7 +50,7 @@ pub(crate) fn read_feed<R: Input + Drop, W: Write>(
     ensures feed { IfOk result (λ after. Known feeder.old.bytes feeder.new.bytes (λ bytes rest.
         ReadsFeed R.can_fail run.old feeder.old bytes after run.new rest
         (W.contents writer.old) (W.contents writer.new) lines.old lines.new)) }
-    ensures fault { IfErr result (λ fault. IsWriteFault fault) }
+    ensures fault { IfErr result (λ fault. IsWriteFault W.can_fail fault) }
 {
     loop {
         if let Some(after) = read_feed_line(lines, writer, run, feeder)? {
@@ -62,7 +61,7 @@ pub(crate) fn read_feed<R: Input + Drop, W: Write>(
 
 /// Reads the next line of the feed that says something: its event is kept, and its refusal written. After an event
 /// that can't be numbered nothing is kept or written. The answer says what comes after the feed, once it is over.
-fn read_feed_line<R: Input + Drop, W: Write>(
+fn read_feed_line<R: Input + Drop, W: Sink>(
     lines: &mut Lines,
     writer: &mut W,
     run: &mut Run<'_>,
@@ -81,7 +80,7 @@ fn read_feed_line<R: Input + Drop, W: Write>(
     ensures last { IfOk result (λ end. IfSome end (λ after. Known feeder.old.bytes feeder.new.bytes
         (λ bytes rest. EndsFeed R.can_fail run.old feeder.old bytes after run.new rest
         (W.contents writer.old) (W.contents writer.new) lines.old lines.new))) }
-    ensures fault { IfErr result (λ fault. IsWriteFault fault) }
+    ensures fault { IfErr result (λ fault. IsWriteFault W.can_fail fault) }
 {
     match feeder.next(run.config) {
         Ok(None) => Ok(Some(AfterFeed::Nothing)),
@@ -125,7 +124,7 @@ fn is_mark(fault: FeedFault, text: &[u8]) -> bool
 }
 
 /// Writes a refused line, unless an event before couldn't be numbered.
-fn write_refusal<W: Write>(
+fn write_refusal<W: Sink>(
     lines: &mut Lines,
     writer: &mut W,
     run: &Run<'_>,
@@ -134,7 +133,7 @@ fn write_refusal<W: Write>(
     ensures ok { OnOk result (Leaves (W.contents writer.old) (W.contents writer.new)
         (lines.old ++ added run.now.events.items run.now.is_over refusal.line (Err refusal.fault))
         lines.new) }
-    ensures fault { IfErr result (λ fault. IsWriteFault fault) }
+    ensures fault { IfErr result (λ fault. IsWriteFault W.can_fail fault) }
 {
     if run.is_over {
         return Ok(());
@@ -147,7 +146,7 @@ fn write_refusal<W: Write>(
 }
 
 /// Keeps the event of a line of the feed, if it can be numbered.
-fn keep_event<W: Write>(
+fn keep_event<W: Sink>(
     lines: &mut Lines,
     writer: &mut W,
     run: &mut Run<'_>,
@@ -164,7 +163,7 @@ fn keep_event<W: Write>(
         ≡ is_over_after run.old.events.items run.old.is_over (Ok event)) }
     ensures ok { OnOk result (Leaves (W.contents writer.old) (W.contents writer.new)
         (lines.old ++ added run.old.events.items run.old.is_over line (Ok event)) lines.new) }
-    ensures fault { IfErr result (λ fault. IsWriteFault fault) }
+    ensures fault { IfErr result (λ fault. IsWriteFault W.can_fail fault) }
 {
     if run.is_over {
         return Ok(());

@@ -8,13 +8,12 @@ ghost use Rattle.trace.specs.LaneLines.{held_text, lane_lines, world_text};
 ghost use Rattle.trace.specs.Run.{Fits};
 
 use crate::run::Run;
-use command_output::{CommandFault, LaneLine, Lines, OutputLine};
+use command_output::{CommandFault, LaneLine, Lines, OutputLine, Sink};
 use due_model::config::{LaneId, ObjectId};
 use std::alloc::Global;
-use std::io::Write;
 
 /// Writes what each lane holds of each object, lane by lane.
-pub(crate) fn write_lanes<W: Write>(
+pub(crate) fn write_lanes<W: Sink>(
     alloc: Global,
     lines: &mut Lines,
     writer: &mut W,
@@ -24,7 +23,7 @@ pub(crate) fn write_lanes<W: Write>(
     ensures ok { OnOk result (Leaves (W.contents writer.old) (W.contents writer.new)
         (lines.old ++ world_text (world_setup run.now.world) (world_state run.now.world))
         lines.new) }
-    ensures fault { IfErr result (λ fault. IsWriteFault fault) }
+    ensures fault { IfErr result (λ fault. IsWriteFault W.can_fail fault) }
 {
     for lane in 0..run.config.lanes.len() {
         write_lane(alloc, lines, writer, run, LaneId(lane as u8))?;
@@ -33,7 +32,7 @@ pub(crate) fn write_lanes<W: Write>(
 }
 
 /// Writes what a lane holds of each object, in order.
-fn write_lane<W: Write>(
+fn write_lane<W: Sink>(
     alloc: Global,
     lines: &mut Lines,
     writer: &mut W,
@@ -45,7 +44,7 @@ fn write_lane<W: Write>(
     ensures ok { OnOk result (Leaves (W.contents writer.old) (W.contents writer.new)
         (lines.old ++ lane_lines (world_setup run.now.world) (world_state run.now.world) lane.0)
         lines.new) }
-    ensures fault { IfErr result (λ fault. IsWriteFault fault) }
+    ensures fault { IfErr result (λ fault. IsWriteFault W.can_fail fault) }
 {
     for object in 0..run.config.objects.len() {
         write_object(alloc, lines, writer, run, lane, ObjectId(object as u16))?;
@@ -54,7 +53,7 @@ fn write_lane<W: Write>(
 }
 
 /// Writes what a lane holds of an object.
-fn write_object<W: Write>(
+fn write_object<W: Sink>(
     alloc: Global,
     lines: &mut Lines,
     writer: &mut W,
@@ -68,7 +67,7 @@ fn write_object<W: Write>(
     ensures ok { OnOk result (Leaves (W.contents writer.old) (W.contents writer.new)
         (lines.old ++ held_text (world_setup run.now.world) (world_state run.now.world)
         lane.0 object.0) lines.new) }
-    ensures fault { IfErr result (λ fault. IsWriteFault fault) }
+    ensures fault { IfErr result (λ fault. IsWriteFault W.can_fail fault) }
 {
     match run.world.line(alloc, lane, object) {
         Ok(parts) => {

@@ -16,7 +16,7 @@ mod step_line;
 mod step_lines;
 
 use command_input::read_objects;
-use command_output::{CommandFault, Ending, Lines};
+use command_output::{CommandFault, Ending, Lines, Sink};
 use due_model::config::Config;
 use due_model::zone::Zone;
 use ending::write_end;
@@ -24,7 +24,6 @@ use event_feed::Feeder;
 use feed::read_feed;
 use run::Run;
 use std::alloc::Global;
-use std::io::Write;
 use text_lines::{Input, LineReader};
 use world_steps::{Settings, World};
 
@@ -32,7 +31,7 @@ use world_steps::{Settings, World};
 /// world in which all lanes serve. It writes the refused lines of the feed, then those of the steps, and then what
 /// each lane holds of each object. A feed ends as a replay's does, and where it or the step lines can't be read to
 /// their end, what the lanes hold isn't written. Where the object text is refused nothing is written.
-pub fn trace<R: Input + Drop, W: Write>(
+pub fn trace<R: Input + Drop, W: Sink>(
     alloc: Global,
     settings: Settings,
     reader: R,
@@ -44,13 +43,15 @@ pub fn trace<R: Input + Drop, W: Write>(
     // A fault says what was wrong.
     ensures fault { IfSome (R.remaining reader) (λ bytes. IfErr result (λ fault.
         FailsWith R.can_fail bytes fault (W.contents writer.old) (W.contents writer.new))) }
+    // The output failed only where a call of the writer did.
+    ensures sure { W.can_fail ≡ false → ¬ IsErrOf result CommandFault.Output }
 {
     let zone = Zone::Utc;
     trace_in(alloc, &zone, settings, reader, writer)
 }
 
 /// The same, for local times of a zone.
-pub fn trace_in<R: Input + Drop, W: Write>(
+pub fn trace_in<R: Input + Drop, W: Sink>(
     alloc: Global,
     zone: &Zone,
     settings: Settings,
@@ -62,6 +63,7 @@ pub fn trace_in<R: Input + Drop, W: Write>(
         (W.contents writer.old) (W.contents writer.new))) }
     ensures fault { IfSome (R.remaining reader) (λ bytes. IfErr result (λ fault.
         FailsWith R.can_fail bytes fault (W.contents writer.old) (W.contents writer.new))) }
+    ensures sure { W.can_fail ≡ false → ¬ IsErrOf result CommandFault.Output }
 {
     let mut lines = LineReader::new(alloc, reader)?;
     let config = read_objects(alloc, &mut lines)?;
@@ -69,7 +71,7 @@ pub fn trace_in<R: Input + Drop, W: Write>(
 }
 
 /// Traces a feed and the steps after it.
-fn trace_feed<R: Input + Drop, W: Write>(
+fn trace_feed<R: Input + Drop, W: Sink>(
     alloc: Global,
     zone: &Zone,
     settings: Settings,
@@ -81,7 +83,7 @@ fn trace_feed<R: Input + Drop, W: Write>(
     ensures traces { IfOk result (λ ending. IfSome (to_come source) (λ bytes.
         TracesFeed R.can_fail config.now zone.now settings bytes ending
         (W.contents writer.old) (W.contents writer.new))) }
-    ensures fault { IfErr result (λ fault. IsWriteFault fault) }
+    ensures fault { IfErr result (λ fault. IsWriteFault W.can_fail fault) }
 {
     let served = vec![in alloc; true; config.lanes.len()]?;
     let mut run = Run {

@@ -5,12 +5,11 @@ ghost use Rattle.command_output.specs.Outcome.{IsWriteFault};
 ghost use Rattle.command_output.specs.Output.{Leaves};
 ghost use Rattle.command_output.specs.TraceLine.{refused_step_line};
 
-use command_output::{CommandFault, Lines, OutputLine, StepRefusal};
+use command_output::{CommandFault, Lines, OutputLine, Sink, StepRefusal};
 use due_model::config::Config;
-use std::io::Write;
 
 /// Writes the line of a refused step line.
-pub(crate) fn refuse<W: Write>(
+pub(crate) fn refuse<W: Sink>(
     lines: &mut Lines,
     writer: &mut W,
     config: &Config,
@@ -19,7 +18,7 @@ pub(crate) fn refuse<W: Write>(
 ) -> Result<(), CommandFault>
     ensures ok { OnOk result (Leaves (W.contents writer.old) (W.contents writer.new)
         (lines.old ++ refused_step_line number refusal) lines.new) }
-    ensures fault { IfErr result (λ fault. IsWriteFault fault) }
+    ensures fault { IfErr result (λ fault. IsWriteFault W.can_fail fault) }
 {
     let line = OutputLine::RefusedStep {
         line: number,

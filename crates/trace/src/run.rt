@@ -9,10 +9,9 @@ ghost use Rattle.trace.specs.Run.{Does, DoesSaid, Fits, IsEnabledIn, IsProperLin
 
 use crate::refusal::refuse;
 use crate::step_line::{StepLine, read_step};
-use command_output::{CommandFault, Lines, StepRefusal};
+use command_output::{CommandFault, Lines, Sink, StepRefusal};
 use due_model::config::Config;
 use due_model::event::Event;
-use std::io::Write;
 use world_steps::{Step, StepFault, World};
 
 /// A world, and the events that are posted to it in turn.
@@ -30,7 +29,7 @@ pub(crate) struct Run<'a> {
 }
 
 /// Does the step of a step line, or writes the line of its refusal.
-pub(crate) fn do_line<W: Write>(
+pub(crate) fn do_line<W: Sink>(
     lines: &mut Lines,
     writer: &mut W,
     run: &mut Run<'_>,
@@ -45,7 +44,7 @@ pub(crate) fn do_line<W: Write>(
         (λ said. Spells run.old.config.now run.old.deciders said line.now)
         (run_state run.old) (run_state run.new) text
         × Leaves (W.contents writer.old) (W.contents writer.new) (lines.old ++ text) lines.new) }
-    ensures fault { IfErr result (λ fault. IsWriteFault fault) }
+    ensures fault { IfErr result (λ fault. IsWriteFault W.can_fail fault) }
     ensures setup { world_setup run.new.world ≡ world_setup run.old.world }
     ensures config { run.new.config ≡ run.old.config }
     ensures deciders { run.new.deciders ≡ run.old.deciders }

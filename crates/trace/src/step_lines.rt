@@ -11,14 +11,13 @@ ghost use Rattle.trace.specs.StepLines.{DoesLast, DoesNext, WritesSteps};
 
 use crate::refusal::refuse;
 use crate::run::{Run, do_line};
-use command_output::{CommandFault, Lines, StepRefusal};
+use command_output::{CommandFault, Lines, Sink, StepRefusal};
 use event_feed::FEED_LIMIT;
-use std::io::Write;
 use text_lines::{Input, LineReader, NextLine, Stop};
 
 /// Does the steps of all step lines, numbered from 1, and writes the lines of those that are refused. The answer
 /// says whether they were read to their end.
-pub(crate) fn do_steps<R: Input + Drop, W: Write>(
+pub(crate) fn do_steps<R: Input + Drop, W: Sink>(
     lines: &mut Lines,
     writer: &mut W,
     run: &mut Run<'_>,
@@ -30,7 +29,7 @@ pub(crate) fn do_steps<R: Input + Drop, W: Write>(
         WritesSteps R.can_fail run.old.config.now run.old.deciders (world_setup run.old.world)
         bytes all (run_state run.old) (run_state run.new)
         (W.contents writer.old) (W.contents writer.new) lines.old lines.new)) }
-    ensures fault { IfErr result (λ fault. IsWriteFault fault) }
+    ensures fault { IfErr result (λ fault. IsWriteFault W.can_fail fault) }
     ensures setup { world_setup run.new.world ≡ world_setup run.old.world }
     ensures config { run.new.config ≡ run.old.config }
     ensures deciders { run.new.deciders ≡ run.old.deciders }
@@ -46,7 +45,7 @@ pub(crate) fn do_steps<R: Input + Drop, W: Write>(
 
 /// Reads the next step line, of this number, and does its step or writes its refusal. Once no line is left, the answer
 /// says whether all were read.
-fn do_next_line<R: Input + Drop, W: Write>(
+fn do_next_line<R: Input + Drop, W: Sink>(
     lines: &mut Lines,
     writer: &mut W,
     run: &mut Run<'_>,
@@ -64,7 +63,7 @@ fn do_next_line<R: Input + Drop, W: Write>(
         (λ bytes. DoesLast R.can_fail run.old.config.now run.old.deciders
         (world_setup run.old.world) number bytes all (run_state run.old) (run_state run.new)
         (W.contents writer.old) (W.contents writer.new) lines.old lines.new))) }
-    ensures fault { IfErr result (λ fault. IsWriteFault fault) }
+    ensures fault { IfErr result (λ fault. IsWriteFault W.can_fail fault) }
     ensures setup { world_setup run.new.world ≡ world_setup run.old.world }
     ensures config { run.new.config ≡ run.old.config }
     ensures deciders { run.new.deciders ≡ run.old.deciders }

@@ -41,7 +41,7 @@ returns-clause-told g c = λ zone posted known before said h.
       t.0,
       record {
         taken = t.1;
-        told = subst (λ text. IsTold before (g.W.Write.contents c.tell_turn.new.writer) text c.tell_turn.new.self.lines c.tell_turn.new.self.fault)
+        told = subst (λ text. IsTold g.W.Sink.can_fail before (g.W.Write.contents c.tell_turn.new.writer) text c.tell_turn.new.self.lines c.tell_turn.new.self.fault)
             (turn_text c.args.config.now zone said t.0 c.refused-refused.result.now c.refused-2.result.now c.log-suppressed.result.now c.log.result.now refused log)
             (c.tell_turn.ensures before (told_after c.args.config.now zone [] said) h.told);
       },
