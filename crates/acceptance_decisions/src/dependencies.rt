@@ -14,6 +14,7 @@ use std::alloc::{AllocError, Global};
 use std::process::Abort;
 use std::test::Fail;
 use time_period::compile::compile_all;
+use zone_times::clock::ZoneClock;
 
 /// Every moment; none; and Thursday from 09:00 to 10:00.
 const ROWS: [Row; 3] = [
@@ -152,11 +153,12 @@ fn answers(
     assert!(rt; is_accepted(config));
     let periods = compile_all(alloc, config)?;
     let mut order = Order::new(alloc, config)?;
+    let zone = ZoneClock::new(&Zone::Utc);
     for case in cases {
         let (states, moment, object, wanted) = *case;
         assert_eq!(rt; states.len(), config.objects.len());
         let t = moment.min(LAST_MOMENT);
-        let found = order.fails(states, periods.as_slice(), &Zone::Utc, t, ObjectId(object));
+        let found = order.fails(states, periods.as_slice(), &zone, t, ObjectId(object));
         assert_eq!(rt; found, wanted, "object {object} at {moment}");
     }
     Ok(())

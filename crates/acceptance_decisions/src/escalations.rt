@@ -23,6 +23,7 @@ use std::process::Abort;
 use std::test::Fail;
 use time_period::compile::compile_all;
 use time_period::compiled::Compiled;
+use zone_times::clock::ZoneClock;
 
 const ANN: ContactId = ContactId(0);
 
@@ -291,7 +292,7 @@ fn is_as_told(
     if usize::from(object.0) >= config.objects.len() {
         panic!(rt; "no host {object:?}");
     }
-    let zone = Zone::Utc;
+    let zone = ZoneClock::new(&Zone::Utc);
     let seconds = matching_interval(config, by_object, object, number, letter, t, all, &zone);
     let mut told = Vec::new(alloc);
     contacts(

@@ -21,6 +21,7 @@ use std::alloc::Global;
 use std::process::Abort;
 use std::test::Fail;
 use time_period::compile::compile_all;
+use zone_times::clock::ZoneClock;
 
 /// When the notifications here are attempted.
 const MOMENT: u64 = 1_000;
@@ -254,7 +255,7 @@ fn each_adds(rt: &impl Abort, alloc: Global, config: &Config, rows: &[Row]) -> R
     assert!(rt; is_accepted(config) && has_object(config, ObjectId(0)));
     let by_object = ByObject::new(alloc, config)?;
     let all = compile_all(alloc, config)?;
-    let zone = Zone::Utc;
+    let zone = ZoneClock::new(&Zone::Utc);
     let rules = Rules {
         config,
         zone: &zone,

@@ -22,6 +22,7 @@ use std::process::Abort;
 use std::test::Fail;
 use time_period::compile::compile_all;
 use time_period::compiled::Compiled;
+use zone_times::clock::ZoneClock;
 
 /// A period that never holds, and Thursdays. 1970-01-01 was one.
 const PERIODS: [Row; 2] = [
@@ -553,7 +554,7 @@ fn is_last_within_limits(last: Option<Last>) -> bool
 
 /// Compares what stops one attempt.
 fn gives(rt: &impl Abort, periods: &[Compiled], case: Case) {
-    let zone = Zone::Utc;
+    let zone = ZoneClock::new(&Zone::Utc);
     let attempt = Attempt {
         moment: case.moment,
         kind: case.kind,
@@ -698,7 +699,7 @@ fn contact_gives(
     requires { AreCompiled config.now periods.now }
 {
     assert!(rt; place < config.contacts.len() && place < 100);
-    let zone = Zone::Utc;
+    let zone = ZoneClock::new(&Zone::Utc);
     for kind in &ALL {
         let attempt = Attempt {
             moment: MOMENT,

@@ -17,6 +17,7 @@ use std::process::Abort;
 use std::test::Fail;
 use time_period::compile::compile_all;
 use time_period::compiled::Compiled;
+use zone_times::clock::ZoneClock;
 use zone_times::given::zone_given;
 
 /// Tea, lunch without tea, a Thursday without lunch, and two ranges of one day.
@@ -303,9 +304,10 @@ fn goes_over(
     number: u16,
     period: &Compiled,
 ) -> Result<(), Fail> {
+    let zone = ZoneClock::new(&Zone::Utc);
     for step in 0..41u64 {
         let t = 43_000 + step * 100;
-        let case = (number, t, period.contains(&Zone::Utc, t));
+        let case = (number, t, period.contains(&zone, t));
         is_in(rt, alloc, config, &Zone::Utc, case)?;
     }
     Ok(())

@@ -11,6 +11,7 @@ use std::process::Abort;
 use std::test::Fail;
 use time_period::compile::compile_all;
 use time_period::compiled::Compiled;
+use zone_times::clock::ZoneClock;
 use zone_times::given::zone_given;
 
 /// Tea, lunch without tea, a Thursday without lunch; never; two hours of Sunday, and one of Monday; Thursday, work,
@@ -319,7 +320,7 @@ fn worked_out(alloc: Global, rows: &[Row]) -> Result<Vec<Compiled>, AllocError> 
 }
 
 /// Compares what one period gives from a moment on.
-fn gives(rt: &impl Abort, all: &[Compiled], zone: &Zone, case: Case) {
+fn gives(rt: &impl Abort, all: &[Compiled], zone: &ZoneClock<'_>, case: Case) {
     let (number, moment, next) = case;
     let t = moment.min(LAST_MOMENT);
     let found = match all.get(number) {
@@ -329,11 +330,15 @@ fn gives(rt: &impl Abort, all: &[Compiled], zone: &Zone, case: Case) {
     assert_eq!(rt; found, (next, next == Some(t)), "period {number} from {t}");
 }
 
-/// Compares what the periods of `ROWS` give in a zone.
+/// Compares what the periods of `ROWS` give in a zone, by a clock that remembers nothing and by one that is moved on.
 fn all_give(rt: &impl Abort, alloc: Global, zone: &Zone, cases: &[Case]) -> Result<(), Fail> {
     let all = worked_out(alloc, &ROWS)?;
+    let looking = ZoneClock::new(zone);
+    let mut clock = ZoneClock::new(zone);
     for case in cases {
-        gives(rt, all.as_slice(), zone, *case);
+        gives(rt, all.as_slice(), &looking, *case);
+        clock.move_to(case.1.min(LAST_MOMENT));
+        gives(rt, all.as_slice(), &clock, *case);
     }
     Ok(())
 }
@@ -353,7 +358,7 @@ fn given(
 }
 
 /// Goes back second by second over a moment at which a zone's clocks are changed.
-fn walk(rt: &impl Abort, period: &Compiled, zone: &Zone, change: u64) {
+fn walk(rt: &impl Abort, period: &Compiled, zone: &ZoneClock<'_>, change: u64) {
     let end = change.saturating_add(50).min(LAST_MOMENT);
     let mut wanted = period.next(zone, end);
     for back in 1..100u64 {
@@ -376,9 +381,11 @@ fn walks(
     let all = worked_out(alloc, &ROWS)?;
     match zone_given(alloc, rule, file) {
         Ok(zone) => {
+            let mut clock = ZoneClock::new(&zone);
             for change in changes {
+                clock.move_to((*change).min(LAST_MOMENT));
                 for period in all.as_slice() {
-                    walk(rt, period, &zone, *change);
+                    walk(rt, period, &clock, *change);
                 }
             }
         }
@@ -444,8 +451,9 @@ fn held(rows: &[Row], t: u64) -> u64 {
 
 /// Goes back in steps of ten minutes over a Thursday and a Friday.
 fn walk_rows(rt: &impl Abort, rows: &[Row], all: &[Compiled], number: usize) {
+    let zone = ZoneClock::new(&Zone::Utc);
     let mut wanted = match all.get(number) {
-        Some(period) => period.next(&Zone::Utc, 172_800),
+        Some(period) => period.next(&zone, 172_800),
         None => panic!(rt; "no period {number}"),
     };
     for back in 1..289u64 {
@@ -453,7 +461,7 @@ fn walk_rows(rt: &impl Abort, rows: &[Row], all: &[Compiled], number: usize) {
         if has_bit(held(rows, t), number) {
             wanted = Some(t);
         }
-        gives(rt, all, &Zone::Utc, (number, t, wanted));
+        gives(rt, all, &zone, (number, t, wanted));
     }
 }
 
@@ -514,8 +522,9 @@ fn each_weekday(rt: HostRuntime) -> Result<(), Fail> {
         })?;
     }
     let all = worked_out(rt.alloc(), rows.as_slice())?;
+    let zone = ZoneClock::new(&Zone::Utc);
     for case in &WEEKDAYS {
-        gives(&rt, all.as_slice(), &Zone::Utc, *case);
+        gives(&rt, all.as_slice(), &zone, *case);
     }
     Ok(())
 }
@@ -556,7 +565,8 @@ fn diamond(rt: HostRuntime) -> Result<(), Fail> {
         rows.push(row)?;
     }
     let all = worked_out(rt.alloc(), rows.as_slice())?;
-    gives(&rt, all.as_slice(), &Zone::Utc, (36, 5, Some(5)));
-    gives(&rt, all.as_slice(), &Zone::Utc, (39, 5, None));
+    let zone = ZoneClock::new(&Zone::Utc);
+    gives(&rt, all.as_slice(), &zone, (36, 5, Some(5)));
+    gives(&rt, all.as_slice(), &zone, (39, 5, None));
     Ok(())
 }

@@ -7,6 +7,7 @@ use Rattle.due_model.specs.declared.config.Range.{Range}
 use Rattle.due_model.specs.declared.event.Event.{Event}
 use Rattle.due_model.specs.declared.notice.Suppression.{Suppression}
 use Rattle.due_model.specs.declared.rules.ObjectStatus.{ObjectStatus}
+use Rattle.due_model.specs.declared.zone.Zone.{Zone}
 use Rattle.due_model.specs.Limits.{last_moment, max_events}
 use Rattle.due_model.specs.Proper.{IsProper}
 use Rattle.due_model.specs.Readings.{moment, switch_after}
@@ -90,11 +91,11 @@ module _ (k : Kept) (e : Event) (past : List Event) (fits : Fits k past) (proper
   pub has_room : (decided : List NewBook) → decided ≡ share_books k.config k.zone k.share e past → HasRoom k.index decided
   has_room decided is = subst (λ (xs : List NewBook). HasRoom k.index xs) (sym is) (room_for k.config k.zone k.share e past k.index fits.index.room)
 
--- what is read of a decider, with these periods and books and in this context
-abbrev pub values_with : Kept → List (List (List Range)) → EventContext → List BookValues → Values
-values_with k periods context books = record {
+-- what is read of a decider, with this zone, these periods and books and in this context
+abbrev pub values_with : Kept → Zone → List (List (List Range)) → EventContext → List BookValues → Values
+values_with k zone periods context books = record {
   config = k.config;
-  zone = k.zone;
+  zone = zone;
   share = k.share;
   tables = record { periods = periods; escalations = k.tables.escalations; dependencies = k.tables.dependencies };
   context = context;
@@ -104,12 +105,14 @@ values_with k periods context books = record {
 }
 
 -- those that it keeps
-pub at_with : (k : Kept) (e : Event) (past : List Event) (periods : List (List (List Range))) (context : EventContext) (books : List BookValues)
-    → periods ≡ k.tables.periods → context ≡ context_of k e → books ≡ k.books → IsAt (values_at k e) e past → IsAt (values_with k periods context books) e past
-at_with k e past periods context books same_periods same_context same_books is =
-    subst (λ (x : List (List (List Range))). IsAt (values_with k x context books) e past) (sym same_periods)
-    (subst (λ (x : EventContext). IsAt (values_with k k.tables.periods x books) e past) (sym same_context)
-    (subst (λ (x : List BookValues). IsAt (values_with k k.tables.periods (context_of k e) x) e past) (sym same_books) is))
+pub at_with : (k : Kept) (e : Event) (past : List Event) (zone : Zone) (periods : List (List (List Range))) (context : EventContext) (books : List BookValues)
+    → zone ≡ k.zone → periods ≡ k.tables.periods → context ≡ context_of k e → books ≡ k.books → IsAt (values_at k e) e past
+    → IsAt (values_with k zone periods context books) e past
+at_with k e past zone periods context books same_zone same_periods same_context same_books is =
+    subst (λ (x : Zone). IsAt (values_with k x periods context books) e past) (sym same_zone)
+    (subst (λ (x : List (List (List Range))). IsAt (values_with k k.zone x context books) e past) (sym same_periods)
+    (subst (λ (x : EventContext). IsAt (values_with k k.zone k.tables.periods x books) e past) (sym same_context)
+    (subst (λ (x : List BookValues). IsAt (values_with k k.zone k.tables.periods (context_of k e) x) e past) (sym same_books) is)))
 
 -- what a decider fits doesn't hang on its log
 pub fits_with_log : (k : Kept) (lines : List Suppression) (past : List Event) → Fits k past → Fits (record k { log = lines }) past

@@ -43,7 +43,7 @@ pub record Kept : Type 0 where
 abbrev pub core_kept : EventDecider → Kept
 core_kept d = record {
   config = d.config.now;
-  zone = d.zone.now;
+  zone = d.zone;
   share = d.share;
   tables = record {
     periods = d.periods.items;

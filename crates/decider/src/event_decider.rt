@@ -30,6 +30,7 @@ use std::mem::swap;
 use thiserror::Error;
 use time_period::compile::compile_all;
 use time_period::compiled::Compiled;
+use zone_times::clock::ZoneClock;
 
 /// Why an event isn't decided. Both change nothing.
 #[derive(Clone, Copy, Debug, PartialEq, Eq, Error)]
@@ -48,7 +49,8 @@ pub enum DecideFault {
 pub struct EventDecider<'a> {
     alloc: Global,
     config: &'a Config,
-    zone: &'a Zone,
+    /// The clock of the zone, which remembers its offset at the moment of the event under way.
+    zone: ZoneClock<'a>,
     share: Share,
     /// The periods of the configuration as they are worked out, in the order of their numbers.
     periods: Vec<Compiled>,
@@ -101,7 +103,7 @@ impl<'a> EventDecider<'a> {
         Ok(EventDecider {
             alloc,
             config,
-            zone,
+            zone: ZoneClock::new(zone),
             share,
             periods: compile_all(alloc, config)?,
             escalations: ByObject::new(alloc, config)?,
@@ -205,10 +207,11 @@ impl<'a> EventDecider<'a> {
             return Err(DecideFault::Ended);
         }
         let context = self.context(event);
+        self.zone.move_to(context.moment);
         let reading = Reading {
             rules: Rules {
                 config: self.config,
-                zone: self.zone,
+                zone: &self.zone,
                 periods: &self.periods,
                 escalations: &self.escalations,
             },

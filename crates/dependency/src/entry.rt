@@ -8,11 +8,16 @@ ghost use Rattle.dependency.specs.Entry.{HasPeriod};
 ghost use Rattle.time_period.specs.Days.{AreCompiled};
 
 use due_model::config::PeriodId;
-use due_model::zone::Zone;
 use time_period::compiled::{Compiled, is_in_period};
+use zone_times::clock::ZoneClock;
 
 /// Whether an entry of this period is valid at the moment: its period holds, or it has none.
-pub(crate) fn is_valid(period: Option<PeriodId>, periods: &[Compiled], zone: &Zone, t: u64) -> bool
+pub(crate) fn is_valid(
+    period: Option<PeriodId>,
+    periods: &[Compiled],
+    zone: &ZoneClock<'_>,
+    t: u64,
+) -> bool
     requires known { HasPeriod (length periods.now) period }
     requires moment { t ≤ last_moment }
     ensures { (c : Config) → AreCompiled c periods.now → result ≡ in_period c zone.now period t }

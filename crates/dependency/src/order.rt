@@ -12,11 +12,11 @@ ghost use Rattle.time_period.specs.Days.{AreCompiled};
 use crate::search::Search;
 use due_model::config::{Config, Dependency, ObjectId};
 use due_model::state::State;
-use due_model::zone::Zone;
 use graph::lists::{Lists, ListsBuilder};
 use std::alloc::{AllocError, Global};
 use std::marker::Model;
 use time_period::compiled::Compiled;
+use zone_times::clock::ZoneClock;
 
 /// The notification dependencies of a configuration, in an order in which each object's entries are found at once.
 /// It takes 14 bytes an object and the entries themselves. Contracts see the entries of each object and how many
@@ -67,7 +67,7 @@ impl Order {
         &mut self,
         states: &[State],
         periods: &[Compiled],
-        zone: &Zone,
+        zone: &ZoneClock<'_>,
         t: u64,
         object: ObjectId,
     ) -> bool

@@ -13,11 +13,11 @@ ghost use Rattle.time_period.specs.Days.{AreCompiled};
 use crate::entry::is_valid;
 use due_model::config::Dependency;
 use due_model::state::State;
-use due_model::zone::Zone;
 use graph::lists::Lists;
 use std::alloc::{AllocError, Global};
 use std::marker::Model;
 use time_period::compiled::Compiled;
+use zone_times::clock::ZoneClock;
 
 /// A search for objects that can be made again and again, in time of what it finds. It takes 6 bytes an object,
 /// all of them when it is made. Contracts see for how many objects it is and what it found.
@@ -67,7 +67,7 @@ impl Search {
         entries: &Lists<Dependency>,
         states: &[State],
         periods: &[Compiled],
-        zone: &Zone,
+        zone: &ZoneClock<'_>,
         t: u64,
         object: u16,
     ) -> bool
@@ -101,7 +101,7 @@ impl Search {
         entries: &[Dependency],
         states: &[State],
         periods: &[Compiled],
-        zone: &Zone,
+        zone: &ZoneClock<'_>,
         t: u64,
     ) -> bool
         requires fit { All (EntryFits self.old.nodes (length periods.now)) entries.now }
@@ -127,7 +127,7 @@ impl Search {
         entry: &Dependency,
         states: &[State],
         periods: &[Compiled],
-        zone: &Zone,
+        zone: &ZoneClock<'_>,
         t: u64,
     ) -> bool
         requires fits { EntryFits self.old.nodes (length periods.now) entry.now }

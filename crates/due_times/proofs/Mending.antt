@@ -1,7 +1,7 @@
 -- How the levels are mended, one after the other, once a place of the lowest was set.
-use Rattle.std.proofs.Common.{◌≡◌, ◌≢◌, ◌⊎◌, ℕ, ◌+◌, ◌-◌, ◌*◌, ◌/◌, ◌<◌, ◌≤◌, inl, inr, List, length, Option, refl, sym, ap, ◌∙◌, arith, length-set}
+use Rattle.std.proofs.Common.{◌≡◌, ◌≢◌, ◌⊎◌, ℕ, ◌+◌, ◌-◌, ◌*◌, ◌/◌, ◌<◌, ◌≤◌, inl, inr, List, length, Option, refl, sym, ap, subst, ◌∙◌, arith, length-set}
 use Rattle.std.specs.Prelude.{slice_set}
-use Rattle.std.proofs.lemmas.Bool.{cases_eq}
+use Rattle.std.proofs.lemmas.Bool.{cases_eq, cases_lt}
 use Rattle.std.proofs.lemmas.Grind.{common_steps}
 use Rattle.due_times.specs.Index.{Sets, at, earlier}
 use Rattle.due_times.specs.Levels.{ArePaired, IsAbove, level}
@@ -142,3 +142,45 @@ mended_whole old place0 moment0 number new p m paired was whole = record {
   above = λ k h. was.done k (omega (arith, h, was.count, whole));
   top = rw (was.count) (rw (was.sizes (length old - 1)) paired.top);
 }
+
+-- the moment that is to be put stands there already: with that all is mended
+module _ (old : List (List (Option ℕ))) (place0 : ℕ) (moment0 : Option ℕ) (number : ℕ) (new : List (List (Option ℕ))) (p : ℕ) (m : Option ℕ)
+    (paired : ArePaired old) (was : IsMendedUpTo old place0 moment0 number new p m) (more : number < length old)
+    (there : at (level new number) p ≡ m) where
+  pair_there : (k i : ℕ) → number ≡ k + 1 → (i ≡ p) ⊎ (i ≢ p) → at (level new number) i ≡ earlier (at (level new k) (2 * i)) (at (level new k) (2 * i + 1))
+  pair_there k i e (inl here) = rw here (there ∙ was.here k e)
+  pair_there k i e (inr other) = ap (λ xs. at xs i) (was.rest number (omega arith)) ∙ was.others k i e more other
+
+  above_there : (k : ℕ) → number ≡ k + 1 → IsAbove (level new k) (level new number)
+  above_there k e =
+      let before = paired.above k (omega (arith, e, more)) in
+      let size : length (level old (k + 1)) ≡ length (level new number) = ap (λ j. length (level old j)) (sym e) ∙ sym (was.sizes number) in
+      record {
+        enough = omega (arith, before.enough, was.sizes k, size);
+        few = omega (arith, before.few, was.sizes k, size);
+        pairs = λ i. pair_there k i e (cases_eq i p);
+      }
+
+  climbs_there : (k : ℕ) → k + 1 < length old → (k + 1 < number) ⊎ (number ≤ k + 1) → (k + 1 ≡ number) ⊎ (k + 1 ≢ number) → IsAbove (level new k) (level new (k + 1))
+  climbs_there k h (inl low) same = was.done k low
+  climbs_there k h (inr high) (inl e) = subst (λ (j : ℕ). IsAbove (level new k) (level new j)) (sym e) (above_there k (sym e))
+  climbs_there k h (inr high) (inr ne) = rw (was.rest k (omega (arith, high, ne)), was.rest (k + 1) (omega (arith, high))) (paired.above k h)
+
+  pub mended_there : ArePaired new
+  mended_there = record {
+    above = λ k h. climbs_there k (omega (arith, h, was.count)) (cases_lt (k + 1) number) (cases_eq (k + 1) number);
+    top = rw (was.count) (rw (was.sizes (length old - 1)) paired.top);
+  }
+
+  lowest_there : (number ≡ 0) ⊎ (number ≢ 0) → Sets (level old 0) (level new 0) place0 moment0
+  lowest_there (inl e) =
+      let begins = was.start e in
+      let low : level new 0 ≡ level old 0 = was.rest 0 (omega (arith, e)) in
+      record {
+        set = ap (at (level new 0)) (sym begins.0) ∙ ap (λ j. at (level new j) p) (sym e) ∙ there ∙ begins.1;
+        others = λ i ne. ap (λ xs. at xs i) low;
+      }
+  lowest_there (inr ne) = was.lowest (omega (arith, ne))
+
+  pub set_there : Sets (level old 0) (level new 0) place0 moment0
+  set_there = lowest_there (cases_eq number 0)

@@ -78,7 +78,7 @@ fn lengthened(
     Ok(longer)
 }
 
-/// Puts a moment at a place of the lowest level, and mends the levels above it.
+/// Puts a moment at a place of the lowest level, and mends the levels above it, up to one where nothing changes.
 fn set_in(levels: &mut Vec<Level>, place: usize, moment: Option<u64>)
     requires paired { ArePaired levels.old.items }
     requires place { place < length (leaves levels.old.items) }
@@ -89,6 +89,9 @@ fn set_in(levels: &mut Vec<Level>, place: usize, moment: Option<u64>)
     let mut spot = place;
     let mut value = moment;
     for number in 0..levels.len() {
+        if is_same(levels[number].at(spot), value) {
+            return;
+        }
         let level = &mut levels[number];
         level.set(spot, value);
         spot /= 2;
@@ -121,6 +124,17 @@ fn first_moment(levels: &[Level]) -> Option<u64>
     match levels {
         [] => None,
         [.., top] => top.at(0),
+    }
+}
+
+/// Whether two moments are the same, or neither is there.
+fn is_same(a: Option<u64>, b: Option<u64>) -> bool
+    ensures { IsTrue result ↔ (a ≡ b) }
+{
+    match (a, b) {
+        (None, None) => true,
+        (Some(a), Some(b)) => a == b,
+        _ => false,
     }
 }
 

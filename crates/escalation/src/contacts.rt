@@ -16,9 +16,9 @@ use crate::in_order::append_in_order;
 use crate::matching::applies;
 use due_model::config::{Config, ContactId, ObjectId};
 use due_model::options::OptionLetter;
-use due_model::zone::Zone;
 use std::alloc::{AllocError, Global};
 use time_period::compiled::Compiled;
+use zone_times::clock::ZoneClock;
 
 /// Appends who is notified of a problem, or of a recovery from it: the contacts of the escalations that match, and
 /// the object's own where none does, each once and in number order. The number is that of the problem notice; of
@@ -32,7 +32,7 @@ pub fn contacts(
     letter: OptionLetter,
     t: u64,
     periods: &[Compiled],
-    zone: &Zone,
+    zone: &ZoneClock<'_>,
     out: &mut Vec<ContactId>,
 ) -> Result<(), AllocError>
     requires accepted { IsAccepted config.now }
@@ -86,7 +86,7 @@ fn name_applying(
     letter: OptionLetter,
     t: u64,
     periods: &[Compiled],
-    zone: &Zone,
+    zone: &ZoneClock<'_>,
     named: &mut Vec<ContactId>,
 ) -> Result<bool, AllocError>
     requires accepted { IsAccepted config.now }

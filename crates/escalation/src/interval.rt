@@ -15,8 +15,8 @@ use crate::by_object::ByObject;
 use crate::matching::applies;
 use due_model::config::{Config, ObjectId};
 use due_model::options::OptionLetter;
-use due_model::zone::Zone;
 use time_period::compiled::Compiled;
+use zone_times::clock::ZoneClock;
 
 /// How long after the n-th problem notice of an object, which goes out at `t` about a state of this letter, the
 /// next of the same state is due, in seconds: 0 to 60,000,000, and 0 is never. It is the least interval of the
@@ -29,7 +29,7 @@ pub fn matching_interval(
     letter: OptionLetter,
     t: u64,
     periods: &[Compiled],
-    zone: &Zone,
+    zone: &ZoneClock<'_>,
 ) -> u64
     requires accepted { IsAccepted config.now }
     requires grouped { IsByObject config.now by_object.now }
@@ -54,7 +54,7 @@ fn least_interval(
     letter: OptionLetter,
     t: u64,
     periods: &[Compiled],
-    zone: &Zone,
+    zone: &ZoneClock<'_>,
 ) -> Option<u32>
     requires accepted { IsAccepted config.now }
     requires within { All (λ place. place < length config.now.escalations) places.now }

@@ -8,8 +8,8 @@ ghost use Rattle.escalation.specs.Matching.{applies};
 
 use due_model::config::Escalation;
 use due_model::options::OptionLetter;
-use due_model::zone::Zone;
 use time_period::compiled::{Compiled, is_in_period};
+use zone_times::clock::ZoneClock;
 
 /// Whether an escalation applies to the n-th notification of a problem of its object: the number is one of
 /// its numbers, the letter one of its options, and the moment in its period.
@@ -19,7 +19,7 @@ pub(crate) fn applies(
     letter: OptionLetter,
     t: u64,
     periods: &[Compiled],
-    zone: &Zone,
+    zone: &ZoneClock<'_>,
 ) -> bool
     requires moment { t ≤ last_moment }
     ensures { (c : Config) → AreCompiled c periods.now

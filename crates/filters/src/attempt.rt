@@ -11,11 +11,11 @@ use due_model::config::PeriodId;
 use due_model::notice::Kind;
 use due_model::options::{OptionLetter, OptionLetters};
 use due_model::state::State;
-use due_model::zone::Zone;
 use time_period::compiled::{Compiled, is_in_period};
+use zone_times::clock::ZoneClock;
 
 /// A notification that is attempted, with all that filters read besides the object's view. Definitions speak of
-/// `due_model`'s plain attempt: the kind, the state and the moment. It borrows the zone and the periods.
+/// `due_model`'s plain attempt: the kind, the state and the moment. It borrows the clock and the periods.
 #[derive(Clone, Copy)]
 pub struct Attempt<'a> {
     /// In seconds since the epoch: 0 to 32,503,679,999.
@@ -27,8 +27,8 @@ pub struct Attempt<'a> {
     pub letter: OptionLetter,
     /// Whether it is about a service.
     pub service: bool,
-    /// The time zone in which periods are read.
-    pub zone: &'a Zone,
+    /// The clock of the time zone in which periods are read.
+    pub zone: &'a ZoneClock<'a>,
     /// The periods of the configuration as they are worked out, in the order of their numbers.
     pub periods: &'a [Compiled],
 }

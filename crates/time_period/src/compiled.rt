@@ -12,11 +12,9 @@ use crate::day::stretch_in;
 use crate::stretch::Stretch;
 use due_model::config::{PeriodId, Range};
 use due_model::sequence::Sequence;
-use due_model::zone::Zone;
 use std::alloc::Global;
 use std::marker::Model;
-use zone_times::local::local_time;
-use zone_times::steady::clock_until;
+use zone_times::clock::ZoneClock;
 
 /// How far `next` looks, in seconds: 400 days.
 pub const REACH: u64 = 34_560_000;
@@ -68,17 +66,17 @@ impl Compiled {
     }
 
     /// Whether a moment, in seconds since the epoch, is in the period (chapter "Time Periods"). It takes no memory.
-    pub fn contains(&self, zone: &Zone, t: u64) -> bool
+    pub fn contains(&self, zone: &ZoneClock<'_>, t: u64) -> bool
         requires { t ≤ last_moment }
         ensures { (c : Config) (period : PeriodId) → IsCompiled c period self.now
             → result ≡ in_period c zone.now (Some period) t }
     {
-        let local = local_time(zone, t);
+        let local = zone.local_time(t);
         self.stretch(local.weekday, local.second).holds
     }
 
     /// The least moment of the period at or after `t`, at most 400 days on. It takes no memory.
-    pub fn next(&self, zone: &Zone, t: u64) -> Option<u64>
+    pub fn next(&self, zone: &ZoneClock<'_>, t: u64) -> Option<u64>
         requires { t ≤ last_moment }
         ensures { (c : Config) (period : PeriodId) → IsCompiled c period self.now
             → result ≡ next_in c zone.now (Some period) t }
@@ -96,21 +94,26 @@ impl Compiled {
     }
 
     /// Whether the period holds at a moment, and a moment up to which that stays.
-    fn stays(&self, zone: &Zone, t: u64) -> (bool, u64)
+    fn stays(&self, zone: &ZoneClock<'_>, t: u64) -> (bool, u64)
         requires { t < 2 ^ 35 }
         ensures { Stays (passes self.now zone.now) t result.0 result.1 }
     {
-        let local = local_time(zone, t);
+        let local = zone.local_time(t);
         let stretch = self.stretch(local.weekday, local.second);
         let left = u64::from(stretch.end - local.second);
-        (stretch.holds, clock_until(zone, t).min(t + left))
+        (stretch.holds, zone.goes_on_until(t).min(t + left))
     }
 }
 
 /// Whether a moment, in seconds since the epoch, is in a period (chapter "Time Periods"). No period is always; one whose
 /// number isn't among those worked out never holds. The periods are the configuration's, in the order of their numbers.
 /// It takes no memory.
-pub fn is_in_period(periods: &[Compiled], period: Option<PeriodId>, zone: &Zone, t: u64) -> bool
+pub fn is_in_period(
+    periods: &[Compiled],
+    period: Option<PeriodId>,
+    zone: &ZoneClock<'_>,
+    t: u64,
+) -> bool
     requires { t ≤ last_moment }
     ensures { (c : Config) → AreCompiled c periods.now → result ≡ in_period c zone.now period t }
 {

@@ -1,7 +1,7 @@
--- A clock that goes on, on the same day.
-use Rattle.std.specs.Prelude.{◌≡◌, ℕ, ◌+◌, ◌-◌, ◌<◌, ◌≤◌}
+-- A clock that goes on, on the same day; and what it remembers of the zone's offset.
+use Rattle.std.specs.Prelude.{◌≡◌, ℕ, ◌+◌, ◌-◌, ◌<◌, ◌≤◌, ℤ, unsigned_abs}
 use Rattle.due_model.specs.declared.zone.Zone.{Zone}
-use Rattle.due_model.specs.Local.{Local, local}
+use Rattle.due_model.specs.Local.{Local, local, offset}
 
 -- so many seconds later on the same day
 abbrev pub later : Local → ℕ → Local
@@ -10,3 +10,8 @@ later time seconds = record { weekday = time.weekday; second = time.second + sec
 -- from t on and before `end` the zone's clock goes on second by second, on the day that it shows at t
 abbrev pub GoesOn : Zone → (t end : ℕ) → Type 0
 GoesOn zone t end = (k : ℕ) → t ≤ k → k < end → local zone k ≡ later (local zone t) (k - t)
+
+-- from one moment on and before another the zone's offset is this one, a small one
+pub record Remembers (zone : Zone) (from until : ℕ) (kept : ℤ) : Type 0 where
+  pub same : (k : ℕ) → from ≤ k → k < until → offset zone k ≡ kept
+  pub small : unsigned_abs kept < 93600

@@ -2,6 +2,7 @@
 //! that is known of zones here is what `jiff` says of them. Nothing but the reading of a zone file takes memory.
 #![tactic(auto)]
 
+pub mod clock;
 pub mod given;
 pub mod local;
-pub mod steady;
+mod steady;

@@ -30,7 +30,7 @@ pub fn local_time(zone: &Zone, t: u64) -> LocalTime
 }
 
 /// How far the zone's clock is ahead of UTC, in seconds.
-fn offset_at(zone: &Zone, t: u64) -> i32
+pub(crate) fn offset_at(zone: &Zone, t: u64) -> i32
     requires { t < 2 ^ 35 }
     ensures value { result ≡ offset zone.now t }
     ensures small { unsigned_abs result < 93600 }
@@ -54,7 +54,7 @@ pub(crate) fn instant(t: u64) -> Timestamp
 }
 
 /// What the clock shows that many seconds after its own midnight of 1970-01-01, a Thursday.
-fn clock_at(second: i64) -> LocalTime
+pub(crate) fn clock_at(second: i64) -> LocalTime
     requires { unsigned_abs second < 2 ^ 36 }
     ensures weekday { result.weekday
         ≡ unsigned_abs (int_rem_euclid (int_div_euclid second (pos day) +ℤ pos 4) (pos 7)) }

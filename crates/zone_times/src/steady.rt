@@ -1,11 +1,10 @@
-//! How long a zone's clock just goes on, from a moment: on the same day and with the same offset.
+//! How long a zone's offset stays as it is, from a moment.
 
 ghost use Rattle.std.specs.Prelude.{◌≡◌, ℕ, ◌^◌, ◌<◌, ◌≤◌, ◌<ℤ◌, pos, option_map};
 ghost use Rattle.due_model.specs.Local.{offset};
 ghost use Rattle.zone_times.specs.Changes.{SameYear, next_change};
-ghost use Rattle.zone_times.specs.Clock.{GoesOn};
 
-use crate::local::{instant, local_time};
+use crate::local::instant;
 use due_model::limits::DAY;
 use due_model::zone::Zone;
 use jiff::Timestamp;
@@ -15,20 +14,9 @@ use jiff_core::civil::Date;
 /// No moment that is asked about is later: 2^36.
 const HORIZON: u64 = 68_719_476_736;
 
-/// A second up to which the zone's clock goes on second by second, on the day that it shows at `t`. At the second
-/// itself another day may begin, or the offset may change.
-pub fn clock_until(zone: &Zone, t: u64) -> u64
-    requires { t < 2 ^ 35 }
-    ensures later { t < result }
-    ensures goes_on { GoesOn zone.now t result }
-{
-    let left = DAY - local_time(zone, t).second;
-    offset_until(zone, t).min(t + u64::from(left))
-}
-
 /// A second up to which the zone's offset stays as it is at `t`; at the second itself it may be another. A rule's
 /// offset may change at the end of a year of UTC without a change that `jiff` tells.
-fn offset_until(zone: &Zone, t: u64) -> u64
+pub(crate) fn offset_until(zone: &Zone, t: u64) -> u64
     requires { t < 2 ^ 35 }
     ensures later { t < result }
     ensures steady { (k : ℕ) → t ≤ k → k < result → offset zone.now k ≡ offset zone.now t }

@@ -1,5 +1,6 @@
 use Rattle.std.proofs.Common.{[], length, refl, ap, sym, subst, ◌∙◌, arith}
 use Rattle.std.proofs.lemmas.List.Elements.{All-nil}
+use Rattle.due_model.specs.declared.zone.Zone.{Zone}
 use Rattle.due_model.specs.Proper.{IsProper}
 use Rattle.decider.specs.Statuses.{StatusLists, StatusesFit, no_statuses}
 use Rattle.decider.proofs.BookLaws.{new_fit}
@@ -21,9 +22,9 @@ returns-clause-decided c =
         moment = refl;
         program = refl;
         statuses = subst (λ (s : StatusLists). StatusesFit (length config.objects) [] s) (sym (c.in_ok-new-3.ensures ∙ ap no_statuses c.len-count.ensures)) (none_fit (length config.objects));
-        index = new_index_fits config c.args.zone.now c.args.share c.in_ok-new_index.field-0 c.len-count.result c.len-count.ensures c.in_ok-new_index.ensures.room c.in_ok-new_index.ensures.entries c.in_ok-new_index.ensures.examined;
-        books = new_fit config c.args.zone.now c.args.share c.in_ok-new_books.field-0.items c.len-count.result c.in_ok-new_books.ensures c.len-count.ensures;
+        index = new_index_fits config c.new.result c.args.share c.in_ok-new_index.field-0 c.len-count.result c.len-count.ensures c.in_ok-new_index.ensures.room c.in_ok-new_index.ensures.entries c.in_ok-new_index.ensures.examined;
+        books = new_fit config c.new.result c.args.share c.in_ok-new_books.field-0.items c.len-count.result c.in_ok-new_books.ensures c.len-count.ensures;
       };
-      settings = refl;
+      settings = ap (λ (zone : Zone). (config, zone, c.args.share)) c.new.ensures;
       log = refl;
     }

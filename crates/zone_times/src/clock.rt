@@ -1,0 +1,108 @@
+//! A zone's clock that remembers the zone's offset, so that what is asked about one moment costs one look at the zone.
+
+ghost use Rattle.std.specs.Prelude.{◌≡◌, ℕ, ◌^◌, ◌<◌, ◌≤◌, unsigned_abs};
+ghost use Rattle.due_model.specs.Local.{local, offset};
+ghost use Rattle.zone_times.specs.Clock.{GoesOn};
+
+use crate::local::{LocalTime, clock_at, offset_at};
+use crate::steady::offset_until;
+use due_model::limits::DAY;
+use due_model::zone::Zone;
+use std::marker::Model;
+
+/// The clock of a zone. It remembers the zone's offset over some moments, and looks at the zone for all others.
+/// Contracts see the zone alone: what it remembers changes no answer.
+#[derive(Drop)]
+pub struct ZoneClock<'a> {
+    zone: &'a Zone,
+    /// It remembers the offset from this moment on, in seconds since the epoch ..
+    from: u64,
+    /// .. and before this one.
+    until: u64,
+    /// How far the zone's clock is ahead of UTC then, in seconds.
+    offset: i32,
+}
+
+impl<'a> Model for ZoneClock<'a> {
+    ghost use Rattle.due_model.specs.declared.zone.Zone.{Zone};
+    ghost use Rattle.zone_times.specs.Clock.{Remembers};
+
+    ghost Value = { Zone };
+
+    ghost view = { λ s. s.zone.now };
+
+    ghost invariant = { λ s. Remembers s.zone.now s.from s.until s.offset };
+}
+
+impl<'a> ZoneClock<'a> {
+    /// The clock of a zone, which remembers nothing yet.
+    pub fn new(zone: &'a Zone) -> ZoneClock<'a>
+        ensures { result ≡ zone.now }
+    {
+        ZoneClock {
+            zone,
+            from: 0,
+            until: 0,
+            offset: 0,
+        }
+    }
+
+    /// Remembers the zone's offset at a moment, and for as long as it is known to stay. Where the moment is among those that it
+    /// remembers there is nothing to do.
+    pub fn move_to(&mut self, t: u64)
+        requires { t < 2 ^ 35 }
+        ensures { self.new ≡ self.old }
+    {
+        if t < self.from || self.until <= t {
+            self.offset = offset_at(self.zone, t);
+            self.until = offset_until(self.zone, t);
+            self.from = t;
+        }
+    }
+
+    /// Local time at a moment, in seconds since the epoch (chapter "Time Periods").
+    pub fn local_time(&self, t: u64) -> LocalTime
+        requires { t < 2 ^ 35 }
+        ensures weekday { result.weekday ≡ (local self.now t).weekday }
+        ensures second { result.second ≡ (local self.now t).second }
+    {
+        clock_at(t as i64 + i64::from(self.offset_at(t)))
+    }
+
+    /// A second up to which the clock goes on second by second, on the day that it shows at `t`. At the second itself
+    /// another day may begin, or the offset may change.
+    pub fn goes_on_until(&self, t: u64) -> u64
+        requires { t < 2 ^ 35 }
+        ensures later { t < result }
+        ensures goes_on { GoesOn self.now t result }
+    {
+        let left = DAY - self.local_time(t).second;
+        self.offset_until(t).min(t + u64::from(left))
+    }
+
+    /// How far the clock is ahead of UTC, in seconds.
+    fn offset_at(&self, t: u64) -> i32
+        requires { t < 2 ^ 35 }
+        ensures value { result ≡ offset self.now t }
+        ensures small { unsigned_abs result < 93600 }
+    {
+        if self.from <= t && t < self.until {
+            self.offset
+        } else {
+            offset_at(self.zone, t)
+        }
+    }
+
+    /// A second up to which the offset stays as it is at `t`; at the second itself it may be another.
+    fn offset_until(&self, t: u64) -> u64
+        requires { t < 2 ^ 35 }
+        ensures later { t < result }
+        ensures steady { (k : ℕ) → t ≤ k → k < result → offset self.now k ≡ offset self.now t }
+    {
+        if self.from <= t && t < self.until {
+            self.until
+        } else {
+            offset_until(self.zone, t)
+        }
+    }
+}
