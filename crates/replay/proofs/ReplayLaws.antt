@@ -62,28 +62,28 @@ report_of_input can_fail c c' zone zone' known start reading feed r old new begi
     report_by can_fail c zone known reading r old new (subst (λ (k : Option (List ℕ)). GivesObjects c k (to_come reading)) (begins ∙ nothing_held known) of)
     (subst (λ (t : Config × Zone × Feed). IfOk r (λ ending. WritesReport can_fail t.0 t.1 t.2 ending old new)) (same_all c c' zone zone' feed (feed_of reading 0 0 None) e f is) h)
 
-fails_as : {w : Bool} (can_fail : Bool) (c : Config) (zone : Zone) (bytes : List ℕ) (reading : Reading) (fault : CommandFault) (old new : Option (List ℕ))
-    → GivesObjects c (Some bytes) (to_come reading) → WritesReportFront can_fail c zone (feed_of reading 0 0 None) old new → IsWriteFault w fault → FailsWith can_fail bytes zone fault old new
-fails_as can_fail c zone bytes reading (Objects fault) old new of h w = absurd w
-fails_as can_fail c zone bytes reading Unreadable old new of h w = absurd w
-fails_as can_fail c zone bytes reading Output old new of h w =
+fails_as : (sink : Bool) (can_fail : Bool) (c : Config) (zone : Zone) (bytes : List ℕ) (reading : Reading) (fault : CommandFault) (old new : Option (List ℕ))
+    → GivesObjects c (Some bytes) (to_come reading) → WritesReportFront can_fail c zone (feed_of reading 0 0 None) old new → IsWriteFault sink fault → FailsWith can_fail bytes zone fault old new
+fails_as sink can_fail c zone bytes reading (Objects fault) old new of h w = absurd w
+fails_as sink can_fail c zone bytes reading Unreadable old new of h w = absurd w
+fails_as sink can_fail c zone bytes reading Output old new of h w =
     let both = given_of can_fail c bytes (to_come reading) h.0 of h.1 in (c, h.0, both.0, both.1, h.2)
-fails_as can_fail c zone bytes reading NoMemory old new of h w =
+fails_as sink can_fail c zone bytes reading NoMemory old new of h w =
     let both = given_of can_fail c bytes (to_come reading) h.0 of h.1 in inr (c, h.0, both.0, both.1, h.2)
 
-fault_by : {w : Bool} (can_fail : Bool) (c : Config) (zone : Zone) (known : Option (List ℕ)) (reading : Reading) (r : Result Ending CommandFault) (old new : Option (List ℕ))
-    → GivesObjects c known (to_come reading) → WritesReportFront can_fail c zone (feed_of reading 0 0 None) old new → IfErr r (λ fault. IsWriteFault w fault)
+fault_by : (sink : Bool) (can_fail : Bool) (c : Config) (zone : Zone) (known : Option (List ℕ)) (reading : Reading) (r : Result Ending CommandFault) (old new : Option (List ℕ))
+    → GivesObjects c known (to_come reading) → WritesReportFront can_fail c zone (feed_of reading 0 0 None) old new → IfErr r (λ fault. IsWriteFault sink fault)
     → IfSome known (λ bytes. IfErr r (λ fault. FailsWith can_fail bytes zone fault old new))
-fault_by can_fail c zone None reading r old new of h w = tt
-fault_by can_fail c zone (Some bytes) reading (Ok ending) old new of h w = tt
-fault_by can_fail c zone (Some bytes) reading (Err fault) old new of h w = fails_as can_fail c zone bytes reading fault old new of h w
+fault_by sink can_fail c zone None reading r old new of h w = tt
+fault_by sink can_fail c zone (Some bytes) reading (Ok ending) old new of h w = tt
+fault_by sink can_fail c zone (Some bytes) reading (Err fault) old new of h w = fails_as sink can_fail c zone bytes reading fault old new of h w
 
-pub fault_of_input : {w : Bool} (can_fail : Bool) (c c' : Config) (zone zone' : Zone) (known : Option (List ℕ)) (start reading : Reading) (feed : Feed) (r : Result Ending CommandFault) (old new : Option (List ℕ))
+pub fault_of_input : (sink : Bool) (can_fail : Bool) (c c' : Config) (zone zone' : Zone) (known : Option (List ℕ)) (start reading : Reading) (feed : Feed) (r : Result Ending CommandFault) (old new : Option (List ℕ))
     → to_come start ≡ prepend_known [] known → feed ≡ feed_of reading 0 0 None → GivesObjects c (to_come start) (to_come reading)
-    → c' ≡ c → zone' ≡ zone → WritesReportFront can_fail c' zone' feed old new → IfErr r (λ fault. IsWriteFault w fault)
+    → c' ≡ c → zone' ≡ zone → WritesReportFront can_fail c' zone' feed old new → IfErr r (λ fault. IsWriteFault sink fault)
     → IfSome known (λ bytes. IfErr r (λ fault. FailsWith can_fail bytes zone fault old new))
-fault_of_input can_fail c c' zone zone' known start reading feed r old new begins is of e f h w =
-    fault_by can_fail c zone known reading r old new (subst (λ (k : Option (List ℕ)). GivesObjects c k (to_come reading)) (begins ∙ nothing_held known) of)
+fault_of_input sink can_fail c c' zone zone' known start reading feed r old new begins is of e f h w =
+    fault_by sink can_fail c zone known reading r old new (subst (λ (k : Option (List ℕ)). GivesObjects c k (to_come reading)) (begins ∙ nothing_held known) of)
     (subst (λ (t : Config × Zone × Feed). WritesReportFront can_fail t.0 t.1 t.2 old new) (same_all c c' zone zone' feed (feed_of reading 0 0 None) e f is) h) w
 
 -- the object text gives no configuration, and nothing was written
@@ -133,25 +133,25 @@ module _ (can_fail : Bool) (c c' : Config) (zone zone' : Zone) (texts known : Op
           IfOk-weaker r (λ ending. WritesReport can_fail c zone (feed_of reading 0 0 None) ending old new) (λ ending. ReportsOf can_fail text bytes zone ending old new)
           (λ ending all. (c, all.0, of, given_by can_fail c reading all.0 bytes come all.1, all.2, all.3)) written
 
-  pub fault_of_files : {w : Bool} (text_can_fail : Bool) → WritesReportFront can_fail c' zone' feed old new → IfErr r (λ fault. IsWriteFault w fault)
+  pub fault_of_files : (sink : Bool) (text_can_fail : Bool) → WritesReportFront can_fail c' zone' feed old new → IfErr r (λ fault. IsWriteFault sink fault)
       → IfSome texts (λ text. IfSome known (λ bytes. IfErr r (λ fault. FailsOf text_can_fail can_fail text bytes zone fault old new)))
-  fault_of_files text_can_fail h w = by texts known r of come w
+  fault_of_files sink text_can_fail h w = by sink texts known r of come w
     where
       front : WritesReportFront can_fail c zone (feed_of reading 0 0 None) old new
       front = subst (λ (t : Config × Zone × Feed). WritesReportFront can_fail t.0 t.1 t.2 old new) (same_all c c' zone zone' feed (feed_of reading 0 0 None) e f is) h
 
-      each : {w : Bool} (text bytes : List ℕ) (fault : CommandFault) → IsTextOf c text → to_come reading ≡ Some bytes → IsWriteFault w fault → FailsOf text_can_fail can_fail text bytes zone fault old new
-      each text bytes (Objects fault) of come w = absurd w
-      each text bytes Unreadable of come w = absurd w
-      each text bytes Output of come w = (c, front.0, of, given_by can_fail c reading front.0 bytes come front.1, front.2)
-      each text bytes NoMemory of come w = inr (c, front.0, of, given_by can_fail c reading front.0 bytes come front.1, front.2)
+      each : (sink : Bool) (text bytes : List ℕ) (fault : CommandFault) → IsTextOf c text → to_come reading ≡ Some bytes → IsWriteFault sink fault → FailsOf text_can_fail can_fail text bytes zone fault old new
+      each sink text bytes (Objects fault) of come w = absurd w
+      each sink text bytes Unreadable of come w = absurd w
+      each sink text bytes Output of come w = (c, front.0, of, given_by can_fail c reading front.0 bytes come front.1, front.2)
+      each sink text bytes NoMemory of come w = inr (c, front.0, of, given_by can_fail c reading front.0 bytes come front.1, front.2)
 
-      by : {w : Bool} (texts known : Option (List ℕ)) (r : Result Ending CommandFault) → IsFileOf c texts → to_come reading ≡ known → IfErr r (λ fault. IsWriteFault w fault)
+      by : (sink : Bool) (texts known : Option (List ℕ)) (r : Result Ending CommandFault) → IsFileOf c texts → to_come reading ≡ known → IfErr r (λ fault. IsWriteFault sink fault)
           → IfSome texts (λ text. IfSome known (λ bytes. IfErr r (λ fault. FailsOf text_can_fail can_fail text bytes zone fault old new)))
-      by None known r of come w = tt
-      by (Some text) None r of come w = tt
-      by (Some text) (Some bytes) (Ok ending) of come w = tt
-      by (Some text) (Some bytes) (Err fault) of come w = each text bytes fault of come w
+      by sink None known r of come w = tt
+      by sink (Some text) None r of come w = tt
+      by sink (Some text) (Some bytes) (Ok ending) of come w = tt
+      by sink (Some text) (Some bytes) (Err fault) of come w = each sink text bytes fault of come w
 
 -- the object text gives no configuration, and nothing was written
 file_by : (text_can_fail can_fail : Bool) (zone : Zone) (text bytes : List ℕ) (fault : CommandFault) (held : Option (List ℕ)) → FileFails text_can_fail fault (Some text)

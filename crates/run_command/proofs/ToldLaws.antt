@@ -31,42 +31,42 @@ use Rattle.run_command.specs.Told.{HasTold, IsTold}
 -- ---- more is told
 
 -- after a fault nothing is written
-pub told_no_more : {w : Bool} (before now : Option (List ℕ)) (text part held : List ℕ) (was : Option CommandFault) → is_some was ≡ true → IsTold w before now text held was → IsTold w before now (text ++ part) held was
-told_no_more before now text part held None e h = absurd (cc)
-told_no_more before now text part held (Some fault) e h = (front_longer before now text part h.0, h.1)
+pub told_no_more : (sink : Bool) (before now : Option (List ℕ)) (text part held : List ℕ) (was : Option CommandFault) → is_some was ≡ true → IsTold sink before now text held was → IsTold sink before now (text ++ part) held was
+told_no_more sink before now text part held None e h = absurd (cc)
+told_no_more sink before now text part held (Some fault) e h = (front_longer before now text part h.0, h.1)
 
 -- the part was written, or a front of it
-by_result : {w : Bool} (before old new : Option (List ℕ)) (text held part held' : List ℕ) (done : Result Unit CommandFault) → OnOk done (Leaves old new (held ++ part) held')
-    → WritesFront old new (held ++ part) → IfErr done (λ fault. IsWriteFault w fault) → Leaves before old text held → IsTold w before new (text ++ part) held' (result_err done)
-by_result before old new text held part held' (Ok x) ok front fault h = leaves_on before old new text held part held' h ok
-by_result before old new text held part held' (Err e) ok front fault h = (front_on before old new text held part h front, fault)
+by_result : (sink : Bool) (before old new : Option (List ℕ)) (text held part held' : List ℕ) (done : Result Unit CommandFault) → OnOk done (Leaves old new (held ++ part) held')
+    → WritesFront old new (held ++ part) → IfErr done (λ fault. IsWriteFault sink fault) → Leaves before old text held → IsTold sink before new (text ++ part) held' (result_err done)
+by_result sink before old new text held part held' (Ok x) ok front fault h = leaves_on before old new text held part held' h ok
+by_result sink before old new text held part held' (Err e) ok front fault h = (front_on before old new text held part h front, fault)
 
-of_none : {w : Bool} (before old new : Option (List ℕ)) (text held part held' : List ℕ) (was : Option CommandFault) (done : Result Unit CommandFault) → is_some was ≡ false
-    → OnOk done (Leaves old new (held ++ part) held') → WritesFront old new (held ++ part) → IfErr done (λ fault. IsWriteFault w fault)
-    → IsTold w before old text held was → IsTold w before new (text ++ part) held' (result_err done)
-of_none before old new text held part held' None done e ok front fault h = by_result before old new text held part held' done ok front fault h
-of_none before old new text held part held' (Some f) done e ok front fault h = absurd (cc)
+of_none : (sink : Bool) (before old new : Option (List ℕ)) (text held part held' : List ℕ) (was : Option CommandFault) (done : Result Unit CommandFault) → is_some was ≡ false
+    → OnOk done (Leaves old new (held ++ part) held') → WritesFront old new (held ++ part) → IfErr done (λ fault. IsWriteFault sink fault)
+    → IsTold sink before old text held was → IsTold sink before new (text ++ part) held' (result_err done)
+of_none sink before old new text held part held' None done e ok front fault h = by_result sink before old new text held part held' done ok front fault h
+of_none sink before old new text held part held' (Some f) done e ok front fault h = absurd (cc)
 
-pub told_on : {w : Bool} (before old new : Option (List ℕ)) (text held part held' : List ℕ) (was now : Option CommandFault) (done : Result Unit CommandFault) → is_some was ≡ false → now ≡ result_err done
-    → OnOk done (Leaves old new (held ++ part) held') → WritesFront old new (held ++ part) → IfErr done (λ fault. IsWriteFault w fault)
-    → IsTold w before old text held was → IsTold w before new (text ++ part) held' now
-told_on {w} before old new text held part held' was now done e is ok front fault h =
-    subst (λ (f : Option CommandFault). IsTold w before new (text ++ part) held' f) (sym is) (of_none before old new text held part held' was done e ok front fault h)
+pub told_on : (sink : Bool) (before old new : Option (List ℕ)) (text held part held' : List ℕ) (was now : Option CommandFault) (done : Result Unit CommandFault) → is_some was ≡ false → now ≡ result_err done
+    → OnOk done (Leaves old new (held ++ part) held') → WritesFront old new (held ++ part) → IfErr done (λ fault. IsWriteFault sink fault)
+    → IsTold sink before old text held was → IsTold sink before new (text ++ part) held' now
+told_on sink before old new text held part held' was now done e is ok front fault h =
+    subst (λ (f : Option CommandFault). IsTold sink before new (text ++ part) held' f) (sym is) (of_none sink before old new text held part held' was done e ok front fault h)
 
 -- nothing was told of nothing
-pub told_nothing : {w : Bool} (known : Option (List ℕ)) (held : List ℕ) (was : Option CommandFault) → held ≡ [] → was ≡ None → IsTold w known known [] held was
-told_nothing {w} known held was none no_fault =
-    subst (λ (f : Option CommandFault). IsTold w known known [] held f) (sym no_fault) (subst (λ (xs : List ℕ). Leaves known known [] xs) (sym none) (leaves_all known []))
+pub told_nothing : (sink : Bool) (known : Option (List ℕ)) (held : List ℕ) (was : Option CommandFault) → held ≡ [] → was ≡ None → IsTold sink known known [] held was
+told_nothing sink known held was none no_fault =
+    subst (λ (f : Option CommandFault). IsTold sink known known [] held f) (sym no_fault) (subst (λ (xs : List ℕ). Leaves known known [] xs) (sym none) (leaves_all known []))
 
 -- all was told
-pub record HasFinished (w : Bool) (before now : Option (List ℕ)) (text : List ℕ) (fault : Option CommandFault) : Type 0 where
+pub record HasFinished (sink : Bool) (before now : Option (List ℕ)) (text : List ℕ) (fault : Option CommandFault) : Type 0 where
   pub whole : IfNone fault (Writes before now text)
   pub front : WritesFront before now text
-  pub kind : IfSome fault (λ f. IsWriteFault w f)
+  pub kind : IfSome fault (λ f. IsWriteFault sink f)
 
-pub finished_by : {w : Bool} (before now : Option (List ℕ)) (text : List ℕ) (fault : Option CommandFault) → IsTold w before now text [] fault → HasFinished w before now text fault
-finished_by before now text None h = record { whole = subst (λ (xs : List ℕ). Writes before now xs) (sym (append-nil h.0) ∙ h.2) h.1; front = ([], h); kind = tt }
-finished_by before now text (Some f) h = record { whole = tt; front = h.0; kind = h.1 }
+pub finished_by : (sink : Bool) (before now : Option (List ℕ)) (text : List ℕ) (fault : Option CommandFault) → IsTold sink before now text [] fault → HasFinished sink before now text fault
+finished_by sink before now text None h = record { whole = subst (λ (xs : List ℕ). Writes before now xs) (sym (append-nil h.0) ∙ h.2) h.1; front = ([], h); kind = tt }
+finished_by sink before now text (Some f) h = record { whole = tt; front = h.0; kind = h.1 }
 
 -- ---- the lines of a feed, one after another
 
@@ -177,32 +177,32 @@ turn_text c zone said last refused refused' log log' of_refused of_log =
 -- ---- a turn
 
 -- nothing was taken yet, and nothing told
-pub told_begun : {w : Bool} (can_fail : Bool) (c : Config) (zone : Zone) (posted : ℕ → Bool) (known before : Option (List ℕ)) (read : Result Turn AllocError) (run : RunValue)
+pub told_begun : (sink : Bool) (can_fail : Bool) (c : Config) (zone : Zone) (posted : ℕ → Bool) (known before : Option (List ℕ)) (read : Result Turn AllocError) (run : RunValue)
     (held : List ℕ) (fault : Option CommandFault) → HasTaken can_fail c zone posted known [] read run → held ≡ [] → fault ≡ None
-    → HasTold can_fail w c zone posted known before [] read run before held fault
-told_begun can_fail c zone posted known before read run held fault taken none no_fault = record { taken = taken; told = told_nothing before held fault none no_fault }
+    → HasTold can_fail sink c zone posted known before [] read run before held fault
+told_begun sink can_fail c zone posted known before read run held fault taken none no_fault = record { taken = taken; told = told_nothing sink before held fault none no_fault }
 
 module _ (can_fail : Bool) (c : Config) (zone : Zone) (posted : ℕ → Bool) (known before : Option (List ℕ)) (said : List Answer) (run : RunValue)
     (now : Option (List ℕ)) (held : List ℕ) (fault : Option CommandFault) where
   -- it was this one
-  pub turn_is : {w : Bool} (made is : Result Turn AllocError) → made ≡ is
-      → (last : Option Answer) × HasTold can_fail w c zone posted known before (with_one said last) made run now held fault
-      → (all : List Answer) × HasTold can_fail w c zone posted known before all is run now held fault
-  turn_is {w} made is e h = (with_one said h.0, subst (λ (t : Result Turn AllocError). HasTold can_fail w c zone posted known before (with_one said h.0) t run now held fault) e h.1)
+  pub turn_is : {sink : Bool} (made is : Result Turn AllocError) → made ≡ is
+      → (last : Option Answer) × HasTold can_fail sink c zone posted known before (with_one said last) made run now held fault
+      → (all : List Answer) × HasTold can_fail sink c zone posted known before all is run now held fault
+  turn_is {sink} made is e h = (with_one said h.0, subst (λ (t : Result Turn AllocError). HasTold can_fail sink c zone posted known before (with_one said h.0) t run now held fault) e h.1)
 
 -- ---- when it is over
 
 -- the lanes were told too
-pub lanes_told : {w : Bool} (c : Config) (zone : Zone) (before now : Option (List ℕ)) (said : List Answer) (lanes lanes' : List LaneParts) (held : List ℕ) (fault : Option CommandFault) → lanes ≡ lanes'
-    → IsTold w before now (told_after c zone [] said ++ lanes_text c lanes) held fault → IsTold w before now (report_text c zone said lanes') held fault
-lanes_told {w} c zone before now said lanes lanes' held fault is h = subst (λ (ls : List LaneParts). IsTold w before now (told_after c zone [] said ++ lanes_text c ls) held fault) is h
+pub lanes_told : (sink : Bool) (c : Config) (zone : Zone) (before now : Option (List ℕ)) (said : List Answer) (lanes lanes' : List LaneParts) (held : List ℕ) (fault : Option CommandFault) → lanes ≡ lanes'
+    → IsTold sink before now (told_after c zone [] said ++ lanes_text c lanes) held fault → IsTold sink before now (report_text c zone said lanes') held fault
+lanes_told sink c zone before now said lanes lanes' held fault is h = subst (λ (ls : List LaneParts). IsTold sink before now (told_after c zone [] said ++ lanes_text c ls) held fault) is h
 
 of_no_fault : {P : Type 0} (fault : Option CommandFault) → fault ≡ None → IfNone fault P → P
 of_no_fault None is h = h
 of_no_fault (Some f) is h = absurd (cc)
 
-of_fault : {w : Bool} (fault : Option CommandFault) (found : CommandFault) → fault ≡ Some found → IfSome fault (λ f. IsWriteFault w f) → IsWriteFault w found
-of_fault {w} fault found is h = subst (λ (f : Option CommandFault). IfSome f (λ x. IsWriteFault w x)) is h
+of_fault : (sink : Bool) (fault : Option CommandFault) (found : CommandFault) → fault ≡ Some found → IfSome fault (λ f. IsWriteFault sink f) → IsWriteFault sink found
+of_fault sink fault found is h = subst (λ (f : Option CommandFault). IfSome f (λ x. IsWriteFault sink x)) is h
 
 -- the answer of a run that was told
 pub whole_told : (can_fail : Bool) (c : Config) (zone : Zone) (posted : ℕ → Bool) (known before now : Option (List ℕ)) (said : List Answer) (end : RunEnd)
@@ -216,8 +216,8 @@ whole_told can_fail c zone posted known before now said end fault (Ok ending) ok
 whole_told can_fail c zone posted known before now said end fault (Err e) ok ends whole = tt
 
 -- what it failed with is a fault of the writing
-pub fault_told : {w : Bool} (fault : Option CommandFault) (result : Result Ending CommandFault) → IfErr result (λ found. (found ≡ command.NoMemory) ⊎ (fault ≡ Some found)) → IfSome fault (λ f. IsWriteFault w f)
-    → IfErr result (λ f. IsWriteFault w f)
-fault_told fault (Ok ending) found kind = tt
-fault_told {w} fault (Err e) (inl memory) kind = subst (λ (f : CommandFault). IsWriteFault w f) (sym memory) tt
-fault_told fault (Err e) (inr is) kind = of_fault fault e is kind
+pub fault_told : (sink : Bool) (fault : Option CommandFault) (result : Result Ending CommandFault) → IfErr result (λ found. (found ≡ command.NoMemory) ⊎ (fault ≡ Some found)) → IfSome fault (λ f. IsWriteFault sink f)
+    → IfErr result (λ f. IsWriteFault sink f)
+fault_told sink fault (Ok ending) found kind = tt
+fault_told sink fault (Err e) (inl memory) kind = subst (λ (f : CommandFault). IsWriteFault sink f) (sym memory) tt
+fault_told sink fault (Err e) (inr is) kind = of_fault sink fault e is kind

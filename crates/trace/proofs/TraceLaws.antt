@@ -48,23 +48,23 @@ accepted : (can_fail : Bool) (c : Config) (bytes : List ℕ) (rest : Option (Lis
 accepted can_fail c bytes None of = absurd of
 accepted can_fail c bytes (Some rest) of = of.0
 
-fails_as : {w : Bool} (can_fail : Bool) (c : Config) (bytes : List ℕ) (rest : Option (List ℕ)) (fault : CommandFault) (old new : Option (List ℕ)) → GivesObjects c (Some bytes) rest → IsWriteFault w fault → FailsWith can_fail bytes fault old new
-fails_as can_fail c bytes rest (Objects fault) old new of w = absurd w
-fails_as can_fail c bytes rest Unreadable old new of w = absurd w
-fails_as can_fail c bytes rest Output old new of w = (c, accepted can_fail c bytes rest of)
-fails_as can_fail c bytes rest NoMemory old new of w = inr (c, accepted can_fail c bytes rest of)
+fails_as : (sink : Bool) (can_fail : Bool) (c : Config) (bytes : List ℕ) (rest : Option (List ℕ)) (fault : CommandFault) (old new : Option (List ℕ)) → GivesObjects c (Some bytes) rest → IsWriteFault sink fault → FailsWith can_fail bytes fault old new
+fails_as sink can_fail c bytes rest (Objects fault) old new of w = absurd w
+fails_as sink can_fail c bytes rest Unreadable old new of w = absurd w
+fails_as sink can_fail c bytes rest Output old new of w = (c, accepted can_fail c bytes rest of)
+fails_as sink can_fail c bytes rest NoMemory old new of w = inr (c, accepted can_fail c bytes rest of)
 
-fault_by : {w : Bool} (can_fail : Bool) (c : Config) (known rest : Option (List ℕ)) (r : Result Ending CommandFault) (old new : Option (List ℕ)) → GivesObjects c known rest
-    → IfErr r (λ fault. IsWriteFault w fault) → IfSome known (λ bytes. IfErr r (λ fault. FailsWith can_fail bytes fault old new))
-fault_by can_fail c None rest r old new of w = tt
-fault_by can_fail c (Some bytes) rest (Ok ending) old new of w = tt
-fault_by can_fail c (Some bytes) rest (Err fault) old new of w = fails_as can_fail c bytes rest fault old new of w
+fault_by : (sink : Bool) (can_fail : Bool) (c : Config) (known rest : Option (List ℕ)) (r : Result Ending CommandFault) (old new : Option (List ℕ)) → GivesObjects c known rest
+    → IfErr r (λ fault. IsWriteFault sink fault) → IfSome known (λ bytes. IfErr r (λ fault. FailsWith can_fail bytes fault old new))
+fault_by sink can_fail c None rest r old new of w = tt
+fault_by sink can_fail c (Some bytes) rest (Ok ending) old new of w = tt
+fault_by sink can_fail c (Some bytes) rest (Err fault) old new of w = fails_as sink can_fail c bytes rest fault old new of w
 
-pub fault_of_input : {w : Bool} (can_fail : Bool) (c : Config) (known rest : Option (List ℕ)) (start : Reading) (r : Result Ending CommandFault) (old new : Option (List ℕ))
+pub fault_of_input : (sink : Bool) (can_fail : Bool) (c : Config) (known rest : Option (List ℕ)) (start : Reading) (r : Result Ending CommandFault) (old new : Option (List ℕ))
     → to_come start ≡ prepend_known [] known → GivesObjects c (to_come start) rest
-    → IfErr r (λ fault. IsWriteFault w fault) → IfSome known (λ bytes. IfErr r (λ fault. FailsWith can_fail bytes fault old new))
-fault_of_input can_fail c known rest start r old new begins of w =
-    fault_by can_fail c known rest r old new (subst (λ (k : Option (List ℕ)). GivesObjects c k rest) (begins ∙ nothing_held known) of) w
+    → IfErr r (λ fault. IsWriteFault sink fault) → IfSome known (λ bytes. IfErr r (λ fault. FailsWith can_fail bytes fault old new))
+fault_of_input sink can_fail c known rest start r old new begins of w =
+    fault_by sink can_fail c known rest r old new (subst (λ (k : Option (List ℕ)). GivesObjects c k rest) (begins ∙ nothing_held known) of) w
 
 -- the object text gives no configuration, and nothing was written
 objects_by : (can_fail : Bool) (bytes : List ℕ) (fault : CommandFault) (known : Option (List ℕ)) → ObjectsFail can_fail fault (Some bytes) → FailsWith can_fail bytes fault known known

@@ -35,4 +35,4 @@ returns-clause-fault g c =
     fault_of_files g.R.Input.can_fail c.in_ok-config.config c.in_ok-report.report.config.now c.args.zone.now c.in_ok-report.report.zone.now (g.O.Read.remaining c.args.objects) (g.R.Read.remaining c.args.feed)
     c.in_ok-lines.lines c.in_ok-report.report.feeder c.write.result _ _
     (ap (λ (r : Reading). to_come r) c.in_ok-lines.ensures) c.in_ok-report.ensures.feed c.in_ok-config.ensures.config c.in_ok-report.ensures.config c.in_ok-report.ensures.zone
-    g.O.Input.can_fail c.write.ensures.front c.write.ensures.fault
+    g.W.Sink.can_fail g.O.Input.can_fail c.write.ensures.front c.write.ensures.fault

@@ -32,7 +32,7 @@ returns-clause-report g c =
 
 pub returns-clause-fault : goal.returns-clause-fault
 returns-clause-fault g c =
-    fault_of_input g.R.Input.can_fail c.in_ok-config.config c.in_ok-report.report.config.now c.args.zone.now c.in_ok-report.report.zone.now (g.R.Read.remaining c.args.reader) c.in_ok-lines.lines
+    fault_of_input g.W.Sink.can_fail g.R.Input.can_fail c.in_ok-config.config c.in_ok-report.report.config.now c.args.zone.now c.in_ok-report.report.zone.now (g.R.Read.remaining c.args.reader) c.in_ok-lines.lines
     c.read_objects.new.lines c.in_ok-report.report.feeder c.write.result _ _
     (ap (λ (r : Reading). to_come r) c.in_ok-lines.ensures) c.in_ok-report.ensures.feed c.in_ok-config.ensures.config c.in_ok-report.ensures.config c.in_ok-report.ensures.zone
     c.write.ensures.front c.write.ensures.fault

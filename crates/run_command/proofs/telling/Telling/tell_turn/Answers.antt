@@ -5,11 +5,11 @@ use Rattle.run_command.proofs.telling.Telling.tell_turn.Goals as goal
 
 pub returns-then-is_none : goal.returns-then-is_none
 returns-then-is_none g c = λ before text h.
-    told_on before (g.W.Write.contents c.args.writer.now) (g.W.Write.contents c.write_turn.new.writer) text c.args.self.now.lines
+    told_on g.W.Sink.can_fail before (g.W.Write.contents c.args.writer.now) (g.W.Write.contents c.write_turn.new.writer) text c.args.self.now.lines
     (refused_text c.args.refused.now ++ log_text c.args.config.now c.args.log.now) c.write_turn.new.lines c.args.self.now.fault c.err-self.result c.write_turn.result
     c.if-is_none.ensures c.err-self.ensures.value c.write_turn.ensures.ok c.write_turn.ensures.front c.write_turn.ensures.fault h
 
 pub returns-else-is_none : goal.returns-else-is_none
 returns-else-is_none g c = λ before text h.
-    told_no_more before (g.W.Write.contents c.args.writer.now) text (refused_text c.args.refused.now ++ log_text c.args.config.now c.args.log.now)
+    told_no_more g.W.Sink.can_fail before (g.W.Write.contents c.args.writer.now) text (refused_text c.args.refused.now ++ log_text c.args.config.now c.args.log.now)
     c.args.self.now.lines c.args.self.now.fault c.if-is_none.ensures h
