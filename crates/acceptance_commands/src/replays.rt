@@ -1,8 +1,10 @@
 //! Replays of the worked examples, over readers and writers in memory.
 
+ghost use Rattle.std.specs.Prelude.{IsErrOf};
+
 use acceptance_inputs::readers;
 use acceptance_inputs::texts::input;
-use command_output::{CommandFault, Ending};
+use command_output::{CommandFault, Ending, Sink};
 use object_reader::fault::LineFault;
 use object_resolve::{BlockFault, LoadFault};
 use replay::replay;
@@ -11,7 +13,7 @@ use std::cell::Cell;
 use std::io::{self, Read, Write};
 use std::process::Abort;
 use std::test::Fail;
-use text_lines::AnyReader;
+use text_lines::{AnyReader, Input};
 
 /// Replays what a reader gives, and compares how it ends.
 fn ends<R: Read + Drop>(
@@ -172,6 +174,14 @@ impl Write for Stubborn {
     }
 }
 
+impl Sink for Stubborn {
+    ghost can_fail = { true };
+
+    fn write_some(&mut self, bytes: &[u8]) -> io::Result<usize> {
+        self.write(bytes)
+    }
+}
+
 /// Replays a text in pieces of several sizes.
 fn gives_in_pieces(rt: &impl Abort, alloc: Global, text: &[u8], report: &str) {
     for most in [1, 2, 3, 7, 4096] {
@@ -258,14 +268,33 @@ struct Counting<'a> {
 
 impl Write for Counting<'_> {
     fn write(&mut self, buf: &[u8]) -> io::Result<usize> {
-        self.written
-            .set(self.written.get().saturating_add(buf.len()));
-        Ok(buf.len())
+        self.write_some(buf)
     }
 
     fn flush(&mut self) -> io::Result<()> {
         Ok(())
     }
+}
+
+impl Sink for Counting<'_> {
+    ghost can_fail = { false };
+
+    fn write_some(&mut self, bytes: &[u8]) -> io::Result<usize> {
+        self.written
+            .set(self.written.get().saturating_add(bytes.len()));
+        Ok(bytes.len())
+    }
+}
+
+/// Replays into a writer that counts: it can't fail, so that the output isn't what a replay fails with.
+fn count_report<R: Input + Drop>(
+    alloc: Global,
+    reader: R,
+    writer: &mut Counting<'_>,
+) -> Result<Ending, CommandFault>
+    ensures { ¬ IsErrOf result CommandFault.Output }
+{
+    replay(alloc, reader, writer)
 }
 
 /// What an event said is written before the reader is called for more.
@@ -278,7 +307,7 @@ fn writes_at_once(rt: &impl Abort, alloc: Global, text: &[u8]) {
         noted: &noted,
     };
     let mut writer = Counting { written: &written };
-    let ended = replay(alloc, AnyReader::new(reader), &mut writer);
+    let ended = count_report(alloc, AnyReader::new(reader), &mut writer);
     assert_eq!(rt;
         (ended, noted.get(), written.get()),
         (Ok(Ending::Whole), 74, 74)

@@ -5,7 +5,7 @@ use acceptance_inputs::accepted::is_accepted;
 use acceptance_inputs::configs::base;
 use channel::Channel;
 use channel::memory::MemoryChannel;
-use command_output::{CommandFault, Ending};
+use command_output::{CommandFault, Ending, Sink};
 use due_model::config::{Config, LaneId};
 use due_model::zone::Zone;
 use engine::{Post, Settings};
@@ -13,7 +13,7 @@ use progress::{Progress, Unwatched, Watcher};
 use run_command::run;
 use std::alloc::{AllocError, Global};
 use std::cell::Cell;
-use std::io::{Read, Write};
+use std::io::Read;
 use std::process::Abort;
 use std::test::Fail;
 use text_lines::AnyReader;
@@ -26,7 +26,7 @@ type Ended = Result<Ending, CommandFault>;
 
 /// How a run of a feed ends, where a letter is tried twice at most. The one lane has a channel in memory, which fails at the
 /// calls that are listed, or none.
-fn ends<R: Read + Drop, W: Write>(
+fn ends<R: Read + Drop, W: Sink>(
     rt: &impl Abort,
     alloc: Global,
     config: &Config,
@@ -38,7 +38,7 @@ fn ends<R: Read + Drop, W: Write>(
 }
 
 /// The same, where somebody watches.
-fn ends_watched<R: Read + Drop, W: Write, P: Watcher>(
+fn ends_watched<R: Read + Drop, W: Sink, P: Watcher>(
     rt: &impl Abort,
     alloc: Global,
     config: &Config,

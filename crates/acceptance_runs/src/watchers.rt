@@ -1,5 +1,6 @@
 //! Readers, writers and watchers that note what was asked of them.
 
+use command_output::Sink;
 use progress::{Progress, Watcher};
 use std::cell::Cell;
 use std::io::{self, ErrorKind, Read, Write};
@@ -37,13 +38,21 @@ pub(crate) struct Counting<'a> {
 
 impl Write for Counting<'_> {
     fn write(&mut self, buf: &[u8]) -> io::Result<usize> {
-        self.written
-            .set(self.written.get().saturating_add(buf.len()));
-        Ok(buf.len())
+        self.write_some(buf)
     }
 
     fn flush(&mut self) -> io::Result<()> {
         Ok(())
+    }
+}
+
+impl Sink for Counting<'_> {
+    ghost can_fail = { false };
+
+    fn write_some(&mut self, bytes: &[u8]) -> io::Result<usize> {
+        self.written
+            .set(self.written.get().saturating_add(bytes.len()));
+        Ok(bytes.len())
     }
 }
 
@@ -67,6 +76,14 @@ impl Write for Stubborn {
 
     fn flush(&mut self) -> io::Result<()> {
         Ok(())
+    }
+}
+
+impl Sink for Stubborn {
+    ghost can_fail = { true };
+
+    fn write_some(&mut self, bytes: &[u8]) -> io::Result<usize> {
+        self.write(bytes)
     }
 }
 

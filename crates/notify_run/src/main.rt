@@ -16,7 +16,7 @@ mod zone;
 
 use clap::error::ErrorKind;
 use command_line::{Request, command, request_of};
-use command_output::{CommandFault, Ending, exit_status};
+use command_output::{AnyWriter, CommandFault, Ending, exit_status};
 use due_model::zone::Zone;
 use progress::{ProgressLine, Watcher};
 use replay::{replay_files, replay_in};
@@ -97,7 +97,7 @@ fn replay_through<P: Watcher>(
 ) -> Result<Ending, CommandFault> {
     let alloc = rt.alloc();
     let input = AnyReader::new(rt.stdin());
-    let mut writer = rt.stdout();
+    let mut writer = AnyWriter::new(rt.stdout());
     let Some(path) = objects else {
         return replay_in(alloc, zone, input, &mut writer, watcher);
     };
@@ -111,7 +111,8 @@ fn replay_through<P: Watcher>(
 /// Does a trace.
 fn do_trace(rt: &HostRuntime, zone: &Zone, settings: Settings) -> Result<Ending, CommandFault> {
     let input = AnyReader::new(rt.stdin());
-    trace_in(rt.alloc(), zone, settings, input, &mut rt.stdout())
+    let mut writer = AnyWriter::new(rt.stdout());
+    trace_in(rt.alloc(), zone, settings, input, &mut writer)
 }
 
 /// Says on standard error what a run failed with, if it did, and gives its exit status.

@@ -10,7 +10,7 @@ use crate::run_fault::RunFault;
 use channel::Channel;
 use channel_words::{lanes_of, read_words};
 use command_input::read_object_file;
-use command_output::{CommandFault, Ending};
+use command_output::{AnyWriter, CommandFault, Ending};
 use due_model::config::{Config, LaneId};
 use due_model::zone::Zone;
 use engine::Post;
@@ -86,6 +86,7 @@ fn run_through<'a>(
         })?;
     }
     let feed = AnyReader::new(rt.stdin());
+    let mut writer = AnyWriter::new(rt.stdout());
     let mut line = ProgressLine::new(rt, rt.stderr().is_terminal());
     let outcome = run(
         alloc,
@@ -94,7 +95,7 @@ fn run_through<'a>(
         settings,
         posts,
         feed,
-        &mut rt.stdout(),
+        &mut writer,
         &mut line,
     );
     line.finish();
