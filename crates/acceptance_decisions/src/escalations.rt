@@ -281,6 +281,7 @@ fn is_as_told(
     config: &Config,
     by_object: &ByObject,
     all: &[Compiled],
+    zone: &ZoneClock<'_>,
     case: Case,
 ) -> Result<(), Fail>
     requires accepted { IsAccepted config.now }
@@ -292,11 +293,10 @@ fn is_as_told(
     if usize::from(object.0) >= config.objects.len() {
         panic!(rt; "no host {object:?}");
     }
-    let zone = ZoneClock::new(&Zone::Utc);
-    let seconds = matching_interval(config, by_object, object, number, letter, t, all, &zone);
+    let seconds = matching_interval(config, by_object, object, number, letter, t, all, zone);
     let mut told = Vec::new(alloc);
     contacts(
-        alloc, config, by_object, object, number, letter, t, all, &zone, &mut told,
+        alloc, config, by_object, object, number, letter, t, all, zone, &mut told,
     )?;
     assert_eq!(rt;
         (seconds, told.as_slice()),
@@ -314,8 +314,9 @@ fn are_as_told(rt: &impl Abort, alloc: Global, cases: &[Case]) -> Result<(), Fai
     }
     let by_object = ByObject::new(alloc, &config)?;
     let all = compile_all(alloc, &config)?;
+    let zone = ZoneClock::new(&Zone::Utc);
     for case in cases {
-        is_as_told(rt, alloc, &config, &by_object, all.as_slice(), *case)?;
+        is_as_told(rt, alloc, &config, &by_object, all.as_slice(), &zone, *case)?;
     }
     Ok(())
 }

@@ -1,6 +1,6 @@
 -- The statuses after an event are the definitions'.
 use Rattle.std.proofs.Common.{◌≡◌, ◌≢◌, ℕ, zero, suc, ◌<◌, ◌≤◌, Bool, true, false, cond, ◌==◌, List, [], ◌∷◌, length, set, get_or, replicate, Option, Some, None, refl, sym, ap, subst, ◌∙◌, arith, inl, inr, get_or-set_same, get_or-set_other, length-set}
-use Rattle.std.proofs.lemmas.Bool.{cases_eq, ne_eqb}
+use Rattle.std.proofs.lemmas.Bool.{cases_eq, eq-eqb, ne_eqb}
 use Rattle.std.proofs.lemmas.List.{length-replicate, set-set, set-get_or}
 use Rattle.std.proofs.lemmas.Option.{same_Some, slice_get_within}
 use Rattle.due_model.specs.declared.config.Config.{Config}
@@ -16,7 +16,7 @@ use Rattle.due_model.specs.declared.state.State.TheVariants.{Pending}
 use Rattle.due_model.specs.Histories.{status_after}
 use Rattle.due_model.specs.Proper.{IsProper, KindIsProper}
 use Rattle.due_model.specs.Readings.{depth, depth_after, depth_changed}
-use Rattle.decider.specs.Statuses.{StatusLists, StatusesFit, named_by, no_statuses, status_at, status_by, statuses_after, with_state, with_status}
+use Rattle.decider.specs.Statuses.{StatusLists, StatusesFit, named_by, no_statuses, status_at, status_by, statuses_after, with_depth, with_flapping, with_state, with_status}
 
 -- ---- one status of a list
 
@@ -96,6 +96,31 @@ module _ (c : Config) (e : Event) (past : List Event) (s : StatusLists) (fit : S
 
   pub statuses_fit : StatusesFit (length c.objects) (e ∷ past) (statuses_after e.kind s)
   statuses_fit = counted (named_by e.kind) refl
+
+-- an event changes one thing of the object that it names
+abbrev lists_of : List State → List ℕ → List Bool → StatusLists
+lists_of states depths flaps = record { states = states; depths = depths; flaps = flaps }
+
+itself : (o : ℕ) → (o == o) ≡ true
+itself o = eq-eqb o o refl
+
+pub hard_counted : (s : StatusLists) (p : ObjectId) (state : State) → with_state s p.0 state ≡ statuses_after (event.Hard p state) s
+hard_counted s p state = sym (
+    ap (λ (b : Bool). lists_of (set s.states p.0 (cond b state (get_or s.states p.0 Pending))) (set s.depths p.0 (get_or s.depths p.0 0)) (set s.flaps p.0 (get_or s.flaps p.0 false))) (itself p.0)
+    ∙ ap (λ (xs : List ℕ). lists_of (set s.states p.0 state) xs (set s.flaps p.0 (get_or s.flaps p.0 false))) (set-get_or s.depths p.0 0)
+    ∙ ap (λ (xs : List Bool). lists_of (set s.states p.0 state) s.depths xs) (set-get_or s.flaps p.0 false))
+
+pub depth_counted : (s : StatusLists) (p : ObjectId) (change : DowntimeChange) → with_depth s p.0 (depth_changed change (get_or s.depths p.0 0)) ≡ statuses_after (event.Downtime p change) s
+depth_counted s p change = let d = get_or s.depths p.0 0 in sym (
+    ap (λ (b : Bool). lists_of (set s.states p.0 (get_or s.states p.0 Pending)) (set s.depths p.0 (cond b (depth_changed change d) d)) (set s.flaps p.0 (get_or s.flaps p.0 false))) (itself p.0)
+    ∙ ap (λ (xs : List State). lists_of xs (set s.depths p.0 (depth_changed change d)) (set s.flaps p.0 (get_or s.flaps p.0 false))) (set-get_or s.states p.0 Pending)
+    ∙ ap (λ (xs : List Bool). lists_of s.states (set s.depths p.0 (depth_changed change d)) xs) (set-get_or s.flaps p.0 false))
+
+pub flapping_counted : (s : StatusLists) (p : ObjectId) (starts : Bool) → with_flapping s p.0 starts ≡ statuses_after (event.Flapping p starts) s
+flapping_counted s p starts = sym (
+    ap (λ (b : Bool). lists_of (set s.states p.0 (get_or s.states p.0 Pending)) (set s.depths p.0 (get_or s.depths p.0 0)) (set s.flaps p.0 (cond b starts (get_or s.flaps p.0 false)))) (itself p.0)
+    ∙ ap (λ (xs : List State). lists_of xs (set s.depths p.0 (get_or s.depths p.0 0)) (set s.flaps p.0 starts)) (set-get_or s.states p.0 Pending)
+    ∙ ap (λ (xs : List ℕ). lists_of s.states xs (set s.flaps p.0 starts)) (set-get_or s.depths p.0 0))
 
 -- ---- how many downtimes can run
 

@@ -44,6 +44,14 @@ with_status s o status = record {
 abbrev pub with_state : StatusLists → (o : ℕ) → State → StatusLists
 with_state s o state = record s { states = slice_set s.states o state }
 
+-- with so many downtimes of object o that run
+abbrev pub with_depth : StatusLists → (o depth : ℕ) → StatusLists
+with_depth s o depth = record s { depths = slice_set s.depths o depth }
+
+-- with object o flapping, or not
+abbrev pub with_flapping : StatusLists → (o : ℕ) → Bool → StatusLists
+with_flapping s o flapping = record s { flaps = slice_set s.flaps o flapping }
+
 -- the status of object o after an event that says this, which was so before it
 abbrev pub status_by : (o : ℕ) → EventKind → ObjectStatus → ObjectStatus
 status_by o k old = record {

@@ -3,12 +3,12 @@
 ghost use Rattle.std.specs.Prelude.{◌≡◌, ◌+◌, ◌^◌, ◌<◌};
 ghost use Rattle.std.specs.Prelude.{length, IfOk, IfSome, slice_index_or};
 ghost use Rattle.due_model.specs.declared.state.State.TheVariants.{Pending};
-ghost use Rattle.due_model.specs.Readings.{depth_after, flapping_after};
+ghost use Rattle.due_model.specs.Readings.{depth_after, depth_changed, flapping_after};
 ghost use Rattle.decider.specs.Statuses.{hard_by, named_by, no_statuses, status_at, status_by};
-ghost use Rattle.decider.specs.Statuses.{statuses_after, with_state, with_status};
+ghost use Rattle.decider.specs.Statuses.{statuses_after, with_depth, with_flapping, with_state};
 
 use due_model::config::ObjectId;
-use due_model::event::EventKind;
+use due_model::event::{DowntimeChange, EventKind};
 use due_model::rules::ObjectStatus;
 use due_model::state::State;
 use std::alloc::{AllocError, Global};
@@ -86,15 +86,23 @@ impl Statuses {
         before
     }
 
-    /// Gives an object this status.
-    fn set(&mut self, object: ObjectId, status: ObjectStatus)
-        requires { object.0 < length self.old.states }
-        ensures { self.new ≡ with_status self.old object.0 status }
+    /// Starts a downtime of an object, or ends one.
+    fn change_depth(&mut self, object: ObjectId, change: DowntimeChange)
+        requires object { object.0 < length self.old.states }
+        requires room { slice_index_or self.old.depths object.0 0 + 1 < 2 ^ 64 }
+        ensures { self.new ≡ with_depth self.old object.0
+            (depth_changed change (slice_index_or self.old.depths object.0 0)) }
     {
         let number = usize::from(object.0);
-        self.states[number] = status.state;
-        self.depths[number] = status.depth;
-        self.flaps[number] = status.flapping;
+        self.depths[number] = change.depth_after(self.depths[number]);
+    }
+
+    /// Says whether an object is flapping.
+    fn set_flapping(&mut self, object: ObjectId, flapping: bool)
+        requires { object.0 < length self.old.states }
+        ensures { self.new ≡ with_flapping self.old object.0 flapping }
+    {
+        self.flaps[usize::from(object.0)] = flapping;
     }
 
     /// Counts an event.
@@ -103,23 +111,15 @@ impl Statuses {
             × ((status_at self.old object.0).depth + 1 < 2 ^ 64)) }
         ensures { self.new ≡ statuses_after event self.old }
     {
-        if let Some(object) = named_by(event) {
-            let after = status_by(self.at(object), event, object);
-            self.set(object, after);
+        match event {
+            EventKind::Clock => {}
+            EventKind::Program(_) => {}
+            EventKind::Hard(object, state) => {
+                self.replace_state(object, state);
+            }
+            EventKind::Downtime(object, change) => self.change_depth(object, change),
+            EventKind::Flapping(object, starts) => self.set_flapping(object, starts),
         }
-    }
-}
-
-/// The object that an event names.
-pub(crate) fn named_by(event: EventKind) -> Option<ObjectId>
-    ensures { result ≡ named_by event }
-{
-    match event {
-        EventKind::Clock => None,
-        EventKind::Program(_) => None,
-        EventKind::Hard(object, _) => Some(object),
-        EventKind::Downtime(object, _) => Some(object),
-        EventKind::Flapping(object, _) => Some(object),
     }
 }
 

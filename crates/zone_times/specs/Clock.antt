@@ -1,7 +1,8 @@
--- A clock that goes on, on the same day; and what it remembers of the zone's offset.
+-- A clock that goes on, on the same day; and what it remembers of its zone.
 use Rattle.std.specs.Prelude.{◌≡◌, ℕ, ◌+◌, ◌-◌, ◌<◌, ◌≤◌, ℤ, unsigned_abs}
 use Rattle.due_model.specs.declared.zone.Zone.{Zone}
 use Rattle.due_model.specs.Local.{Local, local, offset}
+use Rattle.zone_times.specs.declared.local.LocalTime.{LocalTime}
 
 -- so many seconds later on the same day
 abbrev pub later : Local → ℕ → Local
@@ -15,3 +16,8 @@ GoesOn zone t end = (k : ℕ) → t ≤ k → k < end → local zone k ≡ later
 pub record Remembers (zone : Zone) (from until : ℕ) (kept : ℤ) : Type 0 where
   pub same : (k : ℕ) → from ≤ k → k < until → offset zone k ≡ kept
   pub small : unsigned_abs kept < 93600
+
+-- this is what the zone's clock shows at the moment
+pub record Shows (zone : Zone) (at : ℕ) (time : LocalTime) : Type 0 where
+  pub weekday : time.weekday ≡ (local zone at).weekday
+  pub second : time.second ≡ (local zone at).second

@@ -1,16 +1,18 @@
-//! A zone's clock that remembers the zone's offset, so that what is asked about one moment costs one look at the zone.
+//! A zone's clock that remembers the zone's offset and one moment's local time: what is asked of it costs few looks at
+//! the zone.
 
 ghost use Rattle.std.specs.Prelude.{◌≡◌, ℕ, ◌^◌, ◌<◌, ◌≤◌, unsigned_abs};
 ghost use Rattle.due_model.specs.Local.{local, offset};
 ghost use Rattle.zone_times.specs.Clock.{GoesOn};
 
-use crate::local::{LocalTime, clock_at, offset_at};
+use crate::local::{LocalTime, clock_at, local_time, offset_at};
 use crate::steady::offset_until;
 use due_model::limits::DAY;
 use due_model::zone::Zone;
 use std::marker::Model;
 
-/// The clock of a zone. It remembers the zone's offset over some moments, and looks at the zone for all others.
+/// The clock of a zone. It remembers the zone's offset over some moments, and the local time of one; for all others
+/// it looks at the zone.
 /// Contracts see the zone alone: what it remembers changes no answer.
 #[derive(Drop)]
 pub struct ZoneClock<'a> {
@@ -21,21 +23,25 @@ pub struct ZoneClock<'a> {
     until: u64,
     /// How far the zone's clock is ahead of UTC then, in seconds.
     offset: i32,
+    /// It remembers what it shows at this moment.
+    at: u64,
+    shows: LocalTime,
 }
 
 impl<'a> Model for ZoneClock<'a> {
     ghost use Rattle.due_model.specs.declared.zone.Zone.{Zone};
-    ghost use Rattle.zone_times.specs.Clock.{Remembers};
+    ghost use Rattle.zone_times.specs.Clock.{Remembers, Shows};
 
     ghost Value = { Zone };
 
     ghost view = { λ s. s.zone.now };
 
-    ghost invariant = { λ s. Remembers s.zone.now s.from s.until s.offset };
+    ghost invariant = { λ s. Remembers s.zone.now s.from s.until s.offset
+        × Shows s.zone.now s.at s.shows };
 }
 
 impl<'a> ZoneClock<'a> {
-    /// The clock of a zone, which remembers nothing yet.
+    /// The clock of a zone, which remembers no offset yet, and what it shows at the epoch.
     pub fn new(zone: &'a Zone) -> ZoneClock<'a>
         ensures { result ≡ zone.now }
     {
@@ -44,12 +50,27 @@ impl<'a> ZoneClock<'a> {
             from: 0,
             until: 0,
             offset: 0,
+            at: 0,
+            shows: local_time(zone, 0),
         }
     }
 
-    /// Remembers the zone's offset at a moment, and for as long as it is known to stay. Where the moment is among those that it
-    /// remembers there is nothing to do.
+    /// Remembers what the clock shows at a moment, and the zone's offset for as long as it is known to stay. Questions about
+    /// that moment cost nothing then.
     pub fn move_to(&mut self, t: u64)
+        requires { t < 2 ^ 35 }
+        ensures { self.new ≡ self.old }
+    {
+        if t != self.at {
+            self.remember_offset(t);
+            self.shows = self.local_time(t);
+            self.at = t;
+        }
+    }
+
+    /// Remembers the zone's offset at a moment, and for as long as it is known to stay. Where it remembers it already
+    /// there is nothing to do.
+    fn remember_offset(&mut self, t: u64)
         requires { t < 2 ^ 35 }
         ensures { self.new ≡ self.old }
     {
@@ -66,6 +87,9 @@ impl<'a> ZoneClock<'a> {
         ensures weekday { result.weekday ≡ (local self.now t).weekday }
         ensures second { result.second ≡ (local self.now t).second }
     {
+        if t == self.at {
+            return self.shows;
+        }
         clock_at(t as i64 + i64::from(self.offset_at(t)))
     }
 

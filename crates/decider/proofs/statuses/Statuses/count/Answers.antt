@@ -1,14 +1,20 @@
-use Rattle.std.proofs.Common.{Option, None, Some, sym, ap, ◌∙◌}
-use Rattle.due_model.specs.declared.config.ObjectId.{ObjectId}
-use Rattle.due_model.specs.declared.rules.ObjectStatus.{ObjectStatus}
-use Rattle.decider.specs.Statuses.{StatusLists, status_at, status_by, with_status}
+use Rattle.std.proofs.Common.{sym, ap, ◌∙◌}
+use Rattle.due_model.specs.declared.event.EventKind.{EventKind}
+use Rattle.decider.specs.Statuses.{statuses_after}
+use Rattle.decider.proofs.StatusLaws.{depth_counted, flapping_counted, hard_counted}
 use Rattle.decider.proofs.statuses.Statuses.count.Goals as goal
 
-pub returns-in-Some : goal.returns-in-Some
-returns-in-Some c =
-    let s = c.args.self.now in
-    let k = c.args.event in
-    let o = c.in-Some.object.0 in
-    c.set.ensures
-    ∙ ap (λ (x : ObjectStatus). with_status s o x) (c.status_by-after.ensures ∙ ap (status_by o k) c.at.ensures)
-    ∙ sym (ap (λ (named : Option ObjectId). elim named as (λ _. StatusLists) [ None ↦ s | Some o ↦ with_status s o.0 (status_by o.0 k (status_at s o.0)) ]) (sym c.named_by.ensures ∙ c.in-Some.is))
+pub returns-in-Hard : goal.returns-in-Hard
+returns-in-Hard c =
+    c.replace_state.ensures.after ∙ hard_counted c.args.self.now c.in-Hard.object c.in-Hard.state
+    ∙ ap (λ (k : EventKind). statuses_after k c.args.self.now) (sym c.in-Hard.is)
+
+pub returns-in-Downtime : goal.returns-in-Downtime
+returns-in-Downtime c =
+    c.change_depth.ensures ∙ depth_counted c.args.self.now c.in-Downtime.object c.in-Downtime.change
+    ∙ ap (λ (k : EventKind). statuses_after k c.args.self.now) (sym c.in-Downtime.is)
+
+pub returns-in-Flapping : goal.returns-in-Flapping
+returns-in-Flapping c =
+    c.set_flapping.ensures ∙ flapping_counted c.args.self.now c.in-Flapping.object c.in-Flapping.starts
+    ∙ ap (λ (k : EventKind). statuses_after k c.args.self.now) (sym c.in-Flapping.is)
