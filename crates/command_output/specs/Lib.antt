@@ -1,4 +1,5 @@
 pub mod Fields
+pub mod LineHead
 pub mod Outcome
 pub mod Output
 pub mod OutputLaws

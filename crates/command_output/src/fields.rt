@@ -1,16 +1,20 @@
 //! The fields of a line.
 
-ghost use Rattle.std.specs.Prelude.{◌≡◌, ◌++◌, decimal, flat_map, OnOk};
+ghost use Rattle.std.specs.Prelude.{◌≡◌, ◌+◌, ◌<◌, ◌≤◌, ◌++◌, decimal, drop, flat_map, length, OnOk};
 ghost use Rattle.command_output.specs.Fields.{after_comma, field, notice_mark, notices_text};
 ghost use Rattle.notice_text.specs.Texts.{contact_text, lane_text, number_text, object_text};
 
 use due_model::config::{Config, ContactId, LaneId, ObjectId};
 use due_model::notice::Notice;
-use itoa::Buffer;
+use itoa::{Buffer, write_digits};
 use notice_text::texts;
 use std::alloc::AllocError;
 
+/// The bytes of the longest number that is a field.
+const NUMBER: usize = 21;
+
 /// Adds a field.
+#[inline(always)]
 pub(crate) fn push_field(line: &mut Vec<u8>, text: &[u8]) -> Result<(), AllocError>
     ensures { OnOk result (line.new.items ≡ line.old.items ++ field text.now) }
 {
@@ -26,12 +30,49 @@ pub(crate) fn push_number(line: &mut Vec<u8>, number: u64) -> Result<(), AllocEr
     push_field(line, buffer.format(number).as_bytes())
 }
 
+/// Adds two numbers as fields.
+#[inline(always)]
+pub(crate) fn push_numbers(line: &mut Vec<u8>, first: u64, second: u64) -> Result<(), AllocError>
+    ensures { OnOk result
+        (line.new.items ≡ line.old.items ++ field (decimal first) ++ field (decimal second)) }
+{
+    let mut text = [0; 2 * NUMBER];
+    let between = put_number(second, &mut text, 2 * NUMBER);
+    let start = put_number(first, &mut text, between);
+    line.extend_from_slice(&text[start..])
+}
+
+/// Puts a number as a field into a text, before a place, and gives the place where it begins.
+#[inline(always)]
+fn put_number(number: u64, text: &mut [u8], end: usize) -> usize
+    requires room { 21 ≤ end }
+    requires within { end ≤ length text.old }
+    ensures place { (end ≤ result + 21) × (result ≤ end) }
+    ensures written { drop result text.new ≡ field (decimal number) ++ drop end text.old }
+{
+    let start = write_digits(number, text, end) - 1;
+    text[start] = b';';
+    start
+}
+
 /// Adds the number of a notice as a field, a dash where there is none.
 pub(crate) fn push_notice_number(line: &mut Vec<u8>, number: u64) -> Result<(), AllocError>
     ensures { OnOk result (line.new.items ≡ line.old.items ++ field (number_text number)) }
 {
+    if 0 < number && number < 10 {
+        return push_digit(line, number as u8);
+    }
     line.push(b';')?;
     texts::push_notice_number(line, number)
+}
+
+/// Adds a number of one digit as a field.
+#[tactic(auto, using(std::proofs::lemmas::Fmt::decimal_digit))]
+fn push_digit(line: &mut Vec<u8>, number: u8) -> Result<(), AllocError>
+    requires { number < 10 }
+    ensures { OnOk result (line.new.items ≡ line.old.items ++ field (decimal number)) }
+{
+    line.extend_from_slice(&[b';', b'0' + number])
 }
 
 /// Adds an object as a field.
@@ -48,6 +89,7 @@ pub(crate) fn push_object(
 }
 
 /// Adds a contact as a field.
+#[inline(always)]
 pub(crate) fn push_contact(
     line: &mut Vec<u8>,
     config: &Config,
@@ -60,6 +102,7 @@ pub(crate) fn push_contact(
 }
 
 /// Adds a lane as a field.
+#[inline(always)]
 pub(crate) fn push_lane(line: &mut Vec<u8>, config: &Config, lane: LaneId) -> Result<(), AllocError>
     ensures { OnOk result (line.new.items ≡ line.old.items ++ field (lane_text config.now lane.0)) }
 {

@@ -3,6 +3,7 @@
 #![tactic(auto)]
 
 mod fields;
+mod line_head;
 mod lines;
 mod outcome;
 mod output;

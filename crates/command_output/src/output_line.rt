@@ -1,14 +1,17 @@
 //! The lines that a command can write.
 
 ghost use Rattle.std.specs.Prelude.{◌≡◌, ◌++◌, OnOk};
-ghost use Rattle.command_output.specs.OutputLine.{line_text};
+ghost use Rattle.command_output.specs.LineHead.{entry_head, head_text};
+ghost use Rattle.command_output.specs.OutputLine.{entries_text, line_text};
 
-use crate::report_line::{push_notice, push_refused, push_suppression};
+use crate::line_head::{entry_head, make_head, push_head};
+use crate::report_line::{push_entry, push_entry_after, push_refused};
 use crate::run_line::{push_closed, push_letter};
 use crate::trace_line::{LaneLine, StepRefusal, push_held};
 use due_model::config::{Config, LaneId};
 use due_model::notice::{Notice, Suppression};
 use event_feed::FeedFault;
+use messages::entries::Entry;
 use std::alloc::AllocError;
 use undelivered::Why;
 
@@ -42,8 +45,8 @@ pub(crate) fn push_line(
     ensures { OnOk result (text.new.items ≡ text.old.items ++ line_text config.now line.now) }
 {
     match line {
-        OutputLine::Notice(notice) => push_notice(text, config, notice),
-        OutputLine::Suppression(suppression) => push_suppression(text, config, suppression),
+        OutputLine::Notice(notice) => push_entry(text, config, &Entry::Sent(*notice)),
+        OutputLine::Suppression(withheld) => push_entry(text, config, &Entry::Withheld(*withheld)),
         OutputLine::Refused { line, fault } => push_refused(text, b'R', *line, fault.name()),
         OutputLine::RefusedStep { line, refusal } => push_refused(
             text,
@@ -56,4 +59,48 @@ pub(crate) fn push_line(
         OutputLine::Undelivered { lane, notice } => push_letter(text, config, b'U', *lane, notice),
         OutputLine::Closed { lane, why } => push_closed(text, config, *lane, *why),
     }
+}
+
+/// Adds the lines of entries, in order. The other vector is for what lines share.
+pub(crate) fn push_entries(
+    text: &mut Vec<u8>,
+    head: &mut Vec<u8>,
+    config: &Config,
+    entries: &[Entry],
+) -> Result<(), AllocError>
+    ensures { OnOk result
+        (text.new.items ≡ text.old.items ++ entries_text config.now entries.now) }
+{
+    match entries {
+        [] => Ok(()),
+        [entry] => push_entry(text, config, entry),
+        [first, others @ ..] => {
+            head.clear();
+            push_head(head, config, entry_head(first))?;
+            push_entry_after(text, config, head, first)?;
+            push_others(text, head, config, first, others)
+        }
+    }
+}
+
+/// Adds the lines of the entries after one whose head is given: it is made anew only where a line begins otherwise than
+/// the line before.
+fn push_others(
+    text: &mut Vec<u8>,
+    head: &mut Vec<u8>,
+    config: &Config,
+    first: &Entry,
+    others: &[Entry],
+) -> Result<(), AllocError>
+    requires { head.old.items ≡ head_text config.now (entry_head first.now) }
+    ensures { OnOk result
+        (text.new.items ≡ text.old.items ++ entries_text config.now others.now) }
+{
+    let mut last = first;
+    for entry in others {
+        make_head(head, config, last, entry)?;
+        push_entry_after(text, config, head, entry)?;
+        last = entry;
+    }
+    Ok(())
 }

@@ -2,138 +2,115 @@
 
 ghost use Rattle.std.specs.Prelude.{◌≡◌, [], ◌∷◌, ◌++◌, decimal, OnOk};
 ghost use Rattle.command_output.specs.Fields.{field};
-ghost use Rattle.command_output.specs.ReportLine.{head_fields, notice_line};
-ghost use Rattle.command_output.specs.ReportLine.{refused_contact_line, stopped_line, suppression_line};
+ghost use Rattle.command_output.specs.LineHead.{contact_field, entry_end, entry_head, entry_letter};
+ghost use Rattle.command_output.specs.LineHead.{head_text, notice_end, suppression_end};
+ghost use Rattle.command_output.specs.OutputLine.{entry_text};
 
-use crate::fields::{
-    push_contact, push_field, push_lane, push_notice_number, push_number, push_object,
-};
-use due_model::config::{Config, ContactId, ObjectId};
-use due_model::notice::{Kind, Notice, Suppression};
-use due_model::state::State;
-use notice_text::names::{filter_name, kind_name, state_name};
+use crate::fields::{push_contact, push_field, push_lane, push_number};
+use crate::line_head::{entry_head, push_head};
+use due_model::config::{Config, ContactId};
+use due_model::notice::{Notice, Suppression};
+use messages::entries::Entry;
+use notice_text::names::filter_name;
 use std::alloc::AllocError;
 
-/// What the lines of notices and suppressions begin with, after their letter.
-#[derive(Clone, Copy)]
-struct Head {
-    event: u64,
-    moment: u64,
-    object: ObjectId,
-    kind: Kind,
-    state: State,
-}
-
-/// Adds the first fields.
-#[tactic(auto, unfolding(crate::specs::ReportLine::head_fields))]
-fn push_head(line: &mut Vec<u8>, config: &Config, head: Head) -> Result<(), AllocError>
-    ensures { OnOk result (line.new.items ≡ line.old.items ++ head_fields config.now
-        head.event head.moment head.object.0 head.kind head.state) }
+/// The letter of the line of an entry: `N` for a notice, `S` or `C` for what a filter of the object, or of the contact,
+/// stopped.
+#[inline(always)]
+fn entry_letter(entry: &Entry) -> u8
+    ensures { result ≡ entry_letter entry.now }
 {
-    push_number(line, head.event)?;
-    push_number(line, head.moment)?;
-    push_object(line, config, head.object)?;
-    push_field(line, kind_name(head.kind).as_bytes())?;
-    push_field(line, state_name(head.state).as_bytes())
-}
-
-/// What the line of a notice begins with.
-fn notice_head(notice: &Notice) -> Head
-    ensures event { result.event ≡ notice.now.event }
-    ensures moment { result.moment ≡ notice.now.moment }
-    ensures object { result.object ≡ notice.now.object }
-    ensures kind { result.kind ≡ notice.now.kind }
-    ensures state { result.state ≡ notice.now.state }
-{
-    Head {
-        event: notice.event,
-        moment: notice.moment,
-        object: notice.object,
-        kind: notice.kind,
-        state: notice.state,
+    match entry {
+        Entry::Sent(_) => b'N',
+        Entry::Withheld(suppression) => match suppression.contact {
+            None => b'S',
+            Some(_) => b'C',
+        },
     }
 }
 
-/// What the line of a suppression begins with.
-fn suppression_head(suppression: &Suppression) -> Head
-    ensures event { result.event ≡ suppression.now.event }
-    ensures moment { result.moment ≡ suppression.now.moment }
-    ensures object { result.object ≡ suppression.now.object }
-    ensures kind { result.kind ≡ suppression.now.kind }
-    ensures state { result.state ≡ suppression.now.state }
+/// Adds what the line of a notice ends with: the contact and the lane.
+#[inline(always)]
+fn push_notice_end(line: &mut Vec<u8>, config: &Config, notice: &Notice) -> Result<(), AllocError>
+    ensures { OnOk result (line.new.items ≡ line.old.items ++ notice_end config.now notice.now) }
 {
-    Head {
-        event: suppression.event,
-        moment: suppression.moment,
-        object: suppression.object,
-        kind: suppression.kind,
-        state: suppression.state,
-    }
-}
-
-/// Adds the line of a notice.
-pub(crate) fn push_notice(
-    line: &mut Vec<u8>,
-    config: &Config,
-    notice: &Notice,
-) -> Result<(), AllocError>
-    ensures { OnOk result (line.new.items ≡ line.old.items ++ notice_line config.now notice.now) }
-{
-    line.extend_from_slice(b"N")?;
-    push_head(line, config, notice_head(notice))?;
-    push_notice_number(line, notice.number)?;
     push_contact(line, config, notice.contact)?;
     push_lane(line, config, notice.lane)?;
-    line.extend_from_slice(b"\n")
+    line.push(b'\n')?;
+    Ok(())
 }
 
-/// Adds the line of a suppression by a filter of the object.
-fn push_stopped(
+/// Adds the contact whose filter stopped a message, if one did.
+#[inline(always)]
+fn push_contact_field(
     line: &mut Vec<u8>,
     config: &Config,
-    suppression: &Suppression,
+    contact: Option<ContactId>,
 ) -> Result<(), AllocError>
-    ensures { OnOk result
-        (line.new.items ≡ line.old.items ++ stopped_line config.now suppression.now) }
+    ensures { OnOk result (line.new.items ≡ line.old.items ++ contact_field config.now contact) }
 {
-    line.extend_from_slice(b"S")?;
-    push_head(line, config, suppression_head(suppression))?;
-    push_field(line, filter_name(suppression.filter).as_bytes())?;
-    line.extend_from_slice(b"\n")
-}
-
-/// Adds the line of a suppression by a filter of this contact.
-fn push_refused_contact(
-    line: &mut Vec<u8>,
-    config: &Config,
-    suppression: &Suppression,
-    contact: ContactId,
-) -> Result<(), AllocError>
-    ensures { OnOk result
-        (line.new.items
-        ≡ line.old.items ++ refused_contact_line config.now suppression.now contact) }
-{
-    line.extend_from_slice(b"C")?;
-    push_head(line, config, suppression_head(suppression))?;
-    push_notice_number(line, suppression.number)?;
-    push_contact(line, config, contact)?;
-    push_field(line, filter_name(suppression.filter).as_bytes())?;
-    line.extend_from_slice(b"\n")
-}
-
-/// Adds the line of a suppression.
-pub(crate) fn push_suppression(
-    line: &mut Vec<u8>,
-    config: &Config,
-    suppression: &Suppression,
-) -> Result<(), AllocError>
-    ensures { OnOk result
-        (line.new.items ≡ line.old.items ++ suppression_line config.now suppression.now) }
-{
-    match suppression.contact {
-        None => push_stopped(line, config, suppression),
-        Some(contact) => push_refused_contact(line, config, suppression, contact),
+    match contact {
+        None => Ok(()),
+        Some(contact) => push_contact(line, config, contact),
     }
+}
+
+/// Adds what the line of a suppression ends with: the contact, if it was one's filter, and the filter.
+#[inline(always)]
+fn push_suppression_end(
+    line: &mut Vec<u8>,
+    config: &Config,
+    suppression: &Suppression,
+) -> Result<(), AllocError>
+    ensures { OnOk result
+        (line.new.items ≡ line.old.items ++ suppression_end config.now suppression.now) }
+{
+    push_contact_field(line, config, suppression.contact)?;
+    push_field(line, filter_name(suppression.filter).as_bytes())?;
+    line.push(b'\n')?;
+    Ok(())
+}
+
+/// Adds what the line of an entry ends with, after its head.
+#[inline(always)]
+fn push_end(line: &mut Vec<u8>, config: &Config, entry: &Entry) -> Result<(), AllocError>
+    ensures { OnOk result (line.new.items ≡ line.old.items ++ entry_end config.now entry.now) }
+{
+    match entry {
+        Entry::Sent(notice) => push_notice_end(line, config, notice),
+        Entry::Withheld(suppression) => push_suppression_end(line, config, suppression),
+    }
+}
+
+/// Adds the line of an entry.
+#[tactic(auto, using(crate::proofs::EntryLaws::entry_parts))]
+pub(crate) fn push_entry(
+    line: &mut Vec<u8>,
+    config: &Config,
+    entry: &Entry,
+) -> Result<(), AllocError>
+    ensures { OnOk result (line.new.items ≡ line.old.items ++ entry_text config.now entry.now) }
+{
+    line.push(entry_letter(entry))?;
+    push_head(line, config, entry_head(entry))?;
+    push_end(line, config, entry)
+}
+
+/// Adds the line of an entry whose head has this text.
+#[tactic(auto, using(crate::proofs::EntryLaws::entry_parts))]
+#[inline(always)]
+pub(crate) fn push_entry_after(
+    line: &mut Vec<u8>,
+    config: &Config,
+    head: &[u8],
+    entry: &Entry,
+) -> Result<(), AllocError>
+    requires { head.now ≡ head_text config.now (entry_head entry.now) }
+    ensures { OnOk result (line.new.items ≡ line.old.items ++ entry_text config.now entry.now) }
+{
+    line.push(entry_letter(entry))?;
+    line.extend_from_slice(head)?;
+    push_end(line, config, entry)
 }
 
 /// Adds the line of a refused line, which begins with this letter: its number, and why it is refused.

@@ -1,6 +1,6 @@
 -- What the answers of a feeder say of the lines of its feed.
-use Rattle.std.proofs.Common.{◌≡◌, ℕ, suc, ◌+◌, ◌<◌, ◌≤◌, true, false, not, cond, ◌||◌, All, List, [], ◌∷◌, ◌++◌, length, take, drop, get_or, replicate, Option, None, Some, Bool, IsSome, IfSome, IsErrOf, IsTrue, Ok, Err, refl, sym, ap, subst, ◌∙◌, inl, inr, arith, append_assoc, length-append}
-use Rattle.std.proofs.lemmas.List.{append-nil, length-replicate, take_more, take-append-drop}
+use Rattle.std.proofs.Common.{◌≡◌, ℕ, suc, ◌+◌, ◌<◌, ◌≤◌, true, false, not, cond, ◌||◌, All, List, [], ◌∷◌, ◌++◌, length, replicate, Option, None, Some, Bool, IsSome, IfSome, IsErrOf, IsTrue, Ok, Err, refl, sym, ap, subst, ◌∙◌, inl, inr, arith, append_assoc, length-append}
+use Rattle.std.proofs.lemmas.List.{append-nil, length-replicate}
 use Rattle.std.proofs.lemmas.List.Elements.{All-nil, All-append, All-push, All-weaker}
 use Rattle.due_model.specs.declared.config.Config.{Config}
 use Rattle.due_model.specs.declared.config.Object.{Object}
@@ -16,16 +16,14 @@ use Rattle.event_feed.specs.Feed.{Answer, AnswersNext, AnswersNone, AreGiven, Ar
 use Rattle.text_lines.specs.Lines.{Known, pieces}
 use Rattle.command_output.specs.declared.outcome.Ending.TheVariants.{Short, Whole}
 use Rattle.command_output.specs.ReportLine.{refused_line}
-use Rattle.replay.specs.Report.{WritesPart, PassesLines, Ends, Follows, GoesOn, TakesAnswer, WritesReport, WritesReportFront, answer_text, ending_after, ends_short, entries_text, entry_text, given_text, is_ended, is_short, line_of, past_after, report_from, report_text}
-use Rattle.std.proofs.lemmas.Grind.{flat_map-append}
+use Rattle.replay.specs.Report.{WritesPart, PassesLines, Ends, Follows, GoesOn, TakesAnswer, WritesReport, WritesReportFront, answer_text, ending_after, ends_short, given_text, is_ended, is_short, past_after, report_from, report_text}
 use Rattle.messages.specs.declared.entries.Entry.{Entry}
 use Rattle.messages.specs.Entries.{event_entries}
 use Rattle.decider.specs.Fits.{Fits, Kept}
 use Rattle.command_output.specs.declared.outcome.Ending.{Ending}
-use Rattle.command_output.specs.declared.output_line.OutputLine.{OutputLine}
 use Rattle.command_output.specs.Output.{Leaves, Writes, WritesFront}
-use Rattle.command_output.specs.OutputLine.{line_text}
-use Rattle.command_output.specs.OutputLaws.{front_begun, front_less, front_longer, front_on, leaves_all, leaves_less, leaves_on}
+use Rattle.command_output.specs.OutputLine.{entries_text}
+use Rattle.command_output.specs.OutputLaws.{front_less, front_longer, front_on, leaves_all, leaves_less, leaves_on}
 
 -- ---- facts of known bytes
 
@@ -288,37 +286,6 @@ text_of_end c zone past line e h = sym (ap (λ b. cond b (refused_line line Ende
 pub event_text : (c : Config) (zone : Zone) (past : List Event) (line : ℕ) (e : Event) (entries : List Entry) → entries ≡ event_entries c zone e past → is_ended past (Ok e) ≡ false
     → entries_text c entries ≡ answer_text c zone past (record { line = line; given = Ok e })
 event_text c zone past line e entries are h = ap (entries_text c) are ∙ text_of_event c zone past line e h
-
--- one entry more
-entries_more : (c : Config) (entries : List Entry) (i : ℕ) (line : OutputLine) (d : Entry) → i < length entries → line ≡ line_of (get_or entries i d)
-    → entries_text c (take (i + 1) entries) ≡ entries_text c (take i entries) ++ line_text c line
-entries_more c entries i line d h e =
-    ap (entries_text c) (take_more entries i d h)
-    ∙ flat_map-append (entry_text c) (take i entries) (get_or entries i d ∷ [])
-    ∙ ap (λ text. entries_text c (take i entries) ++ text) (append-nil (entry_text c (get_or entries i d)) ∙ ap (line_text c) (sym e))
-
-pub entry_written : (c : Config) (old mid new : Option (List ℕ)) (held now held' : List ℕ) (entries : List Entry) (i : ℕ) (line : OutputLine) (d : Entry) → i < length entries
-    → line ≡ line_of (get_or entries i d)
-    → Leaves old mid (held ++ entries_text c (take i entries)) now → Leaves mid new (now ++ line_text c line) held'
-    → Leaves old new (held ++ entries_text c (take (i + 1) entries)) held'
-entry_written c old mid new held now held' entries i line d h e before step =
-    subst (λ all. Leaves old new all held')
-    (append_assoc held (entries_text c (take i entries)) (line_text c line) ∙ ap (λ text. held ++ text) (sym (entries_more c entries i line d h e)))
-    (leaves_on old mid new (held ++ entries_text c (take i entries)) now (line_text c line) held' before step)
-
-pub entry_cut : (c : Config) (old mid new : Option (List ℕ)) (held now : List ℕ) (entries : List Entry) (i : ℕ) (line : OutputLine) (d : Entry) → i < length entries
-    → line ≡ line_of (get_or entries i d)
-    → Leaves old mid (held ++ entries_text c (take i entries)) now → WritesFront mid new (now ++ line_text c line)
-    → WritesFront old new (held ++ entries_text c entries)
-entry_cut c old mid new held now entries i line d h e before step =
-    let more : entries_text c entries ≡ entries_text c (take (i + 1) entries) ++ entries_text c (drop (i + 1) entries) =
-    ap (entries_text c) (sym (take-append-drop (i + 1) entries)) ∙ flat_map-append (entry_text c) (take (i + 1) entries) (drop (i + 1) entries) in
-    let all : WritesFront old new ((held ++ entries_text c (take i entries)) ++ line_text c line) =
-    front_on old mid new (held ++ entries_text c (take i entries)) now (line_text c line) before step in
-    let here : (held ++ entries_text c (take i entries)) ++ line_text c line ≡ held ++ entries_text c (take (i + 1) entries) =
-    append_assoc held (entries_text c (take i entries)) (line_text c line) ∙ ap (λ text. held ++ text) (sym (entries_more c entries i line d h e)) in
-    subst (λ all. WritesFront old new all) (ap (λ text. held ++ text) (sym more))
-    (front_begun old new held (entries_text c (take (i + 1) entries)) (entries_text c (drop (i + 1) entries)) (subst (λ all. WritesFront old new all) here all))
 
 -- ---- from one configuration to an equal one
 

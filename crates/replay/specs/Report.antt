@@ -1,5 +1,5 @@
 -- The report of a feed: for each of its lines the refusal, or what the event adds.
-use Rattle.std.specs.Prelude.{◌≡◌, ℕ, ◌+◌, ◌<◌, ◌≤◌, Bool, false, true, not, ◌||◌, ◌==◌, All, List, [], ◌∷◌, ◌++◌, length, flat_map, ◌⊎◌, IfSome, Option, None, Result, Ok, Err, if◌then◌else◌}
+use Rattle.std.specs.Prelude.{◌≡◌, ℕ, ◌+◌, ◌<◌, ◌≤◌, Bool, false, true, not, ◌||◌, ◌==◌, All, List, [], ◌∷◌, ◌++◌, length, ◌⊎◌, IfSome, Option, None, Result, Ok, Err, if◌then◌else◌}
 use Rattle.due_model.specs.declared.config.Config.{Config}
 use Rattle.due_model.specs.declared.config.Object.{Object}
 use Rattle.due_model.specs.declared.event.Event.{Event}
@@ -17,10 +17,8 @@ use Rattle.event_feed.specs.Feed.{Answer, AnswersNext, AreGivenBy, Feed, answers
 use Rattle.text_lines.specs.Lines.{Known, pieces}
 use Rattle.command_output.specs.declared.outcome.Ending.{Ending}
 use Rattle.command_output.specs.declared.outcome.Ending.TheVariants.{Short, Whole}
-use Rattle.command_output.specs.declared.output_line.OutputLine.{OutputLine}
-use Rattle.command_output.specs.declared.output_line.OutputLine.TheVariants as line
 use Rattle.command_output.specs.Output.{Leaves, Writes, WritesFront}
-use Rattle.command_output.specs.OutputLine.{line_text}
+use Rattle.command_output.specs.OutputLine.{entries_text}
 use Rattle.command_output.specs.ReportLine.{refused_line}
 
 -- the share of the one decider of a replay: all objects
@@ -29,22 +27,10 @@ whole_share = record { decider = 0; deciders = 1 }
 
 -- ---- the text
 
--- the line of an entry
-abbrev pub line_of : Entry → OutputLine
-line_of (Sent n) = line.Notice n
-line_of (Withheld s) = line.Suppression s
-
-abbrev pub entry_text : Config → Entry → List ℕ
-entry_text c entry = line_text c (line_of entry)
-
 -- whether an entry is a message that is due
 abbrev pub is_sent : Entry → Bool
 is_sent (Sent notice) = true
 is_sent (Withheld suppression) = false
-
--- the lines of entries
-abbrev pub entries_text : Config → List Entry → List ℕ
-entries_text c entries = flat_map (entry_text c) entries
 
 -- what a line of the feed adds after a past: the lines of its event, or of its refusal
 abbrev pub given_text : Config → Zone → List Event → (line : ℕ) → Result Event FeedFault → List ℕ

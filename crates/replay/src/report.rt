@@ -4,6 +4,7 @@ ghost use Rattle.std.specs.Prelude.{◌≡◌, ◌+◌, ◌<◌, ◌≤◌, ◌�
 ghost use Rattle.std.specs.Prelude.{filter, length, false, true, IfErr, IfNone, IfOk, IfSome, None, Ok, OnOk};
 ghost use Rattle.command_output.specs.Outcome.{IsWriteFault};
 ghost use Rattle.command_output.specs.Output.{Leaves, WritesFront};
+ghost use Rattle.command_output.specs.OutputLine.{entries_text};
 ghost use Rattle.command_output.specs.ReportLine.{refused_line};
 ghost use Rattle.messages.specs.Entries.{event_entries};
 ghost use Rattle.decider.specs.Fits.{Fits, core_kept, last_entries, settings};
@@ -12,8 +13,7 @@ ghost use Rattle.due_model.specs.Proper.{IsProper};
 ghost use Rattle.due_model.specs.declared.event.Event.{Event};
 ghost use Rattle.event_feed.specs.Feed.{feed_limit, feed_of};
 ghost use Rattle.replay.specs.Report.{Ends, GoesOn, WritesPart, WritesReport, WritesReportFront};
-ghost use Rattle.replay.specs.Report.{answer_text, entries_text, is_ended, is_sent, line_of};
-ghost use Rattle.replay.specs.Report.{whole_share};
+ghost use Rattle.replay.specs.Report.{answer_text, is_ended, is_sent, whole_share};
 ghost use Rattle.text_lines.specs.Lines.{has_line};
 
 use command_output::{CommandFault, Ending, Lines, OutputLine, Sink};
@@ -178,7 +178,7 @@ impl<'a, R: Input + Drop> Report<'a, R> {
             Ok(()) => {
                 let entries = self.decider.entries();
                 let messages = count_messages(entries);
-                write_entries(&mut self.lines, writer, self.config, entries)?;
+                self.lines.write_entries(writer, self.config, entries)?;
                 self.progress = self.progress.with_event().with_messages(messages);
                 Ok(None)
             }
@@ -228,33 +228,4 @@ fn count_messages(entries: &[Entry]) -> usize
         .iter()
         .filter(|entry| matches!(entry, Entry::Sent(_)));
     sent.count()
-}
-
-/// Makes the lines of entries, in order.
-fn write_entries<W: Sink>(
-    lines: &mut Lines,
-    writer: &mut W,
-    config: &Config,
-    entries: &[Entry],
-) -> Result<(), CommandFault>
-    ensures ok { OnOk result (Leaves (W.contents writer.old) (W.contents writer.new)
-        (lines.old ++ entries_text config.now entries.now) lines.new) }
-    ensures front { WritesFront (W.contents writer.old) (W.contents writer.new)
-        (lines.old ++ entries_text config.now entries.now) }
-    ensures fault { IfErr result (λ fault. IsWriteFault W.can_fail fault) }
-{
-    for entry in entries {
-        lines.write(writer, config, &line_of(entry))?;
-    }
-    Ok(())
-}
-
-/// The line of an entry.
-fn line_of(entry: &Entry) -> OutputLine<'static>
-    ensures { result ≡ line_of entry.now }
-{
-    match entry {
-        Entry::Sent(notice) => OutputLine::Notice(*notice),
-        Entry::Withheld(suppression) => OutputLine::Suppression(*suppression),
-    }
 }

@@ -7,7 +7,8 @@ use Rattle.due_model.specs.Proper.{IsProper}
 use Rattle.messages.specs.declared.entries.Entry.{Entry}
 use Rattle.decider.specs.declared.share.Share.{Share}
 use Rattle.messages.specs.Entries.{event_entries}
-use Rattle.replay.specs.Report.{entries_text, is_ended}
+use Rattle.command_output.specs.OutputLine.{entries_text}
+use Rattle.replay.specs.Report.{is_ended}
 use Rattle.replay.proofs.ReportLaws.{event_text, ok_is_no_fault, text_of_end}
 use Rattle.command_output.specs.OutputLaws.{front_longer, front_same, leaves_same}
 use Rattle.replay.proofs.report.Report.decide_event.Goals as goal
