@@ -1,7 +1,7 @@
 //! The command `trace`: the steps of a list, done one by one in a world of steps.
 #![tactic(auto)]
 
-ghost use Rattle.std.specs.Prelude.{IfErr, IfOk, IfSome};
+ghost use Rattle.std.specs.Prelude.{◌≡◌, false, IfErr, IfOk, IfSome, IsErrOf};
 ghost use Rattle.due_model.specs.Accepted.{IsAccepted};
 ghost use Rattle.command_output.specs.Outcome.{IsWriteFault};
 ghost use Rattle.text_lines.specs.LineReader.{to_come};
