@@ -57,15 +57,15 @@ impl Telling {
     ) -> Result<bool, AllocError>
         requires { (zone : Zone) × (posted : ℕ → Bool) × (known : Option (List ℕ))
             × (before : Option (List ℕ)) × (said : List Answer)
-            × HasTold R.can_fail W.can_fail config.now zone posted known before said (Ok Turn.GoesOn)
-            (run_value run.old) (W.contents writer.old) self.old.lines self.old.fault }
+            × HasTold R.can_fail W.can_fail config.now zone posted known before said
+            (Ok Turn.GoesOn) (run_value run.old) (W.contents writer.old) self.old.lines self.old.fault }
         ensures { (zone : Zone) (posted : ℕ → Bool) (known before : Option (List ℕ))
             (said : List Answer)
-            → HasTold R.can_fail W.can_fail config.now zone posted known before said (Ok Turn.GoesOn)
-            (run_value run.old) (W.contents writer.old) self.old.lines self.old.fault
+            → HasTold R.can_fail W.can_fail config.now zone posted known before said
+            (Ok Turn.GoesOn) (run_value run.old) (W.contents writer.old) self.old.lines self.old.fault
             → (all : List Answer)
-            × HasTold R.can_fail W.can_fail config.now zone posted known before all (last_turn result)
-            (run_value run.new) (W.contents writer.new) self.new.lines self.new.fault }
+            × HasTold R.can_fail W.can_fail config.now zone posted known before all
+            (last_turn result) (run_value run.new) (W.contents writer.new) self.new.lines self.new.fault }
     {
         loop {
             watcher.make_way();
@@ -87,17 +87,18 @@ impl Telling {
     ) -> Result<Turn, AllocError>
         requires told { (zone : Zone) × (posted : ℕ → Bool) × (known : Option (List ℕ))
             × (before : Option (List ℕ)) × (said : List Answer)
-            × HasTold R.can_fail W.can_fail config.now zone posted known before said (Ok Turn.GoesOn)
-            (run_value run.old) (W.contents writer.old) self.old.lines self.old.fault }
+            × HasTold R.can_fail W.can_fail config.now zone posted known before said
+            (Ok Turn.GoesOn) (run_value run.old) (W.contents writer.old) self.old.lines self.old.fault }
         // Where the reader may be called nothing is held back, unless the writing failed.
         requires written { has_line (run_value run.old).intake.feed.held ≡ false
             → self.old.fault ≡ None → self.old.lines ≡ [] }
         ensures told { (zone : Zone) (posted : ℕ → Bool) (known before : Option (List ℕ))
             (said : List Answer)
-            → HasTold R.can_fail W.can_fail config.now zone posted known before said (Ok Turn.GoesOn)
-            (run_value run.old) (W.contents writer.old) self.old.lines self.old.fault
+            → HasTold R.can_fail W.can_fail config.now zone posted known before said
+            (Ok Turn.GoesOn) (run_value run.old) (W.contents writer.old) self.old.lines self.old.fault
             → (last : Option Answer)
-            × HasTold R.can_fail W.can_fail config.now zone posted known before (with_one said last) result
+            × HasTold R.can_fail W.can_fail config.now zone posted known before
+            (with_one said last) result
             (run_value run.new) (W.contents writer.new) self.new.lines self.new.fault }
         ensures shorter { result ≡ Ok Turn.GoesOn
             → lines_left (run_value run.new) < lines_left (run_value run.old) }
@@ -170,15 +171,11 @@ impl Telling {
     }
 
     /// Tells what lanes left.
-    pub(crate) fn tell_lanes<W: Sink>(
-        &mut self,
-        lanes: &[LaneEnd],
-        config: &Config,
-        writer: &mut W,
-    )
+    pub(crate) fn tell_lanes<W: Sink>(&mut self, lanes: &[LaneEnd], config: &Config, writer: &mut W)
         ensures { (before : Option (List ℕ)) (text : List ℕ)
             → IsTold W.can_fail before (W.contents writer.old) text self.old.lines self.old.fault
-            → IsTold W.can_fail before (W.contents writer.new) (text ++ lanes_text config.now lanes.now)
+            → IsTold W.can_fail before (W.contents writer.new)
+            (text ++ lanes_text config.now lanes.now)
             self.new.lines self.new.fault }
     {
         if self.fault.is_none() {
