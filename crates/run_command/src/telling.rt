@@ -58,14 +58,17 @@ impl Telling {
         requires { (zone : Zone) × (posted : ℕ → Bool) × (known : Option (List ℕ))
             × (before : Option (List ℕ)) × (said : List Answer)
             × HasTold R.can_fail W.can_fail config.now zone posted known before said
-            (Ok Turn.GoesOn) (run_value run.old) (W.contents writer.old) self.old.lines self.old.fault }
+            (Ok Turn.GoesOn) (run_value run.old)
+            (W.contents writer.old) self.old.lines self.old.fault }
         ensures { (zone : Zone) (posted : ℕ → Bool) (known before : Option (List ℕ))
             (said : List Answer)
             → HasTold R.can_fail W.can_fail config.now zone posted known before said
-            (Ok Turn.GoesOn) (run_value run.old) (W.contents writer.old) self.old.lines self.old.fault
+            (Ok Turn.GoesOn) (run_value run.old)
+            (W.contents writer.old) self.old.lines self.old.fault
             → (all : List Answer)
             × HasTold R.can_fail W.can_fail config.now zone posted known before all
-            (last_turn result) (run_value run.new) (W.contents writer.new) self.new.lines self.new.fault }
+            (last_turn result) (run_value run.new)
+            (W.contents writer.new) self.new.lines self.new.fault }
     {
         loop {
             watcher.make_way();
@@ -88,14 +91,16 @@ impl Telling {
         requires told { (zone : Zone) × (posted : ℕ → Bool) × (known : Option (List ℕ))
             × (before : Option (List ℕ)) × (said : List Answer)
             × HasTold R.can_fail W.can_fail config.now zone posted known before said
-            (Ok Turn.GoesOn) (run_value run.old) (W.contents writer.old) self.old.lines self.old.fault }
+            (Ok Turn.GoesOn) (run_value run.old)
+            (W.contents writer.old) self.old.lines self.old.fault }
         // Where the reader may be called nothing is held back, unless the writing failed.
         requires written { has_line (run_value run.old).intake.feed.held ≡ false
             → self.old.fault ≡ None → self.old.lines ≡ [] }
         ensures told { (zone : Zone) (posted : ℕ → Bool) (known before : Option (List ℕ))
             (said : List Answer)
             → HasTold R.can_fail W.can_fail config.now zone posted known before said
-            (Ok Turn.GoesOn) (run_value run.old) (W.contents writer.old) self.old.lines self.old.fault
+            (Ok Turn.GoesOn) (run_value run.old)
+            (W.contents writer.old) self.old.lines self.old.fault
             → (last : Option Answer)
             × HasTold R.can_fail W.can_fail config.now zone posted known before
             (with_one said last) result
