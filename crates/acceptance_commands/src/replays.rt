@@ -1,6 +1,6 @@
 //! Replays of the worked examples, over readers and writers in memory.
 
-ghost use Rattle.std.specs.Prelude.{IsErrOf};
+ghost use Rattle.std.specs.Prelude.{IsErrOf, false, true};
 
 use acceptance_inputs::readers;
 use acceptance_inputs::texts::input;

@@ -1,5 +1,7 @@
 //! Readers, writers and watchers that note what was asked of them.
 
+ghost use Rattle.std.specs.Prelude.{false, true};
+
 use command_output::Sink;
 use progress::{Progress, Watcher};
 use std::cell::Cell;
