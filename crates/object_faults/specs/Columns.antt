@@ -23,7 +23,7 @@ use Rattle.object_faults.specs.declared.needs.Side.{Side}
 use Rattle.object_faults.specs.declared.needs.Side.TheVariants.{Masters, Dependents}
 use Rattle.object_faults.specs.Dated.{has_timed, has_untimed}
 use Rattle.object_faults.specs.Faults.{fault_by, is_broken, is_lacking, is_registered, lacks}
-use Rattle.object_faults.specs.Kinds.{has_interval, is_contact, is_dependency, is_escalation, is_host_or_service, is_period, is_service}
+use Rattle.object_inheritance.specs.Kinds.{has_contacts, is_contact, is_dependency, is_escalation, is_host_or_service, is_period, is_service}
 use Rattle.object_faults.specs.Lists.{is_list_of, list_directive}
 use Rattle.object_faults.specs.Tables.{name_lists, numbers, option_lists, range_lines, zeros}
 
@@ -79,7 +79,7 @@ criteria_check _ = None
 abbrev pub check_of : Column → BlockKind → Option Check
 check_of (Name named) kind = when (kind_number kind == kind_number named) Given
 check_of Register kind = when (not (means_nothing kind)) Number
-check_of Interval kind = when (has_interval kind) Number
+check_of Interval kind = when (has_contacts kind) Number
 check_of Enabled kind = when (is_host_or_service kind) Number
 check_of Delay kind = when (is_host_or_service kind) Number
 check_of HostEnabled kind = when (is_contact kind) Number

@@ -23,7 +23,7 @@ use Rattle.object_faults.specs.declared.needs.Need.{Need}
 use Rattle.object_faults.specs.declared.needs.Need.TheVariants as needs
 use Rattle.object_faults.specs.declared.needs.Side.{Side}
 use Rattle.object_faults.specs.declared.needs.Side.TheVariants.{Masters, Dependents}
-use Rattle.object_faults.specs.Kinds.{is_period}
+use Rattle.object_inheritance.specs.Kinds.{is_period}
 use Rattle.object_faults.specs.Tables.{description_directive, group_directive, host_directive, service_group_directive}
 use Rattle.object_faults.specs.Tables.{name_lists, names, needed, numbers, option_lists, range_lines, zeros}
 

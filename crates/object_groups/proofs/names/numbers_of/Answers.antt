@@ -1,5 +1,5 @@
-use Rattle.object_periods.proofs.ExcludeLemmas.{numbers-more}
-use Rattle.object_periods.proofs.excludes.numbers_of.Goals as goal
+use Rattle.object_groups.proofs.NumberLemmas.{numbers-more}
+use Rattle.object_groups.proofs.names.numbers_of.Goals as goal
 
 pub loop-entry-preserved : goal.loop-entry-preserved
 loop-entry-preserved c =

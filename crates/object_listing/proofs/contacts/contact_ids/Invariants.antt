@@ -1,5 +1,5 @@
 use Rattle.std.proofs.Common.{◌≡◌, map, take}
-use Rattle.object_settings.proofs.tables.contact_ids.Given as goal
+use Rattle.object_listing.proofs.contacts.contact_ids.Given as goal
 
 -- The contacts so far.
 abbrev pub invariant-loop-number : goal.invariant-loop-number
