@@ -1,5 +1,5 @@
 use Rattle.object_groups.proofs.NumberLemmas.{nodes-more}
-use Rattle.object_groups.proofs.nodes.nodes_of.Goals as goal
+use Rattle.object_groups.proofs.nodes.named_nodes.Goals as goal
 
 pub loop-entry-preserved : goal.loop-entry-preserved
 loop-entry-preserved c =
