@@ -10,10 +10,9 @@ use crate::lists::{NameList, is_list_of, list_directive};
 use object_groups::objects::name_directive;
 use object_inheritance::kinds::{
     has_contacts, is_contact, is_dependency, is_escalation, is_host_or_service, is_period,
-    is_service, kind_number,
+    is_service, kind_number, means_nothing,
 };
 use object_reader::block::BlockKind;
-use object_values::blocks::means_nothing;
 use object_values::options::{CriteriaKind, OptionKind, criteria_in, options_in};
 use object_values::ranges::are_ranges;
 use object_values::values::number_in;

@@ -5,7 +5,7 @@ ghost use Rattle.object_inheritance.specs.Kinds.{has_contacts, is_contact, is_co
 ghost use Rattle.object_inheritance.specs.Kinds.{is_escalation, is_group, is_host, is_host_group};
 ghost use Rattle.object_inheritance.specs.Kinds.{is_host_or_service, is_period, is_service};
 ghost use Rattle.object_inheritance.specs.Kinds.{is_service_dependency, is_service_group, lists_hosts};
-ghost use Rattle.object_inheritance.specs.Kinds.{lists_services};
+ghost use Rattle.object_inheritance.specs.Kinds.{lists_services, means_nothing};
 ghost use Rattle.object_inheritance.specs.Templates.{kind_number};
 
 use object_reader::block::BlockKind;
@@ -147,4 +147,11 @@ pub fn lists_services(kind: BlockKind) -> bool
         kind,
         BlockKind::ServiceEscalation | BlockKind::ServiceDependency
     )
+}
+
+/// Whether blocks of the type say nothing of notifications. They are passed over.
+pub fn means_nothing(kind: BlockKind) -> bool
+    ensures { result ≡ means_nothing kind }
+{
+    matches!(kind, BlockKind::HostExtInfo | BlockKind::ServiceExtInfo)
 }

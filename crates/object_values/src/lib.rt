@@ -2,7 +2,6 @@
 //! ranges of times (chapter "Object Definitions").
 #![tactic(auto)]
 
-pub mod blocks;
 pub mod options;
 pub mod ranges;
 pub mod values;
