@@ -23,7 +23,7 @@ fn name_of(fault: ValueFault) -> &'static str {
 }
 
 /// The line and the fault of the first block with one; nothing where there is none.
-fn fault_text(alloc: Global, text: &str) -> Result<String, AllocError> {
+pub(crate) fn fault_text(alloc: Global, text: &str) -> Result<String, AllocError> {
     let mut out = String::new(alloc);
     let Ok(blocks) = read(alloc, text.as_bytes()) else {
         out.push_str("unread")?;
@@ -308,7 +308,7 @@ const EXCLUSIONS: [(&str, &str); 18] = [
 ];
 
 /// Checks that the first fault of each text is the one beside it.
-fn have_faults(rt: &impl Abort, alloc: Global, cases: &[(&str, &str)]) -> Result<(), Fail> {
+pub(crate) fn have_faults(rt: &impl Abort, alloc: Global, cases: &[(&str, &str)]) -> Result<(), Fail> {
     for case in cases {
         let text = case.0;
         let found = fault_text(alloc, text)?;
