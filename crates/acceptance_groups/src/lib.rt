@@ -1,11 +1,9 @@
-//! Tests of what the lists and values of object text say: groups, hosts of services, options, and the faults of
-//! values; on values from outside. There is no code here.
+//! Tests of what the lists and values of object text say: groups, hosts of services, options; on values from outside.
+//! There is no code here.
 #![tactic(auto)]
 
 #[cfg(test)]
 mod directives;
-#[cfg(test)]
-mod faults;
 #[cfg(test)]
 mod members;
 #[cfg(test)]

@@ -1,6 +1,7 @@
 //! The plain look-ups of periods and dependencies. Values are those of worked examples, or reckoned by hand; periods are
 //! compared with the same as they are worked out.
 
+use crate::periods::ROWS;
 use acceptance_inputs::accepted::is_accepted;
 use acceptance_inputs::configs::object;
 use acceptance_inputs::periods::{Row, periods};
@@ -21,72 +22,9 @@ use zone_times::clock::ZoneClock;
 use zone_times::given::zone_given;
 
 /// Tea, lunch without tea, a Thursday without lunch, and two ranges of one day.
-const ROWS: [Row; 4] = [
-    Row {
-        first: 4,
-        last: 4,
-        ranges: &[Range {
-            start: 45_000,
-            end: 45_900,
-        }],
-        excludes: &[],
-    },
-    Row {
-        first: 4,
-        last: 4,
-        ranges: &[Range {
-            start: 43_200,
-            end: 46_800,
-        }],
-        excludes: &[PeriodId(0)],
-    },
-    Row {
-        first: 4,
-        last: 4,
-        ranges: &[Range {
-            start: 0,
-            end: 86_400,
-        }],
-        excludes: &[PeriodId(1)],
-    },
-    Row {
-        first: 4,
-        last: 5,
-        ranges: &[
-            Range {
-                start: 44_000,
-                end: 45_000,
-            },
-            Range {
-                start: 45_000,
-                end: 46_000,
-            },
-        ],
-        excludes: &[],
-    },
-];
-
-/// Two hours of Sunday.
-const SUNDAYS: [Row; 2] = [
-    Row {
-        first: 0,
-        last: 0,
-        ranges: &[Range {
-            start: 7_200,
-            end: 10_800,
-        }],
-        excludes: &[],
-    },
-    Row {
-        first: 0,
-        last: 0,
-        ranges: &[Range {
-            start: 3_600,
-            end: 7_200,
-        }],
-        excludes: &[],
-    },
-];
+fn noon() -> [Row; 4] {
+    [ROWS[0], ROWS[1], ROWS[2], ROWS[11]]
+}
 
 /// A period's number, a moment, and the least moment of the period from there on.
 type Case = (u16, u64, Option<u64>);
@@ -244,7 +182,7 @@ fn hosts(alloc: Global, count: u16) -> Result<Objects, AllocError> {
     Objects::new(alloc, hosts)
 }
 
-/// Compares what is answered of so many hosts with these entries and the periods of `ROWS`.
+/// Compares what is answered of so many hosts with these entries and the periods of `noon`.
 fn answers(
     rt: &impl Abort,
     alloc: Global,
@@ -252,7 +190,7 @@ fn answers(
     entries: &[Dependency],
     questions: &[Question<'_>],
 ) -> Result<(), Fail> {
-    let mut config = periods(alloc, &ROWS)?;
+    let mut config = periods(alloc, &noon())?;
     config.objects = hosts(alloc, count)?;
     config.dependencies = Sequence::new(Vec::from_slice(alloc, entries)?);
     assert!(rt; is_accepted(&config));
@@ -267,13 +205,13 @@ fn answers(
 
 #[test]
 fn nested_exclusions(rt: HostRuntime) -> Result<(), Fail> {
-    let config = periods(rt.alloc(), &ROWS)?;
+    let config = periods(rt.alloc(), &noon())?;
     all_give(&rt, rt.alloc(), &config, &Zone::Utc, &BY_UTC, &IN_BY_UTC)
 }
 
 #[test]
 fn summer_time(rt: HostRuntime) -> Result<(), Fail> {
-    let config = periods(rt.alloc(), &SUNDAYS)?;
+    let config = periods(rt.alloc(), &[ROWS[4], ROWS[5]])?;
     match zone_given(rt.alloc(), Some("EST5EDT,M3.2.0,M11.1.0"), None) {
         Ok(zone) => all_give(
             &rt,
@@ -315,7 +253,7 @@ fn goes_over(
 
 #[test]
 fn as_worked_out(rt: HostRuntime) -> Result<(), Fail> {
-    let config = periods(rt.alloc(), &ROWS)?;
+    let config = periods(rt.alloc(), &noon())?;
     let all = compile_all(rt.alloc(), &config)?;
     for (number, period) in all.as_slice().iter().enumerate() {
         goes_over(&rt, rt.alloc(), &config, number as u16, period)?;

@@ -15,8 +15,8 @@ use zone_times::clock::ZoneClock;
 use zone_times::given::zone_given;
 
 /// Tea, lunch without tea, a Thursday without lunch; never; two hours of Sunday, and one of Monday; Thursday, work,
-/// ranges that touch, and the end of Saturday.
-const ROWS: [Row; 11] = [
+/// ranges that touch, and the end of Saturday; ranges about noon that touch, on two days.
+pub(crate) const ROWS: [Row; 12] = [
     Row {
         first: 4,
         last: 4,
@@ -117,6 +117,21 @@ const ROWS: [Row; 11] = [
             start: 82_800,
             end: 86_400,
         }],
+        excludes: &[],
+    },
+    Row {
+        first: 4,
+        last: 5,
+        ranges: &[
+            Range {
+                start: 44_000,
+                end: 45_000,
+            },
+            Range {
+                start: 45_000,
+                end: 46_000,
+            },
+        ],
         excludes: &[],
     },
 ];

@@ -1,48 +1,9 @@
 //! The faults of day lines and lines of dates, as the manual's rules give them.
 
-use object_faults::check::check;
-use object_faults::fault::{PassFault, ValueFault};
-use object_inheritance::templates::Templates;
-use object_reader::reading::read;
+use crate::faults::{fault_text, have_faults};
 use std::alloc::{AllocError, Global};
-use std::fmt::Write;
 use std::process::Abort;
 use std::test::Fail;
-
-/// The name of a fault.
-fn name_of(fault: ValueFault) -> &'static str {
-    match fault {
-        ValueFault::MissingDirective => "MissingDirective",
-        ValueFault::BadNumber => "BadNumber",
-        ValueFault::BadOption => "BadOption",
-        ValueFault::BadRange => "BadRange",
-        ValueFault::Volatile => "Volatile",
-        ValueFault::Exclusion => "Exclusion",
-        ValueFault::DatedException => "DatedException",
-    }
-}
-
-/// The line and the fault of the first block with one; nothing where there is none.
-fn fault_text(alloc: Global, text: &str) -> Result<String, AllocError> {
-    let mut out = String::new(alloc);
-    let Ok(blocks) = read(alloc, text.as_bytes()) else {
-        out.push_str("unread")?;
-        return Ok(out);
-    };
-    let Ok(templates) = Templates::new(alloc, blocks.as_slice()) else {
-        out.push_str("templates")?;
-        return Ok(out);
-    };
-    match check(alloc, &templates) {
-        Ok(()) => {}
-        Err(PassFault::NoMemory) => out.push_str("memory")?,
-        Err(PassFault::AtLine { line, fault }) => {
-            let name = name_of(fault);
-            write!(out, "{line} {name}")?;
-        }
-    }
-    Ok(out)
-}
 
 /// Lines of a period with the name p, and its fault.
 const LINES: [(&str, &str); 34] = [
@@ -156,16 +117,6 @@ fn lines_have_faults(rt: &impl Abort, alloc: Global, cases: &[(&str, &str)]) -> 
         let text = period_with(alloc, lines)?;
         let found = fault_text(alloc, text.as_str())?;
         assert_eq!(rt; found.as_str(), case.1, "{lines}");
-    }
-    Ok(())
-}
-
-/// Checks that the first fault of each text is the one beside it.
-fn have_faults(rt: &impl Abort, alloc: Global, cases: &[(&str, &str)]) -> Result<(), Fail> {
-    for case in cases {
-        let text = case.0;
-        let found = fault_text(alloc, text)?;
-        assert_eq!(rt; found.as_str(), case.1, "{text}");
     }
     Ok(())
 }

@@ -1,9 +1,11 @@
-//! Tests of time periods: those that blocks give, loops of exclusions, and the faults of day lines and lines of
-//! dates; on values from outside. There is no code here.
+//! Tests of time periods: those that blocks give, loops of exclusions; and of the faults that blocks have by themselves,
+//! day lines and lines of dates among them; on values from outside. There is no code here.
 #![tactic(auto)]
 
 #[cfg(test)]
 mod dates;
+#[cfg(test)]
+mod faults;
 #[cfg(test)]
 mod loops;
 #[cfg(test)]

@@ -6,7 +6,7 @@ ghost use Rattle.object_groups.specs.Objects.{objects_in};
 ghost use Rattle.object_reader.specs.declared.block.BlockKind.TheVariants.{Service};
 ghost use Rattle.object_services.specs.Limits.{AreHostLists};
 
-use object_escalations::escalated::{EscalatedObjects, LimitFault};
+use object_escalations::escalated::EscalatedObjects;
 use object_groups::groups::{GroupKind, Groups};
 use object_inheritance::templates::Templates;
 use object_reader::block::Block;
@@ -14,7 +14,7 @@ use object_reader::reading::read;
 use object_service_groups::groups::ServiceGroups;
 use object_services::blocks::ServiceBlocks;
 use object_services::numbers::ServiceNumbers;
-use object_services::services::ServiceHosts;
+use object_services::services::{LimitFault, ServiceHosts};
 use std::alloc::{AllocError, Global};
 use std::fmt::Write;
 use std::test::Fail;

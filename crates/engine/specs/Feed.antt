@@ -1,5 +1,5 @@
 -- What a run takes of a feed.
-use Rattle.std.specs.Prelude.{◌≡◌, ◌≢◌, ℕ, ◌+◌, ◌≤◌, Bool, false, true, not, ◌==◌, All, List, [], ◌∷◌, ◌++◌, length, flat_map, Option, None, Some, IfSome, Result, Ok, Err, if◌then◌else◌}
+use Rattle.std.specs.Prelude.{◌≡◌, ◌≢◌, ℕ, ◌+◌, ◌≤◌, Bool, false, true, ◌==◌, All, List, [], ◌∷◌, ◌++◌, length, flat_map, Option, None, Some, IfSome, Result, Ok, Err, if◌then◌else◌}
 use Rattle.std.specs.List.{list_any}
 use Rattle.due_model.specs.declared.config.Config.{Config}
 use Rattle.due_model.specs.declared.config.Object.{Object}
@@ -9,8 +9,7 @@ use Rattle.due_model.specs.Proper.{IsProper}
 use Rattle.event_feed.specs.declared.fault.FeedFault.{FeedFault}
 use Rattle.event_feed.specs.declared.fault.FeedFault.TheVariants.{Ended, NoMemory}
 use Rattle.event_feed.specs.declared.fault.RefusedLine.{RefusedLine}
-use Rattle.event_feed.specs.Fault.{is_line_fault}
-use Rattle.event_feed.specs.Feed.{Answer, AreGiven, AreGivenBy, Feed, GivesEvent, answers, answers_from, refusal}
+use Rattle.event_feed.specs.Feed.{Answer, AreGiven, AreGivenBy, Feed, GivesEvent, PassesLines, answers, answers_from, ends_feed, refusal}
 use Rattle.text_lines.specs.Lines.{Known, pieces}
 use Rattle.engine.specs.declared.intake.Next.{Next}
 use Rattle.engine.specs.declared.intake.Next.TheVariants.{Accepts, Refused, Over}
@@ -52,11 +51,6 @@ refused_in line (Err fault) = record { line = line; fault = fault } ∷ []
 abbrev pub refusals_in : List Answer → List RefusedLine
 refusals_in given = flat_map (λ answer. refused_in answer.line answer.given) given
 
--- whether a fault ends the feed before its input ends: Cut, Read or Ended
-abbrev pub ends_feed : Result Event FeedFault → Bool
-ends_feed (Ok e) = false
-ends_feed (Err fault) = not (is_line_fault fault)
-
 abbrev pub is_cut : List Answer → Bool
 is_cut given = list_any (λ answer. ends_feed answer.given) given
 
@@ -95,11 +89,6 @@ pub record Kept : Type 0 where
   pub read : Intake
   pub events_room : ℕ
   pub refused_room : ℕ
-
--- the bytes left are the lines after those that were read
-abbrev pub PassesLines : Feed → Feed → Type 0
-PassesLines old new = Known old.bytes new.bytes (λ bytes rest. (before : List (List ℕ))
-    × (pieces bytes ≡ before ++ pieces rest) × (new.line ≡ old.line + length before))
 
 -- These came first of a feed's answers, and the feed goes on after them; what was taken of them, and of any that come after
 -- them, is these events and refused lines first.

@@ -1,5 +1,5 @@
 -- A feed: its lines in order, numbered from 1, and what each answers.
-use Rattle.std.specs.Prelude.{◌≡◌, ◌≢◌, ℕ, ◌+◌, ◌<◌, ◌≤◌, ◌^◌, max, Bool, true, false, All, ◌⊎◌, IfSome, ◌||◌, ◌==◌, if◌then◌else◌, nat_lt, nat_le, List, [], ◌∷◌, ◌++◌, length, replicate, take_while, IsTrue, IsSome, is_some, Option, Some, None, Result, Ok, Err}
+use Rattle.std.specs.Prelude.{◌≡◌, ◌≢◌, ℕ, ◌+◌, ◌<◌, ◌≤◌, ◌^◌, max, Bool, true, false, not, All, ◌⊎◌, IfSome, ◌||◌, ◌==◌, if◌then◌else◌, nat_lt, nat_le, List, [], ◌∷◌, ◌++◌, length, replicate, take_while, IsTrue, IsSome, is_some, Option, Some, None, Result, Ok, Err}
 use Rattle.due_model.specs.Proper.{IsProper}
 use Rattle.due_model.specs.declared.config.Config.{Config}
 use Rattle.due_model.specs.declared.config.Object.{Object}
@@ -267,3 +267,15 @@ pub record GivesFault (objects : List Object) (old : Feed) (fault : RefusedLine)
   pub number : fault.line ≡ new.line
   pub last : new.last ≡ old.last
   pub line : old.line < new.line
+
+-- ---- for those who read a feed
+
+-- whether a fault ends the feed before its input ends: Cut, Read or Ended
+abbrev pub ends_feed : Result Event FeedFault → Bool
+ends_feed (Ok e) = false
+ends_feed (Err fault) = not (is_line_fault fault)
+
+-- the bytes left are the lines after those that were read
+abbrev pub PassesLines : Feed → Feed → Type 0
+PassesLines old new = Known old.bytes new.bytes (λ bytes rest. (before : List (List ℕ))
+    × (pieces bytes ≡ before ++ pieces rest) × (new.line ≡ old.line + length before))

@@ -2,3 +2,4 @@ pub mod Fault
 pub mod Line
 pub mod Feed
 pub mod Feeder
+pub mod FeedLaws

@@ -83,8 +83,8 @@ impl Reach {
         &self.queue[..self.count]
     }
 
-    /// Begins a search: nothing is found.
-    fn begin(&mut self)
+    /// Begins a search: nothing is found. With `find` a walk of one's own is made, whose queue is `found`.
+    pub fn begin(&mut self)
         ensures { self.new ≡ record { nodes = self.old.nodes; found = [] } }
     {
         if self.stamp == u32::MAX {
@@ -96,7 +96,7 @@ impl Reach {
     }
 
     /// Finds a node, if it isn't found yet.
-    fn find(&mut self, node: u32)
+    pub fn find(&mut self, node: u32)
         requires { node < self.old.nodes }
         ensures nodes { self.new.nodes ≡ self.old.nodes }
         ensures gains { Gains self.old.found (node ∷ []) self.new.found }

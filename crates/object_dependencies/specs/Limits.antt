@@ -2,8 +2,8 @@
 use Rattle.std.specs.Prelude.{◌≡◌, ℕ, ◌+◌, ◌<◌, ◌≤◌, List, length, sum_by, Some, slice_get}
 use Rattle.due_model.specs.Limits.{max_dependencies}
 use Rattle.object_reader.specs.declared.block.Block.{Block}
-use Rattle.object_dependencies.specs.declared.pairs.LimitFault.{LimitFault}
-use Rattle.object_dependencies.specs.declared.pairs.LimitFault.TheVariants.{TooMany, NoMemory}
+use Rattle.object_services.specs.declared.services.LimitFault.{LimitFault}
+use Rattle.object_services.specs.declared.services.LimitFault.TheVariants.{TooMany, NoMemory}
 use Rattle.object_dependencies.specs.Pairs.{ArePairsBelow, Pair}
 
 -- The blocks below a place give so many dependencies: each block one for each of its pairs.

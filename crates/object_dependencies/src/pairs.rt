@@ -3,7 +3,6 @@
 ghost use Rattle.std.specs.Prelude.{◌≡◌, ◌≤◌, ◌<◌, ◌++◌, ◌∷◌, [], length, slice_index_or, sum_by};
 ghost use Rattle.std.specs.Prelude.{IfErr, IfOk, OnOk};
 ghost use Rattle.due_model.specs.Limits.{max_dependencies};
-ghost use Rattle.object_dependencies.specs.declared.pairs.LimitFault.TheVariants.{NoMemory};
 ghost use Rattle.object_dependencies.specs.Limits.{IsRefusal};
 ghost use Rattle.object_dependencies.specs.Pairs.{ArePairsBelow, paired};
 ghost use Rattle.object_groups.specs.declared.groups.GroupKind.TheVariants.{HostGroups};
@@ -13,26 +12,9 @@ use crate::sides::Sides;
 use due_model::limits::MAX_DEPENDENCIES;
 use object_groups::groups::Groups;
 use object_service_groups::groups::ServiceGroups;
+use object_services::services::LimitFault;
 use std::alloc::{AllocError, Global};
 use std::marker::Model;
-
-/// Why the dependencies of blocks aren't given.
-#[derive(Clone, Copy, Debug, PartialEq, Eq)]
-pub enum LimitFault {
-    /// With the block at this place, whose `define` is at this line, there are over 1,000,000 dependencies: one for
-    /// each dependent and each master of a block that is kept.
-    TooMany { place: usize, line: u64 },
-    /// Memory ran out. It says nothing of the blocks.
-    NoMemory,
-}
-
-impl From<AllocError> for LimitFault {
-    ghost from_gives = { λ _ fault. fault ≡ NoMemory };
-
-    fn from(_error: AllocError) -> LimitFault {
-        LimitFault::NoMemory
-    }
-}
 
 /// Adds the pairs of one block.
 fn keep(sides: &mut Vec<Sides>, pairs: Sides) -> Result<(), AllocError>

@@ -6,8 +6,8 @@ use Rattle.object_listing.specs.Listing.{AreThose}
 use Rattle.object_reached.specs.declared.roles.Role.TheVariants.{Escalated}
 use Rattle.object_reached.specs.Reached as reached
 use Rattle.object_reader.specs.declared.block.Block.{Block}
-use Rattle.object_escalations.specs.declared.escalated.LimitFault.{LimitFault}
-use Rattle.object_escalations.specs.declared.escalated.LimitFault.TheVariants.{TooMany, NoMemory}
+use Rattle.object_services.specs.declared.services.LimitFault.{LimitFault}
+use Rattle.object_services.specs.declared.services.LimitFault.TheVariants.{TooMany, NoMemory}
 
 -- The registered block at the place is an escalation, and speaks of the object; where these are the hosts of each
 -- service block.

@@ -7,7 +7,7 @@ use Rattle.due_model.specs.declared.config.ContactId.{ContactId}
 use Rattle.due_model.specs.declared.config.Escalation.{Escalation}
 use Rattle.due_model.specs.declared.config.Object.{Object}
 use Rattle.object_groups.specs.Objects.{is_object, names_in}
-use Rattle.object_listing.specs.Listing.{AreThose, contact_directives, gives_neither, IsListed, ListingOf}
+use Rattle.object_listing.specs.Listing.{AreThose, contact_directives, gives_neither, IsListed}
 use Rattle.object_reader.specs.declared.block.Block.{Block}
 use Rattle.object_reader.specs.declared.block.BlockKind.TheVariants.{HostEscalation, TimePeriod}
 use Rattle.object_readings.specs.Readings.{letters_at, number_at, own_number, own_period}
@@ -35,9 +35,9 @@ pub record AreFilters (blocks : List Block) (filters : Filters) : Type 0 where
       filters.options ≡ record { blocks = blocks; directive = codes "escalation_options" }
 
 -- and for those that say who is told
-pub record AreTables (blocks : List Block) (contacts : ListingOf) (times : Times)
+pub record AreTables (blocks : List Block) (contacts : List Block) (times : Times)
     (filters : Filters) : Type 0 where
-  pub contacts_are : contacts ≡ record { blocks = blocks; directives = contact_directives }
+  pub contacts_are : contacts ≡ blocks
   pub times_are : AreTimes blocks times
   pub filters_are : AreFilters blocks filters
 

@@ -3,7 +3,6 @@
 ghost use Rattle.std.specs.Prelude.{◌≡◌, ◌≤◌, ◌++◌, ◌∷◌, [], length, map, slice_index_or, sum_by};
 ghost use Rattle.std.specs.Prelude.{IfErr, IfOk, OnOk};
 ghost use Rattle.due_model.specs.Limits.{max_escalations};
-ghost use Rattle.object_escalations.specs.declared.escalated.LimitFault.TheVariants.{NoMemory};
 ghost use Rattle.object_escalations.specs.Escalated.{AreEscalated, IsRefusal};
 ghost use Rattle.object_groups.specs.declared.groups.GroupKind.TheVariants.{HostGroups};
 ghost use Rattle.object_groups.specs.Objects.{objects_in};
@@ -17,27 +16,9 @@ use object_reached::reached::{Reached, services_of};
 use object_reached::roles::Role;
 use object_service_groups::groups::ServiceGroups;
 use object_services::blocks::ServiceBlocks;
-use object_services::services::ServiceHosts;
+use object_services::services::{LimitFault, ServiceHosts};
 use std::alloc::{AllocError, Global};
 use std::marker::Model;
-
-/// Why the objects of escalation blocks aren't given.
-#[derive(Clone, Copy, Debug, PartialEq, Eq)]
-pub enum LimitFault {
-    /// With the block at this place, whose `define` is at this line, there are over 1,000,000 escalations: one for each
-    /// object of which an escalation block speaks.
-    TooMany { place: usize, line: u64 },
-    /// Memory ran out. It says nothing of the blocks.
-    NoMemory,
-}
-
-impl From<AllocError> for LimitFault {
-    ghost from_gives = { λ _ fault. fault ≡ NoMemory };
-
-    fn from(_error: AllocError) -> LimitFault {
-        LimitFault::NoMemory
-    }
-}
 
 /// Adds the objects of one block.
 fn keep(lists: &mut Vec<Vec<usize>>, objects: Vec<usize>) -> Result<(), AllocError>

@@ -1,20 +1,19 @@
 //! What escalation blocks give, by themselves or by their templates.
 
-ghost use Rattle.std.specs.Prelude.{◌≡◌, ◌<◌, ◌≤◌, length, map, All, IfOk};
+ghost use Rattle.std.specs.Prelude.{◌≡◌, ◌≤◌, length, IfOk};
 ghost use Rattle.due_model.specs.Limits.{max_contacts, max_periods};
 ghost use Rattle.object_escalations.specs.Given.{AreFilters, AreTimes, IsGiven};
 ghost use Rattle.object_groups.specs.declared.groups.GroupKind.TheVariants.{ContactGroups};
 ghost use Rattle.object_groups.specs.Objects.{names_in};
-ghost use Rattle.object_listing.specs.Listing.{AreThose, contact_directives, IsListed};
 ghost use Rattle.object_reader.specs.declared.block.BlockKind.TheVariants.{Contact, TimePeriod};
 
 use due_model::config::{ContactId, PeriodId};
 use due_model::options::OptionLetters;
-use object_groups::groups::{GroupKind, Groups};
+use object_groups::groups::Groups;
 use object_groups::names::Names;
-use object_inheritance::inherited::Values;
+use object_inheritance::inherited::{Values, values_of};
 use object_inheritance::templates::Templates;
-use object_listing::listing::Listing;
+use object_listing::contacts::ContactListing;
 use object_reader::block::Block;
 use object_readings::readings::{letters_at, number_at, own_number, own_period};
 use object_values::options::OptionKind;
@@ -40,7 +39,7 @@ pub(crate) struct Filters<'a> {
 #[derive(Drop)]
 pub(crate) struct Tables<'a> {
     blocks: &'a [Block],
-    contacts: Listing<'a>,
+    contacts: ContactListing<'a>,
     times: Times<'a>,
     filters: Filters<'a>,
 }
@@ -73,18 +72,6 @@ pub(crate) struct Given {
     pub(crate) options: OptionLetters,
 }
 
-/// What the blocks have for a directive.
-fn values_of<'a>(
-    alloc: Global,
-    templates: &Templates<'a>,
-    directive: &'a str,
-) -> Result<Values<'a>, AllocError>
-    ensures { IfOk result (λ values. values
-        ≡ record { blocks = templates.now; directive = directive.now }) }
-{
-    Values::new(alloc, templates, directive.as_bytes())
-}
-
 /// What the blocks have for the directives that are numbers.
 fn times_of<'a>(alloc: Global, templates: &Templates<'a>) -> Result<Times<'a>, AllocError>
     ensures { IfOk result (AreTimes templates.now) }
@@ -106,48 +93,17 @@ fn filters_of<'a>(alloc: Global, templates: &Templates<'a>) -> Result<Filters<'a
     })
 }
 
-/// The contacts of these numbers.
-fn contact_ids(alloc: Global, numbers: &[usize]) -> Result<Vec<ContactId>, AllocError>
-    requires { All (λ number. number < max_contacts) numbers.now }
-    ensures { IfOk result (λ ids. map (λ id. id.0) ids.items ≡ numbers.now) }
-{
-    let mut ids = Vec::new(alloc);
-    for number in numbers {
-        ids.push(ContactId(*number as u16))?;
-    }
-    Ok(ids)
-}
-
 impl<'a> Tables<'a> {
     /// What the blocks have for these directives.
     pub(crate) fn new(alloc: Global, templates: &Templates<'a>) -> Result<Tables<'a>, AllocError>
         ensures { IfOk result (λ tables. tables ≡ templates.now) }
     {
-        let kind = GroupKind::ContactGroups;
         Ok(Tables {
             blocks: templates.blocks(),
-            contacts: Listing::new(alloc, templates, kind, "contacts", "contact_groups")?,
+            contacts: ContactListing::new(alloc, templates)?,
             times: times_of(alloc, templates)?,
             filters: filters_of(alloc, templates)?,
         })
-    }
-
-    /// The contacts that the block at the place lists.
-    fn contacts_at(
-        &self,
-        alloc: Global,
-        groups: &mut Groups<'a>,
-        place: usize,
-    ) -> Result<Vec<ContactId>, AllocError>
-        requires groups { groups.old ≡ record { blocks = self.now; kind = ContactGroups } }
-        requires few { length (names_in self.now Contact) ≤ max_contacts }
-        ensures same { groups.new ≡ groups.old }
-        ensures contacts { IfOk result (λ contacts.
-            AreThose (IsListed self.now contact_directives place)
-            (map (λ contact. contact.0) contacts.items)) }
-    {
-        let numbers = self.contacts.objects_at(alloc, groups, place)?;
-        contact_ids(alloc, numbers.as_slice())
     }
 
     /// What the block at the place gives, where its option list is of that kind.
@@ -166,7 +122,7 @@ impl<'a> Tables<'a> {
         ensures same { groups.new ≡ groups.old }
         ensures given { IfOk result (IsGiven self.now kind place) }
     {
-        let contacts = self.contacts_at(alloc, groups, place)?;
+        let contacts = self.contacts.contacts_at(alloc, groups, place)?;
         Ok(Given {
             lacks_contacts: self.contacts.gives_neither(place),
             contacts,

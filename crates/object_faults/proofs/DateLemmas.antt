@@ -13,7 +13,7 @@ use Rattle.object_faults.specs.Columns.{date_at, date_by, date_fault}
 use Rattle.object_faults.specs.Dated.{dated_line, directive_names, has_line, has_timed, has_time, has_untimed}
 use Rattle.object_faults.specs.declared.fault.ValueFault.{ValueFault}
 use Rattle.object_faults.specs.Faults.{is_registered}
-use Rattle.object_faults.specs.Kinds.{is_period}
+use Rattle.object_inheritance.specs.Kinds.{is_period}
 use Rattle.object_faults.specs.Search.{Entries, HasNoted, noted}
 use Rattle.object_faults.proofs.NoteLemmas.{same-name}
 use Rattle.object_inheritance.specs.Inherited.{first_given, given, given_along, own, sources, value}

@@ -16,7 +16,7 @@ use Rattle.object_faults.specs.declared.needs.Side.TheVariants.{Masters, Depende
 use Rattle.object_faults.specs.Columns.{any_at, column_fault, date_at, date_by, date_fault, first_of, IsFirst, lower_fault, name_columns, plain_fault, registered_fault, side_fault, value_columns, whole_at}
 use Rattle.object_faults.specs.Dated.{has_timed, has_untimed}
 use Rattle.object_faults.specs.Faults.{AreFree, fault_by, fault_of, is_broken, is_lacking, is_registered, IsFirstFault, lacks, value_fault}
-use Rattle.object_faults.specs.Kinds.{is_period}
+use Rattle.object_inheritance.specs.Kinds.{is_period}
 use Rattle.object_faults.proofs.RankLemmas.{merged}
 use Rattle.object_faults.specs.Tables.{name_lists, names, numbers, option_lists, range_lines, zeros}
 

@@ -12,14 +12,13 @@ use Rattle.std.proofs.lemmas.Option.{get_or_from_slice_get, slice_get-get_or, sl
 use Rattle.lemmas.proofs.Searches.{All-found}
 use Rattle.object_faults.specs.declared.dates.Turn.{Turn}
 use Rattle.object_faults.specs.declared.dates.Turn.TheVariants.{Enter, Leave}
-use Rattle.object_faults.specs.Kinds.{is_period}
+use Rattle.object_inheritance.specs.Kinds.{is_period, means_nothing}
 use Rattle.object_faults.specs.Search.{IsNext, IsPeriodAt, period_template, used_at}
 use Rattle.object_groups.specs.Names.{number_of}
 use Rattle.object_inheritance.specs.Templates.{is_template, kind_number, template_graph, template_name, template_place, templates_of}
 use Rattle.object_reader.specs.declared.block.Block.{Block}
 use Rattle.object_reader.specs.declared.block.BlockKind.{BlockKind}
 use Rattle.object_reader.specs.declared.block.BlockKind.TheVariants.{Host, HostGroup, Service, ServiceGroup, Contact, ContactGroup, TimePeriod, Command, HostEscalation, ServiceEscalation, HostDependency, ServiceDependency, HostExtInfo, ServiceExtInfo}
-use Rattle.object_values.specs.Blocks.{means_nothing}
 use Rattle.object_values.specs.Values.{entries_of, is_comma, value_in}
 use Rattle.object_reader.specs.Blanks.{trimmed}
 

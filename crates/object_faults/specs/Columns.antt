@@ -8,7 +8,6 @@ use Rattle.object_reader.specs.declared.block.BlockKind.{BlockKind}
 use Rattle.object_reader.specs.declared.block.BlockKind.TheVariants.{Host, HostGroup, Service, ServiceGroup, Contact, ContactGroup, TimePeriod, Command, HostEscalation, ServiceEscalation, HostDependency, ServiceDependency}
 use Rattle.object_groups.specs.Objects.{name_directive}
 use Rattle.object_inheritance.specs.Templates.{kind_number}
-use Rattle.object_values.specs.Blocks.{means_nothing}
 use Rattle.object_values.specs.declared.options.OptionKind.TheVariants as lists
 use Rattle.object_values.specs.declared.options.CriteriaKind.TheVariants.{OfHosts, OfServices}
 use Rattle.object_faults.specs.declared.column.Check.{Check}
@@ -23,7 +22,7 @@ use Rattle.object_faults.specs.declared.needs.Side.{Side}
 use Rattle.object_faults.specs.declared.needs.Side.TheVariants.{Masters, Dependents}
 use Rattle.object_faults.specs.Dated.{has_timed, has_untimed}
 use Rattle.object_faults.specs.Faults.{fault_by, is_broken, is_lacking, is_registered, lacks}
-use Rattle.object_faults.specs.Kinds.{has_interval, is_contact, is_dependency, is_escalation, is_host_or_service, is_period, is_service}
+use Rattle.object_inheritance.specs.Kinds.{has_contacts, is_contact, is_dependency, is_escalation, is_host_or_service, is_period, is_service, means_nothing}
 use Rattle.object_faults.specs.Lists.{is_list_of, list_directive}
 use Rattle.object_faults.specs.Tables.{name_lists, numbers, option_lists, range_lines, zeros}
 
@@ -79,7 +78,7 @@ criteria_check _ = None
 abbrev pub check_of : Column → BlockKind → Option Check
 check_of (Name named) kind = when (kind_number kind == kind_number named) Given
 check_of Register kind = when (not (means_nothing kind)) Number
-check_of Interval kind = when (has_interval kind) Number
+check_of Interval kind = when (has_contacts kind) Number
 check_of Enabled kind = when (is_host_or_service kind) Number
 check_of Delay kind = when (is_host_or_service kind) Number
 check_of HostEnabled kind = when (is_contact kind) Number

@@ -8,7 +8,6 @@ use Rattle.object_groups.specs.Names.{is_exclusion}
 use Rattle.object_groups.specs.Objects.{list_at}
 use Rattle.object_inheritance.specs.Inherited.{value}
 use Rattle.object_inheritance.specs.Registered.{registers}
-use Rattle.object_values.specs.Blocks.{means_nothing}
 use Rattle.object_values.specs.Options.{criteria_in, options_in}
 use Rattle.object_values.specs.Ranges.{are_ranges}
 use Rattle.object_values.specs.Values.{number_in, value_in}
@@ -23,7 +22,7 @@ use Rattle.object_faults.specs.declared.needs.Need.{Need}
 use Rattle.object_faults.specs.declared.needs.Need.TheVariants as needs
 use Rattle.object_faults.specs.declared.needs.Side.{Side}
 use Rattle.object_faults.specs.declared.needs.Side.TheVariants.{Masters, Dependents}
-use Rattle.object_faults.specs.Kinds.{is_period}
+use Rattle.object_inheritance.specs.Kinds.{is_period, means_nothing}
 use Rattle.object_faults.specs.Tables.{description_directive, group_directive, host_directive, service_group_directive}
 use Rattle.object_faults.specs.Tables.{name_lists, names, needed, numbers, option_lists, range_lines, zeros}
 

@@ -1,7 +1,6 @@
 pub mod Tables
 pub mod Dated
 pub mod Faults
-pub mod Kinds
 pub mod Lists
 pub mod Columns
 pub mod Needs

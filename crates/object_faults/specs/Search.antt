@@ -8,7 +8,7 @@ use Rattle.std.specs.Str.{bytes_eq}
 use Rattle.object_faults.specs.Dated.{dated_line, has_time}
 use Rattle.object_faults.specs.declared.dates.Turn.{Turn}
 use Rattle.object_faults.specs.declared.dates.Turn.TheVariants.{Enter, Leave}
-use Rattle.object_faults.specs.Kinds.{is_period}
+use Rattle.object_inheritance.specs.Kinds.{is_period}
 use Rattle.object_inheritance.specs.Inherited.{first_given, given, value}
 use Rattle.object_inheritance.specs.Templates.{template_graph, template_name}
 use Rattle.object_reader.specs.declared.block.Block.{Block}

@@ -6,15 +6,13 @@ ghost use Rattle.object_faults.specs.Columns.{escalation_check, fault_name, opti
 ghost use Rattle.object_faults.specs.Faults.{breaks};
 
 use crate::fault::ValueFault;
-use crate::kinds::{
-    has_interval, is_contact, is_dependency, is_escalation, is_host_or_service, is_period,
-    is_service,
-};
 use crate::lists::{NameList, is_list_of, list_directive};
 use object_groups::objects::name_directive;
-use object_inheritance::kinds::kind_number;
+use object_inheritance::kinds::{
+    has_contacts, is_contact, is_dependency, is_escalation, is_host_or_service, is_period,
+    is_service, kind_number, means_nothing,
+};
 use object_reader::block::BlockKind;
-use object_values::blocks::means_nothing;
 use object_values::options::{CriteriaKind, OptionKind, criteria_in, options_in};
 use object_values::ranges::are_ranges;
 use object_values::values::number_in;
@@ -181,7 +179,7 @@ pub(crate) fn check_of(column: Column, kind: BlockKind) -> Option<Check>
     match column {
         Column::Name(named) => when(kind_number(kind) == kind_number(named), Check::Given),
         Column::Register => number_where(!means_nothing(kind)),
-        Column::Interval => number_where(has_interval(kind)),
+        Column::Interval => number_where(has_contacts(kind)),
         Column::Enabled => number_where(is_host_or_service(kind)),
         Column::Delay => number_where(is_host_or_service(kind)),
         Column::IsVolatile => number_where(is_service(kind)),

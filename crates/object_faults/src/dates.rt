@@ -15,9 +15,9 @@ ghost use Rattle.object_values.specs.Values.{texts, value_in};
 
 use crate::fault::ValueFault;
 use crate::first::{Found, is_registered};
-use crate::kinds::is_period;
 use indexmap::IndexMap;
 use object_groups::names::Names;
+use object_inheritance::kinds::is_period;
 use object_inheritance::templates::Templates;
 use object_reader::block::{Block, Directive};
 use object_values::ranges::is_dated;

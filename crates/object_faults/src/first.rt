@@ -17,10 +17,10 @@ use crate::needs::{Needs, Side};
 use object_groups::names::has_exclusion;
 use object_groups::objects::list_at;
 use object_inheritance::inherited::Values;
+use object_inheritance::kinds::means_nothing;
 use object_inheritance::registered::registers;
 use object_inheritance::templates::Templates;
 use object_reader::block::{Block, BlockKind};
-use object_values::blocks::means_nothing;
 use object_values::values::value_in;
 use std::alloc::{AllocError, Global};
 

@@ -8,6 +8,5 @@ pub mod column;
 mod dates;
 pub mod fault;
 mod first;
-mod kinds;
 pub mod lists;
 pub mod needs;

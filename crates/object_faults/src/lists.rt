@@ -2,13 +2,13 @@
 
 ghost use Rattle.std.specs.Prelude.{◌≡◌};
 ghost use Rattle.object_faults.specs.Lists.{is_list_of, list_directive};
-ghost use Rattle.object_faults.specs.Kinds.{has_interval, is_contact, is_contact_group, is_dependency};
-ghost use Rattle.object_faults.specs.Kinds.{is_group, is_host, is_host_group, is_period, is_service};
-ghost use Rattle.object_faults.specs.Kinds.{is_service_dependency, is_service_group};
-ghost use Rattle.object_faults.specs.Kinds.{lists_hosts, lists_services};
+ghost use Rattle.object_inheritance.specs.Kinds.{has_contacts, is_contact, is_contact_group, is_dependency};
+ghost use Rattle.object_inheritance.specs.Kinds.{is_group, is_host, is_host_group, is_period, is_service};
+ghost use Rattle.object_inheritance.specs.Kinds.{is_service_dependency, is_service_group};
+ghost use Rattle.object_inheritance.specs.Kinds.{lists_hosts, lists_services};
 
-use crate::kinds::{
-    has_interval, is_contact, is_contact_group, is_dependency, is_group, is_host, is_host_group,
+use object_inheritance::kinds::{
+    has_contacts, is_contact, is_contact_group, is_dependency, is_group, is_host, is_host_group,
     is_period, is_service, is_service_dependency, is_service_group, lists_hosts, lists_services,
 };
 use object_reader::block::BlockKind;
@@ -102,8 +102,8 @@ pub(crate) fn is_list_of(list: NameList, kind: BlockKind) -> bool
         NameList::DependentHostGroupNames => is_dependency(kind),
         NameList::DependentDescriptions => is_service_dependency(kind),
         NameList::DependentServiceGroupNames => is_service_dependency(kind),
-        NameList::Contacts => has_interval(kind),
-        NameList::GroupsOfContacts => has_interval(kind),
+        NameList::Contacts => has_contacts(kind),
+        NameList::GroupsOfContacts => has_contacts(kind),
         NameList::HostCommands => is_contact(kind),
         NameList::ServiceCommands => is_contact(kind),
         NameList::Members => is_group(kind),

@@ -7,7 +7,7 @@ ghost use Rattle.object_faults.specs.Tables.{masters_alone, needed, service_grou
 ghost use Rattle.object_groups.specs.Objects.{list_at};
 
 use object_groups::objects::list_at;
-use object_inheritance::inherited::Values;
+use object_inheritance::inherited::{Values, values_of};
 use object_inheritance::templates::Templates;
 use object_reader::block::{Block, BlockKind};
 use std::alloc::{AllocError, Global};
@@ -55,18 +55,6 @@ fn needed(kind: BlockKind, side: Side) -> Need
         BlockKind::ServiceDependency => Need::Services,
         _ => Need::Nothing,
     }
-}
-
-/// What the blocks have for a directive.
-fn values_of<'a>(
-    alloc: Global,
-    templates: &Templates<'a>,
-    directive: &'a str,
-) -> Result<Values<'a>, AllocError>
-    ensures { IfOk result (λ values. values
-        ≡ record { blocks = templates.now; directive = directive.now }) }
-{
-    Values::new(alloc, templates, directive.as_bytes())
 }
 
 /// What the blocks have for the lists of hosts on a side.

@@ -71,6 +71,15 @@ none-more p xs i d within before is =
     ap (list_any p) (texts-more xs i d within) ∙ list_any-append p (texts (take i xs)) ((get_or xs i d).now ∷ [])
     ∙ or-false (list_any p (texts (take i xs))) (p ((get_or xs i d).now)) before is
 
+pub numbers-more : (names : List (List ℕ)) (xs : List (Bor (List ℕ))) (i : ℕ) (d : Bor (List ℕ)) (old new : List ℕ) (found : Option ℕ) → i < length xs
+    → old ≡ numbers_of names (texts (take i xs)) → found ≡ number_of names ((get_or xs i d).now) → new ≡ old ++ option_to_list found
+    → new ≡ numbers_of names (texts (take (i + 1) xs))
+numbers-more names xs i d old new found within before is more =
+    let all : numbers_of names (texts (take (i + 1) xs)) ≡ numbers_of names (texts (take i xs)) ++ option_to_list found =
+    ap (numbers_of names) (texts-more xs i d within) ∙ filter_map-append (number_of names) (texts (take i xs)) ((get_or xs i d).now ∷ [])
+    ∙ ap (λ one. numbers_of names (texts (take i xs)) ++ one) (found-one (number_of names ((get_or xs i d).now)) ∙ ap option_to_list (sym is)) in
+    more ∙ ap (λ numbers. numbers ++ option_to_list found) before ∙ sym all
+
 pub nodes-more : (first : ℕ) (names : List (List ℕ)) (xs : List (Bor (List ℕ))) (i : ℕ) (d : Bor (List ℕ)) (old new : List ℕ) (found : Option ℕ) → i < length xs
     → old ≡ map (λ number. first + number) (numbers_of names (texts (take i xs))) → found ≡ number_of names ((get_or xs i d).now)
     → new ≡ old ++ map (λ number. first + number) (option_to_list found)

@@ -14,7 +14,7 @@ use crate::nodes::{push_group, push_object};
 use crate::objects::{Objects, list_at};
 use graph::edges::{Edge, Graph};
 use graph::reach::Reach;
-use object_inheritance::inherited::Values;
+use object_inheritance::inherited::{Values, values_of};
 use object_inheritance::templates::Templates;
 use object_reader::block::{Block, BlockKind};
 use std::alloc::{AllocError, Global};
@@ -49,18 +49,6 @@ impl GroupKind {
             GroupKind::ContactGroups => BlockKind::ContactGroup,
         }
     }
-}
-
-/// What the blocks have for a directive.
-fn values_of<'a>(
-    alloc: Global,
-    templates: &Templates<'a>,
-    directive: &'a str,
-) -> Result<Values<'a>, AllocError>
-    ensures { IfOk result (λ values. values
-        ≡ record { blocks = templates.now; directive = directive.now }) }
-{
-    Values::new(alloc, templates, directive.as_bytes())
 }
 
 /// What the blocks have for the directive by which a group lists groups.

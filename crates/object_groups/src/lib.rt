@@ -5,5 +5,5 @@
 pub mod groups;
 pub mod laws;
 pub mod names;
-mod nodes;
+pub mod nodes;
 pub mod objects;

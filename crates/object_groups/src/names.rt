@@ -3,8 +3,9 @@
 ghost use Rattle.std.specs.Prelude.{◌≡◌, ℕ, ◌<◌, ◌++◌, ◌∷◌, List, [], is_none};
 ghost use Rattle.std.specs.Prelude.{length, slice_index_or, IfOk, IfSome, OnOk};
 ghost use Rattle.std.specs.List.{list_any};
+ghost use Rattle.std.specs.Option.{option_to_list};
 ghost use Rattle.object_groups.specs.Names.{has_unknown, HasNumbers, is_all, is_doubled, is_exclusion};
-ghost use Rattle.object_groups.specs.Names.{number_of};
+ghost use Rattle.object_groups.specs.Names.{number_of, numbers_of};
 ghost use Rattle.object_values.specs.Values.{texts};
 
 use indexmap::IndexMap;
@@ -149,4 +150,31 @@ impl<'a> Names<'a> {
         }
         false
     }
+}
+
+/// Adds the number of a name that is found.
+fn push_number(numbers: &mut Vec<usize>, found: Option<usize>) -> Result<(), AllocError>
+    ensures { OnOk result (numbers.new.items ≡ numbers.old.items ++ option_to_list found) }
+{
+    if let Some(number) = found {
+        numbers.push(number)?;
+    }
+    Ok(())
+}
+
+/// The numbers of the names that a list has, entry by entry; one that none of the names is has none. A refused growth
+/// leaves nothing.
+pub fn numbers_of<'a>(
+    alloc: Global,
+    names: &Names<'a>,
+    entries: &[&'a [u8]],
+) -> Result<Vec<usize>, AllocError>
+    ensures { IfOk result (λ numbers.
+        numbers.items ≡ numbers_of names.now (texts entries.now)) }
+{
+    let mut numbers = Vec::new(alloc);
+    for entry in entries {
+        push_number(&mut numbers, names.find(*entry))?;
+    }
+    Ok(numbers)
 }

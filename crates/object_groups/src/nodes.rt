@@ -24,6 +24,24 @@ fn push_node(nodes: &mut Vec<u32>, first: u32, found: Option<usize>) -> Result<(
     Ok(())
 }
 
+/// The nodes of the names that a list has, where the node of the first name is `first`. A refused growth leaves nothing.
+pub fn named_nodes<'a>(
+    alloc: Global,
+    names: &Names<'a>,
+    entries: &[&'a [u8]],
+    first: u32,
+) -> Result<Vec<u32>, AllocError>
+    requires { first + length names.now < 2 ^ 32 }
+    ensures { IfOk result (λ nodes. nodes.items
+        ≡ map (λ number. first + number) (numbers_of names.now (texts entries.now))) }
+{
+    let mut nodes = Vec::new(alloc);
+    for entry in entries {
+        push_node(&mut nodes, first, names.find(*entry))?;
+    }
+    Ok(nodes)
+}
+
 /// The nodes that a list names, where the node of the first name is `first`: `all`, where it names all.
 fn nodes_of<'a>(
     alloc: Global,
@@ -36,19 +54,14 @@ fn nodes_of<'a>(
     ensures { IfOk result (λ nodes. nodes.items
         ≡ nodes_of names.now (texts entries.now) first all) }
 {
-    let mut nodes = Vec::new(alloc);
     if is_all(entries) {
-        nodes.push(all)?;
-        return Ok(nodes);
+        return Vec::from_slice(alloc, &[all]);
     }
-    for entry in entries {
-        push_node(&mut nodes, first, names.find(*entry))?;
-    }
-    Ok(nodes)
+    named_nodes(alloc, names, entries, first)
 }
 
-/// Adds edges from a node to others.
-fn push_from(edges: &mut Vec<Edge>, from: u32, nodes: &[u32]) -> Result<(), AllocError>
+/// Adds edges from a node to others. A refused growth leaves those that were added.
+pub fn push_from(edges: &mut Vec<Edge>, from: u32, nodes: &[u32]) -> Result<(), AllocError>
     ensures { OnOk result (edges.new.items ≡ edges.old.items ++ map (edge from) nodes.now) }
 {
     for to in nodes {
@@ -57,8 +70,8 @@ fn push_from(edges: &mut Vec<Edge>, from: u32, nodes: &[u32]) -> Result<(), Allo
     Ok(())
 }
 
-/// Adds edges from others to a node.
-fn push_to(edges: &mut Vec<Edge>, nodes: &[u32], to: u32) -> Result<(), AllocError>
+/// Adds edges from others to a node. A refused growth leaves those that were added.
+pub fn push_to(edges: &mut Vec<Edge>, nodes: &[u32], to: u32) -> Result<(), AllocError>
     ensures { OnOk result (edges.new.items
         ≡ edges.old.items ++ map (λ from. edge from to) nodes.now) }
 {

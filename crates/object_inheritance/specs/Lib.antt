@@ -5,3 +5,4 @@ pub mod Faults
 pub mod Registered
 pub mod Columns
 pub mod Laws
+pub mod Kinds

@@ -7,7 +7,7 @@ use Rattle.graph.specs.declared.edges.Edge.{Edge}
 use Rattle.object_reader.specs.declared.block.Block.{Block}
 use Rattle.object_reader.specs.declared.block.BlockKind.{BlockKind}
 use Rattle.object_reader.specs.declared.block.BlockKind.TheVariants.{Host, HostGroup, Service, ServiceGroup, Contact, ContactGroup, TimePeriod, Command, HostEscalation, ServiceEscalation, HostDependency, ServiceDependency, HostExtInfo, ServiceExtInfo}
-use Rattle.object_values.specs.Blocks.{means_nothing}
+use Rattle.object_inheritance.specs.Kinds.{means_nothing}
 use Rattle.object_values.specs.Values.{entries_of, value_in}
 
 -- The number of a type. Two blocks are of one type where these numbers are equal.

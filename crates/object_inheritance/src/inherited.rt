@@ -253,3 +253,15 @@ impl<'a> Values<'a> {
         Ok(Some(list))
     }
 }
+
+/// What the blocks have for a directive. As `Values::new`.
+pub fn values_of<'a>(
+    alloc: Global,
+    templates: &Templates<'a>,
+    directive: &'a str,
+) -> Result<Values<'a>, AllocError>
+    ensures { IfOk result (λ values. values
+        ≡ record { blocks = templates.now; directive = directive.now }) }
+{
+    Values::new(alloc, templates, directive.as_bytes())
+}

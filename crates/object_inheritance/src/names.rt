@@ -8,10 +8,9 @@ ghost use Rattle.object_inheritance.specs.Names.{HasFirsts};
 ghost use Rattle.object_inheritance.specs.Templates.{template_name, template_place, used_names};
 ghost use Rattle.object_values.specs.Values.{texts};
 
-use crate::kinds::kind_number;
+use crate::kinds::{kind_number, means_nothing};
 use indexmap::IndexMap;
 use object_reader::block::{Block, BlockKind};
-use object_values::blocks::means_nothing;
 use object_values::values::{entries_in, value_in};
 use std::alloc::{AllocError, Global};
 use std::marker::Model;

@@ -64,6 +64,11 @@ pub record AreLists (blocks : List Block) (objects groups : Column)
   pub objects_are : objects ≡ record { blocks = blocks; directive = listing.objects }
   pub groups_are : groups ≡ record { blocks = blocks; directive = listing.groups }
 
+-- what they have for the directives by which a block lists contacts
+abbrev pub AreContactLists : List Block → ListingOf → Type 0
+AreContactLists blocks contacts =
+    contacts ≡ record { blocks = blocks; directives = contact_directives }
+
 -- these numbers, and exactly those beside them of which `P` says so
 abbrev pub Adds : (P : ℕ → Type 0) → (old new : List ℕ) → Type 0
 Adds P old new = (k : ℕ) → Contains new k ↔ (Contains old k ⊎ P k)

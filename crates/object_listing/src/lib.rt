@@ -2,6 +2,7 @@
 //! services, the contacts of hosts and services, and those that escalations and dependencies speak of.
 #![tactic(auto)]
 
+pub mod contacts;
 pub mod laws;
 pub mod listing;
-mod numbers;
+pub mod numbers;

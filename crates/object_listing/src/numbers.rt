@@ -3,15 +3,14 @@
 ghost use Rattle.std.specs.Prelude.{◌≡◌, ℕ, ◌++◌, ◌↔◌, Contains, IfOk, OnOk};
 ghost use Rattle.std.specs.List.{range_with_len};
 ghost use Rattle.std.specs.List.Sorted.{IsStrictlyIncreasing};
-ghost use Rattle.std.specs.Option.{option_to_list};
 ghost use Rattle.object_groups.specs.Groups.{grouping};
 ghost use Rattle.object_groups.specs.Members.{IsMember};
-ghost use Rattle.object_groups.specs.Names.{Lists, numbers_of};
+ghost use Rattle.object_groups.specs.Names.{Lists};
 ghost use Rattle.object_listing.specs.Listing.{Adds};
 ghost use Rattle.object_values.specs.Values.{texts};
 
 use object_groups::groups::Groups;
-use object_groups::names::{Names, is_all};
+use object_groups::names::{Names, is_all, numbers_of};
 use std::alloc::{AllocError, Global};
 
 /// The numbers below a count.
@@ -21,32 +20,6 @@ fn numbers_below(alloc: Global, count: usize) -> Result<Vec<usize>, AllocError>
     let mut numbers = Vec::new(alloc);
     for number in 0..count {
         numbers.push(number)?;
-    }
-    Ok(numbers)
-}
-
-/// Adds the number of a name that is found.
-fn push_number(numbers: &mut Vec<usize>, found: Option<usize>) -> Result<(), AllocError>
-    ensures { OnOk result (numbers.new.items ≡ numbers.old.items ++ option_to_list found) }
-{
-    if let Some(number) = found {
-        numbers.push(number)?;
-    }
-    Ok(())
-}
-
-/// The numbers of the names that a list has.
-fn numbers_of<'a>(
-    alloc: Global,
-    names: &Names<'a>,
-    entries: &[&'a [u8]],
-) -> Result<Vec<usize>, AllocError>
-    ensures { IfOk result (λ numbers.
-        numbers.items ≡ numbers_of names.now (texts entries.now)) }
-{
-    let mut numbers = Vec::new(alloc);
-    for entry in entries {
-        push_number(&mut numbers, names.find(*entry))?;
     }
     Ok(numbers)
 }
@@ -76,8 +49,8 @@ fn push_members(numbers: &mut Vec<usize>, members: &[u32]) -> Result<(), AllocEr
     Ok(())
 }
 
-/// Puts the numbers in order, each once.
-pub(crate) fn put_in_order(numbers: &mut Vec<usize>) -> Result<(), AllocError>
+/// Puts the numbers in order, each once. Want of memory is the only error; it leaves the numbers in any order.
+pub fn put_in_order(numbers: &mut Vec<usize>) -> Result<(), AllocError>
     ensures rising { OnOk result (IsStrictlyIncreasing numbers.new.items) }
     ensures same { OnOk result ((k : ℕ)
         → Contains numbers.new.items k ↔ Contains numbers.old.items k) }
@@ -87,8 +60,9 @@ pub(crate) fn put_in_order(numbers: &mut Vec<usize>) -> Result<(), AllocError>
     Ok(())
 }
 
-/// Puts the numbers in order, each once, where there are so many.
-fn shorten(numbers: &mut Vec<usize>, many: bool) -> Result<(), AllocError>
+/// Puts the numbers in order, each once, where there are so many. Want of memory is the only error; it leaves the
+/// numbers in any order.
+pub fn shorten(numbers: &mut Vec<usize>, many: bool) -> Result<(), AllocError>
     ensures { OnOk result ((k : ℕ)
         → Contains numbers.new.items k ↔ Contains numbers.old.items k) }
 {

@@ -10,7 +10,7 @@ use Rattle.object_names.specs.declared.references.Reading.{Reading}
 use Rattle.object_names.specs.declared.references.Reading.TheVariants.{NamesOrAll, Names, Period, Commands}
 use Rattle.object_names.specs.declared.references.Reference.{Reference}
 use Rattle.object_names.specs.declared.references.Reference.TheVariants.{HostGroups, Contacts, GroupsOfContacts, NotificationPeriod, HostMembers, HostGroupMembers, HostNames, HostGroupNames, ServiceGroups, ServiceGroupMembers, ContactGroups, HostPeriod, ServicePeriod, HostCommands, ServiceCommands, ContactMembers, ContactGroupMembers, Excludes, ServiceGroupNames, EscalationPeriod, DependentHostNames, DependentHostGroupNames, DependentServiceGroupNames, DependencyPeriod}
-use Rattle.object_names.specs.Kinds.{has_contacts, is_contact, is_contact_group, is_dependency, is_escalation, is_host, is_host_group, is_host_or_service, is_period, is_service, is_service_dependency, is_service_group, lists_hosts, lists_services}
+use Rattle.object_inheritance.specs.Kinds.{has_contacts, is_contact, is_contact_group, is_dependency, is_escalation, is_host, is_host_group, is_host_or_service, is_period, is_service, is_service_dependency, is_service_group, lists_hosts, lists_services}
 
 -- what blocks of each type name
 abbrev pub references : BlockKind → List Reference

@@ -5,7 +5,6 @@
 
 pub mod doubled;
 pub mod first;
-mod kinds;
 pub mod named;
 pub mod references;
 pub mod unknown;

@@ -5,12 +5,12 @@ ghost use Rattle.std.specs.Prelude.{◌≡◌};
 ghost use Rattle.object_names.specs.References.{directive_of, is_reference_of, list_reading};
 ghost use Rattle.object_names.specs.References.{is_period_name, named_of, reading_of};
 
-use crate::kinds::{
+use crate::named::NamedKind;
+use object_inheritance::kinds::{
     has_contacts, is_contact, is_contact_group, is_dependency, is_escalation, is_host,
     is_host_group, is_host_or_service, is_period, is_service, is_service_dependency,
     is_service_group, lists_hosts, lists_services,
 };
-use crate::named::NamedKind;
 use object_reader::block::BlockKind;
 
 /// How the value of a directive names objects.

@@ -1,18 +1,14 @@
 -- Numbers that come to numbers: those of one thing, and of one thing more.
-use Rattle.std.proofs.Common.{◌≡◌, ℕ, zero, suc, ◌+◌, ◌<◌, Bool, List, [], ◌∷◌, ◌++◌, length, take, filter, get_or, Option, Some, refl, sym, ap, subst, ◌∙◌, ◌⊎◌, inl, inr, ⊎_elim, Bor, arith}
+use Rattle.std.proofs.Common.{◌≡◌, ℕ, zero, suc, ◌+◌, ◌<◌, Bool, List, [], ◌∷◌, ◌++◌, length, filter, get_or, Some, refl, sym, ap, subst, ◌∙◌, ◌⊎◌, inl, inr, ⊎_elim, arith}
 use Rattle.std.specs.Prelude.{Contains, slice_get, ◌↔◌}
-use Rattle.std.specs.Option.{option_to_list}
 use Rattle.std.proofs.lemmas.List.{get_or-map, length-map}
-use Rattle.std.proofs.lemmas.List.Elements.{Contains-append_left, Contains-append_right, Contains-append_cases, filter_map-append}
+use Rattle.std.proofs.lemmas.List.Elements.{Contains-append_left, Contains-append_right, Contains-append_cases}
 use Rattle.std.proofs.lemmas.Option.{get_or_from_slice_get, slice_get-get_or}
 use Rattle.lemmas.proofs.Elements.{Contains-cases, Contains-filter, Contains-from_filter, Contains-here, Contains-none}
-use Rattle.lemmas.proofs.Searches.{found-one, texts-more}
 use Rattle.object_reached.specs.Listed.{is_named, IsOn, OfSome}
 use Rattle.object_reached.specs.Services.{hosts_in}
-use Rattle.object_groups.specs.Names.{number_of, numbers_of}
 use Rattle.object_listing.specs.Listing.{Adds}
 use Rattle.object_services.specs.Numbers.{Pair}
-use Rattle.object_values.specs.Values.{texts}
 
 -- ---- of one thing more
 
@@ -112,14 +108,3 @@ adds-host services entries host ends old new are is k = (
         Contains-append_right old (filter test ends) k (Contains-filter test ends k
         ((are k).1 (omega (arith, low, long), host-read services k low ∙ ap (λ (p : Pair). p.0) read))
         (ap (λ (p : Pair). is_named entries p.1) read ∙ named))
-
--- ---- one entry more
-
-pub numbers-more : (names : List (List ℕ)) (xs : List (Bor (List ℕ))) (i : ℕ) (d : Bor (List ℕ)) (old new : List ℕ) (found : Option ℕ) → i < length xs
-    → old ≡ numbers_of names (texts (take i xs)) → found ≡ number_of names ((get_or xs i d).now) → new ≡ old ++ option_to_list found
-    → new ≡ numbers_of names (texts (take (i + 1) xs))
-numbers-more names xs i d old new found within before is more =
-    let all : numbers_of names (texts (take (i + 1) xs)) ≡ numbers_of names (texts (take i xs)) ++ option_to_list found =
-    ap (numbers_of names) (texts-more xs i d within) ∙ filter_map-append (number_of names) (texts (take i xs)) ((get_or xs i d).now ∷ [])
-    ∙ ap (λ one. numbers_of names (texts (take i xs)) ++ one) (found-one (number_of names ((get_or xs i d).now)) ∙ ap option_to_list (sym is)) in
-    more ∙ ap (λ numbers. numbers ++ option_to_list found) before ∙ sym all

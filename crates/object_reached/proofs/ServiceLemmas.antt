@@ -1,44 +1,16 @@
--- Services by their hosts: one service more, the graph of them, and what stands at a place.
-use Rattle.std.proofs.Common.{◌≡◌, ℕ, ◌+◌, ◌<◌, ◌≤◌, List, [], ◌∷◌, ◌++◌, append_assoc, length, map, take, get_or, sym, ap, subst, ◌∙◌, Bor, ⊎_elim, arith}
+-- Services by their hosts: the graph of them, and what stands at a place.
+use Rattle.std.proofs.Common.{◌≡◌, ℕ, ◌+◌, ◌<◌, ◌≤◌, List, [], ◌∷◌, ◌++◌, length, map, get_or, sym, ap, subst, ◌∙◌, ⊎_elim, arith}
 use Rattle.std.specs.Prelude.{All, Contains, slice_index_or, ◌↔◌}
 use Rattle.std.specs.List.{flat_map, range_with_len}
-use Rattle.std.proofs.lemmas.List.{append-nil, get_or-map, length-map, map-append, take_more}
+use Rattle.std.proofs.lemmas.List.{get_or-map, length-map, map-append}
 use Rattle.std.proofs.lemmas.List.Concat.{flat_map-cons}
 use Rattle.std.proofs.lemmas.List.Elements.{All-contains, All-from_get_or, Contains-append_cases, Contains-get_or}
 use Rattle.graph.specs.declared.edges.Edge.{Edge}
 use Rattle.graph.specs.Edges.{IsWithin, Leads}
 use Rattle.lemmas.proofs.Elements.{Contains-from_map, Contains-from_range, Contains-here, Contains-later, Contains-map, Contains-none, Contains-range}
-use Rattle.lemmas.proofs.Numbers.{below_more, flat_range_more}
+use Rattle.lemmas.proofs.Numbers.{below_more}
 use Rattle.object_services.specs.Numbers.{Key, Pair, pairs_in, pairs_of}
 use Rattle.object_reached.specs.Services.{edge, host_edges, hosts_in, IsByHost}
-
--- ---- one host more
-
-pub hosts-none : (pairs : List Pair) → pairs ≡ pairs ++ []
-hosts-none pairs = sym (append-nil pairs)
-
-pub hosts-more : (first : List Pair) (description : Bor (List ℕ)) (old new : List Key) (hosts : List ℕ) (i d : ℕ) → i < length hosts
-    → pairs_in old ≡ first ++ map (λ host. (host, description.now)) (take i hosts) → new ≡ old ++ (get_or hosts i d, description) ∷ []
-    → pairs_in new ≡ first ++ map (λ host. (host, description.now)) (take (i + 1) hosts)
-hosts-more first description old new hosts i d within before is =
-    let each : ℕ → Pair = λ host. (host, description.now) in
-    ap pairs_in is ∙ map-append (λ key. (key.0, key.1.now)) old ((get_or hosts i d, description) ∷ [])
-    ∙ ap (λ (pairs : List Pair). pairs ++ (get_or hosts i d, description.now) ∷ []) before
-    ∙ append_assoc first (map each (take i hosts)) ((get_or hosts i d, description.now) ∷ [])
-    ∙ ap (λ (pairs : List Pair). first ++ pairs) (sym (ap (map each) (take_more hosts i d within) ∙ map-append each (take i hosts) (get_or hosts i d ∷ [])))
-
--- one block more
-pub blocks-more : (descriptions lists : List (List ℕ)) (old new : List Pair) (number : ℕ) (hosts : List ℕ) (description : List ℕ)
-    → old ≡ flat_map (λ n. map (λ host. (host, slice_index_or descriptions n [])) (slice_index_or lists n [])) (range_with_len 0 number)
-    → hosts ≡ slice_index_or lists number [] → description ≡ slice_index_or descriptions number []
-    → new ≡ old ++ map (λ host. (host, description)) hosts
-    → new ≡ flat_map (λ n. map (λ host. (host, slice_index_or descriptions n [])) (slice_index_or lists n [])) (range_with_len 0 (number + 1))
-blocks-more descriptions lists old new number hosts description before hosts_are description_is more =
-    let each : ℕ → List Pair = λ n. map (λ host. (host, slice_index_or descriptions n [])) (slice_index_or lists n []) in
-    more ∙ ap (λ (pairs : List Pair). pairs ++ map (λ host. (host, description)) hosts) before
-    ∙ ap (λ (pairs : List Pair). flat_map each (range_with_len 0 number) ++ pairs)
-    (ap (λ (hs : List ℕ). map (λ host. (host, description)) hs) hosts_are ∙ ap (λ (name : List ℕ). map (λ host. (host, name)) (slice_index_or lists number [])) description_is)
-    ∙ sym (flat_range_more each number)
 
 -- ---- the host and the description at a place
 

@@ -5,13 +5,15 @@ ghost use Rattle.object_reached.specs.Listed.{AreServicesListed, of_hosts};
 ghost use Rattle.object_groups.specs.declared.groups.GroupKind.TheVariants.{HostGroups};
 ghost use Rattle.object_listing.specs.Listing.{AreThose, IsListed};
 
-use crate::numbers::{Descriptions, numbers_of, push_groups, push_hosts, put_in_order};
+use crate::numbers::{Descriptions, push_groups, push_hosts};
 use crate::services::HostServices;
 use object_groups::groups::{GroupKind, Groups};
+use object_groups::names::numbers_of;
 use object_groups::objects::list_at;
 use object_inheritance::inherited::Values;
 use object_inheritance::templates::Templates;
 use object_listing::listing::Listing;
+use object_listing::numbers::put_in_order;
 use object_reader::block::Block;
 use object_service_groups::groups::ServiceGroups;
 use std::alloc::{AllocError, Global};

@@ -1,15 +1,13 @@
 //! The places of the services that lists of hosts, of descriptions and of groups reach.
 
-ghost use Rattle.std.specs.Prelude.{◌≡◌, ℕ, List, ◌++◌, ◌↔◌, ◌||◌, Contains, IfOk, OnOk, is_some};
-ghost use Rattle.std.specs.List.Sorted.{IsStrictlyIncreasing};
-ghost use Rattle.std.specs.Option.{option_to_list};
+ghost use Rattle.std.specs.Prelude.{◌≡◌, ℕ, List, ◌||◌, Contains, IfOk, OnOk, is_some};
 ghost use Rattle.object_reached.specs.Listed.{AddsMembers, is_named, IsOn, OfSome};
-ghost use Rattle.object_groups.specs.Names.{numbers_of};
 ghost use Rattle.object_listing.specs.Listing.{Adds};
 ghost use Rattle.object_values.specs.Values.{texts};
 
 use crate::services::HostServices;
 use object_groups::names::{Names, is_all};
+use object_listing::numbers::shorten;
 use object_service_groups::groups::ServiceGroups;
 use std::alloc::{AllocError, Global};
 use std::marker::Model;
@@ -80,54 +78,6 @@ pub(crate) fn push_hosts<'a>(
 {
     for host in hosts {
         push_host(found, services, descriptions, *host)?;
-    }
-    Ok(())
-}
-
-/// Adds the number of a name that is found.
-fn push_number(numbers: &mut Vec<usize>, found: Option<usize>) -> Result<(), AllocError>
-    ensures { OnOk result (numbers.new.items ≡ numbers.old.items ++ option_to_list found) }
-{
-    if let Some(number) = found {
-        numbers.push(number)?;
-    }
-    Ok(())
-}
-
-/// The numbers of the names that a list has.
-pub(crate) fn numbers_of<'a>(
-    alloc: Global,
-    names: &Names<'a>,
-    entries: &[&'a [u8]],
-) -> Result<Vec<usize>, AllocError>
-    ensures { IfOk result (λ numbers.
-        numbers.items ≡ numbers_of names.now (texts entries.now)) }
-{
-    let mut numbers = Vec::new(alloc);
-    for entry in entries {
-        push_number(&mut numbers, names.find(*entry))?;
-    }
-    Ok(numbers)
-}
-
-/// Puts the numbers in order, each once.
-pub(crate) fn put_in_order(numbers: &mut Vec<usize>) -> Result<(), AllocError>
-    ensures rising { OnOk result (IsStrictlyIncreasing numbers.new.items) }
-    ensures same { OnOk result ((k : ℕ)
-        → Contains numbers.new.items k ↔ Contains numbers.old.items k) }
-{
-    numbers.sort()?;
-    numbers.dedup();
-    Ok(())
-}
-
-/// Puts the numbers in order, each once, where there are so many.
-fn shorten(numbers: &mut Vec<usize>, many: bool) -> Result<(), AllocError>
-    ensures { OnOk result ((k : ℕ)
-        → Contains numbers.new.items k ↔ Contains numbers.old.items k) }
-{
-    if many {
-        put_in_order(numbers)?;
     }
     Ok(())
 }

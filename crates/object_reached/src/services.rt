@@ -1,46 +1,16 @@
 //! The services of each host.
 
-ghost use Rattle.std.specs.Prelude.{◌≡◌, ◌+◌, ◌<◌, ◌^◌, ◌++◌, ◌↔◌, ℕ, [], length, map, All, Contains};
+ghost use Rattle.std.specs.Prelude.{◌≡◌, ◌+◌, ◌<◌, ◌^◌, ◌↔◌, ℕ, [], length, All, Contains};
 ghost use Rattle.std.specs.Prelude.{IfOk, OnOk, slice_index_or};
 ghost use Rattle.object_reached.specs.Services.{host_edges, hosts_in, IsByHost};
 ghost use Rattle.object_services.specs.Numbers.{pairs_in, pairs_of};
 
 use graph::edges::{Edge, Graph};
 use object_groups::names::Names;
+use object_services::numbers::pairs_of;
 use object_services::services::ServiceHosts;
 use std::alloc::{AllocError, Global};
 use std::marker::Model;
-
-/// Adds the services of a block.
-fn push_block<'a>(
-    pairs: &mut Vec<(usize, &'a [u8])>,
-    hosts: &[usize],
-    description: &'a [u8],
-) -> Result<(), AllocError>
-    ensures { OnOk result (pairs_in pairs.new.items
-        ≡ pairs_in pairs.old.items ++ map (λ host. (host, description.now)) hosts.now) }
-{
-    for host in hosts {
-        pairs.push((*host, description))?;
-    }
-    Ok(())
-}
-
-/// The services of all blocks.
-fn pairs_of<'a>(
-    alloc: Global,
-    descriptions: &Names<'a>,
-    lists: &ServiceHosts,
-) -> Result<Vec<(usize, &'a [u8])>, AllocError>
-    ensures { IfOk result (λ pairs.
-        pairs_in pairs.items ≡ pairs_of descriptions.now lists.now) }
-{
-    let mut pairs = Vec::new(alloc);
-    for number in 0..lists.len() {
-        push_block(&mut pairs, lists.hosts(number), descriptions.name(number))?;
-    }
-    Ok(pairs)
-}
 
 /// An edge to each service from its host.
 fn edges_of(alloc: Global, pairs: &[(usize, &[u8])]) -> Result<Vec<Edge>, AllocError>

@@ -17,13 +17,9 @@ use Rattle.object_dependencies.specs.Limits.{GiveDependencies}
 use Rattle.object_dependencies.specs.Loops.{HasNoDependencyLoop, IsFirstLooped}
 use Rattle.object_dependencies.specs.Loops as dependencies
 use Rattle.object_dependencies.specs.Pairs.{ArePairsBelow, Pair}
-use Rattle.object_dependencies.specs.declared.pairs.LimitFault.{LimitFault as DependencyFault}
-use Rattle.object_dependencies.specs.declared.pairs.LimitFault.TheVariants as paired
 use Rattle.object_escalations.specs.Escalated as escalated
 use Rattle.object_escalations.specs.Escalated.{AreEscalated, GiveEscalations}
 use Rattle.object_escalations.specs.Laws as escalations
-use Rattle.object_escalations.specs.declared.escalated.LimitFault.{LimitFault as EscalationFault}
-use Rattle.object_escalations.specs.declared.escalated.LimitFault.TheVariants as passing
 use Rattle.object_groups.specs.Objects.{names_in, objects_in}
 use Rattle.object_names.specs.First.{IsFirst, lower}
 use Rattle.object_reader.specs.declared.block.Block.{Block}
@@ -234,13 +230,13 @@ all-within blocks hosts spoken parts keeps are speak few depend low others = rec
 }
 
 -- a refusal for too many escalations is at the first place that passes their limit
-pub escalations-first : escalations.OnePlacePasses → (blocks : List Block) (hosts : List (List ℕ)) (place line : ℕ) (fault : EscalationFault) → AreWithinLimit blocks
-    → AreHostLists blocks (objects_in blocks Service) hosts → fault ≡ passing.TooMany place line → escalated.IsRefusal blocks hosts fault → IsFirst (PassesEscalations blocks) (Some place)
+pub escalations-first : escalations.OnePlacePasses → (blocks : List Block) (hosts : List (List ℕ)) (place line : ℕ) (fault : LimitFault) → AreWithinLimit blocks
+    → AreHostLists blocks (objects_in blocks Service) hosts → fault ≡ counts.TooMany place line → escalated.IsRefusal blocks hosts fault → IsFirst (PassesEscalations blocks) (Some place)
 escalations-first law blocks hosts place line fault keeps are is refused =
     ((keeps, (hosts, are, passes)), (λ k early said. earlier k early said))
   where
     passes : escalated.PassesLimit blocks hosts place
-    passes = (subst (λ (f : EscalationFault). escalated.IsRefusal blocks hosts f) is refused).passes
+    passes = (subst (λ (f : LimitFault). escalated.IsRefusal blocks hosts f) is refused).passes
 
     earlier : (k : ℕ) → k < place → PassesEscalations blocks k → ⊥
     earlier k early (within, (others, others_are, other)) =
@@ -265,13 +261,13 @@ pub unpaired : WithinPassesNowhere → (blocks : List Block) (place : ℕ) → P
 unpaired law blocks place passes = λ k said. law blocks said.0 place passes
 
 -- a refusal for too many dependencies is at the first place that passes their limit
-pub dependencies-first : (blocks : List Block) (hosts : List (List ℕ)) (place line : ℕ) (fault : DependencyFault) → AreWithinLimit blocks
-    → AreHostLists blocks (objects_in blocks Service) hosts → fault ≡ paired.TooMany place line → dependent.IsRefusal blocks hosts fault → IsFirst (PassesDependencies blocks) (Some place)
+pub dependencies-first : (blocks : List Block) (hosts : List (List ℕ)) (place line : ℕ) (fault : LimitFault) → AreWithinLimit blocks
+    → AreHostLists blocks (objects_in blocks Service) hosts → fault ≡ counts.TooMany place line → dependent.IsRefusal blocks hosts fault → IsFirst (PassesDependencies blocks) (Some place)
 dependencies-first blocks hosts place line fault keeps are is refused =
     ((keeps, (hosts, are, passes)), (λ k early said. earlier k early said))
   where
     passes : dependent.PassesLimit blocks hosts place
-    passes = (subst (λ (f : DependencyFault). dependent.IsRefusal blocks hosts f) is refused).passes
+    passes = (subst (λ (f : LimitFault). dependent.IsRefusal blocks hosts f) is refused).passes
 
     earlier : (k : ℕ) → k < place → PassesDependencies blocks k → ⊥
     earlier k early (within, (others, others_are, other)) =

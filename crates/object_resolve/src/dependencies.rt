@@ -17,10 +17,10 @@ ghost use Rattle.object_services.specs.Limits.{AreHostLists, AreWithinLimit};
 use crate::fault::{BlockFault, LoadFault, of_place};
 use crate::tables::{Tables, groups_in};
 use object_dependencies::blocks::DependencyBlocks;
-use object_dependencies::pairs::{DependencyPairs, LimitFault};
+use object_dependencies::pairs::DependencyPairs;
 use object_dependency_loops::loops::loop_of;
 use object_inheritance::templates::Templates;
-use object_services::services::ServiceHosts;
+use object_services::services::{LimitFault, ServiceHosts};
 use std::alloc::{AllocError, Global};
 
 /// The dependents and masters of each block, where `hosts` are the hosts of each service block.

@@ -24,8 +24,8 @@ use crate::fault::{BlockFault, LoadFault, of_place};
 use crate::tables::{Tables, groups_in, place_of};
 use due_model::limits::{MAX_CONTACTS, MAX_LANES, MAX_PERIODS};
 use object_contacts::lanes::lanes_of;
-use object_dependencies::pairs::{DependencyPairs, LimitFault as DependencyFault};
-use object_escalations::escalated::{EscalatedObjects, LimitFault as EscalationFault};
+use object_dependencies::pairs::DependencyPairs;
+use object_escalations::escalated::EscalatedObjects;
 use object_escalations::laws::one_block_passes;
 use object_groups::objects::Objects;
 use object_inheritance::templates::Templates;
@@ -119,7 +119,7 @@ fn escalated_in<'a>(
     templates: &Templates<'a>,
     tables: &mut Tables<'a>,
     hosts: &ServiceHosts,
-) -> Result<EscalatedObjects, EscalationFault>
+) -> Result<EscalatedObjects, LimitFault>
     requires tables { AreTables templates.now tables.old }
     requires hosts { AreHostLists templates.now (objects_in templates.now Service) hosts.now }
     ensures same { tables.new ≡ tables.old }
@@ -145,7 +145,7 @@ fn escalated_in<'a>(
 fn over_escalations(
     blocks: &[Block],
     hosts: &ServiceHosts,
-    fault: EscalationFault,
+    fault: LimitFault,
     rest: Option<usize>,
 ) -> LoadFault
     requires keeps { counted.AreWithinLimit blocks.now }
@@ -157,8 +157,8 @@ fn over_escalations(
 {
     one_block_passes();
     match fault {
-        EscalationFault::NoMemory => LoadFault::NoMemory,
-        EscalationFault::TooMany { place, line: _ } => {
+        LimitFault::NoMemory => LoadFault::NoMemory,
+        LimitFault::TooMany { place, line: _ } => {
             of_place(blocks, least(place, rest), BlockFault::TooMany)
         }
     }
@@ -258,8 +258,8 @@ fn counts_of<'a>(
 {
     match pairs_in(alloc, templates, tables, &hosts) {
         Err(fault) => match fault {
-            DependencyFault::NoMemory => Err(LoadFault::NoMemory),
-            DependencyFault::TooMany { place, line: _ } => {
+            LimitFault::NoMemory => Err(LoadFault::NoMemory),
+            LimitFault::TooMany { place, line: _ } => {
                 let rest = least(place, other);
                 Err(over_rest(alloc, templates, tables, &hosts, rest))
             }

@@ -1,32 +1,14 @@
--- One entry, one place, one service or one node more.
-use Rattle.std.proofs.Common.{◌≡◌, ℕ, zero, suc, ◌+◌, ◌<◌, nat_lt, List, [], ◌∷◌, ◌++◌, append_assoc, length, map, replicate, filter, take, get_or, Option, refl, sym, ap, eqb, ◌∙◌, Bor, arith}
+-- One place, one service or one edge more.
+use Rattle.std.proofs.Common.{◌≡◌, ℕ, zero, suc, ◌+◌, ◌<◌, nat_lt, List, [], ◌∷◌, ◌++◌, append_assoc, length, map, replicate, filter, take, get_or, refl, sym, ap, eqb, ◌∙◌, arith}
 use Rattle.std.specs.List.{dedup, flat_map, range_with_len}
 use Rattle.std.specs.List.Sorted.{IsPermutation, IsSorted}
-use Rattle.std.specs.Option.{option_to_list}
 use Rattle.std.specs.Ordering.{nat_cmp}
 use Rattle.std.proofs.lemmas.Bool.{lt-ltb, ltb-true}
 use Rattle.std.proofs.lemmas.List.{map-append, take_more}
-use Rattle.std.proofs.lemmas.List.Elements.{filter_map-append}
 use Rattle.graph.specs.declared.edges.Edge.{Edge}
 use Rattle.lemmas.proofs.Elements.{Contains-filter, Contains-from_filter, in_order-rising, in_order-same}
 use Rattle.lemmas.proofs.Numbers.{below_more, flat_range_more}
-use Rattle.lemmas.proofs.Searches.{found-one, texts-more}
-use Rattle.object_groups.specs.Names.{number_of, numbers_of}
-use Rattle.object_values.specs.Values.{texts}
 use Rattle.object_service_groups.specs.Nodes.{AreBelow}
-
--- ---- one entry more
-
-pub nodes-more : (first : ℕ) (names : List (List ℕ)) (xs : List (Bor (List ℕ))) (i : ℕ) (d : Bor (List ℕ)) (old new : List ℕ) (found : Option ℕ) → i < length xs
-    → old ≡ map (λ number. first + number) (numbers_of names (texts (take i xs))) → found ≡ number_of names ((get_or xs i d).now)
-    → new ≡ old ++ map (λ number. first + number) (option_to_list found)
-    → new ≡ map (λ number. first + number) (numbers_of names (texts (take (i + 1) xs)))
-nodes-more first names xs i d old new found within before is more =
-    let all : numbers_of names (texts (take (i + 1) xs)) ≡ numbers_of names (texts (take i xs)) ++ option_to_list found =
-    ap (numbers_of names) (texts-more xs i d within) ∙ filter_map-append (number_of names) (texts (take i xs)) ((get_or xs i d).now ∷ [])
-    ∙ ap (λ one. numbers_of names (texts (take i xs)) ++ one) (found-one (number_of names ((get_or xs i d).now)) ∙ ap option_to_list (sym is)) in
-    more ∙ ap (λ nodes. nodes ++ map (λ number. first + number) (option_to_list found)) before
-    ∙ sym (map-append (λ number. first + number) (numbers_of names (texts (take i xs))) (option_to_list found)) ∙ ap (map (λ number. first + number)) (sym all)
 
 -- ---- one block more, and its services
 

@@ -18,7 +18,7 @@ use graph::edges::{Edge, Graph};
 use graph::reach::Reach;
 use object_groups::names::Names;
 use object_groups::objects::{Objects, list_at};
-use object_inheritance::inherited::Values;
+use object_inheritance::inherited::{Values, values_of};
 use object_inheritance::templates::Templates;
 use object_pairs::members::services_named;
 use object_reader::block::{Block, BlockKind};
@@ -27,18 +27,6 @@ use object_services::numbers::ServiceNumbers;
 use object_services::services::ServiceHosts;
 use std::alloc::{AllocError, Global};
 use std::marker::Model;
-
-/// What the blocks have for a directive.
-fn values_of<'a>(
-    alloc: Global,
-    templates: &Templates<'a>,
-    directive: &'a str,
-) -> Result<Values<'a>, AllocError>
-    ensures { IfOk result (λ values. values
-        ≡ record { blocks = templates.now; directive = directive.now }) }
-{
-    Values::new(alloc, templates, directive.as_bytes())
-}
 
 /// The places of the services that the block at the place names by the directive of the values.
 fn named_at<'a>(

@@ -25,8 +25,9 @@ fn push_block<'a>(
     Ok(())
 }
 
-/// The services of all blocks.
-fn pairs_of<'a>(
+/// The services of all blocks, block by block: each by the number of its host, and its description. A refused growth leaves
+/// nothing.
+pub fn pairs_of<'a>(
     alloc: Global,
     descriptions: &Names<'a>,
     lists: &ServiceHosts,

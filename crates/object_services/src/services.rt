@@ -18,11 +18,13 @@ use object_reader::block::BlockKind;
 use std::alloc::{AllocError, Global};
 use std::marker::Model;
 
-/// Why the hosts of service blocks aren't given.
+/// Why what blocks give together isn't given.
 #[derive(Clone, Copy, Debug, PartialEq, Eq)]
 pub enum LimitFault {
-    /// With the block at this place, whose `define` is at this line, there are over 65,535 objects: hosts, and a
-    /// service for each host of each service block.
+    /// With the block at this place, whose `define` is at this line, there are more than fit: 65,535 objects, which are
+    /// hosts and a service for each host of each service block; 1,000,000 escalations, one for each object of which an
+    /// escalation block speaks; or 1,000,000 dependencies, one for each dependent and each master of a block that is
+    /// kept.
     TooMany { place: usize, line: u64 },
     /// Memory ran out. It says nothing of the blocks.
     NoMemory,

@@ -5,7 +5,7 @@ use Rattle.due_model.specs.Objects.{object_id}
 use Rattle.due_model.specs.declared.config.ContactId.{ContactId}
 use Rattle.due_model.specs.declared.config.Object.{Object}
 use Rattle.object_groups.specs.Objects.{name_at, names_in}
-use Rattle.object_listing.specs.Listing.{AreThose, contact_directives, gives_neither, IsListed, ListingOf}
+use Rattle.object_listing.specs.Listing.{AreThose, contact_directives, gives_neither, IsListed}
 use Rattle.object_reader.specs.declared.block.Block.{Block}
 use Rattle.object_reader.specs.declared.block.BlockKind.TheVariants.{Host, TimePeriod}
 use Rattle.object_readings.specs.Readings.{is_on, letters_at, number_at, own_number, own_period}
@@ -33,9 +33,9 @@ pub record AreFilters (blocks : List Block) (filters : Filters) : Type 0 where
       filters.flags ≡ record { blocks = blocks; directive = codes "notifications_enabled" }
 
 -- and those that say to whom
-pub record AreTables (blocks : List Block) (contacts : ListingOf) (times : Times)
+pub record AreTables (blocks : List Block) (contacts : List Block) (times : Times)
     (filters : Filters) : Type 0 where
-  pub contacts_are : contacts ≡ record { blocks = blocks; directives = contact_directives }
+  pub contacts_are : contacts ≡ blocks
   pub times_are : AreTimes blocks times
   pub filters_are : AreFilters blocks filters
 

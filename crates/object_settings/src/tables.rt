@@ -1,20 +1,18 @@
 //! What all blocks have for the directives of notification settings.
 
-ghost use Rattle.std.specs.Prelude.{◌≡◌, ◌<◌, ◌≤◌, length, map, All, IfOk};
+ghost use Rattle.std.specs.Prelude.{◌≡◌, ◌≤◌, length, IfOk};
 ghost use Rattle.due_model.specs.Limits.{max_contacts, max_periods};
 ghost use Rattle.object_groups.specs.declared.groups.GroupKind.TheVariants.{ContactGroups};
 ghost use Rattle.object_groups.specs.Objects.{names_in};
-ghost use Rattle.object_listing.specs.Listing.{AreThose, contact_directives, IsListed};
 ghost use Rattle.object_reader.specs.declared.block.BlockKind.TheVariants.{Contact, TimePeriod};
 ghost use Rattle.object_settings.specs.Own.{AreFilters, AreTimes, IsOwn};
 
 use crate::own::Own;
-use due_model::config::ContactId;
-use object_groups::groups::{GroupKind, Groups};
+use object_groups::groups::Groups;
 use object_groups::names::Names;
-use object_inheritance::inherited::Values;
+use object_inheritance::inherited::{Values, values_of};
 use object_inheritance::templates::Templates;
-use object_listing::listing::Listing;
+use object_listing::contacts::ContactListing;
 use object_reader::block::Block;
 use object_readings::readings::{is_on, letters_at, number_at, own_number, own_period};
 use object_values::options::OptionKind;
@@ -40,7 +38,7 @@ pub(crate) struct Filters<'a> {
 #[derive(Drop)]
 pub(crate) struct Tables<'a> {
     blocks: &'a [Block],
-    contacts: Listing<'a>,
+    contacts: ContactListing<'a>,
     times: Times<'a>,
     filters: Filters<'a>,
 }
@@ -55,18 +53,6 @@ impl<'a> Model for Tables<'a> {
     ghost view = { λ s. s.blocks.now };
 
     ghost invariant = { λ s. AreTables s.blocks.now s.contacts s.times s.filters };
-}
-
-/// What the blocks have for a directive.
-fn values_of<'a>(
-    alloc: Global,
-    templates: &Templates<'a>,
-    directive: &'a str,
-) -> Result<Values<'a>, AllocError>
-    ensures { IfOk result (λ values. values
-        ≡ record { blocks = templates.now; directive = directive.now }) }
-{
-    Values::new(alloc, templates, directive.as_bytes())
 }
 
 /// What the blocks have for the directives that say when.
@@ -90,48 +76,17 @@ fn filters_of<'a>(alloc: Global, templates: &Templates<'a>) -> Result<Filters<'a
     })
 }
 
-/// The contacts of these numbers.
-fn contact_ids(alloc: Global, numbers: &[usize]) -> Result<Vec<ContactId>, AllocError>
-    requires { All (λ number. number < max_contacts) numbers.now }
-    ensures { IfOk result (λ ids. map (λ id. id.0) ids.items ≡ numbers.now) }
-{
-    let mut ids = Vec::new(alloc);
-    for number in numbers {
-        ids.push(ContactId(*number as u16))?;
-    }
-    Ok(ids)
-}
-
 impl<'a> Tables<'a> {
     /// What the blocks have for these directives.
     pub(crate) fn new(alloc: Global, templates: &Templates<'a>) -> Result<Tables<'a>, AllocError>
         ensures { IfOk result (λ tables. tables ≡ templates.now) }
     {
-        let kind = GroupKind::ContactGroups;
         Ok(Tables {
             blocks: templates.blocks(),
-            contacts: Listing::new(alloc, templates, kind, "contacts", "contact_groups")?,
+            contacts: ContactListing::new(alloc, templates)?,
             times: times_of(alloc, templates)?,
             filters: filters_of(alloc, templates)?,
         })
-    }
-
-    /// The contacts that the block at the place lists.
-    fn contacts_at(
-        &self,
-        alloc: Global,
-        groups: &mut Groups<'a>,
-        place: usize,
-    ) -> Result<Vec<ContactId>, AllocError>
-        requires groups { groups.old ≡ record { blocks = self.now; kind = ContactGroups } }
-        requires few { length (names_in self.now Contact) ≤ max_contacts }
-        ensures same { groups.new ≡ groups.old }
-        ensures contacts { IfOk result (λ contacts.
-            AreThose (IsListed self.now contact_directives place)
-            (map (λ contact. contact.0) contacts.items)) }
-    {
-        let numbers = self.contacts.objects_at(alloc, groups, place)?;
-        contact_ids(alloc, numbers.as_slice())
     }
 
     /// What the block at the place gives, with the name of its objects.
@@ -151,7 +106,7 @@ impl<'a> Tables<'a> {
         ensures same { groups.new ≡ groups.old }
         ensures own { IfOk result (IsOwn self.now kind name.now place) }
     {
-        let contacts = self.contacts_at(alloc, groups, place)?;
+        let contacts = self.contacts.contacts_at(alloc, groups, place)?;
         Ok(Own {
             name,
             lacks_contacts: self.contacts.gives_neither(place),

@@ -1,22 +1,18 @@
 -- What the answers of a feeder say of the lines of its feed.
-use Rattle.std.proofs.Common.{◌≡◌, ℕ, suc, ◌+◌, ◌<◌, ◌≤◌, true, false, not, cond, ◌||◌, All, List, [], ◌∷◌, ◌++◌, length, replicate, Option, None, Some, Bool, IsSome, IfSome, IsErrOf, IsTrue, Ok, Err, refl, sym, ap, subst, ◌∙◌, inl, inr, arith, append_assoc, length-append}
-use Rattle.std.proofs.lemmas.List.{append-nil, length-replicate}
-use Rattle.std.proofs.lemmas.List.Elements.{All-nil, All-append, All-push, All-weaker}
+use Rattle.std.proofs.Common.{◌≡◌, ℕ, ◌+◌, ◌≤◌, true, false, cond, ◌||◌, List, [], ◌∷◌, ◌++◌, Option, None, Some, Bool, IfSome, IsErrOf, Ok, Err, refl, sym, ap, subst, ◌∙◌, inl, arith, append_assoc}
+use Rattle.std.proofs.lemmas.List.{append-nil}
+use Rattle.std.proofs.lemmas.List.Elements.{All-nil}
 use Rattle.due_model.specs.declared.config.Config.{Config}
 use Rattle.due_model.specs.declared.config.Object.{Object}
 use Rattle.due_model.specs.declared.event.Event.{Event}
 use Rattle.due_model.specs.declared.zone.Zone.{Zone}
-use Rattle.event_feed.specs.declared.fault.FeedFault.{FeedFault}
-use Rattle.event_feed.specs.declared.fault.FeedFault.TheVariants.{Cut, Ended, Read}
+use Rattle.event_feed.specs.declared.fault.FeedFault.TheVariants.{Ended}
 use Rattle.event_feed.specs.declared.fault.RefusedLine.{RefusedLine}
-use Rattle.text_lines.specs.declared.line_reader.Stop.{Stop}
-use Rattle.text_lines.specs.declared.line_reader.Stop.TheVariants.{InputEnded, CutLine, ReaderFailed, TooManyCalls, TooManyBytes, TooManyLines}
-use Rattle.event_feed.specs.Fault.{is_line_fault, stop_fault}
-use Rattle.event_feed.specs.Feed.{Answer, AnswersNext, AnswersNone, AreGiven, AreGivenBy, ComesNext, HasLong, least_at_read, refusal, FaultAnswers, FaultComesTo, FaultFits, Feed, GivesEvent, GivesFault, answers_from}
-use Rattle.text_lines.specs.Lines.{Known, pieces}
+use Rattle.event_feed.specs.Feed.{Answer, AreGiven, AreGivenBy, refusal, Feed, GivesEvent, GivesFault, answers_from, ends_feed}
+use Rattle.text_lines.specs.Lines.{pieces}
 use Rattle.command_output.specs.declared.outcome.Ending.TheVariants.{Short, Whole}
 use Rattle.command_output.specs.ReportLine.{refused_line}
-use Rattle.replay.specs.Report.{WritesPart, PassesLines, Ends, Follows, GoesOn, TakesAnswer, WritesReport, WritesReportFront, answer_text, ending_after, ends_short, given_text, is_ended, is_short, past_after, report_from, report_text}
+use Rattle.replay.specs.Report.{WritesPart, Ends, Follows, GoesOn, TakesAnswer, WritesReport, WritesReportFront, answer_text, ending_after, ends_short, given_text, is_ended, past_after, report_from, report_text}
 use Rattle.messages.specs.declared.entries.Entry.{Entry}
 use Rattle.messages.specs.Entries.{event_entries}
 use Rattle.decider.specs.Fits.{Fits, Kept}
@@ -24,108 +20,9 @@ use Rattle.command_output.specs.declared.outcome.Ending.{Ending}
 use Rattle.command_output.specs.Output.{Leaves, Writes, WritesFront}
 use Rattle.command_output.specs.OutputLine.{entries_text}
 use Rattle.command_output.specs.OutputLaws.{front_less, front_longer, front_on, leaves_all, leaves_less, leaves_on}
-
--- ---- facts of known bytes
-
-known_same : (bytes : Option (List ℕ)) (P : List ℕ → List ℕ → Type 0) → ((xs : List ℕ) → P xs xs) → Known bytes bytes P
-known_same None P h = tt
-known_same (Some bytes) P h = h bytes
-
-known_weaker : (a b : Option (List ℕ)) (P Q : List ℕ → List ℕ → Type 0) → Known a b P → ((xs ys : List ℕ) → P xs ys → Q xs ys) → Known a b Q
-known_weaker None b P Q p f = tt
-known_weaker (Some xs) None P Q p f = absurd p
-known_weaker (Some xs) (Some ys) P Q p f = f xs ys p
-
-known_then : (a b d : Option (List ℕ)) (P Q R : List ℕ → List ℕ → Type 0) → Known a b P → Known b d Q → ((xs ys zs : List ℕ) → P xs ys → Q ys zs → R xs zs) → Known a d R
-known_then None b d P Q R p q f = tt
-known_then (Some xs) None d P Q R p q f = absurd p
-known_then (Some xs) (Some ys) None P Q R p q f = q
-known_then (Some xs) (Some ys) (Some zs) P Q R p q f = f xs ys zs p q
-
--- ---- lines that were read
-
--- the last of these pieces are the others, and so many come before them
-abbrev pub Passed : (from : ℕ) → (texts : List (List ℕ)) → (line : ℕ) → (others : List (List ℕ)) → Type 0
-Passed from texts line others = (before : List (List ℕ)) × (texts ≡ before ++ others) × (line ≡ from + length before)
-
-passed_more : (from now line : ℕ) (texts mid others : List (List ℕ)) → Passed from texts now mid → Passed now mid line others → Passed from texts line others
-passed_more from now line texts mid others p q =
-    (p.0 ++ q.0, p.1 ∙ ap (λ (more : List (List ℕ)). p.0 ++ more) q.1 ∙ sym (append_assoc p.0 q.0 others), omega (arith, p.2, q.2, length-append p.0 q.0))
-
--- the pieces after the line that comes
-passed : (from : ℕ) (texts : List (List ℕ)) (line : ℕ) (text : List ℕ) (others : List (List ℕ)) → ComesNext from texts line text others
-    → (before : List (List ℕ)) × (texts ≡ before ++ others) × (line ≡ from + length before)
-passed from texts line text others next = (
-  replicate next.empty [] ++ text ∷ [],
-  next.are ∙ sym (append_assoc (replicate next.empty []) (text ∷ []) others),
-  omega (arith, next.number, length-append (replicate next.empty []) (text ∷ []), length-replicate {A = List ℕ} next.empty []),
-)
-
-pub event_passes : (c : Config) (old : Feed) (event : Event) (new : Feed) → GivesEvent c old event new → PassesLines old new
-event_passes c old event new gives =
-    known_weaker old.bytes new.bytes _ _ gives.place (λ xs ys h. passed old.line (pieces xs) new.line new.text (pieces ys) h.0)
-
-pub fault_passes : (objects : List Object) (old : Feed) (fault : RefusedLine) (new : Feed) → new.stop ≡ None → GivesFault objects old fault new → PassesLines old new
-fault_passes objects old fault new e gives =
-    let place : FaultComesTo objects old fault None new = subst (λ s. FaultComesTo objects old fault s new) e gives.place in
-    known_weaker old.bytes new.bytes _ _ place
-    (λ xs ys h. let p = passed old.line (pieces xs) fault.line h.text (pieces ys) h.next in (p.0, p.1, sym gives.number ∙ p.2))
+use Rattle.event_feed.specs.FeedLaws.{known_same, known_then, Passed, passed_more, event_passes, fault_passes, fault_next, event_answers, earlier_more, then_by}
 
 -- ---- what is given of a feed
-
--- one answer, and those after it
-next_by : (can_fail : Bool) (objects : List Object) (old new : Feed) (answer : Answer) (bytes rest : Option (List ℕ))
-    → Known bytes rest (λ before after. answers_from objects old before ≡ answer ∷ answers_from objects new after)
-    → (more : List Answer) × IfSome bytes (λ before. AreGiven can_fail (answer ∷ more) (answers_from objects old before) old.line (pieces before))
-next_by can_fail objects old new answer None rest h = ([], tt)
-next_by can_fail objects old new answer (Some before) None h = absurd h
-next_by can_fail objects old new answer (Some before) (Some after) h = (answers_from objects new after, inl (sym h))
-
-pub next_given : (can_fail : Bool) (objects : List Object) (old new : Feed) (answer : Answer) → AnswersNext objects old answer new → (more : List Answer) × AreGivenBy can_fail objects old (answer ∷ more)
-next_given can_fail objects old new answer h = next_by can_fail objects old new answer old.bytes new.bytes h
-
--- no answer
-none_by : (can_fail : Bool) (objects : List Object) (old : Feed) (bytes rest : Option (List ℕ)) → Known bytes rest (λ before after. answers_from objects old before ≡ [])
-    → IfSome bytes (λ before. AreGiven can_fail [] (answers_from objects old before) old.line (pieces before))
-none_by can_fail objects old None rest h = tt
-none_by can_fail objects old (Some before) None h = absurd h
-none_by can_fail objects old (Some before) (Some after) h = inl (sym h)
-
-pub none_given : (can_fail : Bool) (objects : List Object) (old new : Feed) → AnswersNone objects old new → AreGivenBy can_fail objects old []
-none_given can_fail objects old new h = none_by can_fail objects old old.bytes new.bytes h
-
--- Cut and Read come with a stop
-short_by : (fault : RefusedLine) (stop : Stop) → stop_fault stop ≡ Some fault.fault → is_short (Err fault.fault) ≡ true
-short_by fault InputEnded e = absurd (cc)
-short_by fault CutLine e = let same : Cut ≡ fault.fault = cc in ap (λ f. not (is_line_fault f)) (sym same)
-short_by fault ReaderFailed e = let same : Read ≡ fault.fault = cc in ap (λ f. not (is_line_fault f)) (sym same)
-short_by fault TooManyCalls e = let same : Read ≡ fault.fault = cc in ap (λ f. not (is_line_fault f)) (sym same)
-short_by fault TooManyBytes e = let same : Read ≡ fault.fault = cc in ap (λ f. not (is_line_fault f)) (sym same)
-short_by fault TooManyLines e = let same : Read ≡ fault.fault = cc in ap (λ f. not (is_line_fault f)) (sym same)
-
--- the refusal of a line that ends the feed
-pub fault_last : (can_fail : Bool) (objects : List Object) (old new : Feed) (fault : RefusedLine) (stop : Stop) → new.stop ≡ Some stop → GivesFault objects old fault new
-    → (IsSome new.stop → AreGivenBy can_fail objects old (refusal fault ∷ [])) → AreGivenBy can_fail objects old (refusal fault ∷ []) × (is_short (Err fault.fault) ≡ true)
-fault_last can_fail objects old new fault stop e h last =
-    (last (rw e refl), short_by fault stop (subst (λ s. FaultFits fault.fault s) e h.fits))
-
--- a line that is read over
-pub fault_next : (objects : List Object) (old new : Feed) (fault : RefusedLine) → new.stop ≡ None → GivesFault objects old fault new
-    → AnswersNext objects old (refusal fault) new × (is_short (Err fault.fault) ≡ false)
-fault_next objects old new fault e h =
-    (subst (λ s. FaultAnswers objects old fault s new) e h.answers, ap not (line_fault (subst (λ s. FaultFits fault.fault s) e h.fits)))
-  where
-    line_fault : IsTrue (is_line_fault fault.fault) → is_line_fault fault.fault ≡ true
-    line_fault h = h
-
--- either way it is the next that is given
-pub fault_given : (can_fail : Bool) (objects : List Object) (old new : Feed) (fault : RefusedLine) → GivesFault objects old fault new
-    → (IsSome new.stop → AreGivenBy can_fail objects old (refusal fault ∷ [])) → (more : List Answer) × AreGivenBy can_fail objects old (refusal fault ∷ more)
-fault_given can_fail objects old new fault h last = by_stop new.stop refl
-  where
-    by_stop : (stop : Option Stop) → new.stop ≡ stop → (more : List Answer) × AreGivenBy can_fail objects old (refusal fault ∷ more)
-    by_stop None e = next_given can_fail objects old new (refusal fault) (fault_next objects old new fault e h).0
-    by_stop (Some stop) e = ([], last (rw e refl))
 
 -- a line of the feed whose refusal is an answer, and the feed goes on
 pub fault_taken : (objects : List Object) (past : List Event) (old new : Feed) (fault : RefusedLine) → new.stop ≡ None → GivesFault objects old fault new
@@ -139,11 +36,6 @@ fault_taken objects past old new fault e h = record {
   read_on = (fault_next objects old new fault e h).1;
   goes_on = e;
 }
-
--- an event is an answer
-pub event_answers : (c : Config) (old new : Feed) (event : Event) (line : ℕ) → line ≡ new.line → GivesEvent c old event new
-    → AnswersNext c.objects old (record { line = line; given = Ok event }) new
-event_answers c old new event line e gives = subst (λ n. AnswersNext c.objects old (record { line = n; given = Ok event }) new) (sym e) gives.answers
 
 -- and the feed goes on
 pub event_taken : (c : Config) (past : List Event) (old new : Feed) (event : Event) (line : ℕ) → line ≡ new.line → is_ended past (Ok event) ≡ false → GivesEvent c old event new
@@ -167,9 +59,9 @@ report_of_end c zone past answer more h =
 
 pub short_at_end : (past : List Event) (answer : Answer) (more : List Answer) → is_ended past answer.given ≡ true → Short ≡ ending_after past (answer ∷ more)
 short_at_end past answer more h =
-    sym (ap (λ b. cond (b || is_short answer.given || ends_short (past_after past answer.given) more) Short Whole) h)
+    sym (ap (λ b. cond (b || ends_feed answer.given || ends_short (past_after past answer.given) more) Short Whole) h)
 
-pub short_at_refusal : (past : List Event) (fault : RefusedLine) → is_short (Err fault.fault) ≡ true → Short ≡ ending_after past (refusal fault ∷ [])
+pub short_at_refusal : (past : List Event) (fault : RefusedLine) → ends_feed (Err fault.fault) ≡ true → Short ≡ ending_after past (refusal fault ∷ [])
 short_at_refusal past fault h = sym (ap (λ b. cond (false || b || false) Short Whole) h)
 
 pub report_of_refusal : (c : Config) (zone : Zone) (past : List Event) (fault : RefusedLine) → refused_line fault.line fault.fault ≡ report_from c zone past (refusal fault ∷ [])
@@ -188,10 +80,6 @@ follows_start c zone start runs = record {
   ending = λ others. refl;
   goes_on = runs;
 }
-
-earlier_more : (given : List Answer) (answer : Answer) (line line' : ℕ) → line ≤ line' → answer.line ≤ line' → All (λ a. a.line ≤ line) given → All (λ a. a.line ≤ line') (given ++ answer ∷ [])
-earlier_more given answer line line' le at h =
-    All-push (λ a. a.line ≤ line') given answer (All-weaker (λ a. a.line ≤ line) (λ a. a.line ≤ line') (λ a k. omega (arith, k, le)) given h) at
 
 -- one answer more
 pub follows_more : (c : Config) (zone : Zone) (start : Feed) (given : List Answer) (text : List ℕ) (past : List Event) (now : Feed) (answer : Answer) (new : Feed)
@@ -217,47 +105,10 @@ follows_more c zone start given text past now answer new f takes = record {
       ∙ sym (append_assoc text (answer_text c zone past answer) (report_from c zone (past_after past answer.given) others));
   ending = λ others.
       ap (λ all. ending_after [] all) (append_assoc given (answer ∷ []) others) ∙ f.ending (answer ∷ others)
-      ∙ ap (λ b. cond (b || is_short answer.given || ends_short (past_after past answer.given) others) Short Whole) takes.numbered
+      ∙ ap (λ b. cond (b || ends_feed answer.given || ends_short (past_after past answer.given) others) Short Whole) takes.numbered
       ∙ ap (λ b. cond (false || b || ends_short (past_after past answer.given) others) Short Whole) takes.read_on;
   goes_on = takes.goes_on;
 }
-
--- a long line of those after it
-place_more : (from now : ℕ) (texts others : List (List ℕ)) (line count : ℕ) → Passed from texts now others → HasLong now others line count → HasLong from texts line count
-place_more from now texts others line count p place = record {
-  before = p.0 ++ place.before;
-  text = place.text;
-  others = place.others;
-  are = p.1 ∙ ap (λ (more : List (List ℕ)). p.0 ++ more) place.are ∙ sym (append_assoc p.0 place.before (place.text ∷ place.others));
-  number = omega (arith, place.number, p.2, length-append p.0 place.before);
-  long = place.long;
-}
-
--- all lines up to one are before a later one
-earlier_below : (given front : List Answer) (line later : ℕ) → line < later → All (λ a. a.line ≤ line) given → All (λ a. a.line < later) front → All (λ a. a.line < later) (given ++ front)
-earlier_below given front line later below h k =
-    All-append (λ a. a.line < later) given front (All-weaker (λ a. a.line ≤ line) (λ a. a.line < later) (λ a le. omega (arith, le, below)) given h) k
-
-then_by : (can_fail : Bool) (c : Config) (start now : Feed) (given others : List Answer) (bytes rest : Option (List ℕ)) → start.line ≤ now.line → All (λ a. a.line ≤ now.line) given
-    → Known bytes rest (λ before after. answers_from c.objects start before ≡ given ++ answers_from c.objects now after)
-    → Known bytes rest (λ before after. Passed start.line (pieces before) now.line (pieces after))
-    → IfSome rest (λ after. AreGiven can_fail others (answers_from c.objects now after) now.line (pieces after))
-    → IfSome bytes (λ before. AreGiven can_fail (given ++ others) (answers_from c.objects start before) start.line (pieces before))
-then_by can_fail c start now given others None rest line earlier f l h = tt
-then_by can_fail c start now given others (Some before) None line earlier f l h = absurd f
-then_by can_fail c start now given others (Some before) (Some after) line earlier f l (inl same) = inl (ap (λ more. given ++ more) same ∙ sym f)
-then_by can_fail c start now given others (Some before) (Some after) line earlier f l (inr fails) =
-    let first : now.line < fails.line = omega (arith, fails.place.number) in
-    inr (record {
-      front = given ++ fails.front;
-      line = fails.line;
-      others = fails.others;
-      begins = f ∙ ap (λ more. given ++ more) fails.begins ∙ sym (append_assoc given fails.front fails.others);
-      place = place_more start.line now.line (pieces before) (pieces after) fails.line (least_at_read can_fail) l fails.place;
-      earlier = earlier_below given fails.front now.line fails.line first earlier fails.earlier;
-      later = fails.later;
-      whole = ap (λ more. given ++ more) fails.whole ∙ sym (append_assoc given fails.front (record { line = fails.line; given = Err Read } ∷ []));
-    })
 
 -- what was given, and what is given of the feed after it
 pub given_then : (can_fail : Bool) (c : Config) (zone : Zone) (start : Feed) (given : List Answer) (text : List ℕ) (past : List Event) (now : Feed) (others : List Answer)

@@ -1,5 +1,5 @@
 -- The report of a feed: for each of its lines the refusal, or what the event adds.
-use Rattle.std.specs.Prelude.{◌≡◌, ℕ, ◌+◌, ◌<◌, ◌≤◌, Bool, false, true, not, ◌||◌, ◌==◌, All, List, [], ◌∷◌, ◌++◌, length, ◌⊎◌, IfSome, Option, None, Result, Ok, Err, if◌then◌else◌}
+use Rattle.std.specs.Prelude.{◌≡◌, ℕ, ◌+◌, ◌<◌, ◌≤◌, Bool, false, true, ◌||◌, ◌==◌, All, List, [], ◌∷◌, ◌++◌, length, Option, None, Result, Ok, Err, if◌then◌else◌}
 use Rattle.due_model.specs.declared.config.Config.{Config}
 use Rattle.due_model.specs.declared.config.Object.{Object}
 use Rattle.due_model.specs.declared.event.Event.{Event}
@@ -11,10 +11,9 @@ use Rattle.decider.specs.declared.share.Share.{Share}
 use Rattle.messages.specs.Entries.{event_entries}
 use Rattle.decider.specs.Fits.{Fits, Kept}
 use Rattle.event_feed.specs.declared.fault.FeedFault.{FeedFault}
-use Rattle.event_feed.specs.declared.fault.FeedFault.TheVariants.{Ended, Read}
-use Rattle.event_feed.specs.Fault.{is_line_fault}
-use Rattle.event_feed.specs.Feed.{Answer, AnswersNext, AreGivenBy, Feed, answers_from}
-use Rattle.text_lines.specs.Lines.{Known, pieces}
+use Rattle.event_feed.specs.declared.fault.FeedFault.TheVariants.{Ended}
+use Rattle.event_feed.specs.Feed.{Answer, AnswersNext, AreGivenBy, Feed, PassesLines, answers_from, ends_feed}
+use Rattle.text_lines.specs.Lines.{Known}
 use Rattle.command_output.specs.declared.outcome.Ending.{Ending}
 use Rattle.command_output.specs.declared.outcome.Ending.TheVariants.{Short, Whole}
 use Rattle.command_output.specs.Output.{Leaves, Writes, WritesFront}
@@ -47,11 +46,6 @@ abbrev pub is_ended : List Event → Result Event FeedFault → Bool
 is_ended past (Ok e) = length past == max_events
 is_ended past (Err fault) = false
 
--- Cut and Read end a feed before its input ends
-abbrev pub is_short : Result Event FeedFault → Bool
-is_short (Ok e) = false
-is_short (Err fault) = not (is_line_fault fault)
-
 -- what one answer of a feed adds to a report
 abbrev pub answer_text : Config → Zone → List Event → Answer → List ℕ
 answer_text c zone past answer =
@@ -76,7 +70,7 @@ report_text c zone answers = report_from c zone [] answers
 abbrev pub ends_short : List Event → List Answer → Bool
 ends_short past [] = false
 ends_short past (answer ∷ answers) =
-    is_ended past answer.given || is_short answer.given
+    is_ended past answer.given || ends_feed answer.given
     || ends_short (past_after past answer.given) answers
 
 -- how the reading of a feed ends, after a past
@@ -84,11 +78,6 @@ abbrev pub ending_after : List Event → List Answer → Ending
 ending_after past answers = if ends_short past answers then Short else Whole
 
 -- ---- what a feed gives
-
--- the bytes left are the lines after those that were read
-abbrev pub PassesLines : Feed → Feed → Type 0
-PassesLines old new = Known old.bytes new.bytes (λ bytes rest. (before : List (List ℕ))
-    × (pieces bytes ≡ before ++ pieces rest) × (new.line ≡ old.line + length before))
 
 -- A line of the feed was read whose answer doesn't end the report, and the feed goes on after it.
 pub record TakesAnswer (objects : List Object) (past : List Event) (old : Feed) (answer : Answer)
@@ -98,7 +87,7 @@ pub record TakesAnswer (objects : List Object) (past : List Event) (old : Feed) 
   pub number : answer.line ≡ new.line
   pub lines : PassesLines old new
   pub numbered : is_ended past answer.given ≡ false
-  pub read_on : is_short answer.given ≡ false
+  pub read_on : ends_feed answer.given ≡ false
   pub goes_on : new.stop ≡ None
 
 -- Of a feed's answers these came first; the past is theirs, the text is what they add to a report, and the feed goes on

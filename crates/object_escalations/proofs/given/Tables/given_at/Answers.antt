@@ -1,10 +1,11 @@
-use Rattle.std.proofs.Common.{◌∙◌, List, ap, ℕ}
+use Rattle.std.proofs.Common.{◌∙◌, List, ap, map, subst, ℕ}
 use Rattle.std.specs.Prelude.{codes}
 use Rattle.object_groups.specs.Objects.{names_in}
-use Rattle.object_listing.specs.Listing.{gives_neither, ListingOf}
+use Rattle.object_listing.specs.Listing.{AreThose, contact_directives, gives_neither, IsListed}
+use Rattle.object_reader.specs.declared.block.Block.{Block}
 use Rattle.object_reader.specs.declared.block.BlockKind.TheVariants.{TimePeriod}
 use Rattle.object_readings.specs.Readings.{letters_at, number_at, own_number, own_period}
-use Rattle.object_escalations.proofs.GivenLemmas.{kept-are, read-are}
+use Rattle.object_escalations.proofs.GivenLemmas.{read-are}
 use Rattle.object_escalations.proofs.given.Tables.given_at.Goals as goal
 
 pub returns-clause-given : goal.returns-clause-given
@@ -15,6 +16,7 @@ returns-clause-given c =
     let filters = c.self.inside.filters in
     let place = c.args.place in
     let same = c.self.view_is in
+    let listed = c.self.invariant.contacts_are ∙ same in
     record {
       first = c.number_at.ensures ∙ read-are (λ bs d. number_at bs d 0 place) blocks inside (codes "first_notification") times.firsts same c.self.invariant.times_are.firsts_are;
       last = c.number_at-2.ensures ∙ read-are (λ bs d. number_at bs d 0 place) blocks inside (codes "last_notification") times.lasts same c.self.invariant.times_are.lasts_are;
@@ -23,6 +25,7 @@ returns-clause-given c =
           ∙ read-are (λ bs d. own_period (names_in blocks TimePeriod) bs d place) blocks inside (codes "escalation_period") filters.periods same c.self.invariant.filters_are.periods_are;
       options = c.letters_at.ensures ∙ read-are (λ bs d. letters_at bs d c.args.kind place) blocks inside (codes "escalation_options") filters.options same c.self.invariant.filters_are.options_are;
       lacks = c.gives_neither.ensures
-          ∙ ap (λ (l : ListingOf). gives_neither l.blocks l.directives place) (kept-are blocks inside c.self.inside.contacts same c.self.invariant.contacts_are);
-      contacts = c.in_ok-contacts.ensures.contacts;
+          ∙ ap (λ (bs : List Block). gives_neither bs contact_directives place) listed;
+      contacts = subst (λ (bs : List Block). AreThose (IsListed bs contact_directives place) (map (λ contact. contact.0) c.in_ok-contacts.contacts.items)) listed
+          c.in_ok-contacts.ensures.contacts;
     }

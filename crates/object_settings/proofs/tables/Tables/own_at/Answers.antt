@@ -1,10 +1,11 @@
-use Rattle.std.proofs.Common.{◌∙◌, List, ap, refl, true, ℕ}
+use Rattle.std.proofs.Common.{◌∙◌, List, ap, map, refl, subst, true, ℕ}
 use Rattle.std.specs.Prelude.{codes}
 use Rattle.object_groups.specs.Objects.{names_in}
-use Rattle.object_listing.specs.Listing.{gives_neither, ListingOf}
+use Rattle.object_listing.specs.Listing.{AreThose, contact_directives, gives_neither, IsListed}
+use Rattle.object_reader.specs.declared.block.Block.{Block}
 use Rattle.object_reader.specs.declared.block.BlockKind.TheVariants.{TimePeriod}
 use Rattle.object_readings.specs.Readings.{is_on, letters_at, number_at, own_number, own_period}
-use Rattle.object_settings.proofs.TableLemmas.{kept-are, read-are}
+use Rattle.object_settings.proofs.TableLemmas.{read-are}
 use Rattle.object_settings.proofs.tables.Tables.own_at.Goals as goal
 
 pub returns-clause-own : goal.returns-clause-own
@@ -15,6 +16,7 @@ returns-clause-own c =
     let filters = c.self.inside.filters in
     let place = c.args.place in
     let same = c.self.view_is in
+    let listed = c.self.invariant.contacts_are ∙ same in
     record {
       named = refl;
       enabled = c.is_on.ensures ∙ read-are (λ bs d. is_on bs d true place) blocks inside (codes "notifications_enabled") filters.flags same c.self.invariant.filters_are.flags_are;
@@ -24,6 +26,7 @@ returns-clause-own c =
       period = c.own_period.ensures ∙ ap (λ (periods : List (List ℕ)). own_period periods times.periods.blocks times.periods.directive place) c.requires.periods
           ∙ read-are (λ bs d. own_period (names_in blocks TimePeriod) bs d place) blocks inside (codes "notification_period") times.periods same c.self.invariant.times_are.periods_are;
       lacks = c.gives_neither.ensures
-          ∙ ap (λ (l : ListingOf). gives_neither l.blocks l.directives place) (kept-are blocks inside c.self.inside.contacts same c.self.invariant.contacts_are);
-      contacts = c.in_ok-contacts.ensures.contacts;
+          ∙ ap (λ (bs : List Block). gives_neither bs contact_directives place) listed;
+      contacts = subst (λ (bs : List Block). AreThose (IsListed bs contact_directives place) (map (λ contact. contact.0) c.in_ok-contacts.contacts.items)) listed
+          c.in_ok-contacts.ensures.contacts;
     }
