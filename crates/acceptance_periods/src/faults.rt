@@ -308,7 +308,11 @@ const EXCLUSIONS: [(&str, &str); 18] = [
 ];
 
 /// Checks that the first fault of each text is the one beside it.
-pub(crate) fn have_faults(rt: &impl Abort, alloc: Global, cases: &[(&str, &str)]) -> Result<(), Fail> {
+pub(crate) fn have_faults(
+    rt: &impl Abort,
+    alloc: Global,
+    cases: &[(&str, &str)],
+) -> Result<(), Fail> {
     for case in cases {
         let text = case.0;
         let found = fault_text(alloc, text)?;

@@ -39,9 +39,12 @@ Passed from texts line others = (before : List (List ℕ)) × (texts ≡ before 
 
 pub passed_more : (from now line : ℕ) (texts mid others : List (List ℕ))
     → Passed from texts now mid → Passed now mid line others → Passed from texts line others
-passed_more from now line texts mid others p q =
-    (p.0 ++ q.0, p.1 ∙ ap (λ (more : List (List ℕ)). p.0 ++ more) q.1
-        ∙ sym (append_assoc p.0 q.0 others), omega (arith, p.2, q.2, length-append p.0 q.0))
+passed_more from now line texts mid others p q = (
+  p.0 ++ q.0,
+  p.1 ∙ ap (λ (more : List (List ℕ)). p.0 ++ more) q.1
+      ∙ sym (append_assoc p.0 q.0 others),
+  omega (arith, p.2, q.2, length-append p.0 q.0),
+)
 
 -- the pieces after the line that comes
 pub passed : (from : ℕ) (texts : List (List ℕ)) (line : ℕ) (text : List ℕ)
@@ -50,8 +53,12 @@ pub passed : (from : ℕ) (texts : List (List ℕ)) (line : ℕ) (text : List �
 passed from texts line text others next = (
   replicate next.empty [] ++ text ∷ [],
   next.are ∙ sym (append_assoc (replicate next.empty []) (text ∷ []) others),
-  omega (arith, next.number, length-append (replicate next.empty []) (text ∷ []),
-      length-replicate {A = List ℕ} next.empty []),
+  omega (
+    arith,
+    next.number,
+    length-append (replicate next.empty []) (text ∷ []),
+    length-replicate {A = List ℕ} next.empty [],
+  ),
 )
 
 pub event_passes : (c : Config) (old : Feed) (event : Event) (new : Feed)
@@ -64,10 +71,10 @@ pub fault_passes : (objects : List Object) (old : Feed) (fault : RefusedLine) (n
     → new.stop ≡ None → GivesFault objects old fault new → PassesLines old new
 fault_passes objects old fault new e gives =
     let place : FaultComesTo objects old fault None new =
-        subst (λ s. FaultComesTo objects old fault s new) e gives.place in
+    subst (λ s. FaultComesTo objects old fault s new) e gives.place in
     known_weaker old.bytes new.bytes _ _ place
     (λ xs ys h. let p = passed old.line (pieces xs) fault.line h.text (pieces ys) h.next in
-        (p.0, p.1, sym gives.number ∙ p.2))
+    (p.0, p.1, sym gives.number ∙ p.2))
 
 -- one answer, and those after it
 pub next_by : (can_fail : Bool) (objects : List Object) (old new : Feed) (answer : Answer)
@@ -127,9 +134,10 @@ fault_last can_fail objects old new fault stop e h last =
 pub fault_next : (objects : List Object) (old new : Feed) (fault : RefusedLine)
     → new.stop ≡ None → GivesFault objects old fault new
     → AnswersNext objects old (refusal fault) new × (ends_feed (Err fault.fault) ≡ false)
-fault_next objects old new fault e h =
-    (subst (λ s. FaultAnswers objects old fault s new) e h.answers,
-        ap not (line_fault (subst (λ s. FaultFits fault.fault s) e h.fits)))
+fault_next objects old new fault e h = (
+  subst (λ s. FaultAnswers objects old fault s new) e h.answers,
+  ap not (line_fault (subst (λ s. FaultFits fault.fault s) e h.fits)),
+)
   where
     line_fault : IsTrue (is_line_fault fault.fault) → is_line_fault fault.fault ≡ true
     line_fault h = h
@@ -160,7 +168,7 @@ pub earlier_more : (given : List Answer) (answer : Answer) (line line' : ℕ) �
     → All (λ a. a.line ≤ line') (given ++ answer ∷ [])
 earlier_more given answer line line' le at h =
     All-push (λ a. a.line ≤ line') given answer (All-weaker (λ a. a.line ≤ line)
-        (λ a. a.line ≤ line') (λ a k. omega (arith, k, le)) given h) at
+    (λ a. a.line ≤ line') (λ a k. omega (arith, k, le)) given h) at
 
 -- a long line of those after it
 pub place_more : (from now : ℕ) (texts others : List (List ℕ)) (line count : ℕ)
@@ -181,7 +189,7 @@ pub earlier_below : (given front : List Answer) (line later : ℕ) → line < la
     → All (λ a. a.line < later) (given ++ front)
 earlier_below given front line later below h k =
     All-append (λ a. a.line < later) given front (All-weaker (λ a. a.line ≤ line)
-        (λ a. a.line < later) (λ a le. omega (arith, le, below)) given h) k
+    (λ a. a.line < later) (λ a le. omega (arith, le, below)) given h) k
 
 pub then_by : (can_fail : Bool) (c : Config) (start now : Feed) (given others : List Answer)
     (bytes rest : Option (List ℕ)) → start.line ≤ now.line → All (λ a. a.line ≤ now.line) given

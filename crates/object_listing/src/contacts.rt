@@ -47,10 +47,7 @@ fn contact_ids(alloc: Global, numbers: &[usize]) -> Result<Vec<ContactId>, Alloc
 impl<'a> ContactListing<'a> {
     /// What the blocks list by the two directives. The time grows with the blocks, their directives and the templates
     /// that they use. A refused growth leaves nothing.
-    pub fn new(
-        alloc: Global,
-        templates: &Templates<'a>,
-    ) -> Result<ContactListing<'a>, AllocError>
+    pub fn new(alloc: Global, templates: &Templates<'a>) -> Result<ContactListing<'a>, AllocError>
         ensures { IfOk result (λ made. made ≡ templates.now) }
     {
         let kind = GroupKind::ContactGroups;
