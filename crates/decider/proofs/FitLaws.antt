@@ -1,14 +1,14 @@
 -- What is kept after an event fits the past with the event.
-use Rattle.std.proofs.Common.{◌≡◌, ℕ, ◌+◌, ◌<◌, ◌≤◌, ◌^◌, max, List, [], ◌∷◌, length, All, Option, Some, None, IfSome, refl, sym, ap, subst, ◌∙◌, arith}
-use Rattle.std.proofs.lemmas.List.Elements.{All-cons, All-head, All-tail}
-use Rattle.due_model.specs.declared.config.Config.{Config}
+use Rattle.std.proofs.Common.{◌≡◌, ℕ, ◌+◌, ◌<◌, ◌^◌, max, List, ◌∷◌, length, Option, Some, None, IfSome, refl, sym, ap, subst, ◌∙◌, arith}
+use Rattle.std.proofs.lemmas.List.Elements.{All-cons}
+use Rattle.lemmas.proofs.Beginnings.{moment_in_range}
 use Rattle.due_model.specs.declared.config.ObjectId.{ObjectId}
 use Rattle.due_model.specs.declared.config.Range.{Range}
 use Rattle.due_model.specs.declared.event.Event.{Event}
 use Rattle.due_model.specs.declared.notice.Suppression.{Suppression}
 use Rattle.due_model.specs.declared.rules.ObjectStatus.{ObjectStatus}
 use Rattle.due_model.specs.declared.zone.Zone.{Zone}
-use Rattle.due_model.specs.Limits.{last_moment, max_events}
+use Rattle.due_model.specs.Limits.{max_events}
 use Rattle.due_model.specs.Proper.{IsProper}
 use Rattle.due_model.specs.Readings.{moment, switch_after}
 use Rattle.due_times.specs.Index.{Due}
@@ -25,11 +25,6 @@ use Rattle.decider.proofs.ReadyLaws.{handed, index_after, room_for}
 use Rattle.decider.specs.Statuses.{named_by, status_at}
 use Rattle.decider.proofs.StatusLaws.{depth_few, named_within, statuses_fit}
 
--- the greatest stamp of proper events is in range
-moment_fits : (c : Config) (past : List Event) → All (IsProper c) past → moment past ≤ last_moment
-moment_fits c [] h = omega arith
-moment_fits c (e ∷ past) h = omega (arith, moment_fits c past (All-tail (IsProper c) e past h), (All-head (IsProper c) e past h).stamp)
-
 module _ (k : Kept) (e : Event) (past : List Event) (fits : Fits k past) (proper : IsProper k.config e) where
   moment_is : (context_of k e).moment ≡ moment (e ∷ past)
   moment_is = ap (λ (t : ℕ). max t e.moment) fits.moment
@@ -45,7 +40,7 @@ module _ (k : Kept) (e : Event) (past : List Event) (fits : Fits k past) (proper
     number = fits.count;
     says = refl;
     at = ap (λ (t : ℕ). max t e.moment) fits.moment;
-    in_time = omega (arith, moment_fits k.config past fits.proper, fits.moment, proper.stamp);
+    in_time = omega (arith, moment_in_range k.config past fits.proper, fits.moment, proper.stamp);
     switch = ap (switch_after e.kind) fits.program;
     known = fits.statuses;
     kept = fits.books;

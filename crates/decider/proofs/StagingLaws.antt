@@ -1,8 +1,7 @@
 -- What is staged is what the definitions say.
-use Rattle.std.proofs.Common.{◌≡◌, ℕ, ◌+◌, ◌^◌, ◌<◌, ◌≤◌, Bool, true, cond, List, [], ◌∷◌, ◌++◌, length, get_or, slice_get, slice_index_or, Option, Some, sym, ap, subst, ◌∙◌, arith, inl, inr, append_assoc, add-one}
+use Rattle.std.proofs.Common.{◌≡◌, ℕ, ◌+◌, ◌^◌, ◌<◌, ◌≤◌, Bool, true, cond, List, [], ◌∷◌, ◌++◌, length, get_or, slice_get, slice_index_or, Option, Some, sym, ap, subst, ◌∙◌, arith, append_assoc, add-one}
 use Rattle.std.specs.Option.{option_map_or}
 use Rattle.std.proofs.lemmas.List.{append-nil, get_or_default}
-use Rattle.std.proofs.lemmas.Option.{slice_get_cases}
 use Rattle.due_model.specs.declared.config.Object.{Object}
 use Rattle.due_model.specs.declared.config.ObjectId.{ObjectId}
 use Rattle.due_model.specs.declared.event.Event.{Event}
@@ -32,13 +31,6 @@ use Rattle.decider.specs.Staging.{Adds}
 use Rattle.decider.specs.Statuses.{StatusLists, named_by}
 use Rattle.decider.proofs.BookLaws.{no_books, no_entries, touches_other, touches_own}
 use Rattle.decider.proofs.StatusLaws.{depth_few, named_within}
-
--- an element within a list
-pub found_at : {X : Type 0} (xs : List X) (i : ℕ) → i < length xs → (x : X) × (slice_get xs i ≡ Some x)
-found_at xs i h = elim (slice_get_cases xs i).1 [
-  | inl within ↦ (within.0, within.2)
-  | inr past ↦ absurd (omega (arith, past.0))
-]
 
 module _ (v : Values) (e : Event) (past : List Event) (is : IsAt v e past) (o : ℕ) (settings : Object) (at : slice_get v.config.objects o ≡ Some settings) where
   -- the book that is kept of an object of the share fits

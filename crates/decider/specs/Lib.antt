@@ -9,3 +9,4 @@ pub mod Log
 pub mod Outbox
 pub mod Decider
 pub mod Fits
+pub mod DeciderLaws

@@ -1,5 +1,5 @@
 -- What a desk has after an event is decided, and after it is handed out.
-use Rattle.std.proofs.Common.{◌≡◌, ℕ, ◌<◌, Bool, true, false, List, [], ◌∷◌, ◌++◌, length, get_or, replicate, sym, ap, subst, ◌∙◌, arith, Result, Ok, Err, OnOk, OnErr}
+use Rattle.std.proofs.Common.{◌≡◌, ℕ, ◌<◌, Bool, true, false, List, [], ◌∷◌, ◌++◌, length, get_or, replicate, sym, ap, subst, ◌∙◌, arith, Result, Ok, Err, OnOk}
 use Rattle.due_model.specs.declared.config.Config.{Config}
 use Rattle.due_model.specs.declared.config.LaneId.{LaneId}
 use Rattle.due_model.specs.declared.event.Event.{Event}
@@ -147,10 +147,6 @@ module _ (c : Config) (zone : Zone) (posted : ℕ → Bool) (e : Event) (past : 
 pub ok_three : {T E P Q R S : Type 0} (r : Result T E) → (P → Q → R → S) → OnOk r P → OnOk r Q → OnOk r R → OnOk r S
 ok_three (Ok x) f p q t = f p q t
 ok_three (Err x) f p q t = tt
-
-pub err_always : {T E P : Type 0} (r : Result T E) → P → OnErr r P
-err_always (Ok x) p = tt
-err_always (Err x) p = p
 
 -- ---- a new desk
 

@@ -3,7 +3,6 @@ use Rattle.std.proofs.Common.{◌≡◌, ℕ, ◌<◌, List, [], ◌∷◌, ◌+
 use Rattle.std.specs.List.{range_with_len}
 use Rattle.std.specs.Option.{option_map_or}
 use Rattle.std.proofs.lemmas.List.Elements.{All-nil, All-cons, All-append, All-filter, All-weaker, filter-append}
-use Rattle.std.proofs.lemmas.List.FromFn.{get_or-range_with_len, length-range_with_len}
 use Rattle.due_model.specs.declared.config.Config.{Config}
 use Rattle.due_model.specs.declared.config.Contact.{Contact}
 use Rattle.due_model.specs.declared.config.Object.{Object}
@@ -20,7 +19,8 @@ use Rattle.due_model.specs.Histories.{hist, outcome}
 use Rattle.due_model.specs.Rules.{contact_failing}
 use Rattle.decider.specs.Decider.{gain, gained, suppressed_gain, suppressed_gained}
 use Rattle.decider.specs.Share.{is_owned, owned_numbers}
-use Rattle.lemmas.proofs.Lists.{All-flat_map}
+use Rattle.decider.specs.DeciderLaws.{due_more}
+use Rattle.lemmas.proofs.Lists.{All-flat_map, range_below}
 use Rattle.lemmas.proofs.Notices.{notices_to_each}
 use Rattle.steps.specs.Lanes.{about}
 use Rattle.engine.specs.Due.{IsNamed, made_due, of_object, suppressed, whole_share}
@@ -108,14 +108,6 @@ suppressed_of c zone e past o within =
 
 -- ---- over a past
 
-due_more : (c : Config) (zone : Zone) (o l : ℕ) (e : Event) (past : List Event) → due c zone o l (e ∷ past) ≡ due c zone o l past ++ gain c zone l e past o
-due_more c zone o l e past = by_object (slice_get c.objects o)
-  where
-    by_object : (found : Option Object) → elim found as (λ _. List Notice) [ None ↦ [] | Some object ↦ due_for c zone o object l (e ∷ past) ]
-        ≡ elim found as (λ _. List Notice) [ None ↦ [] | Some object ↦ due_for c zone o object l past ] ++ option_map_or (λ object. due_at c zone o object l e past) found []
-    by_object None = refl
-    by_object (Some object) = refl
-
 due_none : (c : Config) (zone : Zone) (o l : ℕ) → [] ≡ due c zone o l []
 due_none c zone o l = by_object (slice_get c.objects o)
   where
@@ -156,20 +148,13 @@ suppressed_is_sup c zone (e ∷ past) o within =
     ∙ ap (λ (more : List Suppression). sup c zone o past ++ more) (suppressed_of c zone e past o within)
     ∙ sym (sup_more c zone o e past)
 
--- each notice names an object of the configuration, and the lane
-below_count : (n : ℕ) → All (λ k. k < n) (range_with_len 0 n)
-below_count n = λ i d within.
-    let long = length-range_with_len 0 n in
-    let inside : i < n = omega (arith, within, long) in
-    omega (arith, get_or-range_with_len 0 n i d inside)
-
 gained_named : (c : Config) (zone : Zone) (l : ℕ) (e : Event) (past : List Event) → All (IsNamed c l) (gained c zone whole_share l e past)
 gained_named c zone l e past =
     All-flat_map (IsNamed c l) (gain c zone l e past) (owned_numbers whole_share (length c.objects))
     (All-weaker (λ k. k < length c.objects) (λ k. All (IsNamed c l) (gain c zone l e past k))
     (λ k within. All-weaker (IsOf k l) (IsNamed c l) (λ n h. (subst (λ (m : ℕ). m < length c.objects) (sym h.0) within, h.1)) (gain c zone l e past k) (gain_is_of c zone l e past k))
     (owned_numbers whole_share (length c.objects))
-    (All-filter (is_owned whole_share) (λ k. k < length c.objects) (range_with_len 0 (length c.objects)) (below_count (length c.objects))))
+    (All-filter (is_owned whole_share) (λ k. k < length c.objects) (range_with_len 0 (length c.objects)) (range_below (length c.objects))))
 
 pub made_due_named : (c : Config) (zone : Zone) (l : ℕ) (past : List Event) → All (IsNamed c l) (made_due c zone l past)
 made_due_named c zone l [] = All-nil (IsNamed c l)

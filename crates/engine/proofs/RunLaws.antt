@@ -1,5 +1,5 @@
 -- What a line of the feed makes of a run.
-use Rattle.std.proofs.Common.{◌≡◌, ◌≢◌, ℕ, Bool, true, List, [], ◌∷◌, ◌++◌, length, reverse, sym, ap, subst, ◌∙◌, inl, inr, Ok, IsErrOf}
+use Rattle.std.proofs.Common.{◌≡◌, ◌≢◌, ℕ, Bool, true, List, [], ◌∷◌, ◌++◌, length, reverse, sym, ap, subst, ◌∙◌, inl, inr}
 use Rattle.std.proofs.lemmas.List.{length-reverse, reverse-append}
 use Rattle.due_model.specs.declared.config.Config.{Config}
 use Rattle.due_model.specs.declared.event.Event.{Event}
@@ -48,6 +48,3 @@ module _ (c : Config) (zone : Zone) (posted : ℕ → Bool) (start : Feed) (said
   -- or before it
   pub offered_stopped : new ≡ intake → Holds c zone posted true (reverse intake.events) desk → IsStopped c zone posted start said new desk
   offered_stopped is h = subst (λ (x : Intake). IsStopped c zone posted start said x desk) (sym is) (record { read = inr (e, offers); holds = h })
-
-pub ok_is_no_fault : {T E : Type 0} (x : T) (fault : E) → IsErrOf (Ok x) fault → ⊥
-ok_is_no_fault x fault h = cc

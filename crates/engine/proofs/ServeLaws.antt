@@ -1,5 +1,5 @@
 -- What is handed to a lane, one notice after another.
-use Rattle.std.proofs.Common.{◌≡◌, ◌≢◌, ℕ, ◌<◌, Bool, List, [], ◌∷◌, ◌++◌, length, drop, get_or, set, slice_get, None, Some, refl, sym, ap, ◌∙◌, arith, append_assoc, get_or-set_same, get_or-set_other, length-set, ◌⊎◌, inl, inr, Result, Ok, Err, OnErr}
+use Rattle.std.proofs.Common.{◌≡◌, ◌≢◌, ℕ, ◌<◌, Bool, List, [], ◌∷◌, ◌++◌, length, drop, get_or, set, slice_get, None, Some, refl, sym, ap, ◌∙◌, arith, append_assoc, get_or-set_same, get_or-set_other, length-set, ◌⊎◌, inl, inr}
 use Rattle.std.proofs.lemmas.List.{append-nil}
 use Rattle.due_model.specs.declared.notice.Notice.{Notice}
 use Rattle.engine.specs.Lanes.{LaneValue, MayBeShut, held}
@@ -85,7 +85,3 @@ served_front l old lane new before now n h first (inr e) = (
   sym h.moved ∙ ap (λ (xs : List Notice). held lane ++ xs) (front_of (get_or now l []) n first)
       ∙ sym (append_assoc (held lane) (n ∷ []) (drop 1 (get_or now l []))) ∙ ap (λ (xs : List Notice). xs ++ drop 1 (get_or now l [])) (sym e),
 )
-
-pub on_err_always : {T E P : Type 0} (r : Result T E) → P → OnErr r P
-on_err_always (Ok x) p = tt
-on_err_always (Err e) p = p

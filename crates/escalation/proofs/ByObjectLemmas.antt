@@ -7,7 +7,7 @@ use Rattle.std.proofs.lemmas.List.{append-nil, get_or-replicate, get_or-set_othe
 use Rattle.std.proofs.lemmas.List.Elements.{All-filter, filter-append, filter_map-append}
 use Rattle.std.proofs.lemmas.List.FromFn.{get_or-range_with_len, length-range_with_len}
 use Rattle.std.proofs.lemmas.Option.{get_or_from_slice_get, slice_get_within}
-use Rattle.lemmas.proofs.Lists.{filter_range_more}
+use Rattle.lemmas.proofs.Lists.{filter_range_more, some_at}
 use Rattle.due_model.specs.declared.config.Config.{Config}
 use Rattle.due_model.specs.declared.config.Escalation.{Escalation}
 use Rattle.escalation.specs.ByObject.{HasPlaces, is_of, places_below}
@@ -41,11 +41,6 @@ one_more c i e lists at within has =
 
 -- ---- the escalations at these places
 
-element : {X : Type 0} (xs : List X) (i : ℕ) → i < length xs → (x : X) × (slice_get xs i ≡ Some x)
-element [] i low = absurd (omega arith)
-element (x ∷ xs) zero low = (x, refl)
-element (x ∷ xs) (suc i) low = element xs i (omega arith)
-
 pub take_one : {X : Type 0} (xs : List X) (i : ℕ) (x : X) → slice_get xs i ≡ Some x → take (i + 1) xs ≡ take i xs ++ x ∷ []
 take_one {X} xs i x at = take_more xs i x (slice_get_within xs i x at) ∙ ap (λ (y : X). take i xs ++ y ∷ []) (get_or_from_slice_get xs i x x at)
 
@@ -59,7 +54,7 @@ at_places_below : (es : List Escalation) (o n : ℕ) → n ≤ length es
 at_places_below es o zero few = refl
 at_places_below es o (suc n) few =
     let one : suc n ≡ n + 1 = omega arith in
-    let found = element es n (omega arith) in
+    let found = some_at es n (omega arith) in
     let e : Escalation = found.0 in
     let rest = at_places_below es o n (omega arith) in
     subst (λ (m : ℕ). filter_map (slice_get es) (places_below es m o) ≡ filter (λ (x : Escalation). eqb x.object.0 o) (take m es)) (sym one) (

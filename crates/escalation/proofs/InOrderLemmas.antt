@@ -1,24 +1,21 @@
 -- Contacts that were sorted and freed of doubles, as the numbers below a count that are among them.
-use Rattle.std.proofs.Common.{◌≡◌, ℕ, zero, suc, ◌+◌, ◌<◌, ◌≤◌, Bool, true, false, ◌||◌, cond, eqb, List, [], ◌∷◌, ◌++◌, length, map, get_or, Result, Ok, Err, OnOk, is_ok, refl, sym, ap, subst, ◌∙◌, ◌⊎◌, inl, inr, ⊎_elim, arith}
+use Rattle.std.proofs.Common.{◌≡◌, ℕ, ◌+◌, ◌<◌, ◌≤◌, Bool, true, false, cond, eqb, List, [], ◌∷◌, ◌++◌, length, map, get_or, Result, Ok, Err, OnOk, is_ok, refl, sym, ap, subst, ◌∙◌, inl, inr, arith}
 use Rattle.std.specs.Prelude.{All, AllPairs, Contains, filter}
 use Rattle.std.specs.List.{dedup, dedup_from, range_with_len}
 use Rattle.std.specs.List.Sorted.{IsNonDecreasingBy, IsPermutation, IsSorted}
 use Rattle.std.specs.Ordering.{nat_cmp, is_lt}
 use Rattle.std.proofs.lemmas.Bool.Decides.{nat_tests}
-use Rattle.std.proofs.lemmas.Bool.{cases_eq, eq-eqb, ne_eqb}
+use Rattle.std.proofs.lemmas.Bool.{cases_eq, eq-eqb, ne_eqb, or_right}
 use Rattle.std.proofs.lemmas.List.{get_or-map, length-map}
 use Rattle.std.proofs.lemmas.List.Elements.{All-contains, All-map}
-use Rattle.std.proofs.lemmas.List.FromFn.{get_or-range_with_len, length-range_with_len}
 use Rattle.std.proofs.lemmas.List.Kept.{AllPairs-filter, AllPairs-from_increasing, Contains-dedup_nat, Contains-from_dedup}
 use Rattle.std.proofs.lemmas.List.Sorted.{Contains-permutation, IsPermutation-map, IsPermutation-sym}
 use Rattle.std.proofs.lemmas.Map.Keys.{IsStrictlyIncreasing-dedup}
-use Rattle.lemmas.proofs.Elements.{Contains-cases, Contains-filter, Contains-from_filter, Contains-here, Contains-later, Contains-none}
+use Rattle.lemmas.proofs.Elements.{Contains-cases, Contains-filter, Contains-from_filter, Contains-here, Contains-later, Contains-none, Contains-range}
 use Rattle.lemmas.proofs.Lists.{AllPairs-head, AllPairs-tail, range_increases}
 use Rattle.due_model.specs.declared.config.ContactId.{ContactId}
 use Rattle.due_model.specs.Escalations.{has_contact}
 use Rattle.escalation.specs.Named.{contact_ids}
-
--- ---- what a list contains, one element at a time
 
 -- ---- rising numbers are determined by which they are
 
@@ -53,11 +50,6 @@ same_rising (x ∷ xs) (y ∷ ys) rising rising' to from =
     (rest_in x y xs ys same rising to) (rest_in y x ys xs (sym same) rising' from) in
     ap (λ (z : ℕ). z ∷ xs) same ∙ ap (λ (zs : List ℕ). y ∷ zs) rest
 
--- ---- what a filter contains
-
-below-Contains : (count k : ℕ) → k < count → Contains (range_with_len 0 count) k
-below-Contains count k low = (k, omega (arith, low, length-range_with_len 0 count), get_or-range_with_len 0 count k k low ∙ omega arith)
-
 -- ---- contacts by their numbers
 
 abbrev pub number : ContactId → ℕ
@@ -66,10 +58,6 @@ number contact = contact.0
 pub ids_numbers : (contacts : List ContactId) → contacts ≡ contact_ids (map number contacts)
 ids_numbers [] = refl
 ids_numbers (k ∷ ks) = ap (λ (rest : List ContactId). k ∷ rest) (ids_numbers ks)
-
-or_true : (a b : Bool) → b ≡ true → (a || b) ≡ true
-or_true true b holds = refl
-or_true false b holds = holds
 
 has-Contains : (contacts : List ContactId) (k : ℕ) → has_contact contacts k ≡ true → Contains (map number contacts) k
 has-Contains [] k has = cc
@@ -84,7 +72,7 @@ Contains-has : (contacts : List ContactId) (k : ℕ) → Contains (map number co
 Contains-has [] k at = absurd (Contains-none k at)
 Contains-has (x ∷ xs) k at = elim (Contains-cases x.0 k (map number xs) at) [
   | inl same ↦ let yes : eqb x.0 k ≡ true = eq-eqb x.0 k same in rw yes refl
-  | inr later ↦ or_true (eqb x.0 k) (has_contact xs k) (Contains-has xs k later)
+  | inr later ↦ or_right (eqb x.0 k) (has_contact xs k) (Contains-has xs k later)
 ]
 
 -- ---- sorted, and freed of doubles
@@ -128,7 +116,7 @@ in_order E ties xs ys zs moved rising is count few =
     (AllPairs-filter (λ x y. x < y) (has_contact xs) (range_with_len 0 count) (range_increases 0 count))
     (λ k at.
     let among : Contains ns k = Contains-permutation ms ns k (IsPermutation-sym ns ms moves) (Contains-from_dedup eqb ms k at) in
-    Contains-filter (has_contact xs) (range_with_len 0 count) k (below-Contains count k (All-contains (λ k. k < count) ns k below among)) (Contains-has xs k among))
+    Contains-filter (has_contact xs) (range_with_len 0 count) k (Contains-range count k (All-contains (λ k. k < count) ns k below among)) (Contains-has xs k among))
     (λ k at. Contains-dedup_nat ms k (Contains-permutation ns ms k moves (has-Contains xs k ((Contains-from_filter (has_contact xs) (range_with_len 0 count) k at).1)))) in
     ids_numbers zs ∙ ap contact_ids (ap (map number) is ∙ dedup_numbers E ties ys ∙ same)
 

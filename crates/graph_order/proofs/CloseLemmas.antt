@@ -5,10 +5,11 @@ use Rattle.std.proofs.lemmas.Bool.{cases_eq, cases_lt}
 use Rattle.std.proofs.lemmas.Option.{slice_get_within, slice_get_cases, slice_get-get_or, get_or_from_slice_get}
 use Rattle.std.proofs.lemmas.List.{length-append, length-set, get_or_default, take_more}
 use Rattle.std.proofs.lemmas.List.Elements.{All-get_or, Contains-push, Contains-push_cases, Contains-append_left, Contains-append_right, Contains-append_cases}
+use Rattle.lemmas.proofs.Elements.{at-Contains}
 use Rattle.graph_order.specs.declared.walk.Mark.{Mark}
 use Rattle.graph_order.specs.declared.walk.Mark.TheVariants.{Unseen, Live, Done}
 use Rattle.graph_order.specs.Walk.{IsBegun, IsDone, IsLinked, IsMarkedDone, IsOpen, IsTurned, NoRoot, end_at, steps_of}
-use Rattle.graph_order.proofs.ListLemmas.{set_same, set_other, one_at, at_left, at_right, at_cases, at-Contains, Contains-at, last_after, pairs_front}
+use Rattle.graph_order.proofs.ListLemmas.{set_same, set_other, one_at, at_left, at_right, at_cases, Contains-at, last_after, pairs_front}
 use Rattle.graph_order.proofs.WalkLemmas.{differ, same_place, no_root_front}
 
 -- two lists without an element in common, each with every element once

@@ -16,9 +16,6 @@ set_other (y ∷ xs) zero (suc k) x other = refl
 set_other (y ∷ xs) (suc i) zero x other = refl
 set_other (y ∷ xs) (suc i) (suc k) x other = set_other xs i k x (λ same. other (ap (λ (n : ℕ). suc n) same))
 
-pub at-Contains : {X : Type 0} (xs : List X) (k : ℕ) (x : X) → slice_get xs k ≡ Some x → Contains xs x
-at-Contains xs k x at = (k, slice_get_within xs k x at, get_or_from_slice_get xs k x x at)
-
 pub Contains-at : {X : Type 0} (xs : List X) (x : X) → Contains xs x → (k : ℕ) × (slice_get xs k ≡ Some x)
 Contains-at {X} xs x at = (at.0, slice_get-get_or xs at.0 x at.1 ∙ ap (λ (y : X). Some y) at.2)
 

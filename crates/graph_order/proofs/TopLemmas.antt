@@ -5,14 +5,15 @@ use Rattle.std.proofs.lemmas.Bool.{cases_lt}
 use Rattle.std.proofs.lemmas.Option.{slice_get_within, slice_get-get_or, slice_get_read, get_or_from_slice_get}
 use Rattle.std.proofs.lemmas.List.{get_or_default}
 use Rattle.std.proofs.lemmas.List.Elements.{Contains-get_or}
+use Rattle.lemmas.proofs.Chains.{Reaches-join}
+use Rattle.lemmas.proofs.Elements.{at-Contains}
 use Rattle.graph_order.specs.declared.walk.Mark.{Mark}
 use Rattle.graph_order.specs.declared.walk.Mark.TheVariants.{Unseen, Live, Done}
 use Rattle.graph_order.specs.declared.walk.Walk.{Walk}
 use Rattle.graph.specs.Chains.{Chain, IsOnLoop, Reaches}
 use Rattle.graph.specs.Edges.{Leads}
 use Rattle.graph_order.specs.Walk.{AtMost, Closes, Enters, Fits, Goes, Leaves, Merges, Passes, end_at, least_of}
-use Rattle.graph_order.proofs.ListLemmas.{at-Contains}
-use Rattle.graph_order.proofs.WalkLemmas.{differ, Reaches-join, Reaches-step}
+use Rattle.graph_order.proofs.WalkLemmas.{differ, Reaches-step}
 use Rattle.graph_order.proofs.MoveLemmas.{Goes-enter, Goes-leave, Goes-merge, Goes-pass, Goes-close}
 
 -- what a done node reaches is done

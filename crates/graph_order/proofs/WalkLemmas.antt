@@ -1,26 +1,20 @@
 -- What each move of the walk keeps: entering a node, leaving one, taking a root away, passing an edge.
-use Rattle.std.proofs.Common.{◌≡◌, ℕ, zero, suc, ◌+◌, ◌<◌, ◌≤◌, List, [], ◌∷◌, ◌++◌, length, get_or, set, Option, Some, refl, sym, ap, subst, ◌∙◌, ◌⊎◌, inl, inr, ⊎_elim, arith}
+use Rattle.std.proofs.Common.{◌≡◌, ℕ, ◌+◌, ◌<◌, ◌≤◌, List, [], ◌∷◌, ◌++◌, length, get_or, set, Option, Some, refl, sym, ap, subst, ◌∙◌, ◌⊎◌, inl, inr, ⊎_elim, arith}
 use Rattle.std.specs.Prelude.{Contains, slice_get}
 use Rattle.std.proofs.lemmas.Bool.{cases_eq, cases_lt}
 use Rattle.std.proofs.lemmas.Option.{slice_get_within}
 use Rattle.std.proofs.lemmas.List.{length-set, length-append, get_or-set_same, get_or-set_other}
 use Rattle.std.proofs.lemmas.List.Elements.{Contains-get_or, Contains-push, Contains-push_cases, Contains-append_left}
 use Rattle.std.proofs.lemmas.List.Quantifiers.{all_pairs_push}
+use Rattle.lemmas.proofs.Chains.{Reaches-join}
 use Rattle.graph_order.specs.declared.walk.Mark.{Mark}
 use Rattle.graph_order.specs.declared.walk.Mark.TheVariants.{Unseen, Live, Done}
-use Rattle.graph.specs.Chains.{Chain, IsOnLoop, Reaches}
+use Rattle.graph.specs.Chains.{IsOnLoop, Reaches}
 use Rattle.graph.specs.Edges.{Leads}
 use Rattle.graph_order.specs.Walk.{AtMost, IsBegun, IsDone, IsLinked, IsOpen, IsTold, IsTurned, NoRoot, end_at}
 use Rattle.graph_order.proofs.ListLemmas.{set_same, set_other, one_at, at_left, at_end, at_push_cases, pairs_front}
 
 -- ---- chains
-
-pub Chain-join : (R : ℕ → ℕ → Type 0) (a b p q r : ℕ) → Chain R a p q → Chain R b q r → Chain R (a + b) p r
-Chain-join R zero b p q r same chain = let none : 0 + b ≡ b = omega arith in rw none (subst (λ (x : ℕ). Chain R b x r) (sym same) chain)
-Chain-join R (suc a) b p q r first chain = let shift : suc a + b ≡ suc (a + b) = omega arith in rw shift (first.0, first.1, Chain-join R a b first.0 q r first.2 chain)
-
-pub Reaches-join : (R : ℕ → ℕ → Type 0) (p q r : ℕ) → Reaches R p q → Reaches R q r → Reaches R p r
-Reaches-join R p q r first second = (first.0 + second.0, Chain-join R first.0 second.0 p q r first.1 second.1)
 
 pub Reaches-step : (R : ℕ → ℕ → Type 0) (p q : ℕ) → R p q → Reaches R p q
 Reaches-step R p q leads = (1, (q, leads, refl))

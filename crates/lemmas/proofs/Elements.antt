@@ -1,13 +1,16 @@
 -- What lists contain, and numbers put in order.
-use Rattle.std.proofs.Common.{◌≡◌, ℕ, zero, suc, ◌<◌, Bool, true, false, cond, List, [], ◌∷◌, map, refl, sym, ap, subst, eqb, ◌∙◌, ◌⊎◌, inl, inr, ⊎_elim, arith}
-use Rattle.std.specs.Prelude.{Contains, filter, ◌↔◌}
-use Rattle.std.specs.List.{dedup, range_with_len}
+use Rattle.std.proofs.Common.{◌≡◌, ℕ, zero, suc, ◌<◌, Bool, true, false, cond, List, [], ◌∷◌, map, refl, sym, ap, subst, eqb, ◌∙◌, ◌⊎◌, inl, inr, ⊎_elim, arith, Option, Some, None}
+use Rattle.std.specs.Prelude.{Contains, filter, is_some, slice_get, ◌↔◌}
+use Rattle.std.specs.List.{dedup, flat_map, range_with_len}
 use Rattle.std.specs.List.Sorted.{IsPermutation, IsSorted, IsStrictlyIncreasing}
 use Rattle.std.specs.Ordering.{nat_cmp}
 use Rattle.std.proofs.lemmas.List.FromFn.{get_or-range_with_len, length-range_with_len}
 use Rattle.std.proofs.lemmas.List.Kept.{Contains-dedup_nat, Contains-from_dedup}
 use Rattle.std.proofs.lemmas.List.Sorted.{Contains-permutation, IsPermutation-sym}
 use Rattle.std.proofs.lemmas.Map.Keys.{IsStrictlyIncreasing-dedup}
+use Rattle.std.proofs.lemmas.List.Concat.{flat_map-cons}
+use Rattle.std.proofs.lemmas.List.Elements.{Contains-append_cases, Contains-append_left, Contains-append_right}
+use Rattle.std.proofs.lemmas.Bool.{false≢true}
 
 -- ---- what a list contains
 
@@ -85,3 +88,29 @@ module _ (xs ys zs : List ℕ) (moved : IsPermutation xs ys) (sorted : IsSorted 
     (λ here. Contains-permutation ys xs k (IsPermutation-sym xs ys moved) (Contains-from_dedup eqb ys k (subst (λ set. Contains set k) is here))),
     (λ there. subst (λ set. Contains set k) (sym is) (Contains-dedup_nat ys k (Contains-permutation xs ys k moved there))),
   )
+
+pub Contains-flat_map : {X Y : Type 0} (f : X → List Y) (xs : List X) (x : X) (y : Y) → Contains xs x → Contains (f x) y → Contains (flat_map f xs) y
+Contains-flat_map f [] x y at on = absurd (Contains-none x at)
+Contains-flat_map f (z ∷ zs) x y at on = rw (flat_map-cons f z zs) (⊎_elim
+    (λ (here : z ≡ x). Contains-append_left (f z) (flat_map f zs) y (subst (λ w. Contains (f w) y) (sym here) on))
+    (λ (later : Contains zs x). Contains-append_right (f z) (flat_map f zs) y (Contains-flat_map f zs x y later on))
+    (Contains-cases z x zs at))
+
+pub Contains-from_flat_map : {X Y : Type 0} (f : X → List Y) (xs : List X) (y : Y) → Contains (flat_map f xs) y → (x : X) × Contains xs x × Contains (f x) y
+Contains-from_flat_map f [] y at = absurd (Contains-none y at)
+Contains-from_flat_map f (x ∷ xs) y at = ⊎_elim
+    (λ (here : Contains (f x) y). (x, Contains-here x xs, here))
+    (λ (later : Contains (flat_map f xs) y). let more = Contains-from_flat_map f xs y later in (more.0, Contains-later x more.0 xs more.1, more.2))
+    (Contains-append_cases (f x) (flat_map f xs) y (subst (λ ys. Contains ys y) (flat_map-cons f x xs) at))
+
+pub at-Contains : {X : Type 0} (xs : List X) (i : ℕ) (x : X) → slice_get xs i ≡ Some x → Contains xs x
+at-Contains [] i x none = absurd (false≢true (ap is_some none))
+at-Contains {X} (y ∷ ys) zero x is = subst (λ (z : X). Contains (y ∷ ys) z) (some-same y x is) (Contains-here y ys)
+  where
+    or_else : Option X → X → X
+    or_else None z = z
+    or_else (Some w) z = w
+
+    some-same : (v w : X) → Some v ≡ Some w → v ≡ w
+    some-same v w same = ap (λ found. or_else found v) same
+at-Contains (y ∷ ys) (suc i) x is = Contains-later y x ys (at-Contains ys i x is)

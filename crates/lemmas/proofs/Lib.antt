@@ -6,3 +6,8 @@ pub mod Elements
 pub mod Notices
 pub mod Beginnings
 pub mod Dependencies
+pub mod Zips
+pub mod Chains
+pub mod Edges
+pub mod Rising
+pub mod Results

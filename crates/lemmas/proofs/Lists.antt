@@ -1,8 +1,8 @@
 -- Lists: those in which each element is related to each later one, ranges of numbers, elements read at a place, and a list
 -- taken from its front one element at a time.
-use Rattle.std.proofs.Common.{◌≡◌, ℕ, zero, suc, ◌+◌, ◌<◌, ◌≤◌, Bool, true, false, cond, ◌||◌, List, [], ◌∷◌, ◌++◌, length, length-take, length-take-le, get_or, take, drop, reverse, map-id, filter, flat_map, All, Some, slice_get, Contains, refl, sym, ap, ap₂, ◌∙◌, arith}
+use Rattle.std.proofs.Common.{◌≡◌, ℕ, zero, suc, ◌+◌, ◌<◌, ◌≤◌, Bool, true, false, cond, ◌||◌, List, [], ◌∷◌, ◌++◌, length, length-take, length-take-le, get_or, take, drop, reverse, map-id, filter, flat_map, All, Some, slice_get, Contains, refl, sym, ap, ap₂, ◌∙◌, arith, ◌-◌, replicate}
 use Rattle.std.specs.List.{AllPairs, list_any, range_with_len, slice_split, onto_first}
-use Rattle.std.proofs.lemmas.List.{take_more, reverse-append, length-reverse, take_all, drop_all, drop-append-le}
+use Rattle.std.proofs.lemmas.List.{take_more, reverse-append, length-reverse, take_all, drop_all, drop-append-le, get_or_default}
 use Rattle.std.proofs.lemmas.Option.{get_or_from_slice_get}
 use Rattle.std.proofs.lemmas.List.Elements.{All-nil, All-cons, All-head, All-tail, All-append, All-same}
 use Rattle.std.proofs.lemmas.List.FromFn.{get_or-range_with_len, length-range_with_len, filter_of_map_range_with_len_more}
@@ -111,3 +111,21 @@ any_alike f g (x ∷ xs) alike =
 -- what is read of a list at a place where an element stands
 pub is_read : {X : Type 0} (xs ys : List X) (i k : ℕ) (d x : X) → ys ≡ xs → k ≡ i → slice_get xs i ≡ Some x → get_or ys k d ≡ x
 is_read {X} xs ys i k d x same place at = ap (λ (zs : List X). get_or zs k d) same ∙ ap (λ (m : ℕ). get_or xs m d) place ∙ get_or_from_slice_get xs i x d at
+
+pub some_at : {X : Type 0} (xs : List X) (i : ℕ) → i < length xs → (x : X) × (slice_get xs i ≡ Some x)
+some_at [] i low = absurd (omega arith)
+some_at (x ∷ xs) zero low = (x, refl)
+some_at (x ∷ xs) (suc i) low = some_at xs i (omega arith)
+
+pub range_below : (n : ℕ) → All (λ k. k < n) (range_with_len 0 n)
+range_below n = λ i d within.
+    let low : i < n = omega (arith, within, length-range_with_len 0 n) in
+    omega (arith, low, get_or-range_with_len 0 n i d low)
+
+pub none-marked : (n k : ℕ) → get_or (replicate n false) k false ≡ false
+none-marked zero k = refl
+none-marked (suc n) zero = refl
+none-marked (suc n) (suc k) = none-marked n k
+
+pub place-is : (items places : List ℕ) (i d e : ℕ) → items ≡ places → i < length places → get_or items i d ≡ get_or places i e
+place-is items places i d e same within = ap (λ (xs : List ℕ). get_or xs i d) same ∙ get_or_default places i d e within

@@ -1,11 +1,13 @@
 -- Lists over the numbers below a bound that pass a test.
-use Rattle.std.proofs.Common.{◌≡◌, ◌≢◌, ℕ, zero, suc, ◌+◌, ◌<◌, Bool, true, false, cond, List, [], ◌∷◌, ◌++◌, filter, flat_map, refl, sym, ap, subst, ◌∙◌, arith, map-id, inl, inr}
-use Rattle.std.specs.List.{range_with_len}
-use Rattle.std.proofs.lemmas.List.{append-nil}
+use Rattle.std.proofs.Common.{◌≡◌, ◌≢◌, ℕ, zero, suc, ◌+◌, ◌<◌, Bool, true, false, cond, List, [], ◌∷◌, ◌++◌, filter, flat_map, refl, sym, ap, subst, ◌∙◌, arith, map-id, inl, inr, length, ◌≤◌, take, get_or}
+use Rattle.std.specs.List.{range_with_len, sum_by}
+use Rattle.std.proofs.lemmas.List.{append-nil, length-append, take_all, take_more}
 use Rattle.std.proofs.lemmas.List.Elements.{filter-append}
 use Rattle.std.proofs.lemmas.List.FromFn.{map-range_with_len_more}
 use Rattle.std.proofs.lemmas.Grind.{flat_map-append}
 use Rattle.std.proofs.lemmas.Bool.{cases_eq}
+use Rattle.std.proofs.lemmas.List.Sums.{sum_by-append, sum_by-cons}
+use Rattle.std.specs.Prelude.{slice_index_or}
 
 -- the numbers from a on, and one number more
 pub range_more : (a n : ℕ) → range_with_len a (n + 1) ≡ range_with_len a n ++ (a + n) ∷ []
@@ -97,3 +99,28 @@ flat_alike f g alike (x ∷ xs) = ap (λ ys. ys ++ flat_map f xs) (alike x) ∙ 
 pub flat_nothing : {X A : Type 0} (f : X → List A) → ((x : X) → f x ≡ []) → (xs : List X) → flat_map f xs ≡ []
 flat_nothing f none [] = refl
 flat_nothing f none (x ∷ xs) = ap (λ ys. ys ++ flat_map f xs) (none x) ∙ flat_nothing f none xs
+
+-- how many elements lists have together, with one list more
+pub sum-more : {X : Type 0} (lists : List (List X)) (last : List X) → sum_by length (lists ++ last ∷ []) ≡ sum_by length lists + length last
+sum-more lists last =
+    let all = sum_by-append length lists (last ∷ []) in
+    let one = sum_by-cons length last [] in
+    omega (arith, all, one)
+
+-- lists in a row, one for each place and as long as the one that stands there
+pub flat-count : {A B : Type 0} (f : ℕ → List A) (lists : List (List B)) → ((n : ℕ) → length (f n) ≡ length (slice_index_or lists n [])) → (k : ℕ) → k ≤ length lists
+    → length (flat_map f (range_with_len 0 k)) ≡ sum_by length (take k lists)
+flat-count f lists each zero low = refl
+flat-count f lists each (suc k) low =
+    let same : suc k ≡ k + 1 = omega arith in
+    let before = flat-count f lists each k (omega (arith, low)) in
+    let more = ap length (flat_range_more f k) ∙ length-append (flat_map f (range_with_len 0 k)) (f k) in
+    let own = each k in
+    let taken = ap (sum_by length) (take_more lists k [] (omega (arith, low))) ∙ sum_by-append length (take k lists) (get_or lists k [] ∷ []) in
+    let one = sum_by-cons length (get_or lists k []) [] in
+    subst (λ (n : ℕ). length (flat_map f (range_with_len 0 n)) ≡ sum_by length (take n lists)) (sym same)
+    (omega (arith, before, more, own, taken, one))
+
+pub all-count : {A B : Type 0} (f : ℕ → List A) (lists : List (List B)) → ((n : ℕ) → length (f n) ≡ length (slice_index_or lists n []))
+    → length (flat_map f (range_with_len 0 (length lists))) ≡ sum_by length lists
+all-count f lists each = flat-count f lists each (length lists) (omega arith) ∙ ap (sum_by length) (take_all (length lists) lists (omega arith))

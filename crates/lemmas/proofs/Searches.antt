@@ -97,3 +97,12 @@ pub any-more : (p : List ℕ → Bool) (xs : List (Bor (List ℕ))) (i : ℕ) (d
     → list_any p (texts (take (i + 1) xs)) ≡ (list_any p (texts (take i xs)) || p ((get_or xs i d).now))
 any-more p xs i d within =
     ap (list_any p) (texts-more xs i d within) ∙ list_any-append p (texts (take i xs)) ((get_or xs i d).now ∷ []) ∙ or-false (list_any p (texts (take i xs))) (p ((get_or xs i d).now))
+
+pub place-le : (p : List ℕ → Bool) (xs : List (List ℕ)) (i : ℕ) (d : List ℕ) → i < length xs → p (get_or xs i d) ≡ true → position_or_len p xs ≤ i
+place-le p [] i d within is = absurd (omega (arith, within))
+place-le p (x ∷ xs) zero d within is = let none = ap (λ (b : Bool). cond (not b) (1 + position_or_len p xs) 0) is in omega (arith, none)
+place-le p (x ∷ xs) (suc i) d within is =
+    elim (p x) as (λ b. cond (not b) (1 + position_or_len p xs) 0 ≤ suc i) [
+      | true ↦ omega arith
+      | false ↦ let few = place-le p xs i d (omega (arith, within)) is in omega (arith, few)
+    ]

@@ -1,10 +1,9 @@
 -- What a contact has of a notification is what the definitions say, and receivers are contacts of the configuration.
-use Rattle.std.proofs.Common.{◌≡◌, ℕ, zero, suc, ◌<◌, ◌-◌, All, List, [], ◌∷◌, ◌++◌, length, map, flat_map, slice_get, get_or, Option, Some, None, is_some, Bool, if◌then◌else◌, refl, sym, ap, subst, ◌∙◌, arith}
+use Rattle.std.proofs.Common.{◌≡◌, ℕ, ◌<◌, ◌-◌, All, List, [], ◌∷◌, ◌++◌, length, map, flat_map, slice_get, get_or, Option, Some, None, is_some, Bool, if◌then◌else◌, refl, sym, ap, subst, ◌∙◌}
 use Rattle.std.specs.List.{range_with_len}
 use Rattle.std.specs.Option.{option_map_or}
 use Rattle.std.proofs.lemmas.List.Elements.{All-nil, All-cons, All-head, All-tail, All-filter}
-use Rattle.std.proofs.lemmas.Option.{get_or_from_slice_get}
-use Rattle.std.proofs.lemmas.List.FromFn.{get_or-range_with_len, length-range_with_len}
+use Rattle.lemmas.proofs.Lists.{range_below, some_at}
 use Rattle.due_model.specs.declared.config.Config.{Config}
 use Rattle.due_model.specs.declared.config.Contact.{Contact}
 use Rattle.due_model.specs.declared.config.ContactId.{ContactId}
@@ -130,11 +129,6 @@ parts_law c zone m settings o event outcome object number is =
 
 -- ---- receivers are contacts of the configuration
 
-range_below : (n : ℕ) → All (λ k. k < n) (range_with_len 0 n)
-range_below n = λ i d within.
-    let low : i < n = omega (arith, within, length-range_with_len 0 n) in
-    omega (arith, low, get_or-range_with_len 0 n i d low)
-
 ids_below : (n : ℕ) (ks : List ℕ) → All (λ k. k < n) ks → All (λ (contact : ContactId). contact.0 < n) (contact_ids ks)
 ids_below n [] each = All-nil (λ (contact : ContactId). contact.0 < n)
 ids_below n (k ∷ ks) each =
@@ -158,11 +152,6 @@ module _ (c : Config) (zone : Zone) (o : ℕ) (settings : Object) (number : ℕ)
   of_kind kind.DowntimeStart s t = with_test (has_contact settings.contacts)
   of_kind kind.DowntimeEnd s t = with_test (has_contact settings.contacts)
   of_kind kind.DowntimeCancelled s t = with_test (has_contact settings.contacts)
-
-some_at : {X : Type 0} (xs : List X) (i : ℕ) → i < length xs → (x : X) × (slice_get xs i ≡ Some x)
-some_at [] i low = absurd (omega arith)
-some_at (x ∷ xs) zero low = (x, refl)
-some_at (x ∷ xs) (suc i) low = some_at xs i (omega arith)
 
 pub receivers_within : (c : Config) (zone : Zone) (m : Message) (told : List ContactId) → m.object.0 < length c.objects
     → ((settings : Object) → slice_get c.objects m.object.0 ≡ Some settings → told ≡ contact_ids (receivers c zone m.object.0 settings (plain m.attempt) m.number))

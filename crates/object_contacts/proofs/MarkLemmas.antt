@@ -10,6 +10,7 @@ use Rattle.std.proofs.lemmas.List.FromFn.{get_or-range_with_len, length-range_wi
 use Rattle.std.proofs.lemmas.List.Kept.{IsStrictlyIncreasing-filter}
 use Rattle.lemmas.proofs.Elements.{Contains-filter, Contains-from_filter, Contains-none, Contains-range}
 use Rattle.lemmas.proofs.Writes.{at_set}
+use Rattle.lemmas.proofs.Lists.{none-marked}
 use Rattle.object_contacts.specs.Lanes.{AreLanes}
 use Rattle.object_contacts.specs.Marks.{IsMarked, marked, Marks, OfSome}
 
@@ -90,11 +91,6 @@ is-low : (marks : List Bool) (k : ℕ) → IsMarked marks k → k < length marks
 is-low [] k at = absurd (false≢true at)
 is-low (m ∷ marks) zero at = omega arith
 is-low (m ∷ marks) (suc k) at = let low = is-low marks k at in omega (arith, low)
-
-none-marked : (n k : ℕ) → get_or (replicate n false) k false ≡ false
-none-marked zero k = refl
-none-marked (suc n) zero = refl
-none-marked (suc n) (suc k) = none-marked n k
 
 pub are-lanes : (P : ℕ → Type 0) (n : ℕ) (first marks : List Bool) (numbers : List ℕ) → first ≡ replicate n false → numbers ≡ marked marks → Marks P first marks → AreLanes P numbers
 are-lanes P n first marks numbers none are is = record {

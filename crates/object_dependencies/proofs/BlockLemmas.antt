@@ -1,27 +1,24 @@
 -- The pairs of a block.
-use Rattle.std.proofs.Common.{◌≡◌, ℕ, Bool, true, false, not, cond, List, [], Option, Some, None, is_some, sym, ap, subst, ◌∙◌}
+use Rattle.std.proofs.Common.{◌≡◌, ℕ, true, false, not, cond, List, [], Option, Some, None, is_some, sym, ap, subst, ◌∙◌}
 use Rattle.std.specs.Prelude.{codes, Contains, slice_get}
-use Rattle.std.specs.Option.{option_map_or}
 use Rattle.std.proofs.lemmas.Bool.{false≢true}
 use Rattle.lemmas.proofs.Elements.{Contains-none}
 use Rattle.lemmas.proofs.Lists.{AllPairs-nil}
 use Rattle.due_model.specs.declared.state.StateSet.{StateSet}
 use Rattle.object_groups.specs.Objects.{is_object, is_object_at}
+use Rattle.object_groups.specs.ObjectLaws.{object-at}
 use Rattle.object_listing.specs.Listing.{AreThose}
 use Rattle.object_reached.specs.declared.roles.Role.TheVariants.{Dependent, Master}
 use Rattle.object_reached.specs.Reached.{SpeaksOf}
 use Rattle.object_reader.specs.declared.block.Block.{Block}
-use Rattle.object_reader.specs.declared.block.BlockKind.{BlockKind}
 use Rattle.object_reader.specs.declared.block.BlockKind.TheVariants.{HostDependency, ServiceDependency}
 use Rattle.object_readings.specs.Readings.{own_states}
 use Rattle.object_values.specs.declared.options.CriteriaKind.TheVariants.{OfHosts, OfServices}
 use Rattle.object_dependencies.specs.Pairs.{ArePairs, DependsAt, IsBefore, kept_states, Pair, paired}
-use Rattle.object_dependencies.proofs.PairLemmas.{ordered-from, paired-from, paired-has}
+use Rattle.object_dependencies.proofs.PairLemmas.{ordered-from}
+use Rattle.object_dependencies.specs.PairLaws.{paired-from, paired-has}
 
 -- ---- which states a block keeps
-
-object-at : (blocks : List Block) (kind : BlockKind) (place : ℕ) (x : Block) (b : Bool) → slice_get blocks place ≡ Some x → b ≡ is_object kind x → is_object_at blocks kind place ≡ b
-object-at blocks kind place x b here is = ap (λ (found : Option Block). option_map_or (is_object kind) found false) here ∙ sym is
 
 abbrev host_states : List Block → ℕ → Option StateSet
 host_states blocks place = own_states blocks (codes "notification_failure_criteria") OfHosts place

@@ -1,35 +1,25 @@
 -- What an accepted configuration asks of dependencies.
-use Rattle.std.proofs.Common.{◌≡◌, ℕ, zero, suc, ◌+◌, ◌<◌, Bool, true, false, cond, List, [], ◌∷◌, length, get_or, Option, Some, None, sym, ap, subst, ◌∙◌, ⊎_elim, arith}
-use Rattle.std.specs.Prelude.{All, codes, Contains, nat_eq, unwrap_or}
-use Rattle.std.specs.List.{AllZip, flat_map, range_with_len}
+use Rattle.std.proofs.Common.{◌≡◌, ℕ, zero, suc, ◌+◌, ◌<◌, List, [], ◌∷◌, length, get_or, Option, Some, None, sym, ap, subst, ◌∙◌, arith}
+use Rattle.std.specs.Prelude.{All, codes, Contains, unwrap_or}
+use Rattle.std.specs.List.{AllZip, range_with_len}
 use Rattle.std.specs.Option.{IfSome, option_map}
-use Rattle.std.specs.Str.{bytes_eq}
-use Rattle.std.proofs.lemmas.List.Concat.{flat_map-cons}
-use Rattle.std.proofs.lemmas.List.Elements.{Contains-append_cases, Contains-get_or}
+use Rattle.std.proofs.lemmas.List.Elements.{Contains-get_or}
 use Rattle.graph.specs.Chains.{Chain}
-use Rattle.lemmas.proofs.Elements.{Contains-from_map, Contains-from_range, Contains-here, Contains-later, Contains-none}
-use Rattle.lemmas.proofs.Searches.{position-within}
+use Rattle.lemmas.proofs.Elements.{Contains-from_flat_map, Contains-from_map, Contains-from_range}
 use Rattle.due_model.specs.Accepted.{DependencyFits, DependsOn}
 use Rattle.due_model.specs.declared.config.Dependency.{Dependency}
-use Rattle.object_groups.specs.Names.{number_of}
 use Rattle.object_inheritance.specs.Inherited.{name}
 use Rattle.object_reached.specs.declared.roles.Role.TheVariants.{Dependent, Master}
 use Rattle.object_reached.specs.Laws.{SpokenAreObjects}
 use Rattle.object_reader.specs.declared.block.Block.{Block}
-use Rattle.object_readings.specs.Readings.{period_named, period_of}
+use Rattle.object_readings.specs.Readings.{period_named}
+use Rattle.object_readings.specs.ReadingLaws.{period-few}
 use Rattle.object_dependencies.specs.Entries.{AreDependencies, entries_at, entry_of, terms_at}
 use Rattle.object_dependencies.specs.Laws.{DependenciesFit, NoLoopIsLeft}
 use Rattle.object_dependencies.specs.Loops.{Depends}
 use Rattle.object_dependencies.specs.Pairs.{ArePairs, DependsAt, Pair}
 
 -- ---- an entry comes of a pair of a block
-
-from_flat_map : {X Y : Type 0} (f : X → List Y) (xs : List X) (y : Y) → Contains (flat_map f xs) y → (x : X) × Contains xs x × Contains (f x) y
-from_flat_map f [] y at = absurd (Contains-none y at)
-from_flat_map f (x ∷ xs) y at = ⊎_elim
-    (λ (here : Contains (f x) y). (x, Contains-here x xs, here))
-    (λ (later : Contains (flat_map f xs) y). let more = from_flat_map f xs y later in (more.0, Contains-later x more.0 xs more.1, more.2))
-    (Contains-append_cases (f x) (flat_map f xs) y (subst (λ ys. Contains ys y) (flat_map-cons f x xs) at))
 
 -- where lists are related to a range of numbers
 zip-range : (R : ℕ → List Pair → Type 0) (first n : ℕ) (parts : List (List Pair)) (k : ℕ) → AllZip R (range_with_len first n) parts → k < n → R (first + k) (get_or parts k [])
@@ -44,7 +34,7 @@ module _ (blocks : List Block) (lists periods : List (List ℕ)) (dependencies :
   -- each entry: its block and its pair
   pub comes-of : (d : Dependency) → Contains dependencies d → (place : ℕ) × (pair : Pair) × DependsAt blocks lists place pair.0 pair.1 × (d ≡ entry_of (terms_at blocks periods place) pair)
   comes-of d at =
-      let on = from_flat_map (entries_at blocks periods are.0) (range_with_len 0 (length blocks)) d (subst (λ (ds : List Dependency). Contains ds d) are.2 at) in
+      let on = Contains-from_flat_map (entries_at blocks periods are.0) (range_with_len 0 (length blocks)) d (subst (λ (ds : List Dependency). Contains ds d) are.2 at) in
       let low : on.0 < length blocks = Contains-from_range (length blocks) on.0 on.1 in
       let of = Contains-from_map (entry_of (terms_at blocks periods on.0)) (get_or are.0 on.0 []) d on.2 in
       let sum : 0 + on.0 ≡ on.0 = omega arith in
@@ -53,18 +43,6 @@ module _ (blocks : List Block) (lists periods : List (List ℕ)) (dependencies :
       (on.0, of.0, (here.exactly of.0.0 of.0.1).0 of.1, sym of.2)
 
 -- ---- they fit
-
--- a period by its name is there
-period-few : (periods : List (List ℕ)) (text : List ℕ) → IfSome (period_named periods text) (λ p. p.0 < length periods)
-period-few periods text = by_length (nat_eq (length text) 0)
-  where
-    by_found : (found : Option ℕ) → IfSome found (λ k. k < length periods) → IfSome (option_map period_of found) (λ p. p.0 < length periods)
-    by_found None low = tt
-    by_found (Some k) low = low
-
-    by_length : (empty : Bool) → IfSome (cond empty None (option_map period_of (number_of periods text))) (λ p. p.0 < length periods)
-    by_length true = tt
-    by_length false = by_found (number_of periods text) (position-within (bytes_eq text) periods)
 
 given-few : (periods : List (List ℕ)) (given : Option (List ℕ)) → IfSome (unwrap_or (option_map (period_named periods) given) None) (λ p. p.0 < length periods)
 given-few periods None = tt

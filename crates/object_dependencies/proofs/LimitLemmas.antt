@@ -2,24 +2,12 @@
 use Rattle.std.proofs.Common.{◌≡◌, ℕ, ◌+◌, ◌<◌, ◌≤◌, List, [], ◌∷◌, ◌++◌, length, Some, refl, sym, ap, subst, arith}
 use Rattle.std.specs.Prelude.{slice_get}
 use Rattle.std.specs.List.{AllZip, range_with_len, sum_by}
-use Rattle.std.proofs.lemmas.List.Sums.{sum_by-append, sum_by-cons}
 use Rattle.due_model.specs.Limits.{max_dependencies}
-use Rattle.lemmas.proofs.Numbers.{below_more}
+use Rattle.lemmas.proofs.Numbers.{below_more, sum-more}
+use Rattle.lemmas.proofs.Zips.{zip-more}
 use Rattle.object_reader.specs.declared.block.Block.{Block}
 use Rattle.object_dependencies.specs.Limits.{IsFirstOver, IsSoFar}
 use Rattle.object_dependencies.specs.Pairs.{ArePairs, Pair}
-
-lists-more : {X Y : Type 0} (R : X → Y → Type 0) (xs : List X) (ys : List Y) (x : X) (y : Y) → AllZip R xs ys → R x y → AllZip R (xs ++ x ∷ []) (ys ++ y ∷ [])
-lists-more R [] [] x y all more = (more, tt)
-lists-more R [] (z ∷ ys) x y all more = absurd all
-lists-more R (w ∷ xs) [] x y all more = absurd all
-lists-more R (w ∷ xs) (z ∷ ys) x y all more = (all.0, lists-more R xs ys x y all.1 more)
-
-sum-more : (parts : List (List Pair)) (pairs : List Pair) → sum_by length (parts ++ pairs ∷ []) ≡ sum_by length parts + length pairs
-sum-more parts pairs =
-    let all = sum_by-append length parts (pairs ∷ []) in
-    let one = sum_by-cons length pairs [] in
-    omega (arith, all, one)
 
 module _ (blocks : List Block) (lists : List (List ℕ)) where
   pub none-yet : IsSoFar blocks lists 0 [] 0
@@ -30,7 +18,7 @@ module _ (blocks : List Block) (lists : List (List ℕ)) where
   next-block place old new pairs count total before are is sum = record {
     listed = subst (λ (places : List ℕ). AllZip (ArePairs blocks lists) places new) (sym (below_more place))
         (subst (λ (all : List (List Pair)). AllZip (ArePairs blocks lists) (range_with_len 0 place ++ place ∷ []) all) (sym is)
-        (lists-more (ArePairs blocks lists) (range_with_len 0 place) old place pairs before.listed are));
+        (zip-more (ArePairs blocks lists) (range_with_len 0 place) old place pairs before.listed are));
     counted = (let counted = before.counted in let more = sum-more old pairs in let same = ap (sum_by length) is in omega (arith, counted, more, same, sum));
   }
 

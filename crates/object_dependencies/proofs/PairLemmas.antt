@@ -1,40 +1,18 @@
 -- The pairs of dependents and masters.
-use Rattle.std.proofs.Common.{◌≡◌, ℕ, ◌*◌, ◌<◌, List, [], ◌∷◌, ◌++◌, length, map, get_or, refl, sym, ap, subst, ◌∙◌, inl, inr, ⊎_elim, arith}
+use Rattle.std.proofs.Common.{◌≡◌, ℕ, ◌*◌, ◌<◌, List, [], ◌∷◌, length, map, get_or, refl, sym, ap, subst, ◌∙◌, inl, inr, arith}
 use Rattle.std.specs.Prelude.{All, AllPairs, Contains}
 use Rattle.std.specs.List.Sorted.{IsStrictlyIncreasing}
 use Rattle.std.proofs.lemmas.List.{length-map, length-append}
-use Rattle.std.proofs.lemmas.List.Concat.{flat_map-cons}
-use Rattle.std.proofs.lemmas.List.Elements.{All-from_get_or, Contains-append_cases, Contains-append_left, Contains-append_right, Contains-get_or}
+use Rattle.std.proofs.lemmas.List.Elements.{All-from_get_or, Contains-get_or}
 use Rattle.std.proofs.Math.Nat.{suc-mul, zero-mul}
 use Rattle.std.proofs.lemmas.List.Kept.{AllPairs-cons, AllPairs-from_increasing}
-use Rattle.lemmas.proofs.Elements.{Contains-from_map, Contains-here, Contains-later, Contains-cases, Contains-map, Contains-none}
+use Rattle.lemmas.proofs.Elements.{Contains-from_map}
 use Rattle.lemmas.proofs.Lists.{AllPairs-append, AllPairs-head, AllPairs-nil, AllPairs-tail}
 use Rattle.object_dependencies.specs.Pairs.{IsBefore, Pair, paired}
+use Rattle.object_dependencies.specs.PairLaws.{paired-cons, paired-from}
 
 row : List ℕ → ℕ → List Pair
 row masters dependent = map (λ master. (dependent, master)) masters
-
-pub paired-cons : (d : ℕ) (ds ms : List ℕ) → paired (d ∷ ds) ms ≡ map (λ master. (d, master)) ms ++ paired ds ms
-paired-cons d ds ms = flat_map-cons (λ dependent. map (λ master. (dependent, master)) ms) d ds
-
--- ---- what they contain
-
-pub paired-has : (ds ms : List ℕ) (p : Pair) → Contains ds p.0 → Contains ms p.1 → Contains (paired ds ms) p
-paired-has [] ms p at on = absurd (Contains-none p.0 at)
-paired-has (x ∷ ds) ms p at on = subst (λ (ps : List Pair). Contains ps p) (sym (paired-cons x ds ms)) (⊎_elim
-    (λ (here : x ≡ p.0). Contains-append_left (map (λ master. (x, master)) ms) (paired ds ms) p
-    (subst (λ (y : ℕ). Contains (map (λ master. (y, master)) ms) p) (sym here) (Contains-map (λ master. (p.0, master)) ms p.1 on)))
-    (λ (later : Contains ds p.0). Contains-append_right (map (λ master. (x, master)) ms) (paired ds ms) p (paired-has ds ms p later on))
-    (Contains-cases x p.0 ds at))
-
-pub paired-from : (ds ms : List ℕ) (p : Pair) → Contains (paired ds ms) p → Contains ds p.0 × Contains ms p.1
-paired-from [] ms p at = absurd (Contains-none p at)
-paired-from (x ∷ ds) ms p at = ⊎_elim
-    (λ (here : Contains (map (λ master. (x, master)) ms) p).
-    let on = Contains-from_map (λ master. (x, master)) ms p here in
-    (subst (λ (y : ℕ). Contains (x ∷ ds) y) (ap (λ (q : Pair). q.0) on.2) (Contains-here x ds), subst (λ (y : ℕ). Contains ms y) (ap (λ (q : Pair). q.1) on.2) on.1))
-    (λ (later : Contains (paired ds ms) p). let more = paired-from ds ms p later in (Contains-later x p.0 ds more.0, more.1))
-    (Contains-append_cases (map (λ master. (x, master)) ms) (paired ds ms) p (subst (λ (ps : List Pair). Contains ps p) (paired-cons x ds ms) at))
 
 -- ---- their order
 

@@ -3,3 +3,4 @@ pub mod Limits
 pub mod Entries
 pub mod Loops
 pub mod Laws
+pub mod PairLaws

@@ -1,13 +1,8 @@
 -- Chains of dependencies, and chains in the graph in which each step goes by way of a block.
 use Rattle.std.proofs.Common.{◌≡◌, ℕ, zero, suc, ◌+◌, ◌<◌, refl, sym, subst, ◌⊎◌, inl, inr, arith}
 use Rattle.std.specs.Prelude.{◌↔◌}
+use Rattle.lemmas.proofs.Chains.{Chain-join}
 use Rattle.graph.specs.Chains.{Chain, IsOnLoop, Reaches}
-
-pub Chain-join : (R : ℕ → ℕ → Type 0) (a b p q r : ℕ) → Chain R a p q → Chain R b q r → Chain R (a + b) p r
-Chain-join R zero b p q r first second = let sum : 0 + b ≡ b = omega arith in subst (λ n. Chain R n p r) (sym sum) (subst (λ x. Chain R b x r) (sym first) second)
-Chain-join R (suc a) b p q r (middle, step, rest) second =
-    let sum : suc a + b ≡ suc (a + b) = omega arith in
-    subst (λ n. Chain R n p r) (sym sum) (middle, step, Chain-join R a b middle q r rest second)
 
 -- `At place p q` says that p depends on q by the block at the place. A block's dependents depend on each of its masters, and
 -- blocks stand below `first`.

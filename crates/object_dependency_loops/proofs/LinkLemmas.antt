@@ -4,11 +4,12 @@ use Rattle.std.specs.Prelude.{All, codes, Contains, slice_get}
 use Rattle.std.specs.Option.{option_map_or}
 use Rattle.std.proofs.lemmas.Bool.{cases_lt, false≢true}
 use Rattle.std.proofs.lemmas.List.Elements.{All-from_get_or, Contains-append_cases, Contains-append_left, Contains-append_right, Contains-get_or}
-use Rattle.lemmas.proofs.Elements.{Contains-cases, Contains-from_map, Contains-map, Contains-none}
+use Rattle.lemmas.proofs.Elements.{Contains-from_map, Contains-map, Contains-none}
 use Rattle.due_model.specs.declared.state.StateSet.{StateSet}
 use Rattle.graph.specs.declared.edges.Edge.{Edge}
 use Rattle.graph.specs.Edges.{IsWithin}
 use Rattle.object_dependencies.specs.Pairs.{ArePairs, BlocksOf, DependsAt, IsKept, kept_states, Pair, paired}
+use Rattle.object_dependencies.specs.PairLaws.{paired-from, paired-has}
 use Rattle.object_dependency_loops.specs.Links.{AddsLinks, AreLinksBelow, edge, IsLink}
 use Rattle.object_groups.specs.Objects.{is_object, is_object_at, names_in}
 use Rattle.object_reached.specs.declared.roles.Role.TheVariants.{Dependent, Master}
@@ -19,33 +20,10 @@ use Rattle.object_reader.specs.declared.block.BlockKind.TheVariants.{Host, HostD
 use Rattle.object_readings.specs.Readings.{own_states}
 use Rattle.object_services.specs.Numbers.{pairs_of}
 use Rattle.object_values.specs.declared.options.CriteriaKind.TheVariants.{OfHosts, OfServices}
-use Rattle.std.proofs.lemmas.List.Concat.{flat_map-cons}
 
 pub some-there : (n : ℕ) → false ≡ eqb n 0 → 0 < n
 some-there zero is = absurd (false≢true is)
 some-there (suc n) is = omega arith
-
--- ---- pairs of two lists
-
-paired-cons : (d : ℕ) (ds ms : List ℕ) → paired (d ∷ ds) ms ≡ map (λ master. (d, master)) ms ++ paired ds ms
-paired-cons d ds ms = flat_map-cons (λ dependent. map (λ master. (dependent, master)) ms) d ds
-
-paired-has : (ds ms : List ℕ) (p : Pair) → Contains ds p.0 → Contains ms p.1 → Contains (paired ds ms) p
-paired-has [] ms p at on = absurd (Contains-none p.0 at)
-paired-has (x ∷ ds) ms p at on = subst (λ (ps : List Pair). Contains ps p) (sym (paired-cons x ds ms)) (⊎_elim
-    (λ (here : x ≡ p.0). Contains-append_left (map (λ master. (x, master)) ms) (paired ds ms) p
-    (subst (λ (y : ℕ). Contains (map (λ master. (y, master)) ms) p) (sym here) (Contains-map (λ master. (p.0, master)) ms p.1 on)))
-    (λ (later : Contains ds p.0). Contains-append_right (map (λ master. (x, master)) ms) (paired ds ms) p (paired-has ds ms p later on))
-    (Contains-cases x p.0 ds at))
-
-paired-from : (ds ms : List ℕ) (p : Pair) → Contains (paired ds ms) p → Contains ds p.0 × Contains ms p.1
-paired-from [] ms p at = absurd (Contains-none p at)
-paired-from (x ∷ ds) ms p at = ⊎_elim
-    (λ (here : Contains (map (λ master. (x, master)) ms) p).
-    let on = Contains-from_map (λ master. (x, master)) ms p here in
-    ((0, omega arith, ap (λ (q : Pair). q.0) on.2), subst (λ (y : ℕ). Contains ms y) (ap (λ (q : Pair). q.1) on.2) on.1))
-    (λ (later : Contains (paired ds ms) p). let more = paired-from ds ms p later in ((suc more.0.0, omega (arith, more.0.1), more.0.2), more.1))
-    (Contains-append_cases (map (λ master. (x, master)) ms) (paired ds ms) p (subst (λ (ps : List Pair). Contains ps p) (paired-cons x ds ms) at))
 
 -- ---- a block that gives pairs is there
 

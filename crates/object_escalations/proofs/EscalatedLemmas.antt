@@ -2,26 +2,14 @@
 use Rattle.std.proofs.Common.{◌≡◌, ℕ, ◌+◌, ◌<◌, ◌≤◌, List, [], ◌∷◌, ◌++◌, length, Some, refl, sym, ap, subst, arith}
 use Rattle.std.specs.Prelude.{slice_get}
 use Rattle.std.specs.List.{AllZip, range_with_len, sum_by}
-use Rattle.std.proofs.lemmas.List.Sums.{sum_by-append, sum_by-cons}
 use Rattle.due_model.specs.Limits.{max_escalations}
-use Rattle.lemmas.proofs.Numbers.{below_more}
+use Rattle.lemmas.proofs.Numbers.{below_more, sum-more}
+use Rattle.lemmas.proofs.Zips.{zip-more}
 use Rattle.object_escalations.specs.Escalated.{IsFirstOver, IsSoFar, SpeaksOf}
 use Rattle.object_listing.specs.Listing.{AreThose}
 use Rattle.object_reader.specs.declared.block.Block.{Block}
 
 -- ---- all blocks
-
-lists-more : {X Y : Type 0} (R : X → Y → Type 0) (xs : List X) (ys : List Y) (x : X) (y : Y) → AllZip R xs ys → R x y → AllZip R (xs ++ x ∷ []) (ys ++ y ∷ [])
-lists-more R [] [] x y all more = (more, tt)
-lists-more R [] (z ∷ ys) x y all more = absurd all
-lists-more R (w ∷ xs) [] x y all more = absurd all
-lists-more R (w ∷ xs) (z ∷ ys) x y all more = (all.0, lists-more R xs ys x y all.1 more)
-
-pub sum-more : (lists : List (List ℕ)) (objects : List ℕ) → sum_by length (lists ++ objects ∷ []) ≡ sum_by length lists + length objects
-sum-more lists objects =
-    let all = sum_by-append length lists (objects ∷ []) in
-    let one = sum_by-cons length objects [] in
-    omega (arith, all, one)
 
 module _ (blocks : List Block) (lists : List (List ℕ)) where
   pub none-yet : IsSoFar blocks lists 0 [] 0
@@ -32,7 +20,7 @@ module _ (blocks : List Block) (lists : List (List ℕ)) where
   next-block place old new found count total before those is sum = record {
     listed = subst (λ (places : List ℕ). AllZip (λ at objects. AreThose (SpeaksOf blocks lists at) objects) places new) (sym (below_more place))
         (subst (λ (all : List (List ℕ)). AllZip (λ at objects. AreThose (SpeaksOf blocks lists at) objects) (range_with_len 0 place ++ place ∷ []) all) (sym is)
-        (lists-more (λ at objects. AreThose (SpeaksOf blocks lists at) objects) (range_with_len 0 place) old place found before.listed those));
+        (zip-more (λ at objects. AreThose (SpeaksOf blocks lists at) objects) (range_with_len 0 place) old place found before.listed those));
     counted = (let counted = before.counted in let more = sum-more old found in let same = ap (sum_by length) is in omega (arith, counted, more, same, sum));
   }
 

@@ -9,6 +9,7 @@ use Rattle.due_model.specs.declared.config.Escalation.{Escalation}
 use Rattle.due_model.specs.declared.config.Object.{Object}
 use Rattle.due_model.specs.declared.config.PeriodId.{PeriodId}
 use Rattle.lemmas.proofs.Numbers.{flat_range_more}
+use Rattle.lemmas.proofs.Zips.{zip-append, zip-map}
 use Rattle.object_escalations.specs.Entries.{AddsEntries, AreContactsOf, AreEntriesOf, AreTold, ComesFrom, IsEscalationOf, option_kind, Origin, origins_at, origins_below}
 use Rattle.object_escalations.specs.Given.{AddsTaken, IsGiven, IsTaken, IsTakenOf, list_kind}
 use Rattle.object_escalations.specs.declared.given.Given.{Given}
@@ -56,21 +57,6 @@ module _ (blocks : List Block) (place number : ℕ) (block : Block) (given : Giv
     options = taken.options ∙ gives.options ∙ ap (λ (kind : OptionKind). letters_at blocks (codes "escalation_options") kind place) (kind-is blocks place block here);
     contacts = told-are given.lacks_contacts refl (sym gives.lacks);
   }
-
--- ---- lists, place by place
-
-pub zip-map : {X Z W : Type 0} (f : X → W) (R : X → Z → Type 0) (T : W → Z → Type 0) → ((x : X) (z : Z) → R x z → T (f x) z)
-    → (xs : List X) (zs : List Z) → AllZip R xs zs → AllZip T (map f xs) zs
-zip-map f R T each [] [] all = tt
-zip-map f R T each [] (z ∷ zs) all = absurd all
-zip-map f R T each (x ∷ xs) [] all = absurd all
-zip-map f R T each (x ∷ xs) (z ∷ zs) all = (each x z all.0, zip-map f R T each xs zs all.1)
-
-pub zip-append : {X Y : Type 0} (R : X → Y → Type 0) (xs zs : List X) (ys ws : List Y) → AllZip R xs ys → AllZip R zs ws → AllZip R (xs ++ zs) (ys ++ ws)
-zip-append R [] zs [] ws first second = second
-zip-append R [] zs (y ∷ ys) ws first second = absurd first
-zip-append R (x ∷ xs) zs [] ws first second = absurd first
-zip-append R (x ∷ xs) zs (y ∷ ys) ws first second = (first.0, zip-append R xs zs ys ws first.1 second)
 
 -- ---- the escalations of a block
 

@@ -1,14 +1,13 @@
 -- What a search notes are the lines of dates of the definition.
 use Rattle.std.proofs.Common.{◌≡◌, ℕ, zero, suc, Bool, true, false, not, cond, List, [], ◌∷◌, ◌++◌, length, map, reverse, Option, Some, None, refl, sym, ap, subst, ⊎_elim, ◌⊎◌, inl, inr, ◌∙◌}
 use Rattle.std.specs.Prelude.{Contains, find, is_some, slice_get, ◌↔◌, ◌||◌, ◌&&◌}
-use Rattle.std.specs.List.{flat_map, list_any}
+use Rattle.std.specs.List.{list_any}
 use Rattle.std.specs.Option.{option_and_then, option_map, option_map_or, option_to_list}
 use Rattle.std.specs.Str.{bytes_eq}
 use Rattle.std.proofs.lemmas.Bool.{false≢true}
 use Rattle.std.proofs.lemmas.List.{reverse-append}
-use Rattle.std.proofs.lemmas.List.Concat.{flat_map-cons}
-use Rattle.std.proofs.lemmas.List.Elements.{Contains-append_cases, Contains-append_left, Contains-append_right}
-use Rattle.lemmas.proofs.Elements.{Contains-cases, Contains-here, Contains-later, Contains-map, Contains-none}
+use Rattle.std.proofs.lemmas.List.Elements.{Contains-append_cases}
+use Rattle.lemmas.proofs.Elements.{at-Contains, Contains-cases, Contains-flat_map, Contains-here, Contains-later, Contains-map, Contains-none}
 use Rattle.object_faults.specs.Columns.{date_at, date_by, date_fault}
 use Rattle.object_faults.specs.Dated.{dated_line, directive_names, has_line, has_timed, has_time, has_untimed}
 use Rattle.object_faults.specs.declared.fault.ValueFault.{ValueFault}
@@ -49,25 +48,6 @@ Contains-reverse {X} (y ∷ ys) x at = ⊎_elim
     (Contains-cases y x [] last))
     (Contains-append_cases (reverse ys) (y ∷ []) x (subst (λ (zs : List X). Contains zs x) (reverse-append (y ∷ []) ys) at))
 
-Contains-flat_map : {X Y : Type 0} (f : X → List Y) (xs : List X) (x : X) (y : Y) → Contains xs x → Contains (f x) y → Contains (flat_map f xs) y
-Contains-flat_map f [] x y at on = absurd (Contains-none x at)
-Contains-flat_map f (z ∷ zs) x y at on = rw (flat_map-cons f z zs) (⊎_elim
-    (λ (here : z ≡ x). Contains-append_left (f z) (flat_map f zs) y (subst (λ w. Contains (f w) y) (sym here) on))
-    (λ (later : Contains zs x). Contains-append_right (f z) (flat_map f zs) y (Contains-flat_map f zs x y later on))
-    (Contains-cases z x zs at))
-
-Contains-at : {X : Type 0} (xs : List X) (i : ℕ) (x : X) → slice_get xs i ≡ Some x → Contains xs x
-Contains-at [] i x none = absurd (false≢true (ap is_some none))
-Contains-at {X} (y ∷ ys) zero x is = subst (λ (z : X). Contains (y ∷ ys) z) (some-same y x is) (Contains-here y ys)
-  where
-    or_else : Option X → X → X
-    or_else None z = z
-    or_else (Some w) z = w
-
-    some-same : (v w : X) → Some v ≡ Some w → v ≡ w
-    some-same v w same = ap (λ found. or_else found v) same
-Contains-at (y ∷ ys) (suc i) x is = Contains-later y x ys (Contains-at ys i x is)
-
 -- ---- a name for which a block has a value is that of a directive
 
 own-named : (blocks : List Block) (name : List ℕ) (place : ℕ) (text : List ℕ) → own blocks name place ≡ Some text → Contains (directive_names blocks) name
@@ -84,7 +64,7 @@ own-named blocks name place text is = by_block (slice_get blocks place) refl is
 
     by_block : (found : Option Block) → slice_get blocks place ≡ found → option_and_then (λ (block : Block). value_in block.directives name) found ≡ Some text → Contains (directive_names blocks) name
     by_block None here none = absurd (false≢true (ap is_some none))
-    by_block (Some block) here is = by_directive block (find (λ (d : Directive). bytes_eq d.name name) (reverse block.directives)) (Contains-at blocks place block here) refl is
+    by_block (Some block) here is = by_directive block (find (λ (d : Directive). bytes_eq d.name name) (reverse block.directives)) (at-Contains blocks place block here) refl is
 
 -- the first that is given is some block's
 first-from : (f : ℕ → List (List ℕ)) (places : List ℕ) (text : List ℕ) → slice_get (first_given (map f places)) 0 ≡ Some text → (place : ℕ) × (slice_get (f place) 0 ≡ Some text)

@@ -8,6 +8,7 @@ use Rattle.std.proofs.lemmas.Cmp.{nat_list_eq_equiv}
 use Rattle.std.proofs.lemmas.List.{reverse-append}
 use Rattle.std.proofs.lemmas.List.Folds.{find-append}
 use Rattle.std.proofs.lemmas.Slice.Eq.{bytes_eq-Decides}
+use Rattle.lemmas.proofs.Searches.{or-none, or-some}
 use Rattle.object_faults.specs.Dated.{dated_line, has_time}
 use Rattle.object_faults.specs.Search.{AreFlags, Entries, HasNoted, noted, said_by}
 use Rattle.object_reader.specs.declared.block.Directive.{Directive}
@@ -19,17 +20,9 @@ same-name one other is = (bytes_eq-Decides one other).0 is
 
 -- ---- what is found, or what another search finds
 
-pub or-none : {X : Type 0} (found : Option X) → option_or found None ≡ found
-or-none None = refl
-or-none (Some x) = refl
-
 pub or-more : {X : Type 0} (x y z : Option X) → option_or (option_or x y) z ≡ option_or x (option_or y z)
 or-more None y z = refl
 or-more (Some one) y z = refl
-
-pub or-kept : {X : Type 0} (found other : Option X) → is_some found ≡ true → option_or found other ≡ found
-or-kept None other is = absurd (false≢true is)
-or-kept (Some x) other is = refl
 
 -- both find nothing
 pub or-nothing : {X : Type 0} (x y : Option X) → option_or x y ≡ None → (x ≡ None) × (y ≡ None)
@@ -86,7 +79,7 @@ module _ (entries : Entries) (d : Directive) where
     where
       by_name : (b : Bool) → bytes_eq d.name name ≡ b → option_or (noted entries name) (said_by d name) ≡ noted entries name
       by_name false is = ap (option_or (noted entries name)) (said-other d name is) ∙ or-none (noted entries name)
-      by_name true is = or-kept (noted entries name) (said_by d name) (ap (λ n. is_some (noted entries n)) (sym (same-name d.name name is)) ∙ there)
+      by_name true is = or-some (noted entries name) (said_by d name) (ap (λ n. is_some (noted entries n)) (sym (same-name d.name name is)) ∙ there)
 
   -- a new one
   pub note-new : (new : Entries) → is_dated d.name ≡ true → noted entries d.name ≡ None

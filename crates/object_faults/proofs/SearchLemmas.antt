@@ -7,11 +7,12 @@ use Rattle.std.proofs.lemmas.List.{length-set, map-append}
 use Rattle.std.proofs.lemmas.List.Elements.{All-append, All-cons, All-map, All-nil, All-tail}
 use Rattle.std.proofs.lemmas.Option.{slice_get_within}
 use Rattle.lemmas.proofs.Writes.{at_set}
+use Rattle.lemmas.proofs.Searches.{or-none}
 use Rattle.object_faults.specs.Dated.{dated_line, has_time}
 use Rattle.object_faults.specs.declared.dates.Turn.{Turn}
 use Rattle.object_faults.specs.declared.dates.Turn.TheVariants.{Enter, Leave}
 use Rattle.object_faults.specs.Search.{AreClosed, AreDone, Entries, first_text, IsOpen, IsPeriodAt, IsSearch, IsTurn, noted, to_enter, used_at}
-use Rattle.object_faults.proofs.NoteLemmas.{line-dated, line-undated, or-more, or-none, or-nothing, or-open, same-name}
+use Rattle.object_faults.proofs.NoteLemmas.{line-dated, line-undated, or-more, or-nothing, or-open, same-name}
 use Rattle.object_faults.proofs.TurnLemmas.{used-periods}
 use Rattle.object_inheritance.specs.Inherited.{AreInherited, first_given, given, own, stays, value}
 use Rattle.object_reader.specs.declared.block.Block.{Block}

@@ -1,10 +1,10 @@
 -- The templates that the block of a period uses, as turns.
-use Rattle.std.proofs.Common.{◌≡◌, ℕ, zero, suc, ◌+◌, nat_lt, Bool, true, false, not, cond, List, [], ◌∷◌, ◌++◌, append_assoc, length, map, filter, get_or, Option, Some, None, refl, sym, ap, ap₂, subst, eqb, ◌∙◌, arith}
-use Rattle.std.specs.Prelude.{All, codes, filter_map, MatchOption, replicate, reverse, slice_get, unwrap_or, ◌&&◌}
+use Rattle.std.proofs.Common.{◌≡◌, ℕ, ◌+◌, nat_lt, Bool, true, false, not, cond, List, [], ◌∷◌, ◌++◌, append_assoc, length, map, filter, get_or, Option, Some, None, refl, sym, ap, ap₂, subst, eqb, ◌∙◌, arith}
+use Rattle.std.specs.Prelude.{All, codes, filter_map, MatchOption, reverse, slice_get, unwrap_or, ◌&&◌}
 use Rattle.std.specs.List.{cons_option, position, position_or_len, slice_split}
 use Rattle.std.specs.Option.{IfSome, option_map_or, option_to_list}
 use Rattle.std.specs.Str.{bytes_eq}
-use Rattle.std.proofs.lemmas.Bool.{false≢true}
+use Rattle.std.proofs.lemmas.Bool.{and_parts, false≢true}
 use Rattle.std.proofs.lemmas.Cmp.{nat_list_eq_equiv}
 use Rattle.std.proofs.lemmas.List.{get_or-map, length-map, reverse-append}
 use Rattle.std.proofs.lemmas.List.Quantifiers.{position-Some}
@@ -112,10 +112,6 @@ used-is blocks place block here kind =
     ∙ ap (templates_of blocks) (get_or_from_slice_get blocks place block block here)
     ∙ ap (λ (k : BlockKind). filter_map (template_place blocks k) (cond (means_nothing k) [] (entries_of (value_in block.directives (codes "use"))))) kind
 
-and-first : (a b : Bool) → (a && b) ≡ true → a ≡ true
-and-first true b is = refl
-and-first false b is = absurd (false≢true is)
-
 template-period : (blocks : List Block) (d : Block) (name : List ℕ) → IfSome (template_place blocks TimePeriod name) (IsPeriodAt blocks)
 unfolding template_place
 template-period blocks d name = by_found (position (is_template TimePeriod name) blocks) refl
@@ -127,7 +123,7 @@ template-period blocks d name = by_found (position (is_template TimePeriod name)
         let block = get_or blocks q d in (
           block,
           slice_get-get_or blocks q d at.0,
-          period-kind block.kind (sym (period-number block.kind) ∙ and-first (eqb (kind_number block.kind) 6) _ at.1),
+          period-kind block.kind (sym (period-number block.kind) ∙ (and_parts (eqb (kind_number block.kind) 6) _ at.1).0),
         )
 
 -- they are periods
@@ -163,9 +159,3 @@ next-is old new n m (Some turn) is long cases = ap (λ (turns : List Turn). reve
 
 pub left-first : (turns new : List Turn) (place : ℕ) → new ≡ turns ++ Leave place ∷ [] → reverse new ≡ Leave place ∷ reverse turns
 left-first turns new place is = ap (λ (ts : List Turn). reverse ts) is ∙ reverse-append turns (Leave place ∷ [])
-
--- nothing is marked
-pub no-marks : (n k : ℕ) → get_or (replicate n false) k false ≡ false
-no-marks zero k = refl
-no-marks (suc n) zero = refl
-no-marks (suc n) (suc k) = no-marks n k

@@ -7,7 +7,7 @@ use Rattle.object_inheritance.specs.Columns.{Column}
 use Rattle.object_inheritance.specs.Inherited.{value}
 use Rattle.std.specs.List.{flat_map, range_with_len}
 use Rattle.std.proofs.lemmas.Bool.{false≢true}
-use Rattle.std.proofs.lemmas.List.{flat_map_more, get_or_default, get_or-map, get_or_past, length-map}
+use Rattle.std.proofs.lemmas.List.{get_or-map, get_or_past}
 use Rattle.std.proofs.lemmas.List.Elements.{All-from_get_or, Contains-get_or}
 use Rattle.graph.specs.declared.edges.Edge.{Edge}
 use Rattle.graph.specs.Edges.{HasEdges, IsWithin, Leads}
@@ -20,19 +20,11 @@ use Rattle.object_groups.specs.Members.{AreMembers, Grouping, IsMember}
 use Rattle.object_groups.specs.Names.{Lists}
 use Rattle.object_groups.specs.Nodes.{AreBelow, edge, edges_in, edges_of_group, edges_of_object, group_edges, group_node, IsGraphOf, node_count, object_edges}
 use Rattle.object_groups.specs.Objects.{is_object, is_object_at, list_at, lists_in, name_at, name_directive, names_in, objects_in, ObjectsOf}
-use Rattle.object_groups.proofs.NodeLemmas.{edge-within, listed-within, member-from_reached, reached-from_member}
+use Rattle.object_groups.proofs.NodeLemmas.{edge-within, member-from_reached, reached-from_member}
+use Rattle.object_groups.specs.ObjectLaws.{listed-within}
 use Rattle.lemmas.proofs.Elements.{Contains-from_filter, Contains-from_range, Contains-none}
-use Rattle.lemmas.proofs.Numbers.{below_more}
 
 -- ---- lists by numbers
-
-pub names-long : (blocks : List Block) (kind : BlockKind) → length (names_in blocks kind) ≡ length (objects_in blocks kind)
-unfolding names_in
-names-long blocks kind = length-map (objects_in blocks kind) (name_at blocks kind)
-
-pub lists-long : (blocks : List Block) (kind : BlockKind) (directive : List ℕ) → length (lists_in blocks kind directive) ≡ length (names_in blocks kind)
-unfolding lists_in
-lists-long blocks kind directive = length-map (objects_in blocks kind) (list_at blocks directive) ∙ sym (names-long blocks kind)
 
 pub list-is : (blocks : List Block) (kind : BlockKind) (directive : List ℕ) (number place : ℕ) → number < length (objects_in blocks kind) → place ≡ get_or (objects_in blocks kind) number place
     → get_or (lists_in blocks kind directive) number [] ≡ list_at blocks directive place
@@ -63,12 +55,6 @@ names-are templates blocks kind directive column places given named same column_
 
 -- ---- edges
 
-pub edges-more : (f : ℕ → List Edge) (first : List Edge) (n : ℕ) (old new one : List Edge) → old ≡ first ++ flat_map f (range_with_len 0 n) → new ≡ old ++ one → one ≡ f n
-    → new ≡ first ++ flat_map f (range_with_len 0 (n + 1))
-edges-more f first n old new one before more is =
-    more ∙ ap (λ edges. edges ++ one) before ∙ ap (λ edges. (first ++ flat_map f (range_with_len 0 n)) ++ edges) is
-    ∙ flat_map_more f first (range_with_len 0 n) n ∙ ap (λ numbers. first ++ flat_map f numbers) (sym (below_more n))
-
 pub edges-are : (g : Grouping) (none first all : List Edge) → none ≡ [] → first ≡ none ++ flat_map (group_edges g) (range_with_len 0 (length g.groups))
     → all ≡ first ++ flat_map (object_edges g) (range_with_len 0 (length g.objects)) → all ≡ edges_in g
 unfolding edges_in
@@ -86,9 +72,6 @@ graph-is g edges count graph are is has leads = record {
   count = has.count ∙ is;
   leads = λ from to. subst (λ es. Leads graph from to ↔ Contains es (edge from to)) are (leads from to);
 }
-
-pub place-is : (items places : List ℕ) (i d e : ℕ) → items ≡ places → i < length places → get_or items i d ≡ get_or places i e
-place-is items places i d e same within = ap (λ (xs : List ℕ). get_or xs i d) same ∙ get_or_default places i d e within
 
 -- the edges of the group at a place
 pub group-is : (blocks : List Block) (kind : GroupKind) (objects groups : ObjectsOf) (members subgroups : Column) (group place : ℕ)

@@ -12,8 +12,9 @@ use Rattle.graph.specs.Edges.{IsWithin, Leads}
 use Rattle.object_groups.specs.Members.{Grouping, Holds, Includes, IsMember}
 use Rattle.object_groups.specs.Names.{is_all, Lists, numbers_of}
 use Rattle.object_groups.specs.Nodes.{all_groups, all_objects, edge, edges_in, group_edges, group_node, IsGraphOf, node_count, nodes_of, object_edges, of_all_groups}
-use Rattle.lemmas.proofs.Elements.{Contains-cases, Contains-from_map, Contains-from_range, Contains-here, Contains-later, Contains-map, Contains-none, Contains-range}
-use Rattle.object_groups.proofs.PlaceLemmas.{Contains-flat_map, Contains-from_flat_map, numbers-within}
+use Rattle.object_groups.specs.ObjectLaws.{listed-within, numbers-within}
+use Rattle.lemmas.proofs.Elements.{Contains-cases, Contains-flat_map, Contains-from_flat_map, Contains-from_map, Contains-from_range, Contains-here, Contains-later, Contains-map, Contains-none, Contains-range}
+use Rattle.lemmas.proofs.Chains.{Reaches-join}
 
 -- ---- the nodes that a list names
 
@@ -21,10 +22,6 @@ use Rattle.object_groups.proofs.PlaceLemmas.{Contains-flat_map, Contains-from_fl
 abbrev ToNode : (names entries : List (List ℕ)) (first all k : ℕ) → Type 0
 ToNode names entries first all k =
     Contains (nodes_of names entries first all) all ⊎ Contains (nodes_of names entries first all) (first + k)
-
-pub listed-within : (names entries : List (List ℕ)) (k : ℕ) → Lists names entries k → k < length names
-listed-within names entries k (inl every) = every.1
-listed-within names entries k (inr named) = numbers-within names entries k named
 
 to_node : (names entries : List (List ℕ)) (first all k : ℕ) → Lists names entries k → ToNode names entries first all k
 to_node names entries first all k lists = by_all (is_all entries) refl lists
@@ -259,13 +256,6 @@ module _ (g : Grouping) (object : ℕ) (there : object < length g.objects) where
     member-from_reached p low reaches = (means_chain reaches.0 (group_node g.objects p) reaches.1).at_group p low refl
 
 -- ---- from members to chains
-
-Chain-join : (R : ℕ → ℕ → Type 0) (a b p q r : ℕ) → Chain R a p q → Chain R b q r → Chain R (a + b) p r
-Chain-join R zero b p q r same chain = let none : 0 + b ≡ b = omega arith in rw none (subst (λ (x : ℕ). Chain R b x r) (sym same) chain)
-Chain-join R (suc a) b p q r first chain = let shift : suc a + b ≡ suc (a + b) = omega arith in rw shift (first.0, first.1, Chain-join R a b first.0 q r first.2 chain)
-
-pub Reaches-join : (R : ℕ → ℕ → Type 0) (p q r : ℕ) → Reaches R p q → Reaches R q r → Reaches R p r
-Reaches-join R p q r first second = (first.0 + second.0, Chain-join R first.0 second.0 p q r first.1 second.1)
 
 module _ (g : Grouping) (graph : List (List ℕ)) (has : IsGraphOf g graph) where
   led : (from to : ℕ) → Contains (edges_in g) (edge from to) → Reaches (Leads graph) from to

@@ -4,3 +4,4 @@ pub mod Objects
 pub mod Groups
 pub mod Nodes
 pub mod Laws
+pub mod ObjectLaws

@@ -1,12 +1,13 @@
 -- The graph of templates, one block and one name more.
-use Rattle.std.proofs.Common.{◌≡◌, ℕ, zero, suc, ◌+◌, ◌<◌, ◌≤◌, Bool, true, false, cond, List, [], ◌∷◌, ◌++◌, append_assoc, length, length-take-le, map, filter, take, get_or, Option, refl, sym, ap, subst, eqb, eqb-true, eq-eqb, ⊎_elim, ◌∙◌, Bor, arith}
+use Rattle.std.proofs.Common.{◌≡◌, ℕ, zero, suc, ◌+◌, ◌<◌, ◌≤◌, Bool, true, false, cond, List, [], ◌∷◌, ◌++◌, append_assoc, length, length-take-le, map, take, get_or, Option, refl, sym, ap, subst, eqb, eqb-true, eq-eqb, ⊎_elim, ◌∙◌, Bor, arith}
 use Rattle.std.specs.Prelude.{All, Contains, filter_map}
 use Rattle.std.specs.Option.{option_to_list}
 use Rattle.std.proofs.lemmas.Bool.{false≢true, cases_lt}
-use Rattle.std.proofs.lemmas.List.{append-nil, length-map, map-append, take_more, get_or_past, get_or_append_left, ext_get_or}
-use Rattle.std.proofs.lemmas.List.Elements.{filter-append, filter_map-append, All-nil, All-append, All-map, All-weaker, All-contains}
+use Rattle.std.proofs.lemmas.List.{append-nil, length-map, map-append, take_more, get_or_past, get_or_append_left, ext_get_or, length_push}
+use Rattle.std.proofs.lemmas.List.Elements.{filter_map-append, All-nil, All-append, All-map, All-weaker, All-contains}
 use Rattle.std.proofs.Math.Seq.{get_or-append_seam}
 use Rattle.lemmas.proofs.Searches.{All-found, found-one, position-within, texts-more}
+use Rattle.lemmas.proofs.Edges.{ends-append}
 use Rattle.graph.specs.declared.edges.Edge.{Edge}
 use Rattle.graph.specs.Edges.{ends_of, HasEdges, IsWithin, Leads}
 use Rattle.object_reader.specs.declared.block.Block.{Block}
@@ -35,15 +36,6 @@ templates-within blocks block =
 
 -- ---- one block more
 
-length_snoc : {Y : Type 0} (ys : List Y) (y : Y) → length (ys ++ y ∷ []) ≡ length ys + 1
-length_snoc [] y = refl
-length_snoc (z ∷ ys) y = let more = length_snoc ys y in omega arith
-
-ends-append : (xs ys : List Edge) (p : ℕ) → ends_of (xs ++ ys) p ≡ ends_of xs p ++ ends_of ys p
-ends-append xs ys p =
-    ap (map (λ (edge : Edge). edge.to)) (filter-append (λ (edge : Edge). eqb edge.from p) xs ys)
-    ∙ map-append (λ (edge : Edge). edge.to) (filter (λ (edge : Edge). eqb edge.from p) xs) (filter (λ (edge : Edge). eqb edge.from p) ys)
-
 ends-from : (place p : ℕ) (b : Bool) → eqb place p ≡ b → (tos : List ℕ) → ends_of (map (edge_from place) tos) p ≡ cond b tos []
 ends-from place p true is [] = refl
 ends-from place p false is [] = refl
@@ -59,7 +51,7 @@ get_or-snoc lists list p true is =
 get_or-snoc lists list p false is = ⊎_elim
     (λ (low : p < length lists). get_or_append_left lists (list ∷ []) [] p low ∙ sym (append-nil (get_or lists p [])))
     (λ (past : length lists ≤ p). ⊎_elim
-    (λ (further : length lists < p). get_or_past (lists ++ list ∷ []) p [] (let long = length_snoc lists list in omega (arith, long))
+    (λ (further : length lists < p). get_or_past (lists ++ list ∷ []) p [] (let long = length_push lists list in omega (arith, long))
     ∙ sym (append-nil (get_or lists p []) ∙ get_or_past lists p [] past))
     (λ (back : p ≤ length lists). let same : length lists ≡ p = omega arith in absurd (false≢true (sym is ∙ eq-eqb (length lists) p same)))
     (cases_lt (length lists) p))

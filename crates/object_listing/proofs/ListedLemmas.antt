@@ -4,19 +4,18 @@ use Rattle.std.specs.Prelude.{All, Contains, ◌↔◌}
 use Rattle.std.specs.List.{range_with_len}
 use Rattle.std.specs.List.Sorted.{IsStrictlyIncreasing}
 use Rattle.std.proofs.lemmas.Bool.{cases_lt, false≢true}
-use Rattle.std.proofs.lemmas.List.{get_or_past, length-map, take_more}
+use Rattle.std.proofs.lemmas.List.{get_or_past, take_more}
 use Rattle.std.proofs.lemmas.List.Elements.{All-from_get_or, Contains-append_left, Contains-append_right, Contains-append_cases, Contains-get_or}
 use Rattle.object_reader.specs.declared.block.Block.{Block}
-use Rattle.object_reader.specs.declared.block.BlockKind.{BlockKind}
 use Rattle.object_groups.specs.declared.groups.GroupKind.{GroupKind}
 use Rattle.object_groups.specs.Groups.{group_kind, grouping, GroupsOf, object_kind, own_groups_directive}
 use Rattle.object_groups.specs.Members.{Holds, IsMember}
 use Rattle.object_groups.specs.Names.{is_all, Lists, numbers_of}
-use Rattle.object_groups.specs.Objects.{list_at, lists_in, name_at, names_in, objects_in, ObjectsOf}
+use Rattle.object_groups.specs.Objects.{list_at, lists_in, names_in, ObjectsOf}
+use Rattle.object_groups.specs.ObjectLaws.{listed-within, lists-long, numbers-within}
 use Rattle.object_inheritance.specs.Columns.{Column}
 use Rattle.object_listing.specs.Listing.{Adds, AreThose, Directives, IsListed}
 use Rattle.lemmas.proofs.Elements.{Contains-cases, Contains-from_range, Contains-here, Contains-none, Contains-range}
-use Rattle.object_listing.proofs.ListLemmas.{numbers-within}
 
 -- ---- lists
 
@@ -155,21 +154,9 @@ member-there blocks listing place group object found are grouped member = (are.e
 
 -- ---- the numbers are those of objects
 
-lists-within : (names entries : List (List ℕ)) (k : ℕ) → Lists names entries k → k < length names
-lists-within names entries k (inl both) = both.1
-lists-within names entries k (inr named) = numbers-within names entries k named
-
 lists-none : (names : List (List ℕ)) (k : ℕ) → Lists names [] k → ⊥
 lists-none names k (inl both) = false≢true both.0
 lists-none names k (inr named) = Contains-none k named
-
-names-long : (blocks : List Block) (kind : BlockKind) → length (names_in blocks kind) ≡ length (objects_in blocks kind)
-unfolding names_in
-names-long blocks kind = length-map (objects_in blocks kind) (name_at blocks kind)
-
-lists-long : (blocks : List Block) (kind : BlockKind) (directive : List ℕ) → length (lists_in blocks kind directive) ≡ length (names_in blocks kind)
-unfolding lists_in
-lists-long blocks kind directive = length-map (objects_in blocks kind) (list_at blocks directive) ∙ sym (names-long blocks kind)
 
 member-within : (blocks : List Block) (kind : GroupKind) (group k : ℕ) → IsMember (grouping blocks kind) group k → k < length (names_in blocks (object_kind kind))
 member-within blocks kind group k member = by_hold member.2
@@ -178,7 +165,7 @@ member-within blocks kind group k member = by_hold member.2
     own = lists_in blocks (object_kind kind) (own_groups_directive kind)
 
     by_hold : Holds (grouping blocks kind) member.0 k → k < length (names_in blocks (object_kind kind))
-    by_hold (inl listed) = lists-within (names_in blocks (object_kind kind)) _ k listed
+    by_hold (inl listed) = listed-within (names_in blocks (object_kind kind)) _ k listed
     by_hold (inr named) = ⊎_elim
         (λ (low : k < length own). let long = lists-long blocks (object_kind kind) (own_groups_directive kind) in omega (arith, low, long))
         (λ (past : length own ≤ k). absurd (lists-none (names_in blocks (group_kind kind)) member.0
@@ -186,7 +173,7 @@ member-within blocks kind group k member = by_hold member.2
         (cases_lt k (length own))
 
 pub listed-within : (blocks : List Block) (listing : Directives) (place k : ℕ) → IsListed blocks listing place k → k < length (names_in blocks (object_kind listing.kind))
-listed-within blocks listing place k (inl named) = lists-within (names_in blocks (object_kind listing.kind)) (list_at blocks listing.objects place) k named
+listed-within blocks listing place k (inl named) = listed-within (names_in blocks (object_kind listing.kind)) (list_at blocks listing.objects place) k named
 listed-within blocks listing place k (inr some) = member-within blocks listing.kind some.0 k some.2
 
 pub all-within : (blocks : List Block) (listing : Directives) (place : ℕ) (numbers : List ℕ) → AreThose (IsListed blocks listing place) numbers

@@ -1,5 +1,5 @@
 -- Objects with the name of one before them, by their numbers.
-use Rattle.std.proofs.Common.{◌≡◌, ℕ, zero, suc, ◌+◌, ◌<◌, ◌≤◌, nat_lt, Bool, true, false, not, cond, List, [], ◌∷◌, length, take, get_or, Option, Some, None, refl, sym, ap, subst, ⊎_elim, ◌∙◌, ◌⊎◌, inl, inr, arith, lt-ltb}
+use Rattle.std.proofs.Common.{◌≡◌, ℕ, zero, suc, ◌+◌, ◌<◌, ◌≤◌, nat_lt, Bool, true, false, cond, List, [], ◌∷◌, length, take, get_or, Option, Some, None, refl, sym, ap, subst, ⊎_elim, ◌∙◌, ◌⊎◌, inl, inr, arith, lt-ltb}
 use Rattle.std.specs.Prelude.{AllPairs, Contains, slice_get}
 use Rattle.std.specs.List.{position_or_len, range_with_len}
 use Rattle.std.specs.Option.{option_map_or}
@@ -12,6 +12,7 @@ use Rattle.std.proofs.lemmas.List.Quantifiers.{position-Some}
 use Rattle.std.proofs.lemmas.Slice.Eq.{bytes_eq-Decides}
 use Rattle.lemmas.proofs.Elements.{Contains-cases, Contains-filter, Contains-from_filter, Contains-here, Contains-none, Contains-range}
 use Rattle.lemmas.proofs.Lists.{range_increases}
+use Rattle.lemmas.proofs.Searches.{place-le}
 use Rattle.object_groups.specs.Names.{is_doubled, number_of}
 use Rattle.object_groups.specs.Objects.{is_object, is_object_at, name_at, names_in, objects_in}
 use Rattle.object_reader.specs.declared.block.Block.{Block}
@@ -22,18 +23,9 @@ use Rattle.object_names.specs.declared.named.NamedKind.TheVariants.{Host, HostGr
 use Rattle.object_names.specs.Doubled.{IsDoubled, IsDoubledAmong, IsDoubledOf}
 use Rattle.object_names.specs.First.{IsFirst, lower}
 use Rattle.object_names.specs.Named.{all_kinds, block_kind}
-use Rattle.object_names.proofs.FirstLemmas.{first-either, first-same}
+use Rattle.object_names.specs.FirstLaws.{first-either, first-same}
 
 -- ---- places in lists of names
-
-place-le : (p : List ℕ → Bool) (xs : List (List ℕ)) (i : ℕ) (d : List ℕ) → i < length xs → p (get_or xs i d) ≡ true → position_or_len p xs ≤ i
-place-le p [] i d within is = absurd (omega (arith, within))
-place-le p (x ∷ xs) zero d within is = let none = ap (λ (b : Bool). cond (not b) (1 + position_or_len p xs) 0) is in omega (arith, none)
-place-le p (x ∷ xs) (suc i) d within is =
-    elim (p x) as (λ b. cond (not b) (1 + position_or_len p xs) 0 ≤ suc i) [
-      | true ↦ omega arith
-      | false ↦ let few = place-le p xs i d (omega (arith, within)) is in omega (arith, few)
-    ]
 
 -- a name that stands at an earlier number is doubled
 doubled-from : (names : List (List ℕ)) (m n : ℕ) → m < n → n < length names → get_or names m [] ≡ get_or names n [] → is_doubled names n ≡ true

@@ -1,4 +1,3 @@
-pub mod FirstLemmas
 pub mod DoubledLemmas
 pub mod EntryLemmas
 pub mod UnknownLemmas

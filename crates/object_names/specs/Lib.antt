@@ -3,3 +3,4 @@ pub mod Named
 pub mod Doubled
 pub mod References
 pub mod Unknown
+pub mod FirstLaws

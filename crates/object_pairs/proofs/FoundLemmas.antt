@@ -3,7 +3,7 @@ use Rattle.std.proofs.Common.{◌≡◌, ℕ, ◌+◌, ◌<◌, ◌≤◌, Bool,
 use Rattle.std.specs.Prelude.{Contains}
 use Rattle.std.specs.List.{list_any}
 use Rattle.std.specs.Str.{bytes_eq}
-use Rattle.std.proofs.lemmas.Bool.{cases_lt, false≢true}
+use Rattle.std.proofs.lemmas.Bool.{and_from, and_parts, cases_lt, false≢true, or_cases}
 use Rattle.std.proofs.lemmas.Cmp.{nat_eq_equiv, nat_list_eq_equiv}
 use Rattle.std.proofs.lemmas.List.{nil_from_length, take_more}
 use Rattle.std.proofs.lemmas.List.Folds.{list_any-append}
@@ -16,18 +16,6 @@ use Rattle.object_services.specs.Numbers.{Key, Pair}
 use Rattle.object_pairs.specs.Wanted.{adds, AddsFound, AreFound, AreFoundBelow, has, HasServiceBelow}
 use Rattle.object_pairs.proofs.PairLemmas.{Text}
 use Rattle.object_pairs.proofs.WantedLemmas.{has-insert, Inserts}
-
-both-true : (a b : Bool) → (a && b) ≡ true → (a ≡ true) × (b ≡ true)
-both-true true b is = (refl, is)
-both-true false b is = absurd (false≢true is)
-
-true-both : (a b : Bool) → a ≡ true → b ≡ true → (a && b) ≡ true
-true-both true b one other = other
-true-both false b one other = absurd (false≢true one)
-
-either-true : (a b : Bool) → (a || b) ≡ true → (a ≡ true) ⊎ (b ≡ true)
-either-true true b is = inl refl
-either-true false b is = inr is
 
 true-either : (a b : Bool) → (a ≡ true) ⊎ (b ≡ true) → (a || b) ≡ true
 true-either true b either = refl
@@ -65,7 +53,7 @@ not-added false false false false is = refl
 -- pairs that are the same are there alike
 has-same : (keys : List Key) (host : ℕ) (description : List ℕ) (pair : Pair) (b : Bool) → (eqb pair.0 host && bytes_eq pair.1 description) ≡ true → has keys (host, description) ≡ b → has keys pair ≡ b
 has-same keys host description pair b same is =
-    let both = both-true (eqb pair.0 host) (bytes_eq pair.1 description) same in
+    let both = and_parts (eqb pair.0 host) (bytes_eq pair.1 description) same in
     ap (λ (n : ℕ). has keys (n, pair.1)) (eqb-true pair.0 host both.0)
     ∙ ap (λ (text : List ℕ). has keys (host, text)) ((bytes_eq-Decides pair.1 description).0 both.1) ∙ is
 
@@ -121,7 +109,7 @@ any-contains k [] any = absurd (false≢true any)
 any-contains k (x ∷ xs) any = ⊎_elim
     (λ (same : eqb k x ≡ true). subst (λ (y : ℕ). Contains (x ∷ xs) y) (sym (eqb-true k x same)) (Contains-here x xs))
     (λ (later : list_any (λ y. eqb k y) xs ≡ true). Contains-later x k xs (any-contains k xs later))
-    (either-true (eqb k x) (list_any (λ y. eqb k y) xs) any)
+    (or_cases (eqb k x) (list_any (λ y. eqb k y) xs) any)
 
 contains-any : (k : ℕ) (xs : List ℕ) → Contains xs k → list_any (λ x. eqb k x) xs ≡ true
 contains-any k [] at = absurd (Contains-none k at)
@@ -144,8 +132,8 @@ found-more blocks wanted number place description hosts old new placed described
         let one = (before pair).0 there in
         (one.0, (one.1.0, (let low = one.1.1 in omega (arith, low)), one.1.2, one.1.3)))
         (λ (came : adds wanted description hosts pair ≡ true).
-        let one = both-true (has wanted pair) (bytes_eq pair.1 description && list_any (λ host. eqb pair.0 host) hosts) came in
-        let two = both-true (bytes_eq pair.1 description) (list_any (λ host. eqb pair.0 host) hosts) one.1 in (
+        let one = and_parts (has wanted pair) (bytes_eq pair.1 description && list_any (λ host. eqb pair.0 host) hosts) came in
+        let two = and_parts (bytes_eq pair.1 description) (list_any (λ host. eqb pair.0 host) hosts) one.1 in (
           one.0,
           (
             number,
@@ -154,7 +142,7 @@ found-more blocks wanted number place description hosts old new placed described
             ((subst (λ (p : ℕ). AreHosts blocks p hosts) placed are).exactly pair.0).0 (any-contains pair.0 hosts two.1),
           ),
         ))
-        (either-true (has old pair) (adds wanted description hosts pair) (sym (adds_found pair) ∙ is))
+        (or_cases (has old pair) (adds wanted description hosts pair) (sym (adds_found pair) ∙ is))
 
     from : (has wanted pair ≡ true) × HasServiceBelow blocks (number + 1) pair.0 pair.1 → has new pair ≡ true
     from some = adds_found pair ∙ true-either (has old pair) (adds wanted description hosts pair) (⊎_elim
@@ -163,8 +151,8 @@ found-more blocks wanted number place description hosts old new placed described
         let low = some.1.1 in
         let same : some.1.0 ≡ number = omega (arith, late, low) in
         let text : pair.1 ≡ description = sym some.1.2 ∙ ap (description_of blocks) same ∙ sym described in
-        inr (true-both (has wanted pair) (bytes_eq pair.1 description && list_any (λ host. eqb pair.0 host) hosts) some.0
-        (true-both (bytes_eq pair.1 description) (list_any (λ host. eqb pair.0 host) hosts) ((bytes_eq-Decides pair.1 description).1 text)
+        inr (and_from (has wanted pair) (bytes_eq pair.1 description && list_any (λ host. eqb pair.0 host) hosts) some.0
+        (and_from (bytes_eq pair.1 description) (list_any (λ host. eqb pair.0 host) hosts) ((bytes_eq-Decides pair.1 description).1 text)
         (contains-any pair.0 hosts (((subst (λ (p : ℕ). AreHosts blocks p hosts) placed are).exactly pair.0).1
         (subst (λ (n : ℕ). HasHost blocks (place_of blocks n) pair.0) same some.1.3))))))
         (cases_lt some.1.0 number))

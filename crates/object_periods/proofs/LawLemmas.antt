@@ -10,6 +10,7 @@ use Rattle.due_model.specs.declared.config.Period.{Period}
 use Rattle.due_model.specs.declared.config.PeriodId.{PeriodId}
 use Rattle.due_model.specs.declared.config.Range.{Range}
 use Rattle.lemmas.proofs.Elements.{Contains-map}
+use Rattle.lemmas.proofs.Chains.{Chain-map}
 use Rattle.object_groups.specs.Objects.{names_in, objects_in}
 use Rattle.object_inheritance.specs.Inherited.{value}
 use Rattle.object_periods.specs.Laws.{NoLoopIsLeft, PeriodsFit}
@@ -17,7 +18,6 @@ use Rattle.object_periods.specs.Loops.{ExcludesNumber, HasNoPeriodLoop}
 use Rattle.object_periods.specs.Periods.{ArePeriodsOf, excluded_at, ranges_at}
 use Rattle.object_periods.proofs.DayLemmas.{line-fits}
 use Rattle.object_periods.proofs.ExcludeLemmas.{names-long, numbers-within}
-use Rattle.object_periods.proofs.LoopLemmas.{Chain-map}
 use Rattle.object_reader.specs.declared.block.Block.{Block}
 use Rattle.object_reader.specs.declared.block.BlockKind.TheVariants.{TimePeriod}
 use Rattle.object_values.specs.Ranges.{weekdays}

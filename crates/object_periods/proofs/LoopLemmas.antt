@@ -1,25 +1,22 @@
 -- The first period on a loop of exclusions.
-use Rattle.std.proofs.Common.{◌≡◌, ℕ, zero, suc, ◌<◌, ◌≤◌, List, [], length, map, get_or, sym, ap, subst, ⊎_elim, ◌∙◌, arith}
+use Rattle.std.proofs.Common.{◌≡◌, ℕ, suc, ◌<◌, ◌≤◌, List, [], length, map, get_or, sym, ap, subst, ⊎_elim, ◌∙◌, arith}
 use Rattle.std.specs.Prelude.{AllPairs, Contains}
 use Rattle.std.specs.List.{range_with_len}
 use Rattle.std.proofs.lemmas.Bool.{cases_lt}
 use Rattle.std.proofs.lemmas.List.{get_or-map, get_or_past, length-map}
 use Rattle.std.proofs.lemmas.List.Kept.{AllPairs-filter}
 use Rattle.std.proofs.lemmas.Option.{get_or_from_slice_get, slice_get-get_or, slice_get_within}
-use Rattle.graph.specs.Chains.{Chain, HasNoLoop, IsOnLoop}
+use Rattle.graph.specs.Chains.{HasNoLoop, IsOnLoop}
 use Rattle.graph.specs.Edges.{Leads}
 use Rattle.graph_order.specs.Loops.{IsFirstOnLoop}
 use Rattle.lemmas.proofs.Elements.{Contains-none}
 use Rattle.lemmas.proofs.Lists.{range_increases}
+use Rattle.lemmas.proofs.Chains.{Chain-map}
 use Rattle.object_groups.specs.Objects.{is_object_at, objects_in}
 use Rattle.object_periods.specs.Loops.{exclusion_graph, ExcludesNumber, HasNoPeriodLoop, IsFirstLooped, IsNumbered}
 use Rattle.object_periods.specs.Periods.{excluded_at}
 use Rattle.object_reader.specs.declared.block.Block.{Block}
 use Rattle.object_reader.specs.declared.block.BlockKind.TheVariants.{TimePeriod}
-
-pub Chain-map : (R S : ℕ → ℕ → Type 0) → ((p q : ℕ) → R p q → S p q) → (steps p q : ℕ) → Chain R steps p q → Chain S steps p q
-Chain-map R S f zero p q chain = chain
-Chain-map R S f (suc steps) p q chain = (chain.0, f p chain.0 chain.1, Chain-map R S f steps chain.0 q chain.2)
 
 module _ (blocks : List Block) where
   abbrev places : List ℕ

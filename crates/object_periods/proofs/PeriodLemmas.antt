@@ -1,7 +1,7 @@
 -- The periods of blocks, one more.
 use Rattle.std.proofs.Common.{◌≡◌, ℕ, zero, suc, ◌+◌, List, [], ◌∷◌, ◌++◌, length, get_or, Some, refl, sym, ap, subst, ⊎_elim, ◌∙◌, ◌⊎◌, inl, inr, arith}
 use Rattle.std.specs.Prelude.{codes, slice_get, unwrap_or}
-use Rattle.std.proofs.lemmas.List.{get_or-map}
+use Rattle.std.proofs.lemmas.List.{get_or-map, length_push}
 use Rattle.std.proofs.lemmas.Option.{get_or_from_slice_get, slice_get_within}
 use Rattle.due_model.specs.declared.config.Period.{Period}
 use Rattle.object_groups.specs.Names.{numbers_of}
@@ -46,10 +46,6 @@ pub record ArePeriods (blocks : List Block) (number : ℕ) (periods : List Perio
   pub count : length periods ≡ number
   pub each : (k place : ℕ) (period : Period) → slice_get (objects_in blocks TimePeriod) k ≡ Some place → slice_get periods k ≡ Some period → IsPeriodOf blocks place period
 
-length_snoc : {Y : Type 0} (ys : List Y) (y : Y) → length (ys ++ y ∷ []) ≡ length ys + 1
-length_snoc [] y = refl
-length_snoc (z ∷ ys) y = let more = length_snoc ys y in omega arith
-
 pub periods-none : (blocks : List Block) (periods : List Period) → periods ≡ [] → ArePeriods blocks 0 periods
 periods-none blocks periods none = record {
   count = ap (λ (ps : List Period). length ps) none;
@@ -59,7 +55,7 @@ periods-none blocks periods none = record {
 pub periods-more : (blocks : List Block) (number place : ℕ) (old new : List Period) (period : Period) → slice_get (objects_in blocks TimePeriod) number ≡ Some place
     → IsPeriodOf blocks place period → new ≡ old ++ period ∷ [] → ArePeriods blocks number old → ArePeriods blocks (number + 1) new
 periods-more blocks number place old new period here is more before = record {
-  count = ap (λ (ps : List Period). length ps) more ∙ length_snoc old period ∙ ap (λ (n : ℕ). n + 1) before.count;
+  count = ap (λ (ps : List Period). length ps) more ∙ length_push old period ∙ ap (λ (n : ℕ). n + 1) before.count;
   each = λ k at_place other there at. ⊎_elim
       (λ (early : slice_get old k ≡ Some other). before.each k at_place other there early)
       (λ (last : (k ≡ length old) × (period ≡ other)).

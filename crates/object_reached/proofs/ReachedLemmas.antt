@@ -1,9 +1,8 @@
 -- The objects of which a block speaks.
-use Rattle.std.proofs.Common.{◌≡◌, ℕ, zero, suc, ◌+◌, ◌<◌, ◌^◌, Bool, true, false, ◌&&◌, List, [], ◌∷◌, ◌++◌, length, map, take, get_or, Option, Some, refl, sym, ap, subst, eqb, eqb-true, ◌∙◌, inl, inr, arith}
+use Rattle.std.proofs.Common.{◌≡◌, ℕ, zero, suc, ◌+◌, ◌<◌, ◌^◌, true, false, List, [], ◌∷◌, ◌++◌, length, map, take, get_or, Some, refl, sym, ap, subst, eqb, eqb-true, ◌∙◌, inl, inr, arith}
 use Rattle.std.specs.Prelude.{All, Contains, slice_get}
 use Rattle.std.specs.List.{AllZip}
-use Rattle.std.specs.Option.{option_map_or}
-use Rattle.std.proofs.lemmas.Bool.{false≢true}
+use Rattle.std.proofs.lemmas.Bool.{and_parts, false≢true}
 use Rattle.std.proofs.lemmas.List.{get_or-map, length-map, map-append, take_more}
 use Rattle.std.proofs.lemmas.List.Elements.{All-from_get_or, Contains-get_or}
 use Rattle.lemmas.proofs.Elements.{Contains-from_map, Contains-map, Contains-none}
@@ -14,6 +13,7 @@ use Rattle.object_reached.specs.Reached.{AreAfter, AreServicesOf, AreSpokenOf, S
 use Rattle.object_reached.specs.Roles.{directives_of, host_kind, service_kind}
 use Rattle.object_reached.specs.Listed.{AreServicesListed, IsServiceListed, of_hosts, ServiceDirectives}
 use Rattle.object_groups.specs.Objects.{is_object, is_object_at, names_in}
+use Rattle.object_groups.specs.ObjectLaws.{object-at}
 use Rattle.object_inheritance.specs.Templates.{kind_number}
 use Rattle.object_listing.specs.Laws.{ListedAreObjects}
 use Rattle.object_listing.specs.Listing.{AreThose, host_directives, IsListed}
@@ -68,16 +68,9 @@ services-are members blocks services directives place hosts found given numbers 
 
 -- ---- one block
 
-and-true : (a b : Bool) → (a && b) ≡ true → a ≡ true
-and-true true b is = refl
-and-true false b is = absurd (false≢true is)
-
-object-at : (blocks : List Block) (kind : BlockKind) (place : ℕ) (x : Block) (b : Bool) → slice_get blocks place ≡ Some x → b ≡ is_object kind x → is_object_at blocks kind place ≡ b
-object-at blocks kind place x b here is = ap (λ (found : Option Block). option_map_or (is_object kind) found false) here ∙ sym is
-
 -- a block isn't of both types
 of_kind : (kind : BlockKind) (block : Block) → is_object kind block ≡ true → kind_number block.kind ≡ kind_number kind
-of_kind kind block is = eqb-true (kind_number block.kind) (kind_number kind) (and-true (eqb (kind_number block.kind) (kind_number kind)) _ is)
+of_kind kind block is = eqb-true (kind_number block.kind) (kind_number kind) (and_parts (eqb (kind_number block.kind) (kind_number kind)) _ is).0
 
 kinds_differ : (role : Role) (n : ℕ) → n ≡ kind_number (host_kind role) → n ≡ kind_number (service_kind role) → ⊥
 kinds_differ Escalated n one other = omega (arith, one, other)

@@ -1,6 +1,6 @@
 -- The first ; without a backslash before it, and ; for \;, as they are written and as they are found.
-use Rattle.std.proofs.Common.{◌≡◌, ℕ, zero, suc, ◌+◌, ◌-◌, ◌<◌, ◌≤◌, ◌⊎◌, inl, inr, Bool, true, false, not, ◌&&◌, ◌||◌, ◌==◌, List, [], ◌∷◌, ◌++◌, length, take, drop, get_or, refl, sym, ap, subst, ◌∙◌, arith, tests, add-one, append_assoc}
-use Rattle.std.proofs.lemmas.Bool.{and_parts, and_from, false_from_ne_true}
+use Rattle.std.proofs.Common.{◌≡◌, ℕ, zero, suc, ◌+◌, ◌-◌, ◌<◌, ◌≤◌, ◌⊎◌, inl, inr, Bool, true, false, not, ◌&&◌, ◌==◌, List, [], ◌∷◌, ◌++◌, length, take, drop, get_or, refl, sym, ap, subst, ◌∙◌, arith, tests, add-one, append_assoc}
+use Rattle.std.proofs.lemmas.Bool.{and_parts, and_from, false_from_ne_true, or_right}
 use Rattle.std.proofs.lemmas.List.{take_more, append-nil, nil_from_length}
 use Rattle.std.proofs.Math.Seq.{drop-cons, drop-length, take-length}
 use Rattle.std.specs.List.{list_all}
@@ -361,9 +361,5 @@ plain_front (suc n) (b ∷ bs) within none =
 
 -- a search for newlines and semicolons told of none
 
-or_second : (s t : Bool) → t ≡ true → (s || t) ≡ true
-or_second true t e = refl
-or_second false t e = e
-
 pub none_seen : (text : List ℕ) (n : ℕ) → n ≤ length text → ((k : ℕ) → 0 ≤ k → k < n → Passes (is_byte2 10 59) text k → ⊥) → HasNoSemicolon (take n text)
-none_seen text n within none = plain_front n text within (λ k below. false_from_ne_true _ (λ e. none k (omega arith) below (or_second (get_or text k 0 == 10) _ e)))
+none_seen text n within none = plain_front n text within (λ k below. false_from_ne_true _ (λ e. none k (omega arith) below (or_right (get_or text k 0 == 10) _ e)))

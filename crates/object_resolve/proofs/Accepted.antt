@@ -4,7 +4,6 @@ use Rattle.std.specs.Prelude.{codes, Contains, slice_get, slice_index_or, unwrap
 use Rattle.std.specs.List.{AllZip, list_all, range_with_len}
 use Rattle.std.specs.Char.{is_ascii_digit}
 use Rattle.std.specs.Option.{option_and_then, option_map}
-use Rattle.std.specs.Str.{bytes_eq}
 use Rattle.std.proofs.lemmas.Bool.{cases_lt, leb-true}
 use Rattle.std.proofs.lemmas.List.{get_or-map, get_or_past, length-map}
 use Rattle.std.proofs.lemmas.List.Elements.{All-nil, All-cons, All-append, All-from_get_or, Contains-get_or}
@@ -26,13 +25,13 @@ use Rattle.object_contacts.specs.Contacts.{AreRightsOf, IsContactOf}
 use Rattle.object_contacts.specs.Lanes.{lane_of, NamesLane}
 use Rattle.object_contacts.specs.declared.rights.RightsKind.{RightsKind}
 use Rattle.object_contacts.specs.declared.rights.RightsKind.TheVariants.{OfHosts, OfServices}
+use Rattle.object_readings.specs.ReadingLaws.{period-few}
 use Rattle.object_dependencies.specs.Laws as dependencies
 use Rattle.object_dependencies.specs.Limits.{GiveDependencies}
 use Rattle.object_escalations.specs.Entries as entries
 use Rattle.object_escalations.specs.Entries.{AreTold, ComesFrom, IsEscalationOf, origins_below}
 use Rattle.object_escalations.specs.Escalated.{GiveEscalations}
 use Rattle.object_escalations.specs.Laws as escalations
-use Rattle.object_groups.specs.Names.{number_of}
 use Rattle.object_groups.specs.Objects.{names_in, objects_in}
 use Rattle.object_inheritance.specs.Inherited.{name, value}
 use Rattle.object_listing.specs.Laws.{ListedAreObjects}
@@ -41,7 +40,7 @@ use Rattle.object_periods.specs.Laws.{NoLoopIsLeft, PeriodsFit}
 use Rattle.object_periods.specs.Loops.{IsLoopedAt}
 use Rattle.object_reader.specs.declared.block.Block.{Block}
 use Rattle.object_reader.specs.declared.block.BlockKind.TheVariants.{Command, Contact, Host, Service, TimePeriod}
-use Rattle.object_readings.specs.Readings.{period_named, period_of}
+use Rattle.object_readings.specs.Readings.{period_named}
 use Rattle.object_resolve.specs.Config.{command_at, IsConfigOf}
 use Rattle.object_resolve.specs.First.{IsNowhere}
 use Rattle.object_resolve.specs.Limits.{AreFewDependencies, AreFewEscalations, AreWithin}
@@ -73,18 +72,6 @@ text-few false true m other few = number-few (nat_le m max_number) m other refl 
 pub value-few : (text : Option (List ℕ)) (other : ℕ) → other ≤ max_number → unwrap_or (option_and_then number_in text) other ≤ max_number
 value-few None other few = few
 value-few (Some text) other few = text-few (nat_eq (length text) 0) (list_all is_ascii_digit text) (value_of text) other few
-
--- a period by its name is there, and so is one that is taken where the name isn't given
-period-few : (periods : List (List ℕ)) (text : List ℕ) → IfSome (period_named periods text) (λ p. p.0 < length periods)
-period-few periods text = by_length (nat_eq (length text) 0)
-  where
-    by_found : (found : Option ℕ) → IfSome found (λ k. k < length periods) → IfSome (option_map period_of found) (λ p. p.0 < length periods)
-    by_found None low = tt
-    by_found (Some k) low = low
-
-    by_length : (empty : Bool) → IfSome (cond empty None (option_map period_of (number_of periods text))) (λ p. p.0 < length periods)
-    by_length true = tt
-    by_length false = by_found (number_of periods text) (position-within (bytes_eq text) periods)
 
 pub given-few : (periods : List (List ℕ)) (given : Option (List ℕ)) (other : Option PeriodId) → IfSome other (λ p. p.0 < length periods)
     → IfSome (unwrap_or (option_map (period_named periods) given) other) (λ p. p.0 < length periods)

@@ -1,16 +1,16 @@
 -- How many dependencies blocks give: one number, however they are counted; and where they pass their limit.
-use Rattle.std.proofs.Common.{◌≡◌, ℕ, zero, suc, ◌+◌, ◌<◌, ◌≤◌, List, [], ◌∷◌, ◌++◌, length, map, take, get_or, refl, sym, ap, subst, ◌∙◌, ◌⊎◌, inl, inr, ⊎_elim, arith}
+use Rattle.std.proofs.Common.{◌≡◌, ℕ, zero, suc, ◌+◌, ◌<◌, ◌≤◌, List, [], ◌∷◌, length, take, refl, sym, ap, subst, ◌∙◌, ◌⊎◌, inl, inr, ⊎_elim, arith}
 use Rattle.std.specs.Prelude.{AllPairs, Contains, slice_index_or, ◌↔◌}
-use Rattle.std.specs.List.{AllZip, flat_map, range_with_len, sum_by}
+use Rattle.std.specs.List.{AllZip, range_with_len, sum_by}
 use Rattle.std.proofs.lemmas.Bool.{cases_lt}
-use Rattle.std.proofs.lemmas.List.{length-append, length-map, take_all, take_more}
+use Rattle.std.proofs.lemmas.List.{length-map, take_all}
 use Rattle.std.proofs.lemmas.List.Elements.{All-contains}
-use Rattle.std.proofs.lemmas.List.Sums.{sum_by-append, sum_by-cons}
 use Rattle.std.proofs.lemmas.List.FromFn.{length-range_with_len}
 use Rattle.std.proofs.lemmas.Slice.Zip.{AllZip-long}
 use Rattle.lemmas.proofs.Elements.{Contains-cases, Contains-here, Contains-later, Contains-none}
 use Rattle.lemmas.proofs.Lists.{AllPairs-head, AllPairs-tail}
-use Rattle.lemmas.proofs.Numbers.{below_more, flat_range_more}
+use Rattle.lemmas.proofs.Numbers.{below_more, flat-count, sum-more}
+use Rattle.lemmas.proofs.Zips.{without-last}
 use Rattle.due_model.specs.Limits.{max_dependencies}
 use Rattle.due_model.specs.declared.config.Dependency.{Dependency}
 use Rattle.object_dependencies.specs.Entries.{AreDependencies, entries_at, entry_of, terms_at}
@@ -18,7 +18,6 @@ use Rattle.object_dependencies.specs.Limits.{GiveDependencies, PassesLimit}
 use Rattle.object_dependencies.specs.Pairs.{ArePairs, ArePairsBelow, IsBefore, Pair}
 use Rattle.object_reader.specs.declared.block.Block.{Block}
 use Rattle.object_services.specs.Numbers as services
-use Rattle.object_services.specs.Numbers.{pairs_of}
 
 -- ---- two lists of the same pairs in order are one
 
@@ -82,32 +81,6 @@ module _ (blocks : List Block) (lists : List (List ℕ)) where
 
 -- ---- one block less
 
-record WithoutLast {X Y : Type 0} (R : X → Y → Type 0) (xs : List X) (ys : List Y) : Type 0 where
-  pub first : List Y
-  pub last : Y
-  pub are : ys ≡ first ++ last ∷ []
-  pub all : AllZip R xs first
-
-without-last : {X Y : Type 0} (R : X → Y → Type 0) (xs : List X) (x : X) (ys : List Y) → AllZip R (xs ++ x ∷ []) ys → WithoutLast R xs ys
-without-last R [] x [] all = absurd all
-without-last R [] x (y ∷ []) all = record { first = []; last = y; are = refl; all = tt }
-without-last R [] x (y ∷ z ∷ ys) all = absurd all.1
-without-last R (w ∷ xs) x [] all = absurd all
-without-last R (w ∷ xs) x (y ∷ ys) all =
-    let rest = without-last R xs x ys all.1 in
-    record {
-      first = y ∷ rest.first;
-      last = rest.last;
-      are = ap (λ zs. y ∷ zs) rest.are;
-      all = (all.0, rest.all);
-    }
-
-sum-more : (parts : List (List Pair)) (pairs : List Pair) → sum_by length (parts ++ pairs ∷ []) ≡ sum_by length parts + length pairs
-sum-more parts pairs =
-    let all = sum_by-append length parts (pairs ∷ []) in
-    let one = sum_by-cons length pairs [] in
-    omega (arith, all, one)
-
 module _ (blocks : List Block) (lists : List (List ℕ)) where
   one-less : (place count : ℕ) → GiveDependencies blocks lists (place + 1) count → (less : ℕ) × GiveDependencies blocks lists place less × (less ≤ count)
   one-less place count given =
@@ -168,21 +141,6 @@ module _ (blocks : List Block) (lists : List (List ℕ)) where
       let past = passes.over.2 in
       omega (arith, low, past, few)
 
--- ---- lists in a row, one for each place and as long as the one that stands there
-
-flat-count : {A B : Type 0} (f : ℕ → List A) (lists : List (List B)) → ((n : ℕ) → length (f n) ≡ length (slice_index_or lists n [])) → (k : ℕ) → k ≤ length lists
-    → length (flat_map f (range_with_len 0 k)) ≡ sum_by length (take k lists)
-flat-count f lists each zero low = refl
-flat-count f lists each (suc k) low =
-    let same : suc k ≡ k + 1 = omega arith in
-    let before = flat-count f lists each k (omega (arith, low)) in
-    let more = ap length (flat_range_more f k) ∙ length-append (flat_map f (range_with_len 0 k)) (f k) in
-    let own = each k in
-    let taken = ap (sum_by length) (take_more lists k [] (omega (arith, low))) ∙ sum_by-append length (take k lists) (get_or lists k [] ∷ []) in
-    let one = sum_by-cons length (get_or lists k []) [] in
-    subst (λ (n : ℕ). length (flat_map f (range_with_len 0 n)) ≡ sum_by length (take n lists)) (sym same)
-    (omega (arith, before, more, own, taken, one))
-
 -- there is one dependency for each pair
 pub dependencies-few : (blocks : List Block) (lists periods : List (List ℕ)) (dependencies : List Dependency) (count : ℕ) → AreDependencies blocks lists periods dependencies
     → GiveDependencies blocks lists (length blocks) count → count ≤ max_dependencies → length dependencies ≤ max_dependencies
@@ -194,10 +152,3 @@ dependencies-few blocks lists periods dependencies count (parts, are, is) given 
     let whole : sum_by length (take (length blocks) parts) ≡ sum_by length parts = ap (sum_by length) (take_all (length blocks) parts (omega (arith, many))) in
     let sum = count-sum blocks lists (length blocks) count parts given are in
     omega (arith, long, whole, sum, few)
-
--- and one service for each host of a service block
-pub pairs-count : (names lists : List (List ℕ)) → length (pairs_of names lists) ≡ sum_by length lists
-pairs-count names lists =
-    flat-count (λ number. map (λ host. (host, slice_index_or names number [])) (slice_index_or lists number [])) lists
-    (λ n. length-map {B = services.Pair} (slice_index_or lists n []) (λ host. (host, slice_index_or names n []))) (length lists) (omega arith)
-    ∙ ap (sum_by length) (take_all (length lists) lists (omega arith))

@@ -13,7 +13,7 @@ use Rattle.object_listing.specs.Listing.{AreThose}
 use Rattle.object_reader.specs.declared.block.Block.{Block}
 use Rattle.object_reader.specs.declared.block.BlockKind.TheVariants.{Host}
 use Rattle.object_settings.specs.Settings.{AreObjectsOf}
-use Rattle.object_settings.proofs.ObjectLemmas.{object-count}
+use Rattle.object_settings.specs.ObjectLaws.{object-count}
 
 pub spoken-within : EscalatedAreObjects → (blocks : List Block) (hosts spoken : List (List ℕ)) (objects given : List Object) → given ≡ objects → AreObjectsOf blocks hosts objects
     → AreEscalated blocks hosts (length blocks) spoken → All (All (λ number. number < length given)) spoken

@@ -1,17 +1,17 @@
 -- The first block that passes a limit.
 use Rattle.std.proofs.Common.{◌≡◌, ℕ, ◌<◌, ◌≤◌, Bool, true, false, cond, List, [], ◌∷◌, length, get_or, Option, Some, None, refl, sym, ap, subst, ◌∙◌, ◌⊎◌, inl, inr, ⊎_elim, arith}
-use Rattle.std.specs.Prelude.{Contains, slice_get, sum_by, IfNone, IfSome, ◌↔◌}
+use Rattle.std.specs.Prelude.{Contains, slice_get, sum_by, IfNone, IfSome}
 use Rattle.std.specs.Option.{option_and_then}
 use Rattle.std.specs.Str.{bytes_eq}
 use Rattle.std.proofs.lemmas.Bool.{cases_lt}
-use Rattle.std.proofs.lemmas.List.Elements.{All-contains, Contains-get_or}
+use Rattle.std.proofs.lemmas.List.Elements.{Contains-get_or}
 use Rattle.std.proofs.lemmas.List.Kept.{AllPairs-from_increasing}
 use Rattle.std.proofs.lemmas.Option.{get_or_from_slice_get, none-some, slice_get-get_or, slice_get_within}
 use Rattle.due_model.specs.Limits.{max_contacts, max_dependencies, max_escalations, max_lanes, max_periods}
-use Rattle.lemmas.proofs.Elements.{Contains-cases, Contains-here, Contains-later, Contains-none}
-use Rattle.lemmas.proofs.Lists.{AllPairs-head, AllPairs-tail}
 use Rattle.lemmas.proofs.Searches.{position-within}
+use Rattle.lemmas.proofs.Rising.{rising-one}
 use Rattle.object_contacts.specs.Lanes.{AreLanes, IsLane, IsUsed}
+use Rattle.object_services.specs.HostLaws.{hosts-one}
 use Rattle.object_dependencies.specs.Limits as dependent
 use Rattle.object_dependencies.specs.Limits.{GiveDependencies}
 use Rattle.object_dependencies.specs.Loops.{HasNoDependencyLoop, IsFirstLooped}
@@ -34,67 +34,19 @@ use Rattle.object_resolve.specs.declared.fault.LoadFault.{LoadFault}
 use Rattle.object_resolve.specs.declared.fault.LoadFault.TheVariants as load
 use Rattle.object_resolve.proofs.CountLemmas.{one-passes, within-nowhere}
 use Rattle.object_resolve.proofs.NameLemmas.{either-first}
-use Rattle.object_resolve.proofs.PlaceLemmas.{line-of_first, names-long, object-within, only-first, Rises}
+use Rattle.object_resolve.proofs.PlaceLemmas.{line-of_first, names-long, object-within, only-first}
 use Rattle.object_services.specs.Laws.{OnePlacePasses, WithinPassesNowhere}
 use Rattle.object_services.specs.Limits as counted
 use Rattle.object_services.specs.Limits.{AreHostLists, AreWithinLimit, PassesLimit, PassesNowhere}
-use Rattle.object_listing.specs.Listing.{AreThose}
-use Rattle.object_services.specs.Hosts.{HasHost}
 use Rattle.object_services.specs.declared.services.LimitFault.{LimitFault}
 use Rattle.object_services.specs.declared.services.LimitFault.TheVariants as counts
 
 -- ---- two lists of the same numbers that rise are one
 
-above : (x : ℕ) (xs : List ℕ) (k : ℕ) → Rises (x ∷ xs) → Contains xs k → x < k
-above x xs k rising at = All-contains (λ n. x < n) xs k (AllPairs-head (λ m n. m < n) x xs rising) at
-
-rising-one : (xs ys : List ℕ) → Rises xs → Rises ys → ((k : ℕ) → Contains xs k ↔ Contains ys k) → xs ≡ ys
-rising-one [] [] one other same = refl
-rising-one [] (y ∷ ys) one other same = absurd (Contains-none y ((same y).1 (Contains-here y ys)))
-rising-one (x ∷ xs) [] one other same = absurd (Contains-none x ((same x).0 (Contains-here x xs)))
-rising-one (x ∷ xs) (y ∷ ys) one other same =
-    ap (λ (n : ℕ). n ∷ xs) head ∙ ap (λ (ns : List ℕ). y ∷ ns)
-    (rising-one xs ys (AllPairs-tail (λ m n. m < n) x xs one) (AllPairs-tail (λ m n. m < n) y ys other) (λ k. (to k, from k)))
-  where
-    head : x ≡ y
-    head = by_both (Contains-cases y x ys ((same x).0 (Contains-here x xs))) (Contains-cases x y xs ((same y).1 (Contains-here y ys)))
-      where
-        by_both : (y ≡ x) ⊎ Contains ys x → (x ≡ y) ⊎ Contains xs y → x ≡ y
-        by_both (inl here) there = sym here
-        by_both (inr later) (inl here) = here
-        by_both (inr later) (inr further) = let low = above y ys x other later in let high = above x xs y one further in absurd (omega (arith, low, high))
-
-    to : (k : ℕ) → Contains xs k → Contains ys k
-    to k at = ⊎_elim
-        (λ (here : y ≡ k). let low = above x xs k one at in absurd (omega (arith, low, here, head)))
-        (λ (later : Contains ys k). later)
-        (Contains-cases y k ys ((same k).0 (Contains-later x k xs at)))
-
-    from : (k : ℕ) → Contains ys k → Contains xs k
-    from k at = ⊎_elim
-        (λ (here : x ≡ k). let low = above y ys k other at in absurd (omega (arith, low, here, head)))
-        (λ (later : Contains xs k). later)
-        (Contains-cases x k xs ((same k).1 (Contains-later y k ys at)))
-
 pub lanes-one : (P : ℕ → Type 0) (xs ys : List ℕ) → AreLanes P xs → AreLanes P ys → xs ≡ ys
 lanes-one P xs ys one other =
     rising-one xs ys (AllPairs-from_increasing xs one.rising) (AllPairs-from_increasing ys other.rising)
     (λ k. ((λ at. (other.exactly k).1 ((one.exactly k).0 at)), (λ at. (one.exactly k).1 ((other.exactly k).0 at))))
-
-those-one : (P : ℕ → Type 0) (xs ys : List ℕ) → AreThose P xs → AreThose P ys → xs ≡ ys
-those-one P xs ys one other =
-    rising-one xs ys (AllPairs-from_increasing xs one.rising) (AllPairs-from_increasing ys other.rising)
-    (λ k. ((λ at. (other.exactly k).1 ((one.exactly k).0 at)), (λ at. (one.exactly k).1 ((other.exactly k).0 at))))
-
--- the hosts of the same blocks
-pub hosts-one : (blocks : List Block) (places : List ℕ) (one other : List (List ℕ)) → AreHostLists blocks places one → AreHostLists blocks places other → one ≡ other
-hosts-one blocks [] [] [] a b = refl
-hosts-one blocks [] [] (y ∷ ys) a b = absurd b
-hosts-one blocks [] (x ∷ xs) ys a b = absurd a
-hosts-one blocks (p ∷ ps) [] ys a b = absurd a
-hosts-one blocks (p ∷ ps) (x ∷ xs) [] a b = absurd b
-hosts-one blocks (p ∷ ps) (x ∷ xs) (y ∷ ys) a b =
-    ap (λ (hosts : List ℕ). hosts ∷ xs) (those-one (HasHost blocks p) x y a.0 b.0) ∙ ap (λ (lists : List (List ℕ)). y ∷ lists) (hosts-one blocks ps xs ys a.1 b.1)
 
 -- ---- lanes are commands
 

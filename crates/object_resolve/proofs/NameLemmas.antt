@@ -5,10 +5,11 @@ use Rattle.std.specs.Option.{option_eq}
 use Rattle.std.proofs.lemmas.Bool.{cases_lt, leb-true, true≢false}
 use Rattle.std.proofs.lemmas.Option.{none-some, same_Some, slice_get-get_or}
 use Rattle.object_groups.specs.Objects.{is_object, objects_in, ObjectsOf}
+use Rattle.object_groups.specs.ObjectLaws.{names-long}
 use Rattle.object_names.specs.First.{IsFirst, lower}
 use Rattle.object_names.specs.Named.{block_kind}
 use Rattle.object_names.specs.Unknown.{names_unknown}
-use Rattle.object_names.proofs.FirstLemmas.{first-either}
+use Rattle.object_names.specs.FirstLaws.{first-either}
 use Rattle.object_reached.specs.Roles.{service_kind}
 use Rattle.object_reader.specs.declared.block.Block.{Block}
 use Rattle.object_reader.specs.declared.block.BlockKind.TheVariants.{Service, ServiceGroup}
@@ -17,7 +18,7 @@ use Rattle.object_resolve.specs.Names.{GivesDoubledService, IsDoubledAt, IsFirst
 use Rattle.object_resolve.specs.declared.fault.BlockFault.{BlockFault}
 use Rattle.object_resolve.specs.declared.fault.BlockFault.TheVariants.{Doubled, UnknownName}
 use Rattle.object_resolve.specs.declared.fault.LoadFault.{LoadFault}
-use Rattle.object_resolve.proofs.PlaceLemmas.{at-within, lower-before, names-long, object-within}
+use Rattle.object_resolve.proofs.PlaceLemmas.{at-within, lower-before, object-within}
 use Rattle.object_services.specs.Doubled as services
 
 -- ---- doubled services, by their places

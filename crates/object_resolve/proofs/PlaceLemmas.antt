@@ -1,16 +1,17 @@
 -- Places of blocks: that objects stand within and rise, and the first place of which something is said.
 use Rattle.std.proofs.Common.{◌≡◌, ℕ, zero, suc, ◌<◌, ◌≤◌, Bool, true, false, List, [], ◌∷◌, length, get_or, Option, Some, None, refl, sym, ap, ⊎_elim, arith}
-use Rattle.std.specs.Prelude.{AllPairs, slice_get, slice_index_or}
+use Rattle.std.specs.Prelude.{slice_get, slice_index_or}
 use Rattle.std.specs.List.{range_with_len}
 use Rattle.std.specs.Option.{option_map_or}
 use Rattle.std.proofs.lemmas.Bool.{cases_lt, true≢false}
-use Rattle.std.proofs.lemmas.List.{length-map}
 use Rattle.std.proofs.lemmas.List.Elements.{Contains-get_or}
 use Rattle.std.proofs.lemmas.List.Kept.{AllPairs-filter}
 use Rattle.std.proofs.lemmas.Option.{get_or_from_slice_get, none-some, same_Some, slice_get_within}
 use Rattle.lemmas.proofs.Elements.{Contains-from_filter, Contains-from_range}
 use Rattle.lemmas.proofs.Lists.{AllPairs-head, AllPairs-tail, range_increases}
-use Rattle.object_groups.specs.Objects.{is_object_at, name_at, names_in, objects_in}
+use Rattle.lemmas.proofs.Rising.{Rises}
+use Rattle.object_groups.specs.Objects.{is_object_at, names_in, objects_in}
+use Rattle.object_groups.specs.ObjectLaws.{names-long}
 use Rattle.object_names.specs.First.{IsFirst}
 use Rattle.object_reader.specs.declared.block.Block.{Block}
 use Rattle.object_reader.specs.declared.block.BlockKind.{BlockKind}
@@ -38,9 +39,6 @@ object-within blocks kind number place here =
 
 -- ---- places rise with the numbers of the objects
 
-abbrev pub Rises : List ℕ → Type 0
-Rises xs = AllPairs (λ m n. m < n) xs
-
 rises-at : (xs : List ℕ) → Rises xs → (i j d e : ℕ) → i < j → j < length xs → get_or xs i d < get_or xs j e
 rises-at [] rising i j d e low within = absurd (omega (arith, within))
 rises-at (x ∷ xs) rising i zero d e low within = absurd (omega (arith, low))
@@ -63,10 +61,6 @@ lower-before blocks kind one other inside before = ⊎_elim
     let equal = ap (λ (n : ℕ). slice_index_or (objects_in blocks kind) n 0) is in absurd (omega (arith, equal, before)))
     (cases_lt one other))
     (cases_lt other one)
-
-pub names-long : (blocks : List Block) (kind : BlockKind) → length (names_in blocks kind) ≡ length (objects_in blocks kind)
-unfolding names_in
-names-long blocks kind = length-map (objects_in blocks kind) (name_at blocks kind)
 
 pub few-names : (blocks : List Block) (kind : BlockKind) (limit : ℕ) → length (objects_in blocks kind) ≤ limit → length (names_in blocks kind) ≤ limit
 few-names blocks kind limit few = let long = names-long blocks kind in omega (arith, long, few)

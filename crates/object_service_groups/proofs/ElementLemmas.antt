@@ -3,34 +3,19 @@ use Rattle.std.proofs.Common.{◌≡◌, ℕ, zero, suc, ◌+◌, ◌<◌, ◌�
 use Rattle.std.specs.Prelude.{All, Contains, filter_map, unwrap_or, IfSome, slice_get}
 use Rattle.std.specs.List.{cons_option, flat_map, range_with_len}
 use Rattle.std.specs.Option.{option_and_then, option_map}
-use Rattle.std.specs.Str.{bytes_eq}
 use Rattle.std.proofs.lemmas.Bool.{cases_lt}
 use Rattle.std.proofs.lemmas.List.{get_or_past, get_or-map, length-append, length-map, length-replicate}
 use Rattle.std.proofs.lemmas.List.Concat.{flat_map-cons}
-use Rattle.std.proofs.lemmas.List.Elements.{All-contains, All-from_get_or, Contains-append_left, Contains-append_right, Contains-append_cases, Contains-get_or}
-use Rattle.lemmas.proofs.Elements.{Contains-cases, Contains-from_range, Contains-here, Contains-later, Contains-none}
-use Rattle.lemmas.proofs.Searches.{All-found, position-within}
-use Rattle.object_groups.specs.Names.{number_of, numbers_of}
+use Rattle.std.proofs.lemmas.List.Elements.{All-from_get_or, Contains-get_or}
+use Rattle.lemmas.proofs.Elements.{Contains-cases, Contains-from_flat_map, Contains-from_range, Contains-none}
+use Rattle.lemmas.proofs.Searches.{position-within}
+use Rattle.object_groups.specs.Names.{number_of}
 use Rattle.object_pairs.specs.Members.{place_of_pair, places_of}
 use Rattle.object_pairs.specs.Pairs.{by_two, NamedPair}
 use Rattle.object_services.specs.Numbers.{is_pair, Pair, pairs_of, service_number}
 use Rattle.object_service_groups.specs.Groups.{owners_of}
 
 -- ---- lists of lists
-
-pub Contains-flat_map : {X Y : Type 0} (f : X → List Y) (xs : List X) (x : X) (y : Y) → Contains xs x → Contains (f x) y → Contains (flat_map f xs) y
-Contains-flat_map f [] x y at on = absurd (Contains-none x at)
-Contains-flat_map f (z ∷ zs) x y at on = rw (flat_map-cons f z zs) (⊎_elim
-    (λ (here : z ≡ x). Contains-append_left (f z) (flat_map f zs) y (subst (λ w. Contains (f w) y) (sym here) on))
-    (λ (later : Contains zs x). Contains-append_right (f z) (flat_map f zs) y (Contains-flat_map f zs x y later on))
-    (Contains-cases z x zs at))
-
-pub Contains-from_flat_map : {X Y : Type 0} (f : X → List Y) (xs : List X) (y : Y) → Contains (flat_map f xs) y → (x : X) × Contains xs x × Contains (f x) y
-Contains-from_flat_map f [] y at = absurd (Contains-none y at)
-Contains-from_flat_map f (x ∷ xs) y at = ⊎_elim
-    (λ (here : Contains (f x) y). (x, Contains-here x xs, here))
-    (λ (later : Contains (flat_map f xs) y). let more = Contains-from_flat_map f xs y later in (more.0, Contains-later x more.0 xs more.1, more.2))
-    (Contains-append_cases (f x) (flat_map f xs) y (subst (λ ys. Contains ys y) (flat_map-cons f x xs) at))
 
 -- what lists contain that each are below a bound
 pub mapped-within : (f : ℕ → List ℕ) (places : List ℕ) (bound : ℕ) → ((place k : ℕ) → Contains (f place) k → k < bound)
@@ -57,11 +42,6 @@ flat-long {X} {Y} f g same (n ∷ ns) =
     ap (λ (xs : List X). length xs) (flat_map-cons f n ns) ∙ both ∙ sym (ap (λ (ys : List Y). length ys) (flat_map-cons g n ns))
 
 -- ---- numbers of names, and places of services
-
-pub numbers-within : (names entries : List (List ℕ)) (k : ℕ) → Contains (numbers_of names entries) k → k < length names
-numbers-within names entries k at =
-    All-contains (λ number. number < length names) (numbers_of names entries) k
-    (All-found (number_of names) (λ number. number < length names) (λ name. position-within (bytes_eq name) names) entries) at
 
 found-one : (found : Option ℕ) (others : List ℕ) (bound k : ℕ) → IfSome found (λ n. n < bound) → (Contains others k → k < bound) → Contains (cons_option found others) k → k < bound
 found-one None others bound k here rest at = rest at

@@ -1,37 +1,30 @@
 -- The service groups of blocks: their lists by numbers, their edges, and what is kept of them.
-use Rattle.std.proofs.Common.{◌≡◌, ℕ, ◌+◌, ◌<◌, ◌^◌, List, [], ◌∷◌, ◌++◌, length, get_or, refl, sym, ap, subst, ◌∙◌, ◌⊎◌, inl, inr, ⊎_elim, arith}
-use Rattle.std.specs.Prelude.{All, AllPairs, Contains, codes, ◌↔◌}
+use Rattle.std.proofs.Common.{◌≡◌, ℕ, ◌+◌, ◌<◌, ◌^◌, List, [], ◌∷◌, ◌++◌, length, get_or, refl, sym, ap, subst, ◌∙◌, inl, inr, arith}
+use Rattle.std.specs.Prelude.{All, Contains, codes, ◌↔◌}
 use Rattle.std.specs.List.{AllZip, flat_map, range_with_len}
-use Rattle.std.proofs.lemmas.List.{flat_map_more, get_or_default, get_or-map, length-map}
-use Rattle.std.proofs.lemmas.List.Elements.{All-contains, All-from_get_or, Contains-get_or}
-use Rattle.std.proofs.lemmas.List.Kept.{AllPairs-from_increasing}
+use Rattle.std.proofs.lemmas.List.{get_or-map, length-map}
+use Rattle.std.proofs.lemmas.List.Elements.{All-from_get_or, Contains-get_or}
 use Rattle.graph.specs.declared.edges.Edge.{Edge}
 use Rattle.graph.specs.Edges.{HasEdges, IsWithin, Leads}
-use Rattle.lemmas.proofs.Elements.{Contains-cases, Contains-here, Contains-later, Contains-none}
-use Rattle.lemmas.proofs.Lists.{AllPairs-head, AllPairs-tail}
-use Rattle.lemmas.proofs.Numbers.{below_more}
 use Rattle.object_groups.specs.Names.{numbers_of}
-use Rattle.object_groups.specs.Objects.{list_at, name_at, names_in, objects_in, ObjectsOf}
+use Rattle.object_groups.specs.Objects.{list_at, names_in, objects_in, ObjectsOf}
+use Rattle.object_groups.specs.ObjectLaws.{names-long, numbers-within}
 use Rattle.object_inheritance.specs.Columns.{Column}
-use Rattle.object_listing.specs.Listing.{AreThose}
 use Rattle.object_pairs.specs.Members.{places_of}
 use Rattle.object_reader.specs.declared.block.Block.{Block}
 use Rattle.object_reader.specs.declared.block.BlockKind.{BlockKind}
 use Rattle.object_reader.specs.declared.block.BlockKind.TheVariants.{Host, Service, ServiceGroup}
-use Rattle.object_services.specs.Hosts.{AreHosts, HasHost}
+use Rattle.object_services.specs.Hosts.{AreHosts}
 use Rattle.object_services.specs.Limits.{AreHostLists}
 use Rattle.object_services.specs.Numbers.{Pair, pairs_of}
+use Rattle.object_services.specs.HostLaws.{hosts-one}
 use Rattle.object_service_groups.specs.Groups.{AreNodes, AreServiceGroups, grouping, groups_in, named_in, owners_of}
 use Rattle.object_service_groups.specs.Members.{Grouping, IsMember}
 use Rattle.object_service_groups.specs.Nodes.{block_edges, edge, edges_in, edges_of_block, edges_of_group, first_group, group_edges, IsGraphOf, owner_edges}
-use Rattle.object_service_groups.proofs.ElementLemmas.{mapped-within, numbers-within, owners-long, owners-within, place-there, places-within}
+use Rattle.object_service_groups.proofs.ElementLemmas.{mapped-within, owners-long, owners-within, place-there, places-within}
 use Rattle.object_service_groups.proofs.NodeLemmas.{edge-within, IsWell}
 
 -- ---- lists by numbers
-
-pub names-long : (blocks : List Block) (kind : BlockKind) → length (names_in blocks kind) ≡ length (objects_in blocks kind)
-unfolding names_in
-names-long blocks kind = length-map (objects_in blocks kind) (name_at blocks kind)
 
 pub named-long : (blocks : List Block) (services : List Pair) → length (named_in blocks services) ≡ length (objects_in blocks ServiceGroup)
 unfolding named_in
@@ -67,16 +60,7 @@ groups-are blocks kind directive number place within is =
     get_or-map (λ p. numbers_of (names_in blocks ServiceGroup) (list_at blocks directive p)) (objects_in blocks kind) number place [] within
     ∙ ap (λ (p : ℕ). numbers_of (names_in blocks ServiceGroup) (list_at blocks directive p)) (sym is)
 
-pub place-is : (items places : List ℕ) (i d e : ℕ) → items ≡ places → i < length places → get_or items i d ≡ get_or places i e
-place-is items places i d e same within = ap (λ (xs : List ℕ). get_or xs i d) same ∙ get_or_default places i d e within
-
 -- ---- edges
-
-pub edges-more : (f : ℕ → List Edge) (first : List Edge) (n : ℕ) (old new one : List Edge) → old ≡ first ++ flat_map f (range_with_len 0 n) → new ≡ old ++ one → one ≡ f n
-    → new ≡ first ++ flat_map f (range_with_len 0 (n + 1))
-edges-more f first n old new one before more is =
-    more ∙ ap (λ edges. edges ++ one) before ∙ ap (λ edges. (first ++ flat_map f (range_with_len 0 n)) ++ edges) is
-    ∙ flat_map_more f first (range_with_len 0 n) n ∙ ap (λ numbers. first ++ flat_map f numbers) (sym (below_more n))
 
 -- the edges of the group at a place
 pub group-is : (blocks : List Block) (services : List Pair) (hosts names : List (List ℕ)) (members subgroups : Column) (first group place : ℕ)
@@ -189,56 +173,6 @@ count-is blocks lists services are =
     let named_long = named-long blocks (pairs_of (names_in blocks Service) lists) in
     omega (arith, count, long, blocks_long, named_long)
 
--- ---- the hosts of the same blocks are the same
-
-abbrev Rises : List ℕ → Type 0
-Rises xs = AllPairs (λ m n. m < n) xs
-
-above : (x : ℕ) (xs : List ℕ) (k : ℕ) → Rises (x ∷ xs) → Contains xs k → x < k
-above x xs k rising at = All-contains (λ n. x < n) xs k (AllPairs-head (λ m n. m < n) x xs rising) at
-
-rising-one : (xs ys : List ℕ) → Rises xs → Rises ys → ((k : ℕ) → Contains xs k ↔ Contains ys k) → xs ≡ ys
-rising-one [] [] one other same = refl
-rising-one [] (y ∷ ys) one other same = absurd (Contains-none y ((same y).1 (Contains-here y ys)))
-rising-one (x ∷ xs) [] one other same = absurd (Contains-none x ((same x).0 (Contains-here x xs)))
-rising-one (x ∷ xs) (y ∷ ys) one other same =
-    ap (λ (n : ℕ). n ∷ xs) head ∙ ap (λ (ns : List ℕ). y ∷ ns)
-    (rising-one xs ys (AllPairs-tail (λ m n. m < n) x xs one) (AllPairs-tail (λ m n. m < n) y ys other) (λ k. (to k, from k)))
-  where
-    head : x ≡ y
-    head = by_both (Contains-cases y x ys ((same x).0 (Contains-here x xs))) (Contains-cases x y xs ((same y).1 (Contains-here y ys)))
-      where
-        by_both : (y ≡ x) ⊎ Contains ys x → (x ≡ y) ⊎ Contains xs y → x ≡ y
-        by_both (inl here) there = sym here
-        by_both (inr later) (inl here) = here
-        by_both (inr later) (inr further) = let low = above y ys x other later in let high = above x xs y one further in absurd (omega (arith, low, high))
-
-    to : (k : ℕ) → Contains xs k → Contains ys k
-    to k at = ⊎_elim
-        (λ (here : y ≡ k). let low = above x xs k one at in absurd (omega (arith, low, here, head)))
-        (λ (later : Contains ys k). later)
-        (Contains-cases y k ys ((same k).0 (Contains-later x k xs at)))
-
-    from : (k : ℕ) → Contains ys k → Contains xs k
-    from k at = ⊎_elim
-        (λ (here : x ≡ k). let low = above y ys k other at in absurd (omega (arith, low, here, head)))
-        (λ (later : Contains xs k). later)
-        (Contains-cases x k xs ((same k).1 (Contains-later y k ys at)))
-
-those-one : (P : ℕ → Type 0) (xs ys : List ℕ) → AreThose P xs → AreThose P ys → xs ≡ ys
-those-one P xs ys one other =
-    rising-one xs ys (AllPairs-from_increasing xs one.rising) (AllPairs-from_increasing ys other.rising)
-    (λ k. ((λ at. (other.exactly k).1 ((one.exactly k).0 at)), (λ at. (one.exactly k).1 ((other.exactly k).0 at))))
-
-lists-one : (blocks : List Block) (places : List ℕ) (one other : List (List ℕ)) → AreHostLists blocks places one → AreHostLists blocks places other → one ≡ other
-lists-one blocks [] [] [] a b = refl
-lists-one blocks [] [] (y ∷ ys) a b = absurd b
-lists-one blocks [] (x ∷ xs) ys a b = absurd a
-lists-one blocks (p ∷ ps) [] ys a b = absurd a
-lists-one blocks (p ∷ ps) (x ∷ xs) [] a b = absurd b
-lists-one blocks (p ∷ ps) (x ∷ xs) (y ∷ ys) a b =
-    ap (λ (hosts : List ℕ). hosts ∷ xs) (those-one (HasHost blocks p) x y a.0 b.0) ∙ ap (λ (lists : List (List ℕ)). y ∷ lists) (lists-one blocks ps xs ys a.1 b.1)
-
 -- ---- what is kept
 
 pub kept-are : (templates blocks : List Block) (groups : ObjectsOf) (lists : List (List ℕ)) (numbers : List Pair) (services first searched : ℕ) (graph : List (List ℕ))
@@ -248,7 +182,7 @@ pub kept-are : (templates blocks : List Block) (groups : ObjectsOf) (lists : Lis
 kept-are templates blocks groups lists numbers services first searched graph same groups_are are numbers_are services_are first_is has few searched_is =
     subst (λ (bs : List Block). AreServiceGroups bs groups services first graph searched) (sym same) (record {
       group_table = groups_are;
-      has_nodes = λ other given. subst (λ (ls : List (List ℕ)). AreNodes (grouping templates ls) services first graph) (lists-one templates (objects_in templates Service) lists other are given) nodes;
+      has_nodes = λ other given. subst (λ (ls : List (List ℕ)). AreNodes (grouping templates ls) services first graph) (hosts-one templates (objects_in templates Service) lists other are given) nodes;
       count = (let all = has.count in omega (arith, all, long, blocks_long, named_long, count, first_is));
       few = few;
       has_search = searched_is;

@@ -10,11 +10,12 @@ use Rattle.graph.specs.declared.edges.Edge.{Edge}
 use Rattle.graph.specs.Chains.{Chain, Reaches}
 use Rattle.graph.specs.Edges.{IsWithin, Leads}
 use Rattle.graph.specs.Reach.{IsReached}
-use Rattle.lemmas.proofs.Elements.{Contains-from_map, Contains-from_range, Contains-map, Contains-none, Contains-range}
+use Rattle.lemmas.proofs.Elements.{Contains-flat_map, Contains-from_flat_map, Contains-from_map, Contains-from_range, Contains-map, Contains-none, Contains-range}
+use Rattle.lemmas.proofs.Chains.{Reaches-join}
 use Rattle.object_listing.specs.Listing.{AreThose}
 use Rattle.object_service_groups.specs.Members.{Grouping, Holds, Includes, IsMember}
 use Rattle.object_service_groups.specs.Nodes.{AreBelow, block_edges, edge, edges_in, first_group, group_edges, IsGraphOf, owner_edges}
-use Rattle.object_service_groups.proofs.ElementLemmas.{Contains-flat_map, Contains-from_flat_map, place-there}
+use Rattle.object_service_groups.proofs.ElementLemmas.{place-there}
 
 -- each number is that of something
 pub record IsWell (g : Grouping) : Type 0 where
@@ -196,13 +197,6 @@ module _ (g : Grouping) (well : IsWell g) (service : ℕ) (there : service < len
     member-from_reached p low reaches = (means_chain reaches.0 (group_node g p) reaches.1).at_group p low refl
 
 -- ---- from members to chains
-
-Chain-join : (R : ℕ → ℕ → Type 0) (a b p q r : ℕ) → Chain R a p q → Chain R b q r → Chain R (a + b) p r
-Chain-join R zero b p q r same chain = let none : 0 + b ≡ b = omega arith in rw none (subst (λ (x : ℕ). Chain R b x r) (sym same) chain)
-Chain-join R (suc a) b p q r first chain = let shift : suc a + b ≡ suc (a + b) = omega arith in rw shift (first.0, first.1, Chain-join R a b first.0 q r first.2 chain)
-
-pub Reaches-join : (R : ℕ → ℕ → Type 0) (p q r : ℕ) → Reaches R p q → Reaches R q r → Reaches R p r
-Reaches-join R p q r first second = (first.0 + second.0, Chain-join R first.0 second.0 p q r first.1 second.1)
 
 module _ (g : Grouping) (well : IsWell g) (graph : List (List ℕ)) (has : IsGraphOf g graph) where
   led : (from to : ℕ) → Contains (edges_in g) (edge from to) → Reaches (Leads graph) from to

@@ -1,5 +1,5 @@
 -- The numbers of one name, and the first service block that is doubled, name by name.
-use Rattle.std.proofs.Common.{◌≡◌, ℕ, zero, suc, ◌+◌, ◌<◌, ◌≤◌, Bool, true, false, not, cond, List, [], ◌∷◌, ◌++◌, length, map, filter, get_or, Option, Some, None, refl, sym, ap, subst, eqb, eqb-true, eq-eqb, ⊎_elim, ◌∙◌, ◌⊎◌, inl, inr, arith, lt-ltb}
+use Rattle.std.proofs.Common.{◌≡◌, ℕ, ◌+◌, ◌<◌, ◌≤◌, Bool, true, false, cond, List, [], ◌∷◌, ◌++◌, length, map, filter, get_or, Option, Some, None, refl, sym, ap, subst, eqb, eqb-true, eq-eqb, ⊎_elim, ◌∙◌, ◌⊎◌, inl, inr, arith, lt-ltb}
 use Rattle.std.specs.Prelude.{All, AllPairs, Contains, ◌^◌, slice_index_or}
 use Rattle.std.specs.List.{position_or_len, range_with_len}
 use Rattle.std.specs.Option.{IfSome, option_map_or, option_to_list}
@@ -21,42 +21,10 @@ use Rattle.object_reader.specs.declared.block.BlockKind.TheVariants.{Service}
 use Rattle.object_services.specs.Alike.{alike, is_alike, IsDoubledBelow, lower, SharesAmong}
 use Rattle.object_services.specs.Doubled.{description_of, IsDoubled, IsFirstOf}
 use Rattle.object_services.proofs.DoubledLemmas.{first-lower, first-same}
-use Rattle.lemmas.proofs.Elements.{Contains-cases, Contains-from_range, Contains-here, Contains-later, Contains-none, Contains-range}
-
--- ---- what a filter keeps
-
-filter-keeps : (p : ℕ → Bool) (xs : List ℕ) (k : ℕ) → Contains xs k → p k ≡ true → Contains (filter p xs) k
-filter-keeps p [] k at is = absurd (Contains-none k at)
-filter-keeps p (x ∷ xs) k at is = by_head (λ later. filter-keeps p xs k later is) (p x) refl (Contains-cases x k xs at)
-  where
-    by_head : (Contains xs k → Contains (filter p xs) k) → (b : Bool) → p x ≡ b → (x ≡ k) ⊎ Contains xs k → Contains (cond b (x ∷ filter p xs) (filter p xs)) k
-    by_head rest true passes (inl here) = subst (λ y. Contains (x ∷ filter p xs) y) here (Contains-here x (filter p xs))
-    by_head rest true passes (inr later) = Contains-later x k (filter p xs) (rest later)
-    by_head rest false fails (inl here) = absurd (false≢true (sym fails ∙ ap p here ∙ is))
-    by_head rest false fails (inr later) = rest later
-
-filter-within : (p : ℕ → Bool) (xs : List ℕ) (k : ℕ) → Contains (filter p xs) k → Contains xs k × (p k ≡ true)
-filter-within p [] k at = absurd (Contains-none k at)
-filter-within p (x ∷ xs) k at = by_head (λ rest. let more = filter-within p xs k rest in (Contains-later x k xs more.0, more.1)) (p x) refl at
-  where
-    by_head : (Contains (filter p xs) k → Contains (x ∷ xs) k × (p k ≡ true)) → (b : Bool) → p x ≡ b
-        → Contains (cond b (x ∷ filter p xs) (filter p xs)) k → Contains (x ∷ xs) k × (p k ≡ true)
-    by_head rest true passes here = ⊎_elim
-        (λ (same : x ≡ k). (subst (λ y. Contains (x ∷ xs) y) same (Contains-here x xs), ap p (sym same) ∙ passes))
-        (λ (later : Contains (filter p xs) k). rest later)
-        (Contains-cases x k (filter p xs) here)
-    by_head rest false fails here = rest here
+use Rattle.lemmas.proofs.Elements.{Contains-filter, Contains-from_filter, Contains-from_range, Contains-range}
+use Rattle.lemmas.proofs.Searches.{place-le}
 
 -- ---- the first place of a name
-
-place-le : (p : List ℕ → Bool) (xs : List (List ℕ)) (i : ℕ) (d : List ℕ) → i < length xs → p (get_or xs i d) ≡ true → position_or_len p xs ≤ i
-place-le p [] i d within is = absurd (omega (arith, within))
-place-le p (x ∷ xs) zero d within is = let none = ap (λ (b : Bool). cond (not b) (1 + position_or_len p xs) 0) is in omega (arith, none)
-place-le p (x ∷ xs) (suc i) d within is =
-    elim (p x) as (λ b. cond (not b) (1 + position_or_len p xs) 0 ≤ suc i) [
-      | true ↦ omega arith
-      | false ↦ let few = place-le p xs i d (omega (arith, within)) is in omega (arith, few)
-    ]
 
 -- each name has a number
 pub numbered : (names : List (List ℕ)) (n : ℕ) → n < length names → (first : ℕ) × (first < length names) × (number_of names (slice_index_or names n []) ≡ Some first)
@@ -87,7 +55,7 @@ pub alike-rising : (names : List (List ℕ)) (first : ℕ) → AllPairs (λ m n.
 alike-rising names first = AllPairs-filter (λ m n. m < n) (is_alike names first) (range_with_len 0 (length names)) (range_increases 0 (length names))
 
 pub alike-within : (names : List (List ℕ)) (first n : ℕ) → Contains (alike names first) n → n < length names
-alike-within names first n at = Contains-from_range (length names) n (filter-within (is_alike names first) (range_with_len 0 (length names)) n at).0
+alike-within names first n at = Contains-from_range (length names) n (Contains-from_filter (is_alike names first) (range_with_len 0 (length names)) n at).0
 
 -- each of them is a number of the names
 pub alike-all : (names : List (List ℕ)) (first : ℕ) (group : List ℕ) (count : ℕ) → group ≡ alike names first → count ≡ length names → All (λ n. n < count) group
@@ -144,8 +112,8 @@ module _ (blocks : List Block) (bound : ℕ) where
 
   to_name : (n : ℕ) → SharesAmong blocks (alike names bound) n → OfName n
   to_name n shares =
-      let is = alike-is names bound n (filter-within (is_alike names bound) (range_with_len 0 (length names)) n shares.0).1 in
-      let also = alike-is names bound shares.1.0 (filter-within (is_alike names bound) (range_with_len 0 (length names)) shares.1.0 shares.1.2).1 in (
+      let is = alike-is names bound n (Contains-from_filter (is_alike names bound) (range_with_len 0 (length names)) n shares.0).1 in
+      let also = alike-is names bound shares.1.0 (Contains-from_filter (is_alike names bound) (range_with_len 0 (length names)) shares.1.0 shares.1.2).1 in (
         record {
           within = alike-within names bound n shares.0;
           earlier = shares.1.0;
@@ -162,11 +130,11 @@ module _ (blocks : List Block) (bound : ℕ) where
       let before = doubled.before in
       let within = doubled.within in
       let low : doubled.earlier < length names = omega (arith, before, within) in (
-        filter-keeps (is_alike names bound) (range_with_len 0 (length names)) n (Contains-range (length names) n within) (is-alike names bound n of_name.1),
+        Contains-filter (is_alike names bound) (range_with_len 0 (length names)) n (Contains-range (length names) n within) (is-alike names bound n of_name.1),
         (
           doubled.earlier,
           before,
-          filter-keeps (is_alike names bound) (range_with_len 0 (length names)) doubled.earlier (Contains-range (length names) doubled.earlier low)
+          Contains-filter (is_alike names bound) (range_with_len 0 (length names)) doubled.earlier (Contains-range (length names) doubled.earlier low)
               (is-alike names bound doubled.earlier (ap (number_of names) doubled.same ∙ of_name.1)),
           doubled.shared,
         ),

@@ -2,7 +2,7 @@
 use Rattle.std.proofs.Common.{◌≡◌, ℕ, zero, suc, ◌+◌, ◌<◌, ◌≤◌, Bool, true, false, cond, ◌||◌, List, [], ◌∷◌, length, take, get_or, Option, Some, None, refl, sym, ap, subst, eqb, eqb-true, eq-eqb, ⊎_elim, ◌∙◌, ◌⊎◌, inl, inr, arith, leb-false, leb-true}
 use Rattle.std.specs.Prelude.{AllPairs, Contains, nat_le}
 use Rattle.std.specs.List.{list_any}
-use Rattle.std.proofs.lemmas.Bool.{cases_lt, false≢true}
+use Rattle.std.proofs.lemmas.Bool.{cases_lt, false≢true, or_right}
 use Rattle.std.proofs.lemmas.Cmp.{nat_eq_equiv}
 use Rattle.std.proofs.lemmas.List.{take_more}
 use Rattle.std.proofs.lemmas.List.Elements.{Contains-append_left, Contains-append_right, Contains-append_cases}
@@ -54,10 +54,6 @@ any-from p (y ∷ ys) x at is = by_head (λ later. any-from p ys x later is) (p 
     by_head rest true passes either = refl
     by_head rest false fails (inl here) = absurd (false≢true (sym fails ∙ ap p here ∙ is))
     by_head rest false fails (inr later) = rest later
-
-or-true : (a b : Bool) → b ≡ true → (a || b) ≡ true
-or-true true b is = refl
-or-true false b is = is
 
 -- a host more that is there
 pub there-more : (old new first : Bool) (xs : List ℕ) (i d host : ℕ) → i < length xs → old ≡ (first || list_any (eqb host) (take i xs)) → new ≡ cond (eqb (get_or xs i d) host) true old
@@ -217,7 +213,7 @@ module _ (blocks : List Block) (ms : List ℕ) (rising : AllPairs (λ m n. m < n
       from : (host : ℕ) → (n : ℕ) × Contains (take (i + 1) ms) n × HasHost blocks (place_of blocks n) host → (seen host || list_any (eqb host) hosts) ≡ true
       from host some = ⊎_elim
           (λ (front : Contains (take i ms) some.0). ap (λ (b : Bool). b || list_any (eqb host) hosts) ((scanned.has host).1 (some.0, front, some.2)))
-          (λ (here : last ≡ some.0). or-true (seen host) _ (any-from (eqb host) hosts host
+          (λ (here : last ≡ some.0). or_right (seen host) _ (any-from (eqb host) hosts host
           ((are.exactly host).1 (subst (λ m. HasHost blocks (place_of blocks m) host) (sym here) some.2)) (eq-eqb host host refl)))
           (front-more ms i d some.0 within some.1)
 

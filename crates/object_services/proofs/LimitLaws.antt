@@ -1,105 +1,30 @@
 -- How many objects the blocks below a place give, and where they pass the limit.
-use Rattle.std.proofs.Common.{◌≡◌, ℕ, zero, suc, ◌+◌, ◌<◌, ◌≤◌, Bool, true, false, cond, List, [], ◌∷◌, ◌++◌, length, refl, sym, ap, subst, ◌∙◌, ◌⊎◌, inl, inr, ⊎_elim, arith}
-use Rattle.std.specs.Prelude.{AllPairs, Contains, ◌↔◌}
-use Rattle.std.specs.List.{AllZip, sum_by}
+use Rattle.std.proofs.Common.{◌≡◌, ℕ, zero, suc, ◌+◌, ◌<◌, ◌≤◌, Bool, true, false, cond, List, length, refl, sym, ap, subst, ◌∙◌, ◌⊎◌, ⊎_elim, arith}
+use Rattle.std.specs.List.{sum_by}
 use Rattle.std.proofs.lemmas.Bool.{cases_lt}
 use Rattle.std.proofs.lemmas.List.{append-nil}
-use Rattle.std.proofs.lemmas.List.Elements.{All-contains}
-use Rattle.std.proofs.lemmas.List.Kept.{AllPairs-from_increasing}
-use Rattle.lemmas.proofs.Elements.{Contains-cases, Contains-here, Contains-later, Contains-none}
-use Rattle.lemmas.proofs.Lists.{AllPairs-head, AllPairs-tail}
+use Rattle.lemmas.proofs.Zips.{without-last}
+use Rattle.lemmas.proofs.Numbers.{sum-more}
 use Rattle.object_groups.specs.Objects.{is_object_at}
-use Rattle.object_listing.specs.Listing.{AreThose}
 use Rattle.object_reader.specs.declared.block.Block.{Block}
 use Rattle.object_reader.specs.declared.block.BlockKind.TheVariants.{Host, Service}
-use Rattle.object_services.specs.Hosts.{AreHosts, HasHost}
+use Rattle.object_services.specs.Hosts.{AreHosts}
 use Rattle.object_services.specs.Limits.{AreHostLists, AreWithinLimit, GiveObjects, objects_below, PassesLimit, PassesNowhere}
-use Rattle.object_services.proofs.LimitLemmas.{below-more, counted-more, sum-more}
-
--- ---- numbers that rise
-
-abbrev pub Rises : List ℕ → Type 0
-Rises xs = AllPairs (λ m n. m < n) xs
-
-above : (x : ℕ) (xs : List ℕ) (k : ℕ) → Rises (x ∷ xs) → Contains xs k → x < k
-above x xs k rising at = All-contains (λ n. x < n) xs k (AllPairs-head (λ m n. m < n) x xs rising) at
-
--- two lists of the same numbers that rise are one
-pub rising-one : (xs ys : List ℕ) → Rises xs → Rises ys → ((k : ℕ) → Contains xs k ↔ Contains ys k) → xs ≡ ys
-rising-one [] [] one other same = refl
-rising-one [] (y ∷ ys) one other same = absurd (Contains-none y ((same y).1 (Contains-here y ys)))
-rising-one (x ∷ xs) [] one other same = absurd (Contains-none x ((same x).0 (Contains-here x xs)))
-rising-one (x ∷ xs) (y ∷ ys) one other same =
-    ap (λ (n : ℕ). n ∷ xs) head ∙ ap (λ (ns : List ℕ). y ∷ ns)
-    (rising-one xs ys (AllPairs-tail (λ m n. m < n) x xs one) (AllPairs-tail (λ m n. m < n) y ys other) (λ k. (to k, from k)))
-  where
-    head : x ≡ y
-    head = by_both (Contains-cases y x ys ((same x).0 (Contains-here x xs))) (Contains-cases x y xs ((same y).1 (Contains-here y ys)))
-      where
-        by_both : (y ≡ x) ⊎ Contains ys x → (x ≡ y) ⊎ Contains xs y → x ≡ y
-        by_both (inl here) there = sym here
-        by_both (inr later) (inl here) = here
-        by_both (inr later) (inr further) = let low = above y ys x other later in let high = above x xs y one further in absurd (omega (arith, low, high))
-
-    to : (k : ℕ) → Contains xs k → Contains ys k
-    to k at = ⊎_elim
-        (λ (here : y ≡ k). let low = above x xs k one at in absurd (omega (arith, low, here, head)))
-        (λ (later : Contains ys k). later)
-        (Contains-cases y k ys ((same k).0 (Contains-later x k xs at)))
-
-    from : (k : ℕ) → Contains ys k → Contains xs k
-    from k at = ⊎_elim
-        (λ (here : x ≡ k). let low = above y ys k other at in absurd (omega (arith, low, here, head)))
-        (λ (later : Contains xs k). later)
-        (Contains-cases x k xs ((same k).1 (Contains-later y k ys at)))
-
-pub those-one : (P : ℕ → Type 0) (xs ys : List ℕ) → AreThose P xs → AreThose P ys → xs ≡ ys
-those-one P xs ys one other =
-    rising-one xs ys (AllPairs-from_increasing xs one.rising) (AllPairs-from_increasing ys other.rising)
-    (λ k. ((λ at. (other.exactly k).1 ((one.exactly k).0 at)), (λ at. (one.exactly k).1 ((other.exactly k).0 at))))
+use Rattle.object_services.proofs.LimitLemmas.{below-more, counted-more}
+use Rattle.object_services.specs.HostLaws.{hosts-one}
 
 -- ---- the hosts of the same blocks
-
-pub lists-one : (blocks : List Block) (places : List ℕ) (one other : List (List ℕ)) → AreHostLists blocks places one → AreHostLists blocks places other → one ≡ other
-lists-one blocks [] [] [] a b = refl
-lists-one blocks [] [] (y ∷ ys) a b = absurd b
-lists-one blocks [] (x ∷ xs) ys a b = absurd a
-lists-one blocks (p ∷ ps) [] ys a b = absurd a
-lists-one blocks (p ∷ ps) (x ∷ xs) [] a b = absurd b
-lists-one blocks (p ∷ ps) (x ∷ xs) (y ∷ ys) a b =
-    ap (λ (hosts : List ℕ). hosts ∷ xs) (those-one (HasHost blocks p) x y a.0 b.0) ∙ ap (λ (lists : List (List ℕ)). y ∷ lists) (lists-one blocks ps xs ys a.1 b.1)
 
 -- the count is the sum, so there is one
 pub count-is_sum : (blocks : List Block) (place count : ℕ) (lists : List (List ℕ)) → GiveObjects blocks place count → AreHostLists blocks (objects_below blocks Service place) lists
     → count ≡ length (objects_below blocks Host place) + sum_by length lists
 count-is_sum blocks place count lists given are =
-    given.2 ∙ ap (λ (ls : List (List ℕ)). length (objects_below blocks Host place) + sum_by length ls) (lists-one blocks (objects_below blocks Service place) given.0 lists given.1 are)
+    given.2 ∙ ap (λ (ls : List (List ℕ)). length (objects_below blocks Host place) + sum_by length ls) (hosts-one blocks (objects_below blocks Service place) given.0 lists given.1 are)
 
 count-one : (blocks : List Block) (place one other : ℕ) → GiveObjects blocks place one → GiveObjects blocks place other → one ≡ other
 count-one blocks place one other a b = count-is_sum blocks place one b.0 a b.1 ∙ sym b.2
 
 -- ---- one block less
-
--- without the last
-record WithoutLast {X Y : Type 0} (R : X → Y → Type 0) (xs : List X) (ys : List Y) : Type 0 where
-  pub first : List Y
-  pub last : Y
-  pub are : ys ≡ first ++ last ∷ []
-  pub all : AllZip R xs first
-
-without-last : {X Y : Type 0} (R : X → Y → Type 0) (xs : List X) (x : X) (ys : List Y) → AllZip R (xs ++ x ∷ []) ys → WithoutLast R xs ys
-without-last R [] x [] all = absurd all
-without-last R [] x (y ∷ []) all = record { first = []; last = y; are = refl; all = tt }
-without-last R [] x (y ∷ z ∷ ys) all = absurd all.1
-without-last R (w ∷ xs) x [] all = absurd all
-without-last R (w ∷ xs) x (y ∷ ys) all =
-    let rest = without-last R xs x ys all.1 in
-    record {
-      first = y ∷ rest.first;
-      last = rest.last;
-      are = ap (λ zs. y ∷ zs) rest.are;
-      all = (all.0, rest.all);
-    }
 
 pub one-less : (blocks : List Block) (place count : ℕ) → GiveObjects blocks (place + 1) count → (less : ℕ) × GiveObjects blocks place less × (less ≤ count)
 one-less blocks place count given = by_kind (is_object_at blocks Service place) refl

@@ -1,30 +1,19 @@
 -- The hosts of the service blocks so far, and how many objects there are.
-use Rattle.std.proofs.Common.{◌≡◌, ℕ, ◌+◌, ◌<◌, ◌≤◌, Bool, true, false, cond, List, [], ◌∷◌, ◌++◌, length, Option, Some, refl, sym, ap, subst, ◌∙◌, arith}
+use Rattle.std.proofs.Common.{◌≡◌, ℕ, ◌+◌, ◌<◌, ◌≤◌, Bool, true, false, cond, List, [], ◌∷◌, ◌++◌, length, Some, refl, sym, ap, subst, ◌∙◌, arith}
 use Rattle.std.specs.Prelude.{slice_get}
-use Rattle.std.specs.List.{AllZip, sum_by}
-use Rattle.std.specs.Option.{option_map_or}
+use Rattle.std.specs.List.{sum_by}
 use Rattle.std.proofs.lemmas.List.{append-nil, length-append}
-use Rattle.std.proofs.lemmas.List.Sums.{sum_by-append, sum_by-cons}
 use Rattle.lemmas.proofs.Lists.{filter_range_more}
+use Rattle.lemmas.proofs.Zips.{zip-more}
+use Rattle.lemmas.proofs.Numbers.{sum-more}
 use Rattle.due_model.specs.Limits.{max_objects}
 use Rattle.object_groups.specs.Objects.{is_object, is_object_at, objects_in}
+use Rattle.object_groups.specs.ObjectLaws.{object-at}
 use Rattle.object_reader.specs.declared.block.Block.{Block}
 use Rattle.object_reader.specs.declared.block.BlockKind.{BlockKind}
 use Rattle.object_reader.specs.declared.block.BlockKind.TheVariants.{Host, Service}
 use Rattle.object_services.specs.Hosts.{AreHosts}
 use Rattle.object_services.specs.Limits.{AreHostLists, AreWithinLimit, GiveObjects, IsFirstOver, IsSoFar, Noted, objects_below}
-
-lists-more : {X Y : Type 0} (R : X → Y → Type 0) (xs : List X) (ys : List Y) (x : X) (y : Y) → AllZip R xs ys → R x y → AllZip R (xs ++ x ∷ []) (ys ++ y ∷ [])
-lists-more R [] [] x y all more = (more, tt)
-lists-more R [] (z ∷ ys) x y all more = absurd all
-lists-more R (w ∷ xs) [] x y all more = absurd all
-lists-more R (w ∷ xs) (z ∷ ys) x y all more = (all.0, lists-more R xs ys x y all.1 more)
-
-pub sum-more : (lists : List (List ℕ)) (hosts : List ℕ) → sum_by length (lists ++ hosts ∷ []) ≡ sum_by length lists + length hosts
-sum-more lists hosts =
-    let all = sum_by-append length lists (hosts ∷ []) in
-    let one = sum_by-cons length hosts [] in
-    omega (arith, all, one)
 
 pub below-more : (blocks : List Block) (kind : BlockKind) (place : ℕ) (b : Bool) → is_object_at blocks kind place ≡ b
     → objects_below blocks kind (place + 1) ≡ objects_below blocks kind place ++ cond b (place ∷ []) []
@@ -47,7 +36,7 @@ module _ (blocks : List Block) (place : ℕ) (old new : List (List ℕ)) (count 
       record {
         listed = subst (λ (places : List ℕ). AreHostLists blocks places new) (sym (below-more blocks Service place true service))
             (subst (λ (lists : List (List ℕ)). AreHostLists blocks (objects_below blocks Service place ++ place ∷ []) lists) (sym noted.2)
-            (lists-more (AreHosts blocks) (objects_below blocks Service place) old place noted.0 before.listed noted.1));
+            (zip-more (AreHosts blocks) (objects_below blocks Service place) old place noted.0 before.listed noted.1));
         counted = omega (arith, hosts_more, sum_is, counted, many);
       }
   so-far h false host service before noted =
@@ -62,9 +51,6 @@ module _ (blocks : List Block) (place : ℕ) (old new : List (List ℕ)) (count 
       }
 
 -- ---- a block at its place
-
-pub object-at : (blocks : List Block) (kind : BlockKind) (place : ℕ) (x : Block) (b : Bool) → slice_get blocks place ≡ Some x → b ≡ is_object kind x → is_object_at blocks kind place ≡ b
-object-at blocks kind place x b here is = ap (λ (found : Option Block). option_map_or (is_object kind) found false) here ∙ sym is
 
 pub none-yet : (blocks : List Block) → IsSoFar blocks 0 [] 0
 none-yet blocks = record { listed = tt; counted = refl }

@@ -5,7 +5,7 @@ use Rattle.std.specs.List.{flat_map, range_with_len}
 use Rattle.std.specs.Map.{lookup}
 use Rattle.std.specs.Option.{option_or}
 use Rattle.std.specs.Str.{bytes_eq}
-use Rattle.std.proofs.lemmas.Bool.{false≢true}
+use Rattle.std.proofs.lemmas.Bool.{and_parts}
 use Rattle.std.proofs.lemmas.Cmp.{nat_list_eq_equiv}
 use Rattle.std.specs.HashMap.Eq.{lookup_congr}
 use Rattle.std.proofs.lemmas.List.{append-nil, map-append, take_more}
@@ -13,13 +13,9 @@ use Rattle.lemmas.proofs.Numbers.{flat_range_more}
 use Rattle.lemmas.proofs.Searches.{is_none-from, or-none, or-some, position-snoc}
 use Rattle.object_services.specs.Numbers.{HasPlaces, is_pair, Key, key_eq, Pair, pairs_in, service_number}
 
-and-true : (a b : Bool) → (a && b) ≡ true → (a ≡ true) × (b ≡ true)
-and-true true b is = (refl, is)
-and-true false b is = absurd (false≢true is)
-
 key_alike : (x y z : Key) → key_eq x y ≡ true → key_eq x z ≡ key_eq y z
 key_alike x y z is =
-    let both = and-true (eqb x.0 y.0) (bytes_eq x.1.now y.1.now) is in
+    let both = and_parts (eqb x.0 y.0) (bytes_eq x.1.now y.1.now) is in
     ap (λ (n : ℕ). eqb n z.0 && bytes_eq x.1.now z.1.now) (eqb-true x.0 y.0 both.0)
     ∙ ap (λ (b : Bool). eqb y.0 z.0 && b) (nat_list_eq_equiv.congr x.1.now y.1.now z.1.now both.1)
 

@@ -1,7 +1,7 @@
 -- The first service block with an entry that nothing has, list by list.
 use Rattle.std.proofs.Common.{◌≡◌, ℕ, zero, suc, ◌+◌, ◌<◌, ◌≤◌, Bool, true, false, ◌||◌, List, [], ◌∷◌, length, take, get_or, Option, Some, None, refl, sym, ap, subst, ⊎_elim, ◌∙◌, ◌⊎◌, inl, inr, arith, Bor}
 use Rattle.std.specs.List.{list_any}
-use Rattle.std.proofs.lemmas.Bool.{cases_lt, false≢true}
+use Rattle.std.proofs.lemmas.Bool.{cases_lt, false≢true, or_cases, or_left, or_right}
 use Rattle.lemmas.proofs.Searches.{any-more}
 use Rattle.object_groups.specs.Objects.{list_at, names_in, objects_in, ObjectsOf}
 use Rattle.object_inheritance.specs.Columns.{Column}
@@ -14,18 +14,6 @@ use Rattle.object_services.specs.Unknown.{is_unknown, IsBlockWith}
 use Rattle.object_values.specs.Values.{texts}
 use Rattle.object_services.proofs.DoubledLemmas.{first-lower, first-same}
 
-either-true : (a b : Bool) → (a || b) ≡ true → (a ≡ true) ⊎ (b ≡ true)
-either-true true b is = inl refl
-either-true false b is = inr is
-
-left-true : (a b : Bool) → a ≡ true → (a || b) ≡ true
-left-true true b is = refl
-left-true false b is = absurd (false≢true is)
-
-right-true : (a b : Bool) → b ≡ true → (a || b) ≡ true
-right-true true b is = refl
-right-true false b is = is
-
 -- the first by one list or by another
 pub first-of-both : (blocks : List Block) (p q : ℕ → Bool) (first second found : Option ℕ) → found ≡ lower first second
     → IsFirstOf (IsBlockWith blocks p) first → IsFirstOf (IsBlockWith blocks q) second → IsFirstOf (IsBlockWith blocks (λ place. p place || q place)) found
@@ -35,14 +23,14 @@ first-of-both blocks p q first second found is fp fq =
     (first-lower (IsBlockWith blocks p) (IsBlockWith blocks q) first second fp fq))
   where
     to : (n : ℕ) → IsBlockWith blocks p n ⊎ IsBlockWith blocks q n → IsBlockWith blocks (λ place. p place || q place) n
-    to n (inl one) = (one.0, left-true (p (place_of blocks n)) (q (place_of blocks n)) one.1)
-    to n (inr other) = (other.0, right-true (p (place_of blocks n)) (q (place_of blocks n)) other.1)
+    to n (inl one) = (one.0, or_left (p (place_of blocks n)) (q (place_of blocks n)) one.1)
+    to n (inr other) = (other.0, or_right (p (place_of blocks n)) (q (place_of blocks n)) other.1)
 
     from : (n : ℕ) → IsBlockWith blocks (λ place. p place || q place) n → IsBlockWith blocks p n ⊎ IsBlockWith blocks q n
     from n both = ⊎_elim
         (λ (one : p (place_of blocks n) ≡ true). inl (both.0, one))
         (λ (other : q (place_of blocks n) ≡ true). inr (both.0, other))
-        (either-true (p (place_of blocks n)) (q (place_of blocks n)) both.1)
+        (or_cases (p (place_of blocks n)) (q (place_of blocks n)) both.1)
 
 -- ---- one list
 

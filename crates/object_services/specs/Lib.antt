@@ -6,3 +6,4 @@ pub mod Doubled
 pub mod Alike
 pub mod Unknown
 pub mod Numbers
+pub mod HostLaws

@@ -1,10 +1,10 @@
 -- The objects that came so far, and all objects.
-use Rattle.std.proofs.Common.{◌≡◌, ℕ, zero, suc, ◌+◌, ◌<◌, ◌≤◌, List, [], ◌∷◌, ◌++◌, append_assoc, length, map, take, get_or, None, Some, refl, sym, ap, subst, ◌∙◌, arith}
+use Rattle.std.proofs.Common.{◌≡◌, ℕ, zero, suc, ◌+◌, ◌<◌, ◌≤◌, List, [], ◌∷◌, ◌++◌, append_assoc, length, map, take, get_or, None, Some, sym, ap, subst, ◌∙◌, arith}
 use Rattle.std.specs.Prelude.{slice_get, slice_index_or}
 use Rattle.std.specs.List.{AllZip, flat_map, range_with_len, sum_by}
-use Rattle.std.proofs.lemmas.List.{append-nil, get_or-map, length-append, length-map, take_all, take_more}
-use Rattle.std.proofs.lemmas.List.Sums.{sum_by-append, sum_by-cons}
+use Rattle.std.proofs.lemmas.List.{append-nil, get_or-map, take_all, take_more}
 use Rattle.lemmas.proofs.Numbers.{flat_range_more}
+use Rattle.lemmas.proofs.Zips.{zip-append, zip-map}
 use Rattle.due_model.specs.Limits.{max_objects}
 use Rattle.due_model.specs.Objects.{object_id}
 use Rattle.due_model.specs.declared.config.Object.{Object}
@@ -17,7 +17,8 @@ use Rattle.object_services.specs.Limits.{AreHostLists}
 use Rattle.object_settings.specs.Own.{AddsObjects, AddsServices, IsHostTaken, IsOwn, IsOwnOfHost, IsServiceTaken, IsTaken}
 use Rattle.object_settings.specs.Settings.{AreObjectsOf, block_origins, host_origins, IsObjectOf, Origin, service_origins}
 use Rattle.object_settings.specs.declared.own.Own.{Own}
-use Rattle.object_settings.proofs.OwnLemmas.{host-is, service-is, zip-append, zip-long, zip-map, zip-through}
+use Rattle.object_settings.proofs.OwnLemmas.{host-is, service-is, zip-through}
+use Rattle.object_settings.specs.ObjectLaws.{object-count}
 use Rattle.object_values.specs.declared.options.OptionKind.TheVariants as lists
 
 -- ---- what comes to a list
@@ -91,29 +92,6 @@ all-objects blocks hosts owns first all gives taken adds =
     (zip-through (λ place. record { place = place; host = None }) (IsOwnOfHost blocks) IsHostTaken (IsObjectOf blocks) (λ place own object. host-is blocks place own object)
     (objects_in blocks Host) owns first gives taken)
     adds.all)
-
--- how many they are
-service-count : (blocks : List Block) (hosts : List (List ℕ)) (k : ℕ) → k ≤ length hosts
-    → length (flat_map (block_origins blocks hosts) (range_with_len 0 k)) ≡ sum_by length (take k hosts)
-service-count blocks hosts zero low = refl
-service-count blocks hosts (suc k) low =
-    let same : suc k ≡ k + 1 = omega arith in
-    let before = service-count blocks hosts k (omega (arith, low)) in
-    let more = ap length (flat_range_more (block_origins blocks hosts) k) ∙ length-append (flat_map (block_origins blocks hosts) (range_with_len 0 k)) (block_origins blocks hosts k) in
-    let own = length-map {B = Origin} (slice_index_or hosts k []) (λ host. record { place = slice_index_or (objects_in blocks Service) k 0; host = Some host }) in
-    let taken = ap (sum_by length) (take_more hosts k [] (omega (arith, low))) ∙ sum_by-append length (take k hosts) (get_or hosts k [] ∷ []) in
-    let one = sum_by-cons length (get_or hosts k []) [] in
-    subst (λ (n : ℕ). length (flat_map (block_origins blocks hosts) (range_with_len 0 n)) ≡ sum_by length (take n hosts)) (sym same)
-    (omega (arith, before, more, own, taken, one))
-
-pub object-count : (blocks : List Block) (hosts : List (List ℕ)) (objects : List Object) → AreObjectsOf blocks hosts objects
-    → length objects ≡ length (objects_in blocks Host) + sum_by length hosts
-object-count blocks hosts objects are =
-    let long = zip-long (IsObjectOf blocks) (host_origins blocks ++ service_origins blocks hosts) objects are in
-    let both = length-append (host_origins blocks) (service_origins blocks hosts) in
-    let first = length-map {B = Origin} (objects_in blocks Host) (λ place. record { place = place; host = None }) in
-    let second = service-count blocks hosts (length hosts) (omega arith) ∙ ap (sum_by length) (take_all (length hosts) hosts (omega arith)) in
-    omega (arith, long, both, first, second)
 
 -- ---- what was read
 

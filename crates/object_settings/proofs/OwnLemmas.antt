@@ -1,17 +1,17 @@
 -- What a block gives, and the objects made of it.
-use Rattle.std.proofs.Common.{◌≡◌, ℕ, zero, suc, ◌<◌, Bool, true, false, cond, List, [], ◌∷◌, ◌++◌, length, map, get_or, Option, None, Some, refl, sym, ap, subst, ◌∙◌, arith}
+use Rattle.std.proofs.Common.{◌≡◌, ℕ, zero, suc, ◌<◌, Bool, true, false, cond, List, [], ◌∷◌, length, map, get_or, Option, None, Some, refl, sym, ap, subst, ◌∙◌, arith}
 use Rattle.std.specs.Prelude.{All, codes, slice_get, slice_index_or, unwrap_or}
 use Rattle.std.specs.List.{AllZip}
-use Rattle.std.proofs.lemmas.List.{length-map}
 use Rattle.std.proofs.lemmas.List.Elements.{All-from_get_or, Contains-get_or}
+use Rattle.std.proofs.lemmas.Slice.Zip.{AllZip-long}
 use Rattle.due_model.specs.declared.config.ContactId.{ContactId}
 use Rattle.due_model.specs.declared.config.Object.{Object}
 use Rattle.due_model.specs.declared.config.PeriodId.{PeriodId}
 use Rattle.object_groups.specs.Objects.{name_at, names_in, objects_in}
+use Rattle.object_groups.specs.ObjectLaws.{names-long}
 use Rattle.object_listing.specs.Laws.{ListedAreObjects}
 use Rattle.object_listing.specs.Listing.{AreThose, contact_directives, gives_neither, host_directives, IsListed}
 use Rattle.object_reader.specs.declared.block.Block.{Block}
-use Rattle.object_reader.specs.declared.block.BlockKind.{BlockKind}
 use Rattle.object_reader.specs.declared.block.BlockKind.TheVariants.{Host, Service, TimePeriod}
 use Rattle.object_readings.specs.Readings.{own_number, own_period}
 use Rattle.object_services.specs.Hosts.{AreHosts}
@@ -71,25 +71,6 @@ zip-through f R S T each (x ∷ xs) (y ∷ ys) [] first second = absurd second
 zip-through f R S T each (x ∷ xs) (y ∷ ys) (z ∷ zs) first second =
     (each x y z first.0 second.0, zip-through f R S T each xs ys zs first.1 second.1)
 
-pub zip-map : {X Z W : Type 0} (f : X → W) (R : X → Z → Type 0) (T : W → Z → Type 0) → ((x : X) (z : Z) → R x z → T (f x) z)
-    → (xs : List X) (zs : List Z) → AllZip R xs zs → AllZip T (map f xs) zs
-zip-map f R T each [] [] all = tt
-zip-map f R T each [] (z ∷ zs) all = absurd all
-zip-map f R T each (x ∷ xs) [] all = absurd all
-zip-map f R T each (x ∷ xs) (z ∷ zs) all = (each x z all.0, zip-map f R T each xs zs all.1)
-
-pub zip-append : {X Y : Type 0} (R : X → Y → Type 0) (xs zs : List X) (ys ws : List Y) → AllZip R xs ys → AllZip R zs ws → AllZip R (xs ++ zs) (ys ++ ws)
-zip-append R [] zs [] ws first second = second
-zip-append R [] zs (y ∷ ys) ws first second = absurd first
-zip-append R (x ∷ xs) zs [] ws first second = absurd first
-zip-append R (x ∷ xs) zs (y ∷ ys) ws first second = (first.0, zip-append R xs zs ys ws first.1 second)
-
-pub zip-long : {X Y : Type 0} (R : X → Y → Type 0) (xs : List X) (ys : List Y) → AllZip R xs ys → length ys ≡ length xs
-zip-long R [] [] all = refl
-zip-long R [] (y ∷ ys) all = absurd all
-zip-long R (x ∷ xs) [] all = absurd all
-zip-long R (x ∷ xs) (y ∷ ys) all = ap suc (zip-long R xs ys all.1)
-
 -- at one place
 pub zip-at : {X Y : Type 0} (R : X → Y → Type 0) (xs : List X) (ys : List Y) (i : ℕ) (d : X) (y : Y) → AllZip R xs ys → slice_get ys i ≡ Some y → R (slice_index_or xs i d) y
 zip-at R [] [] i d y all here = cc
@@ -109,10 +90,6 @@ service-is blocks place own hosts number object gives all taken = record {
       (zip-at (IsOwnOfHost blocks) (objects_in blocks Host) hosts number 0 taken.host all taken.here) taken.taken;
 }
 
-names-long : (blocks : List Block) (kind : BlockKind) → length (names_in blocks kind) ≡ length (objects_in blocks kind)
-unfolding names_in
-names-long blocks kind = length-map (objects_in blocks kind) (name_at blocks kind)
-
 -- the hosts of a block are among those of which what they give was found
 pub hosts-within : ListedAreObjects → (blocks : List Block) (place : ℕ) (hosts : List Own) (numbers : List ℕ) → AllZip (IsOwnOfHost blocks) (objects_in blocks Host) hosts
     → AreHosts blocks place numbers → All (λ host. host < length hosts) numbers
@@ -120,5 +97,5 @@ hosts-within law blocks place hosts numbers all are =
     All-from_get_or (λ host. host < length hosts) numbers 0
     (λ i low. let within = law blocks host_directives place (get_or numbers i 0) ((are.exactly (get_or numbers i 0)).0 (Contains-get_or numbers i 0 low)) in
     let names = names-long blocks Host in
-    let long = zip-long (IsOwnOfHost blocks) (objects_in blocks Host) hosts all in
+    let long = AllZip-long (IsOwnOfHost blocks) (objects_in blocks Host) hosts all in
     omega (arith, within, names, long))

@@ -1,3 +1,4 @@
 pub mod Settings
 pub mod Own
 pub mod Laws
+pub mod ObjectLaws

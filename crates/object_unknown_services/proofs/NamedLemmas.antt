@@ -1,21 +1,16 @@
 -- What a block names as services.
-use Rattle.std.proofs.Common.{◌≡◌, ℕ, Bool, true, false, cond, List, [], length, Option, Some, refl, sym, ap, subst, ◌∙◌}
-use Rattle.std.specs.Prelude.{Contains, slice_get}
-use Rattle.std.specs.Option.{option_map_or}
+use Rattle.std.proofs.Common.{◌≡◌, ℕ, Bool, true, false, cond, List, [], length, refl, sym, ap, subst, ◌∙◌}
+use Rattle.std.specs.Prelude.{Contains}
 use Rattle.std.proofs.lemmas.List.{nil_from_length}
 use Rattle.lemmas.proofs.Elements.{Contains-none}
 use Rattle.object_groups.specs.Names.{is_all}
-use Rattle.object_groups.specs.Objects.{is_object, is_object_at, list_at}
+use Rattle.object_groups.specs.Objects.{is_object_at, list_at}
 use Rattle.object_listing.specs.Listing.{AreThose, IsListed}
 use Rattle.object_reached.specs.declared.roles.Role.{Role}
 use Rattle.object_reached.specs.Listed.{of_hosts}
 use Rattle.object_reached.specs.Roles.{directives_of, service_kind}
 use Rattle.object_reader.specs.declared.block.Block.{Block}
-use Rattle.object_reader.specs.declared.block.BlockKind.{BlockKind}
 use Rattle.object_unknown_services.specs.Named.{AreNamed, descriptions_at, descriptions_in, NamesService}
-
-pub object-at : (blocks : List Block) (kind : BlockKind) (place : ℕ) (x : Block) (b : Bool) → slice_get blocks place ≡ Some x → b ≡ is_object kind x → is_object_at blocks kind place ≡ b
-object-at blocks kind place x b here is = ap (λ (found : Option Block). option_map_or (is_object kind) found false) here ∙ sym is
 
 -- ---- the entries of a list
 

@@ -1,5 +1,5 @@
 -- What the answers of a feeder say of the lines of its feed.
-use Rattle.std.proofs.Common.{◌≡◌, ℕ, ◌+◌, ◌≤◌, true, false, cond, ◌||◌, List, [], ◌∷◌, ◌++◌, Option, None, Some, Bool, IfSome, IsErrOf, Ok, Err, refl, sym, ap, subst, ◌∙◌, inl, arith, append_assoc}
+use Rattle.std.proofs.Common.{◌≡◌, ℕ, ◌+◌, ◌≤◌, true, false, cond, ◌||◌, List, [], ◌∷◌, ◌++◌, Option, None, Some, Bool, IfSome, Ok, Err, refl, sym, ap, subst, ◌∙◌, inl, arith, append_assoc}
 use Rattle.std.proofs.lemmas.List.{append-nil}
 use Rattle.std.proofs.lemmas.List.Elements.{All-nil}
 use Rattle.due_model.specs.declared.config.Config.{Config}
@@ -247,10 +247,6 @@ written_less can_fail c zone start before kept now mid after held h front =
       subst (λ all. WritesFront before after all) (sym (h.follows.report more.0))
           (front_longer before after h.text (report_from c zone h.past more.0) (front_less before mid after h.text held h.leaves front)),
     )
-
--- an answer that is Ok is no fault
-pub ok_is_no_fault : {T E : Type 0} (x : T) (fault : E) → IsErrOf (Ok x) fault → ⊥
-ok_is_no_fault x fault h = cc
 
 -- the same of an equal feed
 pub taken_same : (objects : List Object) (past : List Event) (old : Feed) (answer : Answer) (new new' : Feed) → new' ≡ new → TakesAnswer objects past old answer new → TakesAnswer objects past old answer new'

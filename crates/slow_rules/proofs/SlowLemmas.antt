@@ -1,6 +1,6 @@
 -- What the slow program's functions need of the definitions.
 use Rattle.std.proofs.Common.{take, ◌≡◌, ℕ, ◌+◌, ◌<◌, ◌≤◌, List, [], ◌∷◌, ◌++◌, length, reverse, All, get_or, sym, ap, ◌∙◌, arith}
-use Rattle.std.proofs.lemmas.List.Elements.{All-head, All-tail, All-cons}
+use Rattle.std.proofs.lemmas.List.Elements.{All-cons}
 use Rattle.std.proofs.lemmas.List.{reverse-append}
 use Rattle.due_model.specs.declared.config.Config.{Config}
 use Rattle.due_model.specs.declared.config.Object.{Object}
@@ -13,12 +13,7 @@ use Rattle.due_model.specs.Histories.{hist, longer, outcome}
 use Rattle.due_model.specs.Due.{due_for, notices, suppressed_for, suppressions}
 use Rattle.due_model.specs.Readings.{began, moment}
 use Rattle.lemmas.proofs.Lists.{All-reverse, length_past, past_more}
-use Rattle.lemmas.proofs.Beginnings.{began-le-moment}
-
-moment_in_range : (c : Config) (past : List Event) → All (IsProper c) past → moment past ≤ last_moment
-moment_in_range c [] h = omega arith
-moment_in_range c (e ∷ past) h =
-    omega (arith, (All-head (IsProper c) e past h).stamp, moment_in_range c past (All-tail (IsProper c) e past h))
+use Rattle.lemmas.proofs.Beginnings.{began-le-moment, moment_in_range}
 
 pub past_began_in_range : (c : Config) (o : ℕ) (events : List Event) → All (IsProper c) events → began o (reverse events) ≤ last_moment
 past_began_in_range c o events h = omega (arith, began-le-moment o (reverse events), moment_in_range c (reverse events) (All-reverse (IsProper c) events h))

@@ -9,7 +9,6 @@ use Rattle.std.proofs.lemmas.Map.Views.{Contains-from_any}
 use Rattle.std.proofs.lemmas.List.Elements.{All-contains, All-cons, All-nil, All-append, Contains-append_left, Contains-append_right}
 use Rattle.std.proofs.lemmas.Option.{slice_get_within}
 use Rattle.graph.specs.declared.edges.Edge.{Edge}
-use Rattle.graph.specs.Chains.{Chain}
 use Rattle.graph.specs.Edges.{IsWithin, Leads}
 use Rattle.graph_order.specs.Order.{HasLoop, IsOrder}
 use Rattle.due_model.specs.declared.config.Config.{Config}
@@ -17,6 +16,7 @@ use Rattle.due_model.specs.declared.config.Period.{Period}
 use Rattle.due_model.specs.declared.config.PeriodId.{PeriodId}
 use Rattle.due_model.specs.Accepted.{Excludes, IsAccepted, PeriodFits}
 use Rattle.lemmas.proofs.Lists.{All-slice_get}
+use Rattle.lemmas.proofs.Chains.{Chain-map}
 use Rattle.time_period.specs.Exclusions.{InOrder, edges_of, exclusion_edges}
 
 -- an edge is of a period and one that it excludes
@@ -66,10 +66,6 @@ edge_there (q ∷ qs) first (suc p) period x at h =
     let sum : (first + 1) + p ≡ first + suc p = omega arith in
     Contains-append_right (edges_of first q.excludes) (exclusion_edges (first + 1) qs) (record { from = first + suc p; to = x.0 })
     (subst (λ (n : ℕ). Contains (exclusion_edges (first + 1) qs) (record { from = n; to = x.0 })) sum (edge_there qs (first + 1) p period x at h))
-
-Chain-map : (R S : ℕ → ℕ → Type 0) → ((p q : ℕ) → R p q → S p q) → (steps p q : ℕ) → Chain R steps p q → Chain S steps p q
-Chain-map R S f zero p q chain = chain
-Chain-map R S f (suc steps) p q chain = (chain.0, f p chain.0 chain.1, Chain-map R S f steps chain.0 q chain.2)
 
 module _ (c : Config) (accepted : IsAccepted c) where
   to_below : (p q : ℕ) → Excludes c p q → q < length c.periods

@@ -10,7 +10,7 @@ use Rattle.due_model.specs.declared.config.Object.{Object}
 use Rattle.due_model.specs.declared.event.Event.{Event}
 use Rattle.due_model.specs.declared.notice.Notice.{Notice}
 use Rattle.due_model.specs.declared.zone.Zone.{Zone}
-use Rattle.due_model.specs.Due.{due, due_for, due_at}
+use Rattle.due_model.specs.Due.{due_for, due_at}
 use Rattle.due_laws.specs.Laws.{NoticesTellOfEvents, TellsOfEvent}
 use Rattle.decider.specs.declared.share.Share.{Share}
 use Rattle.decider.specs.Decider.{gain, gained}
@@ -112,12 +112,3 @@ gained_is_owned law c zone share l e past =
     (λ k mine. All-weaker (λ (n : Notice). n.object.0 ≡ k) (λ (n : Notice). n.object.0 % share.deciders ≡ share.decider)
     (λ n same. ap (λ (m : ℕ). m % share.deciders) same ∙ eqb-true (k % share.deciders) share.decider mine) (gain c zone l e past k) (gain_is_about law c zone l e past k))
     (owned_numbers share (length c.objects)) (filter_passes (is_owned share) (range_with_len 0 (length c.objects)))
-
--- what is due after one more event
-pub due_more : (c : Config) (zone : Zone) (o l : ℕ) (e : Event) (past : List Event) → due c zone o l (e ∷ past) ≡ due c zone o l past ++ gain c zone l e past o
-due_more c zone o l e past = by_object (slice_get c.objects o)
-  where
-    by_object : (found : Option Object) → elim found as (λ _. List Notice) [ None ↦ [] | Some object ↦ due_for c zone o object l (e ∷ past) ]
-        ≡ elim found as (λ _. List Notice) [ None ↦ [] | Some object ↦ due_for c zone o object l past ] ++ option_map_or (λ object. due_at c zone o object l e past) found []
-    by_object None = refl
-    by_object (Some object) = refl

@@ -18,11 +18,6 @@ module _ {X : Type 0} where
   pub take_found : (xs : List X) (i : ℕ) (x : X) → slice_get xs i ≡ Some x → take (i + 1) xs ≡ take i xs ++ x ∷ []
   take_found xs i x e = take_more xs i x (slice_get_within xs i x e) ∙ ap (λ y. take i xs ++ y ∷ []) (get_or_from_slice_get xs i x x e)
 
--- what holds in any case holds where a call failed
-pub on_err_always : {T E P : Type 0} (r : Result T E) → P → OnErr r P
-on_err_always (Ok x) p = tt
-on_err_always (Err e) p = p
-
 -- what follows from each outcome of a call
 pub on_either : {T E P1 P2 Q1 Q2 R : Type 0} (r : Result T E) → (P1 → P2 → R) → (Q1 → Q2 → R) → OnOk r P1 → OnOk r P2 → OnErr r Q1 → OnErr r Q2 → R
 on_either (Ok x) done left p1 p2 q1 q2 = done p1 p2

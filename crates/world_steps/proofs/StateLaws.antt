@@ -14,6 +14,7 @@ use Rattle.due_model.specs.Due.{due}
 use Rattle.due_laws.specs.Laws.{NoticesTellOfEvents}
 use Rattle.lemmas.proofs.Lists.{past_more}
 use Rattle.decider.specs.Decider.{gained}
+use Rattle.decider.specs.DeciderLaws.{due_more}
 use Rattle.steps.specs.declared.step.Step.TheVariants.{Post, Decide, Put, Lane}
 use Rattle.steps.specs.declared.step.LaneStep.{LaneStep}
 use Rattle.steps.specs.declared.step.LaneStep.TheVariants.{Pick, Settle, Fail, Ask, Close, Drain}
@@ -25,7 +26,7 @@ use Rattle.steps.specs.Lanes.{about, contents}
 use Rattle.world_steps.specs.Lines.{line, decider_of}
 use Rattle.world_steps.specs.Fits.{StateFits}
 use Rattle.world_steps.proofs.ListLemmas.{everywhere}
-use Rattle.world_steps.proofs.Gains.{about_none, gained_owned, gained_is_owned, due_more}
+use Rattle.world_steps.proofs.Gains.{about_none, gained_owned, gained_is_owned}
 use Rattle.world_steps.proofs.Shapes.{picked_law, settled_law, closed_law, drained_law, queued_law}
 
 -- those of one object in two lists that are joined

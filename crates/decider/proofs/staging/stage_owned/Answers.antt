@@ -1,10 +1,11 @@
 use Rattle.std.proofs.Common.{Bool, cond, [], sym, ap, ◌∙◌}
 use Rattle.std.proofs.lemmas.Result.{on_ok_weaker}
+use Rattle.lemmas.proofs.Lists.{some_at}
 use Rattle.messages.specs.Entries.{object_entries}
 use Rattle.decider.specs.Books.{new_books}
 use Rattle.decider.specs.Events.{values}
 use Rattle.decider.proofs.BookLaws.{touched_books}
-use Rattle.decider.proofs.StagingLaws.{adds_same, found_at, named_touched}
+use Rattle.decider.proofs.StagingLaws.{adds_same, named_touched}
 use Rattle.decider.proofs.staging.stage_owned.Goals as goal
 
 pub returns-clause-staged : goal.returns-clause-staged
@@ -12,7 +13,7 @@ returns-clause-staged c = on_ok_weaker c.stage_touched.result (λ adds e past is
     let v = values c.args.reading.now c.args.dependencies.now c.args.statuses.now in
     let o = c.args.object.0 in
     let owned = sym c.owns.ensures ∙ c.if-not-owns.false in
-    let settings = found_at v.config.objects o c.requires.object in
+    let settings = some_at v.config.objects o c.requires.object in
     let touched = named_touched v e past is c.args.object settings.0 c.requires.named in
     adds_same _ _ _ _ c.args.staged.now c.stage_touched.new.staged
     (sym (ap (λ (b : Bool). cond b (object_entries v.config v.zone e past o) []) owned))

@@ -1,15 +1,16 @@
 use Rattle.std.proofs.Common.{List, ◌++◌, get_or, refl, ap, ◌∙◌, arith}
+use Rattle.lemmas.proofs.Lists.{some_at}
 use Rattle.messages.specs.declared.entries.Entry.{Entry}
 use Rattle.decider.specs.declared.staging.NewBook.{NewBook}
 use Rattle.decider.specs.Events.{values}
-use Rattle.decider.proofs.StagingLaws.{book_fits, book_is, book_read, depth_fits, entries_are, found_at, moment_fits, number_fits, state_fits}
+use Rattle.decider.proofs.StagingLaws.{book_fits, book_is, book_read, depth_fits, entries_are, moment_fits, number_fits, state_fits}
 use Rattle.decider.proofs.staging.stage_touched.Goals as goal
 
 pub decide-decision-requires-clause-moment : goal.decide-decision-requires-clause-moment
 decide-decision-requires-clause-moment c =
     let v = values c.args.reading.now c.args.dependencies.now c.args.statuses.now in
     let is = c.requires.at.2 in
-    let settings = found_at v.config.objects c.args.object.0 c.requires.object in
+    let settings = some_at v.config.objects c.args.object.0 c.requires.object in
     moment_fits v c.requires.at.0 c.requires.at.1 is c.args.object.0 settings.0 settings.1 c.find-found.result
     (c.find-found.ensures.found c.requires.at.0 c.requires.at.1 settings.0 is settings.1)
 
@@ -17,7 +18,7 @@ pub decide-decision-requires-clause-depth : goal.decide-decision-requires-clause
 decide-decision-requires-clause-depth c =
     let v = values c.args.reading.now c.args.dependencies.now c.args.statuses.now in
     let is = c.requires.at.2 in
-    let settings = found_at v.config.objects c.args.object.0 c.requires.object in
+    let settings = some_at v.config.objects c.args.object.0 c.requires.object in
     depth_fits v c.requires.at.0 c.requires.at.1 is c.args.object.0 settings.0 settings.1 c.find-found.result
     (c.find-found.ensures.found c.requires.at.0 c.requires.at.1 settings.0 is settings.1)
 
@@ -26,7 +27,7 @@ decide-decision-requires-clause-number c =
     let v = values c.args.reading.now c.args.dependencies.now c.args.statuses.now in
     let is = c.requires.at.2 in
     let o = c.args.object.0 in
-    let settings = found_at v.config.objects o c.requires.object in
+    let settings = some_at v.config.objects o c.requires.object in
     number_fits v c.requires.at.0 c.requires.at.1 is o settings.0 settings.1 c.requires.owned (get_or v.books c.from.result c.index-reading-from.result)
     (book_read v.books o c.from.result c.index-reading-from.result c.from.ensures (omega (arith, c.requires.object, is.kept.count))) c.count_few.ensures.after
 
@@ -35,7 +36,7 @@ decide-decision-requires-clause-state c =
     let v = values c.args.reading.now c.args.dependencies.now c.args.statuses.now in
     let is = c.requires.at.2 in
     let o = c.args.object.0 in
-    let settings = found_at v.config.objects o c.requires.object in
+    let settings = some_at v.config.objects o c.requires.object in
     state_fits v c.requires.at.0 c.requires.at.1 is o settings.0 settings.1 c.requires.owned (get_or v.books c.from.result c.index-reading-from.result)
     (book_read v.books o c.from.result c.index-reading-from.result c.from.ensures (omega (arith, c.requires.object, is.kept.count)))
     c.find-found.result (c.find-found.ensures.found c.requires.at.0 c.requires.at.1 settings.0 is settings.1)
@@ -44,7 +45,7 @@ pub returns-clause-staged : goal.returns-clause-staged
 returns-clause-staged c = λ e past is.
     let v = values c.args.reading.now c.args.dependencies.now c.args.statuses.now in
     let o = c.args.object.0 in
-    let settings = found_at v.config.objects o c.requires.object in
+    let settings = some_at v.config.objects o c.requires.object in
     let finds = c.find-found.ensures.found e past settings.0 is settings.1 in
     let book = get_or v.books c.from.result c.index-reading-from.result in
     let kept = book_read v.books o c.from.result c.index-reading-from.result c.from.ensures (omega (arith, c.requires.object, is.kept.count)) in

@@ -1,6 +1,7 @@
 use Rattle.std.proofs.Common.{rules, arith, ◌≡◌, ◌<◌, length, slice_get, Some, None, ◌∙◌}
+use Rattle.lemmas.proofs.Results.{on_err_always}
 use Rattle.decider.specs.Outbox.{lists, waiting_at}
-use Rattle.engine.proofs.ServeLaws.{less_waits, on_err_always, nothing_waits, rest_length, rest_other, served_all, served_front, served_more, served_start}
+use Rattle.engine.proofs.ServeLaws.{less_waits, nothing_waits, rest_length, rest_other, served_all, served_front, served_more, served_start}
 use Rattle.engine.proofs.lanes.serve_lane.Goals as goal
 
 pub loop-notice-init : goal.loop-notice-init

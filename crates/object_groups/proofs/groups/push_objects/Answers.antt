@@ -1,9 +1,12 @@
 use Rattle.std.proofs.Common.{◌≡◌, ◌<◌, ◌^◌, ◌++◌, ◌∙◌, List, ap, arith, get_or, length, subst, sym, ℕ}
 use Rattle.std.specs.List.{flat_map, range_with_len}
+use Rattle.lemmas.proofs.Edges.{edges-more}
+use Rattle.lemmas.proofs.Lists.{place-is}
 use Rattle.object_groups.specs.Groups.{grouping, object_kind}
 use Rattle.object_groups.specs.Nodes.{object_edges, node_count}
 use Rattle.object_groups.specs.Objects.{names_in, objects_in, ObjectsOf}
-use Rattle.object_groups.proofs.GroupLemmas.{edges-more, object_edges-is, names-long, place-is}
+use Rattle.object_groups.proofs.GroupLemmas.{object_edges-is}
+use Rattle.object_groups.specs.ObjectLaws.{names-long}
 use Rattle.object_groups.proofs.groups.push_objects.Goals as goal
 
 pub push_object_at-requires-clause-few : goal.push_object_at-requires-clause-few

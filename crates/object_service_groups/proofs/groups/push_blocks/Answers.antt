@@ -1,11 +1,13 @@
 use Rattle.std.proofs.Common.{◌≡◌, ◌<◌, ◌++◌, ◌∙◌, List, ap, arith, get_or, length, ℕ}
 use Rattle.std.specs.Prelude.{codes}
 use Rattle.std.specs.List.{flat_map, range_with_len}
+use Rattle.lemmas.proofs.Edges.{edges-more}
+use Rattle.lemmas.proofs.Lists.{place-is}
 use Rattle.object_groups.specs.Objects.{objects_in, ObjectsOf}
 use Rattle.object_reader.specs.declared.block.BlockKind.TheVariants.{Service}
 use Rattle.object_service_groups.specs.Groups.{groups_in}
 use Rattle.object_service_groups.specs.Nodes.{block_edges}
-use Rattle.object_service_groups.proofs.GroupLemmas.{block-is, edges-more, place-is}
+use Rattle.object_service_groups.proofs.GroupLemmas.{block-is}
 use Rattle.object_service_groups.proofs.groups.push_blocks.Goals as goal
 
 pub loop-block-preserved : goal.loop-block-preserved

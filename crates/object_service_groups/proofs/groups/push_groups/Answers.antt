@@ -1,11 +1,13 @@
 use Rattle.std.proofs.Common.{◌≡◌, ◌<◌, ◌++◌, ◌∙◌, List, ap, arith, get_or, length, ℕ}
 use Rattle.std.specs.Prelude.{codes}
 use Rattle.std.specs.List.{flat_map, range_with_len}
+use Rattle.lemmas.proofs.Edges.{edges-more}
+use Rattle.lemmas.proofs.Lists.{place-is}
 use Rattle.object_groups.specs.Objects.{names_in, objects_in, ObjectsOf}
 use Rattle.object_reader.specs.declared.block.BlockKind.TheVariants.{ServiceGroup}
 use Rattle.object_service_groups.specs.Groups.{groups_in, named_in}
 use Rattle.object_service_groups.specs.Nodes.{group_edges}
-use Rattle.object_service_groups.proofs.GroupLemmas.{edges-more, group-is, place-is}
+use Rattle.object_service_groups.proofs.GroupLemmas.{group-is}
 use Rattle.object_service_groups.proofs.groups.push_groups.Goals as goal
 
 pub push_group_at-requires-clause-few : goal.push_group_at-requires-clause-few

@@ -1,9 +1,9 @@
 use Rattle.std.proofs.Common.{◌≡◌, ◌∙◌, List, ap, arith, get_or, length, refl, ℕ}
+use Rattle.std.proofs.lemmas.Slice.Zip.{AllZip-long}
 use Rattle.object_groups.specs.Objects.{names_in, objects_in, ObjectsOf}
 use Rattle.object_reader.specs.declared.block.BlockKind.TheVariants.{Service}
 use Rattle.object_services.specs.Hosts.{AreHosts}
 use Rattle.object_settings.proofs.ObjectLemmas.{block-hosts, named-at, objects-all, objects-more, objects-none}
-use Rattle.object_settings.proofs.OwnLemmas.{zip-long}
 use Rattle.object_settings.proofs.objects.push_services.Goals as goal
 
 pub loop-number-init : goal.loop-number-init
@@ -42,6 +42,6 @@ returns-clause-added c =
     let blocks = c.args.tables.now in
     let listed = c.places-place-items.ensures.places ∙ ap (λ (o : ObjectsOf). objects_in o.blocks o.kind) c.requires.services in
     let long = ap (λ (ps : List ℕ). length ps) listed in
-    let lists = zip-long (AreHosts blocks) (objects_in blocks Service) c.args.lists.now c.requires.lists in
+    let lists = AllZip-long (AreHosts blocks) (objects_in blocks Service) c.args.lists.now c.requires.lists in
     let end : c.loop-number.number ≡ length c.args.lists.now = omega (arith, long, lists, c.loop-number.auto.number-end, c.loop-number-test.false) in
     objects-all blocks c.args.lists.now c.loop-number.number c.args.objects.now.items c.loop-number.objects.items end c.loop-number.invariant.added

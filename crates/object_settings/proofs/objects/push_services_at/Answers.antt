@@ -1,9 +1,10 @@
 use Rattle.std.proofs.Common.{arith}
+use Rattle.std.proofs.lemmas.Slice.Zip.{AllZip-long}
 use Rattle.object_groups.specs.Objects.{objects_in}
 use Rattle.object_reader.specs.declared.block.BlockKind.TheVariants.{Host}
 use Rattle.object_settings.specs.Own.{IsOwnOfHost}
 use Rattle.object_settings.proofs.ObjectLemmas.{block-objects}
-use Rattle.object_settings.proofs.OwnLemmas.{hosts-within, zip-long}
+use Rattle.object_settings.proofs.OwnLemmas.{hosts-within}
 use Rattle.object_settings.proofs.objects.push_services_at.Goals as goal
 
 pub push_block-requires-clause-within : goal.push_block-requires-clause-within
@@ -11,7 +12,7 @@ push_block-requires-clause-within c = hosts-within c.listed_are_objects.ensures 
 
 pub push_block-requires-clause-few : goal.push_block-requires-clause-few
 push_block-requires-clause-few c =
-    let long = zip-long (IsOwnOfHost c.args.tables.now) (objects_in c.args.tables.now Host) c.args.owns.now c.requires.owns in
+    let long = AllZip-long (IsOwnOfHost c.args.tables.now) (objects_in c.args.tables.now Host) c.args.owns.now c.requires.owns in
     omega (arith, long, c.requires.few_hosts)
 
 pub returns-clause-added : goal.returns-clause-added

@@ -1,5 +1,6 @@
 use Rattle.std.proofs.Common.{◌≡◌, ◌≢◌, ◌∷◌, None, Some, true, Err, length, reverse, refl, sym, ap, subst, is_err}
 use Rattle.std.proofs.lemmas.Result.{err_from_is_err_and}
+use Rattle.lemmas.proofs.Results.{ok_is_no_fault}
 use Rattle.due_model.specs.declared.config.Config.{Config}
 use Rattle.due_model.specs.Limits.{max_events}
 use Rattle.event_feed.specs.declared.fault.FeedFault.TheVariants.{Ended}
@@ -7,7 +8,7 @@ use Rattle.event_feed.specs.Feed.{refusal}
 use Rattle.engine.specs.Served.{Holds, Stands, Waits, desk_value}
 use Rattle.engine.proofs.IntakeLaws.{answer_of}
 use Rattle.engine.proofs.LineLaws.{stopped_error}
-use Rattle.engine.proofs.RunLaws.{accepted_on, accepted_stopped, ended_over, offered_stopped, ok_is_no_fault}
+use Rattle.engine.proofs.RunLaws.{accepted_on, accepted_stopped, ended_over, offered_stopped}
 use Rattle.engine.proofs.run.Run.take_event.Goals as goal
 
 pub returns-in-Err-NoMemory-clause-turn : goal.returns-in-Err-NoMemory-clause-turn

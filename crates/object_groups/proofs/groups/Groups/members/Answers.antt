@@ -5,7 +5,8 @@ use Rattle.object_groups.specs.Groups.{group_kind, grouping, GroupsOf, object_ki
 use Rattle.object_groups.specs.Members.{AreMembers}
 use Rattle.object_groups.specs.Nodes.{AreBelow, group_node, IsGraphOf}
 use Rattle.object_groups.specs.Objects.{names_in, ObjectsOf}
-use Rattle.object_groups.proofs.GroupLemmas.{lists-long, members-are, none-are}
+use Rattle.object_groups.proofs.GroupLemmas.{members-are, none-are}
+use Rattle.object_groups.specs.ObjectLaws.{lists-long}
 use Rattle.object_groups.proofs.groups.Groups.members.Goals as goal
 
 pub returns-then-group-len-clause-members : goal.returns-then-group-len-clause-members

@@ -1,5 +1,6 @@
 use Rattle.std.proofs.Common.{◌≡◌, Err, List, length, true, false, Ok, refl, sym, ap, subst, ◌∙◌}
 use Rattle.std.proofs.lemmas.Bool.{eq-eqb, ne_eqb}
+use Rattle.lemmas.proofs.Results.{ok_is_no_fault}
 use Rattle.due_model.specs.declared.config.Config.{Config}
 use Rattle.due_model.specs.declared.zone.Zone.{Zone}
 use Rattle.due_model.specs.Limits.{max_events}
@@ -9,7 +10,7 @@ use Rattle.decider.specs.declared.share.Share.{Share}
 use Rattle.messages.specs.Entries.{event_entries}
 use Rattle.command_output.specs.OutputLine.{entries_text}
 use Rattle.replay.specs.Report.{is_ended}
-use Rattle.replay.proofs.ReportLaws.{event_text, ok_is_no_fault, text_of_end}
+use Rattle.replay.proofs.ReportLaws.{event_text, text_of_end}
 use Rattle.command_output.specs.OutputLaws.{front_longer, front_same, leaves_same}
 use Rattle.replay.proofs.report.Report.decide_event.Goals as goal
 
