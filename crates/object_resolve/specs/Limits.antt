@@ -12,7 +12,7 @@ use Rattle.object_reader.specs.declared.block.Block.{Block}
 use Rattle.object_reader.specs.declared.block.BlockKind.{BlockKind}
 use Rattle.object_reader.specs.declared.block.BlockKind.TheVariants.{Command, Contact, Host, Service, TimePeriod}
 use Rattle.object_resolve.specs.declared.limits.Counts.{Counts}
-use Rattle.object_services.specs.Limits.{AreHostLists, AreWithinLimit, PassesLimit}
+use Rattle.object_services.specs.Limits.{AreHostLists, AreWithinLimit, PassesLimit, PassesNowhere}
 
 -- no more contacts, lanes and time periods than a configuration may have
 pub record AreFewOthers (blocks : List Block) : Type 0 where
@@ -39,6 +39,13 @@ pub record AreWithin (blocks : List Block) : Type 0 where
   pub escalations : AreFewEscalations blocks
   pub dependencies : AreFewDependencies blocks
   pub others : AreFewOthers blocks
+
+-- The hosts and services keep within their limit, where these are the hosts of each service block.
+pub record AreCounted (blocks : List Block) (hosts : List (List ℕ)) : Type 0 where
+  pub hosts : AreHostLists blocks (objects_in blocks Service) hosts
+  pub few : length (objects_in blocks Host) + sum_by length hosts ≤ max_objects
+  pub within : AreWithinLimit blocks
+  pub nowhere : PassesNowhere blocks
 
 -- ---- where they pass a limit
 

@@ -1,19 +1,19 @@
 //! How many objects, escalations, dependencies, contacts, lanes and time periods blocks may give.
 
-ghost use Rattle.std.specs.Prelude.{◌≡◌, ◌+◌, ◌≤◌, length, slice_get, sum_by};
+ghost use Rattle.std.specs.Prelude.{◌≡◌, ◌≤◌, length, slice_get, sum_by};
 ghost use Rattle.std.specs.Prelude.{IfErr, IfNone, IfOk, None, OnOk, Some};
 ghost use Rattle.std.specs.Option.{option_and_then};
-ghost use Rattle.due_model.specs.Limits.{max_dependencies, max_escalations, max_lanes, max_objects};
+ghost use Rattle.due_model.specs.Limits.{max_dependencies, max_escalations, max_lanes};
 ghost use Rattle.object_contacts.specs.Lanes.{AreLanes, IsLane};
 ghost use Rattle.object_dependencies.specs.Pairs.{ArePairsBelow};
 ghost use Rattle.object_escalations.specs.Escalated as escalated;
 ghost use Rattle.object_escalations.specs.Escalated.{AreEscalated};
 ghost use Rattle.object_groups.specs.Objects.{objects_in};
-ghost use Rattle.object_reader.specs.declared.block.BlockKind.TheVariants.{Host, Service};
+ghost use Rattle.object_reader.specs.declared.block.BlockKind.TheVariants.{Service};
 ghost use Rattle.object_names.specs.First.{IsFirst, lower};
 ghost use Rattle.object_resolve.specs.Fault.{IsAmong};
 ghost use Rattle.object_resolve.specs.First.{IsNowhere};
-ghost use Rattle.object_resolve.specs.Limits.{AreCounts, AreFewOthers, AreWithin, PassesOther, PassesRest};
+ghost use Rattle.object_resolve.specs.Limits.{AreCounted, AreCounts, AreFewOthers, AreWithin, PassesOther, PassesRest};
 ghost use Rattle.object_resolve.specs.Resolve.{IsDependencyLooped, IsFirstOver, IsLoopedOrOver};
 ghost use Rattle.object_resolve.specs.Tables.{AreTables};
 ghost use Rattle.object_services.specs.Limits as counted;
@@ -148,9 +148,7 @@ fn over_escalations(
     fault: LimitFault,
     rest: Option<usize>,
 ) -> LoadFault
-    requires keeps { counted.AreWithinLimit blocks.now }
-    requires none { counted.PassesNowhere blocks.now }
-    requires hosts { AreHostLists blocks.now (objects_in blocks.now Service) hosts.now }
+    requires counted { AreCounted blocks.now hosts.now }
     requires refused { escalated.IsRefusal blocks.now hosts.now fault }
     requires rest { IsFirst (PassesRest blocks.now) rest }
     ensures { IsAmong (IsFirstOver blocks.now) result }
@@ -174,9 +172,7 @@ fn over_rest<'a>(
     rest: usize,
 ) -> LoadFault
     requires tables { AreTables templates.now tables.old }
-    requires hosts { AreHostLists templates.now (objects_in templates.now Service) hosts.now }
-    requires keeps { counted.AreWithinLimit templates.now }
-    requires none { counted.PassesNowhere templates.now }
+    requires counted { AreCounted templates.now hosts.now }
     requires rest { IsFirst (PassesRest templates.now) (Some rest) }
     ensures same { tables.new ≡ tables.old }
     ensures fault { IsAmong (IsFirstOver templates.now) result }
@@ -202,12 +198,7 @@ fn counts_with<'a>(
     lanes: Vec<usize>,
 ) -> Result<Counts, LoadFault>
     requires tables { AreTables templates.now tables.old }
-    requires hosts { AreHostLists templates.now (objects_in templates.now Service)
-        hosts }
-    requires few { length (objects_in templates.now Host) + sum_by length hosts
-        ≤ max_objects }
-    requires keeps { counted.AreWithinLimit templates.now }
-    requires none { counted.PassesNowhere templates.now }
+    requires counted { AreCounted templates.now hosts }
     requires lanes { AreLanes (IsLane templates.now) lanes.items }
     requires pairs { ArePairsBelow templates.now hosts (length templates.now) pairs }
     requires few_pairs { sum_by length pairs ≤ max_dependencies }
@@ -242,12 +233,7 @@ fn counts_of<'a>(
     other: Option<usize>,
 ) -> Result<Counts, LoadFault>
     requires tables { AreTables templates.now tables.old }
-    requires hosts { AreHostLists templates.now (objects_in templates.now Service)
-        hosts }
-    requires few { length (objects_in templates.now Host) + sum_by length hosts
-        ≤ max_objects }
-    requires keeps { counted.AreWithinLimit templates.now }
-    requires none { counted.PassesNowhere templates.now }
+    requires counted { AreCounted templates.now hosts }
     requires lanes { AreLanes (IsLane templates.now) lanes.items }
     requires other { IsFirst (PassesOther templates.now) other }
     requires others { IfNone other (AreFewOthers templates.now) }
@@ -282,12 +268,7 @@ fn check_counted<'a>(
     other: Option<usize>,
 ) -> Result<Counts, LoadFault>
     requires tables { AreTables templates.now tables.old }
-    requires hosts { AreHostLists templates.now (objects_in templates.now Service)
-        hosts }
-    requires few { length (objects_in templates.now Host) + sum_by length hosts
-        ≤ max_objects }
-    requires keeps { counted.AreWithinLimit templates.now }
-    requires none { counted.PassesNowhere templates.now }
+    requires counted { AreCounted templates.now hosts }
     requires lanes { AreLanes (IsLane templates.now) lanes.items }
     requires other { IsFirst (PassesOther templates.now) other }
     requires others { IfNone other (AreFewOthers templates.now) }

@@ -1,0 +1,7 @@
+use Rattle.object_resolve.proofs.limits.check_counted.Goals as goal
+
+pub check_dependency_loops-requires-clause-hosts : goal.check_dependency_loops-requires-clause-hosts
+check_dependency_loops-requires-clause-hosts c = c.requires.counted.hosts
+
+pub check_dependency_loops-requires-clause-keeps : goal.check_dependency_loops-requires-clause-keeps
+check_dependency_loops-requires-clause-keeps c = c.requires.counted.within
