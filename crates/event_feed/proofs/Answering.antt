@@ -27,6 +27,7 @@ use Rattle.event_feed.specs.Feed.{Answer, AreGiven, AreGivenBy, HasLong, least_a
 use Rattle.event_feed.specs.Feeder.{LineAnswers, GoesToLine, CountsLine, begun_lines}
 use Rattle.lemmas.proofs.Lists.{HasFirst, slice_split-first}
 use Rattle.event_feed.proofs.ProperLines.{line_reading-fault}
+use Rattle.event_feed.specs.FeedLaws.{known_same}
 
 -- ---- pieces
 
@@ -192,12 +193,8 @@ pub record Skips (old : Reading) (from : ℕ) (now : Reading) (read : ℕ) : Typ
       ((objects : List Object) (last : ℕ) → answers objects from last (pieces bytes) ≡ answers objects read last (pieces rest))
       × Goes from read (pieces bytes) (pieces rest))
 
-Known-same : (a : Option (List ℕ)) (P : List ℕ → List ℕ → Type 0) → ((x : List ℕ) → P x x) → Known a a P
-Known-same None P each = tt
-Known-same (Some x) P each = each x
-
 pub Skips-none : (old : Reading) (from : ℕ) → Skips old from old from
-Skips-none old from = record { answering = Known-same (to_come old) _ (λ bytes. (λ objects last. refl, goes-none from (pieces bytes))) }
+Skips-none old from = record { answering = known_same (to_come old) _ (λ bytes. (λ objects last. refl, goes-none from (pieces bytes))) }
 
 pub Known-then : (a b c : Option (List ℕ)) (P Q S : List ℕ → List ℕ → Type 0) → Known a b P → Known b c Q
     → ((x y z : List ℕ) → P x y → Q y z → S x z) → Known a c S
@@ -239,7 +236,7 @@ GoesToLine-end old now new from read skips few reads =
 
 pub GoesToLine-many : (old now : Reading) (from : ℕ) (read : ℕ) → Skips old from now read → read ≡ feed_limit → GoesToLine old from (Over TooManyLines) now (read + 1)
 GoesToLine-many old now from read skips all =
-    Known-then (to_come old) (to_come now) (to_come now) _ (λ _ _. Unit {0}) _ skips.answering (Known-same (to_come now) (λ _ _. Unit {0}) (λ _. tt)) (λ bytes between rest first _.
+    Known-then (to_come old) (to_come now) (to_come now) _ (λ _ _. Unit {0}) _ skips.answering (known_same (to_come now) (λ _ _. Unit {0}) (λ _. tt)) (λ bytes between rest first _.
     let split = slice_split-first is_newline between in (
       λ objects last.
           first.0 objects last

@@ -7,6 +7,8 @@ use Rattle.std.proofs.lemmas.Option.{get_or_from_slice_get}
 use Rattle.std.proofs.lemmas.List.Elements.{All-nil, All-cons, All-head, All-tail, All-append, All-same}
 use Rattle.std.proofs.lemmas.List.FromFn.{get_or-range_with_len, length-range_with_len, filter_of_map_range_with_len_more}
 use Rattle.std.proofs.lemmas.List.Kept.{AllPairs-cons}
+use Rattle.std.specs.Option.{option_map_or}
+use Rattle.std.proofs.lemmas.Bool.{false≢true}
 
 -- lists in which each element is related to each later one
 
@@ -129,3 +131,9 @@ none-marked (suc n) (suc k) = none-marked n k
 
 pub place-is : (items places : List ℕ) (i d e : ℕ) → items ≡ places → i < length places → get_or items i d ≡ get_or places i e
 place-is items places i d e same within = ap (λ (xs : List ℕ). get_or xs i d) same ∙ get_or_default places i d e within
+
+-- a place of which something is said
+pub at-within : {X : Type 0} (q : X → Bool) (xs : List X) (place : ℕ) → option_map_or q (slice_get xs place) false ≡ true → place < length xs
+at-within q [] place is = absurd (false≢true is)
+at-within q (x ∷ xs) zero is = omega arith
+at-within q (x ∷ xs) (suc place) is = let low = at-within q xs place is in omega (arith, low)

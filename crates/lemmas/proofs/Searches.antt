@@ -106,3 +106,8 @@ place-le p (x ∷ xs) (suc i) d within is =
       | true ↦ omega arith
       | false ↦ let few = place-le p xs i d (omega (arith, within)) is in omega (arith, few)
     ]
+
+-- one entry more that is there
+pub none-more : (p : List ℕ → Bool) (xs : List (Bor (List ℕ))) (i : ℕ) (d : Bor (List ℕ)) → i < length xs → list_any p (texts (take i xs)) ≡ false → p ((get_or xs i d).now) ≡ false
+    → list_any p (texts (take (i + 1) xs)) ≡ false
+none-more p xs i d within before here = any-more p xs i d within ∙ ap (λ (b : Bool). b || p ((get_or xs i d).now)) before ∙ here

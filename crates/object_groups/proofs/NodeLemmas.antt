@@ -1,6 +1,6 @@
 -- The graph in which members are found: what its edges are, and that a chain in it leads from a group to an
 -- object exactly where the object is a member.
-use Rattle.std.proofs.Common.{◌≡◌, ℕ, zero, suc, ◌+◌, ◌<◌, ◌≤◌, Bool, true, false, cond, List, [], ◌∷◌, ◌++◌, length, map, get_or, refl, sym, ap, subst, ◌∙◌, ◌⊎◌, inl, inr, ⊎_elim, arith}
+use Rattle.std.proofs.Common.{◌≡◌, ℕ, zero, suc, ◌+◌, ◌<◌, ◌≤◌, Bool, true, false, cond, List, [], ◌∷◌, ◌++◌, length, map, get_or, refl, sym, subst, ◌∙◌, ◌⊎◌, inl, inr, ⊎_elim, arith}
 use Rattle.std.specs.Prelude.{Contains}
 use Rattle.std.specs.List.{flat_map, range_with_len}
 use Rattle.std.proofs.lemmas.Bool.{cases_lt, false≢true}
@@ -13,6 +13,7 @@ use Rattle.object_groups.specs.Members.{Grouping, Holds, Includes, IsMember}
 use Rattle.object_groups.specs.Names.{is_all, Lists, numbers_of}
 use Rattle.object_groups.specs.Nodes.{all_groups, all_objects, edge, edges_in, group_edges, group_node, IsGraphOf, node_count, nodes_of, object_edges, of_all_groups}
 use Rattle.object_groups.specs.ObjectLaws.{listed-within, numbers-within}
+use Rattle.object_groups.specs.NodeLaws.{edge-from, edge-to}
 use Rattle.lemmas.proofs.Elements.{Contains-cases, Contains-flat_map, Contains-from_flat_map, Contains-from_map, Contains-from_range, Contains-here, Contains-later, Contains-map, Contains-none, Contains-range}
 use Rattle.lemmas.proofs.Chains.{Reaches-join}
 
@@ -67,12 +68,6 @@ abbrev Link : Grouping → ℕ → ℕ → Type 0
 Link g from to = ((p : ℕ) × (p < length g.groups) × (from ≡ group_node g.objects p) × FromGroup g p to)
     ⊎ (((p : ℕ) × (p < length g.groups) × (from ≡ all_groups g.objects g.groups) × (to ≡ group_node g.objects p))
     ⊎ ((k : ℕ) × (k < length g.objects) × (to ≡ k) × ToObject g k from))
-
-edge-from : (a b from to : ℕ) → edge a b ≡ edge from to → from ≡ a
-edge-from a b from to is = sym (ap (λ (e : Edge). e.from) is)
-
-edge-to : (a b from to : ℕ) → edge a b ≡ edge from to → to ≡ b
-edge-to a b from to is = sym (ap (λ (e : Edge). e.to) is)
 
 link_group : (g : Grouping) (p from to : ℕ) → p < length g.groups → Contains (group_edges g p) (edge from to) → Link g from to
 link_group g p from to low at =

@@ -1,26 +1,18 @@
 -- One name, one entry, one place or one node more.
-use Rattle.std.proofs.Common.{◌≡◌, ℕ, zero, suc, ◌+◌, ◌<◌, nat_lt, Bool, true, false, cond, ◌||◌, List, [], ◌∷◌, ◌++◌, length, map, filter, take, get_or, Option, Some, None, refl, sym, ap, subst, eqb, ◌∙◌, Bor, arith}
-use Rattle.std.specs.Prelude.{Contains, is_some}
-use Rattle.std.specs.List.{dedup, list_any, range_with_len}
-use Rattle.std.specs.List.Sorted.{IsPermutation, IsSorted, IsStrictlyIncreasing}
+use Rattle.std.proofs.Common.{◌≡◌, ℕ, zero, suc, ◌+◌, ◌<◌, Bool, true, false, cond, ◌||◌, List, [], ◌∷◌, ◌++◌, length, map, filter, take, get_or, Option, Some, None, refl, sym, ap, ◌∙◌, Bor, arith}
+use Rattle.std.specs.Prelude.{is_some}
+use Rattle.std.specs.List.{range_with_len}
 use Rattle.std.specs.Map.{lookup}
 use Rattle.std.specs.Option.{option_or, option_to_list}
-use Rattle.std.specs.Ordering.{nat_cmp}
 use Rattle.std.specs.Str.{bytes_eq}
 use Rattle.std.specs.HashMap.Eq.{lookup_congr}
-use Rattle.std.proofs.lemmas.Bool.{false≢true, lt-ltb, ltb-true}
+use Rattle.std.proofs.lemmas.Bool.{false≢true}
 use Rattle.std.proofs.lemmas.Cmp.{nat_list_eq_equiv}
 use Rattle.std.proofs.lemmas.List.{map-append}
 use Rattle.std.proofs.lemmas.List.Elements.{filter-append, filter_map-append}
-use Rattle.std.proofs.lemmas.List.Folds.{list_any-append}
-use Rattle.std.proofs.lemmas.List.Kept.{Contains-dedup_nat, Contains-from_dedup}
-use Rattle.std.proofs.lemmas.List.Sorted.{Contains-permutation, IsPermutation-sym}
-use Rattle.std.proofs.lemmas.Map.Keys.{IsStrictlyIncreasing-dedup}
 use Rattle.lemmas.proofs.Searches.{found-one, is_none-from, or-none, or-some, position-snoc, texts-more}
 use Rattle.object_groups.specs.Names.{HasNumbers, name_eq, number_of, numbers_of}
-use Rattle.object_groups.specs.Nodes.{AreBelow}
 use Rattle.object_values.specs.Values.{texts}
-use Rattle.lemmas.proofs.Elements.{Contains-filter, Contains-from_filter}
 use Rattle.lemmas.proofs.Numbers.{below_more}
 
 -- ---- one name more
@@ -65,12 +57,6 @@ or-false true b first second = absurd (false≢true (sym first))
 or-false false true first second = absurd (false≢true (sym second))
 or-false false false first second = refl
 
-pub none-more : (p : List ℕ → Bool) (xs : List (Bor (List ℕ))) (i : ℕ) (d : Bor (List ℕ)) → i < length xs → list_any p (texts (take i xs)) ≡ false → p ((get_or xs i d).now) ≡ false
-    → list_any p (texts (take (i + 1) xs)) ≡ false
-none-more p xs i d within before is =
-    ap (list_any p) (texts-more xs i d within) ∙ list_any-append p (texts (take i xs)) ((get_or xs i d).now ∷ [])
-    ∙ or-false (list_any p (texts (take i xs))) (p ((get_or xs i d).now)) before is
-
 pub numbers-more : (names : List (List ℕ)) (xs : List (Bor (List ℕ))) (i : ℕ) (d : Bor (List ℕ)) (old new : List ℕ) (found : Option ℕ) → i < length xs
     → old ≡ numbers_of names (texts (take i xs)) → found ≡ number_of names ((get_or xs i d).now) → new ≡ old ++ option_to_list found
     → new ≡ numbers_of names (texts (take (i + 1) xs))
@@ -99,17 +85,3 @@ range-more a (suc n) = ap (λ more. a ∷ more) (range-more (a + 1) n ∙ ap (λ
 
 pub filter-range : (p : ℕ → Bool) (n : ℕ) (b : Bool) → p n ≡ b → filter p (range_with_len 0 (n + 1)) ≡ filter p (range_with_len 0 n) ++ cond b (n ∷ []) []
 filter-range p n b is = ap (filter p) (below_more n) ∙ filter-append p (range_with_len 0 n) (n ∷ []) ∙ ap (λ (c : Bool). filter p (range_with_len 0 n) ++ cond c (n ∷ []) []) is
-
--- ---- the objects among the nodes
-
-pub below-from_sorted : (objects : ℕ) (nodes ys zs : List ℕ) → IsPermutation (filter (λ node. nat_lt node objects) nodes) ys → IsSorted nat_cmp ys → zs ≡ dedup eqb ys
-    → AreBelow objects nodes zs
-below-from_sorted objects nodes ys zs moved sorted is = record {
-  rising = subst IsStrictlyIncreasing (sym is) (IsStrictlyIncreasing-dedup ys sorted);
-  exactly = λ k. (
-    (λ here. let on = Contains-from_filter (λ node. nat_lt node objects) nodes k (Contains-permutation ys (filter (λ node. nat_lt node objects) nodes) k (IsPermutation-sym (filter (λ node. nat_lt node objects) nodes) ys moved)
-        (Contains-from_dedup eqb ys k (subst (λ set. Contains set k) is here))) in (on.0, ltb-true k objects on.1)),
-    (λ both. subst (λ set. Contains set k) (sym is) (Contains-dedup_nat ys k (Contains-permutation (filter (λ node. nat_lt node objects) nodes) ys k moved
-        (Contains-filter (λ node. nat_lt node objects) nodes k both.0 (lt-ltb k objects both.1))))),
-  );
-}

@@ -5,3 +5,4 @@ pub mod Groups
 pub mod Nodes
 pub mod Laws
 pub mod ObjectLaws
+pub mod NodeLaws

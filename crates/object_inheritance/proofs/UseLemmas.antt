@@ -1,15 +1,14 @@
 -- The graph of templates, one block and one name more.
-use Rattle.std.proofs.Common.{◌≡◌, ℕ, zero, suc, ◌+◌, ◌<◌, ◌≤◌, Bool, true, false, cond, List, [], ◌∷◌, ◌++◌, append_assoc, length, length-take-le, map, take, get_or, Option, refl, sym, ap, subst, eqb, eqb-true, eq-eqb, ⊎_elim, ◌∙◌, Bor, arith}
+use Rattle.std.proofs.Common.{◌≡◌, ℕ, zero, suc, ◌+◌, ◌<◌, ◌≤◌, List, [], ◌∷◌, ◌++◌, append_assoc, length, length-take-le, map, take, get_or, Option, refl, sym, ap, subst, eqb, ⊎_elim, ◌∙◌, Bor, arith}
 use Rattle.std.specs.Prelude.{All, Contains, filter_map}
 use Rattle.std.specs.Option.{option_to_list}
-use Rattle.std.proofs.lemmas.Bool.{false≢true, cases_lt}
-use Rattle.std.proofs.lemmas.List.{append-nil, length-map, map-append, take_more, get_or_past, get_or_append_left, ext_get_or, length_push}
-use Rattle.std.proofs.lemmas.List.Elements.{filter_map-append, All-nil, All-append, All-map, All-weaker, All-contains}
-use Rattle.std.proofs.Math.Seq.{get_or-append_seam}
+use Rattle.std.proofs.lemmas.Bool.{cases_lt}
+use Rattle.std.proofs.lemmas.List.{length-map, map-append, take_more, get_or_past, ext_get_or}
+use Rattle.std.proofs.lemmas.List.Elements.{filter_map-append, All-nil, All-contains}
 use Rattle.lemmas.proofs.Searches.{All-found, found-one, position-within, texts-more}
-use Rattle.lemmas.proofs.Edges.{ends-append}
+use Rattle.lemmas.proofs.Edges.{ends-append, ends-from, get_or-snoc}
 use Rattle.graph.specs.declared.edges.Edge.{Edge}
-use Rattle.graph.specs.Edges.{ends_of, HasEdges, IsWithin, Leads}
+use Rattle.graph.specs.Edges.{ends_of, HasEdges, Leads}
 use Rattle.object_reader.specs.declared.block.Block.{Block}
 use Rattle.object_inheritance.specs.Templates.{edge_from, is_template, template_graph, template_place, templates_of, used_names}
 use Rattle.object_values.specs.Values.{texts}
@@ -36,27 +35,6 @@ templates-within blocks block =
 
 -- ---- one block more
 
-ends-from : (place p : ℕ) (b : Bool) → eqb place p ≡ b → (tos : List ℕ) → ends_of (map (edge_from place) tos) p ≡ cond b tos []
-ends-from place p true is [] = refl
-ends-from place p false is [] = refl
-ends-from place p true is (to ∷ tos) = rw is (ap (λ more. to ∷ more) (ends-from place p true is tos))
-ends-from place p false is (to ∷ tos) = rw is (ends-from place p false is tos)
-
--- one more list of ends
-get_or-snoc : (lists : List (List ℕ)) (list : List ℕ) (p : ℕ) (b : Bool) → eqb (length lists) p ≡ b
-    → get_or (lists ++ list ∷ []) p [] ≡ get_or lists p [] ++ cond b list []
-get_or-snoc lists list p true is =
-    let here : length lists ≡ p = eqb-true (length lists) p is in
-    rw (← here) (get_or-append_seam lists list [] [] ∙ ap (λ none. none ++ list) (sym (get_or_past lists (length lists) [] (omega arith))))
-get_or-snoc lists list p false is = ⊎_elim
-    (λ (low : p < length lists). get_or_append_left lists (list ∷ []) [] p low ∙ sym (append-nil (get_or lists p [])))
-    (λ (past : length lists ≤ p). ⊎_elim
-    (λ (further : length lists < p). get_or_past (lists ++ list ∷ []) p [] (let long = length_push lists list in omega (arith, long))
-    ∙ sym (append-nil (get_or lists p []) ∙ get_or_past lists p [] past))
-    (λ (back : p ≤ length lists). let same : length lists ≡ p = omega arith in absurd (false≢true (sym is ∙ eq-eqb (length lists) p same)))
-    (cases_lt (length lists) p))
-    (cases_lt p (length lists))
-
 -- the ends of the edges so far, with those of one more block
 pub ends-more : (f : Block → List ℕ) (blocks : List Block) (i : ℕ) (block : Block) (old new : List Edge) → i < length blocks → block ≡ get_or blocks i block
     → ((p : ℕ) → ends_of old p ≡ get_or (map f (take i blocks)) p []) → new ≡ old ++ map (edge_from i) (f block)
@@ -69,13 +47,6 @@ ends-more f blocks i block old new within is before more p =
     ∙ ap (λ (ends : List ℕ). ends ++ ends_of (map (edge_from i) (f block)) p) (before p)
     ∙ ap (λ (ends : List ℕ). get_or (map f (take i blocks)) p [] ++ ends) (ends-from i p (eqb i p) refl (f block))
     ∙ sym (ap (λ (lists : List (List ℕ)). get_or lists p []) all ∙ get_or-snoc (map f (take i blocks)) (f block) p (eqb i p) (ap (λ (n : ℕ). eqb n p) long))
-
-pub within-more : (n place : ℕ) (old new : List Edge) (tos : List ℕ) → place < n → All (λ q. q < n) tos → All (IsWithin n) old
-    → new ≡ old ++ map (edge_from place) tos → All (IsWithin n) new
-within-more n place old new tos low ends before more =
-    let added : All (IsWithin n) (map (edge_from place) tos) = All-map (IsWithin n) (edge_from place) tos
-    (All-weaker (λ q. q < n) (λ q. IsWithin n (edge_from place q)) (λ q at. record { from = low; to = at }) tos ends) in
-    subst (λ (edges : List Edge). All (IsWithin n) edges) (sym more) (All-append (IsWithin n) old (map (edge_from place) tos) before added)
 
 -- the graph of these edges
 pub graph-is : (blocks : List Block) (nodes : ℕ) (edges : List Edge) (graph : List (List ℕ)) → nodes ≡ length blocks

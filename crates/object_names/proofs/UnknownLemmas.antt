@@ -1,11 +1,12 @@
 -- The first block that names something that isn't there, reference by reference.
-use Rattle.std.proofs.Common.{◌≡◌, ℕ, zero, suc, ◌+◌, ◌<◌, ◌≤◌, Bool, true, false, ◌&&◌, ◌||◌, List, [], ◌∷◌, length, take, get_or, Option, Some, None, refl, sym, ap, subst, ⊎_elim, ◌∙◌, ◌⊎◌, inl, inr, arith}
+use Rattle.std.proofs.Common.{◌≡◌, ℕ, ◌+◌, ◌<◌, ◌≤◌, Bool, true, false, ◌&&◌, ◌||◌, List, [], ◌∷◌, length, take, get_or, Option, Some, None, refl, sym, ap, subst, ⊎_elim, ◌∙◌, ◌⊎◌, inl, inr, arith}
 use Rattle.std.specs.Prelude.{slice_get}
 use Rattle.std.specs.List.{list_any}
 use Rattle.std.specs.Option.{option_map_or}
 use Rattle.std.proofs.lemmas.Bool.{cases_lt, false≢true}
 use Rattle.std.proofs.lemmas.List.{take_more}
 use Rattle.std.proofs.lemmas.List.Folds.{list_any-append}
+use Rattle.lemmas.proofs.Lists.{at-within}
 use Rattle.object_inheritance.specs.Columns.{Column}
 use Rattle.object_reader.specs.declared.block.Block.{Block}
 use Rattle.object_reader.specs.declared.block.BlockKind.{BlockKind}
@@ -46,15 +47,10 @@ none-here p place before here = record {
 pub first-here : (p : ℕ → Bool) (place : ℕ) → HasNoneBefore p place → p place ≡ true → IsFirst (λ k. p k ≡ true) (Some place)
 first-here p place before here = (here, (λ k early is. false≢true (sym (before.none k early) ∙ is)))
 
-within-blocks : (q : Block → Bool) (xs : List Block) (place : ℕ) → option_map_or q (slice_get xs place) false ≡ true → place < length xs
-within-blocks q [] place is = absurd (false≢true is)
-within-blocks q (x ∷ xs) zero is = omega arith
-within-blocks q (x ∷ xs) (suc place) is = let low = within-blocks q xs place is in omega (arith, low)
-
 pub first-none : (blocks : List Block) (reference : Reference) (place : ℕ) → length blocks ≤ place → HasNoneBefore (λ k. has_unknown_by blocks k reference) place
     → IsFirst (λ k. has_unknown_by blocks k reference ≡ true) None
 first-none blocks reference place all before = λ k is.
-    let low = within-blocks (names_unknown_by blocks k reference) blocks k is in
+    let low = at-within (names_unknown_by blocks k reference) blocks k is in
     false≢true (sym (before.none k (omega (arith, low, all))) ∙ is)
 
 -- ---- one reference more

@@ -3,6 +3,7 @@ use Rattle.std.specs.Prelude.{◌≡◌, ℕ, ◌<◌, List, map, Contains, Some
 use Rattle.graph.specs.Chains.{IsOnLoop}
 use Rattle.graph.specs.declared.edges.Edge.{Edge}
 use Rattle.object_groups.specs.Objects.{objects_in}
+pub use Rattle.object_inheritance.specs.Templates.{edge_from}
 use Rattle.object_periods.specs.Periods.{excluded_at}
 use Rattle.object_reader.specs.declared.block.Block.{Block}
 use Rattle.object_reader.specs.declared.block.BlockKind.TheVariants.{TimePeriod}

@@ -4,6 +4,7 @@ use Rattle.std.specs.Prelude.{nat_le, slice_get}
 use Rattle.std.specs.Option.{option_eq}
 use Rattle.std.proofs.lemmas.Bool.{cases_lt, leb-true, true≢false}
 use Rattle.std.proofs.lemmas.Option.{none-some, same_Some, slice_get-get_or}
+use Rattle.lemmas.proofs.Lists.{at-within}
 use Rattle.object_groups.specs.Objects.{is_object, objects_in, ObjectsOf}
 use Rattle.object_groups.specs.ObjectLaws.{names-long}
 use Rattle.object_names.specs.First.{IsFirst, lower}
@@ -18,7 +19,8 @@ use Rattle.object_resolve.specs.Names.{GivesDoubledService, IsDoubledAt, IsFirst
 use Rattle.object_resolve.specs.declared.fault.BlockFault.{BlockFault}
 use Rattle.object_resolve.specs.declared.fault.BlockFault.TheVariants.{Doubled, UnknownName}
 use Rattle.object_resolve.specs.declared.fault.LoadFault.{LoadFault}
-use Rattle.object_resolve.proofs.PlaceLemmas.{at-within, lower-before, object-within}
+use Rattle.object_resolve.proofs.PlaceLemmas.{lower-before, object-within}
+
 use Rattle.object_services.specs.Doubled as services
 
 -- ---- doubled services, by their places

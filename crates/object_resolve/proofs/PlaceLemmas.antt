@@ -1,9 +1,8 @@
 -- Places of blocks: that objects stand within and rise, and the first place of which something is said.
-use Rattle.std.proofs.Common.{◌≡◌, ℕ, zero, suc, ◌<◌, ◌≤◌, Bool, true, false, List, [], ◌∷◌, length, get_or, Option, Some, None, refl, sym, ap, ⊎_elim, arith}
+use Rattle.std.proofs.Common.{◌≡◌, ℕ, zero, suc, ◌<◌, ◌≤◌, List, [], ◌∷◌, length, get_or, Option, Some, None, refl, ap, ⊎_elim, arith}
 use Rattle.std.specs.Prelude.{slice_get, slice_index_or}
 use Rattle.std.specs.List.{range_with_len}
-use Rattle.std.specs.Option.{option_map_or}
-use Rattle.std.proofs.lemmas.Bool.{cases_lt, true≢false}
+use Rattle.std.proofs.lemmas.Bool.{cases_lt}
 use Rattle.std.proofs.lemmas.List.Elements.{Contains-get_or}
 use Rattle.std.proofs.lemmas.List.Kept.{AllPairs-filter}
 use Rattle.std.proofs.lemmas.Option.{get_or_from_slice_get, none-some, same_Some, slice_get_within}
@@ -18,13 +17,6 @@ use Rattle.object_reader.specs.declared.block.BlockKind.{BlockKind}
 use Rattle.object_resolve.specs.First.{IsFirstAt, IsNowhere}
 
 -- ---- blocks of which something is said stand within
-
-pub at-within : (f : Block → Bool) (blocks : List Block) (place : ℕ) → option_map_or f (slice_get blocks place) false ≡ true → place < length blocks
-at-within f blocks place said = by_found (slice_get blocks place) refl said
-  where
-    by_found : (found : Option Block) → slice_get blocks place ≡ found → option_map_or f found false ≡ true → place < length blocks
-    by_found None here is = absurd (true≢false (sym is))
-    by_found (Some block) here is = slice_get_within blocks place block here
 
 -- objects stand within
 pub object-within : (blocks : List Block) (kind : BlockKind) (number place : ℕ) → slice_get (objects_in blocks kind) number ≡ Some place → place < length blocks

@@ -1,6 +1,6 @@
 -- The graph in which members are found: what its edges are, and that a chain in it leads from a group to a service
 -- exactly where the service is a member.
-use Rattle.std.proofs.Common.{◌≡◌, ℕ, zero, suc, ◌+◌, ◌<◌, ◌≤◌, List, [], ◌++◌, length, map, get_or, Some, refl, sym, ap, subst, ◌∙◌, ◌⊎◌, inl, inr, ⊎_elim, arith}
+use Rattle.std.proofs.Common.{◌≡◌, ℕ, zero, suc, ◌+◌, ◌<◌, ◌≤◌, List, [], ◌++◌, length, map, get_or, Some, refl, sym, subst, ◌∙◌, ◌⊎◌, inl, inr, ⊎_elim, arith}
 use Rattle.std.specs.Prelude.{Contains, slice_get}
 use Rattle.std.specs.List.{flat_map, range_with_len}
 use Rattle.std.proofs.lemmas.List.{get_or_past}
@@ -16,6 +16,7 @@ use Rattle.object_listing.specs.Listing.{AreThose}
 use Rattle.object_service_groups.specs.Members.{Grouping, Holds, Includes, IsMember}
 use Rattle.object_service_groups.specs.Nodes.{AreBelow, block_edges, edge, edges_in, first_group, group_edges, IsGraphOf, owner_edges}
 use Rattle.object_service_groups.proofs.ElementLemmas.{place-there}
+use Rattle.object_groups.specs.NodeLaws.{edge-from, edge-to}
 
 -- each number is that of something
 pub record IsWell (g : Grouping) : Type 0 where
@@ -41,12 +42,6 @@ abbrev Link : Grouping → ℕ → ℕ → Type 0
 Link g from to = ((p : ℕ) × (p < length g.named) × (from ≡ group_node g p) × FromGroup g p to)
     ⊎ (((b : ℕ) × (b < length g.own_groups) × (to ≡ block_node g b) × ((p : ℕ) × (from ≡ group_node g p) × Contains (get_or g.own_groups b []) p))
     ⊎ ((s : ℕ) × (s < length g.owners) × (to ≡ s) × (from ≡ block_node g (get_or g.owners s 0))))
-
-edge-from : (a b from to : ℕ) → edge a b ≡ edge from to → from ≡ a
-edge-from a b from to is = sym (ap (λ (e : Edge). e.from) is)
-
-edge-to : (a b from to : ℕ) → edge a b ≡ edge from to → to ≡ b
-edge-to a b from to is = sym (ap (λ (e : Edge). e.to) is)
 
 from_mapped : (first : ℕ) (numbers : List ℕ) (node : ℕ) → Contains (map (λ number. first + number) numbers) node → (k : ℕ) × (node ≡ first + k) × Contains numbers k
 from_mapped first numbers node at = let on = Contains-from_map (λ number. first + number) numbers node at in (on.0, sym on.2, on.1)

@@ -1,14 +1,9 @@
 -- One place, one service or one edge more.
-use Rattle.std.proofs.Common.{◌≡◌, ℕ, zero, suc, ◌+◌, ◌<◌, nat_lt, List, [], ◌∷◌, ◌++◌, append_assoc, length, map, replicate, filter, take, get_or, refl, sym, ap, eqb, ◌∙◌, arith}
-use Rattle.std.specs.List.{dedup, flat_map, range_with_len}
-use Rattle.std.specs.List.Sorted.{IsPermutation, IsSorted}
-use Rattle.std.specs.Ordering.{nat_cmp}
-use Rattle.std.proofs.lemmas.Bool.{lt-ltb, ltb-true}
+use Rattle.std.proofs.Common.{◌≡◌, ℕ, zero, suc, ◌+◌, ◌<◌, List, [], ◌∷◌, ◌++◌, append_assoc, length, map, replicate, take, get_or, refl, sym, ap, ◌∙◌, arith}
+use Rattle.std.specs.List.{flat_map, range_with_len}
 use Rattle.std.proofs.lemmas.List.{map-append, take_more}
 use Rattle.graph.specs.declared.edges.Edge.{Edge}
-use Rattle.lemmas.proofs.Elements.{Contains-filter, Contains-from_filter, in_order-rising, in_order-same}
 use Rattle.lemmas.proofs.Numbers.{below_more, flat_range_more}
-use Rattle.object_service_groups.specs.Nodes.{AreBelow}
 
 -- ---- one block more, and its services
 
@@ -39,15 +34,3 @@ owners-more f first old new n one before more is =
     more ∙ ap (λ (es : List Edge). es ++ one ∷ []) before ∙ append_assoc first (map f (range_with_len 0 n)) (one ∷ [])
     ∙ ap (λ (e : Edge). first ++ (map f (range_with_len 0 n) ++ e ∷ [])) is
     ∙ ap (λ (es : List Edge). first ++ es) (sym (ap (map f) (below_more n) ∙ map-append f (range_with_len 0 n) (n ∷ [])))
-
--- ---- the services among the nodes
-
-pub below-from_sorted : (services : ℕ) (nodes ys zs : List ℕ) → IsPermutation (filter (λ node. nat_lt node services) nodes) ys → IsSorted nat_cmp ys → zs ≡ dedup eqb ys
-    → AreBelow services nodes zs
-below-from_sorted services nodes ys zs moved sorted is = record {
-  rising = in_order-rising (filter (λ node. nat_lt node services) nodes) ys zs moved sorted is;
-  exactly = λ k. (
-    (λ here. let on = Contains-from_filter (λ node. nat_lt node services) nodes k ((in_order-same (filter (λ node. nat_lt node services) nodes) ys zs moved sorted is k).0 here) in (on.0, ltb-true k services on.1)),
-    (λ both. (in_order-same (filter (λ node. nat_lt node services) nodes) ys zs moved sorted is k).1 (Contains-filter (λ node. nat_lt node services) nodes k both.0 (lt-ltb k services both.1))),
-  );
-}

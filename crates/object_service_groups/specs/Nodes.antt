@@ -1,14 +1,11 @@
 -- The graph in which members are found. Its nodes are the services, then the service blocks, then the groups; a
 -- block leads to its services, so that a block that names a group is one edge, however many services it has.
-use Rattle.std.specs.Prelude.{◌≡◌, ℕ, ◌+◌, ◌<◌, ◌↔◌, List, [], ◌++◌, length, map, Contains, slice_index_or}
+use Rattle.std.specs.Prelude.{◌≡◌, ℕ, ◌+◌, ◌↔◌, List, [], ◌++◌, length, map, Contains, slice_index_or}
 use Rattle.std.specs.List.{flat_map, range_with_len}
-use Rattle.std.specs.List.Sorted.{IsStrictlyIncreasing}
 use Rattle.graph.specs.declared.edges.Edge.{Edge}
 use Rattle.graph.specs.Edges.{Leads}
+pub use Rattle.object_groups.specs.Nodes.{AreBelow, edge}
 use Rattle.object_service_groups.specs.Members.{Grouping}
-
-abbrev pub edge : (from to : ℕ) → Edge
-edge from to = record { from = from; to = to }
 
 -- the edges from a group's node to the services and the groups that the group lists, where the node of the first
 -- group is `first`
@@ -51,8 +48,3 @@ edges_in g = flat_map (group_edges (first_group g) g.named g.subgroups)
 pub record IsGraphOf (g : Grouping) (graph : List (List ℕ)) : Type 0 where
   pub count : length graph ≡ first_group g + length g.named
   pub leads : (from to : ℕ) → Leads graph from to ↔ Contains (edges_in g) (edge from to)
-
--- those of the nodes that are below the first block's, each once and in order
-pub record AreBelow (services : ℕ) (nodes found : List ℕ) : Type 0 where
-  pub rising : IsStrictlyIncreasing found
-  pub exactly : (k : ℕ) → Contains found k ↔ (Contains nodes k × (k < services))

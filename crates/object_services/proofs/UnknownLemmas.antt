@@ -1,8 +1,6 @@
 -- The first service block with an entry that nothing has, list by list.
-use Rattle.std.proofs.Common.{◌≡◌, ℕ, zero, suc, ◌+◌, ◌<◌, ◌≤◌, Bool, true, false, ◌||◌, List, [], ◌∷◌, length, take, get_or, Option, Some, None, refl, sym, ap, subst, ⊎_elim, ◌∙◌, ◌⊎◌, inl, inr, arith, Bor}
-use Rattle.std.specs.List.{list_any}
+use Rattle.std.proofs.Common.{◌≡◌, ℕ, zero, suc, ◌+◌, ◌<◌, ◌≤◌, Bool, true, false, ◌||◌, List, [], ◌∷◌, length, get_or, Option, Some, None, refl, sym, ap, subst, ⊎_elim, ◌∙◌, ◌⊎◌, inl, inr, arith}
 use Rattle.std.proofs.lemmas.Bool.{cases_lt, false≢true, or_cases, or_left, or_right}
-use Rattle.lemmas.proofs.Searches.{any-more}
 use Rattle.object_groups.specs.Objects.{list_at, names_in, objects_in, ObjectsOf}
 use Rattle.object_inheritance.specs.Columns.{Column}
 use Rattle.object_reader.specs.declared.block.Block.{Block}
@@ -11,7 +9,6 @@ use Rattle.object_reader.specs.declared.block.BlockKind.TheVariants.{Service}
 use Rattle.object_services.specs.Alike.{lower}
 use Rattle.object_services.specs.Doubled.{IsFirstOf, place_of}
 use Rattle.object_services.specs.Unknown.{is_unknown, IsBlockWith}
-use Rattle.object_values.specs.Values.{texts}
 use Rattle.object_services.proofs.DoubledLemmas.{first-lower, first-same}
 
 -- the first by one list or by another
@@ -65,11 +62,6 @@ first-here blocks p i before within here = ((within, here), (λ k early block. f
 
 pub first-none : (blocks : List Block) (p : ℕ → Bool) (i : ℕ) → HasNoneBefore blocks p i → length (objects_in blocks Service) ≤ i → IsFirstOf (IsBlockWith blocks p) None
 first-none blocks p i before all = λ n block. let within = block.0 in false≢true (sym (before.none n (omega (arith, within, all))) ∙ block.1)
-
--- one entry more that is there
-pub none-more : (p : List ℕ → Bool) (xs : List (Bor (List ℕ))) (i : ℕ) (d : Bor (List ℕ)) → i < length xs → list_any p (texts (take i xs)) ≡ false → p ((get_or xs i d).now) ≡ false
-    → list_any p (texts (take (i + 1) xs)) ≡ false
-none-more p xs i d within before here = any-more p xs i d within ∙ ap (λ (b : Bool). b || p ((get_or xs i d).now)) before ∙ here
 
 -- ---- what is kept of the blocks
 

@@ -1,13 +1,12 @@
 -- The first block that names a service that isn't found.
 use Rattle.std.proofs.Common.{◌≡◌, ℕ, ◌+◌, ◌<◌, ◌≤◌, Bool, true, false, List, [], ◌∷◌, length, take, get_or, Option, Some, None, refl, sym, subst, ⊎_elim, ◌∙◌, Bor, arith}
-use Rattle.std.specs.Prelude.{All, Contains, slice_get, ◌↔◌}
-use Rattle.std.specs.Option.{option_map_or}
+use Rattle.std.specs.Prelude.{All, Contains, ◌↔◌}
 use Rattle.std.proofs.lemmas.Bool.{cases_lt, false≢true}
 use Rattle.std.proofs.lemmas.List.{take_more}
 use Rattle.std.proofs.lemmas.List.Elements.{All-append, All-cons, All-contains, All-nil, Contains-get_or}
-use Rattle.std.proofs.lemmas.Option.{slice_get_within}
 use Rattle.lemmas.proofs.Elements.{Contains-cases, Contains-here, Contains-map, Contains-none}
 use Rattle.lemmas.proofs.Searches.{texts-more}
+use Rattle.lemmas.proofs.Lists.{at-within}
 use Rattle.object_groups.specs.Objects.{is_object}
 use Rattle.object_names.specs.First.{IsFirst}
 use Rattle.object_pairs.specs.Members.{HasService}
@@ -134,13 +133,6 @@ none-more blocks found bound before here place low lacks = ⊎_elim
     (λ (early : place < bound). before place early lacks)
     (λ (late : bound ≤ place). let same : place ≡ bound = omega (arith, low, late) in here (subst (λ (p : ℕ). LacksAt blocks found p) same lacks))
     (cases_lt place bound)
-
-at-within : (f : Block → Bool) (blocks : List Block) (place : ℕ) → option_map_or f (slice_get blocks place) false ≡ true → place < length blocks
-at-within f blocks place said = by_found (slice_get blocks place) refl said
-  where
-    by_found : (found : Option Block) → slice_get blocks place ≡ found → option_map_or f found false ≡ true → place < length blocks
-    by_found None here is = absurd (false≢true is)
-    by_found (Some block) here is = slice_get_within blocks place block here
 
 pub first-none : (blocks : List Block) (found : List Key) (bound : ℕ) → length blocks ≤ bound → NoneBelow blocks found bound → IsFirst (LacksAt blocks found) None
 first-none blocks found bound all before place lacks =

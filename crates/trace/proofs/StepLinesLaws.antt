@@ -1,5 +1,5 @@
 -- Step lines, one after another: what was read, and what becomes of it.
-use Rattle.std.proofs.Common.{◌≡◌, ◌<◌, ◌≤◌, ℕ, ◌⊎◌, ◌+◌, Bool, true, false, cond, eqb, nat_lt, List, [], ◌∷◌, ◌++◌, length, flat_map, Option, None, Some, IfNone, IfSome, inl, inr, refl, sym, ap, subst, ◌∙◌, append_assoc, arith, codes}
+use Rattle.std.proofs.Common.{◌≡◌, ◌<◌, ◌≤◌, ℕ, ◌+◌, Bool, true, false, cond, eqb, nat_lt, List, [], ◌∷◌, ◌++◌, length, flat_map, Option, None, Some, IfNone, IfSome, inl, inr, refl, sym, ap, subst, ◌∙◌, append_assoc, arith, codes}
 use Rattle.std.proofs.lemmas.Bool.{cases_lt, ne_eqb}
 use Rattle.std.proofs.lemmas.Grind.{flat_map-append}
 use Rattle.std.proofs.lemmas.List.{append-nil, length-append}
@@ -33,10 +33,6 @@ pub known_first : (a b : Option (List ℕ)) (P : List ℕ → List ℕ → Type 
 known_first None b P Q f h = tt
 known_first (Some x) None P Q f h = absurd h
 known_first (Some x) (Some y) P Q f h = f x y h
-
-pub known_self : (a : Option (List ℕ)) (P : List ℕ → List ℕ → Type 0) → ((x : List ℕ) → P x x) → Known a a P
-known_self None P f = tt
-known_self (Some x) P f = f x
 
 pub known_join : (a b c : Option (List ℕ)) (P Q R : List ℕ → List ℕ → Type 0) → ((x y z : List ℕ) → P x y → Q y z → R x z) → Known a b P → Known b c Q → Known a c R
 known_join None b c P Q R f h k = tt

@@ -1,7 +1,7 @@
 use Rattle.std.proofs.Common.{◌∙◌, ap, filter, nat_lt, subst, take_all}
 use Rattle.std.specs.List.Sorted.{IsPermutation}
 use Rattle.std.proofs.lemmas.List.Filters.{dedup_is}
-use Rattle.object_groups.proofs.NumberLemmas.{below-from_sorted}
+use Rattle.object_groups.specs.NodeLaws.{below-from_sorted}
 use Rattle.object_groups.proofs.groups.objects_among.Goals as goal
 
 pub returns : goal.returns

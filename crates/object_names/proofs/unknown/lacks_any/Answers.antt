@@ -1,7 +1,6 @@
 use Rattle.std.proofs.Common.{sym}
-use Rattle.lemmas.proofs.Searches.{any-at}
+use Rattle.lemmas.proofs.Searches.{any-at, none-more}
 use Rattle.object_names.specs.Unknown.{lacks}
-use Rattle.object_names.proofs.EntryLemmas.{none-more}
 use Rattle.object_names.proofs.unknown.lacks_any.Goals as goal
 
 pub returns-then-lacks : goal.returns-then-lacks

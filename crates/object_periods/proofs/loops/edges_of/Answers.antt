@@ -1,11 +1,12 @@
 use Rattle.std.proofs.Common.{◌≡◌, ◌<◌, ◌++◌, ◌∙◌, List, [], ap, arith, get_or, length, map, refl, take_all, ℕ}
 use Rattle.std.proofs.lemmas.List.{get_or_default}
+use Rattle.lemmas.proofs.Edges.{within-more}
 use Rattle.object_groups.specs.Objects.{names_in, objects_in}
 use Rattle.object_reader.specs.declared.block.BlockKind.{BlockKind}
 use Rattle.object_reader.specs.declared.block.BlockKind.TheVariants.{TimePeriod}
 use Rattle.object_periods.specs.Loops.{edge_from, exclusion_graph}
 use Rattle.object_periods.specs.Periods.{excluded_at}
-use Rattle.object_periods.proofs.EdgeLemmas.{ends-more, within-more}
+use Rattle.object_periods.proofs.EdgeLemmas.{ends-more}
 use Rattle.object_periods.proofs.ExcludeLemmas.{excluded-within}
 use Rattle.object_periods.proofs.PeriodLemmas.{excludes-are}
 use Rattle.object_periods.proofs.loops.edges_of.Goals as goal

@@ -1,7 +1,6 @@
 use Rattle.std.proofs.Common.{is_none, sym}
-use Rattle.lemmas.proofs.Searches.{any-at}
+use Rattle.lemmas.proofs.Searches.{any-at, none-more}
 use Rattle.object_groups.specs.Names.{number_of}
-use Rattle.object_services.proofs.UnknownLemmas.{none-more}
 use Rattle.object_services.proofs.unknown.lacks_any.Goals as goal
 
 pub returns-then-lacks : goal.returns-then-lacks

@@ -1,7 +1,8 @@
 use Rattle.std.proofs.Common.{refl}
 use Rattle.trace.specs.FeedRun.{ReadsSome}
 use Rattle.trace.proofs.FeedLaws.{some_none, some_more, some_last, unmoved_join}
-use Rattle.trace.proofs.StepLinesLaws.{known_join, known_self, if_none_is, if_some_is}
+use Rattle.trace.proofs.StepLinesLaws.{known_join, if_none_is, if_some_is}
+use Rattle.event_feed.specs.FeedLaws.{known_same}
 use Rattle.trace.proofs.feed.read_feed.Goals as goal
 
 pub loop-after-init : goal.loop-after-init
@@ -12,7 +13,7 @@ loop-after-init g c =
       unmoved = record { config = refl; deciders = refl; world = refl; setup = refl; posted = refl };
       limit = c.requires.limit;
       open_still = c.requires.open;
-      so_far = known_self c.args.feeder.now.bytes (λ bytes rest. ReadsSome c.args.run.now c.args.feeder.now bytes c.args.run.now c.args.feeder.now rest w w c.args.lines.now c.args.lines.now)
+      so_far = known_same c.args.feeder.now.bytes (λ bytes rest. ReadsSome c.args.run.now c.args.feeder.now bytes c.args.run.now c.args.feeder.now rest w w c.args.lines.now c.args.lines.now)
           (λ bytes. some_none c.args.run.now c.args.feeder.now bytes w c.args.lines.now);
     }
 

@@ -2,9 +2,9 @@ use Rattle.std.proofs.Common.{◌≡◌, ◌∙◌, ◌&&◌, Bool, List, [], ap
 use Rattle.std.specs.List.{list_any}
 use Rattle.std.proofs.lemmas.List.{get_or-map, length-map}
 use Rattle.std.proofs.lemmas.List.Folds.{list_any_at}
+use Rattle.lemmas.proofs.Searches.{none-more}
 use Rattle.object_groups.specs.Names.{number_of}
 use Rattle.object_values.specs.Values.{texts}
-use Rattle.object_groups.proofs.NumberLemmas.{none-more}
 use Rattle.object_groups.proofs.names.Names.has_unknown.Goals as goal
 
 pub returns-then-lacks : goal.returns-then-lacks
