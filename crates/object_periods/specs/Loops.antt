@@ -1,7 +1,6 @@
 -- Loops of exclusions (chapter "Time Periods").
 use Rattle.std.specs.Prelude.{◌≡◌, ℕ, ◌<◌, List, map, Contains, Some, slice_get}
 use Rattle.graph.specs.Chains.{IsOnLoop}
-use Rattle.graph.specs.declared.edges.Edge.{Edge}
 use Rattle.object_groups.specs.Objects.{objects_in}
 pub use Rattle.object_inheritance.specs.Templates.{edge_from}
 use Rattle.object_periods.specs.Periods.{excluded_at}
@@ -36,7 +35,3 @@ HasNoPeriodLoop blocks = (place : ℕ) → IsLoopedAt blocks place → ⊥
 -- The graph of exclusions: each period leads to those that it excludes.
 unfoldable pub exclusion_graph : List Block → List (List ℕ)
 exclusion_graph blocks = map (excluded_at blocks) (objects_in blocks TimePeriod)
-
--- an edge of that graph
-abbrev pub edge_from : ℕ → ℕ → Edge
-edge_from number other = record { from = number; to = other }
