@@ -1,3 +1,2 @@
-pub mod SearchLemmas
 pub mod WalkLemmas
 pub mod OrderLemmas

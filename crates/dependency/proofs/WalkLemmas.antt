@@ -1,10 +1,14 @@
 -- A walk through the entries that an object's chains reach, and that it answers as the definition does.
-use Rattle.std.proofs.Common.{◌≡◌, ℕ, zero, suc, ◌+◌, ◌<◌, ◌≤◌, Bool, true, false, cond, ◌==◌, ◌&&◌, ◌||◌, List, [], ◌∷◌, ◌++◌, length, map, filter, get_or, take, refl, sym, ap, subst, ◌∙◌, ⊎_elim, arith}
-use Rattle.std.specs.Prelude.{Contains}
+use Rattle.std.proofs.Common.{◌≡◌, ◌≢◌, ℕ, zero, suc, ◌+◌, ◌<◌, ◌≤◌, Bool, true, false, cond, ◌==◌, ◌&&◌, ◌||◌, List, [], ◌∷◌, ◌++◌, length, map, filter, get_or, take, refl, sym, ap, subst, ◌∙◌, inl, inr, ⊎_elim, arith, append_assoc}
+use Rattle.std.specs.Prelude.{All, AllPairs, Contains}
 use Rattle.std.specs.List.{list_any}
-use Rattle.std.proofs.lemmas.Bool.{cases_lt, or_left, or_right}
+use Rattle.std.proofs.lemmas.Bool.{cases_lt, eqb-true, or_left, or_right}
+use Rattle.std.proofs.lemmas.Bool.Decides.{Decides-eqb}
+use Rattle.std.proofs.lemmas.Map.Made.{IsDistinct-from_AllPairs}
+use Rattle.std.proofs.lemmas.Map.Steps.{length-le_from_distinct_below}
+use Rattle.std.proofs.lemmas.Map.Views.{Contains-from_any}
 use Rattle.std.proofs.lemmas.List.{get_or_append_left, get_or_default, get_or_past, map-append, take_more}
-use Rattle.std.proofs.lemmas.List.Elements.{Contains-get_or, Contains-append_left, filter-append}
+use Rattle.std.proofs.lemmas.List.Elements.{All-get_or, Contains-get_or, Contains-append_left, Contains-append_right, Contains-append_cases, filter-append}
 use Rattle.std.proofs.lemmas.List.Folds.{list_any-append, list_any_at, list_any_none}
 use Rattle.graph.specs.Reach.{Gains}
 use Rattle.due_model.specs.declared.config.Config.{Config}
@@ -16,6 +20,28 @@ use Rattle.due_model.specs.Periods.{in_period}
 use Rattle.lemmas.proofs.Dependencies.{fails_at_any_depth}
 use Rattle.dependency.specs.Entry.{HasEntries, entries_of, fails_by, masters_of}
 use Rattle.dependency.specs.Search.{Fails, IsWalk}
+
+-- no more than the nodes were found
+pub few_found : (nodes : ℕ) (found : List ℕ) → All (λ q. q < nodes) found → AllPairs (λ p q. p ≢ q) found → length found ≤ nodes
+few_found nodes found within once = length-le_from_distinct_below found nodes (IsDistinct-from_AllPairs Decides-eqb found once)
+    (λ q any. let at : Contains found q = Contains-from_any eqb-true q found any in subst (λ (p : ℕ). p < nodes) at.2 (All-get_or (λ (p : ℕ). p < nodes) found at.0 q at.1 within))
+
+-- one gain after another
+pub Gains-append : (old early late found new : List ℕ) → Gains old early found → Gains found late new → Gains old (early ++ late) new
+Gains-append old early late found new before after = record {
+  front = (before.front.0 ++ after.front.0, after.front.1 ∙ ap (λ (front : List ℕ). front ++ after.front.0) before.front.1 ∙ append_assoc old before.front.0 after.front.0);
+  only = λ q at. ⊎_elim
+      (λ (there : Contains found q). ⊎_elim
+      (λ (first : Contains old q). inl first)
+      (λ (among : Contains early q). inr (Contains-append_left early late q among))
+      (before.only q there))
+      (λ (last : Contains late q). inr (Contains-append_right early late q last))
+      (after.only q at);
+  each = λ q at. ⊎_elim
+      (λ (first : Contains early q). rw after.front.1 (Contains-append_left found after.front.0 q (before.each q first)))
+      (λ (last : Contains late q). after.each q last)
+      (Contains-append_cases early late q at);
+}
 
 any_of_filter : {X : Type 0} (p q r : X → Bool) (xs : List X) → list_any (λ x. p x && q x && r x) xs ≡ list_any (λ x. q x && r x) (filter p xs)
 any_of_filter p q r [] = refl
@@ -98,16 +124,18 @@ module _ (c : Config) (zone : Zone) (states : ℕ → State) (t : ℕ) where
         at_depth (suc depth) = fails-step depth p
             ∙ ap (λ es. list_any (fails_by c zone states t) es || list_any (fails_at depth) (masters_of c zone t es)) (get_or_past entries p [] past)
 
-    pub IsWalk-start : (from : ℕ) (found : List ℕ) → Gains [] (from ∷ []) found → IsWalk c zone states t entries from 0 found
-    IsWalk-start from found gains = record {
-      start = gains.each from (0, omega arith, refl);
-      reached = λ q at fails. ⊎_elim
-          (λ (none : Contains [] q). absurd (omega (arith, none.1)))
-          (λ (one : Contains (from ∷ []) q). subst (λ (x : ℕ). Fails c zone states t x) (sym (only_one q one)) fails)
-          (gains.only q at);
-      passed = λ k low. absurd (omega (arith, low));
-      seen = λ k q low at. absurd (omega (arith, low));
-    }
+    pub IsWalk-start : (from : ℕ) (old nodes found : List ℕ) → Gains old nodes found → old ≡ [] → nodes ≡ from ∷ [] → IsWalk c zone states t entries from 0 found
+    IsWalk-start from old nodes found gained none one =
+        let gains : Gains [] (from ∷ []) found = rw (← one, ← none) gained in
+        record {
+          start = gains.each from (0, omega arith, refl);
+          reached = λ q at fails. ⊎_elim
+              (λ (none : Contains [] q). absurd (omega (arith, none.1)))
+              (λ (one : Contains (from ∷ []) q). subst (λ (x : ℕ). Fails c zone states t x) (sym (only_one q one)) fails)
+              (gains.only q at);
+          passed = λ k low. absurd (omega (arith, low));
+          seen = λ k q low at. absurd (omega (arith, low));
+        }
       where
         only_one : (q : ℕ) → Contains (from ∷ []) q → from ≡ q
         only_one q (zero, within, at) = at

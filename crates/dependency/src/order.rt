@@ -9,17 +9,18 @@ ghost use Rattle.dependency.specs.Entry.{state_of};
 ghost use Rattle.dependency.specs.Order.{AreOf, IsOrderOf};
 ghost use Rattle.time_period.specs.Days.{AreCompiled};
 
-use crate::search::Search;
+use crate::search::fails;
 use due_model::config::{Config, Dependency, ObjectId};
 use due_model::state::State;
 use graph::lists::{Lists, ListsBuilder};
+use graph::reach::Reach;
 use std::alloc::{AllocError, Global};
 use std::marker::Model;
 use time_period::compiled::Compiled;
 use zone_times::clock::ZoneClock;
 
 /// The notification dependencies of a configuration, in an order in which each object's entries are found at once.
-/// It takes 14 bytes an object and the entries themselves. Contracts see the entries of each object and how many
+/// It takes 16 bytes an object and the entries themselves. Contracts see the entries of each object and how many
 /// periods there are.
 #[derive(Drop)]
 pub struct Order {
@@ -27,7 +28,7 @@ pub struct Order {
     entries: Lists<Dependency>,
     /// How many periods the configuration has.
     periods: usize,
-    search: Search,
+    search: Reach,
 }
 
 impl Model for Order {
@@ -55,7 +56,7 @@ impl Order {
         Ok(Order {
             entries: builder.build(alloc)?,
             periods: config.periods.len(),
-            search: Search::new(alloc, objects)?,
+            search: Reach::new(alloc, objects as u32)?,
         })
     }
 
@@ -81,8 +82,15 @@ impl Order {
         if (object.0 as usize) >= self.entries.len() {
             return false;
         }
-        self.search
-            .fails(&self.entries, states, periods, zone, t, object.0)
+        fails(
+            &mut self.search,
+            &self.entries,
+            states,
+            periods,
+            zone,
+            t,
+            object.0,
+        )
     }
 }
 
