@@ -7,7 +7,7 @@ use Rattle.std.proofs.lemmas.Bool.Decides.{Decides-eqb}
 use Rattle.std.proofs.lemmas.Map.Made.{IsDistinct-from_AllPairs}
 use Rattle.std.proofs.lemmas.Map.Steps.{length-le_from_distinct_below}
 use Rattle.std.proofs.lemmas.Map.Views.{Contains-from_any}
-use Rattle.std.proofs.lemmas.List.{get_or_append_left, get_or_default, get_or_past, map-append, take_more}
+use Rattle.std.proofs.lemmas.List.{get_or_append_left, get_or_default, map-append, take_more}
 use Rattle.std.proofs.lemmas.List.Elements.{All-get_or, Contains-get_or, Contains-append_left, Contains-append_right, Contains-append_cases, filter-append}
 use Rattle.std.proofs.lemmas.List.Folds.{list_any-append, list_any_at, list_any_none}
 use Rattle.graph.specs.Reach.{Gains}
@@ -116,13 +116,13 @@ module _ (c : Config) (zone : Zone) (states : ℕ → State) (t : ℕ) where
         (suc depth, fails-step depth p ∙ or_right (list_any (fails_by c zone states t) (get_or entries p [])) (list_any (fails_at depth) masters) one)
 
     -- an object that isn't there has no dependencies
-    pub fails-outside : (p : ℕ) → length entries ≤ p → dependency_fails c zone states t p ≡ false
-    fails-outside p past = at_depth (length c.dependencies)
+    pub fails-alone : (p : ℕ) → get_or entries p [] ≡ [] → dependency_fails c zone states t p ≡ false
+    fails-alone p none = at_depth (length c.dependencies)
       where
         at_depth : (depth : ℕ) → fails_at depth p ≡ false
         at_depth zero = refl
         at_depth (suc depth) = fails-step depth p
-            ∙ ap (λ es. list_any (fails_by c zone states t) es || list_any (fails_at depth) (masters_of c zone t es)) (get_or_past entries p [] past)
+            ∙ ap (λ es. list_any (fails_by c zone states t) es || list_any (fails_at depth) (masters_of c zone t es)) none
 
     pub IsWalk-start : (from : ℕ) (old nodes found : List ℕ) → Gains old nodes found → old ≡ [] → nodes ≡ from ∷ [] → IsWalk c zone states t entries from 0 found
     IsWalk-start from old nodes found gained none one =

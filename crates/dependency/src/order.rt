@@ -79,7 +79,8 @@ impl Order {
         ensures fails { (c : Config) → IsOrderOf c self.old → AreCompiled c periods.now
             → result ≡ dependency_fails c zone.now (state_of states.now) t object.0 }
     {
-        if (object.0 as usize) >= self.entries.len() {
+        let number = usize::from(object.0);
+        if number >= self.entries.len() || self.entries.get(number).is_empty() {
             return false;
         }
         fails(
