@@ -3,4 +3,3 @@ pub mod Device
 pub mod Mailbox
 pub mod Pager
 pub mod Spawned
-pub mod Written

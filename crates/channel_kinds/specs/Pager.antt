@@ -3,7 +3,7 @@ use Rattle.std.specs.Prelude.{◌≡◌, ℕ, Bool, false, ◌⊎◌, List, [], 
 use Rattle.std.specs.Io.KnownBytes.{Appends}
 use Rattle.channel.specs.Record.{Record}
 use Rattle.channel_kinds.specs.Answer.{IsHeard}
-use Rattle.channel_kinds.specs.Written.{WritesFront}
+use Rattle.written.specs.Written.{WritesFront}
 
 -- the stream to its peer, whether it failed once, and what it keeps
 pub record Paged (S : Type 0) : Type 0 where

@@ -4,7 +4,7 @@ ghost use Rattle.std.specs.Prelude.{◌≡◌, ◌↔◌, ◌+◌, ◌<◌, ◌�
 ghost use Rattle.std.specs.Io.KnownBytes.{Appends};
 ghost use Rattle.channel.specs.Channels.{IsCounted, receipt_of};
 ghost use Rattle.channel_kinds.specs.Mailbox.{closing_line};
-ghost use Rattle.channel_kinds.specs.Written.{WritesFront};
+ghost use Rattle.written.specs.Written.{WritesFront};
 
 use crate::tries::keep_try;
 use crate::writing::write_flushed;

@@ -5,7 +5,7 @@ ghost use Rattle.std.specs.Prelude.{IsTrue, IsErr, IsErrOf, OnOk, OnErr};
 ghost use Rattle.std.specs.Io.KnownBytes.{Appends};
 ghost use Rattle.channel.specs.Channels.{IsCounted, receipt_of};
 ghost use Rattle.channel_kinds.specs.Pager.{Talks, farewell, page_of};
-ghost use Rattle.channel_kinds.specs.Written.{WritesFront};
+ghost use Rattle.written.specs.Written.{WritesFront};
 
 use crate::answer;
 use crate::tries::keep_try;

@@ -2,7 +2,7 @@
 
 ghost use Rattle.std.specs.Prelude.{◌≡◌, OnOk};
 ghost use Rattle.std.specs.Io.KnownBytes.{Appends};
-ghost use Rattle.channel_kinds.specs.Written.{WritesFront};
+ghost use Rattle.written.specs.Written.{WritesFront};
 
 use std::io::Write;
 

@@ -1,6 +1,5 @@
 -- What a fault of object text says of the bytes that were read.
-use Rattle.std.proofs.Common.{◌≡◌, ℕ, Bool, List, [], Option, ◌⊎◌, None, Some, IfSome, inl, inr, refl, subst, ◌∙◌}
-use Rattle.std.specs.Io.KnownBytes.{prepend_known}
+use Rattle.std.proofs.Common.{◌≡◌, ℕ, Bool, List, Option, ◌⊎◌, None, Some, IfSome, inl, inr, subst, ◌∙◌}
 use Rattle.due_model.specs.declared.config.Config.{Config}
 use Rattle.command_output.specs.declared.outcome.CommandFault.{CommandFault}
 use Rattle.object_resolve.specs.declared.fault.LoadFault.{LoadFault}
@@ -39,8 +38,3 @@ file_of config (Some text) start after is gives = given after (subst (λ (k : Op
 
 pub file_fails : (can_fail : Bool) (fault : CommandFault) (known start : Option (List ℕ)) → start ≡ known → TextFails can_fail None fault start → FileFails can_fail fault known
 file_fails can_fail fault known start is fails = subst (λ (k : Option (List ℕ)). TextFails can_fail None fault k) is fails
-
--- nothing is held at first
-pub nothing_held : (known : Option (List ℕ)) → prepend_known [] known ≡ known
-nothing_held None = refl
-nothing_held (Some bytes) = refl

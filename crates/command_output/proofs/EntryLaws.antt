@@ -11,8 +11,8 @@ use Rattle.notice_text.specs.Names.{filter_name}
 use Rattle.command_output.specs.Fields.{field}
 use Rattle.command_output.specs.LineHead.{contact_field, entry_end, entry_head, entry_letter, head_text, number_field, suppression_letter, suppression_number}
 use Rattle.command_output.specs.ReportLine.{head_fields, suppression_line_of}
-use Rattle.command_output.specs.Output.{Leaves, WritesFront}
-use Rattle.command_output.specs.OutputLaws.{front_begun, front_on, leaves_all, leaves_on}
+use Rattle.written.specs.Written.{Leaves, WritesFront}
+use Rattle.written.specs.WrittenLaws.{front_begun, front_on, leaves_all, leaves_on}
 use Rattle.command_output.specs.OutputLine.{entries_text, entry_text}
 
 -- ---- the parts of a line

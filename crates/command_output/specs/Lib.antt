@@ -1,8 +1,6 @@
 pub mod Fields
 pub mod LineHead
 pub mod Outcome
-pub mod Output
-pub mod OutputLaws
 pub mod OutputLine
 pub mod ReportLine
 pub mod RunLine

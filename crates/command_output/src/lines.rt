@@ -2,7 +2,7 @@
 
 ghost use Rattle.std.specs.Prelude.{◌≡◌, [], ◌++◌, IfErr, IfOk, OnOk};
 ghost use Rattle.command_output.specs.Outcome.{IsWriteFault};
-ghost use Rattle.command_output.specs.Output.{Leaves, WritesFront};
+ghost use Rattle.written.specs.Written.{Leaves, WritesFront};
 ghost use Rattle.command_output.specs.OutputLine.{entries_text, line_text};
 
 use crate::outcome::CommandFault;

@@ -1,6 +1,7 @@
 -- What the next line of the feed, and then all of them, make of a run.
 use Rattle.std.proofs.Common.{◌≡◌, ◌≢◌, ℕ, ◌+◌, ◌<◌, ◌≤◌, All, Bool, List, [], ◌++◌, length, reverse, refl, sym, ap, subst, ◌∙◌, ◌⊎◌, inl, inr, arith, Option, None, Some, Result, Ok, Err, IfOk, IsErr}
 use Rattle.std.specs.declared.alloc.AllocError.{AllocError}
+use Rattle.std.proofs.lemmas.Iterator.Adapters.{option_map_id}
 use Rattle.std.proofs.lemmas.List.Elements.{All-nil}
 use Rattle.due_model.specs.declared.config.Config.{Config}
 use Rattle.due_model.specs.declared.event.Event.{Event}
@@ -12,7 +13,6 @@ use Rattle.event_feed.specs.declared.fault.RefusedLine.{RefusedLine}
 use Rattle.event_feed.specs.Feed.{Answer, Feed, answers_from, feed_limit, feed_of, refusal}
 use Rattle.text_lines.specs.LineReader.{Reading, to_come}
 use Rattle.text_lines.specs.Lines.{pieces}
-use Rattle.std.specs.Io.KnownBytes.{prepend_known}
 use Rattle.engine.specs.declared.intake.Next.{Next}
 use Rattle.engine.specs.declared.run.Turn.{Turn}
 use Rattle.engine.specs.declared.run.Turn.TheVariants as turn
@@ -22,7 +22,7 @@ use Rattle.engine.specs.declared.intake.Next.TheVariants.{Accepts, Refused, Over
 use Rattle.engine.specs.Feed.{CameFirst, Follows, HasRead, Intake, Offers, events_in, refusals_in, with_one}
 use Rattle.engine.specs.Served.{DeskValue, GoesOn, IsOver, IsStart, IsStopped, Stands}
 use Rattle.engine.proofs.DeskLaws.{undecided_holds}
-use Rattle.engine.proofs.IntakeLaws.{known_same}
+use Rattle.event_feed.specs.FeedLaws.{known_same}
 
 -- ---- the next line
 
@@ -194,16 +194,11 @@ pub shorter_by : {E : Type 0} (made : Result Turn E) → made ≡ Ok turn.GoesOn
 shorter_by (Ok t) is old new line limit = let less = line cc in omega (arith, less, limit)
 shorter_by (Err e) is old new line limit = absurd (cc)
 
--- the reader of which nothing was read
-prepend_none : (known : Option (List ℕ)) → prepend_known [] known ≡ known
-prepend_none None = refl
-prepend_none (Some bytes) = refl
-
 pub new_start : (known : Option (List ℕ)) (lines : Reading) (now : Intake) → lines ≡ record { line = []; held = []; unread = known; calls = 0 }
     → now ≡ record { feed = feed_of lines 0 0 None; events = []; refused = [] } → IsStart known now
 new_start known lines now is from = record {
   first = record {
-    bytes = ap (λ (x : Intake). x.feed.bytes) from ∙ ap to_come is ∙ prepend_none known;
+    bytes = ap (λ (x : Intake). x.feed.bytes) from ∙ ap to_come is ∙ option_map_id known;
     line = ap (λ (x : Intake). x.feed.line) from;
     last = ap (λ (x : Intake). x.feed.last) from;
     goes_on = ap (λ (x : Intake). x.feed.stop) from;

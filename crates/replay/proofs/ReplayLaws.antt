@@ -1,6 +1,7 @@
 -- From the report of a feed to that of an input.
-use Rattle.std.proofs.Common.{◌≡◌, ℕ, Bool, true, List, [], Option, ◌⊎◌, None, Some, Result, Ok, Err, IfErr, IfOk, IfSome, inl, inr, refl, arith, subst, ◌∙◌}
-use Rattle.std.specs.Io.KnownBytes.{Keeps, prepend_known}
+use Rattle.std.proofs.Common.{◌≡◌, ℕ, Bool, true, List, [], Option, ◌⊎◌, None, Some, Result, Ok, Err, IfErr, IfOk, IfSome, inl, inr, arith, subst, ◌∙◌}
+use Rattle.std.specs.Io.KnownBytes.{prepend_known}
+use Rattle.std.proofs.lemmas.Iterator.Adapters.{option_map_id}
 use Rattle.std.proofs.lemmas.Result.{IfOk-weaker}
 use Rattle.due_model.specs.declared.config.Config.{Config}
 use Rattle.due_model.specs.declared.zone.Zone.{Zone}
@@ -15,18 +16,9 @@ use Rattle.command_output.specs.declared.outcome.CommandFault.TheVariants.{Objec
 use Rattle.command_output.specs.declared.outcome.Ending.{Ending}
 use Rattle.command_output.specs.Outcome.{IsWriteFault, fault_of}
 use Rattle.command_input.specs.Objects.{FileFails, GivesObjects, IsFileOf, ObjectsFail, feed_in, objects_in}
+use Rattle.written.specs.WrittenLaws.{keeps_same}
 use Rattle.replay.specs.Replay.{FailsOf, FailsWith, Reports, ReportsOf}
 use Rattle.replay.specs.Report.{WritesReport, WritesReportFront}
-
--- nothing is held at first
-nothing_held : (known : Option (List ℕ)) → prepend_known [] known ≡ known
-nothing_held None = refl
-nothing_held (Some bytes) = refl
-
--- the writer keeps what it holds
-keeps_same : (known : Option (List ℕ)) → Keeps known known
-keeps_same None = tt
-keeps_same (Some bytes) = refl
 
 -- the answers of a feed whose bytes are those after the object text
 given_of : (can_fail : Bool) (c : Config) (bytes : List ℕ) (rest : Option (List ℕ)) (given : List Answer)
@@ -59,7 +51,7 @@ pub report_of_input : (can_fail : Bool) (c c' : Config) (zone zone' : Zone) (kno
     → c' ≡ c → zone' ≡ zone → IfOk r (λ ending. WritesReport can_fail c' zone' feed ending old new)
     → IfSome known (λ bytes. IfOk r (λ ending. Reports can_fail bytes zone ending old new))
 report_of_input can_fail c c' zone zone' known start reading feed r old new begins is of e f h =
-    report_by can_fail c zone known reading r old new (subst (λ (k : Option (List ℕ)). GivesObjects c k (to_come reading)) (begins ∙ nothing_held known) of)
+    report_by can_fail c zone known reading r old new (subst (λ (k : Option (List ℕ)). GivesObjects c k (to_come reading)) (begins ∙ option_map_id known) of)
     (subst (λ (t : Config × Zone × Feed). IfOk r (λ ending. WritesReport can_fail t.0 t.1 t.2 ending old new)) (same_all c c' zone zone' feed (feed_of reading 0 0 None) e f is) h)
 
 fails_as : (sink : Bool) (can_fail : Bool) (c : Config) (zone : Zone) (bytes : List ℕ) (reading : Reading) (fault : CommandFault) (old new : Option (List ℕ))
@@ -83,7 +75,7 @@ pub fault_of_input : (sink : Bool) (can_fail : Bool) (c c' : Config) (zone zone'
     → c' ≡ c → zone' ≡ zone → WritesReportFront can_fail c' zone' feed old new → IfErr r (λ fault. IsWriteFault sink fault)
     → IfSome known (λ bytes. IfErr r (λ fault. FailsWith can_fail bytes zone fault old new))
 fault_of_input sink can_fail c c' zone zone' known start reading feed r old new begins is of e f h w =
-    fault_by sink can_fail c zone known reading r old new (subst (λ (k : Option (List ℕ)). GivesObjects c k (to_come reading)) (begins ∙ nothing_held known) of)
+    fault_by sink can_fail c zone known reading r old new (subst (λ (k : Option (List ℕ)). GivesObjects c k (to_come reading)) (begins ∙ option_map_id known) of)
     (subst (λ (t : Config × Zone × Feed). WritesReportFront can_fail t.0 t.1 t.2 old new) (same_all c c' zone zone' feed (feed_of reading 0 0 None) e f is) h) w
 
 -- the object text gives no configuration, and nothing was written
@@ -100,7 +92,7 @@ refused_by can_fail zone (Some bytes) fault held h = objects_by can_fail zone by
 pub refused_input : (can_fail : Bool) (zone : Zone) (known : Option (List ℕ)) (start : Reading) (fault : CommandFault) (held : Option (List ℕ))
     → to_come start ≡ prepend_known [] known → ObjectsFail can_fail fault (to_come start) → IfSome known (λ bytes. FailsWith can_fail bytes zone fault held held)
 refused_input can_fail zone known start fault held begins h =
-    refused_by can_fail zone known fault held (subst (λ (k : Option (List ℕ)). ObjectsFail can_fail fault k) (begins ∙ nothing_held known) h)
+    refused_by can_fail zone known fault held (subst (λ (k : Option (List ℕ)). ObjectsFail can_fail fault k) (begins ∙ option_map_id known) h)
 
 -- memory ran out before anything was written
 pub no_memory : (can_fail : Bool) (zone : Zone) (known held : Option (List ℕ)) → IfSome known (λ bytes. FailsWith can_fail bytes zone NoMemory held held)
@@ -116,7 +108,7 @@ given_by can_fail c reading given bytes is k = subst (λ (known : Option (List �
 module _ (can_fail : Bool) (c c' : Config) (zone zone' : Zone) (texts known : Option (List ℕ)) (reading : Reading) (feed : Feed) (r : Result Ending CommandFault) (old new : Option (List ℕ))
     (begins : to_come reading ≡ prepend_known [] known) (is : feed ≡ feed_of reading 0 0 None) (of : IsFileOf c texts) (e : c' ≡ c) (f : zone' ≡ zone) where
   come : to_come reading ≡ known
-  come = begins ∙ nothing_held known
+  come = begins ∙ option_map_id known
 
   pub report_of_files : IfOk r (λ ending. WritesReport can_fail c' zone' feed ending old new)
       → IfSome texts (λ text. IfSome known (λ bytes. IfOk r (λ ending. ReportsOf can_fail text bytes zone ending old new)))

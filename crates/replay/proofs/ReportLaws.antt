@@ -17,10 +17,18 @@ use Rattle.messages.specs.declared.entries.Entry.{Entry}
 use Rattle.messages.specs.Entries.{event_entries}
 use Rattle.decider.specs.Fits.{Fits, Kept}
 use Rattle.command_output.specs.declared.outcome.Ending.{Ending}
-use Rattle.command_output.specs.Output.{Leaves, Writes, WritesFront}
+use Rattle.written.specs.Written.{Leaves, Writes, WritesFront}
 use Rattle.command_output.specs.OutputLine.{entries_text}
-use Rattle.command_output.specs.OutputLaws.{front_less, front_longer, front_on, leaves_all, leaves_less, leaves_on}
+use Rattle.written.specs.WrittenLaws.{front_less, front_longer, front_on, leaves_all, leaves_less, leaves_on}
 use Rattle.event_feed.specs.FeedLaws.{known_same, known_then, Passed, passed_more, event_passes, fault_passes, fault_next, event_answers, earlier_more, then_by}
+
+-- ---- an answer
+
+-- a fact of an answer that has nothing, from another
+pub if_none : {A : Type 0} (P Q : Type 0) (found : Option A) → (P → Q) → IfNone found P
+    → IfNone found Q
+if_none P Q None f h = f h
+if_none P Q (Some a) f h = tt
 
 -- ---- what is given of a feed
 

@@ -9,7 +9,7 @@ use Rattle.text_lines.specs.Lines.{pieces}
 use Rattle.command_output.specs.declared.outcome.CommandFault.{CommandFault}
 use Rattle.command_output.specs.declared.outcome.CommandFault.TheVariants.{Objects, Unreadable, Output, NoMemory}
 use Rattle.command_output.specs.declared.outcome.Ending.{Ending}
-use Rattle.command_output.specs.Output.{Writes, WritesFront}
+use Rattle.written.specs.Written.{Writes, WritesFront}
 use Rattle.command_input.specs.Objects.{feed_in, objects_in}
 use Rattle.replay.specs.Report.{ending_after, report_text}
 

@@ -16,7 +16,7 @@ use Rattle.event_feed.specs.Feed.{Answer, AnswersNext, AreGivenBy, Feed, PassesL
 use Rattle.text_lines.specs.Lines.{Known}
 use Rattle.command_output.specs.declared.outcome.Ending.{Ending}
 use Rattle.command_output.specs.declared.outcome.Ending.TheVariants.{Short, Whole}
-use Rattle.command_output.specs.Output.{Leaves, Writes, WritesFront}
+use Rattle.written.specs.Written.{Leaves, Writes, WritesFront}
 use Rattle.command_output.specs.OutputLine.{entries_text}
 use Rattle.command_output.specs.ReportLine.{refused_line}
 

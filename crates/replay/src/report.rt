@@ -3,7 +3,7 @@
 ghost use Rattle.std.specs.Prelude.{◌≡◌, ◌+◌, ◌<◌, ◌≤◌, ◌∷◌, ◌++◌, [], List};
 ghost use Rattle.std.specs.Prelude.{filter, length, false, true, IfErr, IfNone, IfOk, IfSome, None, Ok, OnOk};
 ghost use Rattle.command_output.specs.Outcome.{IsWriteFault};
-ghost use Rattle.command_output.specs.Output.{Leaves, WritesFront};
+ghost use Rattle.written.specs.Written.{Leaves, WritesFront};
 ghost use Rattle.command_output.specs.OutputLine.{entries_text};
 ghost use Rattle.command_output.specs.ReportLine.{refused_line};
 ghost use Rattle.messages.specs.Entries.{event_entries};

@@ -7,8 +7,8 @@ use Rattle.due_model.specs.declared.config.LaneId.{LaneId}
 use Rattle.due_model.specs.declared.notice.Notice.{Notice}
 use Rattle.undelivered.specs.declared.Why.{Why}
 use Rattle.engine.specs.Lanes.{LaneParts}
-use Rattle.command_output.specs.Output.{Leaves, WritesFront}
-use Rattle.command_output.specs.OutputLaws.{front_begun, front_on, leaves_on}
+use Rattle.written.specs.Written.{Leaves, WritesFront}
+use Rattle.written.specs.WrittenLaws.{front_begun, front_on, leaves_on}
 use Rattle.command_output.specs.RunLine.{closed_line, taken_line, undelivered_line}
 use Rattle.run_command.specs.Report.{lane_lines, letters_text}
 

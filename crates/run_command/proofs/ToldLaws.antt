@@ -23,8 +23,8 @@ use Rattle.command_output.specs.declared.outcome.CommandFault.{CommandFault}
 use Rattle.command_output.specs.declared.outcome.CommandFault.TheVariants as command
 use Rattle.command_output.specs.declared.outcome.Ending.{Ending}
 use Rattle.command_output.specs.Outcome.{IsWriteFault}
-use Rattle.command_output.specs.Output.{Leaves, Writes, WritesFront}
-use Rattle.command_output.specs.OutputLaws.{front_longer, front_on, leaves_all, leaves_on}
+use Rattle.written.specs.Written.{Leaves, Writes, WritesFront}
+use Rattle.written.specs.WrittenLaws.{front_longer, front_on, leaves_all, leaves_on}
 use Rattle.run_command.specs.Report.{WritesReport, answer_text, ending_of, lanes_text, log_text, refused_text, report_text, told_after}
 use Rattle.run_command.specs.Told.{HasTold, IsTold}
 

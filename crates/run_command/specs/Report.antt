@@ -19,7 +19,7 @@ use Rattle.command_output.specs.declared.outcome.CommandFault.{CommandFault}
 use Rattle.command_output.specs.declared.outcome.CommandFault.TheVariants.{Output}
 use Rattle.command_output.specs.declared.outcome.Ending.{Ending}
 use Rattle.command_output.specs.declared.outcome.Ending.TheVariants.{Whole, Short, Undelivered}
-use Rattle.command_output.specs.Output.{Writes, WritesFront}
+use Rattle.written.specs.Written.{Writes, WritesFront}
 use Rattle.command_output.specs.ReportLine.{refused_line, suppression_line}
 use Rattle.command_output.specs.RunLine.{closed_line, taken_line, undelivered_line}
 

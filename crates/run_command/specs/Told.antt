@@ -8,7 +8,7 @@ use Rattle.engine.specs.declared.run.Turn.{Turn}
 use Rattle.engine.specs.Run.{HasTaken, RunValue}
 use Rattle.command_output.specs.declared.outcome.CommandFault.{CommandFault}
 use Rattle.command_output.specs.Outcome.{IsWriteFault}
-use Rattle.command_output.specs.Output.{Leaves, WritesFront}
+use Rattle.written.specs.Written.{Leaves, WritesFront}
 use Rattle.run_command.specs.Report.{told_after}
 
 -- This text was told, to a writer that can fail or can't: all of it is written but what is held back; or, after a fault, a front

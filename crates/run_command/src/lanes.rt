@@ -2,7 +2,7 @@
 
 ghost use Rattle.std.specs.Prelude.{◌≡◌, ◌++◌, IfErr, OnOk};
 ghost use Rattle.command_output.specs.Outcome.{IsWriteFault};
-ghost use Rattle.command_output.specs.Output.{Leaves, WritesFront};
+ghost use Rattle.written.specs.Written.{Leaves, WritesFront};
 ghost use Rattle.run_command.specs.Report.{has_undelivered, lane_lines, lanes_text, letters_text};
 ghost use Rattle.command_output.specs.RunLine.{taken_line, undelivered_line};
 

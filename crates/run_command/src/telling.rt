@@ -8,7 +8,7 @@ ghost use Rattle.text_lines.specs.Lines.{has_line};
 ghost use Rattle.engine.specs.Feed.{with_one};
 ghost use Rattle.engine.specs.Run.{last_turn, lines_left, run_value};
 ghost use Rattle.command_output.specs.Outcome.{IsWriteFault};
-ghost use Rattle.command_output.specs.Output.{Writes, WritesFront};
+ghost use Rattle.written.specs.Written.{Writes, WritesFront};
 ghost use Rattle.run_command.specs.Report.{lanes_text, log_text, refused_text};
 ghost use Rattle.run_command.specs.Told.{HasTold, IsTold};
 

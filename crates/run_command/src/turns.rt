@@ -2,7 +2,7 @@
 
 ghost use Rattle.std.specs.Prelude.{◌≡◌, ◌++◌, IfErr, OnOk};
 ghost use Rattle.command_output.specs.Outcome.{IsWriteFault};
-ghost use Rattle.command_output.specs.Output.{Leaves, WritesFront};
+ghost use Rattle.written.specs.Written.{Leaves, WritesFront};
 ghost use Rattle.run_command.specs.Report.{log_text, refused_text};
 
 use command_output::{CommandFault, Lines, OutputLine, Sink};

@@ -11,8 +11,8 @@ use Rattle.steps.specs.declared.settings.Settings.{Settings}
 use Rattle.world_steps.specs.Runs.{new_world}
 use Rattle.world_steps.specs.Views.{world_setup, world_state}
 use Rattle.world_steps.specs.Worlds.{Setup, WorldState}
-use Rattle.command_output.specs.Output.{Leaves, Writes}
-use Rattle.command_output.specs.OutputLaws.{leaves_on, leaves_less}
+use Rattle.written.specs.Written.{Leaves, Writes}
+use Rattle.written.specs.WrittenLaws.{leaves_on, leaves_less}
 use Rattle.command_output.specs.declared.outcome.Ending.{Ending}
 use Rattle.command_output.specs.declared.outcome.Ending.TheVariants.{Short}
 use Rattle.trace.specs.declared.feed.AfterFeed.{AfterFeed}

@@ -19,8 +19,8 @@ use Rattle.trace.proofs.StepLinesLaws.{known_weaker}
 use Rattle.event_feed.specs.Feed.{Answer, AreGiven, AreGivenBy, Feed, ComesNext, ComesTo, FaultAnswers, FaultComesTo, FaultFits, GivesEvent, GivesFault, RefusesLine, answers_from, raised, text_reading}
 use Rattle.event_feed.specs.Line.{line_reading}
 use Rattle.text_lines.specs.Lines.{Known, pieces}
-use Rattle.command_output.specs.Output.{Leaves}
-use Rattle.command_output.specs.OutputLaws.{leaves_on, leaves_all}
+use Rattle.written.specs.Written.{Leaves}
+use Rattle.written.specs.WrittenLaws.{leaves_on, leaves_all}
 use Rattle.trace.specs.declared.feed.AfterFeed.{AfterFeed}
 use Rattle.trace.specs.declared.feed.AfterFeed.TheVariants.{Steps, Nothing, Cut, Unread}
 use Rattle.trace.specs.declared.run.Run.{Run}

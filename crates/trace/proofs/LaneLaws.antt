@@ -2,8 +2,8 @@
 use Rattle.std.proofs.Common.{ℕ, ◌+◌, List, ◌++◌, flat_map, Option, sym, ap, subst, ◌∙◌, append_assoc}
 use Rattle.std.specs.List.{range_with_len}
 use Rattle.lemmas.proofs.Numbers.{flat_range_more}
-use Rattle.command_output.specs.Output.{Leaves}
-use Rattle.command_output.specs.OutputLaws.{leaves_on}
+use Rattle.written.specs.Written.{Leaves}
+use Rattle.written.specs.WrittenLaws.{leaves_on}
 
 -- lines in order of a number: one number more
 pub lines_more : (f : ℕ → List ℕ) (n : ℕ) (old mid new : Option (List ℕ)) (first held held' : List ℕ) → Leaves old mid (first ++ flat_map f (range_with_len 0 n)) held

@@ -8,8 +8,8 @@ use Rattle.std.proofs.lemmas.List.Elements.{All-nil, All-push}
 use Rattle.due_model.specs.declared.config.Config.{Config}
 use Rattle.command_output.specs.TraceLine.{refused_step_line}
 use Rattle.command_output.specs.declared.trace_line.StepRefusal.TheVariants.{BadStep}
-use Rattle.command_output.specs.Output.{Leaves}
-use Rattle.command_output.specs.OutputLaws.{leaves_on, leaves_nothing}
+use Rattle.written.specs.Written.{Leaves}
+use Rattle.written.specs.WrittenLaws.{leaves_on, leaves_nothing}
 use Rattle.text_lines.specs.LineReader.{line_limit, cut_text}
 use Rattle.text_lines.specs.Lines.{BeginsWithLine, IsUnbroken, Known}
 use Rattle.steps.specs.declared.step.Step.TheVariants.{Post, Decide, Put, Lane}

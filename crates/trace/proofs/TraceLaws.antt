@@ -1,6 +1,7 @@
 -- From the trace of a feed to that of an input.
-use Rattle.std.proofs.Common.{◌≡◌, ℕ, Bool, true, List, [], Option, None, Some, Result, Ok, Err, IfErr, IfOk, IfSome, inl, inr, refl, subst, ◌∙◌}
-use Rattle.std.specs.Io.KnownBytes.{Keeps, prepend_known}
+use Rattle.std.proofs.Common.{◌≡◌, ℕ, Bool, true, List, [], Option, None, Some, Result, Ok, Err, IfErr, IfOk, IfSome, inl, inr, subst, ◌∙◌}
+use Rattle.std.specs.Io.KnownBytes.{prepend_known}
+use Rattle.std.proofs.lemmas.Iterator.Adapters.{option_map_id}
 use Rattle.std.proofs.lemmas.Result.{IfOk-weaker}
 use Rattle.due_model.specs.declared.config.Config.{Config}
 use Rattle.due_model.specs.declared.zone.Zone.{Zone}
@@ -12,17 +13,8 @@ use Rattle.command_output.specs.declared.outcome.CommandFault.TheVariants.{Objec
 use Rattle.command_output.specs.declared.outcome.Ending.{Ending}
 use Rattle.command_output.specs.Outcome.{IsWriteFault}
 use Rattle.command_input.specs.Objects.{GivesObjects, ObjectsFail, objects_in}
+use Rattle.written.specs.WrittenLaws.{keeps_same}
 use Rattle.trace.specs.Trace.{FailsWith, TracesFeed, TracesIn}
-
--- nothing is held at first
-nothing_held : (known : Option (List ℕ)) → prepend_known [] known ≡ known
-nothing_held None = refl
-nothing_held (Some bytes) = refl
-
--- the writer keeps what it holds
-keeps_same : (known : Option (List ℕ)) → Keeps known known
-keeps_same None = tt
-keeps_same (Some bytes) = refl
 
 traces_known : (can_fail : Bool) (c : Config) (zone : Zone) (settings : Settings) (bytes : List ℕ) (rest : Option (List ℕ)) (ending : Ending) (old new : Option (List ℕ)) → GivesObjects c (Some bytes) rest
     → IfSome rest (λ feed. TracesFeed can_fail c zone settings feed ending old new) → TracesIn can_fail zone settings bytes ending old new
@@ -42,7 +34,7 @@ pub traces_of_input : (can_fail : Bool) (c : Config) (zone : Zone) (settings : S
     → IfOk r (λ ending. IfSome (to_come reading) (λ feed. TracesFeed can_fail c zone settings feed ending old new))
     → IfSome known (λ bytes. IfOk r (λ ending. TracesIn can_fail zone settings bytes ending old new))
 traces_of_input can_fail c zone settings known start reading r old new begins of h =
-    traces_by can_fail c zone settings known reading r old new (subst (λ (k : Option (List ℕ)). GivesObjects c k (to_come reading)) (begins ∙ nothing_held known) of) h
+    traces_by can_fail c zone settings known reading r old new (subst (λ (k : Option (List ℕ)). GivesObjects c k (to_come reading)) (begins ∙ option_map_id known) of) h
 
 accepted : (can_fail : Bool) (c : Config) (bytes : List ℕ) (rest : Option (List ℕ)) → GivesObjects c (Some bytes) rest → IsTextOf c (objects_in bytes)
 accepted can_fail c bytes None of = absurd of
@@ -64,7 +56,7 @@ pub fault_of_input : (sink : Bool) (can_fail : Bool) (c : Config) (known rest : 
     → to_come start ≡ prepend_known [] known → GivesObjects c (to_come start) rest
     → IfErr r (λ fault. IsWriteFault sink fault) → IfSome known (λ bytes. IfErr r (λ fault. FailsWith can_fail bytes fault old new))
 fault_of_input sink can_fail c known rest start r old new begins of w =
-    fault_by sink can_fail c known rest r old new (subst (λ (k : Option (List ℕ)). GivesObjects c k rest) (begins ∙ nothing_held known) of) w
+    fault_by sink can_fail c known rest r old new (subst (λ (k : Option (List ℕ)). GivesObjects c k rest) (begins ∙ option_map_id known) of) w
 
 -- the object text gives no configuration, and nothing was written
 objects_by : (can_fail : Bool) (bytes : List ℕ) (fault : CommandFault) (known : Option (List ℕ)) → ObjectsFail can_fail fault (Some bytes) → FailsWith can_fail bytes fault known known
@@ -80,7 +72,7 @@ refused_by can_fail (Some bytes) fault held h = objects_by can_fail bytes fault 
 pub refused_input : (can_fail : Bool) (known : Option (List ℕ)) (start : Reading) (fault : CommandFault) (held : Option (List ℕ))
     → to_come start ≡ prepend_known [] known → ObjectsFail can_fail fault (to_come start) → IfSome known (λ bytes. FailsWith can_fail bytes fault held held)
 refused_input can_fail known start fault held begins h =
-    refused_by can_fail known fault held (subst (λ (k : Option (List ℕ)). ObjectsFail can_fail fault k) (begins ∙ nothing_held known) h)
+    refused_by can_fail known fault held (subst (λ (k : Option (List ℕ)). ObjectsFail can_fail fault k) (begins ∙ option_map_id known) h)
 
 -- memory ran out before anything was written
 pub no_memory : (can_fail : Bool) (known held : Option (List ℕ)) → IfSome known (λ bytes. FailsWith can_fail bytes NoMemory held held)

@@ -1,7 +1,7 @@
 -- What the reading of a feed does to a run.
 use Rattle.std.specs.Prelude.{◌≡◌, Bool, List, ℕ, Option}
 use Rattle.event_feed.specs.Feed.{Answer, Feed, answers_from}
-use Rattle.command_output.specs.Output.{Leaves}
+use Rattle.written.specs.Written.{Leaves}
 use Rattle.world_steps.specs.Views.{world_setup, world_state}
 use Rattle.trace.specs.declared.feed.AfterFeed.{AfterFeed}
 use Rattle.trace.specs.declared.run.Run.{Run}

@@ -1,7 +1,7 @@
 -- The step lines of a trace, and what becomes of them in order.
 use Rattle.std.specs.Prelude.{◌≡◌, ℕ, ◌+◌, ◌==◌, All, Bool, true, false, List, [], ◌∷◌, ◌++◌, length, flat_map, ◌⊎◌, if◌then◌else◌, Option}
 use Rattle.due_model.specs.declared.config.Config.{Config}
-use Rattle.command_output.specs.Output.{Leaves}
+use Rattle.written.specs.Written.{Leaves}
 use Rattle.event_feed.specs.Feed.{feed_limit, least_at_read}
 use Rattle.text_lines.specs.LineReader.{BeginsUnbroken}
 use Rattle.text_lines.specs.Lines.{BeginsWithLine, IsUnbroken}

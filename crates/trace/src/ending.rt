@@ -2,7 +2,7 @@
 
 ghost use Rattle.std.specs.Prelude.{◌≡◌, ◌++◌, List, ℕ, IfErr, IfOk, IfSome};
 ghost use Rattle.command_output.specs.Outcome.{IsWriteFault};
-ghost use Rattle.command_output.specs.Output.{Leaves};
+ghost use Rattle.written.specs.Written.{Leaves};
 ghost use Rattle.text_lines.specs.LineReader.{to_come};
 ghost use Rattle.world_steps.specs.Views.{world_setup};
 ghost use Rattle.trace.specs.Run.{Fits, run_state};

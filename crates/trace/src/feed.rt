@@ -4,7 +4,7 @@ ghost use Rattle.std.specs.Prelude.{◌≡◌, ◌+◌, ◌<◌, ◌≤◌, ◌�
 ghost use Rattle.std.specs.Prelude.{IfErr, IfNone, IfOk, IfSome, None, Ok, Err, OnOk};
 ghost use Rattle.due_model.specs.Proper.{IsProper};
 ghost use Rattle.command_output.specs.Outcome.{IsWriteFault};
-ghost use Rattle.command_output.specs.Output.{Leaves};
+ghost use Rattle.written.specs.Written.{Leaves};
 ghost use Rattle.event_feed.specs.Feed.{feed_limit};
 ghost use Rattle.text_lines.specs.Lines.{Known};
 ghost use Rattle.trace.specs.Feed.{IsMark, added, after_stop, events_after, is_over_after};

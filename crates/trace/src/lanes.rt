@@ -2,7 +2,7 @@
 
 ghost use Rattle.std.specs.Prelude.{◌++◌, ◌<◌, length, IfErr, OnOk};
 ghost use Rattle.command_output.specs.Outcome.{IsWriteFault};
-ghost use Rattle.command_output.specs.Output.{Leaves};
+ghost use Rattle.written.specs.Written.{Leaves};
 ghost use Rattle.world_steps.specs.Views.{world_setup, world_state};
 ghost use Rattle.trace.specs.LaneLines.{held_text, lane_lines, world_text};
 ghost use Rattle.trace.specs.Run.{Fits};

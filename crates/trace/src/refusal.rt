@@ -2,7 +2,7 @@
 
 ghost use Rattle.std.specs.Prelude.{◌++◌, IfErr, OnOk};
 ghost use Rattle.command_output.specs.Outcome.{IsWriteFault};
-ghost use Rattle.command_output.specs.Output.{Leaves};
+ghost use Rattle.written.specs.Written.{Leaves};
 ghost use Rattle.command_output.specs.TraceLine.{refused_step_line};
 
 use command_output::{CommandFault, Lines, OutputLine, Sink, StepRefusal};

@@ -2,7 +2,7 @@
 
 ghost use Rattle.std.specs.Prelude.{◌≡◌, ◌↔◌, List, ℕ, ◌++◌, IfErr, IsErrOf, OnErr, OnOk};
 ghost use Rattle.command_output.specs.Outcome.{IsWriteFault};
-ghost use Rattle.command_output.specs.Output.{Leaves};
+ghost use Rattle.written.specs.Written.{Leaves};
 ghost use Rattle.world_steps.specs.Views.{world_setup, world_state};
 ghost use Rattle.trace.specs.StepLine.{Spells};
 ghost use Rattle.trace.specs.Run.{Does, DoesSaid, Fits, IsEnabledIn, IsProperLine, run_state};

@@ -1,6 +1,6 @@
 use Rattle.std.proofs.Common.{[]}
 use Rattle.run_command.specs.Report.{report_text}
-use Rattle.command_output.specs.OutputLaws.{front_none}
+use Rattle.written.specs.WrittenLaws.{front_none}
 use Rattle.run_command.proofs.tell.Goals as goal
 
 pub returns-in-Err-clause-front : goal.returns-in-Err-clause-front

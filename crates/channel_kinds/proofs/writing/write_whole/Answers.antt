@@ -1,4 +1,4 @@
-use Rattle.channel_kinds.proofs.WrittenLaws.{leaves_rest}
+use Rattle.written.specs.WrittenLaws.{leaves_rest}
 use Rattle.channel_kinds.proofs.writing.write_whole.Goals as goal
 
 pub loop-rest-preserved : goal.loop-rest-preserved

@@ -1,4 +1,4 @@
-use Rattle.command_output.specs.OutputLaws.{leaves_rest}
+use Rattle.written.specs.WrittenLaws.{leaves_rest}
 use Rattle.command_output.proofs.output.write_whole.Goals as goal
 
 pub loop-rest-preserved : goal.loop-rest-preserved

@@ -1,4 +1,4 @@
-use Rattle.command_output.specs.OutputLaws.{front_none}
+use Rattle.written.specs.WrittenLaws.{front_none}
 use Rattle.replay.proofs.report.write_before_wait.Goals as goal
 
 pub returns-then-has_line-clause-front : goal.returns-then-has_line-clause-front

@@ -1,5 +1,5 @@
 use Rattle.std.proofs.Common.{◌++◌, subst}
-use Rattle.command_output.specs.Output.{Leaves, WritesFront}
+use Rattle.written.specs.Written.{Leaves, WritesFront}
 use Rattle.run_command.specs.Report.{lane_lines}
 use Rattle.run_command.proofs.ReportLaws.{line_cut, line_written}
 use Rattle.run_command.proofs.lanes.write_lanes.Goals as goal

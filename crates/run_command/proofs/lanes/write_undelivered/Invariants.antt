@@ -1,5 +1,5 @@
 use Rattle.std.proofs.Common.{◌++◌, flat_map, take}
-use Rattle.command_output.specs.Output.{Leaves}
+use Rattle.written.specs.Written.{Leaves}
 use Rattle.command_output.specs.RunLine.{undelivered_line}
 use Rattle.run_command.proofs.lanes.write_undelivered.Given as goal
 

@@ -1,5 +1,5 @@
 use Rattle.std.proofs.Common.{◌≡◌, ◌++◌, Bool, true, sym, ap, subst, ◌∙◌}
-use Rattle.command_output.specs.Output.{Leaves}
+use Rattle.written.specs.Written.{Leaves}
 use Rattle.command_output.specs.declared.outcome.Ending.{Ending}
 use Rattle.text_lines.specs.LineReader.{to_come}
 use Rattle.world_steps.specs.Views.{world_setup, world_state}

@@ -1,5 +1,5 @@
 use Rattle.std.proofs.Common.{◌≡◌, ◌++◌, ℕ, Ok, true, refl, sym, subst, ◌∙◌}
-use Rattle.command_output.specs.Output.{Leaves}
+use Rattle.written.specs.Written.{Leaves}
 use Rattle.text_lines.specs.Lines.{Known}
 use Rattle.trace.specs.declared.feed.AfterFeed.{AfterFeed}
 use Rattle.trace.specs.Feed.{added}

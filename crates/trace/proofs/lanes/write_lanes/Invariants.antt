@@ -1,6 +1,6 @@
 use Rattle.std.proofs.Common.{◌++◌, flat_map}
 use Rattle.std.specs.List.{range_with_len}
-use Rattle.command_output.specs.Output.{Leaves}
+use Rattle.written.specs.Written.{Leaves}
 use Rattle.world_steps.specs.Views.{world_setup, world_state}
 use Rattle.trace.specs.LaneLines.{lane_lines}
 use Rattle.trace.proofs.lanes.write_lanes.Given as goal

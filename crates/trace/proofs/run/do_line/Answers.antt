@@ -2,7 +2,7 @@ use Rattle.std.proofs.Common.{[], Err, inl, inr, refl, ap}
 use Rattle.std.proofs.lemmas.Result.{on_ok_weaker}
 use Rattle.command_output.specs.declared.trace_line.StepRefusal.TheVariants.{NotEnabled}
 use Rattle.command_output.specs.TraceLine.{refused_step_line}
-use Rattle.command_output.specs.OutputLaws.{leaves_nothing}
+use Rattle.written.specs.WrittenLaws.{leaves_nothing}
 use Rattle.trace.proofs.run.do_line.Goals as goal
 
 pub returns-in-Ok-clause-ok : goal.returns-in-Ok-clause-ok

@@ -1,4 +1,4 @@
-use Rattle.channel_kinds.proofs.WrittenLaws.{front_none}
+use Rattle.written.specs.WrittenLaws.{front_none}
 use Rattle.channel_kinds.proofs.mailbox.MailboxChannel.deliver.Goals as goal
 
 pub returns-then-len-gt-LIMIT-clause-front : goal.returns-then-len-gt-LIMIT-clause-front

@@ -1,5 +1,5 @@
 use Rattle.std.proofs.Common.{◌≡◌, rules}
-use Rattle.command_output.specs.OutputLaws.{front_of_held, front_same}
+use Rattle.written.specs.WrittenLaws.{front_of_held, front_same}
 use Rattle.command_output.specs.OutputLine.{entries_text}
 use Rattle.command_output.proofs.lines.Lines.write_together.Goals as goal
 

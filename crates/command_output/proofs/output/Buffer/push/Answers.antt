@@ -1,7 +1,7 @@
 use Rattle.std.proofs.Common.{List, ◌++◌, ℕ, subst, sym}
 use Rattle.std.proofs.lemmas.Result.{on_ok_weaker}
-use Rattle.command_output.specs.Output.{Leaves}
-use Rattle.command_output.specs.OutputLaws.{front_longer, front_next, leaves_next}
+use Rattle.written.specs.Written.{Leaves}
+use Rattle.written.specs.WrittenLaws.{front_longer, front_next, leaves_next}
 use Rattle.command_output.proofs.output.Buffer.push.Goals as goal
 
 pub returns-in_err-flush-clause-front : goal.returns-in_err-flush-clause-front

@@ -11,7 +11,7 @@ use Rattle.messages.specs.Entries.{event_entries}
 use Rattle.command_output.specs.OutputLine.{entries_text}
 use Rattle.replay.specs.Report.{is_ended}
 use Rattle.replay.proofs.ReportLaws.{event_text, text_of_end}
-use Rattle.command_output.specs.OutputLaws.{front_longer, front_same, leaves_same}
+use Rattle.written.specs.WrittenLaws.{front_longer, front_same, leaves_same}
 use Rattle.replay.proofs.report.Report.decide_event.Goals as goal
 
 pub decide-requires-clause-proper : goal.decide-requires-clause-proper

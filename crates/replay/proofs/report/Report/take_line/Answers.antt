@@ -2,10 +2,11 @@ use Rattle.std.proofs.Common.{◌≡◌, ◌∷◌, [], cond, None, Ok, Some, re
 use Rattle.std.proofs.lemmas.Option.{IfSome_then}
 use Rattle.std.proofs.lemmas.Result.{IfOk-weaker}
 use Rattle.event_feed.specs.Feed.{Answer, refusal}
-use Rattle.command_output.specs.OutputLaws.{front_begun, front_none, if_none, leaves_nothing, leaves_same}
+use Rattle.event_feed.specs.FeedLaws.{event_answers, fault_given, fault_last, next_given, none_given}
+use Rattle.written.specs.WrittenLaws.{front_begun, front_none, leaves_nothing, leaves_same}
 use Rattle.command_output.specs.ReportLine.{refused_line}
 use Rattle.replay.specs.Report.{answer_text, is_ended, past_after, report_from}
-use Rattle.replay.proofs.ReportLaws.{event_answers, event_taken, fault_given, fault_last, fault_taken, next_given, none_given, report_of_end, report_of_refusal, short_at_end, short_at_refusal, taken_same, text_of_event}
+use Rattle.replay.proofs.ReportLaws.{event_taken, fault_taken, if_none, report_of_end, report_of_refusal, short_at_end, short_at_refusal, taken_same, text_of_event}
 use Rattle.replay.proofs.report.Report.take_line.Goals as goal
 
 pub returns-in-Ok-None-clause-ends : goal.returns-in-Ok-None-clause-ends

@@ -1,6 +1,6 @@
 use Rattle.std.proofs.Common.{subst}
 use Rattle.run_command.specs.Told.{IsTold}
-use Rattle.command_output.specs.OutputLaws.{front_less}
+use Rattle.written.specs.WrittenLaws.{front_less}
 use Rattle.run_command.proofs.telling.Telling.finish.Goals as goal
 
 pub returns-clause-front : goal.returns-clause-front

@@ -1,19 +1,12 @@
--- Laws of what is left of bytes to be written, as a writer takes them.
-use Rattle.std.proofs.Common.{◌≡◌, ℕ, ◌-◌, List, [], ◌++◌, length, take, drop, Option, None, Some, IfNone, refl, sym, ap, subst, ◌∙◌, append_assoc}
+-- Laws of what a writer took of bytes and of what is left of them.
+use Rattle.std.proofs.Common.{◌≡◌, ℕ, ◌-◌, List, [], ◌++◌, length, take, drop, Option, None, Some, refl, sym, ap, subst, ◌∙◌, append_assoc}
 use Rattle.std.proofs.lemmas.List.{append-nil, take_rest, take-append-drop}
 use Rattle.std.specs.Io.KnownBytes.{Appends, Keeps}
-use Rattle.command_output.specs.Output.{Leaves, WritesFront}
+use Rattle.written.specs.Written.{Leaves, WritesFront}
 
 pub appends_none : (known : Option (List ℕ)) → Appends known known []
 appends_none None = tt
 appends_none (Some xs) = sym (append-nil xs)
-
-pub appends_kept : (old mid new : Option (List ℕ)) (bs : List ℕ) → Appends old mid bs
-    → Keeps mid new → Appends old new bs
-appends_kept None mid new bs a k = tt
-appends_kept (Some xs) None new bs a k = absurd a
-appends_kept (Some xs) (Some ys) None bs a k = k
-appends_kept (Some xs) (Some ys) (Some zs) bs a k = k ∙ a
 
 pub appends_more : (old mid new : Option (List ℕ)) (bs cs : List ℕ) → Appends old mid bs
     → Appends mid new cs → Appends old new (bs ++ cs)
@@ -23,14 +16,14 @@ appends_more (Some xs) (Some ys) None bs cs a b = b
 appends_more (Some xs) (Some ys) (Some zs) bs cs a b =
     b ∙ ap (λ us. us ++ cs) a ∙ append_assoc xs bs cs
 
+-- without a write it keeps what it holds
+pub keeps_same : (known : Option (List ℕ)) → Keeps known known
+keeps_same None = tt
+keeps_same (Some bytes) = refl
+
 -- before a write all is left
 pub leaves_all : (known : Option (List ℕ)) (all : List ℕ) → Leaves known known all all
 leaves_all known all = ([], appends_none known, refl)
-
--- the writer keeps what it holds
-pub leaves_kept : (old mid new : Option (List ℕ)) (all left : List ℕ) → Leaves old mid all left
-    → Keeps mid new → Leaves old new all left
-leaves_kept old mid new all left h k = (h.0, appends_kept old mid new h.0 h.1 k, h.2)
 
 -- the writer takes more of what is left
 pub leaves_less : (old mid new : Option (List ℕ)) (all left rest : List ℕ) → Leaves old mid all left
@@ -102,12 +95,6 @@ pub front_begun : (old new : Option (List ℕ)) (held text more : List ℕ)
 front_begun old new held text more h =
     subst (λ all. WritesFront old new all) (append_assoc held text more)
     (front_longer old new (held ++ text) more h)
-
--- a fact of an answer that has nothing, from another
-pub if_none : {A : Type 0} (P Q : Type 0) (found : Option A) → (P → Q) → IfNone found P
-    → IfNone found Q
-if_none P Q None f h = f h
-if_none P Q (Some a) f h = tt
 
 -- a front of what is held, under another name, is one of that and more
 pub front_of_held : (old new : Option (List ℕ)) (held held' text : List ℕ) → held ≡ held'
