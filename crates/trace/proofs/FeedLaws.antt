@@ -15,7 +15,7 @@ use Rattle.text_lines.specs.declared.line_reader.NextLine.TheVariants.{Line, Ove
 use Rattle.text_lines.specs.declared.line_reader.Stop.{Stop}
 use Rattle.text_lines.specs.declared.line_reader.Stop.TheVariants.{InputEnded, CutLine, ReaderFailed, TooManyCalls, TooManyBytes, TooManyLines}
 use Rattle.std.proofs.lemmas.Option.{same_Some}
-use Rattle.trace.proofs.StepLinesLaws.{known_weaker}
+use Rattle.event_feed.specs.FeedLaws.{known_weaker}
 use Rattle.event_feed.specs.Feed.{Answer, AreGiven, AreGivenBy, Feed, ComesNext, ComesTo, FaultAnswers, FaultComesTo, FaultFits, GivesEvent, GivesFault, RefusesLine, answers_from, raised, text_reading}
 use Rattle.event_feed.specs.Line.{line_reading}
 use Rattle.text_lines.specs.Lines.{Known, pieces}
@@ -256,13 +256,13 @@ module _ (can_fail : Bool) (run0 run1 : Run) (feed0 feed1 : Feed) (w0 w1 : Optio
       known_weaker feed0.bytes feed1.bytes
       (λ bytes rest. (answers_from objects feed0 bytes ≡ record { line = feed1.line; given = Ok event } ∷ answers_from objects feed1 rest) × ComesTo Line feed0.line bytes feed1.line feed1.text rest)
       (λ bytes rest. GoesOn run0 feed0 bytes run1 feed1 rest w0 w1 held0 held1)
+      (known_both feed0.bytes feed1.bytes _ _ gives.answers gives.place)
       (λ bytes rest h.
       let comes = comes_next feed0.line bytes rest feed1.line feed1.text h.1.0 (event_unmarked objects feed0.last feed1.text event gives.said) in (
         record { line = feed1.line; given = Ok event },
         record { before = comes.0; lines = comes.1; number = comes.2; answers = h.0; line = refl },
         record { events = events; over = over; text = text },
       ))
-      (known_both feed0.bytes feed1.bytes _ _ gives.answers gives.place)
 
   pub line_refused : (refusal : RefusedLine) → GivesFault objects feed0 refusal feed1 → feed1.stop ≡ None → ¬ IsMark refusal.fault feed1.text
       → run1.events.items ≡ run0.events.items → run1.is_over ≡ run0.is_over
@@ -273,6 +273,8 @@ module _ (can_fail : Bool) (run0 run1 : Run) (feed0 feed1 : Feed) (w0 w1 : Optio
       (λ bytes rest. (answers_from objects feed0 bytes ≡ record { line = refusal.line; given = Err refusal.fault } ∷ answers_from objects feed1 rest)
       × RefusesLine objects feed0.line bytes refusal feed1.text rest)
       (λ bytes rest. GoesOn run0 feed0 bytes run1 feed1 rest w0 w1 held0 held1)
+      (known_both feed0.bytes feed1.bytes _ _ (subst (λ (stop : Option Stop). FaultAnswers objects feed0 refusal stop feed1) going gives.answers)
+      (subst (λ (stop : Option Stop). FaultComesTo objects feed0 refusal stop feed1) going gives.place))
       (λ bytes rest h.
       let comes = comes_next feed0.line bytes rest refusal.line h.1.text h.1.next (λ marked.
       let bad : refusal.fault ≡ BadStamp = fault_same refusal.fault BadStamp (sym h.1.reading ∙ ap (line_reading objects) marked ∙ mark_reading objects) in
@@ -285,8 +287,6 @@ module _ (can_fail : Bool) (run0 run1 : Run) (feed0 feed1 : Feed) (w0 w1 : Optio
           text = text;
         },
       ))
-      (known_both feed0.bytes feed1.bytes _ _ (subst (λ (stop : Option Stop). FaultAnswers objects feed0 refusal stop feed1) going gives.answers)
-      (subst (λ (stop : Option Stop). FaultComesTo objects feed0 refusal stop feed1) going gives.place))
 
   pub line_marked : (refusal : RefusedLine) → GivesFault objects feed0 refusal feed1 → IsMark refusal.fault feed1.text
       → Known feed0.bytes feed1.bytes (λ bytes rest. EndsFeed can_fail run0 feed0 bytes Steps run0 rest w0 w0 held0 held0)
@@ -296,6 +296,8 @@ module _ (can_fail : Bool) (run0 run1 : Run) (feed0 feed1 : Feed) (w0 w1 : Optio
       (λ bytes rest. (answers_from objects feed0 bytes ≡ record { line = refusal.line; given = Err refusal.fault } ∷ answers_from objects feed1 rest)
       × RefusesLine objects feed0.line bytes refusal feed1.text rest)
       (λ bytes rest. EndsFeed can_fail run0 feed0 bytes Steps run0 rest w0 w0 held0 held0)
+      (known_both feed0.bytes feed1.bytes _ _ (subst (λ (stop : Option Stop). FaultAnswers objects feed0 refusal stop feed1) going gives.answers)
+      (subst (λ (stop : Option Stop). FaultComesTo objects feed0 refusal stop feed1) going gives.place))
       (λ bytes rest h.
       let is : h.1.text ≡ mark = sym (h.1.stays (λ long. let bad = marked.refused in absurd (cc))) ∙ marked.says in
       let comes = comes_marked feed0.line bytes rest refusal.line h.1.text h.1.next is in (
@@ -310,8 +312,6 @@ module _ (can_fail : Bool) (run0 run1 : Run) (feed0 feed1 : Feed) (w0 w1 : Optio
         ),
         record { events = refl; over = refl; text = leaves_all w0 held0 },
       ))
-      (known_both feed0.bytes feed1.bytes _ _ (subst (λ (stop : Option Stop). FaultAnswers objects feed0 refusal stop feed1) going gives.answers)
-      (subst (λ (stop : Option Stop). FaultComesTo objects feed0 refusal stop feed1) going gives.place))
 
   -- what the last line gives
   has_refusal : (refusal : RefusedLine) → run1.events.items ≡ run0.events.items → run1.is_over ≡ run0.is_over
@@ -332,6 +332,7 @@ module _ (can_fail : Bool) (run0 run1 : Run) (feed0 feed1 : Feed) (w0 w1 : Optio
       known_weaker feed0.bytes feed1.bytes
       (λ bytes rest. answers_from objects feed0 bytes ≡ record { line = refusal.line; given = Err refusal.fault } ∷ answers_from objects feed1 rest)
       (λ bytes rest. EndsFeed can_fail run0 feed0 bytes Cut run1 rest w0 w1 held0 held1)
+      (subst (λ (stop : Option Stop). FaultAnswers objects feed0 refusal stop feed1) cut gives.answers)
       (λ bytes rest h. (
         record { line = refusal.line; given = Err refusal.fault } ∷ [],
         (
@@ -342,7 +343,6 @@ module _ (can_fail : Bool) (run0 run1 : Run) (feed0 feed1 : Feed) (w0 w1 : Optio
         ),
         has_refusal refusal events over text,
       ))
-      (subst (λ (stop : Option Stop). FaultAnswers objects feed0 refusal stop feed1) cut gives.answers)
 
   pub line_unread : (refusal : RefusedLine) (stop : Stop) → GivesFault objects feed0 refusal feed1 → feed1.stop ≡ Some stop → stop ≢ CutLine → run1.events.items ≡ run0.events.items → run1.is_over ≡ run0.is_over
       → Leaves w0 w1 (held0 ++ added run0.events.items run0.is_over refusal.line (Err refusal.fault)) held1

@@ -1,5 +1,5 @@
 -- Step lines, one after another: what was read, and what becomes of it.
-use Rattle.std.proofs.Common.{◌≡◌, ◌<◌, ◌≤◌, ℕ, ◌+◌, Bool, true, false, cond, eqb, nat_lt, List, [], ◌∷◌, ◌++◌, length, flat_map, Option, None, Some, IfNone, IfSome, inl, inr, refl, sym, ap, subst, ◌∙◌, append_assoc, arith, codes}
+use Rattle.std.proofs.Common.{◌≡◌, ◌<◌, ◌≤◌, ℕ, ◌⊎◌, ◌+◌, Bool, true, false, cond, eqb, nat_lt, List, [], ◌∷◌, ◌++◌, length, flat_map, Option, None, Some, IfNone, IfSome, inl, inr, refl, sym, ap, subst, ◌∙◌, append_assoc, arith, codes}
 use Rattle.std.proofs.lemmas.Bool.{cases_lt, ne_eqb}
 use Rattle.std.proofs.lemmas.Grind.{flat_map-append}
 use Rattle.std.proofs.lemmas.List.{append-nil, length-append}
@@ -24,21 +24,10 @@ use Rattle.trace.specs.StepLines.{AreLines, DoesLast, DoesLines, DoesNext, DoesS
 
 -- ---- bytes that are known
 
-pub known_weaker : (a b : Option (List ℕ)) (P Q : List ℕ → List ℕ → Type 0) → ((x y : List ℕ) → P x y → Q x y) → Known a b P → Known a b Q
-known_weaker None b P Q f h = h
-known_weaker (Some x) None P Q f h = h
-known_weaker (Some x) (Some y) P Q f h = f x y h
-
 pub known_first : (a b : Option (List ℕ)) (P : List ℕ → List ℕ → Type 0) (Q : List ℕ → Type 0) → ((x y : List ℕ) → P x y → Q x) → Known a b P → IfSome a Q
 known_first None b P Q f h = tt
 known_first (Some x) None P Q f h = absurd h
 known_first (Some x) (Some y) P Q f h = f x y h
-
-pub known_join : (a b c : Option (List ℕ)) (P Q R : List ℕ → List ℕ → Type 0) → ((x y z : List ℕ) → P x y → Q y z → R x z) → Known a b P → Known b c Q → Known a c R
-known_join None b c P Q R f h k = tt
-known_join (Some x) None c P Q R f h k = absurd h
-known_join (Some x) (Some y) None P Q R f h k = k
-known_join (Some x) (Some y) (Some z) P Q R f h k = f x y z h k
 
 pub known_last : (a b : Option (List ℕ)) (P : List ℕ → List ℕ → Type 0) (Q R : List ℕ → Type 0) → ((x y : List ℕ) → P x y → Q y → R x) → Known a b P → IfSome b Q → IfSome a R
 known_last None b P Q R f h k = tt

@@ -1,8 +1,8 @@
 use Rattle.std.proofs.Common.{refl}
 use Rattle.trace.specs.FeedRun.{ReadsSome}
 use Rattle.trace.proofs.FeedLaws.{some_none, some_more, some_last, unmoved_join}
-use Rattle.trace.proofs.StepLinesLaws.{known_join, if_none_is, if_some_is}
-use Rattle.event_feed.specs.FeedLaws.{known_same}
+use Rattle.event_feed.specs.FeedLaws.{known_same, known_then}
+use Rattle.trace.proofs.StepLinesLaws.{if_none_is, if_some_is}
 use Rattle.trace.proofs.feed.read_feed.Goals as goal
 
 pub loop-after-init : goal.loop-after-init
@@ -29,10 +29,10 @@ loop-after-preserved g c =
       unmoved = unmoved_join run mid new.run inv.unmoved done.unmoved;
       limit = done.limit;
       open_still = (if_none_is c.in_ok-after.field-0 c.in_default.is done.goes_on).1;
-      so_far = known_join c.args.feeder.now.bytes c.loop-after.feeder.bytes new.feeder.bytes _ _ _
+      so_far = known_then c.args.feeder.now.bytes c.loop-after.feeder.bytes new.feeder.bytes _ _ _
+          inv.so_far (if_none_is c.in_ok-after.field-0 c.in_default.is done.next)
           (λ x y z h k. some_more run mid new.run c.args.feeder.now c.loop-after.feeder new.feeder x y z
-          (g.W.Write.contents c.args.writer.now) (g.W.Write.contents c.loop-after.writer) (g.W.Write.contents new.writer) c.args.lines.now c.loop-after.lines new.lines inv.unmoved.config h k)
-          inv.so_far (if_none_is c.in_ok-after.field-0 c.in_default.is done.next);
+          (g.W.Write.contents c.args.writer.now) (g.W.Write.contents c.loop-after.writer) (g.W.Write.contents new.writer) c.args.lines.now c.loop-after.lines new.lines inv.unmoved.config h k);
     }
 
 pub returns-in-Some-clause-feed : goal.returns-in-Some-clause-feed
@@ -41,7 +41,7 @@ returns-in-Some-clause-feed g c =
     let mid = c.loop-after.run in
     let new = c.read_feed_line.new in
     let inv = c.loop-after.invariant in
-    known_join c.args.feeder.now.bytes c.loop-after.feeder.bytes new.feeder.bytes _ _ _
+    known_then c.args.feeder.now.bytes c.loop-after.feeder.bytes new.feeder.bytes _ _ _
+    inv.so_far (if_some_is _ c.in_ok-after.field-0 c.in-Some.after c.in-Some.is c.in_ok-after.ensures.last)
     (λ x y z h k. some_last g.R.Input.can_fail run mid new.run c.args.feeder.now c.loop-after.feeder x y z c.in-Some.after
     (g.W.Write.contents c.args.writer.now) (g.W.Write.contents c.loop-after.writer) (g.W.Write.contents new.writer) c.args.lines.now c.loop-after.lines new.lines inv.unmoved.config h k)
-    inv.so_far (if_some_is _ c.in_ok-after.field-0 c.in-Some.after c.in-Some.is c.in_ok-after.ensures.last)

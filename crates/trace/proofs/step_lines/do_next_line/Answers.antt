@@ -5,7 +5,8 @@ use Rattle.text_lines.specs.declared.line_reader.NextLine.TheVariants.{Line, Ove
 use Rattle.text_lines.specs.declared.line_reader.Stop.TheVariants.{InputEnded, CutLine}
 use Rattle.world_steps.specs.Views.{world_setup}
 use Rattle.trace.specs.Run.{run_state}
-use Rattle.trace.proofs.StepLinesLaws.{known_weaker, known_first, does_short, does_cut, ends_here, ends_cut}
+use Rattle.event_feed.specs.FeedLaws.{known_weaker}
+use Rattle.trace.proofs.StepLinesLaws.{known_first, does_short, does_cut, ends_here, ends_cut}
 use Rattle.trace.proofs.step_lines.do_next_line.Goals as goal
 
 pub returns-in_ok-do_line-in-Line-clause-next : goal.returns-in_ok-do_line-in-Line-clause-next
@@ -15,14 +16,14 @@ returns-in_ok-do_line-in-Line-clause-next g c =
     let done = c.in_ok-do_line-in-Line.ensures.ok in
     let read = subst (λ (how : NextLine). ReadsLine c.args.source.now how c.next_line.new.self) c.in-Line.is c.next_line.ensures.line in
     known_weaker (to_come c.args.source.now) (to_come c.next_line.new.self) (λ bytes rest. ReadsFrom bytes Line c.next_line.new.self.line rest) _
-    (λ bytes rest r.
+    read (λ bytes rest r.
     let here = subst (λ (l : List ℕ). ReadsFrom bytes Line l rest) (sym c.line.ensures) r in (
       line,
       done.0,
       here.0,
       does_short run.config.now run.deciders (world_setup run.world) c.args.number (run_state run) (run_state c.do_line.new.run) done.0 line here.1 done.1,
       done.2,
-    )) read
+    ))
 
 pub returns-in-Over-InputEnded-clause-last : goal.returns-in-Over-InputEnded-clause-last
 returns-in-Over-InputEnded-clause-last g c =

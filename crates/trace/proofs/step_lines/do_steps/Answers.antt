@@ -2,7 +2,8 @@ use Rattle.std.proofs.Common.{◌+◌, arith, ap, ◌∙◌}
 use Rattle.text_lines.specs.LineReader.{to_come}
 use Rattle.world_steps.specs.Views.{world_setup}
 use Rattle.trace.specs.Run.{run_state}
-use Rattle.trace.proofs.StepLinesLaws.{known_join, known_last, so_far_more, so_far_last, so_far_short, known_first, next_under, last_under, if_none_is, if_some_is}
+use Rattle.event_feed.specs.FeedLaws.{known_then}
+use Rattle.trace.proofs.StepLinesLaws.{known_last, so_far_more, so_far_last, so_far_short, known_first, next_under, last_under, if_none_is, if_some_is}
 use Rattle.trace.proofs.step_lines.do_steps.Goals as goal
 
 pub loop-before-preserved : goal.loop-before-preserved
@@ -19,13 +20,13 @@ loop-before-preserved g c =
       config = done.config ∙ inv.config;
       deciders = done.deciders ∙ inv.deciders;
       over = done.over ∙ inv.over;
-      so_far = known_join (to_come c.args.source.now) (to_come c.loop-before.source) (to_come new.source) _ _ _
+      so_far = known_then (to_come c.args.source.now) (to_come c.loop-before.source) (to_come new.source) _ _ _
+          inv.so_far (if_none_is c.in_ok-all.field-0 c.in_default.is done.next)
           (λ x y z h k. so_far_more run.config.now run.deciders (world_setup run.world) n x y z (run_state run) (run_state mid) (run_state new.run)
           (g.W.Write.contents c.args.writer.now) (g.W.Write.contents c.loop-before.writer) (g.W.Write.contents new.writer) c.args.lines.now c.loop-before.lines new.lines h
           (next_under g.R.Input.can_fail run.config.now mid.config.now run.deciders mid.deciders (world_setup run.world) (world_setup mid.world)
           (ap (λ r. r.now) inv.config) inv.deciders inv.setup (n + 1) (run_state mid) (run_state new.run)
-          (g.W.Write.contents c.loop-before.writer) (g.W.Write.contents new.writer) c.loop-before.lines new.lines y z k))
-          inv.so_far (if_none_is c.in_ok-all.field-0 c.in_default.is done.next);
+          (g.W.Write.contents c.loop-before.writer) (g.W.Write.contents new.writer) c.loop-before.lines new.lines y z k));
     }
 
 pub returns-in-Some-clause-steps : goal.returns-in-Some-clause-steps
