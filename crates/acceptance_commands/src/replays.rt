@@ -2,7 +2,7 @@
 
 ghost use Rattle.std.specs.Prelude.{IsErrOf, false, true};
 
-use acceptance_inputs::readers;
+use acceptance_inputs::readers::{self, Watching};
 use acceptance_inputs::texts::input;
 use command_output::{CommandFault, Ending, Sink};
 use object_reader::fault::LineFault;
@@ -237,29 +237,6 @@ fn output_fails(rt: HostRuntime) -> Result<(), Fail> {
     Ok(())
 }
 
-/// A reader that gives its lines one a call, and notes how much was written when it was last called.
-#[derive(Drop)]
-struct Watching<'a> {
-    lines: &'a [u8],
-    written: &'a Cell<usize>,
-    noted: &'a Cell<usize>,
-}
-
-impl Read for Watching<'_> {
-    fn read(&mut self, buf: &mut [u8]) -> io::Result<usize> {
-        self.noted.set(self.written.get());
-        let line = self.lines.iter().position(|byte| *byte == b'\n');
-        let count = match line {
-            Some(place) => buf.len().min(place.saturating_add(1)).min(self.lines.len()),
-            None => self.lines.len().min(buf.len()),
-        };
-        let (front, rest) = self.lines.split_at(count);
-        buf[..count].copy_from_slice(front);
-        self.lines = rest;
-        Ok(count)
-    }
-}
-
 /// A writer that counts the bytes that it takes.
 #[derive(Drop)]
 struct Counting<'a> {
@@ -301,10 +278,12 @@ fn count_report<R: Input + Drop>(
 fn writes_at_once(rt: &impl Abort, alloc: Global, text: &[u8]) {
     let written = Cell::new(0);
     let noted = Cell::new(0);
+    let left = Cell::new(0);
     let reader = Watching {
         lines: text,
         written: &written,
         noted: &noted,
+        left: &left,
     };
     let mut writer = Counting { written: &written };
     let ended = count_report(alloc, AnyReader::new(reader), &mut writer);

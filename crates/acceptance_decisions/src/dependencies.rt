@@ -1,12 +1,13 @@
 //! Notification dependencies: which of them fail. Values are those of worked examples, or reckoned by hand.
 
 use acceptance_inputs::accepted::is_accepted;
-use acceptance_inputs::configs::object;
+use acceptance_inputs::dependencies::{
+    ON_CRITICAL, ON_NONE, ON_PENDING, Question, WORKED, entry, hosts,
+};
 use acceptance_inputs::periods::{Row, periods};
 use dependency::order::Order;
 use due_model::config::{Config, Dependency, ObjectId, PeriodId, Range};
-use due_model::limits::{LAST_MOMENT, MAX_OBJECTS};
-use due_model::objects::Objects;
+use due_model::limits::LAST_MOMENT;
 use due_model::sequence::Sequence;
 use due_model::state::{State, StateSet};
 use due_model::zone::Zone;
@@ -18,21 +19,8 @@ use zone_times::clock::ZoneClock;
 
 /// Every moment; none; and Thursday from 09:00 to 10:00.
 const ROWS: [Row; 3] = [
-    Row {
-        first: 0,
-        last: 6,
-        ranges: &[Range {
-            start: 0,
-            end: 86_400,
-        }],
-        excludes: &[],
-    },
-    Row {
-        first: 0,
-        last: 6,
-        ranges: &[],
-        excludes: &[],
-    },
+    Row::ALWAYS,
+    Row::NEVER,
     Row {
         first: 4,
         last: 4,
@@ -43,42 +31,6 @@ const ROWS: [Row; 3] = [
         excludes: &[],
     },
 ];
-
-/// The criteria `n`.
-const NONE: StateSet = StateSet {
-    pending: false,
-    up: false,
-    down: false,
-    unreachable: false,
-    fine: false,
-    warning: false,
-    unknown: false,
-    critical: false,
-};
-
-/// The criteria `c`.
-const ON_CRITICAL: StateSet = StateSet {
-    pending: false,
-    up: false,
-    down: false,
-    unreachable: false,
-    fine: false,
-    warning: false,
-    unknown: false,
-    critical: true,
-};
-
-/// The criteria `p`.
-const ON_PENDING: StateSet = StateSet {
-    pending: true,
-    up: false,
-    down: false,
-    unreachable: false,
-    fine: false,
-    warning: false,
-    unknown: false,
-    critical: false,
-};
 
 /// The criteria `a`.
 const ON_ALL: StateSet = StateSet {
@@ -98,41 +50,12 @@ const LONG: u16 = 10_000;
 /// How many layers the diamond has, of two objects each.
 const LAYERS: u16 = 2_000;
 
-/// Each object's state, a moment, an object, and whether a dependency of it fails then.
-type Case<'a> = (&'a [State], u64, u16, bool);
-
-/// An entry of object `dependent` on object `master`.
-fn entry(dependent: u16, master: u16, inherits: bool, states: StateSet) -> Dependency {
-    Dependency {
-        dependent: ObjectId(dependent),
-        master: ObjectId(master),
-        inherits,
-        states,
-        period: None,
-    }
-}
-
-/// The same, in a period of `ROWS`.
+/// An entry that inherits, in a period of `ROWS`.
 fn entry_in(period: u16, dependent: u16, master: u16) -> Dependency {
     Dependency {
-        dependent: ObjectId(dependent),
-        master: ObjectId(master),
-        inherits: true,
-        states: ON_CRITICAL,
         period: Some(PeriodId(period)),
+        ..entry(dependent, master, true, ON_CRITICAL)
     }
-}
-
-/// So many hosts, of one name.
-fn hosts(alloc: Global, count: u16) -> Result<Objects, AllocError> {
-    let mut hosts = Vec::new(alloc);
-    for _host in 0..count {
-        hosts.push(object(alloc, "host", None)?)?;
-    }
-    if hosts.len() > MAX_OBJECTS {
-        return Err(AllocError);
-    }
-    Objects::new(alloc, hosts)
 }
 
 /// So many hosts, the periods of `ROWS` and these entries.
@@ -148,7 +71,7 @@ fn answers(
     rt: &impl Abort,
     alloc: Global,
     config: &Config,
-    cases: &[Case<'_>],
+    cases: &[Question<'_>],
 ) -> Result<(), Fail> {
     assert!(rt; is_accepted(config));
     let periods = compile_all(alloc, config)?;
@@ -170,7 +93,7 @@ fn given(
     alloc: Global,
     count: u16,
     entries: &[Dependency],
-    cases: &[Case<'_>],
+    cases: &[Question<'_>],
 ) -> Result<(), Fail> {
     let config = config_of(alloc, count, Vec::from_slice(alloc, entries)?)?;
     answers(rt, alloc, &config, cases)
@@ -213,14 +136,6 @@ fn diamond(alloc: Global) -> Result<Vec<Dependency>, AllocError> {
     Ok(entries)
 }
 
-/// Web, C, B and A, of which A depends on B and B on C; C and A are CRITICAL.
-const WORKED: [State; 4] = [
-    State::Pending,
-    State::Critical,
-    State::Pending,
-    State::Critical,
-];
-
 #[test]
 fn worked_chain_inherits(rt: HostRuntime) -> Result<(), Fail> {
     let entries = [
@@ -254,11 +169,11 @@ fn worked_chain_does_not_inherit(rt: HostRuntime) -> Result<(), Fail> {
 #[test]
 fn criteria(rt: HostRuntime) -> Result<(), Fail> {
     let entries = [
-        entry(1, 0, false, NONE),
+        entry(1, 0, false, ON_NONE),
         entry(2, 0, false, ON_PENDING),
         entry(3, 0, false, ON_ALL),
         entry(4, 0, false, ON_CRITICAL),
-        entry(5, 0, false, NONE),
+        entry(5, 0, false, ON_NONE),
         entry(5, 0, false, ON_ALL),
     ];
     let never = [State::Pending; 6];

@@ -7,6 +7,7 @@ ghost use Rattle.escalation.specs.ByObject.{IsByObject};
 
 use acceptance_inputs::accepted::is_accepted;
 use acceptance_inputs::periods::{Row, periods};
+use acceptance_inputs::rows::NO_LETTER;
 use due_model::config::{
     Config, Contact, ContactId, Escalation, Object, ObjectId, Period, PeriodId, Range, Rights,
 };
@@ -41,14 +42,8 @@ const SHOP: ObjectId = ObjectId(2);
 
 /// Recoveries alone.
 const RECOVERY: OptionLetters = OptionLetters {
-    down: false,
-    unreachable: false,
-    warning: false,
-    unknown: false,
-    critical: false,
     recovery: true,
-    flapping: false,
-    downtime: false,
+    ..NO_LETTER
 };
 
 /// Noon to one o'clock on Thursday.

@@ -6,7 +6,7 @@ ghost use Rattle.outcomes.specs.Outcome.{IsInRange};
 ghost use Rattle.outcomes.specs.Rules.{AreRules};
 
 use acceptance_inputs::accepted::is_accepted;
-use acceptance_inputs::rows::{ContactRow, EscalationRow, ObjectRow, Rows, config_of};
+use acceptance_inputs::rows::{ContactRow, EscalationRow, NO_LETTER, ObjectRow, Rows, config_of};
 use due_model::config::{Config, ContactId, LaneId, ObjectId, PeriodId, Range};
 use due_model::notice::{Filter, Kind, Notice, Outcome, Suppression};
 use due_model::options::OptionLetters;
@@ -40,13 +40,7 @@ const PEOPLE: &[ContactRow] = &[
         name: "bob",
         options: OptionLetters {
             down: true,
-            unreachable: false,
-            warning: false,
-            unknown: false,
-            critical: false,
-            recovery: false,
-            flapping: false,
-            downtime: false,
+            ..NO_LETTER
         },
         lanes: &[LaneId(1)],
         ..ContactRow::FREE

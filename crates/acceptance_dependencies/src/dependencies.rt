@@ -386,9 +386,7 @@ const LOOPS: [(&str, &str); 11] = [
 
 /// What is asked of the blocks, after those objects.
 fn after_objects(alloc: Global, text: &str, asked: Asked) -> Result<String, AllocError> {
-    let mut all = String::new(alloc);
-    all.push_str(OBJECTS)?;
-    all.push_str(text)?;
+    let all = [OBJECTS, text].concat(alloc)?;
     asked_of(alloc, all.as_str(), asked)
 }
 

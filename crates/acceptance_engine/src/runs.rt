@@ -4,13 +4,36 @@ use crate::given::{flips, has_read, leaves, on_two_lanes, run};
 use acceptance_inputs::configs::base;
 use channel::Channel;
 use channel::memory::MemoryChannel;
-use due_model::config::LaneId;
-use engine::Post;
+use due_model::config::{Config, LaneId};
+use engine::{Post, RunEnd};
+use std::alloc::{AllocError, Global};
+use std::process::Abort;
 use std::test::Fail;
 use undelivered::Why;
 
 /// The greatest length of a letter's text.
 const LIMIT: u64 = 65_536;
+
+/// The end of a run in which each lane has a channel in memory, which fails at the calls that are listed for it.
+fn run_in_memory(
+    rt: &impl Abort,
+    alloc: Global,
+    config: &Config,
+    feed: &[u8],
+    fails: &[&[u64]],
+    tries: u8,
+) -> Result<RunEnd, AllocError> {
+    let mut posts = Vec::new(alloc);
+    for (lane, fails) in (0..=u8::MAX).zip(fails) {
+        let channel = MemoryChannel::new(alloc, LIMIT, fails)?;
+        let channel: Box<dyn Channel> = Box::new(alloc, channel)?;
+        posts.push(Post {
+            lane: LaneId(lane),
+            channel,
+        })?;
+    }
+    Ok(run(rt, alloc, config, feed, posts, tries))
+}
 
 /// A lane without a channel gives all up.
 #[test]
@@ -29,14 +52,7 @@ fn no_channel(rt: HostRuntime) -> Result<(), Fail> {
 fn failing_device(rt: HostRuntime) -> Result<(), Fail> {
     let config = base(rt.alloc())?;
     let feed = flips(rt.alloc(), 5)?;
-    let channel = MemoryChannel::new(rt.alloc(), LIMIT, &[3, 4])?;
-    let channel: Box<dyn Channel> = Box::new(rt.alloc(), channel)?;
-    let mut posts = Vec::new(rt.alloc());
-    posts.push(Post {
-        lane: LaneId(0),
-        channel,
-    })?;
-    let end = run(&rt, rt.alloc(), &config, feed.as_slice(), posts, 2);
+    let end = run_in_memory(&rt, rt.alloc(), &config, feed.as_slice(), &[&[3, 4]], 2)?;
     has_read(&rt, &end, 5, 0);
     leaves(&rt, &end, 0, 2, 5, Why::Failed);
     Ok(())
@@ -47,14 +63,7 @@ fn failing_device(rt: HostRuntime) -> Result<(), Fail> {
 fn device_that_recovers(rt: HostRuntime) -> Result<(), Fail> {
     let config = base(rt.alloc())?;
     let feed = flips(rt.alloc(), 5)?;
-    let channel = MemoryChannel::new(rt.alloc(), LIMIT, &[3, 4])?;
-    let channel: Box<dyn Channel> = Box::new(rt.alloc(), channel)?;
-    let mut posts = Vec::new(rt.alloc());
-    posts.push(Post {
-        lane: LaneId(0),
-        channel,
-    })?;
-    let end = run(&rt, rt.alloc(), &config, feed.as_slice(), posts, 3);
+    let end = run_in_memory(&rt, rt.alloc(), &config, feed.as_slice(), &[&[3, 4]], 3)?;
     has_read(&rt, &end, 5, 0);
     leaves(&rt, &end, 0, 5, 5, Why::FeedOver);
     Ok(())
@@ -65,16 +74,7 @@ fn device_that_recovers(rt: HostRuntime) -> Result<(), Fail> {
 fn thousand_flips(rt: HostRuntime) -> Result<(), Fail> {
     let config = on_two_lanes(rt.alloc())?;
     let feed = flips(rt.alloc(), 1_000)?;
-    let mut posts = Vec::new(rt.alloc());
-    for lane in 0..2u8 {
-        let channel = MemoryChannel::new(rt.alloc(), LIMIT, &[])?;
-        let channel: Box<dyn Channel> = Box::new(rt.alloc(), channel)?;
-        posts.push(Post {
-            lane: LaneId(lane),
-            channel,
-        })?;
-    }
-    let end = run(&rt, rt.alloc(), &config, feed.as_slice(), posts, 3);
+    let end = run_in_memory(&rt, rt.alloc(), &config, feed.as_slice(), &[&[], &[]], 3)?;
     has_read(&rt, &end, 1_000, 0);
     leaves(&rt, &end, 0, 1_000, 1_000, Why::FeedOver);
     leaves(&rt, &end, 1, 1_000, 1_000, Why::FeedOver);
@@ -86,20 +86,7 @@ fn thousand_flips(rt: HostRuntime) -> Result<(), Fail> {
 fn one_of_two_lanes_fails(rt: HostRuntime) -> Result<(), Fail> {
     let config = on_two_lanes(rt.alloc())?;
     let feed = flips(rt.alloc(), 6)?;
-    let failing = MemoryChannel::new(rt.alloc(), LIMIT, &[1])?;
-    let failing: Box<dyn Channel> = Box::new(rt.alloc(), failing)?;
-    let whole = MemoryChannel::new(rt.alloc(), LIMIT, &[])?;
-    let whole: Box<dyn Channel> = Box::new(rt.alloc(), whole)?;
-    let mut posts = Vec::new(rt.alloc());
-    posts.push(Post {
-        lane: LaneId(0),
-        channel: failing,
-    })?;
-    posts.push(Post {
-        lane: LaneId(1),
-        channel: whole,
-    })?;
-    let end = run(&rt, rt.alloc(), &config, feed.as_slice(), posts, 1);
+    let end = run_in_memory(&rt, rt.alloc(), &config, feed.as_slice(), &[&[1], &[]], 1)?;
     has_read(&rt, &end, 6, 0);
     leaves(&rt, &end, 0, 0, 6, Why::Failed);
     leaves(&rt, &end, 1, 6, 6, Why::FeedOver);

@@ -6,7 +6,8 @@ ghost use Rattle.filters.specs.Attempt.{IsLastInRange};
 ghost use Rattle.time_period.specs.Days.{AreCompiled};
 
 use acceptance_inputs::periods::{Row, periods};
-use due_model::config::{Config, Contact, ContactId, PeriodId, Range, Rights};
+use acceptance_inputs::rows::NO_LETTER;
+use due_model::config::{Config, Contact, ContactId, PeriodId, Rights};
 use due_model::limits::{LAST_MOMENT, MAX_NUMBER};
 use due_model::notice::{Filter, Kind};
 use due_model::options::OptionLetters;
@@ -24,24 +25,8 @@ use time_period::compile::compile_all;
 use time_period::compiled::Compiled;
 use zone_times::clock::ZoneClock;
 
-/// A period that never holds, and Thursdays. 1970-01-01 was one.
-const PERIODS: [Row; 2] = [
-    Row {
-        first: 0,
-        last: 6,
-        ranges: &[],
-        excludes: &[],
-    },
-    Row {
-        first: 4,
-        last: 4,
-        ranges: &[Range {
-            start: 0,
-            end: 86_400,
-        }],
-        excludes: &[],
-    },
-];
+/// A period that never holds, and Thursdays.
+const PERIODS: [Row; 2] = [Row::NEVER, Row::THURSDAYS];
 
 const NEVER: Option<PeriodId> = Some(PeriodId(0));
 
@@ -49,17 +34,6 @@ const THURSDAYS: Option<PeriodId> = Some(PeriodId(1));
 
 /// When most notifications here are attempted.
 const MOMENT: u64 = 1_000;
-
-const NO_LETTER: OptionLetters = OptionLetters {
-    down: false,
-    unreachable: false,
-    warning: false,
-    unknown: false,
-    critical: false,
-    recovery: false,
-    flapping: false,
-    downtime: false,
-};
 
 /// A notice went out long ago, and nothing stops the next one, whatever its kind.
 const OPEN: View = View {

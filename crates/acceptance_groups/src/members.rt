@@ -168,9 +168,7 @@ const CASES: [(&str, &str); 24] = [
 
 /// The groups' members of the hosts and a text.
 fn host_groups(alloc: Global, groups: &str) -> Result<String, AllocError> {
-    let mut text = String::new(alloc);
-    text.push_str(HOSTS)?;
-    text.push_str(groups)?;
+    let text = [HOSTS, groups].concat(alloc)?;
     result_text(alloc, text.as_str(), GroupKind::HostGroups)
 }
 

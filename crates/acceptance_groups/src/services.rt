@@ -61,9 +61,7 @@ const HOSTS: &str =
 
 /// The hosts of the service blocks of a text, after those hosts.
 fn services_of(alloc: Global, text: &str) -> Result<String, AllocError> {
-    let mut all = String::new(alloc);
-    all.push_str(HOSTS)?;
-    all.push_str(text)?;
+    let all = [HOSTS, text].concat(alloc)?;
     let mut out = String::new(alloc);
     match read(alloc, all.as_str().as_bytes()) {
         Ok(blocks) => show(alloc, &mut out, blocks.as_slice())?,
@@ -303,9 +301,7 @@ const DOUBLED: [(&str, &str); 14] = [
 fn doubled_services_are_found(rt: HostRuntime) -> Result<(), Fail> {
     for case in &DOUBLED {
         let text = case.0;
-        let mut all = String::new(rt.alloc());
-        all.push_str(HOSTS)?;
-        all.push_str(text)?;
+        let all = [HOSTS, text].concat(rt.alloc())?;
         let found = numbers_text(rt.alloc(), all.as_str(), false)?;
         assert_eq!(rt; found.as_str(), case.1, "{text}");
     }
@@ -447,10 +443,7 @@ const UNKNOWN: [(&str, &str); 16] = [
 fn unknown_names_are_found(rt: HostRuntime) -> Result<(), Fail> {
     for case in &UNKNOWN {
         let text = case.0;
-        let mut all = String::new(rt.alloc());
-        all.push_str(HOSTS)?;
-        all.push_str(PEOPLE)?;
-        all.push_str(text)?;
+        let all = [HOSTS, PEOPLE, text].concat(rt.alloc())?;
         let found = unknown_text(rt.alloc(), all.as_str())?;
         assert_eq!(rt; found.as_str(), case.1, "{text}");
     }
@@ -495,9 +488,7 @@ const SERVICES: &str =
 /// Services stand block by block and host by host, and the first of two alike is found: that of host b.
 #[test]
 fn services_are_found_by_host_and_description(rt: HostRuntime) -> Result<(), Fail> {
-    let mut all = String::new(rt.alloc());
-    all.push_str(HOSTS)?;
-    all.push_str(SERVICES)?;
+    let all = [HOSTS, SERVICES].concat(rt.alloc())?;
     let found = numbers_text(rt.alloc(), all.as_str(), true)?;
     assert_eq!(rt; found.as_str(), "doubled 2: 016 234 --- ");
     Ok(())

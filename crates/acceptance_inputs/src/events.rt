@@ -1,11 +1,27 @@
-//! Whether events may be given to the bodies.
+//! Events in short, and whether events may be given to the bodies.
 
 ghost use Rattle.std.specs.Prelude.{All, IsTrue};
 ghost use Rattle.due_model.specs.Proper.{IsProper};
 
-use due_model::config::Config;
-use due_model::event::Event;
+use due_model::config::{Config, ObjectId};
+use due_model::event::{Event, EventKind};
 use due_model::proper::is_proper;
+use due_model::state::State;
+
+/// An event of this kind.
+pub fn at(moment: u64, kind: EventKind) -> Event {
+    Event { moment, kind }
+}
+
+/// A clock event.
+pub fn clock(moment: u64) -> Event {
+    at(moment, EventKind::Clock)
+}
+
+/// A hard state of an object.
+pub fn hard(moment: u64, object: u16, state: State) -> Event {
+    at(moment, EventKind::Hard(ObjectId(object), state))
+}
 
 /// Whether each event is proper.
 pub fn are_proper(config: &Config, events: &[Event]) -> bool

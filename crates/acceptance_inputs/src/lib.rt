@@ -3,6 +3,7 @@
 
 pub mod accepted;
 pub mod configs;
+pub mod dependencies;
 pub mod events;
 pub mod periods;
 pub mod readers;

@@ -23,6 +23,32 @@ pub struct Row {
     pub excludes: &'static [PeriodId],
 }
 
+impl Row {
+    /// Every moment.
+    pub const ALWAYS: Row = Row {
+        first: 0,
+        last: 6,
+        ranges: &[Range {
+            start: 0,
+            end: 86_400,
+        }],
+        excludes: &[],
+    };
+
+    /// No moment.
+    pub const NEVER: Row = Row {
+        ranges: &[],
+        ..Row::ALWAYS
+    };
+
+    /// Thursdays. 1970-01-01 was one.
+    pub const THURSDAYS: Row = Row {
+        first: 4,
+        last: 4,
+        ..Row::ALWAYS
+    };
+}
+
 /// The configuration of these periods, which has nothing else. Rows that can't be accepted are refused as memory is.
 pub fn periods(alloc: Global, rows: &[Row]) -> Result<Config, AllocError>
     ensures accepted { IfOk result (λ config. IsAccepted config) }

@@ -1,5 +1,6 @@
 //! Readers that give their bytes in pieces, and that fail.
 
+use std::cell::Cell;
 use std::io::{self, ErrorKind, Read};
 
 /// Some bytes in pieces of a size. It fails once so many calls were made.
@@ -60,6 +61,35 @@ impl Read for Exes<'_> {
         let count = most.min(self.left);
         buf[..count].fill(b'x');
         self.left -= count;
+        Ok(count)
+    }
+}
+
+/// A reader that gives its lines one a call, and notes how much was written when it was last called, and what is left.
+#[derive(Drop)]
+pub struct Watching<'a> {
+    /// What is left of the lines.
+    pub lines: &'a [u8],
+    /// How much was written.
+    pub written: &'a Cell<usize>,
+    /// How much that was at the last call.
+    pub noted: &'a Cell<usize>,
+    /// How many bytes are left.
+    pub left: &'a Cell<usize>,
+}
+
+impl Read for Watching<'_> {
+    fn read(&mut self, buf: &mut [u8]) -> io::Result<usize> {
+        self.noted.set(self.written.get());
+        let line = self.lines.iter().position(|byte| *byte == b'\n');
+        let count = match line {
+            Some(place) => buf.len().min(place.saturating_add(1)).min(self.lines.len()),
+            None => self.lines.len().min(buf.len()),
+        };
+        let (front, rest) = self.lines.split_at(count);
+        buf[..count].copy_from_slice(front);
+        self.lines = rest;
+        self.left.set(rest.len());
         Ok(count)
     }
 }

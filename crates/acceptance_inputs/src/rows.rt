@@ -10,6 +10,18 @@ use due_model::options::OptionLetters;
 use due_model::sequence::{Sequence, Text};
 use std::alloc::{AllocError, Global};
 
+/// No letter of the options.
+pub const NO_LETTER: OptionLetters = OptionLetters {
+    down: false,
+    unreachable: false,
+    warning: false,
+    unknown: false,
+    critical: false,
+    recovery: false,
+    flapping: false,
+    downtime: false,
+};
+
 /// A contact, with what it is notified of, and on which lanes.
 #[derive(Clone, Copy)]
 pub struct ContactRow {

@@ -49,9 +49,7 @@ const OBJECTS: &str =
 
 /// The places in a text with these objects after it.
 fn places_in(alloc: Global, text: &str) -> Result<String, AllocError> {
-    let mut all = String::new(alloc);
-    all.push_str(text)?;
-    all.push_str(OBJECTS)?;
+    let all = [text, OBJECTS].concat(alloc)?;
     let mut out = String::new(alloc);
     match read(alloc, all.as_str().as_bytes()) {
         Ok(blocks) => show(alloc, &mut out, blocks.as_slice())?,

@@ -134,9 +134,7 @@ const GROUPS: [(&str, &str); 6] = [
 fn the_first_service_group_is_found(rt: HostRuntime) -> Result<(), Fail> {
     for case in &GROUPS {
         let text = case.0;
-        let mut all = String::new(rt.alloc());
-        all.push_str(text)?;
-        all.push_str(SERVICES)?;
+        let all = [text, SERVICES].concat(rt.alloc())?;
         let found = place_in(rt.alloc(), all.as_str())?;
         assert_eq!(rt; found.as_str(), case.1, "{text}");
     }

@@ -1,19 +1,20 @@
 //! The plain look-ups of periods and dependencies. Values are those of worked examples, or reckoned by hand; periods are
 //! compared with the same as they are worked out.
 
-use crate::periods::ROWS;
+use crate::periods::{ROWS, diamond_rows};
 use acceptance_inputs::accepted::is_accepted;
-use acceptance_inputs::configs::object;
+use acceptance_inputs::dependencies::{
+    ON_CRITICAL, ON_NONE, ON_PENDING, Question, WORKED, entry, hosts,
+};
 use acceptance_inputs::periods::{Row, periods};
-use due_model::config::{Config, Dependency, ObjectId, PeriodId, Range};
-use due_model::limits::{LAST_MOMENT, MAX_OBJECTS};
-use due_model::objects::Objects;
+use due_model::config::{Config, Dependency, ObjectId, PeriodId};
+use due_model::limits::LAST_MOMENT;
 use due_model::sequence::Sequence;
-use due_model::state::{State, StateSet};
+use due_model::state::State;
 use due_model::zone::Zone;
 use slow_lookups::dependencies::dependency_fails;
 use slow_lookups::periods::{in_period, next_in};
-use std::alloc::{AllocError, Global};
+use std::alloc::Global;
 use std::process::Abort;
 use std::test::Fail;
 use time_period::compile::compile_all;
@@ -68,48 +69,8 @@ const IN_BY_NEW_YORK: [Moment; 5] = [
     (1, 1_730_617_200, false),
 ];
 
-/// How many pairs stand one above the other.
-const LEVELS: usize = 4;
-
-/// The periods that are excluded, pair by pair.
-const PAIRS: [PeriodId; 6] = [
-    PeriodId(0),
-    PeriodId(1),
-    PeriodId(2),
-    PeriodId(3),
-    PeriodId(4),
-    PeriodId(5),
-];
-
-/// The criteria `n`.
-const NONE: StateSet = StateSet {
-    pending: false,
-    up: false,
-    down: false,
-    unreachable: false,
-    fine: false,
-    warning: false,
-    unknown: false,
-    critical: false,
-};
-
-/// The criteria `c`.
-const ON_CRITICAL: StateSet = StateSet {
-    critical: true,
-    ..NONE
-};
-
-/// The criteria `p`.
-const ON_PENDING: StateSet = StateSet {
-    pending: true,
-    ..NONE
-};
-
 /// How many entries the long chain has.
 const LONG: u16 = 2_000;
-
-/// Each object's state, a moment, an object, and whether a dependency of it fails then.
-type Question<'a> = (&'a [State], u64, u16, bool);
 
 /// Compares whether a moment is in a period.
 fn is_in(
@@ -157,29 +118,6 @@ fn all_give(
         is_in(rt, alloc, config, zone, *moment)?;
     }
     Ok(())
-}
-
-/// An entry of object `dependent` on object `master`.
-fn entry(dependent: u16, master: u16, inherits: bool, states: StateSet) -> Dependency {
-    Dependency {
-        dependent: ObjectId(dependent),
-        master: ObjectId(master),
-        inherits,
-        states,
-        period: None,
-    }
-}
-
-/// So many hosts, of one name.
-fn hosts(alloc: Global, count: u16) -> Result<Objects, AllocError> {
-    let mut hosts = Vec::new(alloc);
-    for _host in 0..count {
-        hosts.push(object(alloc, "host", None)?)?;
-    }
-    if hosts.len() > MAX_OBJECTS {
-        return Err(AllocError);
-    }
-    Objects::new(alloc, hosts)
 }
 
 /// Compares what is answered of so many hosts with these entries and the periods of `noon`.
@@ -264,21 +202,7 @@ fn as_worked_out(rt: HostRuntime) -> Result<(), Fail> {
 /// Each period excludes both of the level below, so every second level never holds.
 #[test]
 fn diamond(rt: HostRuntime) -> Result<(), Fail> {
-    let mut rows = Vec::new(rt.alloc());
-    for level in 0..LEVELS {
-        let low = if level == 0 { 0 } else { level * 2 - 2 };
-        let row = Row {
-            first: 0,
-            last: 6,
-            ranges: &[Range {
-                start: 0,
-                end: 86_400,
-            }],
-            excludes: &PAIRS[low..level * 2],
-        };
-        rows.push(row)?;
-        rows.push(row)?;
-    }
+    let rows = diamond_rows(rt.alloc(), 4)?;
     let config = periods(rt.alloc(), rows.as_slice())?;
     for number in 0..8u16 {
         let case = (number, 5, number / 2 % 2 == 0);
@@ -286,14 +210,6 @@ fn diamond(rt: HostRuntime) -> Result<(), Fail> {
     }
     Ok(())
 }
-
-/// Web, C, B and A, of which A depends on B and B on C; C and A are CRITICAL.
-const WORKED: [State; 4] = [
-    State::Pending,
-    State::Critical,
-    State::Pending,
-    State::Critical,
-];
 
 #[test]
 fn worked_chain_inherits(rt: HostRuntime) -> Result<(), Fail> {
@@ -327,11 +243,11 @@ fn worked_chain_does_not_inherit(rt: HostRuntime) -> Result<(), Fail> {
 #[test]
 fn pending_master(rt: HostRuntime) -> Result<(), Fail> {
     let entries = [
-        entry(1, 0, false, NONE),
+        entry(1, 0, false, ON_NONE),
         entry(2, 0, false, ON_PENDING),
         entry(3, 0, false, ON_CRITICAL),
         entry(4, 0, false, ON_PENDING),
-        entry(4, 0, false, NONE),
+        entry(4, 0, false, ON_NONE),
     ];
     let none: [State; 0] = [];
     let never = [State::Pending; 5];

@@ -36,20 +36,10 @@ pub(crate) const ROWS: [Row; 12] = [
         excludes: &[PeriodId(0)],
     },
     Row {
-        first: 4,
-        last: 4,
-        ranges: &[Range {
-            start: 0,
-            end: 86_400,
-        }],
         excludes: &[PeriodId(1)],
+        ..Row::THURSDAYS
     },
-    Row {
-        first: 0,
-        last: 6,
-        ranges: &[],
-        excludes: &[],
-    },
+    Row::NEVER,
     Row {
         first: 0,
         last: 0,
@@ -77,15 +67,7 @@ pub(crate) const ROWS: [Row; 12] = [
         }],
         excludes: &[],
     },
-    Row {
-        first: 4,
-        last: 4,
-        ranges: &[Range {
-            start: 0,
-            end: 86_400,
-        }],
-        excludes: &[],
-    },
+    Row::THURSDAYS,
     Row {
         first: 1,
         last: 5,
@@ -283,7 +265,7 @@ const SPANS: [Range; 13] = [
     },
 ];
 
-/// How many pairs stand one above the other.
+/// How many pairs stand one above the other at most.
 const LEVELS: usize = 20;
 
 /// The periods that are excluded, pair by pair.
@@ -561,24 +543,25 @@ fn generated_nests(rt: HostRuntime) -> Result<(), Fail> {
     Ok(())
 }
 
-/// Each period excludes both of the level below, so every second level never holds.
-#[test]
-fn diamond(rt: HostRuntime) -> Result<(), Fail> {
-    let mut rows = Vec::new(rt.alloc());
-    for level in 0..LEVELS {
+/// So many levels of two periods, at most 20. Each period excludes both of the level below, so every second level never
+/// holds.
+pub(crate) fn diamond_rows(alloc: Global, levels: usize) -> Result<Vec<Row>, AllocError> {
+    let mut rows = Vec::new(alloc);
+    for level in 0..levels.min(LEVELS) {
         let low = if level == 0 { 0 } else { level * 2 - 2 };
         let row = Row {
-            first: 0,
-            last: 6,
-            ranges: &[Range {
-                start: 0,
-                end: 86_400,
-            }],
             excludes: &PAIRS[low..level * 2],
+            ..Row::ALWAYS
         };
         rows.push(row)?;
         rows.push(row)?;
     }
+    Ok(rows)
+}
+
+#[test]
+fn diamond(rt: HostRuntime) -> Result<(), Fail> {
+    let rows = diamond_rows(rt.alloc(), LEVELS)?;
     let all = worked_out(rt.alloc(), rows.as_slice())?;
     let zone = ZoneClock::new(&Zone::Utc);
     gives(&rt, all.as_slice(), &zone, (36, 5, Some(5)));

@@ -4,7 +4,7 @@ ghost use Rattle.std.specs.Prelude.{◌≡◌};
 ghost use Rattle.due_laws.specs.Rows.{base};
 
 use acceptance_inputs::configs::base;
-use acceptance_inputs::events::are_proper;
+use acceptance_inputs::events::{are_proper, at, clock, hard};
 use due_model::config::{Config, ContactId, LaneId, ObjectId};
 use due_model::event::{Event, EventKind};
 use due_model::notice::{Filter, Kind, Notice, Suppression};
@@ -114,20 +114,13 @@ fn gives(
 
 const DOWN: State = State::Down;
 
-const WEB_DOWN: EventKind = EventKind::Hard(ObjectId(0), State::Down);
-
 const PROBLEM: Kind = Kind::Problem;
-
-const ONE_DOWN: [Event; 1] = [Event {
-    moment: 1000,
-    kind: WEB_DOWN,
-}];
 
 const ONE_NOTICE: [Row; 1] = [(0, 1000, PROBLEM, DOWN, 1)];
 
 #[test]
 fn one_host_down(rt: HostRuntime) -> Result<(), Fail> {
-    gives(&rt, rt.alloc(), &ONE_DOWN, &ONE_NOTICE, &[])
+    gives(&rt, rt.alloc(), &[hard(1000, 0, DOWN)], &ONE_NOTICE, &[])
 }
 
 #[test]
@@ -135,46 +128,13 @@ fn empty_feed(rt: HostRuntime) -> Result<(), Fail> {
     gives(&rt, rt.alloc(), &[], &[], &[])
 }
 
-const TWICE_DUE: [Event; 3] = [
-    Event {
-        moment: 1000,
-        kind: WEB_DOWN,
-    },
-    Event {
-        moment: 1059,
-        kind: EventKind::Clock,
-    },
-    Event {
-        moment: 1060,
-        kind: EventKind::Clock,
-    },
-];
-
 const TWO_NOTICES: [Row; 2] = [(0, 1000, PROBLEM, DOWN, 1), (2, 1060, PROBLEM, DOWN, 2)];
 
 #[test]
 fn renotify(rt: HostRuntime) -> Result<(), Fail> {
-    gives(&rt, rt.alloc(), &TWICE_DUE, &TWO_NOTICES, &[])
+    let events = [hard(1000, 0, DOWN), clock(1059), clock(1060)];
+    gives(&rt, rt.alloc(), &events, &TWO_NOTICES, &[])
 }
-
-const TOO_SOON: [Event; 4] = [
-    Event {
-        moment: 1000,
-        kind: WEB_DOWN,
-    },
-    Event {
-        moment: 1030,
-        kind: WEB_DOWN,
-    },
-    Event {
-        moment: 1059,
-        kind: EventKind::Clock,
-    },
-    Event {
-        moment: 1060,
-        kind: EventKind::Clock,
-    },
-];
 
 const AFTER_THE_INTERVAL: [Row; 2] = [(0, 1000, PROBLEM, DOWN, 1), (3, 1060, PROBLEM, DOWN, 2)];
 
@@ -182,33 +142,14 @@ const BY_INTERVAL: [Stopped; 1] = [((1, 1030, PROBLEM, DOWN, 2), Filter::Interva
 
 #[test]
 fn same_state_too_soon(rt: HostRuntime) -> Result<(), Fail> {
-    gives(
-        &rt,
-        rt.alloc(),
-        &TOO_SOON,
-        &AFTER_THE_INTERVAL,
-        &BY_INTERVAL,
-    )
+    let events = [
+        hard(1000, 0, DOWN),
+        hard(1030, 0, DOWN),
+        clock(1059),
+        clock(1060),
+    ];
+    gives(&rt, rt.alloc(), &events, &AFTER_THE_INTERVAL, &BY_INTERVAL)
 }
-
-const SWITCHED: [Event; 4] = [
-    Event {
-        moment: 1000,
-        kind: EventKind::Program(false),
-    },
-    Event {
-        moment: 1000,
-        kind: WEB_DOWN,
-    },
-    Event {
-        moment: 1005,
-        kind: EventKind::Program(true),
-    },
-    Event {
-        moment: 1010,
-        kind: EventKind::Hard(ObjectId(0), State::Up),
-    },
-];
 
 const BY_THE_SWITCH: [Stopped; 2] = [
     ((1, 1000, PROBLEM, DOWN, 1), Filter::Program),
@@ -217,5 +158,11 @@ const BY_THE_SWITCH: [Stopped; 2] = [
 
 #[test]
 fn program_switch(rt: HostRuntime) -> Result<(), Fail> {
-    gives(&rt, rt.alloc(), &SWITCHED, &[], &BY_THE_SWITCH)
+    let events = [
+        at(1000, EventKind::Program(false)),
+        hard(1000, 0, DOWN),
+        at(1005, EventKind::Program(true)),
+        hard(1010, 0, State::Up),
+    ];
+    gives(&rt, rt.alloc(), &events, &[], &BY_THE_SWITCH)
 }

@@ -7,6 +7,7 @@ ghost use Rattle.world_steps.specs.Steps.{IsProperStep};
 ghost use Rattle.world_steps.specs.Views.{world_setup};
 
 use acceptance_inputs::configs::{base, wide};
+use acceptance_inputs::events::hard;
 use due_model::config::{Config, LaneId, ObjectId};
 use due_model::event::{Event, EventKind};
 use due_model::notice::Notice;
@@ -61,13 +62,6 @@ fn refused(
         }
     }
     Ok(places)
-}
-
-fn hard(moment: u64, state: State) -> Step {
-    Step::Post(Event {
-        moment,
-        kind: EventKind::Hard(ObjectId(0), state),
-    })
 }
 
 const TWO_TRIES: Settings = Settings {
@@ -175,21 +169,27 @@ fn plays(
     plays_in(rt, alloc, &config, steps, places, line)
 }
 
+/// Web is down.
+const GOES_DOWN: Step = Step::Post(Event {
+    moment: 1000,
+    kind: EventKind::Hard(ObjectId(0), State::Down),
+});
+
+/// Web is up again.
+const COMES_UP: Step = Step::Post(Event {
+    moment: 1010,
+    kind: EventKind::Hard(ObjectId(0), State::Up),
+});
+
 const ASK_AND_CLOSE: [Step; 12] = [
-    Step::Post(Event {
-        moment: 1000,
-        kind: EventKind::Hard(ObjectId(0), State::Down),
-    }),
+    GOES_DOWN,
     Step::Decide(0),
     Step::Put(0, MAIL),
     Step::Lane(MAIL, LaneStep::Pick),
     Step::Lane(MAIL, LaneStep::Ask),
     Step::Lane(MAIL, LaneStep::Settle),
     Step::Lane(MAIL, LaneStep::Close),
-    Step::Post(Event {
-        moment: 1010,
-        kind: EventKind::Hard(ObjectId(0), State::Up),
-    }),
+    COMES_UP,
     Step::Decide(0),
     Step::Put(0, MAIL),
     Step::Lane(MAIL, LaneStep::Pick),
@@ -202,19 +202,13 @@ fn ask_and_close(rt: HostRuntime) -> Result<(), Fail> {
 }
 
 const ASK_AND_CLOSE_UNSETTLED: [Step; 11] = [
-    Step::Post(Event {
-        moment: 1000,
-        kind: EventKind::Hard(ObjectId(0), State::Down),
-    }),
+    GOES_DOWN,
     Step::Decide(0),
     Step::Put(0, MAIL),
     Step::Lane(MAIL, LaneStep::Pick),
     Step::Lane(MAIL, LaneStep::Ask),
     Step::Lane(MAIL, LaneStep::Close),
-    Step::Post(Event {
-        moment: 1010,
-        kind: EventKind::Hard(ObjectId(0), State::Up),
-    }),
+    COMES_UP,
     Step::Decide(0),
     Step::Put(0, MAIL),
     Step::Lane(MAIL, LaneStep::Pick),
@@ -233,10 +227,7 @@ fn ask_and_close_unsettled(rt: HostRuntime) -> Result<(), Fail> {
 }
 
 const TRIED_TWICE: [Step; 9] = [
-    Step::Post(Event {
-        moment: 1000,
-        kind: EventKind::Hard(ObjectId(0), State::Down),
-    }),
+    GOES_DOWN,
     Step::Decide(0),
     Step::Put(0, MAIL),
     Step::Lane(MAIL, LaneStep::Pick),
@@ -260,7 +251,7 @@ fn change(moment: u64) -> [Step; 5] {
         State::Up
     };
     [
-        hard(moment, state),
+        Step::Post(hard(moment, 0, state)),
         Step::Decide(0),
         Step::Put(0, MAIL),
         on_mail(LaneStep::Pick),
@@ -315,8 +306,7 @@ fn ten_thousand_steps(rt: HostRuntime) -> Result<(), Fail> {
 fn crowd(alloc: Global) -> Result<Vec<Step>, AllocError> {
     let mut steps = Vec::new(alloc);
     for object in 0..8u16 {
-        let kind = EventKind::Hard(ObjectId(object), State::Down);
-        steps.push(Step::Post(Event { moment: 0, kind }))?;
+        steps.push(Step::Post(hard(0, object, State::Down)))?;
     }
     for turn in 0..64u8 {
         steps.push(Step::Decide(turn % 8))?;

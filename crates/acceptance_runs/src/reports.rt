@@ -1,8 +1,9 @@
 //! Reports of the worked examples.
 
-use crate::watchers::{Counting, Noting, Stubborn, Watching};
+use crate::watchers::{Counting, Noting, Stubborn};
 use acceptance_inputs::accepted::is_accepted;
 use acceptance_inputs::configs::base;
+use acceptance_inputs::readers::Watching;
 use channel::Channel;
 use channel::memory::MemoryChannel;
 use command_output::{CommandFault, Ending, Sink};
@@ -66,17 +67,17 @@ fn ends_watched<R: Read + Drop, W: Sink, P: Watcher>(
 /// A feed, what is written, and how it ends.
 type Example = (&'static str, &'static str, Ending);
 
-/// Runs a feed, and compares what is written and how it ends.
+/// Runs BASE with a feed, and compares what is written and how it ends.
 fn gives(
     rt: &impl Abort,
     alloc: Global,
-    config: &Config,
     fails: Option<&[u64]>,
-    out: &mut Vec<u8>,
     example: Example,
 ) -> Result<(), AllocError> {
     let (feed, report, ending) = example;
-    let ended = ends(rt, alloc, config, fails, feed.as_bytes(), out)?;
+    let config = base(alloc)?;
+    let mut out = Vec::new(alloc);
+    let ended = ends(rt, alloc, &config, fails, feed.as_bytes(), &mut out)?;
     assert_eq!(rt; ended, Ok(ending), "{feed}");
     assert_eq!(rt; out.as_slice(), report.as_bytes(), "{feed}");
     Ok(())
@@ -91,9 +92,7 @@ const NO_CHANNEL: Example = (
 /// A lane without a channel gives all up.
 #[test]
 fn no_channel(rt: HostRuntime) -> Result<(), Fail> {
-    let config = base(rt.alloc())?;
-    let mut out = Vec::new(rt.alloc());
-    gives(&rt, rt.alloc(), &config, None, &mut out, NO_CHANNEL)?;
+    gives(&rt, rt.alloc(), None, NO_CHANNEL)?;
     Ok(())
 }
 
@@ -110,9 +109,7 @@ const WHOLE: Example = (
 /// A suppressed event and a refused line are told in the order of the feed, and then what the channel has taken.
 #[test]
 fn in_the_order_of_the_feed(rt: HostRuntime) -> Result<(), Fail> {
-    let config = base(rt.alloc())?;
-    let mut out = Vec::new(rt.alloc());
-    gives(&rt, rt.alloc(), &config, Some(&[]), &mut out, WHOLE)?;
+    gives(&rt, rt.alloc(), Some(&[]), WHOLE)?;
     Ok(())
 }
 
@@ -125,16 +122,7 @@ const SECOND_FAILS: Example = (
 /// The second letter fails as often as it may be tried.
 #[test]
 fn second_letter_fails(rt: HostRuntime) -> Result<(), Fail> {
-    let config = base(rt.alloc())?;
-    let mut out = Vec::new(rt.alloc());
-    gives(
-        &rt,
-        rt.alloc(),
-        &config,
-        Some(&[2, 3]),
-        &mut out,
-        SECOND_FAILS,
-    )?;
+    gives(&rt, rt.alloc(), Some(&[2, 3]), SECOND_FAILS)?;
     Ok(())
 }
 
@@ -147,9 +135,7 @@ const CUT: Example = (
 /// A feed that is cut is said to be short, and not that something is undelivered.
 #[test]
 fn cut_and_undelivered(rt: HostRuntime) -> Result<(), Fail> {
-    let config = base(rt.alloc())?;
-    let mut out = Vec::new(rt.alloc());
-    gives(&rt, rt.alloc(), &config, None, &mut out, CUT)?;
+    gives(&rt, rt.alloc(), None, CUT)?;
     Ok(())
 }
 

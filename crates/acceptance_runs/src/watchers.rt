@@ -1,36 +1,11 @@
-//! Readers, writers and watchers that note what was asked of them.
+//! Writers and watchers that note what was asked of them.
 
 ghost use Rattle.std.specs.Prelude.{false, true};
 
 use command_output::Sink;
 use progress::{Progress, Watcher};
 use std::cell::Cell;
-use std::io::{self, ErrorKind, Read, Write};
-
-/// A reader that gives its lines one a call, and notes how much was written when it was last called, and what is left.
-#[derive(Drop)]
-pub(crate) struct Watching<'a> {
-    pub(crate) lines: &'a [u8],
-    pub(crate) written: &'a Cell<usize>,
-    pub(crate) noted: &'a Cell<usize>,
-    pub(crate) left: &'a Cell<usize>,
-}
-
-impl Read for Watching<'_> {
-    fn read(&mut self, buf: &mut [u8]) -> io::Result<usize> {
-        self.noted.set(self.written.get());
-        let line = self.lines.iter().position(|byte| *byte == b'\n');
-        let count = match line {
-            Some(place) => buf.len().min(place.saturating_add(1)).min(self.lines.len()),
-            None => self.lines.len().min(buf.len()),
-        };
-        let (front, rest) = self.lines.split_at(count);
-        buf[..count].copy_from_slice(front);
-        self.lines = rest;
-        self.left.set(rest.len());
-        Ok(count)
-    }
-}
+use std::io::{self, ErrorKind, Write};
 
 /// A writer that counts the bytes that it takes.
 #[derive(Drop)]

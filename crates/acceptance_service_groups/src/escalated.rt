@@ -6,26 +6,16 @@ ghost use Rattle.object_groups.specs.Objects.{objects_in};
 ghost use Rattle.object_reader.specs.declared.block.BlockKind.TheVariants.{Service};
 ghost use Rattle.object_services.specs.Limits.{AreHostLists};
 
+use crate::shown::{Asked, asked_of, push_numbers};
 use object_escalations::escalated::EscalatedObjects;
-use object_groups::groups::{GroupKind, Groups};
+use object_groups::groups::Groups;
 use object_inheritance::templates::Templates;
-use object_reader::block::Block;
-use object_reader::reading::read;
 use object_service_groups::groups::ServiceGroups;
 use object_services::blocks::ServiceBlocks;
-use object_services::numbers::ServiceNumbers;
 use object_services::services::{LimitFault, ServiceHosts};
 use std::alloc::{AllocError, Global};
 use std::fmt::Write;
 use std::test::Fail;
-
-/// Adds each number and a dot.
-fn push_numbers(out: &mut String, numbers: &[usize]) -> Result<(), AllocError> {
-    for number in numbers {
-        write!(out, "{number}.")?;
-    }
-    Ok(())
-}
 
 /// The place of each block that speaks of objects, and their numbers.
 fn show_objects(out: &mut String, objects: &EscalatedObjects) -> Result<(), AllocError> {
@@ -40,7 +30,7 @@ fn show_objects(out: &mut String, objects: &EscalatedObjects) -> Result<(), Allo
 }
 
 /// The same, where these are the host groups and the service groups.
-fn show_with_groups<'a>(
+pub(crate) fn show_escalated<'a>(
     alloc: Global,
     out: &mut String,
     templates: &Templates<'a>,
@@ -59,60 +49,6 @@ fn show_with_groups<'a>(
         Err(LimitFault::TooMany { place, line }) => write!(out, "{place} {line} TooMany"),
         Err(LimitFault::NoMemory) => out.push_str("memory"),
     }
-}
-
-/// The same, where these are the hosts of the service blocks.
-fn show_with_lists<'a>(
-    alloc: Global,
-    out: &mut String,
-    templates: &Templates<'a>,
-    services: &ServiceBlocks<'a>,
-    lists: &ServiceHosts,
-    hosts: &mut Groups<'a>,
-) -> Result<(), AllocError>
-    requires services { services.now ≡ templates.now }
-    requires lists { AreHostLists templates.now (objects_in templates.now Service) lists.now }
-    requires hosts { hosts.old ≡ record { blocks = templates.now; kind = HostGroups } }
-{
-    let numbers = ServiceNumbers::new(alloc, services.objects().names(), lists)?;
-    let names = hosts.objects().names();
-    let mut groups = ServiceGroups::new(alloc, templates, services, lists, &numbers, names)?;
-    show_with_groups(alloc, out, templates, services, lists, hosts, &mut groups)
-}
-
-/// The same, where these are the service blocks.
-fn show_with_services<'a>(
-    alloc: Global,
-    out: &mut String,
-    templates: &Templates<'a>,
-    services: &ServiceBlocks<'a>,
-) -> Result<(), AllocError>
-    requires { services.now ≡ templates.now }
-{
-    let mut hosts = Groups::new(alloc, templates, GroupKind::HostGroups)?;
-    let Ok(lists) = ServiceHosts::new(alloc, services, &mut hosts) else {
-        return out.push_str("limit");
-    };
-    show_with_lists(alloc, out, templates, services, &lists, &mut hosts)
-}
-
-/// The same of blocks.
-fn show(alloc: Global, out: &mut String, blocks: &[Block]) -> Result<(), AllocError> {
-    let Ok(templates) = Templates::new(alloc, blocks) else {
-        return out.push_str("templates");
-    };
-    let services = ServiceBlocks::new(alloc, &templates)?;
-    show_with_services(alloc, out, &templates, &services)
-}
-
-/// The same of a text.
-fn objects_in(alloc: Global, text: &str) -> Result<String, AllocError> {
-    let mut out = String::new(alloc);
-    match read(alloc, text.as_bytes()) {
-        Ok(blocks) => show(alloc, &mut out, blocks.as_slice())?,
-        Err(_) => out.push_str("unread")?,
-    }
-    Ok(out)
 }
 
 /// Hosts a and b, the numbers 0 and 1. Service s of a is object 2, s of b object 3, and t of b object 4. The blocks that
@@ -193,10 +129,8 @@ const CASES: [(&str, &str); 20] = [
 
 /// The objects of which the blocks speak, after those objects.
 fn objects_after(alloc: Global, text: &str) -> Result<String, AllocError> {
-    let mut all = String::new(alloc);
-    all.push_str(OBJECTS)?;
-    all.push_str(text)?;
-    objects_in(alloc, all.as_str())
+    let all = [OBJECTS, text].concat(alloc)?;
+    asked_of(alloc, all.as_str(), Asked::Escalated)
 }
 
 #[test]
@@ -226,7 +160,7 @@ fn site(alloc: Global, hosts: u32, escalations: u32) -> Result<String, AllocErro
 #[test]
 fn the_first_block_past_the_limit_of_escalations_is_refused(rt: HostRuntime) -> Result<(), Fail> {
     let text = site(rt.alloc(), 1000, 1002)?;
-    let found = objects_in(rt.alloc(), text.as_str())?;
+    let found = asked_of(rt.alloc(), text.as_str(), Asked::Escalated)?;
     assert_eq!(rt; found.as_str(), "2000 6001 TooMany");
     Ok(())
 }

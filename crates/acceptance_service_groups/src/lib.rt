@@ -6,3 +6,5 @@
 mod escalated;
 #[cfg(test)]
 mod members;
+#[cfg(test)]
+mod shown;

@@ -1,34 +1,13 @@
 //! The members of service groups, as the manual's rules give them.
 
-ghost use Rattle.std.specs.Prelude.{◌≡◌};
-ghost use Rattle.object_groups.specs.Objects.{names_in, objects_in};
-ghost use Rattle.object_reader.specs.declared.block.BlockKind.TheVariants.{Host, Service};
-ghost use Rattle.object_services.specs.Limits.{AreHostLists};
-
-use object_groups::groups::{GroupKind, Groups};
-use object_groups::names::Names;
-use object_inheritance::templates::Templates;
-use object_reader::block::Block;
-use object_reader::reading::read;
+use crate::shown::{Asked, asked_of, push_numbers};
 use object_service_groups::groups::ServiceGroups;
-use object_services::blocks::ServiceBlocks;
-use object_services::numbers::ServiceNumbers;
-use object_services::services::ServiceHosts;
 use std::alloc::{AllocError, Global};
-use std::fmt::Write;
 use std::test::Fail;
 
 /// A text, or `?` where it isn't UTF-8.
 fn text_or_mark(bytes: &[u8]) -> &str {
     str::from_utf8(bytes).unwrap_or("?")
-}
-
-/// Adds each place and a dot.
-fn push_places(out: &mut String, places: &[usize]) -> Result<(), AllocError> {
-    for place in places {
-        write!(out, "{place}.")?;
-    }
-    Ok(())
 }
 
 /// The name of a group, and the places of its members among the services.
@@ -41,12 +20,12 @@ fn show_group(
     out.push_str(text_or_mark(groups.groups().names().name(number)))?;
     out.push_str(":")?;
     let members = groups.members(alloc, number)?;
-    push_places(out, members.as_slice())?;
+    push_numbers(out, members.as_slice())?;
     out.push_str("\n")
 }
 
 /// The same of all groups, a line each.
-fn show_groups(
+pub(crate) fn show_groups(
     alloc: Global,
     out: &mut String,
     groups: &mut ServiceGroups,
@@ -55,60 +34,6 @@ fn show_groups(
         show_group(alloc, out, groups, number)?;
     }
     Ok(())
-}
-
-/// The same, where these are the hosts of the service blocks.
-fn show_with_lists<'a>(
-    alloc: Global,
-    out: &mut String,
-    templates: &Templates<'a>,
-    services: &ServiceBlocks<'a>,
-    lists: &ServiceHosts,
-    hosts: &Names<'a>,
-) -> Result<(), AllocError>
-    requires services { services.now ≡ templates.now }
-    requires lists { AreHostLists templates.now (objects_in templates.now Service) lists.now }
-    requires hosts { hosts.now ≡ names_in templates.now Host }
-{
-    let numbers = ServiceNumbers::new(alloc, services.objects().names(), lists)?;
-    let mut groups = ServiceGroups::new(alloc, templates, services, lists, &numbers, hosts)?;
-    show_groups(alloc, out, &mut groups)
-}
-
-/// The same, where these are the service blocks.
-fn show_with_services<'a>(
-    alloc: Global,
-    out: &mut String,
-    templates: &Templates<'a>,
-    services: &ServiceBlocks<'a>,
-) -> Result<(), AllocError>
-    requires { services.now ≡ templates.now }
-{
-    let mut hosts = Groups::new(alloc, templates, GroupKind::HostGroups)?;
-    let Ok(lists) = ServiceHosts::new(alloc, services, &mut hosts) else {
-        return out.push_str("limit");
-    };
-    let names = hosts.objects().names();
-    show_with_lists(alloc, out, templates, services, &lists, names)
-}
-
-/// The same of blocks.
-fn show(alloc: Global, out: &mut String, blocks: &[Block]) -> Result<(), AllocError> {
-    let Ok(templates) = Templates::new(alloc, blocks) else {
-        return out.push_str("templates");
-    };
-    let services = ServiceBlocks::new(alloc, &templates)?;
-    show_with_services(alloc, out, &templates, &services)
-}
-
-/// The same of a text.
-fn members_in(alloc: Global, text: &str) -> Result<String, AllocError> {
-    let mut out = String::new(alloc);
-    match read(alloc, text.as_bytes()) {
-        Ok(blocks) => show(alloc, &mut out, blocks.as_slice())?,
-        Err(_) => out.push_str("unread")?,
-    }
-    Ok(out)
 }
 
 /// Hosts a and b. Service s of a has place 0, s of b place 1, and t of b place 2.
@@ -212,10 +137,8 @@ const GROUPS: [(&str, &str); 22] = [
 
 /// The members of each group, after those services.
 fn members_after(alloc: Global, text: &str) -> Result<String, AllocError> {
-    let mut all = String::new(alloc);
-    all.push_str(SERVICES)?;
-    all.push_str(text)?;
-    members_in(alloc, all.as_str())
+    let all = [SERVICES, text].concat(alloc)?;
+    asked_of(alloc, all.as_str(), Asked::Members)
 }
 
 #[test]

@@ -2,14 +2,15 @@
 //! slow program. A row is a table of the configuration, the events, and what each object says, in short.
 
 use acceptance_inputs::accepted::is_accepted;
-use acceptance_inputs::events::are_proper;
-use acceptance_inputs::rows::{ContactRow, EscalationRow, ObjectRow, Rows, config_of};
+use acceptance_inputs::dependencies::ON_CRITICAL;
+use acceptance_inputs::events::{are_proper, at, clock, hard};
+use acceptance_inputs::rows::{ContactRow, EscalationRow, NO_LETTER, ObjectRow, Rows, config_of};
 use due_model::config::{Config, ContactId, Dependency, LaneId, ObjectId, PeriodId, Range};
 use due_model::event::{DowntimeChange, Event, EventKind};
 use due_model::notice::{Filter, Kind, Notice, Suppression};
 use due_model::options::OptionLetters;
 use due_model::proper::has_object;
-use due_model::state::{State, StateSet};
+use due_model::state::State;
 use due_model::zone::Zone;
 use slow_rules::slow::{slow_due, slow_sup};
 use std::alloc::Global;
@@ -133,18 +134,6 @@ const BASE: Rows<'static> = Rows {
     escalations: &[],
     dependencies: &[],
 };
-
-fn at(moment: u64, kind: EventKind) -> Event {
-    Event { moment, kind }
-}
-
-fn clock(moment: u64) -> Event {
-    at(moment, EventKind::Clock)
-}
-
-fn hard(moment: u64, object: u16, state: State) -> Event {
-    at(moment, EventKind::Hard(ObjectId(object), state))
-}
 
 const PROBLEM: Kind = Kind::Problem;
 
@@ -433,17 +422,6 @@ fn work_hours_in_a_zone(rt: HostRuntime) -> Result<(), Fail> {
     wakes_in_spring(&rt, rt.alloc(), &config)
 }
 
-const IF_CRITICAL: StateSet = StateSet {
-    pending: false,
-    up: false,
-    down: false,
-    unreachable: false,
-    fine: false,
-    warning: false,
-    unknown: false,
-    critical: true,
-};
-
 /// Service 3 depends on 2, which depends on 1, and inherits its dependency.
 const CHAIN: Rows<'static> = Rows {
     objects: &[WEB, PING, PING, PING],
@@ -452,14 +430,14 @@ const CHAIN: Rows<'static> = Rows {
             dependent: ObjectId(3),
             master: ObjectId(2),
             inherits: true,
-            states: IF_CRITICAL,
+            states: ON_CRITICAL,
             period: None,
         },
         Dependency {
             dependent: ObjectId(2),
             master: ObjectId(1),
             inherits: false,
-            states: IF_CRITICAL,
+            states: ON_CRITICAL,
             period: None,
         },
     ],
@@ -506,13 +484,7 @@ const DOWN_ALONE: Rows<'static> = Rows {
         name: "ann",
         options: OptionLetters {
             down: true,
-            unreachable: false,
-            warning: false,
-            unknown: false,
-            critical: false,
-            recovery: false,
-            flapping: false,
-            downtime: false,
+            ..NO_LETTER
         },
         ..ContactRow::FREE
     }],

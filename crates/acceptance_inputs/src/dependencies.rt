@@ -1,0 +1,66 @@
+//! Notification dependencies that tests are run on.
+
+use crate::configs::object;
+use due_model::config::{Dependency, ObjectId};
+use due_model::limits::MAX_OBJECTS;
+use due_model::objects::Objects;
+use due_model::state::{State, StateSet};
+use std::alloc::{AllocError, Global};
+
+/// The criteria `n`.
+pub const ON_NONE: StateSet = StateSet {
+    pending: false,
+    up: false,
+    down: false,
+    unreachable: false,
+    fine: false,
+    warning: false,
+    unknown: false,
+    critical: false,
+};
+
+/// The criteria `c`.
+pub const ON_CRITICAL: StateSet = StateSet {
+    critical: true,
+    ..ON_NONE
+};
+
+/// The criteria `p`.
+pub const ON_PENDING: StateSet = StateSet {
+    pending: true,
+    ..ON_NONE
+};
+
+/// Each object's state, a moment, an object, and whether a dependency of it fails then.
+pub type Question<'a> = (&'a [State], u64, u16, bool);
+
+/// Of the worked examples: web, C, B and A, of which A depends on B and B on C; C and A are CRITICAL.
+pub const WORKED: [State; 4] = [
+    State::Pending,
+    State::Critical,
+    State::Pending,
+    State::Critical,
+];
+
+/// An entry of object `dependent` on object `master`, valid at every moment.
+pub fn entry(dependent: u16, master: u16, inherits: bool, states: StateSet) -> Dependency {
+    Dependency {
+        dependent: ObjectId(dependent),
+        master: ObjectId(master),
+        inherits,
+        states,
+        period: None,
+    }
+}
+
+/// So many hosts, of one name.
+pub fn hosts(alloc: Global, count: u16) -> Result<Objects, AllocError> {
+    let mut hosts = Vec::new(alloc);
+    for _host in 0..count {
+        hosts.push(object(alloc, "host", None)?)?;
+    }
+    if hosts.len() > MAX_OBJECTS {
+        return Err(AllocError);
+    }
+    Objects::new(alloc, hosts)
+}
