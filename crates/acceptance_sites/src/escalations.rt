@@ -1,8 +1,7 @@
 //! Object texts with escalations, and the escalations or the fault that the rules give for each.
 
 use crate::shown::is_shown;
-use crate::site_shown::show_escalations;
-use object_resolve::load;
+use crate::site_shown::{load_text, show_escalations};
 use std::alloc::{AllocError, Global};
 use std::fmt::Write;
 use std::process::Abort;
@@ -10,7 +9,7 @@ use std::test::Fail;
 
 /// What the text gives: its escalations, or the fault.
 fn show_text(alloc: Global, out: &mut String, text: &str) -> Result<(), AllocError> {
-    match load(alloc, text.as_bytes()) {
+    match load_text(alloc, text) {
         Ok(config) => show_escalations(out, &config),
         Err(fault) => write!(out, "{fault}"),
     }

@@ -2,9 +2,8 @@
 //! fault.
 
 use crate::shown::is_shown;
-use crate::site_shown::show_config;
+use crate::site_shown::{load_text, show_config};
 use due_model::config::Config;
-use object_resolve::load;
 use std::alloc::{AllocError, Global};
 use std::fmt::Write;
 use std::process::Abort;
@@ -12,7 +11,7 @@ use std::test::Fail;
 
 /// What the text gives: the configuration, or the fault.
 fn show_text(alloc: Global, out: &mut String, text: &str) -> Result<(), AllocError> {
-    match load(alloc, text.as_bytes()) {
+    match load_text(alloc, text) {
         Ok(config) => show_config(out, &config),
         Err(fault) => write!(out, "{fault}"),
     }
@@ -307,7 +306,7 @@ fn show_counts(out: &mut String, config: &Config) -> Result<(), AllocError> {
 /// Compares how many objects and time periods a text gives, or its fault.
 fn counts(rt: &impl Abort, alloc: Global, text: &str, wanted: &str) -> Result<(), Fail> {
     let mut out = String::new(alloc);
-    match load(alloc, text.as_bytes()) {
+    match load_text(alloc, text) {
         Ok(config) => show_counts(&mut out, &config)?,
         Err(fault) => write!(out, "{fault}")?,
     }

@@ -2,8 +2,7 @@
 //! each.
 
 use crate::shown::is_shown;
-use crate::site_shown::show_config;
-use object_resolve::load;
+use crate::site_shown::{load_text, show_config};
 use std::alloc::{AllocError, Global};
 use std::fmt::Write;
 use std::process::Abort;
@@ -11,7 +10,7 @@ use std::test::Fail;
 
 /// What the text gives: the configuration, or the fault.
 fn show_text(alloc: Global, out: &mut String, text: &str) -> Result<(), AllocError> {
-    match load(alloc, text.as_bytes()) {
+    match load_text(alloc, text) {
         Ok(config) => show_config(out, &config),
         Err(fault) => write!(out, "{fault}"),
     }

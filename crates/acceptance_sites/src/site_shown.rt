@@ -1,4 +1,4 @@
-//! Whole configurations as tests show them.
+//! Whole configurations, as object texts give them and as tests show them.
 
 use crate::shown::text_or_mark;
 use due_model::config::{
@@ -7,8 +7,14 @@ use due_model::config::{
 };
 use due_model::options::OptionLetters;
 use due_model::state::StateSet;
-use std::alloc::AllocError;
+use object_resolve::{LoadFault, load};
+use std::alloc::{AllocError, Global};
 use std::fmt::Write;
+
+/// The configuration that a text gives, or its fault.
+pub(crate) fn load_text(alloc: Global, text: &str) -> Result<Config, LoadFault> {
+    load(alloc, Vec::from_slice(alloc, text.as_bytes())?)
+}
 
 /// The letter, where it is given.
 fn letter(given: bool, letter: &'static str) -> &'static str {

@@ -60,9 +60,14 @@ fn show(out: &mut String, config: &Config) -> Result<(), AllocError> {
     Ok(())
 }
 
+/// The configuration that these bytes give, or their fault.
+fn load_bytes(alloc: Global, text: &[u8]) -> Result<Config, LoadFault> {
+    load(alloc, Vec::from_slice(alloc, text)?)
+}
+
 /// What the text gives: the configuration, or the fault.
 fn show_text(alloc: Global, out: &mut String, text: &str) -> Result<(), AllocError> {
-    match load(alloc, text.as_bytes()) {
+    match load_bytes(alloc, text.as_bytes()) {
         Ok(config) => show(out, &config),
         Err(fault) => write!(out, "{fault}"),
     }
@@ -256,7 +261,7 @@ fn show_counts(out: &mut String, config: &Config) -> Result<(), AllocError> {
 
 /// Only the fault of a text, or how many hosts, contacts and lanes it gives.
 fn show_count(alloc: Global, out: &mut String, text: &[u8]) -> Result<(), AllocError> {
-    match load(alloc, text) {
+    match load_bytes(alloc, text) {
         Ok(config) => show_counts(out, &config),
         Err(LoadFault::NoMemory) => out.push_str("NoMemory"),
         Err(fault) => write!(out, "{fault}"),

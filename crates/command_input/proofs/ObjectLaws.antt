@@ -10,21 +10,21 @@ use Rattle.command_output.specs.Outcome.{fault_of}
 use Rattle.command_input.specs.Objects.{FileFails, IsFileOf, GivesText, TextFails}
 use Rattle.text_lines.specs.Text.{rest_after, text_before}
 
-text_fault : (mark : Option (List ℕ)) (fault : LoadFault) (shown text : List ℕ) (known after : Option (List ℕ)) → shown ≡ text → IsTextFault shown fault
+text_fault : (mark : Option (List ℕ)) (fault : LoadFault) (text : List ℕ) (known after : Option (List ℕ)) → IsTextFault text fault
     → Known known after (λ bytes rest. (text ≡ text_before mark bytes) × (rest ≡ rest_after mark bytes)) → IfSome known (λ bytes. IsTextFault (text_before mark bytes) fault)
-text_fault mark fault shown text None after same is k = tt
-text_fault mark fault shown text (Some bytes) None same is k = absurd k
-text_fault mark fault shown text (Some bytes) (Some rest) same is k = subst (λ (t : List ℕ). IsTextFault t fault) (same ∙ k.0) is
+text_fault mark fault text None after is k = tt
+text_fault mark fault text (Some bytes) None is k = absurd k
+text_fault mark fault text (Some bytes) (Some rest) is k = subst (λ (t : List ℕ). IsTextFault t fault) k.0 is
 
-pub load_fault : (can_fail : Bool) (mark : Option (List ℕ)) (fault : LoadFault) (shown text : List ℕ) (known after : Option (List ℕ)) → shown ≡ text → (fault ≡ load.NoMemory) ⊎ IsTextFault shown fault
+pub load_fault : (can_fail : Bool) (mark : Option (List ℕ)) (fault : LoadFault) (text : List ℕ) (known after : Option (List ℕ)) → (fault ≡ load.NoMemory) ⊎ IsTextFault text fault
     → Known known after (λ bytes rest. (text ≡ text_before mark bytes) × (rest ≡ rest_after mark bytes)) → TextFails can_fail mark (fault_of fault) known
-load_fault can_fail mark (load.Line line fault) shown text known after same (inl is) k = let bad : ⊥ = cc in absurd bad
-load_fault can_fail mark (load.Line line fault) shown text known after same (inr is) k = text_fault mark (load.Line line fault) shown text known after same is k
-load_fault can_fail mark (load.Block line fault) shown text known after same (inl is) k = let bad : ⊥ = cc in absurd bad
-load_fault can_fail mark (load.Block line fault) shown text known after same (inr is) k = text_fault mark (load.Block line fault) shown text known after same is k
-load_fault can_fail mark load.TooLarge shown text known after same (inl is) k = let bad : ⊥ = cc in absurd bad
-load_fault can_fail mark load.TooLarge shown text known after same (inr is) k = text_fault mark load.TooLarge shown text known after same is k
-load_fault can_fail mark load.NoMemory shown text known after same is k = tt
+load_fault can_fail mark (load.Line line fault) text known after (inl is) k = let bad : ⊥ = cc in absurd bad
+load_fault can_fail mark (load.Line line fault) text known after (inr is) k = text_fault mark (load.Line line fault) text known after is k
+load_fault can_fail mark (load.Block line fault) text known after (inl is) k = let bad : ⊥ = cc in absurd bad
+load_fault can_fail mark (load.Block line fault) text known after (inr is) k = text_fault mark (load.Block line fault) text known after is k
+load_fault can_fail mark load.TooLarge text known after (inl is) k = let bad : ⊥ = cc in absurd bad
+load_fault can_fail mark load.TooLarge text known after (inr is) k = text_fault mark load.TooLarge text known after is k
+load_fault can_fail mark load.NoMemory text known after is k = tt
 
 -- ---- a text that is all of an input
 

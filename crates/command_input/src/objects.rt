@@ -31,7 +31,7 @@ fn read_config<R: Input + Drop>(
         TextFails R.can_fail (option_copied mark.entry) fault (to_come lines.old)) }
 {
     match lines.read_text(alloc, mark) {
-        Ok(text) => Ok(load(alloc, &text)?),
+        Ok(text) => Ok(load(alloc, text)?),
         Err(TextFault::Unreadable) => Err(CommandFault::Unreadable),
         Err(TextFault::TooLarge) => Err(CommandFault::Objects(LoadFault::TooLarge)),
         Err(TextFault::NoMemory) => Err(CommandFault::NoMemory),

@@ -1,8 +1,12 @@
 //! Object text, from its bytes to its configuration.
 
-ghost use Rattle.std.specs.Prelude.{◌≡◌, ◌⊎◌, IfErr, IfOk, OnOk};
+ghost use Rattle.std.specs.Prelude.{◌≡◌, ◌⊎◌, List, Ok, Err, IfErr, IfOk, OnOk};
 ghost use Rattle.due_model.specs.Accepted.{IsAccepted};
 ghost use Rattle.due_model.specs.declared.config.Config.{Config};
+ghost use Rattle.object_reader.specs.Blocks.{Gives};
+ghost use Rattle.object_reader.specs.Grammar.{IsObjectText, IsRefused};
+ghost use Rattle.object_reader.specs.declared.block.Block.{Block};
+ghost use Rattle.object_reader.specs.declared.fault.ReadFault.{ReadFault};
 ghost use Rattle.object_resolve.specs.Text.{IsTextFault, IsTextOf};
 ghost use Rattle.object_resolve.specs.declared.fault.LoadFault.{LoadFault};
 ghost use Rattle.object_resolve.specs.declared.fault.LoadFault.TheVariants.{NoMemory};
@@ -11,29 +15,43 @@ use crate::fault::LoadFault;
 use crate::laws::{accept_resolved, resolve_no_refused};
 use crate::resolve::resolve;
 use due_model::config::Config;
+use due_model::sequence::Sequence;
+use object_reader::block::Block;
+use object_reader::fault::ReadFault;
 use object_reader::reading::read;
 use std::alloc::Global;
+
+/// The blocks of object text, or its first fault. The text is dropped: the blocks have copies of what they need of it.
+fn blocks_of(alloc: Global, text: Vec<u8>) -> Result<Sequence<Block>, ReadFault>
+    ensures blocks { IfOk result (λ blocks. IsObjectText text.items blocks) }
+    ensures only { (blocks : List Block)
+        → IsObjectText text.items blocks → Gives result (Ok blocks) }
+    ensures fault { IfErr result (λ fault. (fault ≡ ReadFault.NoMemory) ⊎ IsRefused text.items fault) }
+    ensures refused { (fault : ReadFault) → IsRefused text.items fault → Gives result (Err fault) }
+{
+    read(alloc, &text)
+}
 
 /// The configuration that object text gives, or the fault of the text: that of its first line with a fault, and
 /// where it is blocks, that of the first block with a fault: first of templates, then of the values of each
 /// block, then of names, of loops of exclusions, of loops of dependencies and of limits, each over all blocks in file
 /// order. Blocks of `hostextinfo` and `serviceextinfo` say nothing of
 /// notifications and are passed over. The work and the memory grow with the bytes, what blocks inherit, and the
-/// services, contacts, escalations and dependencies that they give.
-pub fn load(alloc: Global, text: &[u8]) -> Result<Config, LoadFault>
+/// services, contacts, escalations and dependencies that they give. The text is dropped as soon as its blocks are read.
+pub fn load(alloc: Global, text: Vec<u8>) -> Result<Config, LoadFault>
     // What it gives is the text's configuration, which is accepted.
-    ensures config { IfOk result (λ config. IsTextOf config text.now) }
+    ensures config { IfOk result (λ config. IsTextOf config text.items) }
     ensures accepted { IfOk result (λ config. IsAccepted config) }
     // A fault is the text's, or memory ran out.
-    ensures fault { IfErr result (λ fault. (fault ≡ NoMemory) ⊎ IsTextFault text.now fault) }
+    ensures fault { IfErr result (λ fault. (fault ≡ NoMemory) ⊎ IsTextFault text.items fault) }
     // A text with a configuration is refused for want of memory alone.
-    ensures only { (config : Config) → IsTextOf config text.now
+    ensures only { (config : Config) → IsTextOf config text.items
         → IfErr result (λ fault. fault ≡ NoMemory) }
     // A text with a fault gives no configuration.
-    ensures refused { (fault : LoadFault) → IsTextFault text.now fault → OnOk result ⊥ }
+    ensures refused { (fault : LoadFault) → IsTextFault text.items fault → OnOk result ⊥ }
 {
     accept_resolved();
     resolve_no_refused();
-    let blocks = read(alloc, text)?;
+    let blocks = blocks_of(alloc, text)?;
     Ok(resolve(alloc, blocks.as_slice())?)
 }
