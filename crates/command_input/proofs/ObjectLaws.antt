@@ -1,5 +1,5 @@
 -- What a fault of object text says of the bytes that were read.
-use Rattle.std.proofs.Common.{◌≡◌, ℕ, Bool, List, Option, ◌⊎◌, None, Some, IfSome, inl, inr, subst, ◌∙◌}
+use Rattle.std.proofs.Common.{◌≡◌, ℕ, Bool, List, Option, ◌⊎◌, None, Some, IfSome, inl, inr, subst}
 use Rattle.due_model.specs.declared.config.Config.{Config}
 use Rattle.command_output.specs.declared.outcome.CommandFault.{CommandFault}
 use Rattle.object_resolve.specs.declared.fault.LoadFault.{LoadFault}

@@ -20,7 +20,6 @@ use Rattle.object_resolve.specs.declared.fault.BlockFault.{BlockFault}
 use Rattle.object_resolve.specs.declared.fault.BlockFault.TheVariants.{Doubled, UnknownName}
 use Rattle.object_resolve.specs.declared.fault.LoadFault.{LoadFault}
 use Rattle.object_resolve.proofs.PlaceLemmas.{lower-before, object-within}
-
 use Rattle.object_services.specs.Doubled as services
 
 -- ---- doubled services, by their places

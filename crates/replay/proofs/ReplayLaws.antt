@@ -1,5 +1,5 @@
 -- From the report of a feed to that of an input.
-use Rattle.std.proofs.Common.{◌≡◌, ℕ, Bool, true, List, [], Option, ◌⊎◌, None, Some, Result, Ok, Err, IfErr, IfOk, IfSome, inl, inr, arith, subst, ◌∙◌}
+use Rattle.std.proofs.Common.{◌≡◌, ℕ, Bool, List, [], Option, None, Some, Result, Ok, Err, IfErr, IfOk, IfSome, inl, inr, arith, subst, ◌∙◌}
 use Rattle.std.specs.Io.KnownBytes.{prepend_known}
 use Rattle.std.proofs.lemmas.Iterator.Adapters.{option_map_id}
 use Rattle.std.proofs.lemmas.Result.{IfOk-weaker}
@@ -8,13 +8,13 @@ use Rattle.due_model.specs.declared.zone.Zone.{Zone}
 use Rattle.event_feed.specs.Feed.{Answer, AreGiven, Feed, answers, feed_of}
 use Rattle.object_resolve.specs.declared.fault.LoadFault.{LoadFault}
 use Rattle.object_resolve.specs.declared.fault.LoadFault.TheVariants as load
-use Rattle.object_resolve.specs.Text.{IsTextFault, IsTextOf}
+use Rattle.object_resolve.specs.Text.{IsTextOf}
 use Rattle.text_lines.specs.LineReader.{Reading, to_come}
 use Rattle.text_lines.specs.Lines.{Known, pieces}
 use Rattle.command_output.specs.declared.outcome.CommandFault.{CommandFault}
 use Rattle.command_output.specs.declared.outcome.CommandFault.TheVariants.{Objects, Unreadable, Output, NoMemory}
 use Rattle.command_output.specs.declared.outcome.Ending.{Ending}
-use Rattle.command_output.specs.Outcome.{IsWriteFault, fault_of}
+use Rattle.command_output.specs.Outcome.{IsWriteFault}
 use Rattle.command_input.specs.Objects.{FileFails, GivesObjects, IsFileOf, ObjectsFail, feed_in, objects_in}
 use Rattle.written.specs.WrittenLaws.{keeps_same}
 use Rattle.replay.specs.Replay.{FailsOf, FailsWith, Reports, ReportsOf}

@@ -1,5 +1,5 @@
 -- From the trace of a feed to that of an input.
-use Rattle.std.proofs.Common.{◌≡◌, ℕ, Bool, true, List, [], Option, None, Some, Result, Ok, Err, IfErr, IfOk, IfSome, inl, inr, subst, ◌∙◌}
+use Rattle.std.proofs.Common.{◌≡◌, ℕ, Bool, List, [], Option, None, Some, Result, Ok, Err, IfErr, IfOk, IfSome, inl, inr, subst, ◌∙◌}
 use Rattle.std.specs.Io.KnownBytes.{prepend_known}
 use Rattle.std.proofs.lemmas.Iterator.Adapters.{option_map_id}
 use Rattle.std.proofs.lemmas.Result.{IfOk-weaker}

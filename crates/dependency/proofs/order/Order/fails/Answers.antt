@@ -1,4 +1,4 @@
-use Rattle.std.proofs.Common.{◌≤◌, ◌∙◌, [], length, ap, arith, sym}
+use Rattle.std.proofs.Common.{◌≤◌, [], length, ap, arith, sym}
 use Rattle.std.proofs.lemmas.List.{get_or_past}
 use Rattle.dependency.specs.Entry.{state_of}
 use Rattle.dependency.specs.Order.{Kept}
