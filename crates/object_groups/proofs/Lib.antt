@@ -1,4 +1,3 @@
-mod PlaceLemmas
 mod NumberLemmas
 mod NodeLemmas
 mod GroupLemmas
