@@ -1,7 +1,8 @@
 -- What a contact has of a notification is what the definitions say, and receivers are contacts of the configuration.
-use Rattle.std.proofs.Common.{◌≡◌, ℕ, ◌<◌, ◌-◌, All, List, [], ◌∷◌, ◌++◌, length, map, flat_map, slice_get, get_or, Option, Some, None, is_some, Bool, if◌then◌else◌, refl, sym, ap, subst, ◌∙◌}
+use Rattle.std.proofs.Common.{◌≡◌, ℕ, ◌<◌, ◌-◌, All, List, [], ◌∷◌, ◌++◌, length, map, flat_map, slice_get, get_or, Option, Some, None, is_some, Bool, if◌then◌else◌, refl, sym, ap, subst, ◌∙◌, append_assoc}
 use Rattle.std.specs.List.{range_with_len}
 use Rattle.std.specs.Option.{option_map_or}
+use Rattle.std.proofs.lemmas.List.{append-nil}
 use Rattle.std.proofs.lemmas.List.Elements.{All-nil, All-cons, All-head, All-tail, All-filter}
 use Rattle.lemmas.proofs.Lists.{range_below, some_at}
 use Rattle.due_model.specs.declared.config.Config.{Config}
@@ -29,7 +30,7 @@ use Rattle.lemmas.proofs.Numbers.{flat_alike, flat_nothing}
 use Rattle.messages.specs.declared.entries.Entry.{Entry}
 use Rattle.messages.specs.declared.entries.Entry.TheVariants.{Sent, Withheld}
 use Rattle.messages.specs.declared.message.Message.{Message}
-use Rattle.messages.specs.Entries.{contact_entries, outcome_entries}
+use Rattle.messages.specs.Entries.{HasMore, contact_entries, outcome_entries}
 use Rattle.messages.specs.Message.{entries_unless, lane_entries, message_entries, outcome_of, suppression_for}
 
 -- ---- what is read of a list
@@ -37,6 +38,17 @@ use Rattle.messages.specs.Message.{entries_unless, lane_entries, message_entries
 pub read_at : {X : Type 0} (xs ys : List X) (i k : ℕ) (x : X) → ys ≡ xs → k ≡ i → i < length xs → x ≡ get_or ys k x → slice_get xs i ≡ Some x
 read_at {X} xs ys i k x same place low is =
     slice_get_read xs i x low (is ∙ ap (λ (zs : List X). get_or zs k x) same ∙ ap (λ (j : ℕ). get_or xs j x) place)
+
+-- ---- what is left where a growth is refused
+
+-- nothing came
+pub has_more_same : (old new : List Entry) → new ≡ old → HasMore old new
+has_more_same old new same = ([], same ∙ sym (append-nil old))
+
+-- some came, and then more
+pub has_more_after : (old some mid new : List Entry) → mid ≡ old ++ some → HasMore mid new → HasMore old new
+has_more_after old some mid new came more =
+    (some ++ more.0, more.1 ∙ ap (λ (xs : List Entry). xs ++ more.0) came ∙ append_assoc old some more.0)
 
 -- ---- what one contact has
 

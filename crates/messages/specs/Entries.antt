@@ -1,5 +1,5 @@
 -- The entries of an event, in order: by object, then contact, then lane.
-use Rattle.std.specs.Prelude.{ℕ, Bool, true, false, ◌==◌, List, [], ◌∷◌, ◌++◌, length, filter, flat_map, map, slice_get}
+use Rattle.std.specs.Prelude.{◌≡◌, ℕ, Bool, true, false, ◌==◌, List, [], ◌∷◌, ◌++◌, length, filter, flat_map, map, slice_get}
 use Rattle.std.specs.List.{range_with_len}
 use Rattle.std.specs.Option.{option_map_or}
 use Rattle.due_model.specs.declared.config.Config.{Config}
@@ -50,6 +50,10 @@ object_entries c zone e past o =
 abbrev pub event_entries : Config → Zone → Event → List Event → List Entry
 event_entries c zone e past =
     flat_map (object_entries c zone e past) (range_with_len 0 (length c.objects))
+
+-- the new entries are the old ones and more after them
+abbrev pub HasMore : (old new : List Entry) → Type 0
+HasMore old new = (more : List Entry) × (new ≡ old ++ more)
 
 -- ---- the notices and the suppressions among entries
 

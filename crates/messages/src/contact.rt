@@ -1,6 +1,7 @@
 //! What one contact has of a notification.
 
-ghost use Rattle.std.specs.Prelude.{◌≡◌, ◌<◌, ◌++◌, length, map, OnOk};
+ghost use Rattle.std.specs.Prelude.{◌≡◌, ◌<◌, ◌++◌, length, map, OnErr, OnOk};
+ghost use Rattle.messages.specs.Entries.{HasMore};
 ghost use Rattle.messages.specs.Message.{IsReadable, lane_entries, lane_notices, message_entries};
 ghost use Rattle.messages.specs.declared.entries.Entry.TheVariants as entry;
 
@@ -11,6 +12,7 @@ use filters::contact_filters::{contact_verdict, rights_of};
 use std::alloc::AllocError;
 
 /// Adds the notice for one lane, if a contact with these rights uses it.
+#[tactic(auto, using(crate::proofs::MessageLemmas::has_more_same))]
 fn add_on_lane(
     message: &Message<'_>,
     contact: ContactId,
@@ -18,8 +20,9 @@ fn add_on_lane(
     lane: LaneId,
     entries: &mut Vec<Entry>,
 ) -> Result<(), AllocError>
-    ensures { OnOk result (entries.new.items ≡ entries.old.items
+    ensures entries { OnOk result (entries.new.items ≡ entries.old.items
         ++ map entry.Sent (lane_notices message.now contact.0 rights.now lane.0)) }
+    ensures left { OnErr result (HasMore entries.old.items entries.new.items) }
 {
     if !rights.uses_lane(lane) {
         return Ok(());
@@ -36,8 +39,9 @@ fn add_on_lanes(
     lanes: u8,
     entries: &mut Vec<Entry>,
 ) -> Result<(), AllocError>
-    ensures { OnOk result (entries.new.items
+    ensures entries { OnOk result (entries.new.items
         ≡ entries.old.items ++ lane_entries message.now contact.0 rights.now lanes) }
+    ensures left { OnErr result (HasMore entries.old.items entries.new.items) }
 {
     for lane in 0..lanes {
         add_on_lane(message, contact, rights, LaneId(lane), entries)?;
@@ -46,6 +50,7 @@ fn add_on_lanes(
 }
 
 /// Adds what a contact has of a notification: the first of its filters that fails, or else its notices.
+#[tactic(auto, using(crate::proofs::MessageLemmas::has_more_same))]
 pub(crate) fn add_to_contact(
     config: &Config,
     message: &Message<'_>,
@@ -54,8 +59,9 @@ pub(crate) fn add_to_contact(
 ) -> Result<(), AllocError>
     requires readable { IsReadable config.now message.now }
     requires contact { contact.0 < length config.now.contacts }
-    ensures { OnOk result (entries.new.items
+    ensures entries { OnOk result (entries.new.items
         ≡ entries.old.items ++ message_entries config.now message.now contact.0) }
+    ensures left { OnErr result (HasMore entries.old.items entries.new.items) }
 {
     let settings = &config.contacts.as_slice()[usize::from(contact.0)];
     match contact_verdict(config, contact, &message.attempt) {

@@ -1,11 +1,11 @@
 //! The messages of an outcome.
 
 ghost use Rattle.std.specs.Prelude.{◌≡◌, ◌<◌, ◌≤◌, ◌++◌, All};
-ghost use Rattle.std.specs.Prelude.{flat_map, length, slice_get, OnOk, Some};
+ghost use Rattle.std.specs.Prelude.{flat_map, length, slice_get, OnErr, OnOk, Some};
 ghost use Rattle.due_model.specs.declared.config.Object.{Object};
 ghost use Rattle.due_model.specs.declared.notice.Outcome.TheVariants.{Sent};
 ghost use Rattle.due_model.specs.Limits.{last_moment};
-ghost use Rattle.messages.specs.Entries.{outcome_entries};
+ghost use Rattle.messages.specs.Entries.{HasMore, outcome_entries};
 ghost use Rattle.messages.specs.Message.{IsMessage, IsReadable, message_entries, outcome_of};
 ghost use Rattle.outcomes.specs.Outcome.{IsInRange};
 ghost use Rattle.outcomes.specs.Rules.{AreRules};
@@ -25,6 +25,7 @@ use std::alloc::{AllocError, Global};
 /// object that stopped it, or for each receiver, in number order, the filter that refused it or its notices, in the
 /// order of the lanes (chapter "Notifications"). `receivers` is a list of the caller's, kept for its room: what it
 /// holds is lost. An error comes only where a growth was refused; some of the entries are then appended.
+#[tactic(auto, using(crate::proofs::MessageLemmas::has_more_same))]
 pub fn add_messages(
     alloc: Global,
     rules: &Rules<'_>,
@@ -37,11 +38,12 @@ pub fn add_messages(
     requires rules { AreRules rules.now }
     requires object { object.0 < length rules.now.config.now.objects }
     requires range { IsInRange outcome }
-    ensures { OnOk result ((settings : Object)
+    ensures entries { OnOk result ((settings : Object)
         → slice_get rules.now.config.now.objects object.0 ≡ Some settings
         → entries.new.items ≡ entries.old.items
         ++ outcome_entries rules.now.config.now rules.now.zone.now object.0 settings event
         outcome) }
+    ensures left { OnErr result (HasMore entries.old.items entries.new.items) }
 {
     match outcome {
         Outcome::Nothing => Ok(()),
@@ -115,6 +117,7 @@ fn message_of<'a>(
 }
 
 /// Appends what each receiver of a notification has.
+#[tactic(auto, using(crate::proofs::MessageLemmas::has_more_same))]
 fn add_message(
     alloc: Global,
     rules: &Rules<'_>,
@@ -124,11 +127,12 @@ fn add_message(
 ) -> Result<(), AllocError>
     requires rules { AreRules rules.now }
     requires message { IsMessage rules.now message.now }
-    ensures { OnOk result ((settings : Object)
+    ensures entries { OnOk result ((settings : Object)
         → slice_get rules.now.config.now.objects message.now.object.0 ≡ Some settings
         → entries.new.items ≡ entries.old.items
         ++ outcome_entries rules.now.config.now rules.now.zone.now message.now.object.0 settings
         message.now.event (outcome_of message.now)) }
+    ensures left { OnErr result (HasMore entries.old.items entries.new.items) }
 {
     receivers.clear();
     add_receivers(alloc, rules, message, receivers)?;
@@ -144,8 +148,9 @@ fn add_to_receivers(
 ) -> Result<(), AllocError>
     requires readable { IsReadable config.now message.now }
     requires within { All (λ contact. contact.0 < length config.now.contacts) receivers.now }
-    ensures { OnOk result (entries.new.items ≡ entries.old.items
+    ensures entries { OnOk result (entries.new.items ≡ entries.old.items
         ++ flat_map (λ contact. message_entries config.now message.now contact.0) receivers.now) }
+    ensures left { OnErr result (HasMore entries.old.items entries.new.items) }
 {
     for contact in receivers {
         add_to_contact(config, message, *contact, entries)?;

@@ -51,7 +51,7 @@ returns-clause-staged c = λ e past is.
     let kept = book_read v.books o c.from.result c.index-reading-from.result c.from.ensures (omega (arith, c.requires.object, is.kept.count)) in
     let decided = c.decide-decision.ensures.decides settings.0 e past settings.1 finds (book_fits v e past is o settings.0 settings.1 c.requires.owned book kept) in
     record {
-      entries = c.in_ok-add_messages.ensures settings.0 settings.1
+      entries = c.in_ok-add_messages.ensures.entries settings.0 settings.1
           ∙ ap (λ (xs : List Entry). c.args.staged.now.entries.items ++ xs) (entries_are v e past is o settings.0 settings.1 c.decide-decision.result.outcome decided.0);
       books = c.in_ok-push.ensures.items
           ∙ ap (λ (xs : List NewBook). c.args.staged.now.books.items ++ xs) (book_is v e past is o settings.0 settings.1 c.args.object c.decide-decision.result.book refl decided.1);

@@ -7,8 +7,8 @@ use Rattle.messages.specs.Message.{lane_entries}
 use Rattle.messages.proofs.MessageLemmas.{passed, read_at, refused}
 use Rattle.messages.proofs.contact.add_to_contact.Goals as goal
 
-pub returns-in-Ok : goal.returns-in-Ok
-returns-in-Ok c =
+pub returns-in-Ok-clause-entries : goal.returns-in-Ok-clause-entries
+returns-in-Ok-clause-entries c =
     let config = c.args.config.now in
     let m = c.args.message.now in
     let old = c.args.entries.now.items in
@@ -19,10 +19,10 @@ returns-in-Ok c =
     on_ok_weaker c.add_on_lanes.result (λ e. e
     ∙ ap (λ rights. old ++ lane_entries m k rights (length c.as_slice-in-Ok.result.now)) c.rights_of-rights.ensures
     ∙ ap (λ lanes. old ++ lane_entries m k (rights_of m.attempt.service contact) (length lanes)) c.as_slice-in-Ok.ensures
-    ∙ ap (λ xs. old ++ xs) (sym (passed config m k contact at none))) c.add_on_lanes.ensures
+    ∙ ap (λ xs. old ++ xs) (sym (passed config m k contact at none))) c.add_on_lanes.ensures.entries
 
-pub returns-in_ok-push-in-Err : goal.returns-in_ok-push-in-Err
-returns-in_ok-push-in-Err c =
+pub returns-in_ok-push-in-Err-clause-entries : goal.returns-in_ok-push-in-Err-clause-entries
+returns-in_ok-push-in-Err-clause-entries c =
     let config = c.args.config.now in
     let m = c.args.message.now in
     let old = c.args.entries.now.items in

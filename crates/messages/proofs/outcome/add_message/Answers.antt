@@ -14,12 +14,12 @@ add_to_receivers-requires-clause-within c =
     (λ settings at. c.as_slice.ensures.value ∙ c.in_ok-add_receivers.ensures settings at
     ∙ ap (λ old. old ++ contact_ids (receivers config c.args.rules.now.zone.now m.object.0 settings (plain m.attempt) m.number)) c.clear.ensures.items)
 
-pub returns : goal.returns
-returns c =
+pub returns-clause-entries : goal.returns-clause-entries
+returns-clause-entries c =
     let config = c.args.rules.now.config.now in
     let zone = c.args.rules.now.zone.now in
     let m = c.args.message.now in
     on_ok_weaker c.add_to_receivers.result (λ e settings at. e
     ∙ ap (λ xs. c.args.entries.now.items ++ xs) (receivers_law config zone m settings c.as_slice.result.now c.requires.message.zone (c.requires.message.service settings at)
     (c.as_slice.ensures.value ∙ c.in_ok-add_receivers.ensures settings at
-    ∙ ap (λ old. old ++ contact_ids (receivers config zone m.object.0 settings (plain m.attempt) m.number)) c.clear.ensures.items))) c.add_to_receivers.ensures
+    ∙ ap (λ old. old ++ contact_ids (receivers config zone m.object.0 settings (plain m.attempt) m.number)) c.clear.ensures.items))) c.add_to_receivers.ensures.entries
