@@ -132,7 +132,8 @@ fn feed(alloc: Global, hosts: &[Host], seed: u64, step: u32) -> Result<String, A
 fn config_of(alloc: Global, text: &str) -> Result<Config, Fail>
     ensures accepted { IfOk result (λ config. IsAccepted config) }
 {
-    Ok(load(alloc, Vec::from_slice(alloc, text.as_bytes())?)?)
+    let bytes = Vec::from_slice(alloc, text.as_bytes())?;
+    Ok(load(alloc, bytes)?)
 }
 
 /// Adds the events that some lines of a feed give.
