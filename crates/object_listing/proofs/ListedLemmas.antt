@@ -12,7 +12,7 @@ use Rattle.object_groups.specs.Groups.{group_kind, grouping, GroupsOf, object_ki
 use Rattle.object_groups.specs.Members.{Holds, IsMember}
 use Rattle.object_groups.specs.Names.{is_all, Lists, numbers_of}
 use Rattle.object_groups.specs.Objects.{list_at, lists_in, names_in, ObjectsOf}
-use Rattle.object_groups.specs.ObjectLaws.{listed-within, lists-long, numbers-within}
+use Rattle.object_groups.specs.ObjectLaws.{listed-within as lists-within, lists-long, numbers-within}
 use Rattle.object_inheritance.specs.Columns.{Column}
 use Rattle.object_listing.specs.Listing.{Adds, AreThose, Directives, IsListed}
 use Rattle.lemmas.proofs.Elements.{Contains-cases, Contains-from_range, Contains-here, Contains-none, Contains-range}
@@ -165,7 +165,7 @@ member-within blocks kind group k member = by_hold member.2
     own = lists_in blocks (object_kind kind) (own_groups_directive kind)
 
     by_hold : Holds (grouping blocks kind) member.0 k → k < length (names_in blocks (object_kind kind))
-    by_hold (inl listed) = listed-within (names_in blocks (object_kind kind)) _ k listed
+    by_hold (inl listed) = lists-within (names_in blocks (object_kind kind)) _ k listed
     by_hold (inr named) = ⊎_elim
         (λ (low : k < length own). let long = lists-long blocks (object_kind kind) (own_groups_directive kind) in omega (arith, low, long))
         (λ (past : length own ≤ k). absurd (lists-none (names_in blocks (group_kind kind)) member.0
@@ -173,7 +173,7 @@ member-within blocks kind group k member = by_hold member.2
         (cases_lt k (length own))
 
 pub listed-within : (blocks : List Block) (listing : Directives) (place k : ℕ) → IsListed blocks listing place k → k < length (names_in blocks (object_kind listing.kind))
-listed-within blocks listing place k (inl named) = listed-within (names_in blocks (object_kind listing.kind)) (list_at blocks listing.objects place) k named
+listed-within blocks listing place k (inl named) = lists-within (names_in blocks (object_kind listing.kind)) (list_at blocks listing.objects place) k named
 listed-within blocks listing place k (inr some) = member-within blocks listing.kind some.0 k some.2
 
 pub all-within : (blocks : List Block) (listing : Directives) (place : ℕ) (numbers : List ℕ) → AreThose (IsListed blocks listing place) numbers
