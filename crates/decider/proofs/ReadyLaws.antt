@@ -37,7 +37,8 @@ use Rattle.decider.specs.Ready.{HasRoom, IndexFits, IsIndexAfter, entry_decided,
 use Rattle.decider.specs.Share.{is_owned, owned_numbers}
 use Rattle.decider.proofs.BookLaws.{after_is, no_books, no_entries, one, touched_books}
 use Rattle.decider.proofs.SettleLaws.{AtMostOne}
-use Rattle.decider.proofs.StagingLaws.{adds_next, adds_same, found_at}
+use Rattle.lemmas.proofs.Lists.{some_at}
+use Rattle.decider.proofs.StagingLaws.{adds_next, adds_same}
 
 -- ---- entries that books set
 
@@ -146,7 +147,7 @@ module _ (c : Config) (zone : Zone) (share : Share) (past : List Event) where
       by_place : is_owned share o ≡ true → (o < length c.objects) ⊎ (length c.objects ≤ o)
           → (settings : Object) × (slice_get c.objects o ≡ Some settings) × (has_come (book_of c zone o settings past).due t ≡ true)
       by_place owned (inl within) =
-          let settings = found_at c.objects o within in
+          let settings = some_at c.objects o within in
           (settings.0, settings.1, sym (ap (λ (x : Option ℕ). has_come x t) (ready_at o settings.0 settings.1 owned)) ∙ come)
       by_place owned (inr far) = absurd (false≢true (sym (ap (λ (x : Option ℕ). has_come x t) (ready_beyond o far)) ∙ come))
 
@@ -181,7 +182,7 @@ module _ (laws : UntouchedFit) (c : Config) (zone : Zone) (share : Share) (e : E
 
   entry_after : (o : ℕ) → entry_decided (share_books c zone share e past) o (left_after e.kind (moment (e ∷ past)) (ready_of c zone share past o)) ≡ ready_of c zone share (e ∷ past) o
   entry_after o = elim (cases_lt o (length c.objects)) [
-    | inl within ↦ entry_own f p (one c zone e past) (length c.objects) o old within ∙ by_share (is_owned share o) refl (found_at c.objects o within)
+    | inl within ↦ entry_own f p (one c zone e past) (length c.objects) o old within ∙ by_share (is_owned share o) refl (some_at c.objects o within)
     | inr far ↦ entry_later f p (one c zone e past) (length c.objects) o old far
         ∙ ap (left_after e.kind (moment (e ∷ past))) (ready_beyond c zone share past o far) ∙ none_left e.kind (moment (e ∷ past)) ∙ sym (ready_beyond c zone share (e ∷ past) o far)
   ]

@@ -7,7 +7,7 @@ use Rattle.std.proofs.lemmas.Bool.Decides.{Decides-eqb}
 use Rattle.std.proofs.lemmas.Map.Made.{IsDistinct-from_AllPairs}
 use Rattle.std.proofs.lemmas.Map.Steps.{length-le_from_distinct_below}
 use Rattle.std.proofs.lemmas.Map.Views.{Contains-from_any}
-use Rattle.std.proofs.lemmas.List.{get_or_append_left, get_or_default, map-append, take_more}
+use Rattle.std.proofs.lemmas.List.{append-nil, get_or_append_left, get_or_default, map-append, take_more}
 use Rattle.std.proofs.lemmas.List.Elements.{All-get_or, Contains-get_or, Contains-append_left, Contains-append_right, Contains-append_cases, filter-append}
 use Rattle.std.proofs.lemmas.List.Folds.{list_any-append, list_any_at, list_any_none}
 use Rattle.graph.specs.Reach.{Gains}
@@ -25,6 +25,14 @@ use Rattle.dependency.specs.Search.{Fails, IsWalk}
 pub few_found : (nodes : ℕ) (found : List ℕ) → All (λ q. q < nodes) found → AllPairs (λ p q. p ≢ q) found → length found ≤ nodes
 few_found nodes found within once = length-le_from_distinct_below found nodes (IsDistinct-from_AllPairs Decides-eqb found once)
     (λ q any. let at : Contains found q = Contains-from_any eqb-true q found any in subst (λ (p : ℕ). p < nodes) at.2 (All-get_or (λ (p : ℕ). p < nodes) found at.0 q at.1 within))
+
+-- nothing more is found
+pub Gains-none : (found : List ℕ) → Gains found [] found
+Gains-none found = record {
+  front = ([], sym (append-nil found));
+  only = λ q at. inl at;
+  each = λ q at. absurd (omega (arith, at.1));
+}
 
 -- one gain after another
 pub Gains-append : (old early late found new : List ℕ) → Gains old early found → Gains found late new → Gains old (early ++ late) new

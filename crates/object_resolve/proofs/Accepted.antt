@@ -45,15 +45,15 @@ use Rattle.object_resolve.specs.Config.{command_at, IsConfigOf}
 use Rattle.object_resolve.specs.First.{IsNowhere}
 use Rattle.object_resolve.specs.Limits.{AreFewDependencies, AreFewEscalations, AreWithin}
 use Rattle.object_resolve.specs.Resolve.{IsDependencyLooped}
-use Rattle.object_resolve.proofs.CountLemmas.{dependencies-few, pairs-count}
-use Rattle.object_resolve.proofs.PlaceLemmas.{names-long}
+use Rattle.object_resolve.proofs.CountLemmas.{dependencies-few}
+use Rattle.object_groups.specs.ObjectLaws.{names-long}
 use Rattle.object_services.specs.Hosts.{AreHosts}
 use Rattle.object_services.specs.Laws.{CountIsTheSum}
 use Rattle.object_services.specs.Limits.{AreWithinLimit}
 use Rattle.object_services.specs.Numbers.{pairs_of}
-use Rattle.object_resolve.proofs.LimitLemmas.{hosts-one}
+use Rattle.object_services.specs.HostLaws.{hosts-one, pairs-count}
 use Rattle.object_settings.specs.Settings.{block_origins, HasSettings, host_origins, IsGiven, IsObjectOf, Origin, service_origins}
-use Rattle.object_settings.proofs.ObjectLemmas.{object-count}
+use Rattle.object_settings.specs.ObjectLaws.{object-count}
 use Rattle.object_values.specs.Values.{number_in, number_of as value_of}
 use Rattle.object_values.specs.declared.options.OptionKind.{OptionKind}
 

@@ -34,7 +34,8 @@ use Rattle.object_resolve.specs.declared.fault.LoadFault.{LoadFault}
 use Rattle.object_resolve.specs.declared.fault.LoadFault.TheVariants as load
 use Rattle.object_resolve.proofs.CountLemmas.{one-passes, within-nowhere}
 use Rattle.object_resolve.proofs.NameLemmas.{either-first}
-use Rattle.object_resolve.proofs.PlaceLemmas.{line-of_first, names-long, object-within, only-first}
+use Rattle.object_groups.specs.ObjectLaws.{names-long}
+use Rattle.object_resolve.proofs.PlaceLemmas.{line-of_first, object-within, only-first}
 use Rattle.object_services.specs.Laws.{OnePlacePasses, WithinPassesNowhere}
 use Rattle.object_services.specs.Limits as counted
 use Rattle.object_services.specs.Limits.{AreHostLists, AreWithinLimit, PassesLimit, PassesNowhere}

@@ -1,5 +1,5 @@
 -- Laws of the objects: how many there are.
-use Rattle.std.proofs.Common.{arith, length, List, None, Some, ℕ, ◌++◌, ◌+◌, ◌≡◌}
+use Rattle.std.proofs.Common.{[], arith, length, List, None, Some, ℕ, ◌++◌, ◌+◌, ◌≡◌}
 use Rattle.std.specs.Prelude.{slice_index_or}
 use Rattle.std.specs.List.{sum_by}
 use Rattle.std.proofs.lemmas.List.{length-append, length-map}

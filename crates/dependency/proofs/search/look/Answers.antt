@@ -1,7 +1,6 @@
 use Rattle.std.proofs.Common.{true, false, ◌≡◌, sym}
 use Rattle.due_model.specs.Periods.{in_period}
-use Rattle.graph.proofs.ReachLemmas.{Gains-none}
-use Rattle.dependency.proofs.WalkLemmas.{masters_of-one}
+use Rattle.dependency.proofs.WalkLemmas.{Gains-none, masters_of-one}
 use Rattle.dependency.proofs.search.look.Goals as goal
 use Rattle.dependency.proofs.search.look.Goals.{then-entry, else-entry}
 
