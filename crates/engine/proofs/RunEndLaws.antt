@@ -93,14 +93,15 @@ module _ (can_fail : Bool) (c : Config) (zone : Zone) (posted : ℕ → Bool) (s
 
   from_holds : (memory : Bool) → end.memory ≡ memory → Holds c zone posted memory (reverse intake.events) desk
       → (memory ≡ false → (given : List Answer) × AreGivenBy can_fail c.objects start given × AreTaken given intake.events intake.refused end.cut × (said ≡ taken_after 0 given))
-      → intake.events ≡ events_in said → intake.refused ≡ refusals_in said → IsFrontOfFeed c start intake.events → All (IsProper c) intake.events → All (λ r. r.fault ≢ fault.NoMemory) intake.refused → IsRunEnd can_fail c zone posted start said end
-  from_holds memory is h read events_are refused_are front proper named = record {
+      → intake.events ≡ events_in said → intake.refused ≡ refusals_in said → IsFrontOfFeed c start intake.events → All (IsProper c) intake.events → All (λ r. r.fault ≢ fault.NoMemory) intake.refused → (memory ≡ true → end.cut ≡ false) → IsRunEnd can_fail c zone posted start said end
+  from_holds memory is h read events_are refused_are front proper named uncut = record {
     read = λ none. let r = read (sym is ∙ none) in (
       r.0,
       r.1,
       subst (λ (xs : List Event). AreTaken r.0 xs end.refused.items end.cut) (sym events) (subst (λ (rs : List RefusedLine). AreTaken r.0 intake.events rs end.cut) (sym refused) r.2),
       r.3,
     );
+    uncut = λ out. uncut (sym is ∙ out);
     events = events ∙ events_are;
     refused = refused ∙ refused_are;
     front = subst (λ (xs : List Event). IsFrontOfFeed c start xs) (sym events) front;
@@ -123,18 +124,18 @@ module _ (can_fail : Bool) (c : Config) (zone : Zone) (posted : ℕ → Bool) (s
       from_holds false memory (stands_holds c zone posted (reverse intake.events) desk o.stands)
       (λ none. (o.ended.given, o.ended.of_feed, subst (λ (b : Bool). AreTaken o.ended.given intake.events intake.refused b) (sym same) o.ended.taken, o.ended.said_is))
       (o.ended.taken.events_are ∙ ap events_in (sym o.ended.said_is)) (o.ended.taken.refused_are ∙ ap refusals_in (sym o.ended.said_is))
-      (ended_front can_fail c start said cut intake o.ended) o.ended.proper o.ended.named
+      (ended_front can_fail c start said cut intake o.ended) o.ended.proper o.ended.named (λ out. absurd (cc))
 
-  stopped_end : end.memory ≡ true → IsStopped c zone posted start said intake desk → IsRunEnd can_fail c zone posted start said end
-  stopped_end memory s = elim s.read [
-    | inl r ↦ from_holds true memory s.holds (λ none. absurd (cc)) r.first.events_are r.first.refused_are (read_front c start said intake r) r.proper r.named
-    | inr o ↦ from_holds true memory s.holds (λ none. absurd (cc)) o.1.read.first.events_are o.1.read.first.refused_are (offered_front c start said o.0 intake o.1) o.1.read.proper o.1.read.named
+  stopped_end : end.memory ≡ true → end.cut ≡ false → IsStopped c zone posted start said intake desk → IsRunEnd can_fail c zone posted start said end
+  stopped_end memory uncut s = elim s.read [
+    | inl r ↦ from_holds true memory s.holds (λ none. absurd (cc)) r.first.events_are r.first.refused_are (read_front c start said intake r) r.proper r.named (λ out. uncut)
+    | inr o ↦ from_holds true memory s.holds (λ none. absurd (cc)) o.1.read.first.events_are o.1.read.first.refused_are (offered_front c start said o.0 intake o.1) o.1.read.proper o.1.read.named (λ out. uncut)
   ]
 
   pub run_end_is : {E : Type 0} (read : Result Bool E) → end.memory ≡ is_err read → end.cut ≡ result_unwrap_or read false
       → After can_fail c zone posted start said (last_turn read) intake desk → IsRunEnd can_fail c zone posted start said end
   run_end_is (Ok cut) memory same over = over_end cut memory same over
-  run_end_is (Err e) memory same stopped = stopped_end memory stopped
+  run_end_is (Err e) memory same stopped = stopped_end memory same stopped
 
 -- ---- what that says of each lane and object
 
@@ -223,6 +224,7 @@ module _ (can_fail : Bool) (c : Config) (zone : Zone) (posted : ℕ → Bool) (k
       named = r.named;
       front = events_front;
       due_front = lanes_begin_due can_fail c zone posted start said end r;
+      uncut = r.uncut;
       causes = r.causes;
     };
     events = r.events;
@@ -256,8 +258,8 @@ no_causes : (posted : ℕ → Bool) (memory : Bool) (lanes : List LaneParts) →
 no_causes posted memory lanes none = λ l lane found. absurd (no_lane lanes l lane none found)
 
 pub ends_unread : (can_fail : Bool) (c : Config) (zone : Zone) (posted : ℕ → Bool) (known : Option (List ℕ)) (end : RunEnd) → end.events.items ≡ [] → end.refused.items ≡ [] → end.log.items ≡ []
-    → end.lanes.items ≡ [] → end.memory ≡ true → EndsAfter can_fail c zone posted known [] end
-ends_unread can_fail c zone posted known end events refused log lanes memory = record {
+    → end.lanes.items ≡ [] → end.memory ≡ true → end.cut ≡ false → EndsAfter can_fail c zone posted known [] end
+ends_unread can_fail c zone posted known end events refused log lanes memory uncut = record {
   run = record {
     due = λ none. absurd (cc);
     log = no_log c zone end.events.items end.log.items events log;
@@ -266,6 +268,7 @@ ends_unread can_fail c zone posted known end events refused log lanes memory = r
     named = All-same (λ (r : RefusedLine). r.fault ≢ fault.NoMemory) end.refused.items [] refused (All-nil (λ (r : RefusedLine). r.fault ≢ fault.NoMemory));
     front = no_front known (events_of c.objects) end.events.items events;
     due_front = no_lanes_due c zone (reverse end.events.items) end.lanes.items lanes;
+    uncut = λ out. uncut;
     causes = no_causes posted end.memory end.lanes.items lanes;
   };
   events = events;

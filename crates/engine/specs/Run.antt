@@ -1,5 +1,5 @@
 -- A run under way, and what it leaves.
-use Rattle.std.specs.Prelude.{◌≡◌, ◌≢◌, ◌≤◌, ◌+◌, ◌-◌, ℕ, All, Bool, false, List, length, reverse, slice_get, IfSome, Option, Some, Result, Ok, Err, vec_capacity}
+use Rattle.std.specs.Prelude.{◌≡◌, ◌≢◌, ◌≤◌, ◌+◌, ◌-◌, ℕ, All, Bool, true, false, List, length, reverse, slice_get, IfSome, Option, Some, Result, Ok, Err, vec_capacity}
 use Rattle.std.specs.declared.alloc.AllocError.{AllocError}
 use Rattle.due_model.specs.declared.config.Config.{Config}
 use Rattle.due_model.specs.declared.zone.Zone.{Zone}
@@ -34,6 +34,8 @@ pub record IsRunOf (can_fail : Bool) (c : Config) (zone : Zone) (posted : ℕ �
   -- where memory ran out, a front of that
   pub front : IfSome known (λ bytes. IsFrontOf end.events.items (events_of c.objects bytes))
   pub due_front : LanesBeginDue c zone (reverse end.events.items) end.lanes.items
+  -- and the feed isn't said to be cut
+  pub uncut : end.memory ≡ true → end.cut ≡ false
   -- a lane is closed for a cause
   pub causes : HaveCauses posted end.memory end.lanes.items
 
@@ -112,6 +114,7 @@ pub record IsRunEnd (can_fail : Bool) (c : Config) (zone : Zone) (posted : ℕ �
       × AreGivenBy can_fail c.objects start given
       × AreTaken given end.events.items end.refused.items end.cut
       × (said ≡ taken_after 0 given)
+  pub uncut : end.memory ≡ true → end.cut ≡ false
   pub events : end.events.items ≡ events_in said
   pub refused : end.refused.items ≡ refusals_in said
   pub front : IsFrontOfFeed c start end.events.items

@@ -1,6 +1,6 @@
 //! The engine.
 
-ghost use Rattle.std.specs.Prelude.{◌≡◌, ◌≢◌, ◌==◌, All, false, reverse, IfSome};
+ghost use Rattle.std.specs.Prelude.{◌≡◌, ◌≢◌, ◌==◌, All, true, false, reverse, IfSome};
 ghost use Rattle.std.specs.List.{list_any};
 ghost use Rattle.due_model.specs.Accepted.{IsAccepted};
 ghost use Rattle.due_model.specs.Proper.{IsProper};
@@ -48,11 +48,13 @@ impl Engine {
             result.events.items result.refused.items result.cut) }
         ensures proper { All (IsProper config.now) result.events.items }
         ensures named { All (λ r. r.fault ≢ FeedFault.NoMemory) result.refused.items }
-        // Want of memory: what is there is a front of it.
+        // Want of memory: what is there is a front of it,
         ensures front { IfSome (R.remaining reader) (λ bytes.
             IsFrontOf result.events.items (events_of config.now.objects bytes)) }
         ensures due_front { LanesBeginDue config.now zone.now (reverse result.events.items)
             result.lanes.items }
+        // and the feed is not said to be cut.
+        ensures uncut { result.memory ≡ true → result.cut ≡ false }
         // A lane is closed for a cause.
         ensures causes { HaveCauses (λ l. list_any (λ post. post.lane.0 == l) posts.items)
             result.memory result.lanes.items }

@@ -1,6 +1,6 @@
 //! What a run leaves.
 
-ghost use Rattle.std.specs.Prelude.{◌≡◌, [], true};
+ghost use Rattle.std.specs.Prelude.{◌≡◌, [], true, false};
 
 use due_model::config::LaneId;
 use due_model::event::Event;
@@ -23,7 +23,7 @@ pub struct RunEnd {
     pub lanes: Vec<LaneEnd>,
     /// Whether memory ran out. Then all that is here is a front of what there would be.
     pub memory: bool,
-    /// Whether the feed ended before its input: by Cut, Read or Ended.
+    /// Whether the feed ended before its input: by Cut, Read or Ended. False where memory ran out.
     pub cut: bool,
 }
 
@@ -35,6 +35,7 @@ impl RunEnd {
         ensures log { result.log.items ≡ [] }
         ensures lanes { result.lanes.items ≡ [] }
         ensures memory { result.memory ≡ true }
+        ensures cut { result.cut ≡ false }
     {
         RunEnd {
             events: Vec::new(alloc),

@@ -24,6 +24,9 @@ returns-in-Ok-clause-front g c = (c.complete.ensures _ _ _ _ _ c.in-Ok.ensures.b
 pub returns-in-Ok-clause-due_front : goal.returns-in-Ok-clause-due_front
 returns-in-Ok-clause-due_front g c = (c.complete.ensures _ _ _ _ _ c.in-Ok.ensures.begun).1.run.due_front
 
+pub returns-in-Ok-clause-uncut : goal.returns-in-Ok-clause-uncut
+returns-in-Ok-clause-uncut g c = (c.complete.ensures _ _ _ _ _ c.in-Ok.ensures.begun).1.run.uncut
+
 pub returns-in-Ok-clause-causes : goal.returns-in-Ok-clause-causes
 returns-in-Ok-clause-causes g c = (c.complete.ensures _ _ _ _ _ c.in-Ok.ensures.begun).1.run.causes
 
@@ -47,6 +50,9 @@ returns-in-Err-clause-front g c = c.in-Err.ensures.none.1.run.front
 
 pub returns-in-Err-clause-due_front : goal.returns-in-Err-clause-due_front
 returns-in-Err-clause-due_front g c = c.in-Err.ensures.none.1.run.due_front
+
+pub returns-in-Err-clause-uncut : goal.returns-in-Err-clause-uncut
+returns-in-Err-clause-uncut g c = c.in-Err.ensures.none.1.run.uncut
 
 pub returns-in-Err-clause-causes : goal.returns-in-Err-clause-causes
 returns-in-Err-clause-causes g c = c.in-Err.ensures.none.1.run.causes

@@ -12,4 +12,4 @@ returns-in-Ok-clause-begun g c =
 pub returns-in-Err-clause-none : goal.returns-in-Err-clause-none
 returns-in-Err-clause-none g c =
     let u = c.unread.ensures in
-    (u.memory, ends_unread g.R.Input.can_fail c.args.config.now c.args.zone.now _ (g.R.Read.remaining c.args.reader) c.unread.result u.events u.refused u.log u.lanes u.memory)
+    (u.memory, ends_unread g.R.Input.can_fail c.args.config.now c.args.zone.now _ (g.R.Read.remaining c.args.reader) c.unread.result u.events u.refused u.log u.lanes u.memory u.cut)
