@@ -12,7 +12,7 @@ ghost use Rattle.escalation.specs.Matching.{applying};
 ghost use Rattle.escalation.specs.Named.{contact_ids, has_some, named_by};
 
 use crate::by_object::ByObject;
-use crate::in_order::append_in_order;
+use crate::in_order::{append_in_order, is_in_order};
 use crate::matching::applies;
 use due_model::config::{Config, ContactId, ObjectId};
 use due_model::options::OptionLetter;
@@ -74,7 +74,11 @@ pub fn own_contacts(
     let own = config.objects.as_slice()[usize::from(object.0)]
         .contacts
         .as_slice();
-    append_in_order(Vec::from_slice(alloc, own)?, out)
+    if is_in_order(own) {
+        out.extend_from_slice(own)
+    } else {
+        append_in_order(Vec::from_slice(alloc, own)?, out)
+    }
 }
 
 /// Appends the contacts of the escalations at these places that apply, as they stand there, and answers whether

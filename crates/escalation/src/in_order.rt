@@ -1,6 +1,7 @@
 //! Contacts, each once and in number order.
 
-ghost use Rattle.std.specs.Prelude.{◌≡◌, ℕ, ◌<◌, ◌++◌, All, filter, OnErr, OnOk};
+ghost use Rattle.std.specs.Prelude.{◌≡◌, ℕ, ◌<◌, ◌++◌, ◌↔◌, All, AllPairs, filter, IsTrue};
+ghost use Rattle.std.specs.Prelude.{OnErr, OnOk};
 ghost use Rattle.std.specs.List.{range_with_len};
 ghost use Rattle.due_model.specs.Escalations.{has_contact};
 ghost use Rattle.escalation.specs.Named.{contact_ids};
@@ -22,4 +23,11 @@ pub(crate) fn append_in_order(
     contacts.sort_unstable_by_key(|contact| contact.0);
     contacts.dedup();
     out.extend_from_slice(contacts.as_slice())
+}
+
+/// Whether contacts stand in number order, each once.
+pub(crate) fn is_in_order(contacts: &[ContactId]) -> bool
+    ensures { IsTrue result ↔ AllPairs (λ first second. first.0 < second.0) contacts.now }
+{
+    contacts.is_sorted_by(|first, second| first.0 < second.0)
 }
