@@ -1,5 +1,5 @@
 -- What a run leaves, from what it has at its end; and what that says of each lane and object.
-use Rattle.std.proofs.Common.{◌≡◌, ◌≢◌, ◌==◌, ℕ, ◌<◌, All, Bool, true, false, cond, is_some, List, [], ◌∷◌, ◌++◌, length, reverse, slice_get, Option, None, Some, IfSome, Result, Ok, Err, IfOk, OnErr, is_err, refl, sym, ap, subst, ◌∙◌, inl, inr, arith, append_assoc}
+use Rattle.std.proofs.Common.{◌≡◌, ◌≢◌, ◌==◌, ℕ, ◌<◌, All, Bool, true, false, cond, is_some, List, [], ◌∷◌, ◌++◌, length, reverse, slice_get, Option, None, Some, IfSome, Result, Ok, Err, is_err, refl, sym, ap, subst, ◌∙◌, inl, inr, arith, append_assoc}
 use Rattle.std.specs.Result.{result_unwrap_or}
 use Rattle.std.proofs.lemmas.List.{append-nil}
 use Rattle.std.proofs.lemmas.List.Elements.{All-nil, All-cons, All-head, All-same, All-tail, filter-append}

@@ -42,7 +42,7 @@ pub record AreWithin (blocks : List Block) : Type 0 where
 
 -- The hosts and services keep within their limit, where these are the hosts of each service block.
 pub record AreCounted (blocks : List Block) (hosts : List (List ℕ)) : Type 0 where
-  pub hosts : AreHostLists blocks (objects_in blocks Service) hosts
+  pub hosts_are : AreHostLists blocks (objects_in blocks Service) hosts
   pub few : length (objects_in blocks Host) + sum_by length hosts ≤ max_objects
   pub within : AreWithinLimit blocks
   pub nowhere : PassesNowhere blocks

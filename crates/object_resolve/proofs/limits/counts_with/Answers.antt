@@ -5,8 +5,8 @@ use Rattle.object_reader.specs.declared.block.Block.{Block}
 use Rattle.object_resolve.specs.Limits.{AreCounted, PassesRest}
 use Rattle.object_resolve.proofs.limits.counts_with.Goals as goal
 
-pub escalated_in-requires-clause-hosts : goal.escalated_in-requires-clause-hosts
-escalated_in-requires-clause-hosts c = c.requires.counted.hosts
+pub escalated_in-escalated-requires-clause-hosts : goal.escalated_in-escalated-requires-clause-hosts
+escalated_in-escalated-requires-clause-hosts c = c.requires.counted.hosts_are
 
 pub over_escalations-requires-clause-counted : goal.over_escalations-requires-clause-counted
 over_escalations-requires-clause-counted c =

@@ -10,8 +10,8 @@ use Rattle.object_resolve.specs.Resolve.{IsFirstOver}
 use Rattle.object_resolve.proofs.limits.over_rest.Goals as goal
 use Rattle.object_resolve.proofs.limits.over_rest.Goals.{in-Err, in-Ok}
 
-pub escalated_in-requires-clause-hosts : goal.escalated_in-requires-clause-hosts
-escalated_in-requires-clause-hosts c = c.requires.counted.hosts
+pub escalated_in-escalated-requires-clause-hosts : goal.escalated_in-escalated-requires-clause-hosts
+escalated_in-escalated-requires-clause-hosts c = c.requires.counted.hosts_are
 
 pub over_escalations-requires-clause-counted : goal.over_escalations-requires-clause-counted
 over_escalations-requires-clause-counted c =
@@ -27,7 +27,7 @@ of_place-requires c =
     (over-within c.args.templates.now c.args.rest
     (over-first c.args.templates.now None None (Some c.args.rest) c.args.rest c.requires.counted.nowhere
     (no-escalations c.one_block_passes.ensures.within c.args.templates.now
-    (few-escalations c.args.templates.now c.args.hosts.now c.in-Ok.field-0 c.requires.counted.hosts c.in-Ok.ensures.objects c.in-Ok.ensures.few))
+    (few-escalations c.args.templates.now c.args.hosts.now c.in-Ok.field-0 c.requires.counted.hosts_are c.in-Ok.ensures.objects c.in-Ok.ensures.few))
     c.requires.rest refl).0)
 
 pub returns-clause-fault : goal.returns-clause-fault
@@ -38,7 +38,7 @@ returns-clause-fault c = elim c.match-escalated.branch [
       (over-refused c.args.templates.now c.args.rest w.of_place.result
       (over-first c.args.templates.now None None (Some c.args.rest) c.args.rest c.requires.counted.nowhere
       (no-escalations c.one_block_passes.ensures.within c.args.templates.now
-      (few-escalations c.args.templates.now c.args.hosts.now w.in-Ok.field-0 c.requires.counted.hosts w.in-Ok.ensures.objects w.in-Ok.ensures.few))
+      (few-escalations c.args.templates.now c.args.hosts.now w.in-Ok.field-0 c.requires.counted.hosts_are w.in-Ok.ensures.objects w.in-Ok.ensures.few))
       c.requires.rest refl)
       (subst (λ (bs : List Block). IsOfPlace bs c.args.rest TooMany w.of_place.result) c.blocks-blocks.ensures.value w.of_place.ensures))
 ]
