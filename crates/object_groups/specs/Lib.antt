@@ -6,3 +6,5 @@ pub mod Nodes
 pub mod Laws
 pub mod ObjectLaws
 pub mod NodeLaws
+pub mod First
+pub mod FirstLaws

@@ -27,10 +27,17 @@ abbrev pub is_exclusion : List ℕ → Bool
 is_exclusion [] = false
 is_exclusion (b ∷ bs) = b == 33
 
--- whether a list has an entry that none of the names is
+-- whether none of the names is the entry
+abbrev pub lacks : (names : List (List ℕ)) → (entry : List ℕ) → Bool
+lacks names entry = is_none (number_of names entry)
+
+-- whether a list has an entry that none of the names is, where * is a name
+abbrev pub lacks_any : (names entries : List (List ℕ)) → Bool
+lacks_any names entries = list_any (lacks names) entries
+
+-- the same of a list in which * alone is all names
 abbrev pub has_unknown : (names entries : List (List ℕ)) → Bool
-has_unknown names entries =
-    not (is_all entries) && list_any (λ entry. is_none (number_of names entry)) entries
+has_unknown names entries = not (is_all entries) && lacks_any names entries
 
 -- the numbers of the names that a list has
 abbrev pub numbers_of : (names entries : List (List ℕ)) → List ℕ

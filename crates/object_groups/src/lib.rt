@@ -2,6 +2,7 @@
 //! their numbers and names, lists of names, and which objects are members of each group of hosts or contacts.
 #![tactic(auto)]
 
+pub mod first;
 pub mod groups;
 pub mod laws;
 pub mod names;

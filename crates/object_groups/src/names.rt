@@ -5,6 +5,7 @@ ghost use Rattle.std.specs.Prelude.{length, slice_index_or, IfOk, IfSome, OnOk};
 ghost use Rattle.std.specs.List.{list_any};
 ghost use Rattle.std.specs.Option.{option_to_list};
 ghost use Rattle.object_groups.specs.Names.{has_unknown, HasNumbers, is_all, is_doubled, is_exclusion};
+ghost use Rattle.object_groups.specs.Names.{lacks, lacks_any};
 ghost use Rattle.object_groups.specs.Names.{number_of, numbers_of};
 ghost use Rattle.object_values.specs.Values.{texts};
 
@@ -130,25 +131,29 @@ impl<'a> Names<'a> {
     }
 
     /// Whether none of the names is the entry.
-    fn lacks(&self, entry: &'a [u8]) -> bool
-        ensures { result ≡ is_none (number_of self.now entry.now) }
+    pub fn lacks(&self, entry: &'a [u8]) -> bool
+        ensures { result ≡ lacks self.now entry.now }
     {
         self.find(entry).is_none()
     }
 
-    /// Whether a list has an entry that none of the names is. One that means all has none.
-    pub fn has_unknown(&self, entries: &[&'a [u8]]) -> bool
-        ensures { result ≡ has_unknown self.now (texts entries.now) }
+    /// Whether a list in which `*` is a name has an entry that none of the names is.
+    pub fn lacks_any(&self, entries: &[&'a [u8]]) -> bool
+        ensures { result ≡ lacks_any self.now (texts entries.now) }
     {
-        if is_all(entries) {
-            return false;
-        }
         for entry in entries {
             if self.lacks(*entry) {
                 return true;
             }
         }
         false
+    }
+
+    /// Whether a list has an entry that none of the names is. One that means all has none.
+    pub fn has_unknown(&self, entries: &[&'a [u8]]) -> bool
+        ensures { result ≡ has_unknown self.now (texts entries.now) }
+    {
+        !is_all(entries) && self.lacks_any(entries)
     }
 }
 

@@ -21,9 +21,9 @@ use Rattle.object_groups.specs.Objects.{ObjectsOf}
 use Rattle.object_names.specs.declared.named.NamedKind.{NamedKind}
 use Rattle.object_names.specs.declared.named.NamedKind.TheVariants.{Host, HostGroup, ServiceGroup, Contact, ContactGroup, TimePeriod, Command}
 use Rattle.object_names.specs.Doubled.{IsDoubled, IsDoubledAmong, IsDoubledOf}
-use Rattle.object_names.specs.First.{IsFirst, lower}
+use Rattle.object_groups.specs.First.{IsFirst, lower}
 use Rattle.object_names.specs.Named.{all_kinds, block_kind}
-use Rattle.object_names.specs.FirstLaws.{first-either, first-same}
+use Rattle.object_groups.specs.FirstLaws.{first-either, first-same}
 
 -- ---- places in lists of names
 

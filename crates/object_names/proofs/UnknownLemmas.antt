@@ -12,10 +12,10 @@ use Rattle.object_reader.specs.declared.block.Block.{Block}
 use Rattle.object_reader.specs.declared.block.BlockKind.{BlockKind}
 use Rattle.object_reader.specs.declared.block.BlockKind.TheVariants.{Host, HostGroup, Service, ServiceGroup, Contact, ContactGroup, TimePeriod, Command, HostEscalation, ServiceEscalation, HostDependency, ServiceDependency, HostExtInfo, ServiceExtInfo}
 use Rattle.object_names.specs.declared.references.Reference.{Reference}
-use Rattle.object_names.specs.First.{IsFirst, lower}
+use Rattle.object_groups.specs.First.{IsFirst, lower}
 use Rattle.object_names.specs.References.{all_references, is_reference_of, references}
 use Rattle.object_names.specs.Unknown.{has_unknown_by, HasUnknown, HasUnknownAmong, is_registered, is_unknown_by, names_unknown, names_unknown_by}
-use Rattle.object_names.specs.FirstLaws.{first-either, first-same}
+use Rattle.object_groups.specs.FirstLaws.{first-either, first-same}
 
 -- ---- the blocks one after another
 

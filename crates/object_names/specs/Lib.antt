@@ -1,6 +1,4 @@
-pub mod First
 pub mod Named
 pub mod Doubled
 pub mod References
 pub mod Unknown
-pub mod FirstLaws

@@ -1,8 +1,8 @@
 -- Names that blocks mention and that nothing has (chapter "Object Definitions").
-use Rattle.std.specs.Prelude.{◌≡◌, ℕ, Bool, true, false, ◌&&◌, List, [], ◌∷◌, map, codes, is_none, Option, None, Some, slice_get}
+use Rattle.std.specs.Prelude.{◌≡◌, ℕ, Bool, true, false, ◌&&◌, List, [], ◌∷◌, map, codes, Option, None, Some, slice_get}
 use Rattle.std.specs.List.{list_any}
 use Rattle.std.specs.Option.{option_map_or}
-use Rattle.object_groups.specs.Names.{has_unknown, number_of}
+use Rattle.object_groups.specs.Names.{has_unknown, lacks, lacks_any}
 use Rattle.object_groups.specs.Objects.{list_at, names_in}
 use Rattle.object_inheritance.specs.Inherited.{name}
 use Rattle.object_inheritance.specs.Registered.{registers}
@@ -13,14 +13,6 @@ use Rattle.object_names.specs.declared.references.Reading.TheVariants.{NamesOrAl
 use Rattle.object_names.specs.declared.references.Reference.{Reference}
 use Rattle.object_names.specs.Named.{block_kind}
 use Rattle.object_names.specs.References.{directive_of, is_reference_of, named_of, reading_of, references}
-
--- whether none of the names is the entry
-abbrev pub lacks : (names : List (List ℕ)) → (entry : List ℕ) → Bool
-lacks names entry = is_none (number_of names entry)
-
--- whether a list has an entry that none of the names is, where * is a name
-abbrev pub lacks_any : (names entries : List (List ℕ)) → Bool
-lacks_any names entries = list_any (lacks names) entries
 
 -- Whether what is given as the name of a period is one, and none of the names is it. An empty one means
 -- always.

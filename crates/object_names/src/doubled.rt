@@ -1,11 +1,10 @@
 //! Objects that have the name of another of their type.
 
-ghost use Rattle.std.specs.Prelude.{◌≡◌};
 ghost use Rattle.object_names.specs.Doubled.{IsDoubled, IsDoubledAmong, IsDoubledOf};
-ghost use Rattle.object_names.specs.First.{IsFirst};
+ghost use Rattle.object_groups.specs.First.{IsFirst};
 
-use crate::first::lower;
 use crate::named::{NamedKind, NamedObjects};
+use object_groups::first::lower;
 use object_groups::objects::Objects;
 
 /// The place of the first of the objects that has the name of one before it.

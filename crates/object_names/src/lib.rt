@@ -4,7 +4,6 @@
 #![tactic(auto)]
 
 pub mod doubled;
-pub mod first;
 pub mod named;
 pub mod references;
 pub mod unknown;

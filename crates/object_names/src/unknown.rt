@@ -3,17 +3,18 @@
 ghost use Rattle.std.specs.Prelude.{◌≡◌, map, true, IfOk};
 ghost use Rattle.std.specs.Option.{option_copied};
 ghost use Rattle.object_inheritance.specs.Inherited.{name};
-ghost use Rattle.object_names.specs.First.{IsFirst};
+ghost use Rattle.object_groups.specs.First.{IsFirst};
 ghost use Rattle.object_names.specs.Named.{block_kind};
 ghost use Rattle.object_names.specs.References.{directive_of, named_of, reading_of};
 ghost use Rattle.object_names.specs.Unknown.{HasUnknown, HasUnknownAmong, has_unknown_by, is_registered};
-ghost use Rattle.object_names.specs.Unknown.{is_unknown, lacks, lacks_any, lacks_period, names_unknown_by};
+ghost use Rattle.object_groups.specs.Names.{lacks_any};
+ghost use Rattle.object_names.specs.Unknown.{is_unknown, lacks_period, names_unknown_by};
 ghost use Rattle.object_groups.specs.Objects.{names_in};
 ghost use Rattle.object_values.specs.Values.{command_name, texts};
 
-use crate::first::lower;
 use crate::named::NamedObjects;
 use crate::references::{Reading, Reference, directive_of, is_reference_of, named_of, reading_of};
+use object_groups::first::lower;
 use object_groups::names::Names;
 use object_groups::objects::list_at;
 use object_inheritance::inherited::Values;
@@ -23,31 +24,12 @@ use object_reader::block::Block;
 use object_values::values::{command_name, value_in};
 use std::alloc::{AllocError, Global};
 
-/// Whether none of the names is the entry.
-fn lacks<'a>(names: &Names<'a>, entry: &'a [u8]) -> bool
-    ensures { result ≡ lacks names.now entry.now }
-{
-    names.find(entry).is_none()
-}
-
-/// Whether a list in which `*` is a name has an entry that none of the names is.
-fn lacks_any<'a>(names: &Names<'a>, entries: &[&'a [u8]]) -> bool
-    ensures { result ≡ lacks_any names.now (texts entries.now) }
-{
-    for entry in entries {
-        if lacks(names, *entry) {
-            return true;
-        }
-    }
-    false
-}
-
 /// Whether a list of commands has one that none of the names is.
 fn lacks_command<'a>(names: &Names<'a>, entries: &[&'a [u8]]) -> bool
     ensures { result ≡ lacks_any names.now (map command_name (texts entries.now)) }
 {
     for entry in entries {
-        if lacks(names, command_name(*entry)) {
+        if names.lacks(command_name(*entry)) {
             return true;
         }
     }
@@ -60,7 +42,7 @@ fn lacks_period<'a>(names: &Names<'a>, given: Option<&'a [u8]>) -> bool
 {
     match given {
         None => false,
-        Some(name) => !name.is_empty() && lacks(names, name),
+        Some(name) => !name.is_empty() && names.lacks(name),
     }
 }
 
@@ -83,7 +65,7 @@ fn is_unknown<'a>(
     Ok(match reading {
         Reading::NamesOrAll => names.has_unknown(entries.as_slice()),
         Reading::Commands => lacks_command(names, entries.as_slice()),
-        Reading::Names | Reading::Period => lacks_any(names, entries.as_slice()),
+        Reading::Names | Reading::Period => names.lacks_any(entries.as_slice()),
     })
 }
 

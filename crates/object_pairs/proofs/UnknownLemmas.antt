@@ -12,7 +12,7 @@ use Rattle.lemmas.proofs.Lists.{range_increases}
 use Rattle.object_groups.specs.Names.{number_of}
 use Rattle.object_groups.specs.Objects.{is_object, is_object_at, list_at, names_in, objects_in, ObjectsOf}
 use Rattle.object_inheritance.specs.Columns.{Column}
-use Rattle.object_names.specs.First.{IsFirst}
+use Rattle.object_groups.specs.First.{IsFirst}
 use Rattle.object_reader.specs.declared.block.Block.{Block}
 use Rattle.object_reader.specs.declared.block.BlockKind.TheVariants.{Host, ServiceGroup}
 use Rattle.object_services.specs.Numbers.{Key}

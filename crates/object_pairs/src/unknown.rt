@@ -1,10 +1,10 @@
 //! Service groups whose members aren't hosts and services by turns.
 
-ghost use Rattle.std.specs.Prelude.{◌≡◌, All, IfOk};
+ghost use Rattle.std.specs.Prelude.{◌≡◌, IfOk};
 ghost use Rattle.std.specs.List.{list_all};
 ghost use Rattle.object_groups.specs.declared.groups.GroupKind.TheVariants.{HostGroups};
 ghost use Rattle.object_groups.specs.Objects.{list_at};
-ghost use Rattle.object_names.specs.First.{IsFirst};
+ghost use Rattle.object_groups.specs.First.{IsFirst};
 ghost use Rattle.object_pairs.specs.Members.{HasUnknownMember};
 ghost use Rattle.object_pairs.specs.Pairs.{pairs_in};
 ghost use Rattle.object_pairs.specs.Wanted.{is_found, lacks_pair, LacksPair};

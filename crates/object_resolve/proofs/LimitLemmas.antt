@@ -21,7 +21,7 @@ use Rattle.object_escalations.specs.Escalated as escalated
 use Rattle.object_escalations.specs.Escalated.{AreEscalated, GiveEscalations}
 use Rattle.object_escalations.specs.Laws as escalations
 use Rattle.object_groups.specs.Objects.{names_in, objects_in}
-use Rattle.object_names.specs.First.{IsFirst, lower}
+use Rattle.object_groups.specs.First.{IsFirst, lower}
 use Rattle.object_reader.specs.declared.block.Block.{Block}
 use Rattle.object_reader.specs.declared.block.BlockKind.{BlockKind}
 use Rattle.object_reader.specs.declared.block.BlockKind.TheVariants.{Command, Contact, Service, TimePeriod}

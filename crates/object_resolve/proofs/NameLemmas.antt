@@ -7,10 +7,10 @@ use Rattle.std.proofs.lemmas.Option.{none-some, same_Some, slice_get-get_or}
 use Rattle.lemmas.proofs.Lists.{at-within}
 use Rattle.object_groups.specs.Objects.{is_object, objects_in, ObjectsOf}
 use Rattle.object_groups.specs.ObjectLaws.{names-long}
-use Rattle.object_names.specs.First.{IsFirst, lower}
+use Rattle.object_groups.specs.First.{IsFirst, lower}
 use Rattle.object_names.specs.Named.{block_kind}
 use Rattle.object_names.specs.Unknown.{names_unknown}
-use Rattle.object_names.specs.FirstLaws.{first-either}
+use Rattle.object_groups.specs.FirstLaws.{first-either}
 use Rattle.object_reached.specs.Roles.{service_kind}
 use Rattle.object_reader.specs.declared.block.Block.{Block}
 use Rattle.object_reader.specs.declared.block.BlockKind.TheVariants.{Service, ServiceGroup}
@@ -28,13 +28,13 @@ use Rattle.object_services.specs.Doubled as services
 pub number-within : (blocks : List Block) (number : ℕ) → services.IsDoubled blocks number → number < length (objects_in blocks Service)
 number-within blocks number doubled = let within = doubled.within in let long = names-long blocks Service in omega (arith, within, long)
 
-pub no-service : (blocks own : List Block) (number : Option ℕ) → own ≡ blocks → number ≡ None → services.IsFirstOf (services.IsDoubled own) number
+pub no-service : (blocks own : List Block) (number : Option ℕ) → own ≡ blocks → number ≡ None → IsFirst (services.IsDoubled own) number
     → IsFirst (GivesDoubledService blocks) None
 no-service blocks own number same is first = λ place gives.
-    subst (λ (found : Option ℕ). services.IsFirstOf (services.IsDoubled blocks) found) is
-    (subst (λ (bs : List Block). services.IsFirstOf (services.IsDoubled bs) number) same first) gives.0 gives.1
+    subst (λ (found : Option ℕ). IsFirst (services.IsDoubled blocks) found) is
+    (subst (λ (bs : List Block). IsFirst (services.IsDoubled bs) number) same first) gives.0 gives.1
 
-pub first-service : (blocks : List Block) (number : ℕ) → services.IsFirstOf (services.IsDoubled blocks) (Some number)
+pub first-service : (blocks : List Block) (number : ℕ) → IsFirst (services.IsDoubled blocks) (Some number)
     → IsFirst (GivesDoubledService blocks) (Some (services.place_of blocks number))
 first-service blocks number first = (
   (number, first.0, refl),
@@ -122,9 +122,9 @@ said-other doubled place is same =
 -- the first service of both, by the place of its number
 pub first-of_service : (blocks own : List Block) (number : ℕ) (objects : ObjectsOf) (found : Option ℕ) → own ≡ blocks
     → objects ≡ record { blocks = own; kind = Service } → found ≡ slice_get (objects_in objects.blocks objects.kind) number
-    → services.IsFirstOf (services.IsDoubled own) (Some number) → IsFirst (GivesDoubledService blocks) found
+    → IsFirst (services.IsDoubled own) (Some number) → IsFirst (GivesDoubledService blocks) found
 first-of_service blocks own number objects found same kept is first =
-    let mine : services.IsFirstOf (services.IsDoubled blocks) (Some number) = subst (λ (bs : List Block). services.IsFirstOf (services.IsDoubled bs) (Some number)) same first in
+    let mine : IsFirst (services.IsDoubled blocks) (Some number) = subst (λ (bs : List Block). IsFirst (services.IsDoubled bs) (Some number)) same first in
     let here = slice_get-get_or (objects_in blocks Service) number 0 (number-within blocks number mine.0) in
     subst (λ (f : Option ℕ). IsFirst (GivesDoubledService blocks) f)
     (sym (is ∙ ap (λ (o : ObjectsOf). slice_get (objects_in o.blocks o.kind) number) kept ∙ ap (λ (bs : List Block). slice_get (objects_in bs Service) number) same ∙ here))

@@ -11,7 +11,7 @@ use Rattle.lemmas.proofs.Lists.{AllPairs-head, AllPairs-tail, range_increases}
 use Rattle.lemmas.proofs.Rising.{Rises}
 use Rattle.object_groups.specs.Objects.{is_object_at, names_in, objects_in}
 use Rattle.object_groups.specs.ObjectLaws.{names-long}
-use Rattle.object_names.specs.First.{IsFirst}
+use Rattle.object_groups.specs.First.{IsFirst}
 use Rattle.object_reader.specs.declared.block.Block.{Block}
 use Rattle.object_reader.specs.declared.block.BlockKind.{BlockKind}
 use Rattle.object_resolve.specs.First.{IsFirstAt, IsNowhere}

@@ -1,7 +1,7 @@
 //! Names that are given twice, and names that nothing has.
 
 ghost use Rattle.std.specs.Prelude.{◌≡◌, IfErr, IfOk, OnOk};
-ghost use Rattle.object_names.specs.First.{IsFirst};
+ghost use Rattle.object_groups.specs.First.{IsFirst};
 ghost use Rattle.object_resolve.specs.Fault.{IsAmong};
 ghost use Rattle.object_resolve.specs.First.{IsNowhere};
 ghost use Rattle.object_resolve.specs.Names.{GivesDoubledService, IsDoubledAt, IsFirstMisnamed, IsMisnamed};
@@ -10,9 +10,9 @@ ghost use Rattle.object_resolve.specs.Tables.{AreTables};
 
 use crate::fault::{BlockFault, LoadFault, of_place};
 use crate::tables::{Tables, place_of};
+use object_groups::first::lower;
 use object_inheritance::templates::Templates;
 use object_names::doubled::first_doubled as first_doubled_object;
-use object_names::first::lower;
 use object_names::unknown::first_unknown as first_unknown_name;
 use object_pairs::unknown::first_unknown_member;
 use object_services::doubled::first_doubled as first_doubled_number;

@@ -18,11 +18,12 @@ use Rattle.object_groups.specs.Names.{number_of}
 use Rattle.object_groups.specs.Objects.{names_in}
 use Rattle.object_reader.specs.declared.block.Block.{Block}
 use Rattle.object_reader.specs.declared.block.BlockKind.TheVariants.{Service}
-use Rattle.object_services.specs.Alike.{alike, is_alike, IsDoubledBelow, lower, SharesAmong}
-use Rattle.object_services.specs.Doubled.{description_of, IsDoubled, IsFirstOf}
-use Rattle.object_services.proofs.DoubledLemmas.{first-lower, first-same}
+use Rattle.object_services.specs.Alike.{alike, is_alike, IsDoubledBelow, SharesAmong}
+use Rattle.object_services.specs.Doubled.{description_of, IsDoubled}
 use Rattle.lemmas.proofs.Elements.{Contains-filter, Contains-from_filter, Contains-from_range, Contains-range}
 use Rattle.lemmas.proofs.Searches.{place-le}
+use Rattle.object_groups.specs.First.{IsFirst, lower}
+use Rattle.object_groups.specs.FirstLaws.{first-lower, first-same}
 
 -- ---- the first place of a name
 
@@ -141,13 +142,13 @@ module _ (blocks : List Block) (bound : ℕ) where
       )
 
   -- the blocks of one description more
-  pub doubled-more : (first found next : Option ℕ) (group : List ℕ) → group ≡ alike names bound → next ≡ lower first found → IsFirstOf (IsDoubledBelow blocks bound) first
-      → IsFirstOf (SharesAmong blocks group) found → IsFirstOf (IsDoubledBelow blocks (bound + 1)) next
+  pub doubled-more : (first found next : Option ℕ) (group : List ℕ) → group ≡ alike names bound → next ≡ lower first found → IsFirst (IsDoubledBelow blocks bound) first
+      → IsFirst (SharesAmong blocks group) found → IsFirst (IsDoubledBelow blocks (bound + 1)) next
   doubled-more first found next group group_is next_is before here =
-      subst (λ (f : Option ℕ). IsFirstOf (IsDoubledBelow blocks (bound + 1)) f) (sym next_is)
+      subst (λ (f : Option ℕ). IsFirst (IsDoubledBelow blocks (bound + 1)) f) (sym next_is)
       (first-same (λ n. IsDoubledBelow blocks bound n ⊎ OfName n) (IsDoubledBelow blocks (bound + 1)) (lower first found) to from
       (first-lower (IsDoubledBelow blocks bound) OfName first found before
-      (first-same (SharesAmong blocks (alike names bound)) OfName found to_name from_name (subst (λ (ms : List ℕ). IsFirstOf (SharesAmong blocks ms) found) group_is here))))
+      (first-same (SharesAmong blocks (alike names bound)) OfName found to_name from_name (subst (λ (ms : List ℕ). IsFirst (SharesAmong blocks ms) found) group_is here))))
     where
       to : (n : ℕ) → IsDoubledBelow blocks bound n ⊎ OfName n → IsDoubledBelow blocks (bound + 1) n
       to n (inl below) = (below.0, (below.1.0, (let low = below.1.1 in omega (arith, low)), below.1.2))
@@ -159,10 +160,10 @@ module _ (blocks : List Block) (bound : ℕ) where
           (λ (late : bound ≤ below.1.0). let low = below.1.1 in let same : below.1.0 ≡ bound = omega (arith, late, low) in inr (below.0, below.1.2 ∙ ap (λ (k : ℕ). Some k) same))
           (cases_lt below.1.0 bound)
 
-pub doubled-none : (blocks : List Block) → IsFirstOf (IsDoubledBelow blocks 0) None
+pub doubled-none : (blocks : List Block) → IsFirst (IsDoubledBelow blocks 0) None
 doubled-none blocks = λ n below. let low = below.1.1 in omega (arith, low)
 
-pub doubled-all : (blocks : List Block) (bound : ℕ) (found : Option ℕ) → bound ≡ length (names_in blocks Service) → IsFirstOf (IsDoubledBelow blocks bound) found → IsFirstOf (IsDoubled blocks) found
+pub doubled-all : (blocks : List Block) (bound : ℕ) (found : Option ℕ) → bound ≡ length (names_in blocks Service) → IsFirst (IsDoubledBelow blocks bound) found → IsFirst (IsDoubled blocks) found
 doubled-all blocks bound found all below = first-same (IsDoubledBelow blocks bound) (IsDoubled blocks) found (λ n both. both.0) from below
   where
     from : (n : ℕ) → IsDoubled blocks n → IsDoubledBelow blocks bound n

@@ -1,6 +1,6 @@
 -- Service blocks of one description, and the first that shares a host with one before it.
-use Rattle.std.proofs.Common.{◌≡◌, ℕ, zero, suc, ◌+◌, ◌<◌, ◌≤◌, Bool, true, false, cond, ◌||◌, List, [], ◌∷◌, length, take, get_or, Option, Some, None, refl, sym, ap, subst, eqb, eqb-true, eq-eqb, ⊎_elim, ◌∙◌, ◌⊎◌, inl, inr, arith, leb-false, leb-true}
-use Rattle.std.specs.Prelude.{AllPairs, Contains, nat_le}
+use Rattle.std.proofs.Common.{◌≡◌, ℕ, zero, suc, ◌+◌, ◌<◌, ◌≤◌, Bool, true, false, cond, ◌||◌, List, [], ◌∷◌, length, take, get_or, Some, None, refl, sym, ap, subst, eqb, eqb-true, eq-eqb, ⊎_elim, ◌∙◌, ◌⊎◌, inl, inr, arith}
+use Rattle.std.specs.Prelude.{AllPairs, Contains}
 use Rattle.std.specs.List.{list_any}
 use Rattle.std.proofs.lemmas.Bool.{cases_lt, false≢true, or_right}
 use Rattle.std.proofs.lemmas.Cmp.{nat_eq_equiv}
@@ -8,33 +8,11 @@ use Rattle.std.proofs.lemmas.List.{take_more}
 use Rattle.std.proofs.lemmas.List.Elements.{Contains-append_left, Contains-append_right, Contains-append_cases}
 use Rattle.std.proofs.lemmas.List.Folds.{list_any-append}
 use Rattle.object_reader.specs.declared.block.Block.{Block}
-use Rattle.object_services.specs.Alike.{HasSeen, lower, SharesAmong}
-use Rattle.object_services.specs.Doubled.{IsFirstOf, place_of}
+use Rattle.object_services.specs.Alike.{HasSeen, SharesAmong}
+use Rattle.object_services.specs.Doubled.{place_of}
 use Rattle.object_services.specs.Hosts.{AreHosts, HasHost}
 use Rattle.lemmas.proofs.Elements.{Contains-cases, Contains-here, Contains-later, Contains-none}
-
--- ---- the lower of two first numbers
-
-module _ (P Q : ℕ → Type 0) where
-  by_order : (one other : ℕ) → IsFirstOf P (Some one) → IsFirstOf Q (Some other) → (c : Bool) → nat_le one other ≡ c
-      → IsFirstOf (λ n. P n ⊎ Q n) (cond c (Some one) (Some other))
-  by_order one other fp fq true is =
-      let low : one ≤ other = leb-true one other is in
-      (inl fp.0, (λ k early either. ⊎_elim (λ (p : P k). fp.1 k early p) (λ (q : Q k). fq.1 k (omega (arith, low, early)) q) either))
-  by_order one other fp fq false is =
-      let high : other < one = leb-false one other is in
-      (inr fq.0, (λ k early either. ⊎_elim (λ (p : P k). fp.1 k (omega (arith, high, early)) p) (λ (q : Q k). fq.1 k early q) either))
-
-  pub first-lower : (first second : Option ℕ) → IsFirstOf P first → IsFirstOf Q second → IsFirstOf (λ n. P n ⊎ Q n) (lower first second)
-  first-lower None None fp fq = λ n either. ⊎_elim (λ (p : P n). fp n p) (λ (q : Q n). fq n q) either
-  first-lower None (Some other) fp fq = (inr fq.0, (λ k early either. ⊎_elim (λ (p : P k). fp k p) (λ (q : Q k). fq.1 k early q) either))
-  first-lower (Some one) None fp fq = (inl fp.0, (λ k early either. ⊎_elim (λ (p : P k). fp.1 k early p) (λ (q : Q k). fq k q) either))
-  first-lower (Some one) (Some other) fp fq = by_order one other fp fq (nat_le one other) refl
-
-  -- the same of what says the same
-  pub first-same : (found : Option ℕ) → ((n : ℕ) → P n → Q n) → ((n : ℕ) → Q n → P n) → IsFirstOf P found → IsFirstOf Q found
-  first-same None to from fp = λ n q. fp n (from n q)
-  first-same (Some one) to from fp = (to one fp.0, (λ k early q. fp.1 k early (from k q)))
+use Rattle.object_groups.specs.First.{IsFirst, lower}
 
 -- ---- what some of a list pass
 
@@ -158,7 +136,7 @@ module _ (blocks : List Block) (ms : List ℕ) (rising : AllPairs (λ m n. m < n
   last = get_or ms i d
 
   -- the block shares a host with one before it
-  pub shares-here : list_any seen hosts ≡ true → IsFirstOf (SharesAmong blocks ms) (Some last)
+  pub shares-here : list_any seen hosts ≡ true → IsFirst (SharesAmong blocks ms) (Some last)
   shares-here any = (
     (Contains-last, (one.0, front-lower ms rising i d within one.0 one.1, front-within i ms one.0 one.1, (host.0, one.2, (are.exactly host.0).0 host.1))),
     (λ k early shares. scanned.apart k (
@@ -218,11 +196,11 @@ module _ (blocks : List Block) (ms : List ℕ) (rising : AllPairs (λ m n. m < n
           (front-more ms i d some.0 within some.1)
 
 -- all were scanned
-pub none-sharing : (blocks : List Block) (ms : List ℕ) (seen : ℕ → Bool) → IsScanned blocks ms seen → IsFirstOf (SharesAmong blocks ms) None
+pub none-sharing : (blocks : List Block) (ms : List ℕ) (seen : ℕ → Bool) → IsScanned blocks ms seen → IsFirst (SharesAmong blocks ms) None
 none-sharing blocks ms seen scanned = scanned.apart
 
 -- a block alone shares nothing with one before it
-pub alone-shares-none : (blocks : List Block) (ms : List ℕ) → length ms < 2 → IsFirstOf (SharesAmong blocks ms) None
+pub alone-shares-none : (blocks : List Block) (ms : List ℕ) → length ms < 2 → IsFirst (SharesAmong blocks ms) None
 alone-shares-none blocks [] few = λ n shares. Contains-none n shares.0
 alone-shares-none blocks (m ∷ []) few = λ n shares. ⊎_elim
     (λ (here : m ≡ n). ⊎_elim

@@ -2,20 +2,20 @@
 use Rattle.std.proofs.Common.{◌≡◌, ℕ, zero, suc, ◌+◌, ◌<◌, ◌≤◌, Bool, true, false, ◌||◌, List, [], ◌∷◌, length, get_or, Option, Some, None, refl, sym, ap, subst, ⊎_elim, ◌∙◌, ◌⊎◌, inl, inr, arith}
 use Rattle.std.proofs.lemmas.Bool.{cases_lt, false≢true, or_cases, or_left, or_right}
 use Rattle.object_groups.specs.Objects.{list_at, names_in, objects_in, ObjectsOf}
+use Rattle.object_groups.specs.First.{IsFirst, lower}
+use Rattle.object_groups.specs.FirstLaws.{first-lower, first-same}
 use Rattle.object_inheritance.specs.Columns.{Column}
 use Rattle.object_reader.specs.declared.block.Block.{Block}
 use Rattle.object_reader.specs.declared.block.BlockKind.{BlockKind}
 use Rattle.object_reader.specs.declared.block.BlockKind.TheVariants.{Service}
-use Rattle.object_services.specs.Alike.{lower}
-use Rattle.object_services.specs.Doubled.{IsFirstOf, place_of}
+use Rattle.object_services.specs.Doubled.{place_of}
 use Rattle.object_services.specs.Unknown.{is_unknown, IsBlockWith}
-use Rattle.object_services.proofs.DoubledLemmas.{first-lower, first-same}
 
 -- the first by one list or by another
 pub first-of-both : (blocks : List Block) (p q : ℕ → Bool) (first second found : Option ℕ) → found ≡ lower first second
-    → IsFirstOf (IsBlockWith blocks p) first → IsFirstOf (IsBlockWith blocks q) second → IsFirstOf (IsBlockWith blocks (λ place. p place || q place)) found
+    → IsFirst (IsBlockWith blocks p) first → IsFirst (IsBlockWith blocks q) second → IsFirst (IsBlockWith blocks (λ place. p place || q place)) found
 first-of-both blocks p q first second found is fp fq =
-    subst (λ (f : Option ℕ). IsFirstOf (IsBlockWith blocks (λ place. p place || q place)) f) (sym is)
+    subst (λ (f : Option ℕ). IsFirst (IsBlockWith blocks (λ place. p place || q place)) f) (sym is)
     (first-same (λ n. IsBlockWith blocks p n ⊎ IsBlockWith blocks q n) (IsBlockWith blocks (λ place. p place || q place)) (lower first second) to from
     (first-lower (IsBlockWith blocks p) (IsBlockWith blocks q) first second fp fq))
   where
@@ -57,10 +57,10 @@ none-here blocks p i before here = record {
 }
 
 pub first-here : (blocks : List Block) (p : ℕ → Bool) (i : ℕ) → HasNoneBefore blocks p i → i < length (objects_in blocks Service) → p (place_of blocks i) ≡ true
-    → IsFirstOf (IsBlockWith blocks p) (Some i)
+    → IsFirst (IsBlockWith blocks p) (Some i)
 first-here blocks p i before within here = ((within, here), (λ k early block. false≢true (sym (before.none k early) ∙ block.1)))
 
-pub first-none : (blocks : List Block) (p : ℕ → Bool) (i : ℕ) → HasNoneBefore blocks p i → length (objects_in blocks Service) ≤ i → IsFirstOf (IsBlockWith blocks p) None
+pub first-none : (blocks : List Block) (p : ℕ → Bool) (i : ℕ) → HasNoneBefore blocks p i → length (objects_in blocks Service) ≤ i → IsFirst (IsBlockWith blocks p) None
 first-none blocks p i before all = λ n block. let within = block.0 in false≢true (sym (before.none n (omega (arith, within, all))) ∙ block.1)
 
 -- ---- what is kept of the blocks
@@ -68,11 +68,11 @@ first-none blocks p i before all = λ n block. let within = block.0 in false≢t
 pub of-kind : (blocks : List Block) (directive names_kind : List ℕ) (kind : BlockKind) (all : Bool) (objects : ObjectsOf) (services : ObjectsOf) (column : Column) (names : List (List ℕ)) (found : Option ℕ)
     → services ≡ record { blocks = blocks; kind = Service } → objects ≡ record { blocks = blocks; kind = kind } → names ≡ names_in objects.blocks objects.kind
     → names_kind ≡ directive → column ≡ record { blocks = blocks; directive = names_kind }
-    → IsFirstOf (IsBlockWith services.blocks (λ place. is_unknown all names (list_at column.blocks column.directive place))) found
-    → IsFirstOf (IsBlockWith blocks (λ place. is_unknown all (names_in blocks kind) (list_at blocks directive place))) found
+    → IsFirst (IsBlockWith services.blocks (λ place. is_unknown all names (list_at column.blocks column.directive place))) found
+    → IsFirst (IsBlockWith blocks (λ place. is_unknown all (names_in blocks kind) (list_at blocks directive place))) found
 of-kind blocks directive names_kind kind all objects services column names found services_are objects_are names_are bytes_are column_is first =
-    subst (λ (d : List ℕ). IsFirstOf (IsBlockWith blocks (λ place. is_unknown all (names_in blocks kind) (list_at blocks d place))) found) bytes_are
-    (subst (λ (c : Column). IsFirstOf (IsBlockWith blocks (λ place. is_unknown all (names_in blocks kind) (list_at c.blocks c.directive place))) found) column_is
-    (subst (λ (ns : List (List ℕ)). IsFirstOf (IsBlockWith blocks (λ place. is_unknown all ns (list_at column.blocks column.directive place))) found)
+    subst (λ (d : List ℕ). IsFirst (IsBlockWith blocks (λ place. is_unknown all (names_in blocks kind) (list_at blocks d place))) found) bytes_are
+    (subst (λ (c : Column). IsFirst (IsBlockWith blocks (λ place. is_unknown all (names_in blocks kind) (list_at c.blocks c.directive place))) found) column_is
+    (subst (λ (ns : List (List ℕ)). IsFirst (IsBlockWith blocks (λ place. is_unknown all ns (list_at column.blocks column.directive place))) found)
     (names_are ∙ ap (λ (o : ObjectsOf). names_in o.blocks o.kind) objects_are)
-    (subst (λ (o : ObjectsOf). IsFirstOf (IsBlockWith o.blocks (λ place. is_unknown all names (list_at column.blocks column.directive place))) found) services_are first)))
+    (subst (λ (o : ObjectsOf). IsFirst (IsBlockWith o.blocks (λ place. is_unknown all names (list_at column.blocks column.directive place))) found) services_are first)))

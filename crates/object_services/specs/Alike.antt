@@ -1,5 +1,5 @@
 -- How doubled services are found: by the blocks of one description after another.
-use Rattle.std.specs.Prelude.{◌≡◌, ℕ, ◌<◌, ◌==◌, ◌↔◌, Bool, true, false, nat_le, List, [], length, filter, Contains, Option, Some, None, slice_index_or, if◌then◌else◌}
+use Rattle.std.specs.Prelude.{◌≡◌, ℕ, ◌<◌, ◌==◌, ◌↔◌, Bool, true, false, List, [], length, filter, Contains, Some, slice_index_or}
 use Rattle.std.specs.List.{range_with_len}
 use Rattle.std.specs.Option.{option_map_or}
 use Rattle.object_groups.specs.Names.{number_of}
@@ -38,9 +38,3 @@ HasSeen blocks numbers seen = (host : ℕ) → (seen host ≡ true)
 abbrev pub IsDoubledBelow : List Block → (bound : ℕ) → ℕ → Type 0
 IsDoubledBelow blocks bound number = IsDoubled blocks number × ((first : ℕ) × (first < bound)
     × (number_of (names_in blocks Service) (description_of blocks number) ≡ Some first))
-
--- the lower of two numbers that may be there
-abbrev pub lower : Option ℕ → Option ℕ → Option ℕ
-lower None second = second
-lower (Some one) None = Some one
-lower (Some one) (Some other) = if nat_le one other then Some one else Some other

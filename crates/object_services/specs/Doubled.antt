@@ -1,5 +1,5 @@
 -- Services that two blocks give (chapter "Object Definitions").
-use Rattle.std.specs.Prelude.{◌≡◌, ℕ, ◌<◌, List, [], length, Option, Some, None, slice_index_or}
+use Rattle.std.specs.Prelude.{◌≡◌, ℕ, ◌<◌, List, [], length, slice_index_or}
 use Rattle.object_groups.specs.Objects.{names_in, objects_in}
 use Rattle.object_reader.specs.declared.block.Block.{Block}
 use Rattle.object_reader.specs.declared.block.BlockKind.TheVariants.{Service}
@@ -25,8 +25,3 @@ pub record IsDoubled (blocks : List Block) (number : ℕ) : Type 0 where
   pub before : earlier < number
   pub same : description_of blocks earlier ≡ description_of blocks number
   pub shared : ShareHost blocks earlier number
-
--- the first number of which `P` says so, if there is one
-abbrev pub IsFirstOf : (P : ℕ → Type 0) → Option ℕ → Type 0
-IsFirstOf P None = (n : ℕ) → P n → ⊥
-IsFirstOf P (Some n) = P n × ((k : ℕ) → k < n → P k → ⊥)

@@ -1,18 +1,13 @@
 -- Names that service blocks list and that nothing has (chapter "Object Definitions").
-use Rattle.std.specs.Prelude.{◌≡◌, ℕ, ◌<◌, Bool, true, ◌||◌, List, length, codes, is_none, if◌then◌else◌}
-use Rattle.std.specs.List.{list_any}
-use Rattle.object_groups.specs.Names.{has_unknown, number_of}
+use Rattle.std.specs.Prelude.{◌≡◌, ℕ, ◌<◌, Bool, true, ◌||◌, List, length, codes, if◌then◌else◌}
+use Rattle.object_groups.specs.Names.{has_unknown, lacks_any}
 use Rattle.object_groups.specs.Objects.{list_at, names_in, objects_in}
 use Rattle.object_reader.specs.declared.block.Block.{Block}
 use Rattle.object_reader.specs.declared.block.BlockKind.{BlockKind}
 use Rattle.object_reader.specs.declared.block.BlockKind.TheVariants.{Host, HostGroup, Service, ServiceGroup, Contact, ContactGroup}
 use Rattle.object_services.specs.Doubled.{place_of}
 
--- whether a list in which * is a name has an entry that none of the names is
-abbrev pub lacks_any : (names entries : List (List ℕ)) → Bool
-lacks_any names entries = list_any (λ entry. is_none (number_of names entry)) entries
-
--- the same of a list in which * alone is all names, or is a name
+-- whether a list in which * alone is all names, or is a name, has an entry that none of the names is
 abbrev pub is_unknown : (all : Bool) → (names entries : List (List ℕ)) → Bool
 is_unknown all names entries = if all then has_unknown names entries else lacks_any names entries
 

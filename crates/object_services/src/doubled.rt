@@ -1,17 +1,18 @@
 //! Services that two blocks give.
 
 ghost use Rattle.std.specs.Prelude.{◌≡◌, ℕ, ◌<◌, ◌^◌, ◌++◌};
-ghost use Rattle.std.specs.Prelude.{◌||◌, length, map, nat_eq, filter};
+ghost use Rattle.std.specs.Prelude.{◌||◌, length, map, nat_eq};
 ghost use Rattle.std.specs.Prelude.{All, AllPairs, IfOk, IfSome, OnOk};
-ghost use Rattle.std.specs.List.{list_any, range_with_len};
+ghost use Rattle.std.specs.List.{list_any};
 ghost use Rattle.std.specs.Option.{option_to_list};
 ghost use Rattle.graph.specs.Edges.{ends_of, IsWithin};
 ghost use Rattle.indexmap.specs.IndexSet.{contains};
 ghost use Rattle.object_groups.specs.declared.groups.GroupKind.TheVariants.{HostGroups};
-ghost use Rattle.object_groups.specs.Objects.{names_in, objects_in};
+ghost use Rattle.object_groups.specs.Objects.{objects_in};
+ghost use Rattle.object_groups.specs.First.{IsFirst, lower};
 ghost use Rattle.object_reader.specs.declared.block.BlockKind.TheVariants.{Service};
-ghost use Rattle.object_services.specs.Alike.{alike, AreAlike, lower, SharesAmong};
-ghost use Rattle.object_services.specs.Doubled.{IsDoubled, IsFirstOf};
+ghost use Rattle.object_services.specs.Alike.{alike, AreAlike, SharesAmong};
+ghost use Rattle.object_services.specs.Doubled.{IsDoubled};
 
 use crate::blocks::ServiceBlocks;
 use graph::edges::{Edge, Graph};
@@ -94,7 +95,7 @@ fn first_sharing<'a>(
     requires within { All (λ n. n < length (objects_in services.now Service)) numbers.now }
     requires rising { AllPairs (λ m n. m < n) numbers.now }
     ensures same { hosts.new ≡ hosts.old }
-    ensures first { IfOk result (IsFirstOf (SharesAmong services.now numbers.now)) }
+    ensures first { IfOk result (IsFirst (SharesAmong services.now numbers.now)) }
 {
     if numbers.len() < 2 {
         return Ok(None);
@@ -112,19 +113,6 @@ fn first_sharing<'a>(
     Ok(None)
 }
 
-/// The lower of two numbers that may be there.
-pub(crate) fn lower(first: Option<usize>, second: Option<usize>) -> Option<usize>
-    ensures { result ≡ lower first second }
-{
-    let Some(one) = first else {
-        return second;
-    };
-    let Some(other) = second else {
-        return first;
-    };
-    if one <= other { first } else { second }
-}
-
 /// The number of the first service block that gives a service which one before it gives, if there is one: they
 /// have the same description and a host in common. `hosts` are the host groups of the same blocks. The blocks
 /// of one description are looked at one after another, up to the first that is doubled: the time grows with that
@@ -138,7 +126,7 @@ pub fn first_doubled<'a>(
 ) -> Result<Option<usize>, AllocError>
     requires { hosts.old ≡ record { blocks = services.now; kind = HostGroups } }
     ensures same { hosts.new ≡ hosts.old }
-    ensures first { IfOk result (IsFirstOf (IsDoubled services.now)) }
+    ensures first { IfOk result (IsFirst (IsDoubled services.now)) }
 {
     let names = services.objects().names();
     if names.len() > u32::MAX as usize {

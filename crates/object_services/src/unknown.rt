@@ -1,41 +1,20 @@
 //! Names that service blocks list and that nothing has.
 
-ghost use Rattle.std.specs.Prelude.{◌≡◌, codes, is_none, IfOk};
-ghost use Rattle.std.specs.List.{list_any};
-ghost use Rattle.object_groups.specs.Names.{number_of};
-ghost use Rattle.object_groups.specs.Objects.{list_at, names_in, ObjectsOf};
+ghost use Rattle.std.specs.Prelude.{◌≡◌, IfOk};
+ghost use Rattle.object_groups.specs.Names.{lacks_any};
+ghost use Rattle.object_groups.specs.Objects.{list_at, names_in};
+ghost use Rattle.object_groups.specs.First.{IsFirst};
 ghost use Rattle.object_reader.specs.declared.block.BlockKind.TheVariants.{Service};
-ghost use Rattle.object_services.specs.Doubled.{IsFirstOf};
-ghost use Rattle.object_services.specs.Unknown.{has_unknown_name, is_unknown, IsBlockWith, lacks_any};
-ghost use Rattle.object_values.specs.Values.{texts};
+ghost use Rattle.object_services.specs.Unknown.{has_unknown_name, is_unknown, IsBlockWith};
 
 use crate::blocks::ServiceBlocks;
-use crate::doubled::lower;
+use object_groups::first::lower;
 use object_groups::names::Names;
 use object_groups::objects::{Objects, list_at};
 use object_inheritance::inherited::Values;
 use object_inheritance::templates::Templates;
 use object_reader::block::BlockKind;
 use std::alloc::{AllocError, Global};
-
-/// Whether none of the names is the entry.
-fn lacks<'a>(names: &Names<'a>, entry: &'a [u8]) -> bool
-    ensures { result ≡ is_none (number_of names.now entry.now) }
-{
-    names.find(entry).is_none()
-}
-
-/// Whether a list in which `*` is a name has an entry that none of the names is.
-fn lacks_any<'a>(names: &Names<'a>, entries: &[&'a [u8]]) -> bool
-    ensures { result ≡ lacks_any names.now (texts entries.now) }
-{
-    for entry in entries {
-        if lacks(names, *entry) {
-            return true;
-        }
-    }
-    false
-}
 
 /// Whether the block at the place has an entry in a list that none of the names is, where `*` alone is all names,
 /// or a name.
@@ -53,7 +32,7 @@ fn is_unknown_at<'a>(
     if all {
         Ok(names.has_unknown(entries.as_slice()))
     } else {
-        Ok(lacks_any(names, entries.as_slice()))
+        Ok(names.lacks_any(entries.as_slice()))
     }
 }
 
@@ -66,7 +45,7 @@ fn first_of_list<'a>(
     all: bool,
 ) -> Result<Option<usize>, AllocError>
     requires { services.now.kind ≡ Service }
-    ensures { IfOk result (IsFirstOf (IsBlockWith services.now.blocks
+    ensures { IfOk result (IsFirst (IsBlockWith services.now.blocks
         (λ place. is_unknown all names.now
         (list_at values.now.blocks values.now.directive place)))) }
 {
@@ -89,7 +68,7 @@ fn first_of_kind<'a>(
     all: bool,
 ) -> Result<Option<usize>, AllocError>
     requires { services.now ≡ record { blocks = templates.now; kind = Service } }
-    ensures { IfOk result (IsFirstOf (IsBlockWith templates.now
+    ensures { IfOk result (IsFirst (IsBlockWith templates.now
         (λ place. is_unknown all (names_in templates.now kind)
         (list_at templates.now directive.now place)))) }
 {
@@ -108,7 +87,7 @@ pub fn first_unknown<'a>(
     services: &ServiceBlocks<'a>,
 ) -> Result<Option<usize>, AllocError>
     requires { services.now ≡ templates.now }
-    ensures { IfOk result (IsFirstOf
+    ensures { IfOk result (IsFirst
         (IsBlockWith templates.now (has_unknown_name templates.now))) }
 {
     let blocks = services.objects();

@@ -8,7 +8,7 @@ use Rattle.lemmas.proofs.Elements.{Contains-cases, Contains-here, Contains-map, 
 use Rattle.lemmas.proofs.Searches.{texts-more}
 use Rattle.lemmas.proofs.Lists.{at-within}
 use Rattle.object_groups.specs.Objects.{is_object}
-use Rattle.object_names.specs.First.{IsFirst}
+use Rattle.object_groups.specs.First.{IsFirst}
 use Rattle.object_pairs.specs.Members.{HasService}
 use Rattle.object_pairs.specs.Wanted.{AreFound, AreWith, has, Keeps}
 use Rattle.object_reached.specs.declared.roles.Role.{Role}

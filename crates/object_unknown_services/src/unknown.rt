@@ -2,7 +2,7 @@
 
 ghost use Rattle.std.specs.Prelude.{◌≡◌, ◌↔◌, ◌<◌, ◌∷◌, [], length, true, false, IfOk, OnOk};
 ghost use Rattle.object_groups.specs.declared.groups.GroupKind.TheVariants.{HostGroups};
-ghost use Rattle.object_names.specs.First.{IsFirst};
+ghost use Rattle.object_groups.specs.First.{IsFirst};
 ghost use Rattle.object_pairs.specs.Wanted.{AreWith, Keeps};
 ghost use Rattle.object_unknown_services.specs.Unknown.{AreWantedBelow, HasUnknownService, IsWantedAt, IsWantedIn};
 ghost use Rattle.object_unknown_services.specs.Unknown.{LacksAny, LacksAt, LacksIn};

@@ -1,6 +1,6 @@
 use Rattle.std.proofs.Common.{List, subst, take_all}
 use Rattle.object_names.specs.declared.references.Reference.{Reference}
-use Rattle.object_names.specs.First.{IsFirst}
+use Rattle.object_groups.specs.First.{IsFirst}
 use Rattle.object_names.specs.Unknown.{HasUnknownAmong}
 use Rattle.object_names.proofs.UnknownLemmas.{none-yet, one-more}
 use Rattle.object_names.proofs.unknown.first_among.Goals as goal

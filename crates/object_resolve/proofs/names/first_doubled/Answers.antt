@@ -1,6 +1,6 @@
 use Rattle.std.proofs.Common.{sym, subst}
 use Rattle.std.specs.Prelude.{Option, ℕ}
-use Rattle.object_names.specs.First.{IsFirst}
+use Rattle.object_groups.specs.First.{IsFirst}
 use Rattle.object_resolve.specs.Names.{GivesDoubledService, IsDoubledAt}
 use Rattle.object_names.specs.Doubled as names
 use Rattle.object_resolve.proofs.NameLemmas.{either-first}

@@ -1,5 +1,6 @@
 use Rattle.std.proofs.Common.{subst}
 use Rattle.std.specs.Prelude.{ℕ, Option}
+use Rattle.object_groups.specs.First.{IsFirst}
 use Rattle.object_services.specs.Doubled as services
 use Rattle.object_resolve.proofs.NameLemmas.{first-of_service, no-service}
 use Rattle.object_resolve.proofs.names.first_doubled_service.Goals as goal
@@ -12,4 +13,4 @@ pub returns-clause-first : goal.returns-clause-first
 returns-clause-first c =
     first-of_service c.args.tables.now.objects c.args.tables.now.services c.in-Some.number c.objects.result.now c.place_of.result c.requires.services_are
     c.objects.ensures c.place_of.ensures
-    (subst (λ (n : Option ℕ). services.IsFirstOf (services.IsDoubled c.args.tables.now.services) n) c.in-Some.is c.in_ok-number.ensures.first)
+    (subst (λ (n : Option ℕ). IsFirst (services.IsDoubled c.args.tables.now.services) n) c.in-Some.is c.in_ok-number.ensures.first)

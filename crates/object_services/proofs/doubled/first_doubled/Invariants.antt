@@ -1,11 +1,11 @@
 use Rattle.std.proofs.Common.{◌≡◌}
+use Rattle.object_groups.specs.First.{IsFirst}
 use Rattle.object_services.specs.Alike.{IsDoubledBelow}
-use Rattle.object_services.specs.Doubled.{IsFirstOf}
 use Rattle.object_services.proofs.doubled.first_doubled.Given as goal
 
 -- The groups stay, and the first that is doubled of the descriptions so far.
 abbrev pub invariant-loop-first : goal.invariant-loop-first
 invariant-loop-first l = record {
   same : l.hosts ≡ l.initial.hosts;
-  below : IsFirstOf (IsDoubledBelow l.services l.first) l.doubled;
+  below : IsFirst (IsDoubledBelow l.services l.first) l.doubled;
 }

@@ -2,8 +2,8 @@ use Rattle.std.proofs.Common.{◌∙◌, ◌||◌, List, None, ap, eqb, get_or, 
 use Rattle.std.specs.List.{list_any}
 use Rattle.indexmap.specs.IndexSet.{contains}
 use Rattle.object_groups.specs.Objects.{objects_in, ObjectsOf}
+use Rattle.object_groups.specs.First.{IsFirst}
 use Rattle.object_services.specs.Alike.{SharesAmong}
-use Rattle.object_services.specs.Doubled.{IsFirstOf}
 use Rattle.object_services.specs.Hosts.{AreHosts}
 use Rattle.object_services.proofs.DoubledLemmas.{scanned-more, shares-here}
 use Rattle.object_services.proofs.doubled.first_sharing.Goals as goal
@@ -33,4 +33,4 @@ loop-member-preserved c =
 
 pub returns-clause-first : goal.returns-clause-first
 returns-clause-first c =
-    subst (λ (ms : List ℕ). IsFirstOf (SharesAmong c.args.services.now ms) None) (take_all c.loop-member.member-index c.args.numbers.now c.loop-member-test.false) c.loop-member.invariant.scanned.apart
+    subst (λ (ms : List ℕ). IsFirst (SharesAmong c.args.services.now ms) None) (take_all c.loop-member.member-index c.args.numbers.now c.loop-member-test.false) c.loop-member.invariant.scanned.apart

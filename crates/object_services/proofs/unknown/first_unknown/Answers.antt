@@ -1,8 +1,9 @@
 use Rattle.std.proofs.Common.{◌||◌, Bool, ℕ}
 use Rattle.std.specs.Prelude.{codes}
 use Rattle.object_groups.specs.Objects.{list_at, names_in}
+use Rattle.object_groups.specs.Names.{lacks_any}
 use Rattle.object_reader.specs.declared.block.BlockKind.TheVariants.{Host, HostGroup, ServiceGroup, Contact, ContactGroup}
-use Rattle.object_services.specs.Unknown.{lacks_any, lists_unknown}
+use Rattle.object_services.specs.Unknown.{lists_unknown}
 use Rattle.object_services.proofs.UnknownLemmas.{first-of-both}
 use Rattle.object_services.proofs.unknown.first_unknown.Goals as goal
 

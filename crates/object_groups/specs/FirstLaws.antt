@@ -1,7 +1,7 @@
 -- The first place of which something is said, and of which one or another thing is said.
 use Rattle.std.proofs.Common.{◌≡◌, ℕ, ◌<◌, ◌≤◌, Bool, true, false, cond, Option, Some, None, refl, sym, subst, ⊎_elim, ◌⊎◌, inl, inr, arith, leb-false, leb-true}
 use Rattle.std.specs.Prelude.{nat_le}
-use Rattle.object_names.specs.First.{IsFirst, lower}
+use Rattle.object_groups.specs.First.{IsFirst, lower}
 
 module _ (P Q : ℕ → Type 0) where
   by_order : (one other : ℕ) → IsFirst P (Some one) → IsFirst Q (Some other) → (c : Bool) → nat_le one other ≡ c → IsFirst (λ n. P n ⊎ Q n) (cond c (Some one) (Some other))
@@ -12,7 +12,7 @@ module _ (P Q : ℕ → Type 0) where
       let high : other < one = leb-false one other is in
       (inr fq.0, (λ k early either. ⊎_elim (λ (p : P k). fp.1 k (omega (arith, high, early)) p) (λ (q : Q k). fq.1 k early q) either))
 
-  first-lower : (first second : Option ℕ) → IsFirst P first → IsFirst Q second → IsFirst (λ n. P n ⊎ Q n) (lower first second)
+  pub first-lower : (first second : Option ℕ) → IsFirst P first → IsFirst Q second → IsFirst (λ n. P n ⊎ Q n) (lower first second)
   first-lower None None fp fq = λ n either. ⊎_elim (λ (p : P n). fp n p) (λ (q : Q n). fq n q) either
   first-lower None (Some other) fp fq = (inr fq.0, (λ k early either. ⊎_elim (λ (p : P k). fp k p) (λ (q : Q k). fq.1 k early q) either))
   first-lower (Some one) None fp fq = (inl fp.0, (λ k early either. ⊎_elim (λ (p : P k). fp.1 k early p) (λ (q : Q k). fq k q) either))

@@ -1,7 +1,7 @@
 //! The first of two places that may be there.
 
 ghost use Rattle.std.specs.Prelude.{◌≡◌};
-ghost use Rattle.object_names.specs.First.{lower};
+ghost use Rattle.object_groups.specs.First.{lower};
 
 /// The lower of two places that may be there.
 pub fn lower(first: Option<usize>, second: Option<usize>) -> Option<usize>
