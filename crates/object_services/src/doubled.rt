@@ -17,6 +17,7 @@ ghost use Rattle.object_services.specs.Doubled.{IsDoubled};
 use crate::blocks::ServiceBlocks;
 use graph::edges::{Edge, Graph};
 use indexmap::IndexSet;
+use object_groups::first::lower;
 use object_groups::groups::Groups;
 use object_groups::names::Names;
 use std::alloc::{AllocError, Global};
