@@ -9,7 +9,7 @@ ghost use Rattle.graph.specs.Edges.{ends_of, IsWithin};
 ghost use Rattle.indexmap.specs.IndexSet.{contains};
 ghost use Rattle.object_groups.specs.declared.groups.GroupKind.TheVariants.{HostGroups};
 ghost use Rattle.object_groups.specs.Objects.{objects_in};
-ghost use Rattle.object_groups.specs.First.{IsFirst, lower};
+ghost use Rattle.object_groups.specs.First.{IsFirst};
 ghost use Rattle.object_reader.specs.declared.block.BlockKind.TheVariants.{Service};
 ghost use Rattle.object_services.specs.Alike.{alike, AreAlike, SharesAmong};
 ghost use Rattle.object_services.specs.Doubled.{IsDoubled};
