@@ -28,14 +28,7 @@ found-in p [] x none = absurd (false≢true (ap is_some none))
 found-in {X} p (y ∷ ys) x is = by_test (p y) refl is (λ rest. found-in p ys x rest)
   where
     by_test : (b : Bool) → p y ≡ b → cond b (Some y) (find p ys) ≡ Some x → (find p ys ≡ Some x → Contains ys x × (p x ≡ true)) → Contains (y ∷ ys) x × (p x ≡ true)
-    by_test true passes here more = let same = some-same y x here in (subst (λ (z : X). Contains (y ∷ ys) z) same (Contains-here y ys), ap p (sym same) ∙ passes)
-      where
-        or_else : Option X → X → X
-        or_else None z = z
-        or_else (Some w) z = w
-
-        some-same : (v w : X) → Some v ≡ Some w → v ≡ w
-        some-same v w same = ap (λ found. or_else found v) same
+    by_test true passes here more = let same : y ≡ x = cc in (subst (λ (z : X). Contains (y ∷ ys) z) same (Contains-here y ys), ap p (sym same) ∙ passes)
     by_test false fails later more = let rest = more later in (Contains-later y x ys rest.0, rest.1)
 
 Contains-reverse : {X : Type 0} (xs : List X) (x : X) → Contains (reverse xs) x → Contains xs x

@@ -1,7 +1,8 @@
 //! The edges of the graph in which members are found.
 
-ghost use Rattle.std.specs.Prelude.{◌≡◌, ◌+◌, ◌<◌, ◌^◌, ◌++◌, ◌∷◌, [], length};
-ghost use Rattle.std.specs.Prelude.{map, IfOk, IfSome, OnOk};
+ghost use Rattle.std.specs.Prelude.{◌≡◌, ◌+◌, ◌<◌, ◌^◌, ◌++◌, ◌∷◌, [], length, List};
+ghost use Rattle.std.specs.Prelude.{map, IfOk, IfSome, OnErr, OnOk};
+ghost use Rattle.graph.specs.declared.edges.Edge.{Edge};
 ghost use Rattle.std.specs.Option.{option_to_list};
 ghost use Rattle.object_groups.specs.Names.{numbers_of};
 ghost use Rattle.object_groups.specs.Nodes.{all_groups, all_objects, edge, edges_of_group, edges_of_object};
@@ -60,9 +61,11 @@ fn nodes_of<'a>(
     named_nodes(alloc, names, entries, first)
 }
 
-/// Adds edges from a node to others. A refused growth leaves those that were added.
+/// Adds edges from a node to others. A refused growth leaves what was there, and some of the edges after it.
 pub fn push_from(edges: &mut Vec<Edge>, from: u32, nodes: &[u32]) -> Result<(), AllocError>
-    ensures { OnOk result (edges.new.items ≡ edges.old.items ++ map (edge from) nodes.now) }
+    ensures edges { OnOk result (edges.new.items ≡ edges.old.items ++ map (edge from) nodes.now) }
+    ensures left { OnErr result
+        ((more : List Edge) × (edges.new.items ≡ edges.old.items ++ more)) }
 {
     for to in nodes {
         edges.push(Edge { from, to: *to })?;
@@ -70,10 +73,12 @@ pub fn push_from(edges: &mut Vec<Edge>, from: u32, nodes: &[u32]) -> Result<(), 
     Ok(())
 }
 
-/// Adds edges from others to a node. A refused growth leaves those that were added.
+/// Adds edges from others to a node. A refused growth leaves what was there, and some of the edges after it.
 pub fn push_to(edges: &mut Vec<Edge>, nodes: &[u32], to: u32) -> Result<(), AllocError>
-    ensures { OnOk result (edges.new.items
+    ensures edges { OnOk result (edges.new.items
         ≡ edges.old.items ++ map (λ from. edge from to) nodes.now) }
+    ensures left { OnErr result
+        ((more : List Edge) × (edges.new.items ≡ edges.old.items ++ more)) }
 {
     for from in nodes {
         edges.push(Edge { from: *from, to })?;

@@ -1,8 +1,8 @@
 //! The numbers of the objects that lists of objects and of groups reach.
 
-ghost use Rattle.std.specs.Prelude.{◌≡◌, ℕ, ◌++◌, ◌↔◌, Contains, IfOk, OnOk};
+ghost use Rattle.std.specs.Prelude.{◌≡◌, ℕ, ◌++◌, ◌↔◌, true, false, Contains, IfOk, OnErr, OnOk};
 ghost use Rattle.std.specs.List.{range_with_len};
-ghost use Rattle.std.specs.List.Sorted.{IsStrictlyIncreasing};
+ghost use Rattle.std.specs.List.Sorted.{IsPermutation, IsStrictlyIncreasing};
 ghost use Rattle.object_groups.specs.Groups.{grouping};
 ghost use Rattle.object_groups.specs.Members.{IsMember};
 ghost use Rattle.object_groups.specs.Names.{Lists};
@@ -49,11 +49,12 @@ fn push_members(numbers: &mut Vec<usize>, members: &[u32]) -> Result<(), AllocEr
     Ok(())
 }
 
-/// Puts the numbers in order, each once. Want of memory is the only error; it leaves the numbers in any order.
+/// Puts the numbers in order, each once. Want of memory is the only error; it leaves the same numbers, in any order.
 pub fn put_in_order(numbers: &mut Vec<usize>) -> Result<(), AllocError>
     ensures rising { OnOk result (IsStrictlyIncreasing numbers.new.items) }
     ensures same { OnOk result ((k : ℕ)
         → Contains numbers.new.items k ↔ Contains numbers.old.items k) }
+    ensures left { OnErr result (IsPermutation numbers.old.items numbers.new.items) }
 {
     numbers.sort()?;
     numbers.dedup();
@@ -61,10 +62,13 @@ pub fn put_in_order(numbers: &mut Vec<usize>) -> Result<(), AllocError>
 }
 
 /// Puts the numbers in order, each once, where there are so many. Want of memory is the only error; it leaves the
-/// numbers in any order.
+/// same numbers, in any order.
 pub fn shorten(numbers: &mut Vec<usize>, many: bool) -> Result<(), AllocError>
-    ensures { OnOk result ((k : ℕ)
+    ensures rising { many ≡ true → OnOk result (IsStrictlyIncreasing numbers.new.items) }
+    ensures kept { many ≡ false → numbers.new ≡ numbers.old }
+    ensures same { OnOk result ((k : ℕ)
         → Contains numbers.new.items k ↔ Contains numbers.old.items k) }
+    ensures left { OnErr result (IsPermutation numbers.old.items numbers.new.items) }
 {
     if many {
         put_in_order(numbers)?;

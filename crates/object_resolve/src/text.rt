@@ -26,7 +26,8 @@ fn blocks_of(alloc: Global, text: Vec<u8>) -> Result<Sequence<Block>, ReadFault>
     ensures blocks { IfOk result (λ blocks. IsObjectText text.items blocks) }
     ensures only { (blocks : List Block)
         → IsObjectText text.items blocks → Gives result (Ok blocks) }
-    ensures fault { IfErr result (λ fault. (fault ≡ ReadFault.NoMemory) ⊎ IsRefused text.items fault) }
+    ensures fault { IfErr result (λ fault.
+        (fault ≡ ReadFault.NoMemory) ⊎ IsRefused text.items fault) }
     ensures refused { (fault : ReadFault) → IsRefused text.items fault → Gives result (Err fault) }
 {
     read(alloc, &text)
@@ -35,9 +36,9 @@ fn blocks_of(alloc: Global, text: Vec<u8>) -> Result<Sequence<Block>, ReadFault>
 /// The configuration that object text gives, or the fault of the text: that of its first line with a fault, and
 /// where it is blocks, that of the first block with a fault: first of templates, then of the values of each
 /// block, then of names, of loops of exclusions, of loops of dependencies and of limits, each over all blocks in file
-/// order. Blocks of `hostextinfo` and `serviceextinfo` say nothing of
-/// notifications and are passed over. The work and the memory grow with the bytes, what blocks inherit, and the
-/// services, contacts, escalations and dependencies that they give. The text is dropped as soon as its blocks are read.
+/// order. Blocks of `hostextinfo` and `serviceextinfo` say nothing of notifications and are passed over. The work and
+/// the memory grow with the bytes, what blocks inherit, and the services, contacts, escalations and dependencies that
+/// they give. The text is dropped as soon as its blocks are read.
 pub fn load(alloc: Global, text: Vec<u8>) -> Result<Config, LoadFault>
     // What it gives is the text's configuration, which is accepted.
     ensures config { IfOk result (λ config. IsTextOf config text.items) }

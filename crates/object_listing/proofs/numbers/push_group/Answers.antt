@@ -9,4 +9,4 @@ returns-clause-added c =
     adds-members (IsMember (grouping c.args.groups.now.blocks c.args.groups.now.kind) c.args.group) c.args.numbers.now.items c.in_ok-members.members.items _ _
     c.in_ok-members.ensures.members.exactly
     (c.in_ok-push_members.ensures ∙ ap (λ (members : List ℕ). c.args.numbers.now.items ++ members) c.as_slice.ensures.value)
-    c.in_ok-shorten.ensures
+    c.in_ok-shorten.ensures.same

@@ -1,4 +1,4 @@
 use Rattle.object_listing.proofs.numbers.shorten.Goals as goal
 
-pub returns-else-many : goal.returns-else-many
-returns-else-many c = λ k. ((λ at. at), (λ at. at))
+pub returns-else-many-clause-same : goal.returns-else-many-clause-same
+returns-else-many-clause-same c = λ k. ((λ at. at), (λ at. at))

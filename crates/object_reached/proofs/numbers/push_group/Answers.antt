@@ -9,4 +9,4 @@ returns-clause-added c = λ lists are.
     adds-list (IsMember (grouping c.args.groups.now lists)) c.args.group c.args.numbers.now.items c.in_ok-members.members.items _ _
     (c.in_ok-members.ensures.members lists are).exactly
     (c.in_ok-extend_from_slice.ensures.items ∙ ap (λ (members : List ℕ). c.args.numbers.now.items ++ members) c.as_slice.ensures.value)
-    c.in_ok-shorten.ensures
+    c.in_ok-shorten.ensures.same
