@@ -5,7 +5,8 @@ use crate::given::{DOWN, DOWN_TEXT, are, are_receipts, check, letter};
 use channel::letter::Letter;
 use channel::memory::MemoryChannel;
 use channel::{Channel, Kind};
-use channel_kinds::device::DeviceChannel;
+use channel_kinds::device::AnyDevice;
+use channel_kinds::device_channel::DeviceChannel;
 use channel_kinds::mailbox::Mailbox;
 use channel_kinds::pager::Pager;
 use channel_kinds::spawned::Spawned;
@@ -49,7 +50,7 @@ fn a_channel_in_memory(rt: HostRuntime) -> Result<(), Fail> {
 #[test]
 fn a_pager(rt: HostRuntime) -> Result<(), Fail> {
     let down = letter(rt.alloc(), DOWN)?;
-    let channel = Pager::new(rt.alloc(), Agreeing { reads: 0 });
+    let channel = DeviceChannel::new(rt.alloc(), Pager::new(Agreeing { reads: 0 }));
     let mut channel: Box<dyn Channel> = Box::new(rt.alloc(), channel)?;
     drive(&rt, &mut channel, &down, Kind::Pager, 1_024);
     Ok(())
@@ -58,7 +59,8 @@ fn a_pager(rt: HostRuntime) -> Result<(), Fail> {
 #[test]
 fn a_program(rt: HostRuntime) -> Result<(), Fail> {
     let down = letter(rt.alloc(), DOWN)?;
-    let channel = Spawned::new(rt.alloc(), rt, "/bin/cat", &[])?;
+    let device = Spawned::new(rt.alloc(), rt, "/bin/cat", &[])?;
+    let channel = DeviceChannel::new(rt.alloc(), device);
     let mut channel: Box<dyn Channel> = Box::new(rt.alloc(), channel)?;
     drive(&rt, &mut channel, &down, Kind::Spawned, 16_384);
     Ok(())
@@ -81,7 +83,7 @@ fn check_written(rt: &impl Abort, alloc: Global, mut reader: PipeReader) -> io::
 fn a_mailbox(rt: HostRuntime) -> Result<(), Fail> {
     let down = letter(rt.alloc(), DOWN)?;
     let (reader, writer) = io::pipe(&rt)?;
-    let channel = Mailbox::new(rt.alloc(), writer);
+    let channel = DeviceChannel::new(rt.alloc(), Mailbox::new(writer));
     let mut channel: Box<dyn Channel> = Box::new(rt.alloc(), channel)?;
     drive(&rt, &mut channel, &down, Kind::Mailbox, 65_536);
     drop(channel);
@@ -89,14 +91,15 @@ fn a_mailbox(rt: HostRuntime) -> Result<(), Fail> {
     Ok(())
 }
 
-/// A channel of one of the three kinds.
-type OneOfThree<R> = DeviceChannel<PipeWriter, Agreeing, R>;
+/// A device of one of the three kinds.
+type OneOfThree<R> = AnyDevice<PipeWriter, Agreeing, R>;
 
 #[test]
 fn a_mailbox_as_one_of_three(rt: HostRuntime) -> Result<(), Fail> {
     let down = letter(rt.alloc(), DOWN)?;
     let (reader, writer) = io::pipe(&rt)?;
-    let channel: OneOfThree<HostRuntime> = DeviceChannel::Mailbox(Mailbox::new(rt.alloc(), writer));
+    let device: OneOfThree<HostRuntime> = AnyDevice::Mailbox(Mailbox::new(writer));
+    let channel = DeviceChannel::new(rt.alloc(), device);
     let mut channel: Box<dyn Channel> = Box::new(rt.alloc(), channel)?;
     drive(&rt, &mut channel, &down, Kind::Mailbox, 65_536);
     drop(channel);
@@ -107,10 +110,8 @@ fn a_mailbox_as_one_of_three(rt: HostRuntime) -> Result<(), Fail> {
 #[test]
 fn a_pager_as_one_of_three(rt: HostRuntime) -> Result<(), Fail> {
     let down = letter(rt.alloc(), DOWN)?;
-    let channel: OneOfThree<HostRuntime> = DeviceChannel::Pager(Pager::new(
-        rt.alloc(),
-        Agreeing { reads: 0 },
-    ));
+    let device: OneOfThree<HostRuntime> = AnyDevice::Pager(Pager::new(Agreeing { reads: 0 }));
+    let channel = DeviceChannel::new(rt.alloc(), device);
     let mut channel: Box<dyn Channel> = Box::new(rt.alloc(), channel)?;
     drive(&rt, &mut channel, &down, Kind::Pager, 1_024);
     Ok(())
@@ -119,12 +120,13 @@ fn a_pager_as_one_of_three(rt: HostRuntime) -> Result<(), Fail> {
 #[test]
 fn a_program_as_one_of_three(rt: HostRuntime) -> Result<(), Fail> {
     let down = letter(rt.alloc(), DOWN)?;
-    let channel: OneOfThree<HostRuntime> = DeviceChannel::Spawned(Spawned::new(
+    let device: OneOfThree<HostRuntime> = AnyDevice::Spawned(Spawned::new(
         rt.alloc(),
         rt,
         "/bin/cat",
         &[],
     )?);
+    let channel = DeviceChannel::new(rt.alloc(), device);
     let mut channel: Box<dyn Channel> = Box::new(rt.alloc(), channel)?;
     drive(&rt, &mut channel, &down, Kind::Spawned, 16_384);
     Ok(())

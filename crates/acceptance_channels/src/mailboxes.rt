@@ -6,6 +6,7 @@ use crate::given::{
 };
 use channel::letter::Letter;
 use channel::{Channel, Fault};
+use channel_kinds::device_channel::DeviceChannel;
 use channel_kinds::mailbox::Mailbox;
 use std::alloc::{AllocError, Global};
 use std::io::Write;
@@ -16,9 +17,9 @@ const CLOSED: &str = "-- closed\n";
 #[test]
 fn letter_bytes(rt: HostRuntime) -> Result<(), AllocError> {
     let down = letter(rt.alloc(), DOWN)?;
-    let mut mailbox = Mailbox::new(rt.alloc(), Vec::new(rt.alloc()));
+    let mut mailbox = DeviceChannel::new(rt.alloc(), Mailbox::new(Vec::new(rt.alloc())));
     takes(&rt, &mut mailbox, &down);
-    let written = mailbox.close();
+    let written = mailbox.into_device().close();
     check(&rt, written.len() == 89, "89 bytes");
     check(
         &rt,
@@ -29,13 +30,17 @@ fn letter_bytes(rt: HostRuntime) -> Result<(), AllocError> {
 }
 
 /// A new mailbox takes the letter.
-fn takes<W: Write + Send + Drop>(rt: &impl Abort, mailbox: &mut Mailbox<W>, down: &Letter) {
+fn takes<W: Write + Send + Drop>(
+    rt: &impl Abort,
+    mailbox: &mut DeviceChannel<Mailbox<W>>,
+    down: &Letter,
+) {
     answers(rt, mailbox, down, Ok(()), "the letter is taken");
     check(rt, has(mailbox, &[DOWN], 0), "its receipt");
 }
 
 /// Two letters, by one call and a flush each.
-fn two_letters(rt: &impl Abort, mailbox: &mut Mailbox<Device>, letters: &Letters) {
+fn two_letters(rt: &impl Abort, mailbox: &mut DeviceChannel<Mailbox<Device>>, letters: &Letters) {
     answers(rt, mailbox, &letters.down, Ok(()), "the first is taken");
     answers(rt, mailbox, &letters.up, Ok(()), "the second is taken");
     check(rt, has(mailbox, &[DOWN, UP], 0), "two receipts");
@@ -44,9 +49,9 @@ fn two_letters(rt: &impl Abort, mailbox: &mut Mailbox<Device>, letters: &Letters
 #[test]
 fn letters_one_after_another(rt: HostRuntime) -> Result<(), AllocError> {
     let letters = Letters::new(rt.alloc())?;
-    let mut mailbox = Mailbox::new(rt.alloc(), Device::new(rt.alloc()));
+    let mut mailbox = DeviceChannel::new(rt.alloc(), Mailbox::new(Device::new(rt.alloc())));
     two_letters(&rt, &mut mailbox, &letters);
-    let device = mailbox.close();
+    let device = mailbox.into_device().close();
     check(
         &rt,
         are(&device.held, &[DOWN_TEXT, UP_TEXT, CLOSED]),
@@ -63,21 +68,25 @@ fn letters_one_after_another(rt: HostRuntime) -> Result<(), AllocError> {
 #[test]
 fn a_drop_writes_the_closing_line(rt: HostRuntime) {
     let mut device = Device::new(rt.alloc());
-    drop(Mailbox::new(rt.alloc(), &mut device));
+    drop(Mailbox::new(&mut device));
     check(&rt, are(&device.held, &[CLOSED]), "the closing line");
 }
 
 /// A mailbox over this device is given a letter: what it answers, the failures before the close, and how many
 /// bytes of the letter and of the closing line the device holds at last.
 fn try_device(rt: &impl Abort, alloc: Global, device: Device, letter: &Letter, row: Row) {
-    let mut mailbox = Mailbox::new(alloc, device);
+    let mut mailbox = DeviceChannel::new(alloc, Mailbox::new(device));
     answers(rt, &mut mailbox, letter, row.answer, "the answer");
     check(rt, keeps(&mailbox, row.answer), "what is kept");
-    check(rt, holds(&mailbox.close(), row), "what the device holds");
+    check(
+        rt,
+        holds(&mailbox.into_device().close(), row),
+        "what the device holds",
+    );
 }
 
 /// Whether a mailbox keeps of one letter what this answer says.
-fn keeps(mailbox: &Mailbox<Device>, answer: Result<(), Fault>) -> bool {
+fn keeps(mailbox: &DeviceChannel<Mailbox<Device>>, answer: Result<(), Fault>) -> bool {
     if answer.is_ok() {
         has(mailbox, &[DOWN], 0)
     } else {
@@ -193,10 +202,14 @@ fn try_long(
     answer: Result<(), Fault>,
     written: usize,
 ) {
-    let mut mailbox = Mailbox::new(alloc, Vec::new(alloc));
+    let mut mailbox = DeviceChannel::new(alloc, Mailbox::new(Vec::new(alloc)));
     answers(rt, &mut mailbox, letter, answer, "the answer");
     check(rt, mailbox.failures() == 0, "no failure");
-    check(rt, mailbox.close().len() == written, "how many bytes");
+    check(
+        rt,
+        mailbox.into_device().close().len() == written,
+        "how many bytes",
+    );
 }
 
 #[test]

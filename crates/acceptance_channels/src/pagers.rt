@@ -6,6 +6,7 @@ use crate::given::{
 };
 use channel::letter::Letter;
 use channel::{Channel, Fault};
+use channel_kinds::device_channel::DeviceChannel;
 use channel_kinds::pager::Pager;
 use std::alloc::{AllocError, Global};
 use std::process::Abort;
@@ -13,7 +14,7 @@ use std::process::Abort;
 const FAILED: Result<(), Fault> = Err(Fault::Device);
 
 /// The first letter is taken, the second is refused, and then none is.
-fn talk(rt: &impl Abort, pager: &mut Pager<Peer>, letters: &Letters) {
+fn talk(rt: &impl Abort, pager: &mut DeviceChannel<Pager<Peer>>, letters: &Letters) {
     answers(rt, pager, &letters.down, Ok(()), "the first is taken");
     answers(rt, pager, &letters.up, FAILED, "the second is refused");
     answers(rt, pager, &letters.up, FAILED, "the pager is over");
@@ -23,9 +24,9 @@ fn talk(rt: &impl Abort, pager: &mut Pager<Peer>, letters: &Letters) {
 #[test]
 fn pager_dialogue(rt: HostRuntime) -> Result<(), AllocError> {
     let letters = Letters::new(rt.alloc())?;
-    let mut pager = Pager::new(rt.alloc(), Peer::new(rt.alloc(), b"OK\nNO\n"));
+    let mut pager = DeviceChannel::new(rt.alloc(), Pager::new(Peer::new(rt.alloc(), b"OK\nNO\n")));
     talk(&rt, &mut pager, &letters);
-    let peer = pager.close();
+    let peer = pager.into_device().close();
     let told = ["PAGE 79\n", DOWN_TEXT, "PAGE 78\n", UP_TEXT, "BYE\n"];
     check(&rt, are(&peer.told.held, &told), "what the peer is told");
     check(
@@ -39,7 +40,7 @@ fn pager_dialogue(rt: HostRuntime) -> Result<(), AllocError> {
 #[test]
 fn a_drop_writes_the_farewell(rt: HostRuntime) {
     let mut peer = Peer::new(rt.alloc(), b"");
-    drop(Pager::new(rt.alloc(), &mut peer));
+    drop(Pager::new(&mut peer));
     check(&rt, are(&peer.told.held, &["BYE\n"]), "the farewell");
 }
 
@@ -51,14 +52,19 @@ fn try_peer(
     letter: &Letter,
     answer: Result<(), Fault>,
 ) -> Peer {
-    let mut pager = Pager::new(alloc, peer);
+    let mut pager = DeviceChannel::new(alloc, Pager::new(peer));
     answers(rt, &mut pager, letter, answer, "the answer");
     try_again(rt, &mut pager, letter, answer);
-    pager.close()
+    pager.into_device().close()
 }
 
 /// What is kept of the first letter; after a failure each letter is one failure more.
-fn try_again(rt: &impl Abort, pager: &mut Pager<Peer>, letter: &Letter, answer: Result<(), Fault>) {
+fn try_again(
+    rt: &impl Abort,
+    pager: &mut DeviceChannel<Pager<Peer>>,
+    letter: &Letter,
+    answer: Result<(), Fault>,
+) {
     if answer.is_ok() {
         check(rt, has(pager, &[DOWN], 0), "the receipt");
         return;
@@ -151,7 +157,12 @@ fn a_stream_that_fails_when_written(rt: HostRuntime) -> Result<(), AllocError> {
 }
 
 /// Gives a letter that is too long, and then one that just isn't.
-fn try_long(rt: &impl Abort, pager: &mut Pager<Peer>, too_long: &Letter, longest: &Letter) {
+fn try_long(
+    rt: &impl Abort,
+    pager: &mut DeviceChannel<Pager<Peer>>,
+    too_long: &Letter,
+    longest: &Letter,
+) {
     answers(rt, pager, too_long, Err(Fault::TooLong), "too long");
     answers(rt, pager, longest, Ok(()), "it spoils nothing");
     check(rt, pager.failures() == 0, "no failure");
@@ -161,8 +172,12 @@ fn try_long(rt: &impl Abort, pager: &mut Pager<Peer>, too_long: &Letter, longest
 fn a_text_that_is_too_long(rt: HostRuntime) -> Result<(), AllocError> {
     let longest = long_letter(rt.alloc(), 1_024)?;
     let too_long = long_letter(rt.alloc(), 1_025)?;
-    let mut pager = Pager::new(rt.alloc(), Peer::new(rt.alloc(), b"OK\n"));
+    let mut pager = DeviceChannel::new(rt.alloc(), Pager::new(Peer::new(rt.alloc(), b"OK\n")));
     try_long(&rt, &mut pager, &too_long, &longest);
-    check(&rt, pager.close().told.held.len() == 1_038, "one page");
+    check(
+        &rt,
+        pager.into_device().close().told.held.len() == 1_038,
+        "one page",
+    );
     Ok(())
 }

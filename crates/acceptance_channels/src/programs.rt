@@ -3,6 +3,7 @@
 use crate::given::{DOWN, check, give, has, letter, long_letter};
 use channel::letter::Letter;
 use channel::{Channel, Fault};
+use channel_kinds::device_channel::DeviceChannel;
 use channel_kinds::spawned::Spawned;
 use std::alloc::AllocError;
 use std::process::{Abort, Processes, SystemProcess};
@@ -16,7 +17,8 @@ fn run<R: AllocGlobal + Abort + Processes<Started = SystemProcess> + Copy + Send
     arguments: &[&str],
     letter: &Letter,
 ) -> Result<Result<(), Fault>, AllocError> {
-    let mut channel = Spawned::new(rt.alloc(), *rt, program, arguments)?;
+    let device = Spawned::new(rt.alloc(), *rt, program, arguments)?;
+    let mut channel = DeviceChannel::new(rt.alloc(), device);
     let answer = give(rt, &mut channel, letter);
     check(rt, keeps(&channel, letter, answer), "what is kept");
     Ok(answer)

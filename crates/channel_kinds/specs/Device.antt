@@ -1,24 +1,29 @@
--- What a channel of one of the three kinds is to its callers.
-use Rattle.std.specs.Prelude.{ℕ}
-use Rattle.channel.specs.Record.{Record}
+-- What a device of one of the three kinds is to its callers.
+use Rattle.std.specs.Prelude.{◌≡◌, ℕ, Bool, List, Option}
 use Rattle.channel.specs.declared.Kind.{Kind}
 use Rattle.channel.specs.declared.Kind.TheVariants as kinds
-use Rattle.channel_kinds.specs.declared.device.DeviceChannel.{DeviceChannel}
-use Rattle.channel_kinds.specs.declared.device.DeviceChannel.TheVariants.{Mailbox, Pager, Spawned}
-
--- what it keeps
-abbrev pub kept_of : {W S R : Type 0} → DeviceChannel W S R → Record
-kept_of (Mailbox mailbox) = mailbox.kept
-kept_of (Pager pager) = pager.kept
-kept_of (Spawned spawned) = spawned.kept
+use Rattle.channel_kinds.specs.declared.device.AnyDevice.{AnyDevice}
+use Rattle.channel_kinds.specs.declared.device.AnyDevice.TheVariants.{Mailbox, Pager, Spawned}
+use Rattle.channel_kinds.specs.Mailbox.{Mail, Posts}
+use Rattle.channel_kinds.specs.Pager.{Paged, Pages}
 
 -- how many bytes a text has at most
-abbrev pub limit_of : {W S R : Type 0} → DeviceChannel W S R → ℕ
+abbrev pub limit_of : {W S R : Type 0} → AnyDevice W S R → ℕ
 limit_of (Mailbox mailbox) = 65536
 limit_of (Pager pager) = 1024
 limit_of (Spawned spawned) = 16384
 
-abbrev pub kind_of : {W S R : Type 0} → DeviceChannel W S R → Kind
+abbrev pub kind_of : {W S R : Type 0} → AnyDevice W S R → Kind
 kind_of (Mailbox mailbox) = kinds.Mailbox
 kind_of (Pager pager) = kinds.Pager
 kind_of (Spawned spawned) = kinds.Spawned
+
+-- what a text makes of it: it stays of its kind, and does what the one that it holds does
+abbrev pub sends_of : {W S R : Type 0} → (contents : W → Option (List ℕ))
+    → (asked remaining : S → Option (List ℕ))
+    → (old : AnyDevice W S R) → (text : List ℕ) → (is_taken : Bool) → (new : AnyDevice W S R) → Type 0
+sends_of {W} contents asked remaining (Mailbox old) text is_taken new =
+    (mailbox : Mail W) × (new ≡ Mailbox mailbox) × Posts contents old text is_taken mailbox
+sends_of {W} {S} contents asked remaining (Pager old) text is_taken new =
+    (pager : Paged S) × (new ≡ Pager pager) × Pages asked remaining old text is_taken pager
+sends_of contents asked remaining (Spawned old) text is_taken new = new ≡ Spawned old

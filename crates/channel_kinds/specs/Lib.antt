@@ -1,5 +1,6 @@
 pub mod Answer
 pub mod Device
+pub mod DeviceChannel
 pub mod Mailbox
 pub mod Pager
 pub mod Spawned

@@ -1,15 +1,13 @@
 -- What a pager is to its callers, and what goes between it and its peer.
-use Rattle.std.specs.Prelude.{◌≡◌, ℕ, Bool, false, ◌⊎◌, List, [], ◌∷◌, ◌++◌, codes, decimal, length, Option}
+use Rattle.std.specs.Prelude.{◌≡◌, ℕ, Bool, false, not, IsTrue, ◌⊎◌, List, [], ◌∷◌, ◌++◌, codes, decimal, length, Option}
 use Rattle.std.specs.Io.KnownBytes.{Appends}
-use Rattle.channel.specs.Record.{Record}
 use Rattle.channel_kinds.specs.Answer.{IsHeard}
 use Rattle.written.specs.Written.{WritesFront}
 
--- the stream to its peer, whether it failed once, and what it keeps
+-- the stream to its peer, and whether it failed once
 pub record Paged (S : Type 0) : Type 0 where
   pub stream : S
   pub is_over : Bool
-  pub kept : Record
 
 -- what is written for a text: how many bytes it has, and the text
 abbrev pub page_of : List ℕ → List ℕ
@@ -26,3 +24,12 @@ Talks {S} contents remaining old new text is_taken =
     ((asked : S) × Appends (contents old) (contents asked) (page_of text)
     × IsHeard (remaining asked) (remaining new) is_taken)
     ⊎ (WritesFront (contents old) (contents new) (page_of text) × (is_taken ≡ false))
+
+-- The peer is asked, and the pager is over where it doesn't take the text. One that is over refuses each text, and
+-- leaves the stream alone.
+pub record Pages {S : Type 0} (contents remaining : S → Option (List ℕ))
+    (old : Paged S) (text : List ℕ) (is_taken : Bool) (new : Paged S) : Type 0 where
+  pub talks : old.is_over ≡ false
+      → Talks contents remaining old.stream new.stream text is_taken
+  pub over : IsTrue old.is_over → (is_taken ≡ false) × (new.stream ≡ old.stream)
+  pub spoilt : new.is_over ≡ not is_taken

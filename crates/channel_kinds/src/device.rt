@@ -1,20 +1,48 @@
-//! A channel of one of the three kinds, for a caller that learns the kind as it runs.
+//! What takes the texts of letters, and a device of one of the three kinds, for a caller that learns the kind as it runs.
 
-ghost use Rattle.channel_kinds.specs.Device.{kept_of, kind_of, limit_of};
+ghost use Rattle.std.specs.Prelude.{◌≡◌, ◌≤◌, length};
+ghost use Rattle.channel_kinds.specs.Device.{kind_of, limit_of, sends_of};
 
 use crate::mailbox::Mailbox;
 use crate::pager::Pager;
 use crate::spawned::Spawned;
-use channel::letter::Letter;
-use channel::{Channel, Fault, Kind, Receipt};
-use std::alloc::AllocError;
+use channel::Kind;
 use std::io::{Read, Write};
 use std::process::{Processes, SystemProcess};
 
-/// A mailbox over a writer, a pager over a stream, or a program that is started for each letter. It does what the channel that
+/// What takes the texts of letters.
+pub trait TextDevice: Drop {
+    ghost use Rattle.std.specs.Prelude.{ℕ, Bool, List};
+    ghost use Rattle.channel.specs.declared.Kind.{Kind};
+
+    ghost kind: { Self → Kind };
+
+    // How many bytes a text has at most.
+    ghost limit: { Self → ℕ };
+
+    // What a text of these bytes makes of it, and whether it took the text.
+    ghost sends: { Self → List ℕ → Bool → Self → Type 0 };
+
+    /// What kind of channel it makes. It never changes.
+    fn kind(&self) -> Kind
+        ensures { result ≡ kind self.now };
+
+    /// How many bytes a text has at most. It never changes.
+    fn limit(&self) -> u64
+        ensures { result ≡ limit self.now };
+
+    /// Hands a text over, and tells whether it was taken.
+    fn send(&mut self, text: &[u8]) -> bool
+        requires { length text.now ≤ limit self.old }
+        ensures sends { sends self.old text.now result self.new }
+        ensures limit { limit self.new ≡ limit self.old }
+        ensures kind { kind self.new ≡ kind self.old };
+}
+
+/// A mailbox over a writer, a pager over a stream, or a program that is started for each letter. It does what the device that
 /// it holds does, and nothing else.
 #[derive(Drop)]
-pub enum DeviceChannel<
+pub enum AnyDevice<
     W: Write + Drop,
     S: Read + Write + Drop,
     R: Processes<Started = SystemProcess> + Drop,
@@ -25,73 +53,37 @@ pub enum DeviceChannel<
 }
 
 impl<
-    W: Write + Send + Drop,
-    S: Read + Write + Send + Drop,
-    R: Processes<Started = SystemProcess> + Send + Drop,
-> Channel for DeviceChannel<W, S, R> {
-    ghost taken = { λ s. (kept_of s).taken };
-
-    ghost room = { λ s. (kept_of s).room };
-
-    ghost failures = { λ s. (kept_of s).failures };
+    W: Write + Drop,
+    S: Read + Write + Drop,
+    R: Processes<Started = SystemProcess> + Drop,
+> TextDevice for AnyDevice<W, S, R> {
+    ghost kind = { kind_of };
 
     ghost limit = { limit_of };
 
-    ghost kind = { kind_of };
+    ghost sends = { sends_of W.contents S.contents S.remaining };
 
     fn kind(&self) -> Kind {
         match self {
-            DeviceChannel::Mailbox(channel) => channel.kind(),
-            DeviceChannel::Pager(channel) => channel.kind(),
-            DeviceChannel::Spawned(channel) => channel.kind(),
+            AnyDevice::Mailbox(device) => device.kind(),
+            AnyDevice::Pager(device) => device.kind(),
+            AnyDevice::Spawned(device) => device.kind(),
         }
     }
 
     fn limit(&self) -> u64 {
         match self {
-            DeviceChannel::Mailbox(channel) => channel.limit(),
-            DeviceChannel::Pager(channel) => channel.limit(),
-            DeviceChannel::Spawned(channel) => channel.limit(),
+            AnyDevice::Mailbox(device) => device.limit(),
+            AnyDevice::Pager(device) => device.limit(),
+            AnyDevice::Spawned(device) => device.limit(),
         }
     }
 
-    fn failures(&self) -> u64 {
+    fn send(&mut self, text: &[u8]) -> bool {
         match self {
-            DeviceChannel::Mailbox(channel) => channel.failures(),
-            DeviceChannel::Pager(channel) => channel.failures(),
-            DeviceChannel::Spawned(channel) => channel.failures(),
-        }
-    }
-
-    fn room(&self) -> bool {
-        match self {
-            DeviceChannel::Mailbox(channel) => channel.room(),
-            DeviceChannel::Pager(channel) => channel.room(),
-            DeviceChannel::Spawned(channel) => channel.room(),
-        }
-    }
-
-    fn taken(&self) -> &[Receipt] {
-        match self {
-            DeviceChannel::Mailbox(channel) => channel.taken(),
-            DeviceChannel::Pager(channel) => channel.taken(),
-            DeviceChannel::Spawned(channel) => channel.taken(),
-        }
-    }
-
-    fn reserve(&mut self) -> Result<(), AllocError> {
-        match self {
-            DeviceChannel::Mailbox(channel) => channel.reserve(),
-            DeviceChannel::Pager(channel) => channel.reserve(),
-            DeviceChannel::Spawned(channel) => channel.reserve(),
-        }
-    }
-
-    fn deliver(&mut self, letter: &Letter) -> Result<(), Fault> {
-        match self {
-            DeviceChannel::Mailbox(channel) => channel.deliver(letter),
-            DeviceChannel::Pager(channel) => channel.deliver(letter),
-            DeviceChannel::Spawned(channel) => channel.deliver(letter),
+            AnyDevice::Mailbox(device) => device.send(text),
+            AnyDevice::Pager(device) => device.send(text),
+            AnyDevice::Spawned(device) => device.send(text),
         }
     }
 }

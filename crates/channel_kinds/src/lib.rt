@@ -4,8 +4,8 @@
 
 mod answer;
 pub mod device;
+pub mod device_channel;
 pub mod mailbox;
 pub mod pager;
 pub mod spawned;
-mod tries;
 mod writing;

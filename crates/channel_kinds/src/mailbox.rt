@@ -1,17 +1,12 @@
 //! A mailbox: letters one after another in a file that others read.
 
-ghost use Rattle.std.specs.Prelude.{◌≡◌, ◌↔◌, ◌+◌, ◌<◌, ◌≤◌, [], ◌∷◌, ◌++◌, length, IsErrOf, OnOk, OnErr};
-ghost use Rattle.std.specs.Io.KnownBytes.{Appends};
-ghost use Rattle.channel.specs.Channels.{IsCounted, receipt_of};
+ghost use Rattle.std.specs.Prelude.{◌≡◌};
 ghost use Rattle.channel_kinds.specs.Mailbox.{closing_line};
 ghost use Rattle.written.specs.Written.{WritesFront};
 
-use crate::tries::keep_try;
+use crate::device::TextDevice;
 use crate::writing::write_flushed;
-use channel::letter::Letter;
-use channel::record::ChannelRecord;
-use channel::{Channel, Fault, Kind, Receipt};
-use std::alloc::{AllocError, Global};
+use channel::Kind;
 use std::io::Write;
 use std::marker::Model;
 
@@ -26,7 +21,6 @@ const CLOSING_LINE: &[u8] = b"-- closed\n";
 /// writes the closing line too, and swallows a fault.
 pub struct Mailbox<W: Write + Drop> {
     writer: W,
-    kept: ChannelRecord,
 }
 
 impl<W: Write + Drop> Model for Mailbox<W> {
@@ -34,20 +28,15 @@ impl<W: Write + Drop> Model for Mailbox<W> {
 
     ghost Value = { Mail W };
 
-    ghost view = { λ s. record { writer = s.writer; kept = s.kept } };
+    ghost view = { λ s. record { writer = s.writer } };
 }
 
 impl<W: Write + Drop> Mailbox<W> {
-    /// A mailbox that has taken nothing. It writes nothing, and takes no memory.
-    pub fn new(alloc: Global, writer: W) -> Mailbox<W>
-        ensures writer { result.writer ≡ writer }
-        ensures taken { result.kept.taken ≡ [] }
-        ensures failures { result.kept.failures ≡ 0 }
+    /// A mailbox over a writer. It writes nothing.
+    pub fn new(writer: W) -> Mailbox<W>
+        ensures { result.writer ≡ writer }
     {
-        Mailbox {
-            writer,
-            kept: ChannelRecord::new(alloc),
-        }
+        Mailbox { writer }
     }
 
     /// Writes the closing line and gives the writer back. Where the writer fails, a front of the line was
@@ -55,10 +44,7 @@ impl<W: Write + Drop> Mailbox<W> {
     pub fn close(self) -> W
         ensures { WritesFront (W.contents self.writer) (W.contents result) closing_line }
     {
-        let Mailbox {
-            mut writer,
-            kept: _,
-        } = self;
+        let Mailbox { mut writer } = self;
         let _swallowed = write_flushed(&mut writer, CLOSING_LINE);
         writer
     }
@@ -66,26 +52,20 @@ impl<W: Write + Drop> Mailbox<W> {
 
 impl<W: Write + Drop> Drop for Mailbox<W> {
     fn drop(self) {
-        let Mailbox {
-            mut writer,
-            kept: _,
-        } = self;
+        let Mailbox { mut writer } = self;
         let _swallowed = write_flushed(&mut writer, CLOSING_LINE);
     }
 }
 
-impl<W: Write + Send + Drop> Channel for Mailbox<W> {
+impl<W: Write + Drop> TextDevice for Mailbox<W> {
     ghost use Rattle.channel.specs.declared.Kind.TheVariants as kinds;
+    ghost use Rattle.channel_kinds.specs.Mailbox.{Posts};
 
-    ghost taken = { λ s. s.kept.taken };
-
-    ghost room = { λ s. s.kept.room };
-
-    ghost failures = { λ s. s.kept.failures };
+    ghost kind = { λ _. kinds.Mailbox };
 
     ghost limit = { λ _. 65536 };
 
-    ghost kind = { λ _. kinds.Mailbox };
+    ghost sends = { Posts W.contents };
 
     fn kind(&self) -> Kind {
         Kind::Mailbox
@@ -95,53 +75,8 @@ impl<W: Write + Send + Drop> Channel for Mailbox<W> {
         LIMIT
     }
 
-    fn failures(&self) -> u64 {
-        self.kept.failures()
-    }
-
-    fn room(&self) -> bool {
-        self.kept.has_room()
-    }
-
-    fn taken(&self) -> &[Receipt] {
-        self.kept.taken()
-    }
-
-    fn reserve(&mut self) -> Result<(), AllocError>
-        ensures ok { OnOk result (0 < self.new.kept.room) }
-        ensures err { OnErr result (self.new.kept.room ≡ self.old.kept.room) }
-        ensures taken { self.new.kept.taken ≡ self.old.kept.taken }
-        ensures failures { self.new.kept.failures ≡ self.old.kept.failures }
-        ensures writer { self.new.writer ≡ self.old.writer }
-    {
-        self.kept.reserve()
-    }
-
-    /// Ok where the whole text was written and flushed; else a front of it stands there. A text that is too long
-    /// leaves the writer alone.
-    fn deliver(&mut self, letter: &Letter) -> Result<(), Fault>
-        requires { 0 < self.old.kept.room }
-        ensures ok { OnOk result
-            (self.new.kept.taken ≡ self.old.kept.taken ++ receipt_of letter.now.notice ∷ []) }
-        ensures ok_room { OnOk result (self.old.kept.room ≤ self.new.kept.room + 1) }
-        ensures ok_failures { OnOk result (self.new.kept.failures ≡ self.old.kept.failures) }
-        ensures err { OnErr result (self.new.kept.taken ≡ self.old.kept.taken) }
-        ensures err_room { OnErr result (self.new.kept.room ≡ self.old.kept.room) }
-        ensures too_long { IsErrOf result Fault.TooLong ↔ (65536 < length letter.now.text) }
-        ensures uncounted { IsErrOf result Fault.TooLong
-            → self.new.kept.failures ≡ self.old.kept.failures }
-        ensures counted { IsErrOf result Fault.Device
-            → IsCounted self.old.kept.failures self.new.kept.failures }
-        ensures written { OnOk result
-            (Appends (W.contents self.old.writer) (W.contents self.new.writer) letter.now.text) }
-        ensures front { WritesFront (W.contents self.old.writer) (W.contents self.new.writer)
-            letter.now.text }
-        ensures untouched { IsErrOf result Fault.TooLong → self.new.writer ≡ self.old.writer }
-    {
-        if letter.text.len() as u64 > LIMIT {
-            return Err(Fault::TooLong);
-        }
-        let is_written = write_flushed(&mut self.writer, letter.text.as_slice()).is_ok();
-        keep_try(&mut self.kept, letter.notice, is_written)
+    /// Writes the text and flushes. One that isn't taken leaves a front of it.
+    fn send(&mut self, text: &[u8]) -> bool {
+        write_flushed(&mut self.writer, text).is_ok()
     }
 }

@@ -1,21 +1,16 @@
 //! A pager: a peer that answers each letter.
 
-ghost use Rattle.std.specs.Prelude.{◌≡◌, ◌↔◌, ◌+◌, ◌<◌, ◌≤◌, [], ◌∷◌, ◌++◌, false, length, is_ok};
-ghost use Rattle.std.specs.Prelude.{IsTrue, IsErr, IsErrOf, OnOk, OnErr};
+ghost use Rattle.std.specs.Prelude.{◌≡◌, ◌+◌, ◌≤◌, ◌++◌, false, length, OnOk};
 ghost use Rattle.std.specs.Io.KnownBytes.{Appends};
-ghost use Rattle.channel.specs.Channels.{IsCounted, receipt_of};
 ghost use Rattle.channel_kinds.specs.Pager.{Talks, farewell, page_of};
 ghost use Rattle.written.specs.Written.{WritesFront};
 
 use crate::answer;
-use crate::tries::keep_try;
+use crate::device::TextDevice;
 use crate::writing::{DeviceFailed, write_flushed};
 use arrayvec::ArrayVec;
-use channel::letter::Letter;
-use channel::record::ChannelRecord;
-use channel::{Channel, Fault, Kind, Receipt};
+use channel::Kind;
 use itoa::Buffer;
-use std::alloc::{AllocError, Global};
 use std::io::{Read, Write};
 use std::marker::Model;
 
@@ -32,7 +27,6 @@ pub struct Pager<S: Read + Write + Drop> {
     stream: S,
     /// Whether it failed once.
     is_over: bool,
-    kept: ChannelRecord,
 }
 
 impl<S: Read + Write + Drop> Model for Pager<S> {
@@ -40,21 +34,18 @@ impl<S: Read + Write + Drop> Model for Pager<S> {
 
     ghost Value = { Paged S };
 
-    ghost view = { λ s. record { stream = s.stream; is_over = s.is_over; kept = s.kept } };
+    ghost view = { λ s. record { stream = s.stream; is_over = s.is_over } };
 }
 
 impl<S: Read + Write + Drop> Pager<S> {
-    /// A pager that has taken nothing and didn't fail. It writes and reads nothing, and takes no memory.
-    pub fn new(alloc: Global, stream: S) -> Pager<S>
+    /// A pager that didn't fail. It writes and reads nothing.
+    pub fn new(stream: S) -> Pager<S>
         ensures stream { result.stream ≡ stream }
         ensures is_over { result.is_over ≡ false }
-        ensures taken { result.kept.taken ≡ [] }
-        ensures failures { result.kept.failures ≡ 0 }
     {
         Pager {
             stream,
             is_over: false,
-            kept: ChannelRecord::new(alloc),
         }
     }
 
@@ -65,7 +56,6 @@ impl<S: Read + Write + Drop> Pager<S> {
         let Pager {
             mut stream,
             is_over: _,
-            kept: _,
         } = self;
         let _swallowed = write_flushed(&mut stream, FAREWELL);
         stream
@@ -77,24 +67,20 @@ impl<S: Read + Write + Drop> Drop for Pager<S> {
         let Pager {
             mut stream,
             is_over: _,
-            kept: _,
         } = self;
         let _swallowed = write_flushed(&mut stream, FAREWELL);
     }
 }
 
-impl<S: Read + Write + Send + Drop> Channel for Pager<S> {
+impl<S: Read + Write + Drop> TextDevice for Pager<S> {
     ghost use Rattle.channel.specs.declared.Kind.TheVariants as kinds;
+    ghost use Rattle.channel_kinds.specs.Pager.{Pages};
 
-    ghost taken = { λ s. s.kept.taken };
-
-    ghost room = { λ s. s.kept.room };
-
-    ghost failures = { λ s. s.kept.failures };
+    ghost kind = { λ _. kinds.Pager };
 
     ghost limit = { λ _. 1024 };
 
-    ghost kind = { λ _. kinds.Pager };
+    ghost sends = { Pages S.contents S.remaining };
 
     fn kind(&self) -> Kind {
         Kind::Pager
@@ -104,64 +90,15 @@ impl<S: Read + Write + Send + Drop> Channel for Pager<S> {
         LIMIT
     }
 
-    fn failures(&self) -> u64 {
-        self.kept.failures()
-    }
-
-    fn room(&self) -> bool {
-        self.kept.has_room()
-    }
-
-    fn taken(&self) -> &[Receipt] {
-        self.kept.taken()
-    }
-
-    fn reserve(&mut self) -> Result<(), AllocError>
-        ensures ok { OnOk result (0 < self.new.kept.room) }
-        ensures err { OnErr result (self.new.kept.room ≡ self.old.kept.room) }
-        ensures taken { self.new.kept.taken ≡ self.old.kept.taken }
-        ensures failures { self.new.kept.failures ≡ self.old.kept.failures }
-        ensures stream { self.new.stream ≡ self.old.stream }
-        ensures is_over { self.new.is_over ≡ self.old.is_over }
-    {
-        self.kept.reserve()
-    }
-
-    /// Ok where the peer answered `OK`. Any other answer, the end of input and a fault are one failure, and then
-    /// the pager is over: each later call is a failure and leaves the stream alone. A text that is too long
-    /// spoils nothing.
-    fn deliver(&mut self, letter: &Letter) -> Result<(), Fault>
-        requires { 0 < self.old.kept.room }
-        ensures ok { OnOk result
-            (self.new.kept.taken ≡ self.old.kept.taken ++ receipt_of letter.now.notice ∷ []) }
-        ensures ok_room { OnOk result (self.old.kept.room ≤ self.new.kept.room + 1) }
-        ensures ok_failures { OnOk result (self.new.kept.failures ≡ self.old.kept.failures) }
-        ensures err { OnErr result (self.new.kept.taken ≡ self.old.kept.taken) }
-        ensures err_room { OnErr result (self.new.kept.room ≡ self.old.kept.room) }
-        ensures too_long { IsErrOf result Fault.TooLong ↔ (1024 < length letter.now.text) }
-        ensures uncounted { IsErrOf result Fault.TooLong
-            → self.new.kept.failures ≡ self.old.kept.failures }
-        ensures counted { IsErrOf result Fault.Device
-            → IsCounted self.old.kept.failures self.new.kept.failures }
-        ensures unspoilt { IsErrOf result Fault.TooLong
-            → (self.new.stream ≡ self.old.stream) × (self.new.is_over ≡ self.old.is_over) }
-        ensures over { IsTrue self.old.is_over
-            → IsErr result × (self.new.stream ≡ self.old.stream) × IsTrue self.new.is_over }
-        ensures spoilt { IsErrOf result Fault.Device → IsTrue self.new.is_over }
-        ensures answered { OnOk result (self.new.is_over ≡ false) }
-        ensures talks { length letter.now.text ≤ 1024 → self.old.is_over ≡ false
-            → Talks S.contents S.remaining self.old.stream self.new.stream letter.now.text
-            (is_ok result) }
-    {
-        if letter.text.len() as u64 > LIMIT {
-            return Err(Fault::TooLong);
-        }
+    /// Asks the peer, and takes the text where it answers `OK`. Any other answer, the end of input and a fault end the
+    /// pager: each later text is refused, and leaves the stream alone.
+    fn send(&mut self, text: &[u8]) -> bool {
         if self.is_over {
-            return keep_try(&mut self.kept, letter.notice, false);
+            return false;
         }
-        let is_taken = talk(&mut self.stream, letter.text.as_slice());
+        let is_taken = talk(&mut self.stream, text);
         self.is_over = !is_taken;
-        keep_try(&mut self.kept, letter.notice, is_taken)
+        is_taken
     }
 }
 

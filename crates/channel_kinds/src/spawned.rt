@@ -1,15 +1,11 @@
 //! A program that is started for each letter.
 
-ghost use Rattle.std.specs.Prelude.{◌≡◌, ◌↔◌, ◌+◌, ◌<◌, ◌≤◌, [], ◌∷◌, ◌++◌, length, map, string_bytes};
-ghost use Rattle.std.specs.Prelude.{IfOk, IsErrOf, OnOk, OnErr};
+ghost use Rattle.std.specs.Prelude.{◌≡◌, map, string_bytes, IfOk};
 ghost use Rattle.std.specs.Process.{command_args, command_program};
-ghost use Rattle.channel.specs.Channels.{IsCounted, receipt_of};
 
-use crate::tries::keep_try;
+use crate::device::TextDevice;
 use crate::writing::write_whole;
-use channel::letter::Letter;
-use channel::record::ChannelRecord;
-use channel::{Channel, Fault, Kind, Receipt};
+use channel::Kind;
 use std::alloc::{AllocError, Global};
 use std::marker::Model;
 use std::process::{Child, Command, Processes, Stdio, SystemProcess};
@@ -27,7 +23,6 @@ pub struct Spawned<R: Processes<Started = SystemProcess> + Drop> {
     arguments: Vec<String>,
     /// A program that is to be waited for.
     left: Option<Child>,
-    kept: ChannelRecord,
 }
 
 impl<R: Processes<Started = SystemProcess> + Drop> Model for Spawned<R> {
@@ -39,12 +34,11 @@ impl<R: Processes<Started = SystemProcess> + Drop> Model for Spawned<R> {
     ghost view = { λ s. record {
       program = string_bytes s.program;
       arguments = map string_bytes s.arguments.items;
-      kept = s.kept;
     } };
 }
 
 impl<R: Processes<Started = SystemProcess> + Drop> Spawned<R> {
-    /// A channel that has taken nothing, over a program and its arguments. It starts nothing. A refused growth is
+    /// A device of a program and its arguments. It starts nothing. A refused growth is
     /// the only error.
     pub fn new(
         alloc: Global,
@@ -52,11 +46,9 @@ impl<R: Processes<Started = SystemProcess> + Drop> Spawned<R> {
         program: &str,
         arguments: &[&str],
     ) -> Result<Spawned<R>, AllocError>
-        ensures program { IfOk result (λ channel. channel.program ≡ program.now) }
+        ensures program { IfOk result (λ device. device.program ≡ program.now) }
         ensures arguments { IfOk result
-            (λ channel. channel.arguments ≡ map (λ argument. argument.now) arguments.now) }
-        ensures taken { IfOk result (λ channel. channel.kept.taken ≡ []) }
-        ensures failures { IfOk result (λ channel. channel.kept.failures ≡ 0) }
+            (λ device. device.arguments ≡ map (λ argument. argument.now) arguments.now) }
     {
         Ok(Spawned {
             alloc,
@@ -64,7 +56,6 @@ impl<R: Processes<Started = SystemProcess> + Drop> Spawned<R> {
             program: String::from_str(alloc, program)?,
             arguments: copies_of(alloc, arguments)?,
             left: None,
-            kept: ChannelRecord::new(alloc),
         })
     }
 }
@@ -77,24 +68,20 @@ impl<R: Processes<Started = SystemProcess> + Drop> Drop for Spawned<R> {
             program: _,
             arguments: _,
             mut left,
-            kept: _,
         } = self;
         reap(&mut left);
     }
 }
 
-impl<R: Processes<Started = SystemProcess> + Send + Drop> Channel for Spawned<R> {
+impl<R: Processes<Started = SystemProcess> + Drop> TextDevice for Spawned<R> {
     ghost use Rattle.channel.specs.declared.Kind.TheVariants as kinds;
 
-    ghost taken = { λ s. s.kept.taken };
-
-    ghost room = { λ s. s.kept.room };
-
-    ghost failures = { λ s. s.kept.failures };
+    ghost kind = { λ _. kinds.Spawned };
 
     ghost limit = { λ _. 16384 };
 
-    ghost kind = { λ _. kinds.Spawned };
+    // The program and its arguments stay.
+    ghost sends = { λ old _ _ new. new ≡ old };
 
     fn kind(&self) -> Kind {
         Kind::Spawned
@@ -104,50 +91,9 @@ impl<R: Processes<Started = SystemProcess> + Send + Drop> Channel for Spawned<R>
         LIMIT
     }
 
-    fn failures(&self) -> u64 {
-        self.kept.failures()
-    }
-
-    fn room(&self) -> bool {
-        self.kept.has_room()
-    }
-
-    fn taken(&self) -> &[Receipt] {
-        self.kept.taken()
-    }
-
-    fn reserve(&mut self) -> Result<(), AllocError>
-        ensures ok { OnOk result (0 < self.new.kept.room) }
-        ensures err { OnErr result (self.new.kept.room ≡ self.old.kept.room) }
-        ensures taken { self.new.kept.taken ≡ self.old.kept.taken }
-        ensures failures { self.new.kept.failures ≡ self.old.kept.failures }
-        ensures program { self.new.program ≡ self.old.program }
-        ensures arguments { self.new.arguments ≡ self.old.arguments }
-    {
-        self.kept.reserve()
-    }
-
-    /// Ok where the program took the whole text and ended with status 0. All else is one failure: also a start
-    /// that finds no memory. The program and its arguments stay.
-    fn deliver(&mut self, letter: &Letter) -> Result<(), Fault>
-        requires { 0 < self.old.kept.room }
-        ensures ok { OnOk result
-            (self.new.kept.taken ≡ self.old.kept.taken ++ receipt_of letter.now.notice ∷ []) }
-        ensures ok_room { OnOk result (self.old.kept.room ≤ self.new.kept.room + 1) }
-        ensures ok_failures { OnOk result (self.new.kept.failures ≡ self.old.kept.failures) }
-        ensures err { OnErr result (self.new.kept.taken ≡ self.old.kept.taken) }
-        ensures err_room { OnErr result (self.new.kept.room ≡ self.old.kept.room) }
-        ensures too_long { IsErrOf result Fault.TooLong ↔ (16384 < length letter.now.text) }
-        ensures uncounted { IsErrOf result Fault.TooLong
-            → self.new.kept.failures ≡ self.old.kept.failures }
-        ensures counted { IsErrOf result Fault.Device
-            → IsCounted self.old.kept.failures self.new.kept.failures }
-        ensures program { self.new.program ≡ self.old.program }
-        ensures arguments { self.new.arguments ≡ self.old.arguments }
-    {
-        if letter.text.len() as u64 > LIMIT {
-            return Err(Fault::TooLong);
-        }
+    /// Starts the program, and takes the text where the program took it whole and ended with status 0. All else is
+    /// a refusal: also a start that finds no memory.
+    fn send(&mut self, text: &[u8]) -> bool {
         reap(&mut self.left);
         let started = start(
             self.alloc,
@@ -155,11 +101,10 @@ impl<R: Processes<Started = SystemProcess> + Send + Drop> Channel for Spawned<R>
             self.program.as_str(),
             &self.arguments,
         );
-        let is_taken = match started {
-            Some(child) => hand_over(child, letter.text.as_slice(), &mut self.left),
+        match started {
+            Some(child) => hand_over(child, text, &mut self.left),
             None => false,
-        };
-        keep_try(&mut self.kept, letter.notice, is_taken)
+        }
     }
 }
 

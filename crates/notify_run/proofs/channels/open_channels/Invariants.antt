@@ -6,4 +6,4 @@ use Rattle.notify_run.proofs.channels.open_channels.Given as goal
 -- the channels so far are of the kinds of the first words
 abbrev pub invariant-loop-word : goal.invariant-loop-word
 invariant-loop-word l =
-    map kind_of l.channels.items ≡ map word_kind (take l.word-index l.words)
+    map (λ channel. kind_of channel.device) l.channels.items ≡ map word_kind (take l.word-index l.words)
