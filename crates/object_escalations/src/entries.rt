@@ -1,12 +1,10 @@
 //! The escalations that blocks give.
 
 ghost use Rattle.std.specs.Prelude.{◌≡◌, ◌<◌, ◌≤◌, length, slice_get, All, IfOk, OnOk, Some};
-ghost use Rattle.due_model.specs.Limits.{max_contacts, max_objects, max_periods};
+ghost use Rattle.due_model.specs.Limits.{max_objects};
 ghost use Rattle.object_escalations.specs.Entries.{AddsEntries, AreEntriesOf, origins_at};
 ghost use Rattle.object_escalations.specs.Given.{AddsTaken, contacts_of, IsTaken, list_kind};
-ghost use Rattle.object_groups.specs.declared.groups.GroupKind.TheVariants.{ContactGroups};
-ghost use Rattle.object_groups.specs.Objects.{names_in};
-ghost use Rattle.object_reader.specs.declared.block.BlockKind.TheVariants.{Contact, TimePeriod};
+ghost use Rattle.object_readings.specs.Sources.{AreSources};
 
 use crate::escalated::EscalatedObjects;
 use crate::given::{Given, Tables};
@@ -96,10 +94,7 @@ fn push_block_at<'a>(
     block: &Block,
     place: usize,
 ) -> Result<(), AllocError>
-    requires groups { contacts.old ≡ record { blocks = tables.now; kind = ContactGroups } }
-    requires few_contacts { length (names_in tables.now Contact) ≤ max_contacts }
-    requires periods { periods.now ≡ names_in tables.now TimePeriod }
-    requires few_periods { length periods.now ≤ max_periods }
+    requires sources { AreSources tables.now contacts.old periods.now }
     requires within { All (λ number. number < length objects.now) numbers.now }
     requires few { length objects.now ≤ max_objects }
     requires here { slice_get tables.now place ≡ Some block.now }
@@ -133,11 +128,7 @@ pub fn escalations_of<'a>(
     requires within { All (All (λ number. number < length objects.now)) escalated.now }
     requires long { length escalated.now ≡ length templates.now }
     requires few { length objects.now ≤ max_objects }
-    requires contacts { contacts.old
-        ≡ record { blocks = templates.now; kind = ContactGroups } }
-    requires few_contacts { length (names_in templates.now Contact) ≤ max_contacts }
-    requires periods { periods.now ≡ names_in templates.now TimePeriod }
-    requires few_periods { length periods.now ≤ max_periods }
+    requires sources { AreSources templates.now contacts.old periods.now }
     ensures same { contacts.new ≡ contacts.old }
     ensures escalations { IfOk result (λ escalations.
         AreEntriesOf templates.now objects.now escalated.now escalations.items) }

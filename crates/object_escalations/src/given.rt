@@ -1,11 +1,8 @@
 //! What escalation blocks give, by themselves or by their templates.
 
-ghost use Rattle.std.specs.Prelude.{◌≡◌, ◌≤◌, length, IfOk};
-ghost use Rattle.due_model.specs.Limits.{max_contacts, max_periods};
+ghost use Rattle.std.specs.Prelude.{◌≡◌, IfOk};
 ghost use Rattle.object_escalations.specs.Given.{AreFilters, AreTimes, IsGiven};
-ghost use Rattle.object_groups.specs.declared.groups.GroupKind.TheVariants.{ContactGroups};
-ghost use Rattle.object_groups.specs.Objects.{names_in};
-ghost use Rattle.object_reader.specs.declared.block.BlockKind.TheVariants.{Contact, TimePeriod};
+ghost use Rattle.object_readings.specs.Sources.{AreSources};
 
 use due_model::config::{ContactId, PeriodId};
 use due_model::options::OptionLetters;
@@ -115,10 +112,7 @@ impl<'a> Tables<'a> {
         kind: OptionKind,
         place: usize,
     ) -> Result<Given, AllocError>
-        requires groups { groups.old ≡ record { blocks = self.now; kind = ContactGroups } }
-        requires few { length (names_in self.now Contact) ≤ max_contacts }
-        requires periods { periods.now ≡ names_in self.now TimePeriod }
-        requires few_periods { length periods.now ≤ max_periods }
+        requires sources { AreSources self.now groups.old periods.now }
         ensures same { groups.new ≡ groups.old }
         ensures given { IfOk result (IsGiven self.now kind place) }
     {

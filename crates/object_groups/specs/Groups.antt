@@ -6,7 +6,7 @@ use Rattle.object_reader.specs.declared.block.BlockKind.TheVariants.{Host, HostG
 use Rattle.object_groups.specs.declared.groups.GroupKind.{GroupKind}
 use Rattle.object_groups.specs.declared.groups.GroupKind.TheVariants.{HostGroups, ContactGroups}
 use Rattle.object_groups.specs.Members.{Grouping}
-use Rattle.object_groups.specs.Nodes.{IsGraphOf}
+use Rattle.object_groups.specs.Nodes.{IsGraphOf, node_count}
 use Rattle.object_groups.specs.Objects.{lists_in, names_in, ObjectsOf}
 
 -- the type of the objects
@@ -43,6 +43,14 @@ grouping blocks kind = record {
 pub record GroupsOf : Type 0 where
   pub blocks : List Block
   pub kind : GroupKind
+
+-- these are the objects and the groups, few enough for the nodes of a graph
+pub record AreNumbered (blocks : List Block) (kind : GroupKind) (objects groups : ObjectsOf)
+    : Type 0 where
+  pub object_table : objects ≡ record { blocks = blocks; kind = object_kind kind }
+  pub group_table : groups ≡ record { blocks = blocks; kind = group_kind kind }
+  pub few : node_count (names_in blocks (object_kind kind)) (names_in blocks (group_kind kind))
+      < 2 ^ 32
 
 -- what is kept: the objects and the groups, and a graph in which members are found, with a search for it
 pub record AreGroups (blocks : List Block) (kind : GroupKind) (objects groups : ObjectsOf)

@@ -3,8 +3,8 @@
 ghost use Rattle.std.specs.Prelude.{◌≡◌, ◌+◌, ◌<◌, ◌++◌, ◌^◌, length, All, IfOk, OnOk};
 ghost use Rattle.std.specs.List.{flat_map, range_with_len};
 ghost use Rattle.graph.specs.Edges.{IsWithin};
-ghost use Rattle.object_groups.specs.Groups.{group_kind, grouping, object_kind, own_groups_directive};
-ghost use Rattle.object_groups.specs.Groups.{subgroups_directive};
+ghost use Rattle.object_groups.specs.Groups.{AreNumbered, group_kind, grouping, object_kind};
+ghost use Rattle.object_groups.specs.Groups.{own_groups_directive, subgroups_directive};
 ghost use Rattle.object_groups.specs.Members.{AreMembers};
 ghost use Rattle.object_groups.specs.Nodes.{AreBelow, edges_in, edges_of_group, edges_of_object};
 ghost use Rattle.object_groups.specs.Nodes.{group_edges, IsGraphOf, node_count, object_edges};
@@ -123,10 +123,7 @@ fn push_groups<'a>(
     objects: &Objects<'a>,
     groups: &Objects<'a>,
 ) -> Result<(), AllocError>
-    requires objects { objects.now ≡ record { blocks = templates.now; kind = object_kind kind } }
-    requires groups { groups.now ≡ record { blocks = templates.now; kind = group_kind kind } }
-    requires few { node_count (names_in templates.now (object_kind kind))
-        (names_in templates.now (group_kind kind)) < 2 ^ 32 }
+    requires { AreNumbered templates.now kind objects.now groups.now }
     ensures { OnOk result (edges.new.items ≡ edges.old.items
         ++ flat_map (group_edges (grouping templates.now kind))
         (range_with_len 0 (length (names_in templates.now (group_kind kind))))) }
@@ -179,10 +176,7 @@ fn push_objects<'a>(
     objects: &Objects<'a>,
     groups: &Objects<'a>,
 ) -> Result<(), AllocError>
-    requires objects { objects.now ≡ record { blocks = templates.now; kind = object_kind kind } }
-    requires groups { groups.now ≡ record { blocks = templates.now; kind = group_kind kind } }
-    requires few { node_count (names_in templates.now (object_kind kind))
-        (names_in templates.now (group_kind kind)) < 2 ^ 32 }
+    requires { AreNumbered templates.now kind objects.now groups.now }
     ensures { OnOk result (edges.new.items ≡ edges.old.items
         ++ flat_map (object_edges (grouping templates.now kind))
         (range_with_len 0 (length (names_in templates.now (object_kind kind))))) }
@@ -202,10 +196,7 @@ fn graph_of<'a>(
     objects: &Objects<'a>,
     groups: &Objects<'a>,
 ) -> Result<Graph, AllocError>
-    requires objects { objects.now ≡ record { blocks = templates.now; kind = object_kind kind } }
-    requires groups { groups.now ≡ record { blocks = templates.now; kind = group_kind kind } }
-    requires few { node_count (names_in templates.now (object_kind kind))
-        (names_in templates.now (group_kind kind)) < 2 ^ 32 }
+    requires { AreNumbered templates.now kind objects.now groups.now }
     ensures { IfOk result (IsGraphOf (grouping templates.now kind)) }
 {
     let count = objects.names().len() + groups.names().len() + 3;

@@ -1,2 +1,3 @@
 pub mod Readings
 pub mod ReadingLaws
+pub mod Sources

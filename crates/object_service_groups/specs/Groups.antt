@@ -55,6 +55,15 @@ pub record AreNodes (g : Grouping) (services first : ℕ) (graph : List (List �
   pub first_is : first ≡ first_group g
   pub graph_is : IsGraphOf g graph
 
+-- these are the service blocks, their hosts, the services, the names of the hosts, and the groups
+pub record AreTables (blocks : List Block) (services : ObjectsOf) (lists : List (List ℕ))
+    (pairs : List Pair) (hosts : List (List ℕ)) (groups : ObjectsOf) : Type 0 where
+  pub service_blocks : services ≡ record { blocks = blocks; kind = Service }
+  pub host_lists : AreHostLists blocks (objects_in blocks Service) lists
+  pub pairs_are : pairs ≡ pairs_of (names_in blocks Service) lists
+  pub host_names : hosts ≡ names_in blocks Host
+  pub group_table : groups ≡ record { blocks = blocks; kind = ServiceGroup }
+
 -- what is kept: the groups, and a graph in which members are found, with a search for it
 pub record AreServiceGroups (blocks : List Block) (groups : ObjectsOf) (services first : ℕ)
     (graph : List (List ℕ)) (searched : ℕ) : Type 0 where

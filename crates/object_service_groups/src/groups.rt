@@ -6,7 +6,7 @@ ghost use Rattle.object_groups.specs.Names.{numbers_of};
 ghost use Rattle.object_groups.specs.Objects.{list_at, names_in, objects_in};
 ghost use Rattle.object_pairs.specs.Members.{places_of};
 ghost use Rattle.object_reader.specs.declared.block.BlockKind.TheVariants.{Host, Service, ServiceGroup};
-ghost use Rattle.object_service_groups.specs.Groups.{AreMembersOf, grouping, groups_in, named_in};
+ghost use Rattle.object_service_groups.specs.Groups.{AreMembersOf, AreTables, grouping, groups_in, named_in};
 ghost use Rattle.object_service_groups.specs.Nodes.{AreBelow, block_edges, edges_in, edges_of_block};
 ghost use Rattle.object_service_groups.specs.Nodes.{edges_of_group, group_edges, IsGraphOf};
 ghost use Rattle.object_services.specs.Limits.{AreHostLists};
@@ -171,11 +171,8 @@ fn edges_of<'a>(
     middle: u32,
     first: u32,
 ) -> Result<Vec<Edge>, AllocError>
-    requires blocks { blocks.now ≡ record { blocks = templates.now; kind = Service } }
-    requires lists { AreHostLists templates.now (objects_in templates.now Service) lists.now }
-    requires services { services.now ≡ pairs_of (names_in templates.now Service) lists.now }
-    requires hosts { hosts.now ≡ names_in templates.now Host }
-    requires groups { groups.now ≡ record { blocks = templates.now; kind = ServiceGroup } }
+    requires tables { AreTables templates.now blocks.now lists.now services.now hosts.now
+        groups.now }
     requires middle { middle ≡ length services.now }
     requires first { first ≡ length services.now + length (objects_in templates.now Service) }
     requires few { first + length (objects_in templates.now ServiceGroup) < 2 ^ 32 }
@@ -207,11 +204,8 @@ fn graph_of<'a>(
     hosts: &Names<'a>,
     groups: &Objects<'a>,
 ) -> Result<Graph, AllocError>
-    requires blocks { blocks.now ≡ record { blocks = templates.now; kind = Service } }
-    requires lists { AreHostLists templates.now (objects_in templates.now Service) lists.now }
-    requires services { services.now ≡ pairs_of (names_in templates.now Service) lists.now }
-    requires hosts { hosts.now ≡ names_in templates.now Host }
-    requires groups { groups.now ≡ record { blocks = templates.now; kind = ServiceGroup } }
+    requires tables { AreTables templates.now blocks.now lists.now services.now hosts.now
+        groups.now }
     requires few { length services.now + length (objects_in templates.now Service)
         + length (objects_in templates.now ServiceGroup) < 2 ^ 32 }
     ensures { IfOk result (IsGraphOf (grouping templates.now lists.now)) }

@@ -9,6 +9,7 @@ ghost use Rattle.object_groups.specs.declared.groups.GroupKind.TheVariants.{Cont
 ghost use Rattle.object_groups.specs.Objects.{name_at, names_in, objects_in};
 ghost use Rattle.object_reader.specs.declared.block.BlockKind.TheVariants.{Contact, Host, Service};
 ghost use Rattle.object_reader.specs.declared.block.BlockKind.TheVariants.{TimePeriod};
+ghost use Rattle.object_readings.specs.Sources.{AreSources};
 ghost use Rattle.object_services.specs.Hosts.{AreHosts};
 ghost use Rattle.object_services.specs.Limits.{AreHostLists};
 ghost use Rattle.object_settings.specs.Own.{AddsObjects, AddsServices, IsHostTaken, IsOwnOfHost};
@@ -37,10 +38,7 @@ fn owns_of<'a>(
     hosts: &Objects<'a>,
 ) -> Result<Vec<Own<'a>>, AllocError>
     requires hosts { hosts.now ≡ record { blocks = tables.now; kind = Host } }
-    requires groups { contacts.old ≡ record { blocks = tables.now; kind = ContactGroups } }
-    requires few { length (names_in tables.now Contact) ≤ max_contacts }
-    requires periods { periods.now ≡ names_in tables.now TimePeriod }
-    requires few_periods { length periods.now ≤ max_periods }
+    requires sources { AreSources tables.now contacts.old periods.now }
     ensures same { contacts.new ≡ contacts.old }
     ensures own { IfOk result (λ owns.
         AllZip (IsOwnOfHost tables.now) (objects_in tables.now Host) owns.items) }
@@ -99,10 +97,7 @@ fn push_services_at<'a>(
     place: usize,
     hosts: &[usize],
 ) -> Result<(), AllocError>
-    requires groups { contacts.old ≡ record { blocks = tables.now; kind = ContactGroups } }
-    requires few { length (names_in tables.now Contact) ≤ max_contacts }
-    requires periods { periods.now ≡ names_in tables.now TimePeriod }
-    requires few_periods { length periods.now ≤ max_periods }
+    requires sources { AreSources tables.now contacts.old periods.now }
     requires owns { AllZip (IsOwnOfHost tables.now) (objects_in tables.now Host) owns.now }
     requires few_hosts { length (objects_in tables.now Host) ≤ max_objects }
     requires named { name.now ≡ name_at tables.now Service place }
@@ -129,10 +124,7 @@ fn push_services<'a>(
     services: &Objects<'a>,
     lists: &ServiceHosts,
 ) -> Result<(), AllocError>
-    requires groups { contacts.old ≡ record { blocks = tables.now; kind = ContactGroups } }
-    requires few { length (names_in tables.now Contact) ≤ max_contacts }
-    requires periods { periods.now ≡ names_in tables.now TimePeriod }
-    requires few_periods { length periods.now ≤ max_periods }
+    requires sources { AreSources tables.now contacts.old periods.now }
     requires owns { AllZip (IsOwnOfHost tables.now) (objects_in tables.now Host) owns.now }
     requires few_hosts { length (objects_in tables.now Host) ≤ max_objects }
     requires services { services.now ≡ record { blocks = tables.now; kind = Service } }
@@ -162,10 +154,7 @@ fn all_objects<'a>(
     lists: &ServiceHosts,
 ) -> Result<Vec<Object>, AllocError>
     requires hosts { hosts.now ≡ record { blocks = tables.now; kind = Host } }
-    requires groups { contacts.old ≡ record { blocks = tables.now; kind = ContactGroups } }
-    requires few { length (names_in tables.now Contact) ≤ max_contacts }
-    requires periods { periods.now ≡ names_in tables.now TimePeriod }
-    requires few_periods { length periods.now ≤ max_periods }
+    requires sources { AreSources tables.now contacts.old periods.now }
     requires few_hosts { length (objects_in tables.now Host) ≤ max_objects }
     requires services { services.now ≡ record { blocks = tables.now; kind = Service } }
     requires lists { AreHostLists tables.now (objects_in tables.now Service) lists.now }

@@ -1,10 +1,7 @@
 //! What all blocks have for the directives of notification settings.
 
-ghost use Rattle.std.specs.Prelude.{◌≡◌, ◌≤◌, length, IfOk};
-ghost use Rattle.due_model.specs.Limits.{max_contacts, max_periods};
-ghost use Rattle.object_groups.specs.declared.groups.GroupKind.TheVariants.{ContactGroups};
-ghost use Rattle.object_groups.specs.Objects.{names_in};
-ghost use Rattle.object_reader.specs.declared.block.BlockKind.TheVariants.{Contact, TimePeriod};
+ghost use Rattle.std.specs.Prelude.{◌≡◌, IfOk};
+ghost use Rattle.object_readings.specs.Sources.{AreSources};
 ghost use Rattle.object_settings.specs.Own.{AreFilters, AreTimes, IsOwn};
 
 use crate::own::Own;
@@ -99,10 +96,7 @@ impl<'a> Tables<'a> {
         name: &'a [u8],
         place: usize,
     ) -> Result<Own<'a>, AllocError>
-        requires groups { groups.old ≡ record { blocks = self.now; kind = ContactGroups } }
-        requires few { length (names_in self.now Contact) ≤ max_contacts }
-        requires periods { periods.now ≡ names_in self.now TimePeriod }
-        requires few_periods { length periods.now ≤ max_periods }
+        requires sources { AreSources self.now groups.old periods.now }
         ensures same { groups.new ≡ groups.old }
         ensures own { IfOk result (IsOwn self.now kind name.now place) }
     {

@@ -16,5 +16,10 @@ pub escalations_of-requires-clause-few : goal.escalations_of-requires-clause-few
 escalations_of-requires-clause-few c =
     objects-few c.args.templates.now c.args.counts.now.hosts c.args.objects.now c.as_slice.result.now c.as_slice.ensures c.requires.objects c.requires.counts.few
 
-pub escalations_of-requires-clause-few_contacts : goal.escalations_of-requires-clause-few_contacts
-escalations_of-requires-clause-few_contacts c = few-names c.args.templates.now Contact max_contacts c.requires.few.contacts
+pub escalations_of-requires-clause-sources : goal.escalations_of-requires-clause-sources
+escalations_of-requires-clause-sources c = record {
+  groups = c.in_ok-groups.ensures;
+  few_contacts = few-names c.args.templates.now Contact max_contacts c.requires.few.contacts;
+  names = search rules;
+  few_periods = search rules;
+}

@@ -8,23 +8,23 @@ use Rattle.object_service_groups.proofs.GroupLemmas.{all-edges, zip-long}
 use Rattle.object_service_groups.proofs.groups.edges_of.Goals as goal
 
 pub push_blocks-requires-clause-groups : goal.push_blocks-requires-clause-groups
-push_blocks-requires-clause-groups c = c.names.ensures.names ∙ ap (λ (o : ObjectsOf). names_in o.blocks o.kind) c.requires.groups
+push_blocks-requires-clause-groups c = c.names.ensures.names ∙ ap (λ (o : ObjectsOf). names_in o.blocks o.kind) c.requires.tables.group_table
 
 pub push_blocks-requires-clause-few : goal.push_blocks-requires-clause-few
 push_blocks-requires-clause-few c =
-    let long = c.names.ensures.long ∙ ap (λ (o : ObjectsOf). length (objects_in o.blocks o.kind)) c.requires.groups in
+    let long = c.names.ensures.long ∙ ap (λ (o : ObjectsOf). length (objects_in o.blocks o.kind)) c.requires.tables.group_table in
     omega (arith, long, c.requires.few)
 
 pub push_owners-requires-clause-few : goal.push_owners-requires-clause-few
 push_owners-requires-clause-few c =
     let owners = ap (λ (os : List ℕ). length os) (c.as_slice.ensures.value ∙ c.in_ok-owners.ensures) in
     let long = owners-long (names_in c.args.templates.now Service) c.args.lists.now in
-    let services = ap (λ (ps : List Pair). length ps) c.requires.services in
+    let services = ap (λ (ps : List Pair). length ps) c.requires.tables.pairs_are in
     omega (arith, owners, long, services, c.requires.first, c.requires.few)
 
 pub push_owners-requires-clause-within : goal.push_owners-requires-clause-within
 push_owners-requires-clause-within c =
-    let lists = zip-long (AreHosts c.args.templates.now) (objects_in c.args.templates.now Service) c.args.lists.now c.requires.lists in
+    let lists = zip-long (AreHosts c.args.templates.now) (objects_in c.args.templates.now Service) c.args.lists.now c.requires.tables.host_lists in
     let low : c.args.middle + length c.args.lists.now ≤ 2 ^ 32 = omega (arith, lists, c.requires.middle, c.requires.first, c.requires.few) in
     all-owners c.args.lists.now c.as_slice.result.now c.args.middle (2 ^ 32) (c.as_slice.ensures.value ∙ c.in_ok-owners.ensures) low
 
@@ -32,5 +32,5 @@ pub returns : goal.returns
 returns c =
     all-edges c.args.templates.now c.args.lists.now c.args.services.now c.as_slice.result.now c.args.middle c.args.first
     c.new-edges.result.items c.push_groups.new.edges.items c.push_blocks.new.edges.items c.push_owners.new.edges.items
-    c.requires.services (c.as_slice.ensures.value ∙ c.in_ok-owners.ensures) c.requires.middle c.requires.first c.new-edges.ensures.items
+    c.requires.tables.pairs_are (c.as_slice.ensures.value ∙ c.in_ok-owners.ensures) c.requires.middle c.requires.first c.new-edges.ensures.items
     c.in_ok-push_groups.ensures c.in_ok-push_blocks.ensures c.in_ok-push_owners.ensures

@@ -1,13 +1,15 @@
-use Rattle.std.proofs.Common.{◌≡◌, ◌≤◌, ◌∙◌, List, ap, arith, length, subst, take_all, ℕ}
+use Rattle.std.proofs.Common.{◌≡◌, ◌≤◌, ◌∙◌, List, ap, arith, length, subst, sym, take_all, ℕ}
 use Rattle.std.specs.List.{AllZip}
+use Rattle.object_groups.specs.Groups.{GroupsOf}
 use Rattle.object_groups.specs.Objects.{names_in, objects_in, ObjectsOf}
 use Rattle.object_reader.specs.declared.block.BlockKind.TheVariants.{Host}
+use Rattle.object_readings.specs.Sources.{AreSources}
 use Rattle.object_settings.specs.Own.{IsOwnOfHost}
 use Rattle.object_settings.proofs.ObjectLemmas.{owns-more}
 use Rattle.object_settings.proofs.objects.owns_of.Goals as goal
 
-pub own_at-requires-clause-groups : goal.own_at-requires-clause-groups
-own_at-requires-clause-groups c = c.loop-number.invariant.same ∙ c.requires.groups
+pub own_at-requires : goal.own_at-requires
+own_at-requires c = subst (λ (contacts : GroupsOf). AreSources c.args.tables.now contacts c.args.periods.now) (sym c.loop-number.invariant.same) c.requires.sources
 
 pub loop-number-preserved : goal.loop-number-preserved
 loop-number-preserved c =

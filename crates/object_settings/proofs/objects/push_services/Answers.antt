@@ -1,7 +1,9 @@
-use Rattle.std.proofs.Common.{◌≡◌, ◌∙◌, List, ap, arith, get_or, length, refl, ℕ}
+use Rattle.std.proofs.Common.{◌≡◌, ◌∙◌, List, ap, arith, get_or, length, refl, subst, sym, ℕ}
 use Rattle.std.proofs.lemmas.Slice.Zip.{AllZip-long}
+use Rattle.object_groups.specs.Groups.{GroupsOf}
 use Rattle.object_groups.specs.Objects.{names_in, objects_in, ObjectsOf}
 use Rattle.object_reader.specs.declared.block.BlockKind.TheVariants.{Service}
+use Rattle.object_readings.specs.Sources.{AreSources}
 use Rattle.object_services.specs.Hosts.{AreHosts}
 use Rattle.object_settings.proofs.ObjectLemmas.{block-hosts, named-at, objects-all, objects-more, objects-none}
 use Rattle.object_settings.proofs.objects.push_services.Goals as goal
@@ -12,8 +14,9 @@ loop-number-init c = record {
   added = objects-none c.args.tables.now c.args.objects.now.items;
 }
 
-pub push_services_at-requires-clause-groups : goal.push_services_at-requires-clause-groups
-push_services_at-requires-clause-groups c = c.loop-number.invariant.same ∙ c.requires.groups
+pub push_services_at-requires-clause-sources : goal.push_services_at-requires-clause-sources
+push_services_at-requires-clause-sources c =
+    subst (λ (contacts : GroupsOf). AreSources c.args.tables.now contacts c.args.periods.now) (sym c.loop-number.invariant.same) c.requires.sources
 
 pub push_services_at-requires-clause-named : goal.push_services_at-requires-clause-named
 push_services_at-requires-clause-named c =

@@ -21,7 +21,7 @@ returns-clause-given c =
       first = c.number_at.ensures ∙ read-are (λ bs d. number_at bs d 0 place) blocks inside (codes "first_notification") times.firsts same c.self.invariant.times_are.firsts_are;
       last = c.number_at-2.ensures ∙ read-are (λ bs d. number_at bs d 0 place) blocks inside (codes "last_notification") times.lasts same c.self.invariant.times_are.lasts_are;
       interval = c.own_number.ensures ∙ read-are (λ bs d. own_number bs d place) blocks inside (codes "notification_interval") times.intervals same c.self.invariant.times_are.intervals_are;
-      period = c.own_period.ensures ∙ ap (λ (periods : List (List ℕ)). own_period periods filters.periods.blocks filters.periods.directive place) c.requires.periods
+      period = c.own_period.ensures ∙ ap (λ (periods : List (List ℕ)). own_period periods filters.periods.blocks filters.periods.directive place) c.requires.sources.names
           ∙ read-are (λ bs d. own_period (names_in blocks TimePeriod) bs d place) blocks inside (codes "escalation_period") filters.periods same c.self.invariant.filters_are.periods_are;
       options = c.letters_at.ensures ∙ read-are (λ bs d. letters_at bs d c.args.kind place) blocks inside (codes "escalation_options") filters.options same c.self.invariant.filters_are.options_are;
       lacks = c.gives_neither.ensures

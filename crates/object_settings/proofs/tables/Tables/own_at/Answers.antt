@@ -23,7 +23,7 @@ returns-clause-own c =
       options = c.letters_at.ensures ∙ read-are (λ bs d. letters_at bs d c.args.kind place) blocks inside (codes "notification_options") filters.options same c.self.invariant.filters_are.options_are;
       delay = c.number_at.ensures ∙ read-are (λ bs d. number_at bs d 0 place) blocks inside (codes "first_notification_delay") times.delays same c.self.invariant.times_are.delays_are;
       interval = c.own_number.ensures ∙ read-are (λ bs d. own_number bs d place) blocks inside (codes "notification_interval") times.intervals same c.self.invariant.times_are.intervals_are;
-      period = c.own_period.ensures ∙ ap (λ (periods : List (List ℕ)). own_period periods times.periods.blocks times.periods.directive place) c.requires.periods
+      period = c.own_period.ensures ∙ ap (λ (periods : List (List ℕ)). own_period periods times.periods.blocks times.periods.directive place) c.requires.sources.names
           ∙ read-are (λ bs d. own_period (names_in blocks TimePeriod) bs d place) blocks inside (codes "notification_period") times.periods same c.self.invariant.times_are.periods_are;
       lacks = c.gives_neither.ensures
           ∙ ap (λ (bs : List Block). gives_neither bs contact_directives place) listed;
