@@ -4,10 +4,8 @@ ghost use Rattle.std.specs.Prelude.{◌≡◌, ◌≤◌, length};
 ghost use Rattle.due_model.specs.Limits.{max_periods};
 ghost use Rattle.object_dependencies.specs.Pairs.{ArePairsBelow};
 ghost use Rattle.object_groups.specs.declared.groups.GroupKind.TheVariants.{HostGroups};
-ghost use Rattle.object_groups.specs.Objects.{objects_in};
-ghost use Rattle.object_reader.specs.declared.block.BlockKind.TheVariants.{Service};
-ghost use Rattle.object_services.specs.Limits.{AreHostLists};
 
+use acceptance_objects::question::{Question, answer_of};
 use due_model::config::{Dependency, PeriodId};
 use due_model::limits::MAX_PERIODS;
 use due_model::state::StateSet;
@@ -15,15 +13,13 @@ use object_dependencies::blocks::DependencyBlocks;
 use object_dependencies::entries::dependencies_of;
 use object_dependencies::pairs::DependencyPairs;
 use object_dependency_loops::loops::loop_of;
-use object_groups::groups::{GroupKind, Groups};
+use object_groups::groups::Groups;
 use object_groups::names::Names;
 use object_groups::objects::Objects;
 use object_inheritance::templates::Templates;
-use object_reader::block::{Block, BlockKind};
-use object_reader::reading::read;
+use object_reader::block::BlockKind;
 use object_service_groups::groups::ServiceGroups;
 use object_services::blocks::ServiceBlocks;
-use object_services::numbers::ServiceNumbers;
 use object_services::services::{LimitFault, ServiceHosts};
 use std::alloc::{AllocError, Global};
 use std::fmt::Write;
@@ -150,64 +146,23 @@ fn show_loop<'a>(
     }
 }
 
-/// What is asked of the blocks, where these are the hosts of the service blocks.
-fn show_with_lists<'a>(
-    alloc: Global,
-    out: &mut String,
-    templates: &Templates<'a>,
-    services: &ServiceBlocks<'a>,
-    lists: &ServiceHosts,
-    hosts: &mut Groups<'a>,
-    asked: Asked,
-) -> Result<(), AllocError>
-    requires services { services.now ≡ templates.now }
-    requires lists { AreHostLists templates.now (objects_in templates.now Service) lists.now }
-    requires hosts { hosts.old ≡ record { blocks = templates.now; kind = HostGroups } }
-{
-    let numbers = ServiceNumbers::new(alloc, services.objects().names(), lists)?;
-    let names = hosts.objects().names();
-    let mut groups = ServiceGroups::new(alloc, templates, services, lists, &numbers, names)?;
-    let blocks = DependencyBlocks::new(alloc, templates, services, lists, hosts)?;
-    match asked {
-        Asked::Loop => show_loop(alloc, out, &blocks, hosts, &mut groups),
-        _ => show_entries(alloc, out, templates, &blocks, hosts, &mut groups, asked),
+impl Question for Asked {
+    fn answer<'a>(
+        &self,
+        alloc: Global,
+        out: &mut String,
+        templates: &Templates<'a>,
+        services: &ServiceBlocks<'a>,
+        lists: &ServiceHosts,
+        hosts: &mut Groups<'a>,
+        groups: &mut ServiceGroups<'a>,
+    ) -> Result<(), AllocError> {
+        let blocks = DependencyBlocks::new(alloc, templates, services, lists, hosts)?;
+        match *self {
+            Asked::Loop => show_loop(alloc, out, &blocks, hosts, groups),
+            asked => show_entries(alloc, out, templates, &blocks, hosts, groups, asked),
+        }
     }
-}
-
-/// The same, where these are the service blocks.
-fn show_with_services<'a>(
-    alloc: Global,
-    out: &mut String,
-    templates: &Templates<'a>,
-    services: &ServiceBlocks<'a>,
-    asked: Asked,
-) -> Result<(), AllocError>
-    requires { services.now ≡ templates.now }
-{
-    let mut hosts = Groups::new(alloc, templates, GroupKind::HostGroups)?;
-    let Ok(lists) = ServiceHosts::new(alloc, services, &mut hosts) else {
-        return out.push_str("objects");
-    };
-    show_with_lists(alloc, out, templates, services, &lists, &mut hosts, asked)
-}
-
-/// The same of blocks.
-fn show(alloc: Global, out: &mut String, blocks: &[Block], asked: Asked) -> Result<(), AllocError> {
-    let Ok(templates) = Templates::new(alloc, blocks) else {
-        return out.push_str("templates");
-    };
-    let services = ServiceBlocks::new(alloc, &templates)?;
-    show_with_services(alloc, out, &templates, &services, asked)
-}
-
-/// The same of a text.
-fn asked_of(alloc: Global, text: &str, asked: Asked) -> Result<String, AllocError> {
-    let mut out = String::new(alloc);
-    match read(alloc, text.as_bytes()) {
-        Ok(blocks) => show(alloc, &mut out, blocks.as_slice(), asked)?,
-        Err(_) => out.push_str("unread")?,
-    }
-    Ok(out)
 }
 
 /// Hosts a, b and c, the numbers 0, 1 and 2. Service s of a is object 3, s of b object 4, and t of b object 5. Group g has
@@ -387,7 +342,7 @@ const LOOPS: [(&str, &str); 11] = [
 /// What is asked of the blocks, after those objects.
 fn after_objects(alloc: Global, text: &str, asked: Asked) -> Result<String, AllocError> {
     let all = [OBJECTS, text].concat(alloc)?;
-    asked_of(alloc, all.as_str(), asked)
+    answer_of(alloc, all.as_str(), &asked)
 }
 
 #[test]
@@ -439,7 +394,7 @@ fn asked_of_site(
     asked: Asked,
 ) -> Result<String, AllocError> {
     let text = site(alloc, masters, dependents, blocks)?;
-    asked_of(alloc, text.as_str(), asked)
+    answer_of(alloc, text.as_str(), &asked)
 }
 
 /// A block of 100 masters and 1,000 dependents gives 100,000 dependencies: ten blocks fit, and not one more. The block that

@@ -1,12 +1,7 @@
 //! The objects of which escalation blocks speak, as the manual's rules give them.
 
-ghost use Rattle.std.specs.Prelude.{◌≡◌};
-ghost use Rattle.object_groups.specs.declared.groups.GroupKind.TheVariants.{HostGroups};
-ghost use Rattle.object_groups.specs.Objects.{objects_in};
-ghost use Rattle.object_reader.specs.declared.block.BlockKind.TheVariants.{Service};
-ghost use Rattle.object_services.specs.Limits.{AreHostLists};
-
-use crate::shown::{Asked, asked_of, push_numbers};
+use crate::numbers::push_numbers;
+use acceptance_objects::question::{Question, answer_of};
 use object_escalations::escalated::EscalatedObjects;
 use object_groups::groups::Groups;
 use object_inheritance::templates::Templates;
@@ -29,25 +24,25 @@ fn show_objects(out: &mut String, objects: &EscalatedObjects) -> Result<(), Allo
     Ok(())
 }
 
-/// The same, where these are the host groups and the service groups.
-pub(crate) fn show_escalated<'a>(
-    alloc: Global,
-    out: &mut String,
-    templates: &Templates<'a>,
-    services: &ServiceBlocks<'a>,
-    lists: &ServiceHosts,
-    hosts: &mut Groups<'a>,
-    groups: &mut ServiceGroups<'a>,
-) -> Result<(), AllocError>
-    requires services { services.now ≡ templates.now }
-    requires lists { AreHostLists templates.now (objects_in templates.now Service) lists.now }
-    requires hosts { hosts.old ≡ record { blocks = templates.now; kind = HostGroups } }
-    requires groups { groups.old ≡ templates.now }
-{
-    match EscalatedObjects::new(alloc, templates, services, lists, hosts, groups) {
-        Ok(objects) => show_objects(out, &objects),
-        Err(LimitFault::TooMany { place, line }) => write!(out, "{place} {line} TooMany"),
-        Err(LimitFault::NoMemory) => out.push_str("memory"),
+/// The objects of which each escalation block speaks, or the block that passes the limit.
+struct Escalated;
+
+impl Question for Escalated {
+    fn answer<'a>(
+        &self,
+        alloc: Global,
+        out: &mut String,
+        templates: &Templates<'a>,
+        services: &ServiceBlocks<'a>,
+        lists: &ServiceHosts,
+        hosts: &mut Groups<'a>,
+        groups: &mut ServiceGroups<'a>,
+    ) -> Result<(), AllocError> {
+        match EscalatedObjects::new(alloc, templates, services, lists, hosts, groups) {
+            Ok(objects) => show_objects(out, &objects),
+            Err(LimitFault::TooMany { place, line }) => write!(out, "{place} {line} TooMany"),
+            Err(LimitFault::NoMemory) => out.push_str("memory"),
+        }
     }
 }
 
@@ -130,7 +125,7 @@ const CASES: [(&str, &str); 20] = [
 /// The objects of which the blocks speak, after those objects.
 fn objects_after(alloc: Global, text: &str) -> Result<String, AllocError> {
     let all = [OBJECTS, text].concat(alloc)?;
-    asked_of(alloc, all.as_str(), Asked::Escalated)
+    answer_of(alloc, all.as_str(), &Escalated)
 }
 
 #[test]
@@ -160,7 +155,7 @@ fn site(alloc: Global, hosts: u32, escalations: u32) -> Result<String, AllocErro
 #[test]
 fn the_first_block_past_the_limit_of_escalations_is_refused(rt: HostRuntime) -> Result<(), Fail> {
     let text = site(rt.alloc(), 1000, 1002)?;
-    let found = asked_of(rt.alloc(), text.as_str(), Asked::Escalated)?;
+    let found = answer_of(rt.alloc(), text.as_str(), &Escalated)?;
     assert_eq!(rt; found.as_str(), "2000 6001 TooMany");
     Ok(())
 }

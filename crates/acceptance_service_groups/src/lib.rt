@@ -7,4 +7,4 @@ mod escalated;
 #[cfg(test)]
 mod members;
 #[cfg(test)]
-mod shown;
+mod numbers;

@@ -1,7 +1,12 @@
 //! The members of service groups, as the manual's rules give them.
 
-use crate::shown::{Asked, asked_of, push_numbers};
+use crate::numbers::push_numbers;
+use acceptance_objects::question::{Question, answer_of};
+use object_groups::groups::Groups;
+use object_inheritance::templates::Templates;
 use object_service_groups::groups::ServiceGroups;
+use object_services::blocks::ServiceBlocks;
+use object_services::services::ServiceHosts;
 use std::alloc::{AllocError, Global};
 use std::test::Fail;
 
@@ -24,16 +29,25 @@ fn show_group(
     out.push_str("\n")
 }
 
-/// The same of all groups, a line each.
-pub(crate) fn show_groups(
-    alloc: Global,
-    out: &mut String,
-    groups: &mut ServiceGroups,
-) -> Result<(), AllocError> {
-    for number in 0..groups.groups().names().len() {
-        show_group(alloc, out, groups, number)?;
+/// The members of all groups, a line each.
+struct Members;
+
+impl Question for Members {
+    fn answer<'a>(
+        &self,
+        alloc: Global,
+        out: &mut String,
+        _templates: &Templates<'a>,
+        _services: &ServiceBlocks<'a>,
+        _lists: &ServiceHosts,
+        _hosts: &mut Groups<'a>,
+        groups: &mut ServiceGroups<'a>,
+    ) -> Result<(), AllocError> {
+        for number in 0..groups.groups().names().len() {
+            show_group(alloc, out, groups, number)?;
+        }
+        Ok(())
     }
-    Ok(())
 }
 
 /// Hosts a and b. Service s of a has place 0, s of b place 1, and t of b place 2.
@@ -138,7 +152,7 @@ const GROUPS: [(&str, &str); 22] = [
 /// The members of each group, after those services.
 fn members_after(alloc: Global, text: &str) -> Result<String, AllocError> {
     let all = [SERVICES, text].concat(alloc)?;
-    asked_of(alloc, all.as_str(), Asked::Members)
+    answer_of(alloc, all.as_str(), &Members)
 }
 
 #[test]

@@ -1,4 +1,4 @@
-//! From a text to its service groups, and to what is asked of them.
+//! What is asked of the services and the groups of a text.
 
 ghost use Rattle.std.specs.Prelude.{◌≡◌};
 ghost use Rattle.object_groups.specs.declared.groups.GroupKind.TheVariants.{HostGroups};
@@ -6,8 +6,6 @@ ghost use Rattle.object_groups.specs.Objects.{objects_in};
 ghost use Rattle.object_reader.specs.declared.block.BlockKind.TheVariants.{Service};
 ghost use Rattle.object_services.specs.Limits.{AreHostLists};
 
-use crate::escalated::show_escalated;
-use crate::members::show_groups;
 use object_groups::groups::{GroupKind, Groups};
 use object_inheritance::templates::Templates;
 use object_reader::block::Block;
@@ -17,34 +15,36 @@ use object_services::blocks::ServiceBlocks;
 use object_services::numbers::ServiceNumbers;
 use object_services::services::ServiceHosts;
 use std::alloc::{AllocError, Global};
-use std::fmt::Write;
 
 /// What is asked of blocks.
-#[derive(Clone, Copy)]
-pub(crate) enum Asked {
-    /// The members of each service group.
-    Members,
-    /// The objects of which each escalation block speaks.
-    Escalated,
+pub trait Question {
+    /// Adds the answer, where these are the service blocks, their hosts, the host groups and the service groups, all of the same
+    /// blocks.
+    fn answer<'a>(
+        &self,
+        alloc: Global,
+        out: &mut String,
+        templates: &Templates<'a>,
+        services: &ServiceBlocks<'a>,
+        lists: &ServiceHosts,
+        hosts: &mut Groups<'a>,
+        groups: &mut ServiceGroups<'a>,
+    ) -> Result<(), AllocError>
+        requires services { services.now ≡ templates.now }
+        requires lists { AreHostLists templates.now (objects_in templates.now Service) lists.now }
+        requires hosts { hosts.old ≡ record { blocks = templates.now; kind = HostGroups } }
+        requires groups { groups.old ≡ templates.now };
 }
 
-/// Adds each number and a dot.
-pub(crate) fn push_numbers(out: &mut String, numbers: &[usize]) -> Result<(), AllocError> {
-    for number in numbers {
-        write!(out, "{number}.")?;
-    }
-    Ok(())
-}
-
-/// What is asked, where these are the hosts of the service blocks.
-fn show_with_lists<'a>(
+/// The answer, where these are the hosts of the service blocks.
+fn answer_with_lists<'a, Q: Question>(
     alloc: Global,
     out: &mut String,
     templates: &Templates<'a>,
     services: &ServiceBlocks<'a>,
     lists: &ServiceHosts,
     hosts: &mut Groups<'a>,
-    asked: Asked,
+    question: &Q,
 ) -> Result<(), AllocError>
     requires services { services.now ≡ templates.now }
     requires lists { AreHostLists templates.now (objects_in templates.now Service) lists.now }
@@ -53,45 +53,51 @@ fn show_with_lists<'a>(
     let numbers = ServiceNumbers::new(alloc, services.objects().names(), lists)?;
     let names = hosts.objects().names();
     let mut groups = ServiceGroups::new(alloc, templates, services, lists, &numbers, names)?;
-    match asked {
-        Asked::Members => show_groups(alloc, out, &mut groups),
-        Asked::Escalated => {
-            show_escalated(alloc, out, templates, services, lists, hosts, &mut groups)
-        }
-    }
+    question.answer(alloc, out, templates, services, lists, hosts, &mut groups)
 }
 
 /// The same, where these are the service blocks.
-fn show_with_services<'a>(
+fn answer_with_services<'a, Q: Question>(
     alloc: Global,
     out: &mut String,
     templates: &Templates<'a>,
     services: &ServiceBlocks<'a>,
-    asked: Asked,
+    question: &Q,
 ) -> Result<(), AllocError>
     requires { services.now ≡ templates.now }
 {
     let mut hosts = Groups::new(alloc, templates, GroupKind::HostGroups)?;
     let Ok(lists) = ServiceHosts::new(alloc, services, &mut hosts) else {
-        return out.push_str("limit");
+        return out.push_str("too many objects");
     };
-    show_with_lists(alloc, out, templates, services, &lists, &mut hosts, asked)
+    answer_with_lists(
+        alloc, out, templates, services, &lists, &mut hosts, question,
+    )
 }
 
 /// The same of blocks.
-fn show(alloc: Global, out: &mut String, blocks: &[Block], asked: Asked) -> Result<(), AllocError> {
+fn answer_blocks<Q: Question>(
+    alloc: Global,
+    out: &mut String,
+    blocks: &[Block],
+    question: &Q,
+) -> Result<(), AllocError> {
     let Ok(templates) = Templates::new(alloc, blocks) else {
-        return out.push_str("templates");
+        return out.push_str("refused templates");
     };
     let services = ServiceBlocks::new(alloc, &templates)?;
-    show_with_services(alloc, out, &templates, &services, asked)
+    answer_with_services(alloc, out, &templates, &services, question)
 }
 
-/// The same of a text.
-pub(crate) fn asked_of(alloc: Global, text: &str, asked: Asked) -> Result<String, AllocError> {
+/// The answer of a text, or what it is refused for before anything can be asked.
+pub fn answer_of<Q: Question>(
+    alloc: Global,
+    text: &str,
+    question: &Q,
+) -> Result<String, AllocError> {
     let mut out = String::new(alloc);
     match read(alloc, text.as_bytes()) {
-        Ok(blocks) => show(alloc, &mut out, blocks.as_slice(), asked)?,
+        Ok(blocks) => answer_blocks(alloc, &mut out, blocks.as_slice(), question)?,
         Err(_) => out.push_str("unread")?,
     }
     Ok(out)
