@@ -1,22 +1,20 @@
 -- Hosts of plain blocks.
-use Rattle.std.proofs.Common.{◌≡◌, ℕ, Bool, true, false, cond, List, [], ◌∷◌, Option, Some, None, refl, sym, ap, subst, ◌∙◌, ◌⊎◌, inl, inr}
-use Rattle.std.specs.Prelude.{codes, Contains, is_none, map, not, ◌==◌, ◌↔◌, unwrap_or}
+use Rattle.std.proofs.Common.{◌≡◌, ℕ, Bool, true, false, cond, List, [], ◌∷◌, Option, Some, None, refl, sym, ap, subst, ◌∙◌, inl, inr}
+use Rattle.std.specs.Prelude.{codes, map, not, ◌==◌, ◌↔◌, unwrap_or}
 use Rattle.std.specs.Option.{option_and_then, option_map, option_map_or}
 use Rattle.std.proofs.lemmas.Bool.{false≢true}
 use Rattle.lemmas.proofs.Elements.{Contains-none}
 use Rattle.due_model.specs.Options.{every_letter}
-use Rattle.due_model.specs.declared.config.Object.{Object}
 use Rattle.due_model.specs.declared.config.PeriodId.{PeriodId}
-use Rattle.object_groups.specs.Names.{Lists, numbers_of}
+use Rattle.object_groups.specs.Names.{Lists}
 use Rattle.object_groups.specs.Objects.{list_at, names_in}
-use Rattle.object_inheritance.specs.Inherited.{list, name_of, own, own_entries, value}
+use Rattle.object_inheritance.specs.Inherited.{name_of, own, own_entries}
 use Rattle.object_inheritance.specs.Laws.{PlainBlockHasItsOwn, PlainListHasItsOwn}
 use Rattle.object_listing.specs.Listing.{AreThose, contact_directives, gives_neither, IsListed}
 use Rattle.object_reader.specs.declared.block.Block.{Block}
 use Rattle.object_reader.specs.declared.block.BlockKind.TheVariants.{Contact, ContactGroup, TimePeriod}
 use Rattle.object_readings.specs.Readings.{own_number, own_period, period_named}
 use Rattle.object_settings.specs.Laws.{PlainHostHasItsOwn}
-use Rattle.object_settings.specs.Settings.{contacts_from, HasSettings, IsHostOf}
 use Rattle.object_values.specs.Options.{options_in}
 use Rattle.object_values.specs.Values.{number_in}
 use Rattle.object_values.specs.declared.options.OptionKind.TheVariants as lists

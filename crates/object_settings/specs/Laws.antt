@@ -1,5 +1,5 @@
 -- Laws of the objects of blocks, of any blocks.
-use Rattle.std.specs.Prelude.{◌≡◌, ℕ, Bool, true, not, ◌==◌, List, [], map, codes, unwrap_or, Option, None}
+use Rattle.std.specs.Prelude.{◌≡◌, ℕ, true, not, ◌==◌, List, [], map, codes, unwrap_or, Option, None}
 use Rattle.std.specs.Option.{option_and_then, option_map, option_map_or}
 use Rattle.due_model.specs.Options.{every_letter}
 use Rattle.due_model.specs.declared.config.Object.{Object}

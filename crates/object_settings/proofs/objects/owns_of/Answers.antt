@@ -9,7 +9,9 @@ use Rattle.object_settings.proofs.ObjectLemmas.{owns-more}
 use Rattle.object_settings.proofs.objects.owns_of.Goals as goal
 
 pub own_at-requires : goal.own_at-requires
-own_at-requires c = subst (λ (contacts : GroupsOf). AreSources c.args.tables.now contacts c.args.periods.now) (sym c.loop-number.invariant.same) c.requires.sources
+own_at-requires c = record {
+  sources = subst (λ (contacts : GroupsOf). AreSources c.args.tables.now contacts c.args.periods.now) (sym c.loop-number.invariant.same) c.requires.sources;
+}
 
 pub loop-number-preserved : goal.loop-number-preserved
 loop-number-preserved c =
