@@ -6,8 +6,14 @@ use Rattle.object_reader.specs.declared.block.BlockKind.TheVariants.{Service}
 use Rattle.object_service_groups.proofs.GroupLemmas.{count-is, kept-are}
 use Rattle.object_service_groups.proofs.groups.ServiceGroups.new.Goals as goal
 
-pub graph_of-requires-clause-blocks : goal.graph_of-requires-clause-blocks
-graph_of-requires-clause-blocks c = c.objects-blocks.ensures ∙ ap (λ (bs : List Block). record { blocks = bs; kind = Service }) c.requires.services
+pub graph_of-requires-clause-tables : goal.graph_of-requires-clause-tables
+graph_of-requires-clause-tables c = record {
+  service_blocks = c.objects-blocks.ensures ∙ ap (λ (bs : List Block). record { blocks = bs; kind = Service }) c.requires.services;
+  host_lists = c.requires.lists;
+  pairs_are = c.requires.numbers;
+  host_names = c.requires.hosts;
+  group_table = c.in_ok-groups.ensures;
+}
 
 pub graph_of-requires-clause-few : goal.graph_of-requires-clause-few
 graph_of-requires-clause-few c =
