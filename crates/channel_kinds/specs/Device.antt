@@ -4,14 +4,15 @@ use Rattle.channel.specs.declared.Kind.{Kind}
 use Rattle.channel.specs.declared.Kind.TheVariants as kinds
 use Rattle.channel_kinds.specs.declared.device.AnyDevice.{AnyDevice}
 use Rattle.channel_kinds.specs.declared.device.AnyDevice.TheVariants.{Mailbox, Pager, Spawned}
-use Rattle.channel_kinds.specs.Mailbox.{Mail, Posts}
-use Rattle.channel_kinds.specs.Pager.{Paged, Pages}
+use Rattle.channel_kinds.specs.Mailbox.{Mail, mailbox_limit, Posts}
+use Rattle.channel_kinds.specs.Pager.{Paged, pager_limit, Pages}
+use Rattle.channel_kinds.specs.Spawned.{program_limit}
 
 -- how many bytes a text has at most
 abbrev pub limit_of : {W S R : Type 0} → AnyDevice W S R → ℕ
-limit_of (Mailbox mailbox) = 65536
-limit_of (Pager pager) = 1024
-limit_of (Spawned spawned) = 16384
+limit_of (Mailbox mailbox) = mailbox_limit
+limit_of (Pager pager) = pager_limit
+limit_of (Spawned spawned) = program_limit
 
 abbrev pub kind_of : {W S R : Type 0} → AnyDevice W S R → Kind
 kind_of (Mailbox mailbox) = kinds.Mailbox

@@ -7,6 +7,10 @@ use Rattle.written.specs.Written.{WritesFront}
 pub record Mail (W : Type 0) : Type 0 where
   pub writer : W
 
+-- how many bytes a text has at most
+abbrev pub mailbox_limit : ℕ
+mailbox_limit = 65536
+
 -- what is written last
 abbrev pub closing_line : List ℕ
 closing_line = codes "-- closed\n"

@@ -9,6 +9,10 @@ pub record Paged (S : Type 0) : Type 0 where
   pub stream : S
   pub is_over : Bool
 
+-- how many bytes a text has at most
+abbrev pub pager_limit : ℕ
+pager_limit = 1024
+
 -- what is written for a text: how many bytes it has, and the text
 abbrev pub page_of : List ℕ → List ℕ
 page_of text = codes "PAGE " ++ decimal (length text) ++ 10 ∷ [] ++ text

@@ -59,11 +59,11 @@ impl<W: Write + Drop> Drop for Mailbox<W> {
 
 impl<W: Write + Drop> TextDevice for Mailbox<W> {
     ghost use Rattle.channel.specs.declared.Kind.TheVariants as kinds;
-    ghost use Rattle.channel_kinds.specs.Mailbox.{Posts};
+    ghost use Rattle.channel_kinds.specs.Mailbox.{mailbox_limit, Posts};
 
     ghost kind = { λ _. kinds.Mailbox };
 
-    ghost limit = { λ _. 65536 };
+    ghost limit = { λ _. mailbox_limit };
 
     ghost sends = { Posts W.contents };
 

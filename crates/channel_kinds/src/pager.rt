@@ -2,7 +2,7 @@
 
 ghost use Rattle.std.specs.Prelude.{◌≡◌, ◌+◌, ◌≤◌, ◌++◌, false, length, OnOk};
 ghost use Rattle.std.specs.Io.KnownBytes.{Appends};
-ghost use Rattle.channel_kinds.specs.Pager.{Talks, farewell, page_of};
+ghost use Rattle.channel_kinds.specs.Pager.{Talks, farewell, page_of, pager_limit};
 ghost use Rattle.written.specs.Written.{WritesFront};
 
 use crate::answer;
@@ -74,11 +74,11 @@ impl<S: Read + Write + Drop> Drop for Pager<S> {
 
 impl<S: Read + Write + Drop> TextDevice for Pager<S> {
     ghost use Rattle.channel.specs.declared.Kind.TheVariants as kinds;
-    ghost use Rattle.channel_kinds.specs.Pager.{Pages};
+    ghost use Rattle.channel_kinds.specs.Pager.{pager_limit, Pages};
 
     ghost kind = { λ _. kinds.Pager };
 
-    ghost limit = { λ _. 1024 };
+    ghost limit = { λ _. pager_limit };
 
     ghost sends = { Pages S.contents S.remaining };
 
@@ -104,7 +104,7 @@ impl<S: Read + Write + Drop> TextDevice for Pager<S> {
 
 /// Writes a page and hears the answer: whether the letter is taken.
 fn talk<S: Read + Write>(stream: &mut S, text: &[u8]) -> bool
-    requires { length text.now ≤ 1024 }
+    requires { length text.now ≤ pager_limit }
     ensures { Talks S.contents S.remaining stream.old stream.new text.now result }
 {
     write_page(stream, text).is_ok() && answer::is_taken(stream)
@@ -112,7 +112,7 @@ fn talk<S: Read + Write>(stream: &mut S, text: &[u8]) -> bool
 
 /// Writes a page, by one call where the writer takes it. Where the writer fails, a front of it was written.
 fn write_page<W: Write>(writer: &mut W, text: &[u8]) -> Result<(), DeviceFailed>
-    requires { length text.now ≤ 1024 }
+    requires { length text.now ≤ pager_limit }
     ensures ok { OnOk result
         (Appends (W.contents writer.old) (W.contents writer.new) (page_of text.now)) }
     ensures front { WritesFront (W.contents writer.old) (W.contents writer.new)
@@ -123,7 +123,7 @@ fn write_page<W: Write>(writer: &mut W, text: &[u8]) -> Result<(), DeviceFailed>
 
 /// A text after what stands before it.
 fn page_of(text: &[u8]) -> ArrayVec<u8, 1100>
-    requires { length text.now ≤ 1024 }
+    requires { length text.now ≤ pager_limit }
     ensures { result.items ≡ page_of text.now }
 {
     let mut page = ArrayVec::new();

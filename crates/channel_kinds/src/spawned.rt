@@ -75,10 +75,11 @@ impl<R: Processes<Started = SystemProcess> + Drop> Drop for Spawned<R> {
 
 impl<R: Processes<Started = SystemProcess> + Drop> TextDevice for Spawned<R> {
     ghost use Rattle.channel.specs.declared.Kind.TheVariants as kinds;
+    ghost use Rattle.channel_kinds.specs.Spawned.{program_limit};
 
     ghost kind = { λ _. kinds.Spawned };
 
-    ghost limit = { λ _. 16384 };
+    ghost limit = { λ _. program_limit };
 
     // The program and its arguments stay.
     ghost sends = { λ old _ _ new. new ≡ old };
