@@ -1,3 +1,4 @@
+use Rattle.std.proofs.Common.{rules}
 use Rattle.due_model.specs.Limits.{max_contacts}
 use Rattle.object_reader.specs.declared.block.BlockKind.TheVariants.{Contact}
 use Rattle.object_resolve.proofs.EntryLemmas.{objects-few, spoken-long, spoken-within}
