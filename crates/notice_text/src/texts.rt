@@ -1,6 +1,6 @@
 //! The texts of numbers, objects, contacts and lanes.
 
-ghost use Rattle.std.specs.Prelude.{◌≡◌, ◌++◌, OnOk};
+ghost use Rattle.std.specs.Prelude.{◌≡◌, ◌++◌, ℕ, List, OnErr, OnOk};
 ghost use Rattle.notice_text.specs.Texts.{contact_text, host_part, lane_text, number_text};
 ghost use Rattle.notice_text.specs.Texts.{object_text, own_name};
 
@@ -8,9 +8,10 @@ use due_model::config::{Config, ContactId, LaneId, ObjectId};
 use itoa::Buffer;
 use std::alloc::AllocError;
 
-/// Adds the number of a notice, a dash where it has none. A refused growth is the only error.
+/// Adds the number of a notice, a dash where it has none. A refused growth is the only error, and adds nothing.
 pub fn push_notice_number(text: &mut Vec<u8>, number: u64) -> Result<(), AllocError>
-    ensures { OnOk result (text.new.items ≡ text.old.items ++ number_text number) }
+    ensures number { OnOk result (text.new.items ≡ text.old.items ++ number_text number) }
+    ensures left { OnErr result (text.new.items ≡ text.old.items) }
 {
     if number == 0 {
         text.extend_from_slice(b"-")
@@ -32,7 +33,8 @@ fn own_name(config: &Config, object: ObjectId) -> &[u8]
 
 /// Adds the name of a service's host, and a slash.
 fn push_host(text: &mut Vec<u8>, config: &Config, host: Option<ObjectId>) -> Result<(), AllocError>
-    ensures { OnOk result (text.new.items ≡ text.old.items ++ host_part config.now host) }
+    ensures host { OnOk result (text.new.items ≡ text.old.items ++ host_part config.now host) }
+    ensures left { OnErr result ((more : List ℕ) × (text.new.items ≡ text.old.items ++ more)) }
 {
     let Some(host) = host else {
         return Ok(());
@@ -42,9 +44,11 @@ fn push_host(text: &mut Vec<u8>, config: &Config, host: Option<ObjectId>) -> Res
 }
 
 /// Adds an object: `host`, or `host/service`; nothing for a number that no object has. A refused growth is the only
-/// error.
+/// error, and leaves what was there, and what was added before it.
 pub fn push_object(text: &mut Vec<u8>, config: &Config, object: ObjectId) -> Result<(), AllocError>
-    ensures { OnOk result (text.new.items ≡ text.old.items ++ object_text config.now object.0) }
+    ensures object { OnOk result
+        (text.new.items ≡ text.old.items ++ object_text config.now object.0) }
+    ensures left { OnErr result ((more : List ℕ) × (text.new.items ≡ text.old.items ++ more)) }
 {
     match config.objects.as_slice().get(object.0 as usize) {
         Some(object) => {
