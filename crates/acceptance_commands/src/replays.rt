@@ -1,16 +1,17 @@
 //! Replays of the worked examples, over readers and writers in memory.
 
-ghost use Rattle.std.specs.Prelude.{IsErrOf, false, true};
+ghost use Rattle.std.specs.Prelude.{IsErrOf};
 
 use acceptance_inputs::readers::{self, Watching};
 use acceptance_inputs::texts::input;
-use command_output::{CommandFault, Ending, Sink};
+use acceptance_writers::{Counting, Stubborn};
+use command_output::{CommandFault, Ending};
 use object_reader::fault::LineFault;
 use object_resolve::{BlockFault, LoadFault};
 use replay::replay;
 use std::alloc::Global;
 use std::cell::Cell;
-use std::io::{self, Read, Write};
+use std::io::Read;
 use std::process::Abort;
 use std::test::Fail;
 use text_lines::{AnyReader, Input};
@@ -146,42 +147,6 @@ fn refused_objects(rt: HostRuntime) -> Result<(), Fail> {
     Ok(())
 }
 
-/// A writer that takes five bytes at a call, and from the call of this number on fails, or takes nothing.
-#[derive(Drop)]
-struct Stubborn {
-    calls: usize,
-    fails: bool,
-    taken: Vec<u8>,
-}
-
-impl Write for Stubborn {
-    fn write(&mut self, buf: &[u8]) -> io::Result<usize> {
-        if self.calls == 0 {
-            return if self.fails {
-                Err(io::Error::from(io::ErrorKind::Other))
-            } else {
-                Ok(0)
-            };
-        }
-        self.calls -= 1;
-        let count = buf.len().min(5);
-        self.taken.extend_from_slice(&buf[..count])?;
-        Ok(count)
-    }
-
-    fn flush(&mut self) -> io::Result<()> {
-        Ok(())
-    }
-}
-
-impl Sink for Stubborn {
-    ghost can_fail = { true };
-
-    fn write_some(&mut self, bytes: &[u8]) -> io::Result<usize> {
-        self.write(bytes)
-    }
-}
-
 /// Replays a text in pieces of several sizes.
 fn gives_in_pieces(rt: &impl Abort, alloc: Global, text: &[u8], report: &str) {
     for most in [1, 2, 3, 7, 4096] {
@@ -235,32 +200,6 @@ fn output_fails(rt: HostRuntime) -> Result<(), Fail> {
         stops_at(&rt, rt.alloc(), text.as_bytes(), calls, true);
     }
     Ok(())
-}
-
-/// A writer that counts the bytes that it takes.
-#[derive(Drop)]
-struct Counting<'a> {
-    written: &'a Cell<usize>,
-}
-
-impl Write for Counting<'_> {
-    fn write(&mut self, buf: &[u8]) -> io::Result<usize> {
-        self.write_some(buf)
-    }
-
-    fn flush(&mut self) -> io::Result<()> {
-        Ok(())
-    }
-}
-
-impl Sink for Counting<'_> {
-    ghost can_fail = { false };
-
-    fn write_some(&mut self, bytes: &[u8]) -> io::Result<usize> {
-        self.written
-            .set(self.written.get().saturating_add(bytes.len()));
-        Ok(bytes.len())
-    }
 }
 
 /// Replays into a writer that counts: it can't fail, so that the output isn't what a replay fails with.

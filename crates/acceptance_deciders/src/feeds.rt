@@ -5,6 +5,7 @@ ghost use Rattle.due_model.specs.Accepted.{IsAccepted};
 ghost use Rattle.due_model.specs.Proper.{IsProper};
 
 use crate::comparison::compare;
+use crate::numbers::Numbers;
 use crate::said::Said;
 use acceptance_inputs::events::are_proper;
 use due_model::config::Config;
@@ -52,23 +53,6 @@ struct Host {
     name: &'static str,
     contacts: &'static str,
     interval: u32,
-}
-
-/// Numbers that look random: a linear congruential generator, of which the high bits count.
-#[derive(Clone, Copy, Debug)]
-struct Numbers {
-    state: u64,
-}
-
-impl Numbers {
-    /// The next number.
-    fn next(&mut self) -> u64 {
-        self.state = self
-            .state
-            .wrapping_mul(6_364_136_223_846_793_005)
-            .wrapping_add(1_442_695_040_888_963_407);
-        self.state >> 33
-    }
 }
 
 /// The text that gives these hosts.

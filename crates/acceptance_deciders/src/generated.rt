@@ -7,6 +7,7 @@ ghost use Rattle.due_model.specs.Accepted.{IsAccepted};
 ghost use Rattle.due_model.specs.Proper.{IsProper};
 
 use crate::comparison;
+use crate::numbers::Numbers;
 use acceptance_inputs::accepted::is_accepted;
 use acceptance_inputs::events::are_proper;
 use acceptance_inputs::rows::{ContactRow, EscalationRow, ObjectRow, Rows, config_of};
@@ -61,22 +62,7 @@ const ON: [&[LaneId]; 4] = [
     &[LaneId(0), LaneId(0)],
 ];
 
-/// Numbers that look random: a linear congruential generator, of which the high bits count.
-#[derive(Clone, Copy)]
-struct Numbers {
-    state: u64,
-}
-
 impl Numbers {
-    /// The next number.
-    fn next(&mut self) -> u64 {
-        self.state = self
-            .state
-            .wrapping_mul(6_364_136_223_846_793_005)
-            .wrapping_add(1_442_695_040_888_963_407);
-        self.state >> 33
-    }
-
     /// A number less than this.
     fn below(&mut self, end: u64) -> u64
         requires { 0 < end }

@@ -11,4 +11,6 @@ mod feeds;
 #[cfg(test)]
 mod generated;
 #[cfg(test)]
+mod numbers;
+#[cfg(test)]
 mod said;

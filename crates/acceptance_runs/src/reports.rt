@@ -1,9 +1,10 @@
 //! Reports of the worked examples.
 
-use crate::watchers::{Counting, Noting, Stubborn};
+use crate::watchers::Noting;
 use acceptance_inputs::accepted::is_accepted;
 use acceptance_inputs::configs::base;
 use acceptance_inputs::readers::Watching;
+use acceptance_writers::{Counting, Stubborn};
 use channel::Channel;
 use channel::memory::MemoryChannel;
 use command_output::{CommandFault, Ending, Sink};
@@ -184,6 +185,7 @@ fn reads_on(
     };
     let mut writer = Stubborn {
         calls,
+        fails: true,
         taken: Vec::new(alloc),
     };
     let ended = ends(rt, alloc, config, Some(&[]), reader, &mut writer)?;

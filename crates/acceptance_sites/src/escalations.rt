@@ -1,27 +1,10 @@
 //! Object texts with escalations, and the escalations or the fault that the rules give for each.
 
-use crate::shown::is_shown;
-use crate::site_shown::{load_text, show_escalations};
+use crate::site_shown::{Shown, gives};
 use std::alloc::{AllocError, Global};
 use std::fmt::Write;
 use std::process::Abort;
 use std::test::Fail;
-
-/// What the text gives: its escalations, or the fault.
-fn show_text(alloc: Global, out: &mut String, text: &str) -> Result<(), AllocError> {
-    match load_text(alloc, text) {
-        Ok(config) => show_escalations(out, &config),
-        Err(fault) => write!(out, "{fault}"),
-    }
-}
-
-/// Compares what a text gives.
-fn gives(rt: &impl Abort, alloc: Global, text: &str, wanted: &str) -> Result<(), Fail> {
-    let mut out = String::new(alloc);
-    show_text(alloc, &mut out, text)?;
-    is_shown(rt, out.as_str(), wanted, text);
-    Ok(())
-}
 
 /// Compares what a text gives after another.
 fn gives_after(
@@ -33,7 +16,7 @@ fn gives_after(
 ) -> Result<(), Fail> {
     let mut whole = String::from_str(alloc, front)?;
     whole.push_str(text)?;
-    gives(rt, alloc, whole.as_str(), wanted)
+    gives(rt, alloc, whole.as_str(), wanted, Shown::Escalations)
 }
 
 /// Contacts ann, bob and cat, periods work and night, hosts a and b, which two groups hold that hold each other.
@@ -395,7 +378,19 @@ fn site(
 fn the_first_block_past_a_limit_is_refused(rt: HostRuntime) -> Result<(), Fail> {
     let alloc = rt.alloc();
     let early = site(alloc, 0, 1000, 1002, 4100)?;
-    gives(&rt, alloc, early.as_str(), "line 6001: TooMany")?;
+    gives(
+        &rt,
+        alloc,
+        early.as_str(),
+        "line 6001: TooMany",
+        Shown::Escalations,
+    )?;
     let late = site(alloc, 4097, 1000, 1002, 0)?;
-    gives(&rt, alloc, late.as_str(), "line 12289: TooMany")
+    gives(
+        &rt,
+        alloc,
+        late.as_str(),
+        "line 12289: TooMany",
+        Shown::Escalations,
+    )
 }

@@ -2,20 +2,12 @@
 //! fault.
 
 use crate::shown::is_shown;
-use crate::site_shown::{load_text, show_config};
+use crate::site_shown::{Shown, load_text, show_text};
 use due_model::config::Config;
 use std::alloc::{AllocError, Global};
 use std::fmt::Write;
 use std::process::Abort;
 use std::test::Fail;
-
-/// What the text gives: the configuration, or the fault.
-fn show_text(alloc: Global, out: &mut String, text: &str) -> Result<(), AllocError> {
-    match load_text(alloc, text) {
-        Ok(config) => show_config(out, &config),
-        Err(fault) => write!(out, "{fault}"),
-    }
-}
 
 /// Compares what each text gives after the same text.
 fn each_gives(
@@ -29,7 +21,7 @@ fn each_gives(
         let mut whole = String::from_str(alloc, front)?;
         whole.push_str(text)?;
         let mut out = String::new(alloc);
-        show_text(alloc, &mut out, whole.as_str())?;
+        show_text(alloc, &mut out, whole.as_str(), Shown::Whole)?;
         is_shown(rt, out.as_str(), wanted, text);
     }
     Ok(())

@@ -1,28 +1,10 @@
 //! Object texts of whole sites: templates, groups, services, contacts and time periods, and what the rules give for
 //! each.
 
-use crate::shown::is_shown;
-use crate::site_shown::{load_text, show_config};
-use std::alloc::{AllocError, Global};
-use std::fmt::Write;
+use crate::site_shown::{Shown, gives};
+use std::alloc::Global;
 use std::process::Abort;
 use std::test::Fail;
-
-/// What the text gives: the configuration, or the fault.
-fn show_text(alloc: Global, out: &mut String, text: &str) -> Result<(), AllocError> {
-    match load_text(alloc, text) {
-        Ok(config) => show_config(out, &config),
-        Err(fault) => write!(out, "{fault}"),
-    }
-}
-
-/// Compares what a text gives.
-fn gives(rt: &impl Abort, alloc: Global, text: &str, wanted: &str) -> Result<(), Fail> {
-    let mut out = String::new(alloc);
-    show_text(alloc, &mut out, text)?;
-    is_shown(rt, out.as_str(), wanted, text);
-    Ok(())
-}
 
 /// Compares what each text gives after the same text, and what each wanted text is followed by.
 fn each_gives(
@@ -38,7 +20,7 @@ fn each_gives(
         whole.push_str(text)?;
         let mut all = String::from_str(alloc, wanted)?;
         all.push_str(shown)?;
-        gives(rt, alloc, whole.as_str(), all.as_str())?;
+        gives(rt, alloc, whole.as_str(), all.as_str(), Shown::Whole)?;
     }
     Ok(())
 }
@@ -214,7 +196,7 @@ fn service_gives(rt: &impl Abort, alloc: Global, text: &str, wanted: &str) -> Re
     let mut all = String::from_str(alloc, HOUSE_SHOWN)?;
     all.push_str(wanted)?;
     all.push_str(PEOPLE_SHOWN)?;
-    gives(rt, alloc, whole.as_str(), all.as_str())
+    gives(rt, alloc, whole.as_str(), all.as_str(), Shown::Whole)
 }
 
 #[test]
@@ -306,7 +288,7 @@ const FAULTS: [(&str, &str); 18] = [
 fn faults_come_in_their_order(rt: HostRuntime) -> Result<(), Fail> {
     for row in &FAULTS {
         let (text, wanted) = *row;
-        gives(&rt, rt.alloc(), text, wanted)?;
+        gives(&rt, rt.alloc(), text, wanted, Shown::Whole)?;
     }
     Ok(())
 }
@@ -373,7 +355,7 @@ fn dependencies_are_of_each_dependent_and_master(rt: HostRuntime) -> Result<(), 
         whole.push_str(text)?;
         let mut all = String::from_str(rt.alloc(), DEPENDING_SHOWN)?;
         all.push_str(wanted)?;
-        gives(&rt, rt.alloc(), whole.as_str(), all.as_str())?;
+        gives(&rt, rt.alloc(), whole.as_str(), all.as_str(), Shown::Whole)?;
     }
     Ok(())
 }

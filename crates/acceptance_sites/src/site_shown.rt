@@ -1,6 +1,6 @@
 //! Whole configurations, as object texts give them and as tests show them.
 
-use crate::shown::text_or_mark;
+use crate::shown::{is_shown, text_or_mark};
 use due_model::config::{
     Config, Contact, ContactId, Dependency, Escalation, Lane, LaneId, Object, ObjectId, Period,
     PeriodId, Range, Rights,
@@ -10,6 +10,8 @@ use due_model::state::StateSet;
 use object_resolve::{LoadFault, load};
 use std::alloc::{AllocError, Global};
 use std::fmt::Write;
+use std::process::Abort;
+use std::test::Fail;
 
 /// The configuration that a text gives, or its fault.
 pub(crate) fn load_text(alloc: Global, text: &str) -> Result<Config, LoadFault> {
@@ -276,4 +278,41 @@ pub(crate) fn show_config(out: &mut String, config: &Config) -> Result<(), Alloc
     show_lanes(out, config.lanes.as_slice())?;
     show_periods(out, config.periods.as_slice())?;
     show_dependencies(out, config.dependencies.as_slice())
+}
+
+/// What a test looks at of a configuration.
+#[derive(Clone, Copy)]
+pub(crate) enum Shown {
+    /// All of it.
+    Whole,
+    /// Its escalations.
+    Escalations,
+}
+
+/// What the text gives: this of the configuration, or the fault.
+pub(crate) fn show_text(
+    alloc: Global,
+    out: &mut String,
+    text: &str,
+    shown: Shown,
+) -> Result<(), AllocError> {
+    match (load_text(alloc, text), shown) {
+        (Ok(config), Shown::Whole) => show_config(out, &config),
+        (Ok(config), Shown::Escalations) => show_escalations(out, &config),
+        (Err(fault), _) => write!(out, "{fault}"),
+    }
+}
+
+/// Compares what a text gives.
+pub(crate) fn gives(
+    rt: &impl Abort,
+    alloc: Global,
+    text: &str,
+    wanted: &str,
+    shown: Shown,
+) -> Result<(), Fail> {
+    let mut out = String::new(alloc);
+    show_text(alloc, &mut out, text, shown)?;
+    is_shown(rt, out.as_str(), wanted, text);
+    Ok(())
 }
