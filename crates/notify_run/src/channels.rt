@@ -78,7 +78,8 @@ fn open_pager(rt: &HostRuntime, address: &str) -> Option<OpenedChannel>
 
 /// A channel that starts the program of a line, with the arguments that stand after it. It isn't started yet.
 fn open_program(rt: &HostRuntime, line: &str) -> Result<Option<OpenedChannel>, AllocError>
-    ensures { IfOk result (λ opened. IfSome opened (λ channel. kind_of channel.device ≡ kinds.Spawned)) }
+    ensures { IfOk result (λ opened.
+        IfSome opened (λ channel. kind_of channel.device ≡ kinds.Spawned)) }
 {
     let line = words_in(rt.alloc(), line)?;
     let Some((program, arguments)) = line.split_first() else {
