@@ -15,52 +15,59 @@ ghost use Rattle.object_resolve.specs.Tables.{AreTables};
 ghost use Rattle.object_services.specs.Limits.{AreHostLists, AreWithinLimit};
 
 use crate::fault::{BlockFault, LoadFault, of_place};
-use crate::tables::{Tables, groups_in};
+use crate::tables::Tables;
 use object_dependencies::blocks::DependencyBlocks;
 use object_dependencies::pairs::DependencyPairs;
 use object_dependency_loops::loops::loop_of;
 use object_inheritance::templates::Templates;
+use object_service_groups::groups::ServiceGroups;
 use object_services::services::{LimitFault, ServiceHosts};
 use std::alloc::{AllocError, Global};
 
-/// The dependents and masters of each block, where `hosts` are the hosts of each service block.
+/// The dependents and masters of each block, where `groups` are the service groups and `hosts` the hosts of each service
+/// block.
 pub(crate) fn pairs_in<'a>(
     alloc: Global,
     templates: &Templates<'a>,
     tables: &mut Tables<'a>,
+    groups: &mut ServiceGroups<'a>,
     hosts: &ServiceHosts,
 ) -> Result<DependencyPairs, LimitFault>
     requires tables { AreTables templates.now tables.old }
+    requires groups { groups.old ≡ templates.now }
     requires hosts { AreHostLists templates.now (objects_in templates.now Service) hosts.now }
     ensures same { tables.new ≡ tables.old }
+    ensures same_groups { groups.new ≡ groups.old }
     ensures pairs { IfOk result (ArePairsBelow templates.now hosts.now
         (length templates.now)) }
     ensures few { IfOk result (λ made. sum_by length made ≤ max_dependencies) }
     ensures fault { IfErr result (dependent.IsRefusal templates.now hosts.now) }
 {
-    let mut groups = groups_in(alloc, templates, tables, hosts)?;
     let blocks = DependencyBlocks::new(alloc, templates, &tables.services, hosts, &tables.hosts)?;
-    DependencyPairs::new(alloc, &blocks, &mut tables.hosts, &mut groups)
+    DependencyPairs::new(alloc, &blocks, &mut tables.hosts, groups)
 }
 
-/// The place of the first block that lies on a loop of dependencies, where `hosts` are the hosts of each service block.
+/// The place of the first block that lies on a loop of dependencies, where `groups` are the service groups and `hosts`
+/// the hosts of each service block.
 fn looped_in<'a>(
     alloc: Global,
     templates: &Templates<'a>,
     tables: &mut Tables<'a>,
+    groups: &mut ServiceGroups<'a>,
     hosts: &ServiceHosts,
 ) -> Result<Option<usize>, AllocError>
     requires tables { AreTables templates.now tables.old }
+    requires groups { groups.old ≡ templates.now }
     requires hosts { AreHostLists templates.now (objects_in templates.now Service) hosts.now }
     ensures same { tables.new ≡ tables.old }
+    ensures same_groups { groups.new ≡ groups.old }
     ensures first { IfOk result (λ found.
         IfSome found (IsFirstLooped templates.now hosts.now)) }
     ensures no_loop { IfOk result (λ found.
         IfNone found (HasNoDependencyLoop templates.now hosts.now)) }
 {
-    let mut groups = groups_in(alloc, templates, tables, hosts)?;
     let blocks = DependencyBlocks::new(alloc, templates, &tables.services, hosts, &tables.hosts)?;
-    loop_of(alloc, &blocks, &mut tables.hosts, &mut groups)
+    loop_of(alloc, &blocks, &mut tables.hosts, groups)
 }
 
 /// Finds the first block that lies on a loop of dependencies, where the objects keep within their limit.
@@ -68,16 +75,19 @@ pub(crate) fn check_dependency_loops<'a>(
     alloc: Global,
     templates: &Templates<'a>,
     tables: &mut Tables<'a>,
+    groups: &mut ServiceGroups<'a>,
     hosts: &ServiceHosts,
 ) -> Result<(), LoadFault>
     requires tables { AreTables templates.now tables.old }
+    requires groups { groups.old ≡ templates.now }
     requires hosts { AreHostLists templates.now (objects_in templates.now Service) hosts.now }
     requires keeps { AreWithinLimit templates.now }
     ensures same { tables.new ≡ tables.old }
+    ensures same_groups { groups.new ≡ groups.old }
     ensures none { OnOk result (IsNowhere (IsDependencyLooped templates.now)) }
     ensures fault { IfErr result (IsAmong (IsFirstDependencyLooped templates.now)) }
 {
-    match looped_in(alloc, templates, tables, hosts)? {
+    match looped_in(alloc, templates, tables, groups, hosts)? {
         Some(place) => Err(of_place(templates.blocks(), place, BlockFault::DependencyLoop)),
         None => Ok(()),
     }

@@ -32,6 +32,7 @@ use object_groups::objects::Objects;
 use object_inheritance::templates::Templates;
 use object_names::named::{NamedKind, NamedObjects};
 use object_reader::block::Block;
+use object_service_groups::groups::ServiceGroups;
 use object_services::laws::one_place_passes;
 use object_services::services::{LimitFault, ServiceHosts};
 use std::alloc::{AllocError, Global};
@@ -113,22 +114,25 @@ fn over(blocks: &[Block], fault: LimitFault, other: Option<usize>) -> LoadFault
     }
 }
 
-/// The objects of which each escalation block speaks, where `hosts` are the hosts of each service block.
+/// The objects of which each escalation block speaks, where `groups` are the service groups and `hosts` the hosts of
+/// each service block.
 fn escalated_in<'a>(
     alloc: Global,
     templates: &Templates<'a>,
     tables: &mut Tables<'a>,
+    groups: &mut ServiceGroups<'a>,
     hosts: &ServiceHosts,
 ) -> Result<EscalatedObjects, LimitFault>
     requires tables { AreTables templates.now tables.old }
+    requires groups { groups.old ≡ templates.now }
     requires hosts { AreHostLists templates.now (objects_in templates.now Service) hosts.now }
     ensures same { tables.new ≡ tables.old }
+    ensures same_groups { groups.new ≡ groups.old }
     ensures objects { IfOk result (AreEscalated templates.now hosts.now
         (length templates.now)) }
     ensures few { IfOk result (λ made. sum_by length made ≤ max_escalations) }
     ensures fault { IfErr result (escalated.IsRefusal templates.now hosts.now) }
 {
-    let mut groups = groups_in(alloc, templates, tables, hosts)?;
     let services = &tables.services;
     EscalatedObjects::new(
         alloc,
@@ -136,7 +140,7 @@ fn escalated_in<'a>(
         services,
         hosts,
         &mut tables.hosts,
-        &mut groups,
+        groups,
     )
 }
 
@@ -168,17 +172,20 @@ fn over_rest<'a>(
     alloc: Global,
     templates: &Templates<'a>,
     tables: &mut Tables<'a>,
+    groups: &mut ServiceGroups<'a>,
     hosts: &ServiceHosts,
     rest: usize,
 ) -> LoadFault
     requires tables { AreTables templates.now tables.old }
+    requires groups { groups.old ≡ templates.now }
     requires counted { AreCounted templates.now hosts.now }
     requires rest { IsFirst (PassesRest templates.now) (Some rest) }
     ensures same { tables.new ≡ tables.old }
+    ensures same_groups { groups.new ≡ groups.old }
     ensures fault { IsAmong (IsFirstOver templates.now) result }
 {
     one_block_passes();
-    let escalated = escalated_in(alloc, templates, tables, hosts);
+    let escalated = escalated_in(alloc, templates, tables, groups, hosts);
     let blocks = templates.blocks();
     match escalated {
         Err(fault) => over_escalations(blocks, hosts, fault, Some(rest)),
@@ -193,11 +200,13 @@ fn counts_with<'a>(
     alloc: Global,
     templates: &Templates<'a>,
     tables: &mut Tables<'a>,
+    groups: &mut ServiceGroups<'a>,
     hosts: ServiceHosts,
     pairs: DependencyPairs,
     lanes: Vec<usize>,
 ) -> Result<Counts, LoadFault>
     requires tables { AreTables templates.now tables.old }
+    requires groups { groups.old ≡ templates.now }
     requires counted { AreCounted templates.now hosts }
     requires lanes { AreLanes (IsLane templates.now) lanes.items }
     requires pairs { ArePairsBelow templates.now hosts (length templates.now) pairs }
@@ -205,11 +214,12 @@ fn counts_with<'a>(
     requires rest { IsFirst (PassesRest templates.now) None }
     requires others { AreFewOthers templates.now }
     ensures same { tables.new ≡ tables.old }
+    ensures same_groups { groups.new ≡ groups.old }
     ensures within { OnOk result (AreWithin templates.now) }
     ensures counts { IfOk result (AreCounts templates.now) }
     ensures fault { IfErr result (IsAmong (IsFirstOver templates.now)) }
 {
-    let escalated = escalated_in(alloc, templates, tables, &hosts);
+    let escalated = escalated_in(alloc, templates, tables, groups, &hosts);
     match escalated {
         Err(fault) => Err(over_escalations(templates.blocks(), &hosts, fault, None)),
         Ok(escalated) => Ok(Counts {
@@ -228,31 +238,34 @@ fn counts_of<'a>(
     alloc: Global,
     templates: &Templates<'a>,
     tables: &mut Tables<'a>,
+    groups: &mut ServiceGroups<'a>,
     hosts: ServiceHosts,
     lanes: Vec<usize>,
     other: Option<usize>,
 ) -> Result<Counts, LoadFault>
     requires tables { AreTables templates.now tables.old }
+    requires groups { groups.old ≡ templates.now }
     requires counted { AreCounted templates.now hosts }
     requires lanes { AreLanes (IsLane templates.now) lanes.items }
     requires other { IsFirst (PassesOther templates.now) other }
     requires others { IfNone other (AreFewOthers templates.now) }
     ensures same { tables.new ≡ tables.old }
+    ensures same_groups { groups.new ≡ groups.old }
     ensures within { OnOk result (AreWithin templates.now) }
     ensures counts { IfOk result (AreCounts templates.now) }
     ensures fault { IfErr result (IsAmong (IsFirstOver templates.now)) }
 {
-    match pairs_in(alloc, templates, tables, &hosts) {
+    match pairs_in(alloc, templates, tables, groups, &hosts) {
         Err(fault) => match fault {
             LimitFault::NoMemory => Err(LoadFault::NoMemory),
             LimitFault::TooMany { place, line: _ } => {
                 let rest = least(place, other);
-                Err(over_rest(alloc, templates, tables, &hosts, rest))
+                Err(over_rest(alloc, templates, tables, groups, &hosts, rest))
             }
         },
         Ok(pairs) => match other {
-            Some(rest) => Err(over_rest(alloc, templates, tables, &hosts, rest)),
-            None => counts_with(alloc, templates, tables, hosts, pairs, lanes),
+            Some(rest) => Err(over_rest(alloc, templates, tables, groups, &hosts, rest)),
+            None => counts_with(alloc, templates, tables, groups, hosts, pairs, lanes),
         },
     }
 }
@@ -278,8 +291,9 @@ fn check_counted<'a>(
     ensures counts { IfOk result (AreCounts templates.now) }
     ensures fault { IfErr result (IsAmong (IsLoopedOrOver templates.now)) }
 {
-    check_dependency_loops(alloc, templates, tables, &hosts)?;
-    counts_of(alloc, templates, tables, hosts, lanes, other)
+    let mut groups = groups_in(alloc, templates, tables, &hosts)?;
+    check_dependency_loops(alloc, templates, tables, &mut groups, &hosts)?;
+    counts_of(alloc, templates, tables, &mut groups, hosts, lanes, other)
 }
 
 /// Finds the first block that lies on a loop of dependencies, and then the first that passes a limit. Where none does,
