@@ -105,6 +105,15 @@ fn directive(
     name_and_value(alloc, line, words)
 }
 
+/// These directives, without room for more: a site has many blocks with few directives.
+fn without_room(directives: Vec<Directive>) -> Sequence<Directive>
+    ensures { result ≡ directives.entry.items }
+{
+    let mut fitted = directives;
+    fitted.shrink_to_fit();
+    Sequence::new(fitted)
+}
+
 /// The directives of the block of the kind that the line `define` opened, up to its end.
 fn directives(
     alloc: Global,
@@ -123,7 +132,7 @@ fn directives(
     while let Some(statement) = next_statement(alloc, lines)? {
         let text = statement.text.as_slice();
         if is_close(text) {
-            return Ok(Sequence::new(directives));
+            return Ok(without_room(directives));
         }
         let words = Words::new(text);
         if is_define(&words) {
