@@ -107,7 +107,7 @@ fn directive(
 
 /// These directives, without room for more: a site has many blocks with few directives.
 fn without_room(directives: Vec<Directive>) -> Sequence<Directive>
-    ensures { result ≡ directives.entry.items }
+    ensures { result ≡ directives.items }
 {
     let mut fitted = directives;
     fitted.shrink_to_fit();
