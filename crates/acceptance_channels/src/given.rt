@@ -6,6 +6,7 @@ use channel::{Channel, Fault, Receipt};
 use due_model::config::{ContactId, LaneId, ObjectId};
 use due_model::notice::{Kind, Notice};
 use due_model::sequence::Sequence;
+use due_model::text::Text;
 use due_model::state::State;
 use std::alloc::{AllocError, Global};
 use std::mem::replace;
@@ -60,7 +61,7 @@ pub(crate) fn long_letter(alloc: Global, count: usize) -> Result<Letter, AllocEr
     if let Some(contact) = contacts.first_mut() {
         let mut name = Vec::new(alloc);
         name.resize(count.saturating_sub(BESIDE_NAME), b'x')?;
-        contact.name = Sequence::new(name);
+        contact.name = Text::new(alloc, name.as_slice())?;
     }
     config.contacts = Sequence::new(contacts);
     letter_text(alloc, &config, DOWN)

@@ -15,6 +15,7 @@ use due_model::limits::LAST_MOMENT;
 use due_model::objects::Objects;
 use due_model::options::{OptionLetter, OptionLetters};
 use due_model::sequence::Sequence;
+use due_model::text::Text;
 use due_model::zone::Zone;
 use escalation::by_object::ByObject;
 use escalation::contacts::{contacts, own_contacts};
@@ -200,7 +201,7 @@ fn hosts(alloc: Global) -> Result<Objects, AllocError> {
 /// A host with these settings.
 fn host(alloc: Global, own: Own) -> Result<Object, AllocError> {
     Ok(Object {
-        name: Sequence::new(Vec::new(alloc)),
+        name: Text::new(alloc, &[])?,
         host: None,
         enabled: true,
         options: OptionLetters::ALL,
@@ -226,7 +227,7 @@ fn people(alloc: Global) -> Result<Sequence<Contact>, AllocError> {
     let mut made = Vec::new(alloc);
     for _contact in 0..4u8 {
         made.push(Contact {
-            name: Sequence::new(Vec::new(alloc)),
+            name: Text::new(alloc, &[])?,
             hosts: rights(alloc),
             services: rights(alloc),
         })?;

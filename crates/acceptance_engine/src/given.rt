@@ -5,7 +5,8 @@ use acceptance_inputs::configs::base;
 use due_model::config::{Config, Contact, Lane, LaneId, Rights};
 use due_model::notice::Notice;
 use due_model::options::OptionLetters;
-use due_model::sequence::{Sequence, Text};
+use due_model::sequence::Sequence;
+use due_model::text::Text;
 use due_model::zone::Zone;
 use engine::{Engine, LaneEnd, Post, RunEnd, Settings};
 use std::alloc::{AllocError, Global};
@@ -76,10 +77,6 @@ pub(crate) fn flips(alloc: Global, count: u64) -> Result<Vec<u8>, AllocError> {
     Ok(feed)
 }
 
-fn text(alloc: Global, bytes: &[u8]) -> Result<Text, AllocError> {
-    Ok(Sequence::new(Vec::from_slice(alloc, bytes)?))
-}
-
 /// Notified of everything on both lanes.
 fn on_both(alloc: Global) -> Result<Rights, AllocError> {
     let lanes = Sequence::new(Vec::from_slice(alloc, &[LaneId(0), LaneId(1)])?);
@@ -92,7 +89,7 @@ fn on_both(alloc: Global) -> Result<Rights, AllocError> {
 }
 
 fn contacts(alloc: Global) -> Result<Vec<Contact>, AllocError> {
-    let name = text(alloc, b"ann")?;
+    let name = Text::new(alloc, b"ann")?;
     let hosts = on_both(alloc)?;
     let services = on_both(alloc)?;
     let mut made = Vec::new(alloc);
@@ -105,8 +102,8 @@ fn contacts(alloc: Global) -> Result<Vec<Contact>, AllocError> {
 }
 
 fn lanes(alloc: Global) -> Result<Vec<Lane>, AllocError> {
-    let mail = text(alloc, b"mail")?;
-    let pager = text(alloc, b"pager")?;
+    let mail = Text::new(alloc, b"mail")?;
+    let pager = Text::new(alloc, b"pager")?;
     let mut made = Vec::new(alloc);
     made.push(Lane { name: mail })?;
     made.push(Lane { name: pager })?;

@@ -13,6 +13,7 @@ use due_model::notice::{Filter, Kind};
 use due_model::options::OptionLetters;
 use due_model::rules::{Last, View};
 use due_model::sequence::Sequence;
+use due_model::text::Text;
 use due_model::state::State;
 use due_model::zone::Zone;
 use filters::attempt::Attempt;
@@ -648,12 +649,12 @@ fn contacts(alloc: Global) -> Result<Vec<Contact>, AllocError> {
     let mut made = Vec::new(alloc);
     for held in &HELD {
         made.push(Contact {
-            name: Sequence::new(Vec::new(alloc)),
+            name: Text::new(alloc, &[])?,
             hosts: rights(alloc, *held),
             services: rights(alloc, FREE),
         })?;
         made.push(Contact {
-            name: Sequence::new(Vec::new(alloc)),
+            name: Text::new(alloc, &[])?,
             hosts: rights(alloc, FREE),
             services: rights(alloc, *held),
         })?;

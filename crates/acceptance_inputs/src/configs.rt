@@ -10,14 +10,9 @@ use due_model::config::{
 };
 use due_model::objects::Objects;
 use due_model::options::OptionLetters;
-use due_model::sequence::{Sequence, Text};
+use due_model::sequence::Sequence;
+use due_model::text::Text;
 use std::alloc::{AllocError, Global};
-
-fn text(alloc: Global, bytes: &[u8]) -> Result<Text, AllocError>
-    ensures { IfOk result (λ t. t ≡ bytes.now) }
-{
-    Ok(Sequence::new(Vec::from_slice(alloc, bytes)?))
-}
 
 fn on_mail(alloc: Global) -> Result<Rights, AllocError>
     ensures { IfOk result (λ r. r ≡ on_mail) }
@@ -34,7 +29,7 @@ fn on_mail(alloc: Global) -> Result<Rights, AllocError>
 fn ann(alloc: Global) -> Result<Contact, AllocError>
     ensures { IfOk result (λ k. k ≡ by_mail (codes "ann")) }
 {
-    let name = text(alloc, b"ann")?;
+    let name = Text::new(alloc, b"ann")?;
     let hosts = on_mail(alloc)?;
     let services = on_mail(alloc)?;
     Ok(Contact {
@@ -47,7 +42,7 @@ fn ann(alloc: Global) -> Result<Contact, AllocError>
 fn web(alloc: Global) -> Result<Object, AllocError>
     ensures { IfOk result (λ o. o ≡ web) }
 {
-    let name = text(alloc, b"web")?;
+    let name = Text::new(alloc, b"web")?;
     let contacts = Sequence::new(Vec::from_slice(alloc, &[ContactId(0)])?);
     Ok(Object {
         name,
@@ -67,7 +62,7 @@ pub fn object(alloc: Global, name: &str, host: Option<ObjectId>) -> Result<Objec
     ensures host { IfOk result (λ object. object.host ≡ host) }
 {
     Ok(Object {
-        name: text(alloc, name.as_bytes())?,
+        name: Text::new(alloc, name.as_bytes())?,
         host,
         enabled: true,
         options: OptionLetters::ALL,
@@ -126,7 +121,7 @@ fn lane(alloc: Global) -> Result<Lane, AllocError>
     ensures { IfOk result (λ lane. lane ≡ record { name = codes "mail" }) }
 {
     Ok(Lane {
-        name: text(alloc, b"mail")?,
+        name: Text::new(alloc, b"mail")?,
     })
 }
 
@@ -202,7 +197,7 @@ fn loud_contact(alloc: Global) -> Result<Contact, AllocError>
         All (λ lane. lane.0 < 16) contact.services.lanes) }
 {
     Ok(Contact {
-        name: text(alloc, b"ann")?,
+        name: Text::new(alloc, b"ann")?,
         hosts: on_every_lane(alloc)?,
         services: on_every_lane(alloc)?,
     })

@@ -8,6 +8,7 @@ use crate::configs::of_parts;
 use due_model::config::{Config, Period, PeriodId, Range};
 use due_model::objects::Objects;
 use due_model::sequence::Sequence;
+use due_model::text::Text;
 use std::alloc::{AllocError, Global};
 
 /// A period with the same ranges on some weekdays that follow one another, from Sunday, which is 0.
@@ -116,7 +117,7 @@ fn days(alloc: Global, row: &Row) -> Result<[Sequence<Range>; 7], AllocError> {
 fn period(alloc: Global, row: &Row) -> Result<Period, AllocError> {
     let excludes = Sequence::new(Vec::from_slice(alloc, row.excludes)?);
     Ok(Period {
-        name: Sequence::new(Vec::new(alloc)),
+        name: Text::new(alloc, &[])?,
         days: days(alloc, row)?,
         excludes,
     })

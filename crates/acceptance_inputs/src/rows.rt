@@ -7,7 +7,8 @@ use due_model::config::{
 use due_model::limits::MAX_OBJECTS;
 use due_model::objects::Objects;
 use due_model::options::OptionLetters;
-use due_model::sequence::{Sequence, Text};
+use due_model::sequence::Sequence;
+use due_model::text::Text;
 use std::alloc::{AllocError, Global};
 
 /// No letter of the options.
@@ -78,10 +79,6 @@ pub struct Rows<'a> {
     pub dependencies: &'a [Dependency],
 }
 
-fn text(alloc: Global, text: &str) -> Result<Text, AllocError> {
-    Ok(Sequence::new(Vec::from_slice(alloc, text.as_bytes())?))
-}
-
 fn rights(alloc: Global, row: ContactRow) -> Result<Rights, AllocError> {
     Ok(Rights {
         enabled: row.enabled,
@@ -92,7 +89,7 @@ fn rights(alloc: Global, row: ContactRow) -> Result<Rights, AllocError> {
 }
 
 fn contact(alloc: Global, row: ContactRow) -> Result<Contact, AllocError> {
-    let name = text(alloc, row.name)?;
+    let name = Text::new(alloc, row.name.as_bytes())?;
     let hosts = rights(alloc, row)?;
     let services = rights(alloc, row)?;
     Ok(Contact {
@@ -111,7 +108,7 @@ fn contacts(alloc: Global, rows: &[ContactRow]) -> Result<Sequence<Contact>, All
 }
 
 fn object(alloc: Global, row: ObjectRow) -> Result<Object, AllocError> {
-    let name = text(alloc, row.name)?;
+    let name = Text::new(alloc, row.name.as_bytes())?;
     Ok(Object {
         name,
         host: row.host,
@@ -147,7 +144,7 @@ fn period(alloc: Global, range: Range) -> Result<Period, AllocError> {
         ranges(alloc, range)?,
         ranges(alloc, range)?,
     ];
-    let name = text(alloc, "work")?;
+    let name = Text::new(alloc, "work".as_bytes())?;
     Ok(Period {
         name,
         days,
@@ -186,7 +183,7 @@ fn escalations(alloc: Global, rows: &[EscalationRow]) -> Result<Sequence<Escalat
 fn lanes(alloc: Global, count: u8) -> Result<Sequence<Lane>, AllocError> {
     let mut made = Vec::new(alloc);
     for _lane in 0..count {
-        let name = text(alloc, "mail")?;
+        let name = Text::new(alloc, "mail".as_bytes())?;
         made.push(Lane { name })?;
     }
     Ok(Sequence::new(made))

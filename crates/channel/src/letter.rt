@@ -6,7 +6,7 @@ ghost use Rattle.notice_text.specs.Texts.{number_text, object_text};
 
 use due_model::config::{Config, ObjectId};
 use due_model::notice::Notice;
-use due_model::sequence::{Sequence, Text};
+use due_model::sequence::Sequence;
 use itoa::Buffer;
 use notice_text::names::{kind_name, state_name};
 use notice_text::texts;
@@ -17,7 +17,7 @@ use std::alloc::{AllocError, Global};
 pub struct Letter {
     pub notice: Notice,
     /// The bytes that go out.
-    pub text: Text,
+    pub text: Sequence<u8>,
     ghost said: { ¬ ¬ IsLetter notice text },
 }
 

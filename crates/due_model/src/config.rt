@@ -6,8 +6,9 @@ ghost use Rattle.due_model.specs.Escalations.{has_contact};
 
 use crate::objects::Objects;
 use crate::options::OptionLetters;
-use crate::sequence::{Sequence, Text};
+use crate::sequence::Sequence;
 use crate::state::StateSet;
+use crate::text::Text;
 
 /// The number of a host or a service, its place in the configuration.
 #[derive(Clone, Copy, Debug, PartialEq, Eq)]

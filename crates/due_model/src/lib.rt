@@ -12,4 +12,5 @@ pub mod proper;
 pub mod rules;
 pub mod sequence;
 pub mod state;
+pub mod text;
 pub mod zone;

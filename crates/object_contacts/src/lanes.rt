@@ -9,7 +9,7 @@ ghost use Rattle.object_values.specs.Values.{texts};
 
 use crate::marks::{mark, marked_numbers};
 use due_model::config::Lane;
-use due_model::sequence::{Sequence, Text};
+use due_model::text::Text;
 use object_groups::names::Names;
 use object_groups::objects::{Objects, list_at};
 use object_inheritance::inherited::Values;
@@ -86,7 +86,7 @@ pub fn lanes_of<'a>(
 pub(crate) fn text_of(alloc: Global, name: &[u8]) -> Result<Text, AllocError>
     ensures { IfOk result (λ text. text ≡ name.now) }
 {
-    Ok(Sequence::new(Vec::from_slice(alloc, name)?))
+    Text::new(alloc, name)
 }
 
 /// The lanes of a configuration, with their names, where `lanes` are their commands by number. A refused growth

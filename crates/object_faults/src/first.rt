@@ -96,7 +96,7 @@ fn column_fault(
     }
 }
 
-/// The same, if the block is registered.
+/// The same, if the block is registered. That is asked only where blocks of the type have the directive.
 fn registered_fault(
     alloc: Global,
     values: &Values,
@@ -108,10 +108,15 @@ fn registered_fault(
     ensures { IfOk result (λ fault. fault
         ≡ registered_fault values.now.blocks place column block.now) }
 {
-    if is_registered(block) {
-        column_fault(alloc, values, column, block.kind, place)
-    } else {
-        Ok(None)
+    match check_of(column, block.kind) {
+        None => Ok(None),
+        Some(_) => {
+            if is_registered(block) {
+                column_fault(alloc, values, column, block.kind, place)
+            } else {
+                Ok(None)
+            }
+        }
     }
 }
 

@@ -9,6 +9,7 @@ use crate::days::Week;
 use crate::excludes::listed_at;
 use due_model::config::{Period, PeriodId};
 use due_model::sequence::Sequence;
+use due_model::text::Text;
 use object_groups::names::Names;
 use object_groups::objects::Objects;
 use object_inheritance::inherited::Values;
@@ -54,9 +55,8 @@ fn period_at<'a>(
 {
     let numbers = listed_at(alloc, names, excludes, place)?;
     let ids = ids_of(alloc, numbers.as_slice())?;
-    let name = Vec::from_slice(alloc, names.name(number))?;
     Ok(Period {
-        name: Sequence::new(name),
+        name: Text::new(alloc, names.name(number))?,
         days: week.at(alloc, place)?,
         excludes: Sequence::new(ids),
     })

@@ -1,6 +1,7 @@
 //! What object text consists of: blocks, and the directives in them.
 
-use due_model::sequence::{Sequence, Text};
+use due_model::sequence::Sequence;
+use due_model::text::Text;
 
 /// The types of block (chapter "Object Definitions").
 #[derive(Clone, Copy, Debug, PartialEq, Eq)]

@@ -21,6 +21,7 @@ use crate::text::LineText;
 use crate::words::Words;
 pub use due_model::limits::TEXT_LIMIT;
 use due_model::sequence::Sequence;
+use due_model::text::Text;
 use std::alloc::{AllocError, Global};
 
 /// The next statement of the lines. Lines that say nothing are skipped.
@@ -58,9 +59,10 @@ fn name_and_value(alloc: Global, line: u64, words: &Words<'_>) -> Result<Directi
             fault: LineFault::NoValue,
         });
     }
-    let name = Sequence::new(Vec::from_slice(alloc, words.first())?);
-    let value = Sequence::new(Vec::from_slice(alloc, value)?);
-    Ok(Directive { name, value })
+    Ok(Directive {
+        name: Text::new(alloc, words.first())?,
+        value: Text::new(alloc, value)?,
+    })
 }
 
 /// The directive that a day line is, of which these words stand before the first with a colon.
@@ -68,9 +70,12 @@ fn day_line(alloc: Global, text: &[u8], front: &[u8]) -> Result<Directive, Alloc
     requires { length front.now ≤ length text.now }
     ensures { IfOk result (λ d. d ≡ day_line text.now front.now) }
 {
-    let name = Sequence::new(spaced(alloc, front)?);
-    let value = Sequence::new(without_blanks(alloc, &text[front.len()..])?);
-    Ok(Directive { name, value })
+    let name = spaced(alloc, front)?;
+    let value = without_blanks(alloc, &text[front.len()..])?;
+    Ok(Directive {
+        name: Text::new(alloc, name.as_slice())?,
+        value: Text::new(alloc, value.as_slice())?,
+    })
 }
 
 /// Whether blocks of a kind are time periods.
@@ -100,6 +105,15 @@ fn directive(
     name_and_value(alloc, line, words)
 }
 
+/// These directives, without room for more: a site has many blocks with few directives.
+fn without_room(directives: Vec<Directive>) -> Sequence<Directive>
+    ensures { result ≡ directives.items }
+{
+    let mut fitted = directives;
+    fitted.shrink_to_fit();
+    Sequence::new(fitted)
+}
+
 /// The directives of the block of the kind that the line `define` opened, up to its end.
 fn directives(
     alloc: Global,
@@ -118,7 +132,7 @@ fn directives(
     while let Some(statement) = next_statement(alloc, lines)? {
         let text = statement.text.as_slice();
         if is_close(text) {
-            return Ok(Sequence::new(directives));
+            return Ok(without_room(directives));
         }
         let words = Words::new(text);
         if is_define(&words) {

@@ -7,6 +7,7 @@ ghost use Rattle.object_settings.specs.Own.{contacts_of, IsTaken};
 use due_model::config::{ContactId, Object, ObjectId, PeriodId};
 use due_model::options::OptionLetters;
 use due_model::sequence::Sequence;
+use due_model::text::Text;
 use std::alloc::{AllocError, Global};
 
 /// What a block gives, by itself or by its templates.
@@ -81,7 +82,7 @@ pub(crate) fn object_of<'a>(
 {
     let contacts = contacts_of(alloc, own, host)?;
     Ok(Object {
-        name: Sequence::new(Vec::from_slice(alloc, own.name)?),
+        name: Text::new(alloc, own.name)?,
         host: number,
         enabled: own.enabled,
         options: own.options,

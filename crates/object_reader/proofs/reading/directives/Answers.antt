@@ -16,7 +16,7 @@ pub returns-then-is_close-clause-ok : goal.returns-then-is_close-clause-ok
 returns-then-is_close-clause-ok c =
     let next = rw c.in-Some.is at c.in_ok-statement.ensures in
     let closes = ap is_close (sym c.as_slice-text.ensures.value) ∙ sym c.if-is_close.ensures in
-    rw c.new.ensures (close_in_block c.args.kind c.args.define c.loop-directives.directives.items (statements_in c.loop-directives.lines) _ c.loop-directives.invariant.0 c.in-Some.statement.line (cow_slice_items c.in-Some.statement.text) (statements_in c.next_statement.new.lines) next closes)
+    rw c.without_room.ensures (close_in_block c.args.kind c.args.define c.loop-directives.directives.items (statements_in c.loop-directives.lines) _ c.loop-directives.invariant.0 c.in-Some.statement.line (cow_slice_items c.in-Some.statement.text) (statements_in c.next_statement.new.lines) next closes)
 
 pub returns-in_err-directive-clause-fault : goal.returns-in_err-directive-clause-fault
 returns-in_err-directive-clause-fault c =
