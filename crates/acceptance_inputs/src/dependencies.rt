@@ -1,5 +1,8 @@
 //! Notification dependencies that tests are run on.
 
+ghost use Rattle.std.specs.Prelude.{◌≡◌, length, IfOk, None};
+ghost use Rattle.due_model.specs.Objects.{object_id};
+
 use crate::configs::object;
 use due_model::config::{Dependency, ObjectId};
 use due_model::limits::MAX_OBJECTS;
@@ -43,7 +46,15 @@ pub const WORKED: [State; 4] = [
 ];
 
 /// An entry of object `dependent` on object `master`, valid at every moment.
-pub fn entry(dependent: u16, master: u16, inherits: bool, states: StateSet) -> Dependency {
+pub fn entry(dependent: u16, master: u16, inherits: bool, states: StateSet) -> Dependency
+    ensures { result ≡ record {
+      dependent = object_id dependent;
+      master = object_id master;
+      inherits = inherits;
+      states = states;
+      period = None;
+    } }
+{
     Dependency {
         dependent: ObjectId(dependent),
         master: ObjectId(master),
@@ -54,7 +65,9 @@ pub fn entry(dependent: u16, master: u16, inherits: bool, states: StateSet) -> D
 }
 
 /// So many hosts, of one name.
-pub fn hosts(alloc: Global, count: u16) -> Result<Objects, AllocError> {
+pub fn hosts(alloc: Global, count: u16) -> Result<Objects, AllocError>
+    ensures { IfOk result (λ objects. length objects ≡ count) }
+{
     let mut hosts = Vec::new(alloc);
     for _host in 0..count {
         hosts.push(object(alloc, "host", None)?)?;

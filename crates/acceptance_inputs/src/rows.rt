@@ -1,5 +1,7 @@
 //! Small configurations as tables, for the worked rows: the same rights of a contact for hosts and for services.
 
+ghost use Rattle.std.specs.Prelude.{◌≡◌, length, IfOk};
+
 use due_model::config::{
     Config, Contact, ContactId, Dependency, Escalation, Lane, LaneId, Object, ObjectId, Period,
     PeriodId, Range, Rights,
@@ -99,7 +101,9 @@ fn contact(alloc: Global, row: ContactRow) -> Result<Contact, AllocError> {
     })
 }
 
-fn contacts(alloc: Global, rows: &[ContactRow]) -> Result<Sequence<Contact>, AllocError> {
+fn contacts(alloc: Global, rows: &[ContactRow]) -> Result<Sequence<Contact>, AllocError>
+    ensures { IfOk result (λ made. length made ≡ length rows.now) }
+{
     let mut made = Vec::new(alloc);
     for row in rows {
         made.push(contact(alloc, *row)?)?;
@@ -152,7 +156,9 @@ fn period(alloc: Global, range: Range) -> Result<Period, AllocError> {
     })
 }
 
-fn periods(alloc: Global, rows: &[Range]) -> Result<Sequence<Period>, AllocError> {
+fn periods(alloc: Global, rows: &[Range]) -> Result<Sequence<Period>, AllocError>
+    ensures { IfOk result (λ made. length made ≡ length rows.now) }
+{
     let mut made = Vec::new(alloc);
     for row in rows {
         made.push(period(alloc, *row)?)?;
@@ -172,7 +178,9 @@ fn escalation(alloc: Global, row: EscalationRow) -> Result<Escalation, AllocErro
     })
 }
 
-fn escalations(alloc: Global, rows: &[EscalationRow]) -> Result<Sequence<Escalation>, AllocError> {
+fn escalations(alloc: Global, rows: &[EscalationRow]) -> Result<Sequence<Escalation>, AllocError>
+    ensures { IfOk result (λ made. length made ≡ length rows.now) }
+{
     let mut made = Vec::new(alloc);
     for row in rows {
         made.push(escalation(alloc, *row)?)?;
@@ -180,7 +188,9 @@ fn escalations(alloc: Global, rows: &[EscalationRow]) -> Result<Sequence<Escalat
     Ok(Sequence::new(made))
 }
 
-fn lanes(alloc: Global, count: u8) -> Result<Sequence<Lane>, AllocError> {
+fn lanes(alloc: Global, count: u8) -> Result<Sequence<Lane>, AllocError>
+    ensures { IfOk result (λ made. length made ≡ count) }
+{
     let mut made = Vec::new(alloc);
     for _lane in 0..count {
         let name = Text::new(alloc, "mail".as_bytes())?;
@@ -190,7 +200,17 @@ fn lanes(alloc: Global, count: u8) -> Result<Sequence<Lane>, AllocError> {
 }
 
 /// The configuration of these rows, of the first 65,535 objects. It need not be accepted: `is_accepted` tells.
-pub fn config_of(alloc: Global, rows: Rows<'_>) -> Result<Config, AllocError> {
+pub fn config_of(alloc: Global, rows: Rows<'_>) -> Result<Config, AllocError>
+    ensures contacts { IfOk result (λ config.
+        length config.contacts ≡ length rows.contacts.now) }
+    ensures lanes { IfOk result (λ config. length config.lanes ≡ rows.lanes) }
+    ensures periods { IfOk result (λ config.
+        length config.periods ≡ length rows.periods.now) }
+    ensures escalations { IfOk result (λ config.
+        length config.escalations ≡ length rows.escalations.now) }
+    ensures dependencies { IfOk result (λ config.
+        config.dependencies ≡ rows.dependencies.now) }
+{
     let objects = objects(alloc, rows.objects)?;
     let contacts = contacts(alloc, rows.contacts)?;
     let lanes = lanes(alloc, rows.lanes)?;

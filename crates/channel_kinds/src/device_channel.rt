@@ -1,6 +1,7 @@
 //! A channel over a device: it keeps a receipt of each text that the device took, and counts the others as failures.
 
-ghost use Rattle.std.specs.Prelude.{◌≡◌, ◌↔◌, ◌+◌, ◌<◌, ◌≤◌, [], ◌∷◌, ◌++◌, length, is_ok, IsErrOf, OnOk, OnErr};
+ghost use Rattle.std.specs.Prelude.{◌≡◌, ◌↔◌, ◌+◌, ◌<◌, ◌≤◌, [], ◌∷◌};
+ghost use Rattle.std.specs.Prelude.{◌++◌, length, is_ok, IsErrOf, OnOk, OnErr};
 ghost use Rattle.channel.specs.Channels.{IsCounted, receipt_of};
 
 use crate::device::TextDevice;

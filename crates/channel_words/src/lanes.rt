@@ -1,11 +1,13 @@
 //! The lanes that channel words name.
 
-ghost use Rattle.std.specs.Prelude.{◌≡◌, ◌≤◌, All, length, map, IfErr, IfNone, IfOk, IfSome, OnOk, Some};
+ghost use Rattle.std.specs.Prelude.{◌≡◌, ◌≤◌, All, length, map, IfErr, IfNone, IfOk, IfSome};
+ghost use Rattle.std.specs.Prelude.{OnOk, Some};
 ghost use Rattle.std.specs.List.{list_any};
 ghost use Rattle.std.specs.Str.{bytes_eq};
 ghost use Rattle.std.specs.Option.{option_map};
 ghost use Rattle.due_model.specs.Limits.{max_lanes};
-ghost use Rattle.channel_words.specs.Lanes.{AreDistinct, AreLanesOf, IsFirstDoubled, IsUnknown, NamesFail};
+ghost use Rattle.channel_words.specs.Lanes.{AreDistinct, AreLanesOf, IsFirstDoubled, IsUnknown};
+ghost use Rattle.channel_words.specs.Lanes.{NamesFail};
 ghost use Rattle.channel_words.specs.Lanes.{lane_named, names_of};
 
 use crate::fault::ChannelFault;

@@ -3,7 +3,8 @@
 ghost use Rattle.std.specs.Prelude.{◌<◌, IfErr, IfOk};
 ghost use Rattle.std.specs.Option.{option_copied};
 ghost use Rattle.due_model.specs.Accepted.{IsAccepted};
-ghost use Rattle.command_input.specs.Objects.{FileFails, GivesObjects, GivesText, IsFileOf, ObjectsFail};
+ghost use Rattle.command_input.specs.Objects.{FileFails, GivesObjects, GivesText, IsFileOf};
+ghost use Rattle.command_input.specs.Objects.{ObjectsFail};
 ghost use Rattle.command_input.specs.Objects.{TextFails};
 ghost use Rattle.text_lines.specs.LineReader.{to_come};
 ghost use Rattle.text_lines.specs.Text.{mark_length, text_limit};

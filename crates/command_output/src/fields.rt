@@ -1,6 +1,7 @@
 //! The fields of a line.
 
-ghost use Rattle.std.specs.Prelude.{◌≡◌, ◌+◌, ◌<◌, ◌≤◌, ◌++◌, decimal, drop, flat_map, length, OnOk};
+ghost use Rattle.std.specs.Prelude.{◌≡◌, ◌+◌, ◌<◌, ◌≤◌, ◌++◌, decimal, drop};
+ghost use Rattle.std.specs.Prelude.{flat_map, length, OnOk};
 ghost use Rattle.command_output.specs.Fields.{after_comma, field, notice_mark, notices_text};
 ghost use Rattle.notice_text.specs.Texts.{contact_text, lane_text, number_text, object_text};
 

@@ -80,7 +80,8 @@ impl<'a> EventDecider<'a> {
     ghost use Rattle.messages.specs.Entries.{event_entries};
     ghost use Rattle.decider.specs.Books.{share_books};
     ghost use Rattle.decider.specs.Entries.{share_entries};
-    ghost use Rattle.decider.specs.Fits.{Fits, HasDecidedNothing, context_of, core_kept, last_entries};
+    ghost use Rattle.decider.specs.Fits.{Fits, HasDecidedNothing, context_of, core_kept};
+    ghost use Rattle.decider.specs.Fits.{last_entries};
     ghost use Rattle.decider.specs.Fits.{kept_after, settings};
     ghost use Rattle.decider.specs.Ready.{HasRoom, IsIndexAfter, judged};
     ghost use Rattle.decider.specs.Share.{IsShare};

@@ -15,7 +15,8 @@ pub struct Outbox {
 
 impl Outbox {
     ghost use Rattle.std.specs.Prelude.{◌≡◌, ◌≢◌, ℕ, ◌<◌, ◌≤◌, ◌+◌, ◌++◌};
-    ghost use Rattle.std.specs.Prelude.{[], ◌∷◌, drop, length, replicate, slice_get, slice_set, IfOk};
+    ghost use Rattle.std.specs.Prelude.{[], ◌∷◌, drop, length, replicate, slice_get, slice_set};
+    ghost use Rattle.std.specs.Prelude.{IfOk};
     ghost use Rattle.std.specs.Prelude.{OnOk};
     ghost use Rattle.messages.specs.Entries.{notices_on};
     ghost use Rattle.decider.specs.Outbox.{lists, spare_at, waiting_at, count_for, HasRoomFor};

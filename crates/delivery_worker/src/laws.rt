@@ -1,6 +1,7 @@
 //! The tries of one letter.
 
-ghost use Rattle.std.specs.Prelude.{◌≡◌, ◌≢◌, ◌↔◌, ◌+◌, ◌<◌, ◌≤◌, [], ◌∷◌, ◌++◌, length};
+ghost use Rattle.std.specs.Prelude.{◌≡◌, ◌≢◌, ◌↔◌, ◌+◌, ◌<◌, ◌≤◌, []};
+ghost use Rattle.std.specs.Prelude.{◌∷◌, ◌++◌, length};
 ghost use Rattle.channel.specs.Channels.{receipt_of};
 ghost use Rattle.delivery_worker.specs.Attempts.{HasTriedAndAsked, TriesFailed};
 

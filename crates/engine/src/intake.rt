@@ -1,6 +1,7 @@
 //! The reading of a feed: the events that are accepted, and the lines that are refused.
 
-ghost use Rattle.std.specs.Prelude.{◌≡◌, ◌+◌, ◌<◌, ◌≤◌, [], List, true, None, IfOk, OnErr, OnOk};
+ghost use Rattle.std.specs.Prelude.{◌≡◌, ◌+◌, ◌<◌, ◌≤◌, [], List, true, None, IfOk};
+ghost use Rattle.std.specs.Prelude.{OnErr, OnOk};
 ghost use Rattle.due_model.specs.declared.event.Event.{Event};
 ghost use Rattle.event_feed.specs.Feed.{Answer, Feed, feed_limit, feed_of};
 ghost use Rattle.text_lines.specs.Lines.{has_line};

@@ -1,6 +1,7 @@
 //! A lane of a run: its channel, and the record of what becomes of its notices.
 
-ghost use Rattle.std.specs.Prelude.{◌≡◌, ◌⊎◌, Bool, true, false, [], ◌∷◌, ◌++◌, None, Some, OnErr, OnOk, is_some};
+ghost use Rattle.std.specs.Prelude.{◌≡◌, ◌⊎◌, Bool, true, false, [], ◌∷◌, ◌++◌, None};
+ghost use Rattle.std.specs.Prelude.{Some, OnErr, OnOk, is_some};
 ghost use Rattle.engine.specs.Lanes.{IsCause, MayBeShut, held, joined};
 
 use crate::bell::Silent;

@@ -1,7 +1,9 @@
 //! The lanes of a run.
 
-ghost use Rattle.std.specs.Prelude.{◌≡◌, ◌≢◌, ◌==◌, ◌<◌, ◌≤◌, ◌++◌, ℕ, Bool, [], false, true, length};
-ghost use Rattle.std.specs.Prelude.{map, is_some, slice_get, slice_set, IfOk, IsOk, OnErr, OnOk, Some};
+ghost use Rattle.std.specs.Prelude.{◌≡◌, ◌≢◌, ◌==◌, ◌<◌, ◌≤◌, ◌++◌, ℕ, Bool};
+ghost use Rattle.std.specs.Prelude.{[], false, true, length};
+ghost use Rattle.std.specs.Prelude.{map, is_some, slice_get, slice_set, IfOk, IsOk, OnErr, OnOk};
+ghost use Rattle.std.specs.Prelude.{Some};
 ghost use Rattle.std.specs.Prelude.{replicate, vec_capacity};
 ghost use Rattle.std.specs.List.{list_any};
 ghost use Rattle.due_model.specs.Limits.{max_lanes};

@@ -1,7 +1,9 @@
 //! A run under way, from line to line of its feed.
 
-ghost use Rattle.std.specs.Prelude.{◌≡◌, ◌+◌, ◌<◌, ◌≤◌, ◌==◌, ℕ, Bool, List, [], length, reverse};
-ghost use Rattle.std.specs.Prelude.{slice_get, true, IfErr, IfOk, Ok, OnErr, Option, Some, vec_capacity};
+ghost use Rattle.std.specs.Prelude.{◌≡◌, ◌+◌, ◌<◌, ◌≤◌, ◌==◌, ℕ, Bool, List, []};
+ghost use Rattle.std.specs.Prelude.{length, reverse};
+ghost use Rattle.std.specs.Prelude.{slice_get, true, IfErr, IfOk, Ok, OnErr, Option, Some};
+ghost use Rattle.std.specs.Prelude.{vec_capacity};
 ghost use Rattle.std.specs.List.{list_any};
 ghost use Rattle.due_model.specs.declared.config.Config.{Config};
 ghost use Rattle.due_model.specs.declared.zone.Zone.{Zone};

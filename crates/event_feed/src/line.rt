@@ -2,7 +2,8 @@
 
 ghost use Rattle.std.specs.Prelude.{◌≡◌, ◌+◌, ◌≤◌, ◌∷◌, ◌==◌};
 ghost use Rattle.std.specs.Prelude.{Some, None, IfOk, IfSome, nat_le};
-ghost use Rattle.std.specs.Prelude.{◌<◌, ◌^◌, All, IsTrue, length, min, take_while, if◌then◌else◌};
+ghost use Rattle.std.specs.Prelude.{◌<◌, ◌^◌, All, IsTrue, length, min, take_while};
+ghost use Rattle.std.specs.Prelude.{if◌then◌else◌};
 ghost use Rattle.std.specs.Option.{option_copied, option_map};
 ghost use Rattle.std.specs.Str.{bytes_eq, is_utf8};
 ghost use Rattle.std.specs.List.{prefix_len};
@@ -11,9 +12,11 @@ ghost use Rattle.due_model.specs.Limits.{last_moment};
 ghost use Rattle.std.specs.Char.{is_ascii_digit};
 ghost use Rattle.event_feed.specs.Line.{bare_reading, command_named, command_of};
 ghost use Rattle.event_feed.specs.Line.{command_reading, digits_number};
-ghost use Rattle.event_feed.specs.Line.{downtime_said, fields, fields_after, flapping_said, host_state_said};
+ghost use Rattle.event_feed.specs.Line.{downtime_said, fields, fields_after, flapping_said};
+ghost use Rattle.event_feed.specs.Line.{host_state_said};
 ghost use Rattle.event_feed.specs.Line.{last_reading, line_reading, object_reading, said};
-ghost use Rattle.event_feed.specs.Line.{service_reading, service_state_said, stamp_of, unknown_fault};
+ghost use Rattle.event_feed.specs.Line.{service_reading, service_state_said, stamp_of};
+ghost use Rattle.event_feed.specs.Line.{unknown_fault};
 
 use crate::fault::FeedFault;
 use due_model::config::{Config, ObjectId};

@@ -3,7 +3,8 @@
 ghost use Rattle.std.specs.Prelude.{◌≡◌, codes, false, IfOk, IfSome, is_some, Some, true};
 ghost use Rattle.clap.specs.Matches.{found_of};
 ghost use Rattle.clap.specs.Words.{app_of, rule_of, subcommand_name_of};
-ghost use Rattle.notify_run.specs.CommandLine.{AreSettingsFit, IsReplayOf, IsRunOf, IsTraceOf, IsZoneOf};
+ghost use Rattle.notify_run.specs.CommandLine.{AreSettingsFit, IsReplayOf, IsRunOf, IsTraceOf};
+ghost use Rattle.notify_run.specs.CommandLine.{IsZoneOf};
 ghost use Rattle.notify_run.specs.CommandLine.{number_option, program_words, replay_words};
 ghost use Rattle.notify_run.specs.CommandLine.{request_name, run_words, text_option, trace_words};
 ghost use Rattle.notify_run.specs.CommandLine.{with_lane_options, with_zone, word_list};

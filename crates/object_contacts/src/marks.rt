@@ -1,6 +1,7 @@
 //! Marks, one for each number below a count, and the numbers that are marked.
 
-ghost use Rattle.std.specs.Prelude.{◌≡◌, ◌<◌, ◌≤◌, ◌++◌, ◌∷◌, [], length, map, Some};
+ghost use Rattle.std.specs.Prelude.{◌≡◌, ◌<◌, ◌≤◌, ◌++◌, ◌∷◌, [], length, map};
+ghost use Rattle.std.specs.Prelude.{Some};
 ghost use Rattle.std.specs.Prelude.{All, IfOk, IfSome, OnOk, if◌then◌else◌};
 ghost use Rattle.due_model.specs.Limits.{max_lanes};
 ghost use Rattle.object_contacts.specs.Marks.{marked, Marks};

@@ -1,9 +1,11 @@
 //! The dependencies of blocks.
 
-ghost use Rattle.std.specs.Prelude.{◌≡◌, ◌≤◌, ◌<◌, ◌++◌, codes, length, map, sum_by, slice_index_or};
+ghost use Rattle.std.specs.Prelude.{◌≡◌, ◌≤◌, ◌<◌, ◌++◌, codes, length, map, sum_by};
+ghost use Rattle.std.specs.Prelude.{slice_index_or};
 ghost use Rattle.std.specs.Prelude.{IfOk, OnOk};
 ghost use Rattle.due_model.specs.Limits.{max_periods};
-ghost use Rattle.object_dependencies.specs.Entries.{AreDependencies, entries_at, entry_of, terms_at};
+ghost use Rattle.object_dependencies.specs.Entries.{AreDependencies, entries_at, entry_of};
+ghost use Rattle.object_dependencies.specs.Entries.{terms_at};
 ghost use Rattle.object_dependencies.specs.Pairs.{ArePairsBelow, paired};
 
 use crate::blocks::DependencyBlocks;

@@ -1,6 +1,7 @@
 //! The edges of the graph in which loops are found.
 
-ghost use Rattle.std.specs.Prelude.{◌≡◌, ◌+◌, ◌<◌, ◌≤◌, ◌^◌, ◌++◌, ◌<◌, length, map, All, IfOk, OnOk};
+ghost use Rattle.std.specs.Prelude.{◌≡◌, ◌+◌, ◌<◌, ◌≤◌, ◌^◌, ◌++◌, ◌<◌};
+ghost use Rattle.std.specs.Prelude.{length, map, All, IfOk, OnOk};
 ghost use Rattle.graph.specs.Edges.{IsWithin};
 ghost use Rattle.object_dependencies.specs.Pairs.{ArePairs};
 ghost use Rattle.object_dependency_loops.specs.Links.{AddsLinks, AreLinksBelow, edge, edges_of};

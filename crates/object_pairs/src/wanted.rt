@@ -4,7 +4,8 @@ ghost use Rattle.std.specs.Prelude.{◌≡◌, ◌∷◌, [], ℕ, All, IfOk, On
 ghost use Rattle.object_groups.specs.declared.groups.GroupKind.TheVariants.{HostGroups};
 ghost use Rattle.object_groups.specs.Objects.{list_at};
 ghost use Rattle.object_pairs.specs.Pairs.{pairs_in};
-ghost use Rattle.object_pairs.specs.Wanted.{AddsFound, AreAllWanted, AreFound, AreWanted, AreWith, has, IsWanted};
+ghost use Rattle.object_pairs.specs.Wanted.{AddsFound, AreAllWanted, AreFound, AreWanted, AreWith};
+ghost use Rattle.object_pairs.specs.Wanted.{has, IsWanted};
 ghost use Rattle.object_pairs.specs.Wanted.{Keeps};
 ghost use Rattle.object_values.specs.Values.{texts};
 

@@ -1,6 +1,7 @@
 //! The ranges that blocks have for each weekday (chapters "Time Periods" and "Object Inheritance").
 
-ghost use Rattle.std.specs.Prelude.{◌≡◌, ◌<◌, ◌++◌, ◌∷◌, [], map, slice_index_or, IfOk, OnOk};
+ghost use Rattle.std.specs.Prelude.{◌≡◌, ◌<◌, ◌++◌, ◌∷◌, [], map, slice_index_or, IfOk};
+ghost use Rattle.std.specs.Prelude.{OnOk};
 ghost use Rattle.std.specs.Option.{option_copied};
 ghost use Rattle.object_periods.specs.Periods.{column_of, line_ranges, ranges_at};
 ghost use Rattle.object_values.specs.Ranges.{weekdays};

@@ -1,11 +1,13 @@
 //! Loops of exclusions (chapter "Time Periods").
 
-ghost use Rattle.std.specs.Prelude.{◌≡◌, ℕ, ◌<◌, ◌^◌, ◌++◌, codes, length, map, slice_index_or, [], All};
+ghost use Rattle.std.specs.Prelude.{◌≡◌, ℕ, ◌<◌, ◌^◌, ◌++◌, codes, length, map};
+ghost use Rattle.std.specs.Prelude.{slice_index_or, [], All};
 ghost use Rattle.std.specs.Prelude.{IfNone, IfOk, IfSome, OnOk};
 ghost use Rattle.graph.specs.Edges.{ends_of, IsWithin};
 ghost use Rattle.object_groups.specs.Names.{numbers_of};
 ghost use Rattle.object_groups.specs.Objects.{list_at, objects_in};
-ghost use Rattle.object_periods.specs.Loops.{edge_from, exclusion_graph, HasNoPeriodLoop, IsFirstLooped};
+ghost use Rattle.object_periods.specs.Loops.{edge_from, exclusion_graph, HasNoPeriodLoop};
+ghost use Rattle.object_periods.specs.Loops.{IsFirstLooped};
 ghost use Rattle.object_periods.specs.Periods.{column_of};
 ghost use Rattle.object_reader.specs.declared.block.BlockKind.TheVariants.{TimePeriod};
 

@@ -1,6 +1,7 @@
 //! The time periods of blocks (chapters "Time Periods" and "Object Inheritance").
 
-ghost use Rattle.std.specs.Prelude.{◌≡◌, ◌++◌, ◌∷◌, [], codes, map, slice_get, IfOk, OnOk, Some};
+ghost use Rattle.std.specs.Prelude.{◌≡◌, ◌++◌, ◌∷◌, [], codes, map, slice_get, IfOk, OnOk};
+ghost use Rattle.std.specs.Prelude.{Some};
 ghost use Rattle.object_groups.specs.Objects.{names_in, objects_in};
 ghost use Rattle.object_periods.specs.Periods.{ArePeriodsOf, column_of, IsPeriodOf};
 ghost use Rattle.object_reader.specs.declared.block.BlockKind.TheVariants.{TimePeriod};

@@ -1,6 +1,7 @@
 //! The services of each host.
 
-ghost use Rattle.std.specs.Prelude.{◌≡◌, ◌+◌, ◌<◌, ◌^◌, ◌↔◌, ℕ, [], length, All, Contains};
+ghost use Rattle.std.specs.Prelude.{◌≡◌, ◌+◌, ◌<◌, ◌^◌, ◌↔◌, ℕ, [], length, All};
+ghost use Rattle.std.specs.Prelude.{Contains};
 ghost use Rattle.std.specs.Prelude.{IfOk, OnOk, slice_index_or};
 ghost use Rattle.object_reached.specs.Services.{host_edges, hosts_in, IsByHost};
 ghost use Rattle.object_services.specs.Numbers.{pairs_in, pairs_of};

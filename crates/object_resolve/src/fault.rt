@@ -2,7 +2,8 @@
 
 ghost use Rattle.std.specs.Prelude.{◌≡◌, ◌<◌, length, slice_get, Some};
 ghost use Rattle.object_reader.specs.declared.block.Block.{Block};
-ghost use Rattle.object_resolve.specs.Fault.{fault_name, fault_text, IsOfPlace, of_inherited, of_read, of_template};
+ghost use Rattle.object_resolve.specs.Fault.{fault_name, fault_text, IsOfPlace, of_inherited};
+ghost use Rattle.object_resolve.specs.Fault.{of_read, of_template};
 ghost use Rattle.object_resolve.specs.Fault.{of_value, of_values};
 ghost use Rattle.object_resolve.specs.declared.fault.LoadFault.TheVariants.{NoMemory};
 

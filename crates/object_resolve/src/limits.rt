@@ -13,7 +13,8 @@ ghost use Rattle.object_reader.specs.declared.block.BlockKind.TheVariants.{Servi
 ghost use Rattle.object_groups.specs.First.{IsFirst, lower};
 ghost use Rattle.object_resolve.specs.Fault.{IsAmong};
 ghost use Rattle.object_resolve.specs.First.{IsNowhere};
-ghost use Rattle.object_resolve.specs.Limits.{AreCounted, AreCounts, AreFewOthers, AreWithin, PassesOther, PassesRest};
+ghost use Rattle.object_resolve.specs.Limits.{AreCounted, AreCounts, AreFewOthers, AreWithin};
+ghost use Rattle.object_resolve.specs.Limits.{PassesOther, PassesRest};
 ghost use Rattle.object_resolve.specs.Resolve.{IsDependencyLooped, IsFirstOver, IsLoopedOrOver};
 ghost use Rattle.object_resolve.specs.Tables.{AreTables};
 ghost use Rattle.object_services.specs.Limits as counted;

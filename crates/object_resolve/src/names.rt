@@ -4,7 +4,8 @@ ghost use Rattle.std.specs.Prelude.{◌≡◌, IfErr, IfOk, OnOk};
 ghost use Rattle.object_groups.specs.First.{IsFirst};
 ghost use Rattle.object_resolve.specs.Fault.{IsAmong};
 ghost use Rattle.object_resolve.specs.First.{IsNowhere};
-ghost use Rattle.object_resolve.specs.Names.{GivesDoubledService, IsDoubledAt, IsFirstMisnamed, IsMisnamed};
+ghost use Rattle.object_resolve.specs.Names.{GivesDoubledService, IsDoubledAt, IsFirstMisnamed};
+ghost use Rattle.object_resolve.specs.Names.{IsMisnamed};
 ghost use Rattle.object_resolve.specs.Names.{HasUnknownPair, IsUnknownAt};
 ghost use Rattle.object_resolve.specs.Tables.{AreTables};
 

@@ -9,7 +9,8 @@ ghost use Rattle.object_resolve.specs.Fault.{IsAmong};
 ghost use Rattle.object_resolve.specs.First.{IsNowhere};
 ghost use Rattle.object_resolve.specs.Limits.{AreCounts, AreWithin};
 ghost use Rattle.object_resolve.specs.Names.{IsMisnamed};
-ghost use Rattle.object_resolve.specs.Resolve.{IsDependencyLooped, IsFirstLooped, IsMistemplated, IsMisvalued};
+ghost use Rattle.object_resolve.specs.Resolve.{IsDependencyLooped, IsFirstLooped, IsMistemplated};
+ghost use Rattle.object_resolve.specs.Resolve.{IsMisvalued};
 ghost use Rattle.object_resolve.specs.Resolve.{IsFitting, IsRefusal, IsResolved, IsUnfit};
 ghost use Rattle.object_resolve.specs.Tables.{AreTables};
 

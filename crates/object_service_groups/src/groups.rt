@@ -1,13 +1,17 @@
 //! The service groups of blocks, and their members.
 
-ghost use Rattle.std.specs.Prelude.{◌≡◌, ◌+◌, ◌<◌, ◌≤◌, ◌^◌, ◌++◌, codes, length, All, IfOk, OnOk};
+ghost use Rattle.std.specs.Prelude.{◌≡◌, ◌+◌, ◌<◌, ◌≤◌, ◌^◌, ◌++◌, codes, length};
+ghost use Rattle.std.specs.Prelude.{All, IfOk, OnOk};
 ghost use Rattle.std.specs.List.{flat_map, range_with_len};
 ghost use Rattle.object_groups.specs.Names.{numbers_of};
 ghost use Rattle.object_groups.specs.Objects.{list_at, names_in, objects_in};
 ghost use Rattle.object_pairs.specs.Members.{places_of};
-ghost use Rattle.object_reader.specs.declared.block.BlockKind.TheVariants.{Host, Service, ServiceGroup};
-ghost use Rattle.object_service_groups.specs.Groups.{AreMembersOf, AreTables, grouping, groups_in, named_in};
-ghost use Rattle.object_service_groups.specs.Nodes.{AreBelow, block_edges, edges_in, edges_of_block};
+ghost use Rattle.object_reader.specs.declared.block.BlockKind.TheVariants.{Host, Service};
+ghost use Rattle.object_reader.specs.declared.block.BlockKind.TheVariants.{ServiceGroup};
+ghost use Rattle.object_service_groups.specs.Groups.{AreMembersOf, AreTables, grouping, groups_in};
+ghost use Rattle.object_service_groups.specs.Groups.{named_in};
+ghost use Rattle.object_service_groups.specs.Nodes.{AreBelow, block_edges, edges_in};
+ghost use Rattle.object_service_groups.specs.Nodes.{edges_of_block};
 ghost use Rattle.object_service_groups.specs.Nodes.{edges_of_group, group_edges, IsGraphOf};
 ghost use Rattle.object_services.specs.Limits.{AreHostLists};
 ghost use Rattle.object_services.specs.Numbers.{pairs_of};

@@ -1,6 +1,7 @@
 //! Laws of service groups, each the contract of a function with nothing to do.
 
-ghost use Rattle.object_service_groups.specs.Laws.{BlocksServicesAreMembers, IncludedAreMembers, ListedAreMembers};
+ghost use Rattle.object_service_groups.specs.Laws.{BlocksServicesAreMembers, IncludedAreMembers};
+ghost use Rattle.object_service_groups.specs.Laws.{ListedAreMembers};
 ghost use Rattle.object_service_groups.specs.Laws.{LoopAddsNothing, MembersAreServices};
 
 /// A group's members don't change when a loop is added to it.

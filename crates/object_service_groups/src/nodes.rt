@@ -3,7 +3,8 @@
 ghost use Rattle.std.specs.Prelude.{◌≡◌, ◌+◌, ◌<◌, ◌^◌, ◌++◌, length, map};
 ghost use Rattle.std.specs.Prelude.{All, OnOk};
 ghost use Rattle.object_groups.specs.Names.{numbers_of};
-ghost use Rattle.object_service_groups.specs.Nodes.{edge, edges_of_block, edges_of_group, owner_edges};
+ghost use Rattle.object_service_groups.specs.Nodes.{edge, edges_of_block, edges_of_group};
+ghost use Rattle.object_service_groups.specs.Nodes.{owner_edges};
 ghost use Rattle.object_values.specs.Values.{texts};
 
 use graph::edges::Edge;

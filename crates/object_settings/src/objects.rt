@@ -1,6 +1,7 @@
 //! The hosts and services of blocks.
 
-ghost use Rattle.std.specs.Prelude.{◌≡◌, ◌+◌, ◌<◌, ◌≤◌, None, length, map, slice_index_or};
+ghost use Rattle.std.specs.Prelude.{◌≡◌, ◌+◌, ◌<◌, ◌≤◌, None, length, map};
+ghost use Rattle.std.specs.Prelude.{slice_index_or};
 ghost use Rattle.std.specs.Prelude.{sum_by, All, IfOk, OnOk, Some};
 ghost use Rattle.std.specs.List.{AllZip};
 ghost use Rattle.due_model.specs.Limits.{max_contacts, max_objects, max_periods};

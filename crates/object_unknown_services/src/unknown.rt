@@ -1,10 +1,12 @@
 //! The first block that names a service which no service block gives.
 
-ghost use Rattle.std.specs.Prelude.{◌≡◌, ◌↔◌, ◌<◌, ◌∷◌, [], length, true, false, IfOk, OnOk};
+ghost use Rattle.std.specs.Prelude.{◌≡◌, ◌↔◌, ◌<◌, ◌∷◌, [], length, true, false, IfOk};
+ghost use Rattle.std.specs.Prelude.{OnOk};
 ghost use Rattle.object_groups.specs.declared.groups.GroupKind.TheVariants.{HostGroups};
 ghost use Rattle.object_groups.specs.First.{IsFirst};
 ghost use Rattle.object_pairs.specs.Wanted.{AreWith, Keeps};
-ghost use Rattle.object_unknown_services.specs.Unknown.{AreWantedBelow, HasUnknownService, IsWantedAt, IsWantedIn};
+ghost use Rattle.object_unknown_services.specs.Unknown.{AreWantedBelow, HasUnknownService};
+ghost use Rattle.object_unknown_services.specs.Unknown.{IsWantedAt, IsWantedIn};
 ghost use Rattle.object_unknown_services.specs.Unknown.{LacksAny, LacksAt, LacksIn};
 ghost use Rattle.object_values.specs.Values.{texts};
 

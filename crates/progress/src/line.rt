@@ -1,5 +1,7 @@
 //! A line on standard error that is written over.
 
+ghost use Rattle.std.specs.Prelude.{◌≡◌, false, None};
+
 use crate::{Progress, Watcher};
 use std::io::Eprint;
 
@@ -22,7 +24,11 @@ pub struct ProgressLine<'a, E: Eprint> {
 
 impl<'a, E: Eprint> ProgressLine<'a, E> {
     /// Nothing is written yet.
-    pub fn new(errors: &'a E, is_terminal: bool) -> Self {
+    pub fn new(errors: &'a E, is_terminal: bool) -> Self
+        ensures terminal { result.is_terminal ≡ is_terminal }
+        ensures stands { result.stands ≡ false }
+        ensures told { result.last ≡ None }
+    {
         ProgressLine {
             errors,
             is_terminal,

@@ -6,7 +6,8 @@ ghost use Rattle.due_model.specs.declared.zone.Zone.{Zone};
 ghost use Rattle.due_model.specs.Dependencies.{dependency_fails};
 ghost use Rattle.due_model.specs.Limits.{last_moment};
 ghost use Rattle.slow_lookups.specs.Flags.{flag_at};
-ghost use Rattle.slow_lookups.specs.Rounds.{AreObjectFlags, ArePeriodsAt, entry_flag, object_flag, state_of};
+ghost use Rattle.slow_lookups.specs.Rounds.{AreObjectFlags, ArePeriodsAt, entry_flag, object_flag};
+ghost use Rattle.slow_lookups.specs.Rounds.{state_of};
 
 use crate::flags::{flag_at, or_into};
 use crate::periods::{flags_at, is_open};

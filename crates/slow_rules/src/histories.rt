@@ -4,7 +4,8 @@ ghost use Rattle.std.specs.Prelude.{◌≡◌, ◌<◌, ◌≤◌, ◌^◌, leng
 ghost use Rattle.std.specs.Prelude.{IfOk, IfSome, option_map, count_by, is_some, List, ◌∷◌};
 ghost use Rattle.due_model.specs.Limits.{last_moment};
 ghost use Rattle.due_model.specs.declared.notice.Outcome.{Outcome};
-ghost use Rattle.due_model.specs.Histories.{before, of_problem, notice_of, notices_sent, last_notice};
+ghost use Rattle.due_model.specs.Histories.{before, of_problem, notice_of, notices_sent};
+ghost use Rattle.due_model.specs.Histories.{last_notice};
 ghost use Rattle.due_model.specs.Histories.{after_last, retry_after, ready};
 ghost use Rattle.slow_rules.specs.Histories.{IsInRange, IsLastInRange};
 ghost use Rattle.slow_rules.specs.Retries.{IsRetryInRange, retry_moment};

@@ -2,7 +2,8 @@
 
 ghost use Rattle.std.specs.Prelude.{◌≡◌, ◌≤◌, ◌++◌, [], IfOk, OnOk, length, map, flat_map};
 ghost use Rattle.due_model.specs.Accepted.{IsAccepted};
-ghost use Rattle.due_model.specs.Due.{receivers, rights_for, notice_to, refusal_of, notices, suppressions};
+ghost use Rattle.due_model.specs.Due.{receivers, rights_for, notice_to, refusal_of, notices};
+ghost use Rattle.due_model.specs.Due.{suppressions};
 ghost use Rattle.due_model.specs.Escalations.{contacts_with, has_contact, reach};
 ghost use Rattle.due_model.specs.Limits.{last_moment, max_contacts};
 ghost use Rattle.slow_rules.specs.Histories.{IsInRange};

@@ -31,7 +31,8 @@ pub struct KeptLane {
 
 impl KeptLane {
     ghost use Rattle.std.specs.Prelude.{◌↔◌, [], ◌∷◌, length, IsTrue, OnOk, OnErr};
-    ghost use Rattle.steps.specs.Lanes.{Can, CanSettle, about, closed, does, drained, queued, settled};
+    ghost use Rattle.steps.specs.Lanes.{Can, CanSettle, about, closed, does, drained, queued};
+    ghost use Rattle.steps.specs.Lanes.{settled};
 
     /// A lane with nothing in it, which serves or is shut.
     pub(crate) fn new(alloc: Global, serves: bool) -> Self

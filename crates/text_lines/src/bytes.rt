@@ -1,6 +1,7 @@
 //! Places in bytes.
 
-ghost use Rattle.std.specs.Prelude.{◌≡◌, ◌*◌, ◌<◌, ◌≤◌, ◌==◌, IfSome, length, position, take_while};
+ghost use Rattle.std.specs.Prelude.{◌≡◌, ◌*◌, ◌<◌, ◌≤◌, ◌==◌, IfSome, length};
+ghost use Rattle.std.specs.Prelude.{position, take_while};
 ghost use Rattle.std.specs.List.{position_or_len};
 ghost use Rattle.text_lines.specs.Lines.{has_line, is_newline};
 

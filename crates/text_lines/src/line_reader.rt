@@ -1,7 +1,8 @@
 //! Lines from any reader, whatever pieces it gives, through a buffer of their own.
 
 ghost use Rattle.std.specs.Prelude.{◌≡◌, ◌≢◌, ◌+◌, ◌-◌, ◌<◌, ◌≤◌, [], false};
-ghost use Rattle.std.specs.Prelude.{length, take, drop, slice_index, slice_range, IfOk, IsOk, IsTrue};
+ghost use Rattle.std.specs.Prelude.{length, take, drop, slice_index, slice_range, IfOk, IsOk};
+ghost use Rattle.std.specs.Prelude.{IsTrue};
 ghost use Rattle.std.specs.Io.KnownBytes.{ReadConsumes};
 ghost use Rattle.due_model.specs.Limits.{line_limit};
 ghost use Rattle.text_lines.specs.CountedReader.{calls_after};

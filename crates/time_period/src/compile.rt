@@ -4,7 +4,8 @@ ghost use Rattle.std.specs.Prelude.{◌≡◌, ℕ, ◌<◌, ◌≤◌, ◌++◌
 ghost use Rattle.std.specs.Prelude.{All, map, vec_len};
 ghost use Rattle.due_model.specs.Accepted.{IsAccepted};
 ghost use Rattle.due_model.specs.Limits.{day, max_periods};
-ghost use Rattle.time_period.specs.Days.{AreCompiled, AreWorkedOut, IsCompiled, IsDay, IsDayOf, holds_any};
+ghost use Rattle.time_period.specs.Days.{AreCompiled, AreWorkedOut, IsCompiled, IsDay, IsDayOf};
+ghost use Rattle.time_period.specs.Days.{holds_any};
 ghost use Rattle.time_period.specs.Days.{holds_without};
 ghost use Rattle.time_period.specs.Exclusions.{InOrder, edges_of, exclusion_edges};
 ghost use Rattle.time_period.specs.Stretches.{IsStretch};

@@ -37,7 +37,8 @@ impl<'a> World<'a> {
     ghost use Rattle.due_model.specs.Proper.{IsProper};
     ghost use Rattle.due_model.specs.Due.{due};
     ghost use Rattle.world_steps.specs.Worlds.{lane_at, outbox_at};
-    ghost use Rattle.world_steps.specs.Steps.{CanDecide, CanPut, IsEnabled, IsProperStep, after, past_of};
+    ghost use Rattle.world_steps.specs.Steps.{CanDecide, CanPut, IsEnabled, IsProperStep, after};
+    ghost use Rattle.world_steps.specs.Steps.{past_of};
     ghost use Rattle.steps.specs.Lanes.{about};
     ghost use Rattle.world_steps.specs.Lines.{decider_of, line, LinesAreDue, NoticesStandOnce};
     ghost use Rattle.world_steps.specs.Runs.{new_world, LeadsTo, StopsAt, ShutTakesNothing};
