@@ -6,7 +6,7 @@ use channel::{Channel, Fault, Receipt};
 use due_model::config::{ContactId, LaneId, ObjectId};
 use due_model::notice::{Kind, Notice};
 use due_model::sequence::Sequence;
-use due_model::text::Text;
+use due_model::short_list::Text;
 use due_model::state::State;
 use std::alloc::{AllocError, Global};
 use std::mem::replace;

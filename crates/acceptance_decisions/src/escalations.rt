@@ -9,13 +9,14 @@ use acceptance_inputs::accepted::is_accepted;
 use acceptance_inputs::periods::{Row, periods};
 use acceptance_inputs::rows::NO_LETTER;
 use due_model::config::{
-    Config, Contact, ContactId, Escalation, Object, ObjectId, Period, PeriodId, Range, Rights,
+    Config, Contact, ContactId, ContactList, Escalation, Object, ObjectId, Period, PeriodId, Range,
+    Rights,
 };
 use due_model::limits::LAST_MOMENT;
 use due_model::objects::Objects;
 use due_model::options::{OptionLetter, OptionLetters};
 use due_model::sequence::Sequence;
-use due_model::text::Text;
+use due_model::short_list::Text;
 use due_model::zone::Zone;
 use escalation::by_object::ByObject;
 use escalation::contacts::{contacts, own_contacts};
@@ -208,7 +209,7 @@ fn host(alloc: Global, own: Own) -> Result<Object, AllocError> {
         period: None,
         interval: own.interval,
         delay: 0,
-        contacts: Sequence::new(Vec::from_slice(alloc, own.contacts)?),
+        contacts: ContactList::new(alloc, own.contacts)?,
     })
 }
 
@@ -246,7 +247,7 @@ fn escalations(alloc: Global) -> Result<Sequence<Escalation>, AllocError> {
             interval: given.interval,
             period: given.period,
             options: given.options,
-            contacts: Sequence::new(Vec::from_slice(alloc, given.contacts)?),
+            contacts: ContactList::new(alloc, given.contacts)?,
         })?;
     }
     Ok(Sequence::new(made))

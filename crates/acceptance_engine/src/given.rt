@@ -6,7 +6,7 @@ use due_model::config::{Config, Contact, Lane, LaneId, Rights};
 use due_model::notice::Notice;
 use due_model::options::OptionLetters;
 use due_model::sequence::Sequence;
-use due_model::text::Text;
+use due_model::short_list::Text;
 use due_model::zone::Zone;
 use engine::{Engine, LaneEnd, Post, RunEnd, Settings};
 use std::alloc::{AllocError, Global};

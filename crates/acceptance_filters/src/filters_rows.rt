@@ -13,7 +13,7 @@ use due_model::notice::{Filter, Kind};
 use due_model::options::OptionLetters;
 use due_model::rules::{Last, View};
 use due_model::sequence::Sequence;
-use due_model::text::Text;
+use due_model::short_list::Text;
 use due_model::state::State;
 use due_model::zone::Zone;
 use filters::attempt::Attempt;

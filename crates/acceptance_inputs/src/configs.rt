@@ -6,12 +6,12 @@ ghost use Rattle.due_laws.specs.Rows.{base, web, on_mail, by_mail};
 ghost use Rattle.acceptance_inputs.specs.Parts.{of_parts};
 
 use due_model::config::{
-    Config, Contact, ContactId, Lane, LaneId, Object, ObjectId, Period, Rights,
+    Config, Contact, ContactId, ContactList, Lane, LaneId, Object, ObjectId, Period, Rights,
 };
 use due_model::objects::Objects;
 use due_model::options::OptionLetters;
 use due_model::sequence::Sequence;
-use due_model::text::Text;
+use due_model::short_list::Text;
 use std::alloc::{AllocError, Global};
 
 fn on_mail(alloc: Global) -> Result<Rights, AllocError>
@@ -43,7 +43,7 @@ fn web(alloc: Global) -> Result<Object, AllocError>
     ensures { IfOk result (λ o. o ≡ web) }
 {
     let name = Text::new(alloc, b"web")?;
-    let contacts = Sequence::new(Vec::from_slice(alloc, &[ContactId(0)])?);
+    let contacts = ContactList::new(alloc, &[ContactId(0)])?;
     Ok(Object {
         name,
         host: None,
@@ -69,7 +69,7 @@ pub fn object(alloc: Global, name: &str, host: Option<ObjectId>) -> Result<Objec
         period: None,
         interval: 60,
         delay: 0,
-        contacts: Sequence::new(Vec::new(alloc)),
+        contacts: ContactList::new(alloc, &[])?,
     })
 }
 

@@ -8,7 +8,7 @@ use crate::configs::of_parts;
 use due_model::config::{Config, Period, PeriodId, Range};
 use due_model::objects::Objects;
 use due_model::sequence::Sequence;
-use due_model::text::Text;
+use due_model::short_list::Text;
 use std::alloc::{AllocError, Global};
 
 /// A period with the same ranges on some weekdays that follow one another, from Sunday, which is 0.

@@ -3,14 +3,14 @@
 ghost use Rattle.std.specs.Prelude.{◌≡◌, length, IfOk};
 
 use due_model::config::{
-    Config, Contact, ContactId, Dependency, Escalation, Lane, LaneId, Object, ObjectId, Period,
+    Config, Contact, ContactId, ContactList, Dependency, Escalation, Lane, LaneId, Object, ObjectId, Period,
     PeriodId, Range, Rights,
 };
 use due_model::limits::MAX_OBJECTS;
 use due_model::objects::Objects;
 use due_model::options::OptionLetters;
 use due_model::sequence::Sequence;
-use due_model::text::Text;
+use due_model::short_list::Text;
 use std::alloc::{AllocError, Global};
 
 /// No letter of the options.
@@ -121,7 +121,7 @@ fn object(alloc: Global, row: ObjectRow) -> Result<Object, AllocError> {
         period: row.period,
         interval: row.interval,
         delay: row.delay,
-        contacts: Sequence::new(Vec::from_slice(alloc, row.contacts)?),
+        contacts: ContactList::new(alloc, row.contacts)?,
     })
 }
 
@@ -174,7 +174,7 @@ fn escalation(alloc: Global, row: EscalationRow) -> Result<Escalation, AllocErro
         interval: row.interval,
         period: row.period,
         options: OptionLetters::ALL,
-        contacts: Sequence::new(Vec::from_slice(alloc, row.contacts)?),
+        contacts: ContactList::new(alloc, row.contacts)?,
     })
 }
 
@@ -202,14 +202,14 @@ fn lanes(alloc: Global, count: u8) -> Result<Sequence<Lane>, AllocError>
 /// The configuration of these rows, of the first 65,535 objects. It need not be accepted: `is_accepted` tells.
 pub fn config_of(alloc: Global, rows: Rows<'_>) -> Result<Config, AllocError>
     ensures contacts { IfOk result (λ config.
-        length config.contacts ≡ length rows.contacts.now) }
-    ensures lanes { IfOk result (λ config. length config.lanes ≡ rows.lanes) }
+        length config.contacts ≡ length rows.entry.contacts.now) }
+    ensures lanes { IfOk result (λ config. length config.lanes ≡ rows.entry.lanes) }
     ensures periods { IfOk result (λ config.
-        length config.periods ≡ length rows.periods.now) }
+        length config.periods ≡ length rows.entry.periods.now) }
     ensures escalations { IfOk result (λ config.
-        length config.escalations ≡ length rows.escalations.now) }
+        length config.escalations ≡ length rows.entry.escalations.now) }
     ensures dependencies { IfOk result (λ config.
-        config.dependencies ≡ rows.dependencies.now) }
+        config.dependencies ≡ rows.entry.dependencies.now) }
 {
     let objects = objects(alloc, rows.objects)?;
     let contacts = contacts(alloc, rows.contacts)?;

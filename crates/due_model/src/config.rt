@@ -7,16 +7,19 @@ ghost use Rattle.due_model.specs.Escalations.{has_contact};
 use crate::objects::Objects;
 use crate::options::OptionLetters;
 use crate::sequence::Sequence;
+use crate::short_list::{ShortList, Text};
 use crate::state::StateSet;
-use crate::text::Text;
 
 /// The number of a host or a service, its place in the configuration.
 #[derive(Clone, Copy, Debug, PartialEq, Eq)]
 pub struct ObjectId(pub u16);
 
 /// The number of a contact.
-#[derive(Clone, Copy, Debug, PartialEq, Eq)]
+#[derive(Clone, Copy, Debug, Default, PartialEq, Eq)]
 pub struct ContactId(pub u16);
+
+/// The contacts of an object or of an escalation: mostly few.
+pub type ContactList = ShortList<ContactId, 12>;
 
 /// The number of a lane: a notification command that some contact uses.
 #[derive(Clone, Copy, Debug, PartialEq, Eq)]
@@ -44,7 +47,7 @@ pub struct Object {
     /// `first_notification_delay`, in units of 60 seconds: 0 to 1,000,000.
     pub delay: u32,
     /// The contacts that are notified where no escalation matches.
-    pub contacts: Sequence<ContactId>,
+    pub contacts: ContactList,
 }
 
 impl Object {
@@ -129,7 +132,7 @@ pub struct Escalation {
     pub period: Option<PeriodId>,
     /// `escalation_options`.
     pub options: OptionLetters,
-    pub contacts: Sequence<ContactId>,
+    pub contacts: ContactList,
 }
 
 /// A notification dependency of one object on another (chapter "Host and Service Dependencies").

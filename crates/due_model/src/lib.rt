@@ -11,6 +11,6 @@ pub mod options;
 pub mod proper;
 pub mod rules;
 pub mod sequence;
+pub mod short_list;
 pub mod state;
-pub mod text;
 pub mod zone;

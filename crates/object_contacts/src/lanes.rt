@@ -9,7 +9,7 @@ ghost use Rattle.object_values.specs.Values.{texts};
 
 use crate::marks::{mark, marked_numbers};
 use due_model::config::Lane;
-use due_model::text::Text;
+use due_model::short_list::Text;
 use object_groups::names::Names;
 use object_groups::objects::{Objects, list_at};
 use object_inheritance::inherited::Values;

@@ -8,8 +8,7 @@ ghost use Rattle.object_readings.specs.Sources.{AreSources};
 
 use crate::escalated::EscalatedObjects;
 use crate::given::{Given, Tables};
-use due_model::config::{ContactId, Escalation, Object, ObjectId};
-use due_model::sequence::Sequence;
+use due_model::config::{ContactList, Escalation, Object, ObjectId};
 use object_groups::groups::Groups;
 use object_groups::names::Names;
 use object_groups::objects::is_object;
@@ -30,13 +29,13 @@ fn list_kind(block: &Block) -> OptionKind
 }
 
 /// The contacts of the block, or those of the object.
-fn contacts_of(alloc: Global, given: &Given, object: &Object) -> Result<Vec<ContactId>, AllocError>
-    ensures { IfOk result (λ contacts. contacts.items ≡ contacts_of given.now object.now) }
+fn contacts_of(alloc: Global, given: &Given, object: &Object) -> Result<ContactList, AllocError>
+    ensures { IfOk result (λ contacts. contacts ≡ contacts_of given.now object.now) }
 {
     if given.lacks_contacts {
-        Vec::from_slice(alloc, object.contacts.as_slice())
+        ContactList::new(alloc, object.contacts.as_slice())
     } else {
-        Vec::from_slice(alloc, given.contacts.as_slice())
+        ContactList::new(alloc, given.contacts.as_slice())
     }
 }
 
@@ -50,7 +49,6 @@ fn escalation_of(
     requires { number < max_objects }
     ensures { IfOk result (IsTaken given.now number object.now) }
 {
-    let contacts = contacts_of(alloc, given, object)?;
     Ok(Escalation {
         object: ObjectId(number as u16),
         first: given.first,
@@ -58,7 +56,7 @@ fn escalation_of(
         interval: given.interval.unwrap_or(object.interval),
         period: given.period.unwrap_or(object.period),
         options: given.options,
-        contacts: Sequence::new(contacts),
+        contacts: contacts_of(alloc, given, object)?,
     })
 }
 

@@ -1,7 +1,7 @@
 //! What object text consists of: blocks, and the directives in them.
 
 use due_model::sequence::Sequence;
-use due_model::text::Text;
+use due_model::short_list::Text;
 
 /// The types of block (chapter "Object Definitions").
 #[derive(Clone, Copy, Debug, PartialEq, Eq)]

@@ -21,7 +21,7 @@ use crate::text::LineText;
 use crate::words::Words;
 pub use due_model::limits::TEXT_LIMIT;
 use due_model::sequence::Sequence;
-use due_model::text::Text;
+use due_model::short_list::Text;
 use std::alloc::{AllocError, Global};
 
 /// The next statement of the lines. Lines that say nothing are skipped.

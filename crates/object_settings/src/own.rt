@@ -4,10 +4,9 @@ ghost use Rattle.std.specs.Prelude.{◌≡◌, ◌<◌, map, unwrap_or, All, IfO
 ghost use Rattle.due_model.specs.Objects.{object_id};
 ghost use Rattle.object_settings.specs.Own.{contacts_of, IsTaken};
 
-use due_model::config::{ContactId, Object, ObjectId, PeriodId};
+use due_model::config::{ContactId, ContactList, Object, ObjectId, PeriodId};
 use due_model::options::OptionLetters;
-use due_model::sequence::Sequence;
-use due_model::text::Text;
+use due_model::short_list::Text;
 use std::alloc::{AllocError, Global};
 
 /// What a block gives, by itself or by its templates.
@@ -60,13 +59,13 @@ fn contacts_of<'a>(
     alloc: Global,
     own: &Own<'a>,
     host: &Own<'a>,
-) -> Result<Vec<ContactId>, AllocError>
-    ensures { IfOk result (λ contacts. contacts.items ≡ contacts_of own.now host.now) }
+) -> Result<ContactList, AllocError>
+    ensures { IfOk result (λ contacts. contacts ≡ contacts_of own.now host.now) }
 {
     if own.lacks_contacts {
-        Vec::from_slice(alloc, host.contacts.as_slice())
+        ContactList::new(alloc, host.contacts.as_slice())
     } else {
-        Vec::from_slice(alloc, own.contacts.as_slice())
+        ContactList::new(alloc, own.contacts.as_slice())
     }
 }
 
@@ -80,7 +79,6 @@ pub(crate) fn object_of<'a>(
     ensures host { IfOk result (λ object. object.host ≡ number) }
     ensures taken { IfOk result (IsTaken own.now host.now) }
 {
-    let contacts = contacts_of(alloc, own, host)?;
     Ok(Object {
         name: Text::new(alloc, own.name)?,
         host: number,
@@ -89,6 +87,6 @@ pub(crate) fn object_of<'a>(
         period: period_of(own.period, host.period),
         interval: interval_of(own.interval, host.interval),
         delay: own.delay,
-        contacts: Sequence::new(contacts),
+        contacts: contacts_of(alloc, own, host)?,
     })
 }
