@@ -10,7 +10,7 @@ use crate::days::Week;
 use crate::excludes::listed_at;
 use due_model::config::{Period, PeriodId};
 use due_model::sequence::Sequence;
-use due_model::short_list::Text;
+use due_model::text::Text;
 use object_groups::names::Names;
 use object_groups::objects::Objects;
 use object_inheritance::inherited::Values;
@@ -56,8 +56,9 @@ fn period_at<'a>(
 {
     let numbers = listed_at(alloc, names, excludes, place)?;
     let ids = ids_of(alloc, numbers.as_slice())?;
+    let name = Text::new(alloc, names.name(number))?;
     Ok(Period {
-        name: Text::new(alloc, names.name(number))?,
+        name,
         days: week.at(alloc, place)?,
         excludes: Sequence::new(ids),
     })
