@@ -1,3 +1,4 @@
 pub mod PartLemmas
 pub mod EdgeLemmas
+pub mod PushedLemmas
 pub mod ReachLemmas

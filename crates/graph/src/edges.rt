@@ -15,8 +15,8 @@ pub struct Edge {
     pub to: u32,
 }
 
-/// A directed graph of at most 4,294,967,295 nodes, numbered from 0. It takes 8 bytes a node and 4 an edge.
-/// Contracts see the list of each node's ends.
+/// A directed graph of at most 4,294,967,295 nodes, numbered from 0. It takes 8 bytes a node and 4 an edge, and while
+/// it is made 16 more an edge. Contracts see the list of each node's ends.
 #[derive(Drop)]
 pub struct Graph {
     ends: Lists<u32>,
@@ -69,7 +69,7 @@ fn ends_of(alloc: Global, nodes: usize, edges: &[Edge]) -> Result<ListsBuilder<u
     requires { All (IsWithin nodes) edges.now }
     ensures { IfOk result (HasEdges nodes edges.now) }
 {
-    let mut lists = ListsBuilder::new(alloc, nodes)?;
+    let mut lists = ListsBuilder::with_room(alloc, nodes, edges.len())?;
     for edge in edges {
         lists.push(edge.from as usize, edge.to)?;
     }

@@ -1,8 +1,9 @@
 //! Lists that are kept one after another, and how they are made.
 
-ghost use Rattle.std.specs.Prelude.{◌≡◌, ◌+◌, ◌<◌, ◌≤◌, ◌++◌, ◌∷◌, []};
-ghost use Rattle.std.specs.Prelude.{length, map, replicate, slice_index, slice_index_or, slice_range};
-ghost use Rattle.std.specs.Prelude.{slice_set, IfOk, OnErr, OnOk};
+ghost use Rattle.std.specs.Prelude.{◌≡◌, ◌+◌, ◌^◌, ◌<◌, ◌≤◌, ◌++◌, ◌∷◌, []};
+ghost use Rattle.std.specs.Prelude.{length, replicate, slice_index, slice_index_or, slice_range};
+ghost use Rattle.std.specs.Prelude.{slice_set, sum, take, All, EachIndex, IfOk, OnErr, OnOk};
+ghost use Rattle.graph.specs.Lists.{AreInPlace};
 
 use std::alloc::{AllocError, Global};
 use std::marker::Model;
@@ -56,18 +57,32 @@ fn part_at<'a, T>(starts: &[usize], values: &'a [T], number: usize) -> &'a [T]
     &values[starts[number]..starts[number + 1]]
 }
 
-/// Lists that are still added to. Contracts see the list of the lists.
+/// Lists that are still added to. They take 8 bytes a list, and for each value its number too: 16 bytes for a `u32`.
+/// Contracts see the list of the lists.
 #[derive(Drop)]
 pub struct ListsBuilder<T> {
-    lists: Vec<Vec<T>>,
+    /// 0, and after it how many values each list has.
+    counts: Vec<usize>,
+    /// What was added to the lists, in order.
+    pushed: Vec<Pushed<T>>,
+}
+
+/// A value, and the number of the list that it was added to.
+#[derive(Drop)]
+struct Pushed<T> {
+    number: usize,
+    value: T,
 }
 
 impl<T> Model for ListsBuilder<T> {
-    ghost use Rattle.std.specs.Prelude.{List, map};
+    ghost use Rattle.std.specs.Prelude.{List, length};
+    ghost use Rattle.graph.specs.Lists.{AreCounts, lists_of};
 
     ghost Value = { List (List T) };
 
-    ghost view = { λ s. map (λ list. list.items) s.lists.items };
+    ghost view = { λ s. lists_of (length s.counts.items) s.pushed.items };
+
+    ghost invariant = { λ s. AreCounts s.pushed.items s.counts.items };
 }
 
 impl<T: Copy> ListsBuilder<T> {
@@ -75,18 +90,25 @@ impl<T: Copy> ListsBuilder<T> {
     pub fn new(alloc: Global, count: usize) -> Result<Self, AllocError>
         ensures { IfOk result (λ lists. lists ≡ replicate count []) }
     {
-        let mut lists = Vec::with_capacity(alloc, count)?;
-        for _made in 0..count {
-            lists.push(Vec::new(alloc))?;
-        }
-        Ok(ListsBuilder { lists })
+        ListsBuilder::with_room(alloc, count, 0)
+    }
+
+    /// The same, with room for so many values at once.
+    pub fn with_room(alloc: Global, count: usize, room: usize) -> Result<Self, AllocError>
+        ensures { IfOk result (λ lists. lists ≡ replicate count []) }
+    {
+        let places = count.checked_add(1).ok_or(AllocError)?;
+        Ok(ListsBuilder {
+            counts: vec![in alloc; 0; places]?,
+            pushed: Vec::with_capacity(alloc, room)?,
+        })
     }
 
     /// How many lists there are.
     pub fn len(&self) -> usize
         ensures { result ≡ length self.now }
     {
-        self.lists.len()
+        self.counts.len() - 1
     }
 
     /// Adds a value at the end of a list. A refused growth leaves the lists as they were.
@@ -96,51 +118,58 @@ impl<T: Copy> ListsBuilder<T> {
             ≡ slice_set self.old number (slice_index_or self.old number [] ++ value ∷ [])) }
         ensures refused { OnErr result (self.new ≡ self.old) }
     {
-        self.lists[number].push(value)?;
+        self.pushed.push(Pushed { number, value })?;
+        self.counts[number + 1] += 1;
         Ok(())
     }
 
-    /// The lists, as they are from now on. The time grows with the lists and their values. A refused growth
-    /// leaves nothing.
+    /// The lists, as they are from now on. The time grows with the lists and their values, and so does the memory
+    /// while they are made: what was added, and the values once more. A refused growth leaves nothing.
     pub fn build(self, alloc: Global) -> Result<Lists<T>, AllocError>
         ensures { IfOk result (λ lists. lists ≡ self) }
     {
-        joined(alloc, self.lists.as_slice())
+        let mut starts = self.counts;
+        let pushed = self.pushed;
+        let mut values = some_values(alloc, pushed.as_slice())?;
+        let places = starts.as_mut_slice();
+        sum_up(places);
+        place_each(places, values.as_mut_slice(), pushed.as_slice());
+        Ok(Lists { starts, values })
     }
 }
 
-/// The lists, one after another.
-fn joined<T: Copy>(alloc: Global, lists: &[Vec<T>]) -> Result<Lists<T>, AllocError>
-    ensures { IfOk result (λ joined. joined ≡ map (λ list. list.items) lists.now) }
+/// Writes over each count the sum of those before it.
+fn sum_up(counts: &mut [usize])
+    requires { sum counts.old < 2 ^ 64 }
+    ensures { EachIndex counts.new (λ k. slice_index counts.new k ≡ sum (take k counts.old)) }
 {
-    let mut starts = first_start(alloc, lists.len().saturating_add(1))?;
-    let mut values = Vec::new(alloc);
-    for list in lists {
-        add_list(&mut starts, &mut values, list.as_slice())?;
+    let mut total = 0;
+    for count in counts.iter_mut() {
+        let start = total;
+        total += *count;
+        *count = start;
     }
-    Ok(Lists { starts, values })
 }
 
-/// Where the first list begins, with room for so many places.
-fn first_start(alloc: Global, room: usize) -> Result<Vec<usize>, AllocError>
-    ensures { IfOk result (λ starts. starts.items ≡ 0 ∷ []) }
+/// As many values as were added, for `place_each` to write over.
+fn some_values<T: Copy>(alloc: Global, pushed: &[Pushed<T>]) -> Result<Vec<T>, AllocError>
+    ensures { IfOk result (λ values. length values.items ≡ length pushed.now) }
 {
-    let mut starts = Vec::with_capacity(alloc, room)?;
-    starts.push(0)?;
-    Ok(starts)
+    match pushed.first() {
+        Some(first) => Ok(vec![in alloc; first.value; pushed.len()]?),
+        None => Ok(Vec::new(alloc)),
+    }
 }
 
-/// Adds a list's values at the end, and the place where they end.
-fn add_list<T: Copy>(
-    starts: &mut Vec<usize>,
-    values: &mut Vec<T>,
-    list: &[T],
-) -> Result<(), AllocError>
-    ensures values { OnOk result (values.new.items ≡ values.old.items ++ list.now) }
-    ensures starts { OnOk result (starts.new.items
-        ≡ starts.old.items ++ length values.new.items ∷ []) }
+/// Writes each value in its list's next free place.
+fn place_each<T: Copy>(places: &mut [usize], values: &mut [T], pushed: &[Pushed<T>])
+    requires within { All (λ one. one.number + 1 < length places.old) pushed.now }
+    requires free { AreInPlace pushed.now [] places.old values.old }
+    ensures { AreInPlace pushed.now pushed.now places.new values.new }
 {
-    values.extend_from_slice(list)?;
-    starts.push(values.len())?;
-    Ok(())
+    for one in pushed {
+        let place = &mut places[one.number + 1];
+        values[*place] = one.value;
+        *place += 1;
+    }
 }

@@ -1,6 +1,6 @@
 -- One name, one entry, one place or one node more.
-use Rattle.std.proofs.Common.{◌≡◌, ℕ, zero, suc, ◌+◌, ◌<◌, Bool, true, false, cond, ◌||◌, List, [], ◌∷◌, ◌++◌, length, map, filter, take, get_or, Option, Some, None, refl, sym, ap, ◌∙◌, Bor, arith}
-use Rattle.std.specs.Prelude.{is_some}
+use Rattle.std.proofs.Common.{◌≡◌, ℕ, zero, suc, ◌+◌, ◌<◌, Bool, true, false, cond, ◌||◌, List, [], ◌∷◌, ◌++◌, append_assoc, length, map, filter, take, get_or, Option, Some, None, refl, sym, ap, ◌∙◌, Bor, arith}
+use Rattle.std.specs.Prelude.{unwrap_or}
 use Rattle.std.specs.List.{range_with_len}
 use Rattle.std.specs.Map.{lookup}
 use Rattle.std.specs.Option.{option_or, option_to_list}
@@ -10,8 +10,10 @@ use Rattle.std.proofs.lemmas.Bool.{false≢true}
 use Rattle.std.proofs.lemmas.Cmp.{nat_list_eq_equiv}
 use Rattle.std.proofs.lemmas.List.{map-append}
 use Rattle.std.proofs.lemmas.List.Elements.{filter-append, filter_map-append}
-use Rattle.lemmas.proofs.Searches.{found-one, is_none-from, or-none, or-some, position-snoc, texts-more}
+use Rattle.lemmas.proofs.Searches.{found-one, or-none, position-snoc, texts-more}
+use Rattle.graph.specs.declared.edges.Edge.{Edge}
 use Rattle.object_groups.specs.Names.{HasNumbers, name_eq, number_of, numbers_of}
+use Rattle.object_groups.specs.Nodes.{edge}
 use Rattle.object_values.specs.Values.{texts}
 use Rattle.lemmas.proofs.Numbers.{below_more}
 
@@ -29,25 +31,19 @@ module _ (names : List (List ℕ)) (name : Bor (List ℕ)) (old : List (Bor (Lis
   one_more other = position-snoc (bytes_eq other.now) names name.now
       ∙ ap (λ (b : Bool). option_or (number_of names other.now) (cond b (Some (length names)) None)) (nat_list_eq_equiv.symm other.now name.now)
 
-  -- a name that stands before
-  pub numbers-kept : is_some (lookup (name_eq name) old) ≡ true → HasNumbers (names ++ name.now ∷ []) old
-  numbers-kept there other = has other ∙ sym (one_more other ∙ by_name (name_eq name other) refl)
-    where
-      by_name : (b : Bool) → name_eq name other ≡ b
-          → option_or (number_of names other.now) (cond b (Some (length names)) None) ≡ number_of names other.now
-      by_name true same = or-some (number_of names other.now) (Some (length names)) (ap is_some (sym (same_name other same)) ∙ there)
-      by_name false differs = or-none (number_of names other.now)
-
-  -- a new name
-  pub numbers-new : (new : List (Bor (List ℕ) × ℕ)) (number : ℕ) → is_some (lookup (name_eq name) old) ≡ false → length names ≡ number
-      → ((other : Bor (List ℕ)) → lookup (name_eq other) new ≡ cond (name_eq name other) (Some number) (lookup (name_eq other) old))
+  -- it has its number, if it doesn't stand before
+  pub numbers-entered : (new : List (Bor (List ℕ) × ℕ)) (number : ℕ) → length names ≡ number
+      → ((other : Bor (List ℕ)) → lookup (name_eq other) new ≡ cond (name_eq name other) (Some (unwrap_or (lookup (name_eq name) old) number)) (lookup (name_eq other) old))
       → HasNumbers (names ++ name.now ∷ []) new
-  numbers-new new number absent long updates other = updates other ∙ by_name (name_eq name other) refl ∙ sym (one_more other)
+  numbers-entered new number long updates other = updates other ∙ by_name (name_eq name other) refl ∙ sym (one_more other)
     where
-      by_name : (b : Bool) → name_eq name other ≡ b → cond b (Some number) (lookup (name_eq other) old)
+      entered : (found : Option ℕ) → Some (unwrap_or found number) ≡ option_or found (Some (length names))
+      entered None = ap (λ (n : ℕ). Some n) (sym long)
+      entered (Some first) = refl
+
+      by_name : (b : Bool) → name_eq name other ≡ b → cond b (Some (unwrap_or (lookup (name_eq name) old) number)) (lookup (name_eq other) old)
           ≡ option_or (number_of names other.now) (cond b (Some (length names)) None)
-      by_name true same = ap (λ (n : ℕ). Some n) (sym long)
-          ∙ ap (λ (found : Option ℕ). option_or found (Some (length names))) (sym (is_none-from _ absent) ∙ same_name other same)
+      by_name true same = entered (lookup (name_eq name) old) ∙ ap (λ (found : Option ℕ). option_or found (Some (length names))) (same_name other same)
       by_name false differs = has other ∙ sym (or-none (number_of names other.now))
 
 -- ---- one entry more
@@ -76,6 +72,24 @@ nodes-more first names xs i d old new found within before is more =
     ∙ ap (λ one. numbers_of names (texts (take i xs)) ++ one) (found-one (number_of names ((get_or xs i d).now)) ∙ ap option_to_list (sym is)) in
     more ∙ ap (λ nodes. nodes ++ map (λ number. first + number) (option_to_list found)) before
     ∙ sym (map-append (λ number. first + number) (numbers_of names (texts (take i xs))) (option_to_list found)) ∙ ap (map (λ number. first + number)) (sym all)
+
+-- the edges of one entry more
+pub edges-to-more : (first to : ℕ) (names : List (List ℕ)) (xs : List (Bor (List ℕ))) (i : ℕ) (d : Bor (List ℕ)) (start old new : List Edge) (found : Option ℕ) → i < length xs
+    → old ≡ start ++ map (λ from. edge from to) (map (λ number. first + number) (numbers_of names (texts (take i xs)))) → found ≡ number_of names ((get_or xs i d).now)
+    → new ≡ old ++ map (λ number. edge (first + number) to) (option_to_list found)
+    → new ≡ start ++ map (λ from. edge from to) (map (λ number. first + number) (numbers_of names (texts (take (i + 1) xs))))
+edges-to-more first to names xs i d start old new found within before is more =
+    let nodes = map (λ number. first + number) (numbers_of names (texts (take i xs))) in
+    let last : List ℕ = map (λ number. first + number) (option_to_list found) in
+    more ∙ ap (λ (edges : List Edge). edges ++ map (λ number. edge (first + number) to) (option_to_list found)) before
+    ∙ append_assoc start (map (λ from. edge from to) nodes) (map (λ number. edge (first + number) to) (option_to_list found))
+    ∙ ap (λ (edges : List Edge). start ++ (map (λ from. edge from to) nodes ++ edges)) (one found)
+    ∙ ap (λ (edges : List Edge). start ++ edges) (sym (map-append (λ from. edge from to) nodes last))
+    ∙ ap (λ (all : List ℕ). start ++ map (λ from. edge from to) all) (nodes-more first names xs i d nodes (nodes ++ last) found within refl is refl)
+  where
+    one : (f : Option ℕ) → map (λ number. edge (first + number) to) (option_to_list f) ≡ map (λ from. edge from to) (map (λ number. first + number) (option_to_list f))
+    one None = refl
+    one (Some number) = refl
 
 -- ---- one number more
 

@@ -1,7 +1,8 @@
 //! The groups of hosts and of contacts, and their members (chapter "Object Definitions").
 
-ghost use Rattle.std.specs.Prelude.{◌≡◌, ◌+◌, ◌<◌, ◌++◌, ◌^◌, length, All, IfOk, OnOk};
+ghost use Rattle.std.specs.Prelude.{◌≡◌, ◌+◌, ◌<◌, ◌++◌, ◌^◌, ◌↔◌, true, length, nat_lt, All, IfOk, OnOk};
 ghost use Rattle.std.specs.List.{flat_map, range_with_len};
+ghost use Rattle.std.specs.List.Sorted.{IsStrictlyIncreasing};
 ghost use Rattle.graph.specs.Edges.{IsWithin};
 ghost use Rattle.object_groups.specs.Groups.{AreNumbered, group_kind, grouping, object_kind};
 ghost use Rattle.object_groups.specs.Groups.{own_groups_directive, subgroups_directive};
@@ -158,7 +159,6 @@ fn push_object_at<'a>(
 {
     let named = list_at(alloc, own, place)?;
     push_object(
-        alloc,
         edges,
         objects.names(),
         groups.names(),
@@ -200,22 +200,36 @@ fn graph_of<'a>(
     ensures { IfOk result (IsGraphOf (grouping templates.now kind)) }
 {
     let count = objects.names().len() + groups.names().len() + 3;
-    let mut edges = Vec::new(alloc);
+    let mut edges = Vec::with_capacity(alloc, count)?;
     push_groups(alloc, &mut edges, templates, kind, objects, groups)?;
     push_objects(alloc, &mut edges, templates, kind, objects, groups)?;
     let graph = Graph::new(alloc, count as u32, edges.as_slice())?;
     Ok(graph)
 }
 
+/// Whether each of the numbers is below the next.
+fn rises(numbers: &[u32]) -> bool
+    ensures { (result ≡ true) ↔ IsStrictlyIncreasing numbers.now }
+{
+    numbers.is_sorted_by(
+        |one: &u32, next: &u32| -> bool
+            ensures { result ≡ nat_lt one.now next.now }
+        { *one < *next },
+    )
+}
+
 /// Those of the nodes that are objects, each once and in order.
 fn objects_among(alloc: Global, nodes: &[u32], objects: usize) -> Result<Vec<u32>, AllocError>
     ensures { IfOk result (λ found. AreBelow objects nodes.now found.items) }
 {
-    let mut found = Vec::new(alloc);
+    let mut found = Vec::with_capacity(alloc, nodes.len())?;
     for node in nodes {
         if (*node as usize) < objects {
             found.push(*node)?;
         }
+    }
+    if rises(found.as_slice()) {
+        return Ok(found);
     }
     found.sort()?;
     found.dedup();

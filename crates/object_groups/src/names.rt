@@ -56,9 +56,7 @@ fn note<'a>(
         → HasNumbers names numbers.old.entries
         → HasNumbers (names ++ name.now ∷ []) numbers.new.entries) }
 {
-    if !numbers.contains_key(&name) {
-        numbers.insert(name, number)?;
-    }
+    numbers.entry(name)?.or_insert(number);
     Ok(())
 }
 
@@ -87,7 +85,7 @@ impl<'a> Names<'a> {
     pub fn new(alloc: Global, names: Vec<&'a [u8]>) -> Result<Names<'a>, AllocError>
         ensures { IfOk result (λ made. made ≡ texts names.entry.items) }
     {
-        let mut numbers = IndexMap::new(alloc);
+        let mut numbers = IndexMap::with_capacity(alloc, names.len())?;
         for number in 0..names.len() {
             note(&mut numbers, names[number], number)?;
         }

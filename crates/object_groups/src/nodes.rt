@@ -119,9 +119,67 @@ pub(crate) fn push_group<'a>(
     Ok(())
 }
 
+/// Adds the edge to a node from that of a name that is found.
+fn push_edge_to(
+    edges: &mut Vec<Edge>,
+    first: u32,
+    found: Option<usize>,
+    to: u32,
+) -> Result<(), AllocError>
+    requires { IfSome found (λ number. first + number < 2 ^ 32) }
+    ensures { OnOk result (edges.new.items ≡ edges.old.items
+        ++ map (λ number. edge (first + number) to) (option_to_list found)) }
+{
+    if let Some(number) = found {
+        edges.push(Edge {
+            from: first + number as u32,
+            to,
+        })?;
+    }
+    Ok(())
+}
+
+/// Adds the edges to a node from those of the names that a list has, where the node of the first name is `first`.
+fn push_named_to<'a>(
+    edges: &mut Vec<Edge>,
+    names: &Names<'a>,
+    entries: &[&'a [u8]],
+    first: u32,
+    to: u32,
+) -> Result<(), AllocError>
+    requires { first + length names.now < 2 ^ 32 }
+    ensures { OnOk result (edges.new.items ≡ edges.old.items ++ map (λ from. edge from to)
+        (map (λ number. first + number) (numbers_of names.now (texts entries.now)))) }
+{
+    for entry in entries {
+        push_edge_to(edges, first, names.find(*entry), to)?;
+    }
+    Ok(())
+}
+
+/// Adds the edges to a node from those that a list names, where the node of the first name is `first`: from `all`,
+/// where it names all.
+fn push_listed_to<'a>(
+    edges: &mut Vec<Edge>,
+    names: &Names<'a>,
+    entries: &[&'a [u8]],
+    first: u32,
+    all: u32,
+    to: u32,
+) -> Result<(), AllocError>
+    requires { first + length names.now < 2 ^ 32 }
+    ensures { OnOk result (edges.new.items ≡ edges.old.items
+        ++ map (λ from. edge from to) (nodes_of names.now (texts entries.now) first all)) }
+{
+    if is_all(entries) {
+        edges.push(Edge { from: all, to })?;
+        return Ok(());
+    }
+    push_named_to(edges, names, entries, first, to)
+}
+
 /// Adds the edges of an object with this list.
 pub(crate) fn push_object<'a>(
-    alloc: Global,
     edges: &mut Vec<Edge>,
     objects: &Names<'a>,
     groups: &Names<'a>,
@@ -135,8 +193,7 @@ pub(crate) fn push_object<'a>(
 {
     let first = objects.len() as u32;
     let count = first + groups.len() as u32;
-    let named = nodes_of(alloc, groups, own, first, count + 2)?;
-    push_to(edges, named.as_slice(), object as u32)?;
+    push_listed_to(edges, groups, own, first, count + 2, object as u32)?;
     edges.push(Edge {
         from: count,
         to: object as u32,

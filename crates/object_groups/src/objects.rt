@@ -86,7 +86,7 @@ fn names_at<'a>(
         ≡ map (λ place. unwrap_or (value values.now.blocks values.now.directive place) [])
         places.now) }
 {
-    let mut names = Vec::new(alloc);
+    let mut names = Vec::with_capacity(alloc, places.len())?;
     for place in places {
         names.push(name_at(values, *place))?;
     }

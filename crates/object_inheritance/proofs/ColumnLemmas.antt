@@ -1,20 +1,21 @@
 -- What is kept of each block, by what is kept of the templates that it uses.
-use Rattle.std.proofs.Common.{◌≡◌, ℕ, zero, suc, ◌+◌, ◌<◌, ◌≤◌, Bool, true, false, cond, List, [], ◌∷◌, ◌++◌, append_assoc, length, map, drop, get_or, set, Option, Some, None, refl, sym, ap, subst, eqb, eqb-true, eq-eqb, ⊎_elim, ◌∙◌, Bor, arith}
+use Rattle.std.proofs.Common.{◌≡◌, ℕ, zero, suc, ◌+◌, ◌<◌, ◌≤◌, Bool, true, false, cond, List, [], ◌∷◌, ◌++◌, append_assoc, length, map, drop, get_or, set, Option, Some, None, refl, sym, ap, subst, ⊎_elim, ◌∙◌, Bor, arith}
 use Rattle.std.specs.Prelude.{All, Contains, find, is_some, reverse, unwrap_or}
-use Rattle.std.specs.Option.{option_to_list, option_and_then}
+use Rattle.std.specs.Option.{option_map, option_to_list}
 use Rattle.std.proofs.lemmas.Bool.{false≢true, cases_lt}
-use Rattle.std.proofs.lemmas.Option.{slice_get-get_or}
 use Rattle.std.proofs.lemmas.Grind.{get_or_default_zero}
-use Rattle.std.proofs.lemmas.List.{get_or-set_other, get_or-set_same, length-set, map-append, reverse-append, reverse-reverse}
+use Rattle.std.proofs.lemmas.List.{append-nil, get_or_past, get_or-set_other, get_or-set_same, map-append, reverse-append, reverse-reverse}
 use Rattle.graph.specs.Edges.{Leads}
 use Rattle.graph_order.specs.Order.{IsOrder}
 use Rattle.object_reader.specs.declared.block.Block.{Block}
-use Rattle.object_inheritance.specs.Columns.{given_from, HasGiven, HasGivenFrom, IsGivenAt, line_of}
-use Rattle.object_inheritance.specs.Inherited.{AreInherited, first_given, given, own, own_entries, is_additive, joined_entries, list_given, sources}
+use Rattle.object_inheritance.specs.Columns.{given_from, HasGiven, HasGivenFrom, HasOwn, IsGivenAt, IsInherited, IsNext, IsOwn, line_of}
+use Rattle.object_inheritance.specs.Givers.{last_at}
+use Rattle.object_inheritance.specs.Inherited.{AreInherited, first_given, given, own, own_entries, is_additive, joined_entries, list_given, sources, stays}
 use Rattle.object_inheritance.specs.Templates.{template_graph}
-use Rattle.object_values.specs.Values.{texts, value_in}
+use Rattle.object_values.specs.Values.{texts}
+use Rattle.object_inheritance.specs.declared.givers.OwnText.{OwnText}
 use Rattle.object_inheritance.specs.declared.inherited.Given.{Given}
-use Rattle.object_inheritance.proofs.InheritedLemmas.{graph-long, sources-lead}
+use Rattle.object_inheritance.proofs.InheritedLemmas.{given-nowhere, given-past, graph-long, sources-lead}
 use Rattle.object_inheritance.proofs.UseLemmas.{leads-within}
 
 -- ---- the first for which anything is given
@@ -62,34 +63,64 @@ module _ (blocks : List Block) (directive : List ℕ) where
       first-one x (kept x) _ _ (each x (0, omega arith, refl))
       (first-found kept places (λ q at. each q (suc at.0, omega (arith, at.1), at.2)))
 
-  module _ (inherited : AreInherited blocks) (place : ℕ) (column : List (Option Given)) (further : Option ℕ)
-      (used : (q : ℕ) → Leads (template_graph blocks) place q → IsGivenAt blocks directive q (get_or column q None))
-      (found : further ≡ find (λ q. is_some (get_or column q None)) (sources blocks directive place)) where
+  module _ (place : ℕ) (column : List (Option Given)) (next : IsNext blocks directive column place) (further : Option ℕ)
+      (found : further ≡ find (λ q. is_some (get_or column q None)) (get_or (template_graph blocks) place [])) where
     equation : given blocks directive place ≡ option_to_list (own blocks directive place) ++ given_from blocks directive further
-    equation = inherited directive place ∙ ap (λ line. option_to_list (own blocks directive place) ++ line)
-        (first-found (λ q. get_or column q None) (sources blocks directive place) (λ q at. used q (sources-lead blocks directive place q at))
+    equation = next.inherited.along directive place ∙ ap (λ line. option_to_list (own blocks directive place) ++ line)
+        (first-found (λ q. get_or column q None) (sources blocks directive place) (λ q at. next.used q (sources-lead blocks directive place q at))
+        ∙ ap (λ (b : Bool). given_from blocks directive (find (λ q. is_some (get_or column q None)) (cond b [] (get_or (template_graph blocks) place [])))) next.inherited.moves
         ∙ ap (given_from blocks directive) (sym found))
 
-    pub given-own : (text : Bor (List ℕ)) → own blocks directive place ≡ Some text.now
-        → IsGivenAt blocks directive place (Some (record { text = text; further = further }))
-    given-own text is = equation ∙ ap (λ (gives : Option (List ℕ)). option_to_list gives ++ given_from blocks directive further) is
+    pub given-own : (kept : Given) → get_or column place None ≡ Some kept
+        → IsGivenAt blocks directive place (Some (record { text = kept.text; further = further }))
+    given-own kept is = equation
+        ∙ ap (λ (gives : Option (List ℕ)). option_to_list gives ++ given_from blocks directive further)
+        (sym (ap (option_map (λ (one : Given). one.text.now)) (sym is) ∙ next.gives.text))
 
-    pub given-none : own blocks directive place ≡ None → further ≡ None → IsGivenAt blocks directive place None
-    given-none is none = equation ∙ ap (λ (gives : Option (List ℕ)). option_to_list gives ++ given_from blocks directive further) is ∙ ap (given_from blocks directive) none
+    none-own : get_or column place None ≡ None → own blocks directive place ≡ None
+    none-own is = sym (ap (option_map (λ (one : Given). one.text.now)) (sym is) ∙ next.gives.text)
 
-    pub given-taken : (q : ℕ) → own blocks directive place ≡ None → further ≡ Some q → IsGivenAt blocks directive place (get_or column q None)
-    given-taken q is some = equation ∙ ap (λ (gives : Option (List ℕ)). option_to_list gives ++ given_from blocks directive further) is
+    pub given-none : get_or column place None ≡ None → further ≡ None → IsGivenAt blocks directive place None
+    given-none is none = equation ∙ ap (λ (gives : Option (List ℕ)). option_to_list gives ++ given_from blocks directive further) (none-own is) ∙ ap (given_from blocks directive) none
+
+    pub given-taken : (q : ℕ) → get_or column place None ≡ None → further ≡ Some q → IsGivenAt blocks directive place (get_or column q None)
+    given-taken q is some = equation ∙ ap (λ (gives : Option (List ℕ)). option_to_list gives ++ given_from blocks directive further) (none-own is)
         ∙ ap (given_from blocks directive) some
-        ∙ used q (sources-lead blocks directive place q (find-contains (λ k. is_some (get_or column k None)) (sources blocks directive place) q (sym found ∙ some)))
+        ∙ next.used q (find-contains (λ k. is_some (get_or column k None)) (get_or (template_graph blocks) place []) q (sym found ∙ some))
 
-pub own-is : (blocks : List Block) (directive : List ℕ) (place : ℕ) (d : Block) → place < length blocks
-    → own blocks directive place ≡ value_in (get_or blocks place d).directives directive
-own-is blocks directive place d low = ap (option_and_then (λ (block : Block). value_in block.directives directive)) (slice_get-get_or blocks place d low)
+-- ---- what blocks give themselves
+
+pub has-own : (givers blocks : List Block) (directive : List ℕ) (given : List OwnText) (column : List (Option Given)) → givers ≡ blocks
+    → ((place : ℕ) → last_at given place ≡ own givers directive place) → ((place : ℕ) → IsOwn (last_at given place) (get_or column place None)) → HasOwn blocks directive column
+has-own givers blocks directive given column same last each = subst (λ (all : List Block). HasOwn all directive column) same
+    (record { each = λ place. subst (λ (gives : Option (List ℕ)). IsOwn gives (get_or column place None)) (last place) (each place) })
+
+own-line : (blocks : List Block) (directive : List ℕ) (gives : Option (List ℕ)) (kept : Option Given) → IsOwn gives kept → option_to_list gives ≡ line_of blocks directive kept
+own-line blocks directive gives None is = ap option_to_list (sym is.text)
+own-line blocks directive gives (Some kept) is =
+    ap option_to_list (sym is.text) ∙ ap (λ (further : Option ℕ). kept.text.now ∷ given_from blocks directive further) (sym is.alone)
+
+-- a directive that isn't inherited
+pub stays-given : (blocks : List Block) (directive : List ℕ) (column : List (Option Given)) → AreInherited blocks → stays directive ≡ true
+    → HasOwn blocks directive column → HasGiven blocks directive column
+stays-given blocks directive column along is has = record {
+  each = λ place.
+      along directive place
+      ∙ ap (λ (b : Bool). option_to_list (own blocks directive place) ++ first_given (map (given blocks directive) (cond b [] (get_or (template_graph blocks) place [])))) is
+      ∙ append-nil (option_to_list (own blocks directive place))
+      ∙ own-line blocks directive (own blocks directive place) (get_or column place None) (has.each place);
+}
+
+-- a directive that no block gives
+pub nothing-given : (blocks : List Block) (directive : List ℕ) (column : List (Option Given)) → column ≡ [] → ((place : ℕ) → own blocks directive place ≡ None) → HasGiven blocks directive column
+nothing-given blocks directive column is none = record {
+  each = λ place. given-nowhere blocks directive none place ∙ ap (λ (kept : List (Option Given)). line_of blocks directive (get_or kept place None)) (sym is);
+}
 
 -- ---- along the order, from its end
 
 module _ (blocks : List Block) (directive order : List ℕ) where
-  pub used-done : (i : ℕ) (column : List (Option Given)) → i < length order → IsOrder (template_graph blocks) order
+  used-done : (i : ℕ) (column : List (Option Given)) → i < length order → IsOrder (template_graph blocks) order
       → HasGivenFrom blocks directive order (i + 1) column
       → (q : ℕ) → Leads (template_graph blocks) (get_or order i 0) q → IsGivenAt blocks directive q (get_or column q None)
   used-done i column low ordered has q leads =
@@ -98,37 +129,57 @@ module _ (blocks : List Block) (directive order : List ℕ) where
       let later : i < at.0 = ordered.forward i at.0 low at.1 (subst (λ (k : ℕ). Leads (template_graph blocks) (get_or order i 0) k) (sym here) leads) in
       subst (λ (k : ℕ). IsGivenAt blocks directive k (get_or column k None)) here (has.done at.0 (omega (arith, later)) at.1)
 
-  pub one-more : (i : ℕ) (column : List (Option Given)) (place : ℕ) (kept : Option Given) → i < length order → place < length blocks → place ≡ get_or order i 0
-      → HasGivenFrom blocks directive order (i + 1) column → IsGivenAt blocks directive place kept
-      → HasGivenFrom blocks directive order i (set column place kept)
-  one-more i column place kept low within is has here = record {
-    begun = omega (arith, low);
-    long = length-set column place kept ∙ has.long;
-    done = λ j from inside. by_place j (eqb (get_or order j 0) place) refl from inside;
+  next-is : (i : ℕ) (column : List (Option Given)) → i < length order → IsOrder (template_graph blocks) order → IsInherited blocks directive
+      → HasGivenFrom blocks directive order (i + 1) column → IsNext blocks directive column (get_or order i 0)
+  next-is i column low ordered inherited has = record {
+    inherited = inherited;
+    gives = has.ahead i (omega arith);
+    used = used-done i column low ordered has;
   }
-    where
-      by_place : (j : ℕ) (b : Bool) → eqb (get_or order j 0) place ≡ b → i ≤ j → j < length order
-          → IsGivenAt blocks directive (get_or order j 0) (get_or (set column place kept) (get_or order j 0) None)
-      by_place j true same from inside =
-          subst (λ (k : ℕ). IsGivenAt blocks directive k (get_or (set column place kept) k None)) (sym (eqb-true (get_or order j 0) place same))
-          (subst (λ (x : Option Given). IsGivenAt blocks directive place x)
-          (sym (get_or-set_same column place kept None (let long = has.long in omega (arith, long, within)))) here)
-      by_place j false other from inside =
-          let differs : get_or order j 0 ≡ place → ⊥ = λ same. false≢true (sym other ∙ eq-eqb (get_or order j 0) place same) in
-          let past : i + 1 ≤ j = ⊎_elim
-          (λ (later : i < j). omega (arith, later))
-          (λ (back : j ≤ i). absurd (differs (ap (λ (k : ℕ). get_or order k 0) (let same : j ≡ i = omega arith in same) ∙ sym is)))
-          (cases_lt i j) in
-          subst (λ (x : Option Given). IsGivenAt blocks directive (get_or order j 0) x)
-          (sym (get_or-set_other column place (get_or order j 0) kept None differs)) (has.done j past inside)
 
-  pub all-done : (left : ℕ) (column : List (Option Given)) → left ≡ 0 → IsOrder (template_graph blocks) order → HasGivenFrom blocks directive order left column → HasGiven blocks directive column
-  all-done left column none ordered has = record {
-    long = has.long;
-    each = λ place low.
+  one-kept : (i : ℕ) (column : List (Option Given)) (kept : Option Given) → i < length order → length column ≡ length blocks → IsOrder (template_graph blocks) order
+      → HasGivenFrom blocks directive order (i + 1) column → IsGivenAt blocks directive (get_or order i 0) kept
+      → HasGivenFrom blocks directive order i (set column (get_or order i 0) kept)
+  one-kept i column kept low long ordered has here = record {
+    ahead = λ j before.
+        subst (λ (x : Option Given). IsOwn (own blocks directive (get_or order j 0)) x)
+        (sym (get_or-set_other column (get_or order i 0) (get_or order j 0) kept None (ordered.once j i 0 before low)))
+        (has.ahead j (omega (arith, before)));
+    done = λ j from inside. ⊎_elim
+        (λ (later : i < j).
+        subst (λ (x : Option Given). IsGivenAt blocks directive (get_or order j 0) x)
+        (sym (get_or-set_other column (get_or order i 0) (get_or order j 0) kept None (λ same. ordered.once i j 0 later inside (sym same))))
+        (has.done j (omega (arith, later)) inside))
+        (λ (back : j ≤ i).
+        let same : i ≡ j = omega (arith, back, from) in
+        subst (λ (k : ℕ). IsGivenAt blocks directive (get_or order k 0) (get_or (set column (get_or order i 0) kept) (get_or order k 0) None)) same
+        (subst (λ (x : Option Given). IsGivenAt blocks directive (get_or order i 0) x)
+        (sym (get_or-set_same column (get_or order i 0) kept None
+        (subst (λ (n : ℕ). get_or order i 0 < n) (graph-long blocks ∙ sym long) (ordered.within i 0 low)))) here))
+        (cases_lt i j);
+  }
+
+  -- one block more, from the end of the order
+  pub one-more : (i left : ℕ) (column seen : List (Option Given)) (kept : Option Given) → left ≡ i + 1 → i < length order → length column ≡ length blocks
+      → IsOrder (template_graph blocks) order → IsInherited blocks directive → HasGivenFrom blocks directive order left column → seen ≡ column
+      → (IsNext blocks directive seen (get_or order i 0) → IsGivenAt blocks directive (get_or order i 0) kept)
+      → HasGivenFrom blocks directive order i (set column (get_or order i 0) kept)
+  one-more i left column seen kept is low long ordered inherited has same step =
+      let all = subst (λ (n : ℕ). HasGivenFrom blocks directive order n column) is has in
+      one-kept i column kept low long ordered all
+      (step (subst (λ (xs : List (Option Given)). IsNext blocks directive xs (get_or order i 0)) (sym same) (next-is i column low ordered inherited all)))
+
+  pub all-done : (left : ℕ) (column : List (Option Given)) → left ≡ 0 → length column ≡ length blocks → IsOrder (template_graph blocks) order
+      → HasGivenFrom blocks directive order left column → HasGiven blocks directive column
+  all-done left column none long ordered has = record {
+    each = λ place. ⊎_elim
+        (λ (low : place < length blocks).
         let at = ordered.each place (subst (λ (n : ℕ). place < n) (sym (graph-long blocks)) low) in
         let here : get_or order at.0 0 ≡ place = sym (get_or_default_zero order at.0 place at.1) ∙ at.2 in
-        subst (λ (k : ℕ). IsGivenAt blocks directive k (get_or column k None)) here (has.done at.0 (omega (arith, none)) at.1);
+        subst (λ (k : ℕ). IsGivenAt blocks directive k (get_or column k None)) here (has.done at.0 (omega (arith, none)) at.1))
+        (λ (past : length blocks ≤ place).
+        given-past blocks directive place past ∙ ap (line_of blocks directive) (sym (get_or_past column place None (omega (arith, long, past)))))
+        (cases_lt place (length blocks));
   }
 
 -- ---- lists

@@ -35,7 +35,7 @@ sources-lead blocks directive place q at =
     by_name false here = here
 
 -- where there is no block, nothing is given
-own-past : (blocks : List Block) (directive : List ℕ) (place : ℕ) → length blocks ≤ place → own blocks directive place ≡ None
+pub own-past : (blocks : List Block) (directive : List ℕ) (place : ℕ) → length blocks ≤ place → own blocks directive place ≡ None
 own-past blocks directive place past = rw (slice_get_past blocks place past) refl
 
 sources-past : (blocks : List Block) (directive : List ℕ) (place : ℕ) → length blocks ≤ place → sources blocks directive place ≡ []
@@ -57,6 +57,22 @@ along-past (suc further) blocks directive place past =
 pub given-past : (blocks : List Block) (directive : List ℕ) (place : ℕ) → length blocks ≤ place → given blocks directive place ≡ []
 unfolding given
 given-past blocks directive place past = along-past (length blocks) blocks directive place past
+
+-- where no block gives a directive itself, nothing is given
+first-nowhere : (f : ℕ → List (List ℕ)) (places : List ℕ) → ((q : ℕ) → f q ≡ []) → first_given (map f places) ≡ []
+first-nowhere f [] none = refl
+first-nowhere f (q ∷ places) none = ap (λ line. first_given (line ∷ map f places)) (none q) ∙ first-nowhere f places none
+
+along-nowhere : (further : ℕ) (blocks : List Block) (directive : List ℕ) → ((place : ℕ) → own blocks directive place ≡ None) → (place : ℕ) → given_along further blocks directive place ≡ []
+unfolding given_along
+along-nowhere zero blocks directive none place = refl
+along-nowhere (suc further) blocks directive none place =
+    ap (λ (found : Option (List ℕ)). option_to_list found ++ first_given (map (given_along further blocks directive) (sources blocks directive place))) (none place)
+    ∙ first-nowhere (given_along further blocks directive) (sources blocks directive place) (along-nowhere further blocks directive none)
+
+pub given-nowhere : (blocks : List Block) (directive : List ℕ) → ((place : ℕ) → own blocks directive place ≡ None) → (place : ℕ) → given blocks directive place ≡ []
+unfolding given
+given-nowhere blocks directive none place = along-nowhere (length blocks) blocks directive none place
 
 pub graph-long : (blocks : List Block) → length (template_graph blocks) ≡ length blocks
 unfolding template_graph

@@ -2,5 +2,6 @@ mod NameLemmas
 mod UseLemmas
 mod FaultLemmas
 mod InheritedLemmas
+mod GiverLemmas
 mod ColumnLemmas
 mod LawLemmas

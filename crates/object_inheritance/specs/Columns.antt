@@ -1,8 +1,11 @@
 -- How it is kept what all blocks have for one directive.
-use Rattle.std.specs.Prelude.{◌≡◌, ℕ, ◌<◌, ◌≤◌, List, [], ◌∷◌, length, Option, None, Some, slice_index, slice_index_or}
+use Rattle.std.specs.Prelude.{◌≡◌, ℕ, ◌<◌, ◌≤◌, false, List, [], ◌∷◌, length, Option, None, Some, slice_index, slice_index_or}
+use Rattle.std.specs.Option.{option_and_then, option_map}
+use Rattle.graph.specs.Edges.{Leads}
 use Rattle.object_reader.specs.declared.block.Block.{Block}
 use Rattle.object_inheritance.specs.declared.inherited.Given.{Given}
-use Rattle.object_inheritance.specs.Inherited.{given}
+use Rattle.object_inheritance.specs.Inherited.{AreInherited, given, own, stays}
+use Rattle.object_inheritance.specs.Templates.{template_graph}
 
 -- the blocks, and a directive
 pub record Column : Type 0 where
@@ -23,18 +26,40 @@ line_of blocks directive (Some kept) = kept.text.now ∷ given_from blocks direc
 abbrev pub IsGivenAt : List Block → List ℕ → ℕ → Option Given → Type 0
 IsGivenAt blocks directive place kept = given blocks directive place ≡ line_of blocks directive kept
 
--- the same of each block
+-- what is kept is what a block gives itself, and nothing beside it
+pub record IsOwn (gives : Option (List ℕ)) (kept : Option Given) : Type 0 where
+  pub text : option_map (λ one. one.text.now) kept ≡ gives
+  pub alone : option_and_then (λ one. one.further) kept ≡ None
+
+-- the column has what each block gives itself
+pub record HasOwn (blocks : List Block) (directive : List ℕ)
+    (column : List (Option Given)) : Type 0 where
+  pub each : (place : ℕ) → IsOwn (own blocks directive place) (slice_index_or column place None)
+
+-- the column has what is given to each block
 pub record HasGiven (blocks : List Block) (directive : List ℕ)
     (column : List (Option Given)) : Type 0 where
-  pub long : length column ≡ length blocks
-  pub each : (place : ℕ) → place < length blocks
-      → IsGivenAt blocks directive place (slice_index_or column place None)
+  pub each : (place : ℕ) → IsGivenAt blocks directive place (slice_index_or column place None)
 
--- the same of the blocks from the place `left` of the order on
+-- the column has what is given to the blocks from the place `left` of the order on, and what those before it
+-- give themselves
 pub record HasGivenFrom (blocks : List Block) (directive : List ℕ) (order : List ℕ) (left : ℕ)
     (column : List (Option Given)) : Type 0 where
-  pub begun : left ≤ length order
-  pub long : length column ≡ length blocks
+  pub ahead : (j : ℕ) → j < left → IsOwn (own blocks directive (slice_index order j))
+      (slice_index_or column (slice_index order j) None)
   pub done : (j : ℕ) → left ≤ j → j < length order
       → IsGivenAt blocks directive (slice_index order j)
       (slice_index_or column (slice_index order j) None)
+
+-- a directive that blocks take from templates
+pub record IsInherited (blocks : List Block) (directive : List ℕ) : Type 0 where
+  pub moves : stays directive ≡ false
+  pub along : AreInherited blocks
+
+-- the column has what the block at the place gives itself, and what is given to the templates that it uses
+pub record IsNext (blocks : List Block) (directive : List ℕ) (column : List (Option Given))
+    (place : ℕ) : Type 0 where
+  pub inherited : IsInherited blocks directive
+  pub gives : IsOwn (own blocks directive place) (slice_index_or column place None)
+  pub used : (q : ℕ) → Leads (template_graph blocks) place q
+      → IsGivenAt blocks directive q (slice_index_or column q None)

@@ -66,7 +66,10 @@ abbrev pub IsRefusal : List Block → InheritanceFault → Type 0
 IsRefusal blocks (AtLine line fault) = IsFirstFault blocks line fault
 IsRefusal blocks NoMemory = Unit {0}
 
--- the graph of the templates, and an order in which each block stands before the templates that it uses
-pub record IsOrdered (blocks : List Block) (graph : List (List ℕ)) (order : List ℕ) : Type 0 where
+-- the graph of the templates, an order in which each block stands before the templates that it uses, and the
+-- blocks of which it is kept what each gives itself
+pub record AreTemplates (blocks : List Block) (graph : List (List ℕ)) (order : List ℕ)
+    (givers : List Block) : Type 0 where
   pub same : graph ≡ template_graph blocks
   pub ordered : IsOrder graph order
+  pub giving : givers ≡ blocks

@@ -1,6 +1,7 @@
 pub mod Templates
 pub mod Names
 pub mod Inherited
+pub mod Givers
 pub mod Faults
 pub mod Registered
 pub mod Columns

@@ -1,19 +1,20 @@
 //! What each block has for a directive: what it gives itself, or else what it takes from a template
 //! (chapter "Object Inheritance").
 
-ghost use Rattle.std.specs.Prelude.{◌≡◌, ℕ, ◌<◌, ◌++◌, [], None, length, find, is_some};
+ghost use Rattle.std.specs.Prelude.{◌≡◌, ℕ, ◌<◌, ◌++◌, List, [], None, length, find, is_some};
 ghost use Rattle.std.specs.Prelude.{reverse, slice_index_or, All, IfOk, IfSome, OnOk, if◌then◌else◌};
 ghost use Rattle.std.specs.Option.{option_copied, option_map};
-ghost use Rattle.graph.specs.Edges.{Leads};
-ghost use Rattle.object_inheritance.specs.Columns.{given_from, IsGivenAt, line_of};
+ghost use Rattle.object_inheritance.specs.Columns.{given_from, HasGiven, HasOwn, IsGivenAt, IsInherited};
+ghost use Rattle.object_inheritance.specs.Columns.{IsNext, IsOwn, line_of};
+ghost use Rattle.object_inheritance.specs.Givers.{last_at};
 ghost use Rattle.object_inheritance.specs.Inherited.{is_additive, list, name, name_of, own_entries};
-ghost use Rattle.object_inheritance.specs.Inherited.{sources, stays, value};
-ghost use Rattle.object_inheritance.specs.Templates.{template_graph};
+ghost use Rattle.object_inheritance.specs.Inherited.{stays, value};
 ghost use Rattle.object_values.specs.Values.{texts};
 
+use crate::givers::OwnText;
 use crate::templates::Templates;
 use object_reader::block::Block;
-use object_values::values::{entries, equals, value_in};
+use object_values::values::{entries, equals};
 use std::alloc::{AllocError, Global};
 use std::marker::Model;
 
@@ -94,45 +95,43 @@ fn first_with(column: &[Option<Given>], places: &[u32]) -> Option<u32>
     None
 }
 
-/// The first of the templates, from which the block at the place may take the directive, for which anything
-/// is given.
-fn further_of(
-    templates: &Templates,
-    column: &[Option<Given>],
-    directive: &[u8],
-    place: u32,
-) -> Option<u32>
-    requires within { place < length templates.now }
-    requires long { length column.now ≡ length templates.now }
-    ensures first { result ≡ find (λ q. is_some (slice_index_or column.now q None))
-        (sources templates.now directive.now place) }
-    ensures within { IfSome result (λ q. q < length templates.now) }
+/// What the blocks give themselves, where there are so many.
+fn own_column<'a>(
+    alloc: Global,
+    count: usize,
+    texts: &[OwnText<'a>],
+) -> Result<Vec<Option<Given<'a>>>, AllocError>
+    requires { All (λ own. own.place < count) texts.now }
+    ensures long { IfOk result (λ column. length column.items ≡ count) }
+    ensures each { IfOk result (λ column. (place : ℕ) → IsOwn (last_at texts.now place)
+        (slice_index_or column.items place None)) }
 {
-    if stays(directive) {
-        return None;
+    let mut column = vec![in alloc; None; count]?;
+    for own in texts {
+        column[own.place as usize] = Some(Given {
+            text: own.text,
+            further: None,
+        });
     }
-    let graph = templates.graph();
-    first_with(column, graph.ends(place))
+    Ok(column)
 }
 
-/// What is given to the block at the place, where the column has it of the templates that it uses.
+/// What is given to the block at the place, where the column has what it gives itself, and what is given to
+/// the templates that it uses.
 fn given_at<'a>(
     templates: &Templates<'a>,
     column: &[Option<Given<'a>>],
-    directive: &[u8],
     place: u32,
 ) -> Option<Given<'a>>
     requires within { place < length templates.now }
     requires long { length column.now ≡ length templates.now }
-    requires used { (q : ℕ) → Leads (template_graph templates.now) place q
-        → IsGivenAt templates.now directive.now q (slice_index_or column.now q None) }
-    ensures { IsGivenAt templates.now directive.now place result }
+    ensures { (directive : List ℕ) → IsNext templates.now directive column.now place
+        → IsGivenAt templates.now directive place result }
 {
-    let further = further_of(templates, column, directive, place);
-    let blocks = templates.blocks();
-    let block = &blocks[place as usize];
-    match value_in(block.directives.as_slice(), directive) {
-        Some(text) => Some(Given { text, further }),
+    let graph = templates.graph();
+    let further = first_with(column, graph.ends(place));
+    match column[place as usize] {
+        Some(own) => Some(Given { further, ..own }),
         None => match further {
             Some(template) => column[template as usize],
             None => None,
@@ -140,8 +139,48 @@ fn given_at<'a>(
     }
 }
 
-/// What all blocks have for one directive. It takes some 32 bytes a block. Contracts see the blocks and the
-/// directive.
+/// What is given to the blocks, where the column has what they give themselves.
+fn with_inherited<'a>(
+    templates: &Templates<'a>,
+    own: Vec<Option<Given<'a>>>,
+) -> Vec<Option<Given<'a>>>
+    requires { length own.items ≡ length templates.now }
+    ensures { (directive : List ℕ) → IsInherited templates.now directive
+        → HasOwn templates.now directive own.entry.items
+        → HasGiven templates.now directive result.items }
+{
+    let order = templates.order();
+    let mut column = own;
+    let mut left = order.len();
+    while left > 0 {
+        left -= 1;
+        let place = order[left];
+        column[place as usize] = given_at(templates, column.as_slice(), place);
+    }
+    column
+}
+
+/// What is given to the blocks for a directive; nothing is kept where no block gives it itself.
+fn given_column<'a>(
+    alloc: Global,
+    templates: &Templates<'a>,
+    directive: &'a [u8],
+) -> Result<Vec<Option<Given<'a>>>, AllocError>
+    ensures { IfOk result (λ column. HasGiven templates.now directive.now column.items) }
+{
+    let blocks = templates.blocks();
+    let Some(texts) = templates.givers().texts(directive) else {
+        return Ok(Vec::new(alloc));
+    };
+    let own = own_column(alloc, blocks.len(), texts)?;
+    if stays(directive) {
+        return Ok(own);
+    }
+    Ok(with_inherited(templates, own))
+}
+
+/// What all blocks have for one directive. It takes some 32 bytes a block, and nothing where no block gives the
+/// directive itself. Contracts see the blocks and the directive.
 #[derive(Drop)]
 pub struct Values<'a> {
     blocks: &'a [Block],
@@ -163,8 +202,8 @@ impl<'a> Model for Values<'a> {
 }
 
 impl<'a> Values<'a> {
-    /// What the blocks have for the directive. Each block's is found once: the time grows with the blocks,
-    /// their directives and the templates that they use. A refused growth leaves nothing.
+    /// What the blocks have for the directive. The time grows with the blocks and the templates that they use;
+    /// where no block gives the directive itself, it doesn't grow with them. A refused growth leaves nothing.
     pub fn new(
         alloc: Global,
         templates: &Templates<'a>,
@@ -173,17 +212,9 @@ impl<'a> Values<'a> {
         ensures { IfOk result (λ values. values
             ≡ record { blocks = templates.now; directive = directive.now }) }
     {
-        let blocks = templates.blocks();
-        let order = templates.order();
-        let mut column = vec![in alloc; None; blocks.len()]?;
-        let mut left = order.len();
-        while left > 0 {
-            left -= 1;
-            let place = order[left];
-            column[place as usize] = given_at(templates, column.as_slice(), directive, place);
-        }
+        let column = given_column(alloc, templates, directive)?;
         Ok(Values {
-            blocks,
+            blocks: templates.blocks(),
             directive,
             column,
         })

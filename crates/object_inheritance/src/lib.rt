@@ -2,6 +2,7 @@
 //! each block uses, the faults of that, and the value that each block has for a directive.
 #![tactic(auto)]
 
+mod givers;
 pub mod inherited;
 pub mod kinds;
 pub mod laws;

@@ -12,6 +12,7 @@ ghost use Rattle.object_inheritance.specs.Inherited.{AreInherited, AreShort};
 ghost use Rattle.object_inheritance.specs.Templates.{template_graph};
 ghost use Rattle.object_inheritance.specs.declared.templates.InheritanceFault.TheVariants.{NoMemory};
 
+use crate::givers::Givers;
 use crate::names::{TemplateNames, template_name};
 use crate::uses::{template_graph, uses_unknown};
 use graph::edges::Graph;
@@ -121,26 +122,27 @@ fn check_templates(
     Ok(())
 }
 
-/// Blocks whose templates have no fault. It takes 16 bytes a block and 4 a template that a block uses.
-/// Contracts see the blocks.
+/// Blocks whose templates have no fault. It takes 16 bytes a block, 4 a template that a block uses and some 24 to
+/// 48 a directive. Contracts see the blocks.
 #[derive(Drop)]
 pub struct Templates<'a> {
     blocks: &'a [Block],
     graph: Graph,
     /// Each block stands before the templates that it uses.
     order: Vec<u32>,
+    givers: Givers<'a>,
 }
 
 impl<'a> Model for Templates<'a> {
     ghost use Rattle.std.specs.Prelude.{List};
     ghost use Rattle.object_reader.specs.declared.block.Block.{Block};
-    ghost use Rattle.object_inheritance.specs.Faults.{IsOrdered};
+    ghost use Rattle.object_inheritance.specs.Faults.{AreTemplates};
 
     ghost Value = { List Block };
 
     ghost view = { λ s. s.blocks.now };
 
-    ghost invariant = { λ s. IsOrdered s.blocks.now s.graph s.order.items };
+    ghost invariant = { λ s. AreTemplates s.blocks.now s.graph s.order.items s.givers };
 }
 
 impl<'a> Templates<'a> {
@@ -158,11 +160,13 @@ impl<'a> Templates<'a> {
         let graph = template_graph(alloc, &names)?;
         let looped = first_on_loop(alloc, &graph)?;
         check_templates(alloc, &names, looped)?;
+        let givers = Givers::new(alloc, blocks)?;
         match order(alloc, &graph)? {
             Some(order) => Ok(Templates {
                 blocks,
                 graph,
                 order,
+                givers,
             }),
             None => unreachable!(),
         }
@@ -195,5 +199,11 @@ impl<'a> Templates<'a> {
         ensures within { All (λ place. place < length self.now) result.now }
     {
         self.order.as_slice()
+    }
+    /// What each block gives itself.
+    pub(crate) fn givers(&self) -> &Givers<'a>
+        ensures { result.now ≡ self.now }
+    {
+        &self.givers
     }
 }

@@ -37,7 +37,7 @@ fn contact_ids(alloc: Global, numbers: &[usize]) -> Result<Vec<ContactId>, Alloc
     requires { All (λ number. number < max_contacts) numbers.now }
     ensures { IfOk result (λ ids. map (λ id. id.0) ids.items ≡ numbers.now) }
 {
-    let mut ids = Vec::new(alloc);
+    let mut ids = Vec::with_capacity(alloc, numbers.len())?;
     for number in numbers {
         ids.push(ContactId(*number as u16))?;
     }

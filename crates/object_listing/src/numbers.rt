@@ -1,6 +1,7 @@
 //! The numbers of the objects that lists of objects and of groups reach.
 
-ghost use Rattle.std.specs.Prelude.{◌≡◌, ℕ, ◌++◌, ◌↔◌, true, false, Contains, IfOk, OnErr, OnOk};
+ghost use Rattle.std.specs.Prelude.{◌≡◌, ℕ, ◌++◌, ◌↔◌, true, false, nat_lt};
+ghost use Rattle.std.specs.Prelude.{Contains, IfOk, OnErr, OnOk};
 ghost use Rattle.std.specs.List.{range_with_len};
 ghost use Rattle.std.specs.List.Sorted.{IsPermutation, IsStrictlyIncreasing};
 ghost use Rattle.object_groups.specs.Groups.{grouping};
@@ -17,7 +18,7 @@ use std::alloc::{AllocError, Global};
 fn numbers_below(alloc: Global, count: usize) -> Result<Vec<usize>, AllocError>
     ensures { IfOk result (λ numbers. numbers.items ≡ range_with_len 0 count) }
 {
-    let mut numbers = Vec::new(alloc);
+    let mut numbers = Vec::with_capacity(alloc, count)?;
     for number in 0..count {
         numbers.push(number)?;
     }
@@ -43,10 +44,22 @@ pub(crate) fn listed<'a>(
 fn push_members(numbers: &mut Vec<usize>, members: &[u32]) -> Result<(), AllocError>
     ensures { OnOk result (numbers.new.items ≡ numbers.old.items ++ members.now) }
 {
+    numbers.reserve(members.len())?;
     for member in members {
         numbers.push(*member as usize)?;
     }
     Ok(())
+}
+
+/// Whether each of the numbers is below the next.
+fn rises(numbers: &[usize]) -> bool
+    ensures { (result ≡ true) ↔ IsStrictlyIncreasing numbers.now }
+{
+    numbers.is_sorted_by(
+        |one: &usize, next: &usize| -> bool
+            ensures { result ≡ nat_lt one.now next.now }
+        { *one < *next },
+    )
 }
 
 /// Puts the numbers in order, each once. Want of memory is the only error; it leaves the same numbers, in any order.
@@ -56,6 +69,9 @@ pub fn put_in_order(numbers: &mut Vec<usize>) -> Result<(), AllocError>
         → Contains numbers.new.items k ↔ Contains numbers.old.items k) }
     ensures left { OnErr result (IsPermutation numbers.old.items numbers.new.items) }
 {
+    if rises(numbers.as_slice()) {
+        return Ok(());
+    }
     numbers.sort()?;
     numbers.dedup();
     Ok(())

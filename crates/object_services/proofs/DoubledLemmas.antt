@@ -1,18 +1,25 @@
 -- Service blocks of one description, and the first that shares a host with one before it.
-use Rattle.std.proofs.Common.{◌≡◌, ℕ, zero, suc, ◌+◌, ◌<◌, ◌≤◌, Bool, true, false, cond, ◌||◌, List, [], ◌∷◌, length, take, get_or, Some, None, refl, sym, ap, subst, eqb, eqb-true, eq-eqb, ⊎_elim, ◌∙◌, ◌⊎◌, inl, inr, arith}
-use Rattle.std.specs.Prelude.{AllPairs, Contains}
+use Rattle.std.proofs.Common.{◌≡◌, ℕ, zero, suc, ◌+◌, ◌<◌, ◌≤◌, Bool, true, false, ◌||◌, List, [], ◌∷◌, ◌++◌, length, length-append, take, get_or, Some, None, refl, sym, ap, subst, eqb, eqb-true, eq-eqb, ⊎_elim, ◌∙◌, ◌⊎◌, inl, inr, arith}
+use Rattle.std.specs.Prelude.{◌≢◌, All, AllPairs, Contains}
 use Rattle.std.specs.List.{list_any}
-use Rattle.std.proofs.lemmas.Bool.{cases_lt, false≢true, or_right}
-use Rattle.std.proofs.lemmas.Cmp.{nat_eq_equiv}
-use Rattle.std.proofs.lemmas.List.{take_more}
-use Rattle.std.proofs.lemmas.List.Elements.{Contains-append_left, Contains-append_right, Contains-append_cases}
+use Rattle.std.specs.List.Sorted.{IsStrictlyIncreasing}
+use Rattle.std.proofs.Math.Seq.{get_or-append_seam}
+use Rattle.std.proofs.lemmas.Bool.{cases_lt, false≢true, or_left, or_right}
+use Rattle.std.proofs.lemmas.List.{append-nil, get_or_append_left, take_more}
+use Rattle.std.proofs.lemmas.List.Elements.{All-from_get_or, Contains-append_left, Contains-append_right, Contains-append_cases, Contains-get_or}
 use Rattle.std.proofs.lemmas.List.Folds.{list_any-append}
+use Rattle.std.proofs.lemmas.List.Kept.{AllPairs-from_increasing}
+use Rattle.graph.specs.Reach.{Gains}
+use Rattle.object_listing.specs.Laws.{ListedAreObjects}
+use Rattle.object_listing.specs.Listing.{host_directives}
+use Rattle.object_groups.specs.Objects.{names_in}
 use Rattle.object_reader.specs.declared.block.Block.{Block}
-use Rattle.object_services.specs.Alike.{HasSeen, SharesAmong}
+use Rattle.object_reader.specs.declared.block.BlockKind.TheVariants.{Host}
+use Rattle.object_services.specs.Alike.{HasSeen, is_among, SharesAmong}
 use Rattle.object_services.specs.Doubled.{place_of}
 use Rattle.object_services.specs.Hosts.{AreHosts, HasHost}
 use Rattle.lemmas.proofs.Elements.{Contains-cases, Contains-here, Contains-later, Contains-none}
-use Rattle.object_groups.specs.First.{IsFirst, lower}
+use Rattle.object_groups.specs.First.{IsFirst}
 
 -- ---- what some of a list pass
 
@@ -33,22 +40,77 @@ any-from p (y ∷ ys) x at is = by_head (λ later. any-from p ys x later is) (p 
     by_head rest false fails (inl here) = absurd (false≢true (sym fails ∙ ap p here ∙ is))
     by_head rest false fails (inr later) = rest later
 
--- a host more that is there
-pub there-more : (old new first : Bool) (xs : List ℕ) (i d host : ℕ) → i < length xs → old ≡ (first || list_any (eqb host) (take i xs)) → new ≡ cond (eqb (get_or xs i d) host) true old
-    → new ≡ (first || list_any (eqb host) (take (i + 1) xs))
-there-more old new first xs i d host within before is =
-    is ∙ ap (λ (b : Bool). cond (eqb (get_or xs i d) host) true b) before
-    ∙ ap (λ (c : Bool). cond c true (first || list_any (eqb host) (take i xs))) (nat_eq_equiv.symm (get_or xs i d) host)
-    ∙ by_cases first (list_any (eqb host) (take i xs)) (eqb host (get_or xs i d))
-    ∙ ap (λ (b : Bool). first || b) (sym (ap (list_any (eqb host)) (take_more xs i d within) ∙ list_any-append (eqb host) (take i xs) (get_or xs i d ∷ [])))
-  where
-    by_cases : (a b c : Bool) → cond c true (a || b) ≡ (a || (b || (c || false)))
-    by_cases true b true = refl
-    by_cases true b false = refl
-    by_cases false true true = refl
-    by_cases false true false = refl
-    by_cases false false true = refl
-    by_cases false false false = refl
+or_none : (a b : Bool) → b ≡ false → (a || b) ≡ a
+or_none true b fails = refl
+or_none false b fails = fails
+
+same_truth : (a b : Bool) → (a ≡ true → b ≡ true) → (b ≡ true → a ≡ true) → a ≡ b
+same_truth true b to from = sym (to refl)
+same_truth false true to from = absurd (false≢true (from refl))
+same_truth false false to from = refl
+
+among-Contains : (hosts : List ℕ) (host : ℕ) → is_among hosts host ≡ true → Contains hosts host
+among-Contains hosts host is = let found = any-found (eqb host) hosts is in subst (λ h. Contains hosts h) (sym (eqb-true host found.0 found.2)) found.1
+
+Contains-among : (hosts : List ℕ) (host : ℕ) → Contains hosts host → is_among hosts host ≡ true
+Contains-among hosts host at = any-from (eqb host) hosts host at (eq-eqb host host refl)
+
+-- ---- a host that is found
+
+module _ (old new : List ℕ) (host : ℕ) (gains : Gains old (host ∷ []) new) where
+  pub found-more : (other : ℕ) → is_among new other ≡ (is_among old other || eqb other host)
+  found-more other = same_truth (is_among new other) (is_among old other || eqb other host)
+      (λ is. to (gains.only other (among-Contains new other is)))
+      (λ either. Contains-among new other (from (is_among old other) refl either))
+    where
+      front : (k : ℕ) → Contains old k → Contains new k
+      front k at = subst (λ ks. Contains ks k) (sym gains.front.1) (Contains-append_left old gains.front.0 k at)
+
+      to : Contains old other ⊎ Contains (host ∷ []) other → (is_among old other || eqb other host) ≡ true
+      to (inl before) = or_left (is_among old other) (eqb other host) (Contains-among old other before)
+      to (inr one) = ⊎_elim
+          (λ (here : host ≡ other). or_right (is_among old other) (eqb other host) (eq-eqb other host (sym here)))
+          (λ (none : Contains [] other). absurd (Contains-none other none))
+          (Contains-cases host other [] one)
+
+      from : (b : Bool) → is_among old other ≡ b → (is_among old other || eqb other host) ≡ true → Contains new other
+      from true is either = front other (among-Contains old other is)
+      from false is either = subst (λ k. Contains new k) (sym (eqb-true other host (sym (ap (λ (b : Bool). b || eqb other host) is) ∙ either))) (gains.each host (Contains-here host []))
+
+  -- nothing came exactly where it was found before
+  pub again-is : AllPairs (λ p q. p ≢ q) new → eqb (length new) (length old) ≡ is_among old host
+  again-is once = by_late gains.front.0 gains.front.1
+    where
+      by_late : (late : List ℕ) → new ≡ old ++ late → eqb (length new) (length old) ≡ is_among old host
+      by_late [] is =
+          let same : new ≡ old = is ∙ append-nil old in
+          eq-eqb (length new) (length old) (ap (λ (ks : List ℕ). length ks) same)
+          ∙ sym (Contains-among old host (subst (λ ks. Contains ks host) same (gains.each host (Contains-here host []))))
+      by_late (x ∷ xs) is = same_truth (eqb (length new) (length old)) (is_among old host)
+          (λ alike. absurd (let equal = eqb-true (length new) (length old) alike in omega (arith, equal, long)))
+          (λ before. absurd (twice (⊎_elim
+          (λ (there : Contains old x). there)
+          (λ (one : Contains (host ∷ []) x). ⊎_elim
+          (λ (here : host ≡ x). subst (λ k. Contains old k) here (among-Contains old host before))
+          (λ (none : Contains [] x). absurd (Contains-none x none))
+          (Contains-cases host x [] one))
+          (gains.only x (subst (λ ks. Contains ks x) (sym is) (Contains-append_right old (x ∷ xs) x (Contains-here x xs)))))))
+        where
+          long : length new ≡ length old + suc (length xs)
+          long = ap (λ (ks : List ℕ). length ks) is ∙ length-append old (x ∷ xs)
+
+          twice : Contains old x → ⊥
+          twice at = once at.0 (length old) x at.1 (omega (arith, long))
+              (ap (λ (ks : List ℕ). get_or ks at.0 x) is ∙ get_or_append_left old (x ∷ xs) x at.0 at.1 ∙ at.2
+              ∙ sym (ap (λ (ks : List ℕ). get_or ks (length old) x) is ∙ get_or-append_seam old x xs x))
+
+-- Some hosts are found, none of which was found before.
+pub record AreFound (old hosts new : List ℕ) : Type 0 where
+  pub apart : list_any (is_among old) hosts ≡ false
+  pub found : (host : ℕ) → is_among new host ≡ (is_among old host || is_among hosts host)
+
+pub found-none : (old : List ℕ) → AreFound old [] old
+found-none old = record { apart = refl; found = λ host. sym (or_none (is_among old host) false refl) }
 
 -- ---- one number more
 
@@ -112,6 +174,43 @@ module _ (ms : List ℕ) (rising : AllPairs (λ m n. m < n) ms) (i d : ℕ) (wit
       read [] j x e long is = absurd (omega (arith, long))
       read (y ∷ ys) zero x e long is = is
       read (y ∷ ys) (suc j) x e long is = read ys j x e (omega (arith, long)) is
+
+-- ---- a host more of those of a block
+
+module _ (old now hosts : List ℕ) (rising : IsStrictlyIncreasing hosts) (i d : ℕ) (within : i < length hosts) (are : AreFound old (take i hosts) now) where
+  -- it isn't one of those before it
+  pub found-again : (again : Bool) → again ≡ is_among now (get_or hosts i d) → again ≡ is_among old (get_or hosts i d)
+  found-again again is = is ∙ are.found (get_or hosts i d) ∙ or_none (is_among old (get_or hosts i d)) (is_among (take i hosts) (get_or hosts i d)) (new_here (is_among (take i hosts) (get_or hosts i d)) refl)
+    where
+      new_here : (b : Bool) → is_among (take i hosts) (get_or hosts i d) ≡ b → is_among (take i hosts) (get_or hosts i d) ≡ false
+      new_here false is = is
+      new_here true is = absurd (
+          let low = front-lower hosts (AllPairs-from_increasing hosts rising) i d within (get_or hosts i d) (among-Contains (take i hosts) (get_or hosts i d) is) in omega (arith, low)
+          )
+
+  pub found-one_more : (new : List ℕ) → is_among old (get_or hosts i d) ≡ false → ((other : ℕ) → is_among new other ≡ (is_among now other || eqb other (get_or hosts i d)))
+      → AreFound old (take (i + 1) hosts) new
+  found-one_more new first more = record {
+    apart = ap (list_any (is_among old)) (take_more hosts i d within) ∙ list_any-append (is_among old) (take i hosts) (get_or hosts i d ∷ [])
+        ∙ ap (λ (b : Bool). b || (is_among old (get_or hosts i d) || false)) are.apart ∙ ap (λ (b : Bool). b || false) first;
+    found = λ host.
+        more host ∙ ap (λ (b : Bool). b || eqb host (get_or hosts i d)) (are.found host)
+        ∙ joined (is_among old host) (is_among (take i hosts) host) (eqb host (get_or hosts i d))
+        ∙ ap (λ (b : Bool). is_among old host || b) (sym (ap (λ (hs : List ℕ). is_among hs host) (take_more hosts i d within) ∙ list_any-append (eqb host) (take i hosts) (get_or hosts i d ∷ [])));
+  }
+    where
+      joined : (a b c : Bool) → ((a || b) || c) ≡ (a || (b || (c || false)))
+      joined true b c = refl
+      joined false true c = refl
+      joined false false true = refl
+      joined false false false = refl
+
+-- what a block lists are hosts
+pub hosts-within : ListedAreObjects → (blocks : List Block) (place : ℕ) (hosts : List ℕ) (count : ℕ) → AreHosts blocks place hosts → count ≡ length (names_in blocks Host)
+    → All (λ host. host < count) hosts
+hosts-within law blocks place hosts count are is = subst (λ (n : ℕ). All (λ host. host < n) hosts) (sym is)
+    (All-from_get_or (λ host. host < length (names_in blocks Host)) hosts 0
+    (λ k low. law blocks host_directives place (get_or hosts k 0) ((are.exactly (get_or hosts k 0)).0 (Contains-get_or hosts k 0 low))))
 
 -- ---- the blocks of one description so far
 

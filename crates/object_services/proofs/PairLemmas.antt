@@ -1,6 +1,6 @@
 -- The table of services, one service more.
 use Rattle.std.proofs.Common.{◌≡◌, ℕ, ◌+◌, ◌<◌, Bool, true, false, cond, ◌&&◌, List, [], ◌∷◌, ◌++◌, append_assoc, length, map, take, get_or, Option, Some, None, refl, sym, ap, eqb, eqb-true, ◌∙◌, Bor}
-use Rattle.std.specs.Prelude.{is_some, slice_index_or}
+use Rattle.std.specs.Prelude.{slice_index_or, unwrap_or}
 use Rattle.std.specs.List.{flat_map, range_with_len}
 use Rattle.std.specs.Map.{lookup}
 use Rattle.std.specs.Option.{option_or}
@@ -10,7 +10,7 @@ use Rattle.std.proofs.lemmas.Cmp.{nat_list_eq_equiv}
 use Rattle.std.specs.HashMap.Eq.{lookup_congr}
 use Rattle.std.proofs.lemmas.List.{append-nil, map-append, take_more}
 use Rattle.lemmas.proofs.Numbers.{flat_range_more}
-use Rattle.lemmas.proofs.Searches.{is_none-from, or-none, or-some, position-snoc}
+use Rattle.lemmas.proofs.Searches.{or-none, position-snoc}
 use Rattle.object_services.specs.Numbers.{HasPlaces, is_pair, Key, key_eq, Pair, pairs_in, service_number}
 
 key_alike : (x y z : Key) → key_eq x y ≡ true → key_eq x z ≡ key_eq y z
@@ -27,25 +27,19 @@ module _ (pairs : List Pair) (key : Key) (old : List (Key × ℕ)) (has : HasPla
       ≡ option_or (service_number pairs other.0 other.1.now) (cond (key_eq key other) (Some (length pairs)) None)
   one_more other = position-snoc (is_pair other.0 other.1.now) pairs (key.0, key.1.now)
 
-  -- a service that stands before
-  pub places-kept : is_some (lookup (key_eq key) old) ≡ true → HasPlaces (pairs ++ (key.0, key.1.now) ∷ []) old
-  places-kept there other = has other ∙ sym (one_more other ∙ by_key (key_eq key other) refl)
-    where
-      by_key : (b : Bool) → key_eq key other ≡ b
-          → option_or (service_number pairs other.0 other.1.now) (cond b (Some (length pairs)) None) ≡ service_number pairs other.0 other.1.now
-      by_key true same = or-some (service_number pairs other.0 other.1.now) (Some (length pairs)) (ap is_some (sym (alike other same)) ∙ there)
-      by_key false differs = or-none (service_number pairs other.0 other.1.now)
-
-  -- a new service
-  pub places-new : (new : List (Key × ℕ)) (place : ℕ) → is_some (lookup (key_eq key) old) ≡ false → length pairs ≡ place
-      → ((other : Key) → lookup (key_eq other) new ≡ cond (key_eq key other) (Some place) (lookup (key_eq other) old))
+  -- it has its place, if none of them has it before
+  pub places-entered : (new : List (Key × ℕ)) (place : ℕ) → length pairs ≡ place
+      → ((other : Key) → lookup (key_eq other) new ≡ cond (key_eq key other) (Some (unwrap_or (lookup (key_eq key) old) place)) (lookup (key_eq other) old))
       → HasPlaces (pairs ++ (key.0, key.1.now) ∷ []) new
-  places-new new place absent long updates other = updates other ∙ by_key (key_eq key other) refl ∙ sym (one_more other)
+  places-entered new place long updates other = updates other ∙ by_key (key_eq key other) refl ∙ sym (one_more other)
     where
-      by_key : (b : Bool) → key_eq key other ≡ b → cond b (Some place) (lookup (key_eq other) old)
+      entered : (found : Option ℕ) → Some (unwrap_or found place) ≡ option_or found (Some (length pairs))
+      entered None = ap (λ (n : ℕ). Some n) (sym long)
+      entered (Some first) = refl
+
+      by_key : (b : Bool) → key_eq key other ≡ b → cond b (Some (unwrap_or (lookup (key_eq key) old) place)) (lookup (key_eq other) old)
           ≡ option_or (service_number pairs other.0 other.1.now) (cond b (Some (length pairs)) None)
-      by_key true same = ap (λ (n : ℕ). Some n) (sym long)
-          ∙ ap (λ (found : Option ℕ). option_or found (Some (length pairs))) (sym (is_none-from _ absent) ∙ alike other same)
+      by_key true same = entered (lookup (key_eq key) old) ∙ ap (λ (found : Option ℕ). option_or found (Some (length pairs))) (alike other same)
       by_key false differs = has other ∙ sym (or-none (service_number pairs other.0 other.1.now))
 
 -- ---- one host more

@@ -1,6 +1,6 @@
 -- How doubled services are found: by the blocks of one description after another.
-use Rattle.std.specs.Prelude.{◌≡◌, ℕ, ◌<◌, ◌==◌, ◌↔◌, Bool, true, false, List, [], length, filter, Contains, Some, slice_index_or}
-use Rattle.std.specs.List.{range_with_len}
+use Rattle.std.specs.Prelude.{◌≡◌, ℕ, ◌<◌, ◌==◌, ◌↔◌, Bool, true, false, List, [], length, filter, Contains, Some, nat_eq, slice_index_or}
+use Rattle.std.specs.List.{list_any, range_with_len}
 use Rattle.std.specs.Option.{option_map_or}
 use Rattle.object_groups.specs.Names.{number_of}
 use Rattle.object_groups.specs.Objects.{names_in}
@@ -28,6 +28,10 @@ abbrev pub SharesAmong : List Block → (numbers : List ℕ) → ℕ → Type 0
 SharesAmong blocks numbers number = Contains numbers number
     × ((earlier : ℕ) × (earlier < number) × Contains numbers earlier
     × ShareHost blocks earlier number)
+
+-- whether the host is one of these
+abbrev pub is_among : (hosts : List ℕ) → (host : ℕ) → Bool
+is_among hosts host = list_any (nat_eq host) hosts
 
 -- exactly the hosts of the blocks of these numbers
 abbrev pub HasSeen : List Block → (numbers : List ℕ) → (seen : ℕ → Bool) → Type 0

@@ -25,6 +25,15 @@ fn push_block<'a>(
     Ok(())
 }
 
+/// How many services there are, for the room that they take.
+fn service_count(lists: &ServiceHosts) -> usize {
+    let mut count: usize = 0;
+    for number in 0..lists.len() {
+        count = count.saturating_add(lists.hosts(number).len());
+    }
+    count
+}
+
 /// The services of all blocks, block by block: each by the number of its host, and its description. A refused growth leaves
 /// nothing.
 pub fn pairs_of<'a>(
@@ -35,7 +44,7 @@ pub fn pairs_of<'a>(
     ensures { IfOk result (λ pairs.
         pairs_in pairs.items ≡ pairs_of descriptions.now lists.now) }
 {
-    let mut pairs = Vec::new(alloc);
+    let mut pairs = Vec::with_capacity(alloc, service_count(lists))?;
     for number in 0..lists.len() {
         push_block(&mut pairs, lists.hosts(number), descriptions.name(number))?;
     }
@@ -53,10 +62,7 @@ fn note<'a>(
         → HasPlaces pairs places.old.entries
         → HasPlaces (pairs ++ (host, description.now) ∷ []) places.new.entries) }
 {
-    let key = (host, description);
-    if !places.contains_key(&key) {
-        places.insert(key, place)?;
-    }
+    places.entry((host, description))?.or_insert(place);
     Ok(())
 }
 
@@ -91,7 +97,7 @@ impl<'a> ServiceNumbers<'a> {
         ensures { IfOk result (λ made. made ≡ pairs_of descriptions.now lists.now) }
     {
         let pairs = pairs_of(alloc, descriptions, lists)?;
-        let mut places = IndexMap::new(alloc);
+        let mut places = IndexMap::with_capacity(alloc, pairs.len())?;
         for place in 0..pairs.len() {
             let pair = pairs[place];
             note(&mut places, pair.0, pair.1, place)?;

@@ -11,7 +11,7 @@ new-requires c =
     let objects : c.len.result ≡ length g.objects = c.len.ensures ∙ ap (λ (names : List (List ℕ)). length names) c.names.ensures.names ∙ ap (λ (o : ObjectsOf). length (names_in o.blocks o.kind)) c.requires.object_table in
     let groups : c.len-2.result ≡ length g.groups = c.len-2.ensures ∙ ap (λ (names : List (List ℕ)). length names) c.names-2.ensures.names ∙ ap (λ (o : ObjectsOf). length (names_in o.blocks o.kind)) c.requires.group_table in
     let are : c.as_slice.result.now ≡ edges_in g = c.as_slice.ensures.value
-    ∙ edges-are g c.new-edges.result.items c.push_groups.new.edges.items c.push_objects.new.edges.items c.new-edges.ensures.items c.in_ok-push_groups.ensures c.in_ok-push_objects.ensures in
+    ∙ edges-are g c.in_ok-edges.edges.items c.push_groups.new.edges.items c.push_objects.new.edges.items c.in_ok-edges.ensures.items c.in_ok-push_groups.ensures c.in_ok-push_objects.ensures in
     edges-within g c.as_slice.result.now (c.len.result + c.len-2.result + 3) are (omega (arith, objects, groups))
 
 pub returns : goal.returns
@@ -20,5 +20,5 @@ returns c =
     let objects : c.len.result ≡ length g.objects = c.len.ensures ∙ ap (λ (names : List (List ℕ)). length names) c.names.ensures.names ∙ ap (λ (o : ObjectsOf). length (names_in o.blocks o.kind)) c.requires.object_table in
     let groups : c.len-2.result ≡ length g.groups = c.len-2.ensures ∙ ap (λ (names : List (List ℕ)). length names) c.names-2.ensures.names ∙ ap (λ (o : ObjectsOf). length (names_in o.blocks o.kind)) c.requires.group_table in
     let are : c.as_slice.result.now ≡ edges_in g = c.as_slice.ensures.value
-    ∙ edges-are g c.new-edges.result.items c.push_groups.new.edges.items c.push_objects.new.edges.items c.new-edges.ensures.items c.in_ok-push_groups.ensures c.in_ok-push_objects.ensures in
+    ∙ edges-are g c.in_ok-edges.edges.items c.push_groups.new.edges.items c.push_objects.new.edges.items c.in_ok-edges.ensures.items c.in_ok-push_groups.ensures c.in_ok-push_objects.ensures in
     graph-is g c.as_slice.result.now (c.len.result + c.len-2.result + 3) c.in_ok-graph.graph are (omega (arith, objects, groups)) c.in_ok-graph.ensures.ends c.in_ok-graph.ensures.leads

@@ -1,12 +1,12 @@
-use Rattle.std.proofs.Common.{◌∙◌, sym}
-use Rattle.object_groups.proofs.NumberLemmas.{numbers-kept, numbers-new}
+use Rattle.std.proofs.Common.{arith}
+use Rattle.std.proofs.lemmas.Grind.{common_steps}
+use Rattle.object_groups.proofs.NumberLemmas.{numbers-entered}
 use Rattle.object_groups.proofs.names.note.Goals as goal
 
-pub returns-in_ok-insert : goal.returns-in_ok-insert
-returns-in_ok-insert c names long has =
-    numbers-new names c.args.name c.args.numbers.now.entries has c.insert.new.self.entries c.args.number
-    (sym c.contains_key.ensures ∙ c.if-not-contains_key.true) long c.in_ok-insert.ensures.updates.0
-
-pub returns-else-not-contains_key : goal.returns-else-not-contains_key
-returns-else-not-contains_key c names long has =
-    numbers-kept names c.args.name c.args.numbers.now.entries has (sym c.contains_key.ensures ∙ c.if-not-contains_key.false)
+pub returns : goal.returns
+returns c names long has = numbers-entered names c.args.name c.args.numbers.now.entries has _ c.args.number long
+    (λ other.
+    let updates = (c.in_ok-numbers.ensures.update.0 c.or_insert.result.now).0 other in
+    let value = c.in_ok-numbers.ensures.value in
+    let given = c.or_insert.ensures.value in
+    grind (arith, common_steps, updates, value, given))

@@ -11,8 +11,8 @@ use Rattle.object_services.proofs.doubled.alike_edges.Goals as goal
 
 pub loop-number-init : goal.loop-number-init
 loop-number-init c = record {
-  ends = λ first. ap (λ (edges : List Edge). ends_of edges first) c.new-edges.ensures.items;
-  within = subst (λ (edges : List Edge). All (IsWithin (length c.args.names.now)) edges) (sym c.new-edges.ensures.items) (All-nil (IsWithin (length c.args.names.now)));
+  ends = λ first. ap (λ (edges : List Edge). ends_of edges first) c.in_ok-edges.ensures.items;
+  within = subst (λ (edges : List Edge). All (IsWithin (length c.args.names.now)) edges) (sym c.in_ok-edges.ensures.items) (All-nil (IsWithin (length c.args.names.now)));
 }
 
 pub push_alike-requires-clause-first : goal.push_alike-requires-clause-first

@@ -1,4 +1,4 @@
-use Rattle.std.proofs.Common.{◌≡◌, ◌∙◌, ℕ, List, ap, length, replicate, subst, sym}
+use Rattle.std.proofs.Common.{◌∙◌, ℕ, List, ap, length, replicate, subst, sym}
 use Rattle.std.proofs.lemmas.List.{take_at}
 use Rattle.graph.specs.Reach.{IsSearch}
 use Rattle.graph.proofs.ReachLemmas.{IsSearch-cleared, IsSearch-again, none_found}
