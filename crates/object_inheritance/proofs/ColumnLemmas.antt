@@ -1,6 +1,6 @@
 -- What is kept of each block, by what is kept of the templates that it uses.
 use Rattle.std.proofs.Common.{◌≡◌, ℕ, zero, suc, ◌+◌, ◌<◌, ◌≤◌, Bool, true, false, cond, List, [], ◌∷◌, ◌++◌, append_assoc, length, map, drop, get_or, set, Option, Some, None, refl, sym, ap, subst, ⊎_elim, ◌∙◌, Bor, arith}
-use Rattle.std.specs.Prelude.{All, Contains, find, is_some, reverse, unwrap_or}
+use Rattle.std.specs.Prelude.{All, Contains, find, IfSome, is_some, reverse, unwrap_or}
 use Rattle.std.specs.Option.{option_map, option_to_list}
 use Rattle.std.proofs.lemmas.Bool.{false≢true, cases_lt}
 use Rattle.std.proofs.lemmas.Grind.{get_or_default_zero}
@@ -52,8 +52,8 @@ module _ (blocks : List Block) (directive : List ℕ) where
   first-one : (x : ℕ) (kept : Option Given) (rest : List (List (List ℕ))) (later : Option ℕ) → IsGivenAt blocks directive x kept
       → first_given rest ≡ given_from blocks directive later
       → first_given (given blocks directive x ∷ rest) ≡ given_from blocks directive (cond (is_some kept) (Some x) later)
-  first-one x None rest later is others = ap (λ line. first_given (line ∷ rest)) is ∙ others
-  first-one x (Some one) rest later is others = ap (λ line. first_given (line ∷ rest)) is ∙ sym is
+  first-one x None rest later is others = ap (λ line. first_given (line ∷ rest)) is.line ∙ others
+  first-one x (Some one) rest later is others = ap (λ line. first_given (line ∷ rest)) is.line ∙ sym is.line
 
   -- what the first of the places has for which anything is kept
   pub first-found : (kept : ℕ → Option Given) (places : List ℕ) → ((q : ℕ) → Contains places q → IsGivenAt blocks directive q (kept q))
@@ -72,49 +72,72 @@ module _ (blocks : List Block) (directive : List ℕ) where
         ∙ ap (given_from blocks directive) (sym found))
 
     pub given-own : (kept : Given) → get_or column place None ≡ Some kept
-        → IsGivenAt blocks directive place (Some (record { text = kept.text; further = further }))
-    given-own kept is = equation
-        ∙ ap (λ (gives : Option (List ℕ)). option_to_list gives ++ given_from blocks directive further)
-        (sym (ap (option_map (λ (one : Given). one.text.now)) (sym is) ∙ next.gives.text))
+        → IsGivenAt blocks directive place (Some (record { text = kept.text; further = further; origin = kept.origin }))
+    given-own kept is = record {
+      line = equation
+          ∙ ap (λ (gives : Option (List ℕ)). option_to_list gives ++ given_from blocks directive further)
+          (sym (ap (option_map (λ (one : Given). one.text.now)) (sym is) ∙ next.gives.text));
+      origin = ap (given blocks directive) (subst (λ (found : Option Given). IfSome found (λ one. one.origin ≡ place)) is next.gives.origin);
+    }
 
     none-own : get_or column place None ≡ None → own blocks directive place ≡ None
     none-own is = sym (ap (option_map (λ (one : Given). one.text.now)) (sym is) ∙ next.gives.text)
 
     pub given-none : get_or column place None ≡ None → further ≡ None → IsGivenAt blocks directive place None
-    given-none is none = equation ∙ ap (λ (gives : Option (List ℕ)). option_to_list gives ++ given_from blocks directive further) (none-own is) ∙ ap (given_from blocks directive) none
+    given-none is none = record {
+      line = equation ∙ ap (λ (gives : Option (List ℕ)). option_to_list gives ++ given_from blocks directive further) (none-own is) ∙ ap (given_from blocks directive) none;
+      origin = tt;
+    }
 
     pub given-taken : (q : ℕ) → get_or column place None ≡ None → further ≡ Some q → IsGivenAt blocks directive place (get_or column q None)
-    given-taken q is some = equation ∙ ap (λ (gives : Option (List ℕ)). option_to_list gives ++ given_from blocks directive further) (none-own is)
-        ∙ ap (given_from blocks directive) some
-        ∙ next.used q (find-contains (λ k. is_some (get_or column k None)) (get_or (template_graph blocks) place []) q (sym found ∙ some))
+    given-taken q is some =
+        let taken = equation ∙ ap (λ (gives : Option (List ℕ)). option_to_list gives ++ given_from blocks directive further) (none-own is)
+        ∙ ap (given_from blocks directive) some in
+        let used = next.used q (find-contains (λ k. is_some (get_or column k None)) (get_or (template_graph blocks) place []) q (sym found ∙ some)) in
+        record {
+          line = taken ∙ used.line;
+          origin = subst (λ (line : List (List ℕ)). IfSome (get_or column q None) (λ one. given blocks directive one.origin ≡ line)) (sym taken) used.origin;
+        }
 
 -- ---- what blocks give themselves
 
 pub has-own : (givers blocks : List Block) (directive : List ℕ) (given : List OwnText) (column : List (Option Given)) → givers ≡ blocks
-    → ((place : ℕ) → last_at given place ≡ own givers directive place) → ((place : ℕ) → IsOwn (last_at given place) (get_or column place None)) → HasOwn blocks directive column
+    → ((place : ℕ) → last_at given place ≡ own givers directive place) → ((place : ℕ) → IsOwn place (last_at given place) (get_or column place None)) → HasOwn blocks directive column
 has-own givers blocks directive given column same last each = subst (λ (all : List Block). HasOwn all directive column) same
-    (record { each = λ place. subst (λ (gives : Option (List ℕ)). IsOwn gives (get_or column place None)) (last place) (each place) })
+    (record { each = λ place. subst (λ (gives : Option (List ℕ)). IsOwn place gives (get_or column place None)) (last place) (each place) })
 
-own-line : (blocks : List Block) (directive : List ℕ) (gives : Option (List ℕ)) (kept : Option Given) → IsOwn gives kept → option_to_list gives ≡ line_of blocks directive kept
-own-line blocks directive gives None is = ap option_to_list (sym is.text)
-own-line blocks directive gives (Some kept) is =
+own-line : (blocks : List Block) (directive : List ℕ) (place : ℕ) (gives : Option (List ℕ)) (kept : Option Given) → IsOwn place gives kept → option_to_list gives ≡ line_of blocks directive kept
+own-line blocks directive place gives None is = ap option_to_list (sym is.text)
+own-line blocks directive place gives (Some kept) is =
     ap option_to_list (sym is.text) ∙ ap (λ (further : Option ℕ). kept.text.now ∷ given_from blocks directive further) (sym is.alone)
+
+own-origin : (blocks : List Block) (directive : List ℕ) (place : ℕ) (kept : Option Given) → IfSome kept (λ one. one.origin ≡ place)
+    → IfSome kept (λ one. given blocks directive one.origin ≡ given blocks directive place)
+own-origin blocks directive place None is = tt
+own-origin blocks directive place (Some kept) is = ap (given blocks directive) is
 
 -- a directive that isn't inherited
 pub stays-given : (blocks : List Block) (directive : List ℕ) (column : List (Option Given)) → AreInherited blocks → stays directive ≡ true
     → HasOwn blocks directive column → HasGiven blocks directive column
 stays-given blocks directive column along is has = record {
-  each = λ place.
-      along directive place
-      ∙ ap (λ (b : Bool). option_to_list (own blocks directive place) ++ first_given (map (given blocks directive) (cond b [] (get_or (template_graph blocks) place [])))) is
-      ∙ append-nil (option_to_list (own blocks directive place))
-      ∙ own-line blocks directive (own blocks directive place) (get_or column place None) (has.each place);
+  each = λ place. record {
+    line = along directive place
+        ∙ ap (λ (b : Bool). option_to_list (own blocks directive place) ++ first_given (map (given blocks directive) (cond b [] (get_or (template_graph blocks) place [])))) is
+        ∙ append-nil (option_to_list (own blocks directive place))
+        ∙ own-line blocks directive place (own blocks directive place) (get_or column place None) (has.each place);
+    origin = own-origin blocks directive place (get_or column place None) (has.each place).origin;
+  };
 }
+
+-- what is kept of a block to which nothing is given
+none-kept : (blocks : List Block) (directive : List ℕ) (place : ℕ) (kept : Option Given) → given blocks directive place ≡ [] → kept ≡ None → IsGivenAt blocks directive place kept
+none-kept blocks directive place kept none is =
+    subst (λ (found : Option Given). IsGivenAt blocks directive place found) (sym is) (record { line = none; origin = tt })
 
 -- a directive that no block gives
 pub nothing-given : (blocks : List Block) (directive : List ℕ) (column : List (Option Given)) → column ≡ [] → ((place : ℕ) → own blocks directive place ≡ None) → HasGiven blocks directive column
 nothing-given blocks directive column is none = record {
-  each = λ place. given-nowhere blocks directive none place ∙ ap (λ (kept : List (Option Given)). line_of blocks directive (get_or kept place None)) (sym is);
+  each = λ place. none-kept blocks directive place (get_or column place None) (given-nowhere blocks directive none place) (ap (λ (kept : List (Option Given)). get_or kept place None) is);
 }
 
 -- ---- along the order, from its end
@@ -142,7 +165,7 @@ module _ (blocks : List Block) (directive order : List ℕ) where
       → HasGivenFrom blocks directive order i (set column (get_or order i 0) kept)
   one-kept i column kept low long ordered has here = record {
     ahead = λ j before.
-        subst (λ (x : Option Given). IsOwn (own blocks directive (get_or order j 0)) x)
+        subst (λ (x : Option Given). IsOwn (get_or order j 0) (own blocks directive (get_or order j 0)) x)
         (sym (get_or-set_other column (get_or order i 0) (get_or order j 0) kept None (ordered.once j i 0 before low)))
         (has.ahead j (omega (arith, before)));
     done = λ j from inside. ⊎_elim
@@ -178,9 +201,16 @@ module _ (blocks : List Block) (directive order : List ℕ) where
         let here : get_or order at.0 0 ≡ place = sym (get_or_default_zero order at.0 place at.1) ∙ at.2 in
         subst (λ (k : ℕ). IsGivenAt blocks directive k (get_or column k None)) here (has.done at.0 (omega (arith, none)) at.1))
         (λ (past : length blocks ≤ place).
-        given-past blocks directive place past ∙ ap (line_of blocks directive) (sym (get_or_past column place None (omega (arith, long, past)))))
+        none-kept blocks directive place (get_or column place None) (given-past blocks directive place past) (get_or_past column place None (omega (arith, long, past))))
         (cases_lt place (length blocks));
   }
+
+-- ---- where it comes from
+
+-- past the column is a block to which nothing is given
+pub past-none : (blocks : List Block) (directive : List ℕ) (column : List (Option Given)) → HasGiven blocks directive column → given blocks directive (length column) ≡ []
+past-none blocks directive column has =
+    (has.each (length column)).line ∙ ap (line_of blocks directive) (get_or_past column (length column) None (omega arith))
 
 -- ---- lists
 

@@ -1,5 +1,5 @@
 -- How it is kept what all blocks have for one directive.
-use Rattle.std.specs.Prelude.{◌≡◌, ℕ, ◌<◌, ◌≤◌, false, List, [], ◌∷◌, length, Option, None, Some, slice_index, slice_index_or}
+use Rattle.std.specs.Prelude.{◌≡◌, ℕ, ◌<◌, ◌≤◌, false, List, [], ◌∷◌, length, Option, None, Some, IfSome, slice_index, slice_index_or}
 use Rattle.std.specs.Option.{option_and_then, option_map}
 use Rattle.graph.specs.Edges.{Leads}
 use Rattle.object_reader.specs.declared.block.Block.{Block}
@@ -22,19 +22,23 @@ abbrev pub line_of : List Block → List ℕ → Option Given → List (List ℕ
 line_of blocks directive None = []
 line_of blocks directive (Some kept) = kept.text.now ∷ given_from blocks directive kept.further
 
--- what is kept is what is given to the block at the place
-abbrev pub IsGivenAt : List Block → List ℕ → ℕ → Option Given → Type 0
-IsGivenAt blocks directive place kept = given blocks directive place ≡ line_of blocks directive kept
+-- what is kept is what is given to the block at the place, and to the one that it comes from
+pub record IsGivenAt (blocks : List Block) (directive : List ℕ) (place : ℕ)
+    (kept : Option Given) : Type 0 where
+  pub line : given blocks directive place ≡ line_of blocks directive kept
+  pub origin :
+      IfSome kept (λ one. given blocks directive one.origin ≡ given blocks directive place)
 
--- what is kept is what a block gives itself, and nothing beside it
-pub record IsOwn (gives : Option (List ℕ)) (kept : Option Given) : Type 0 where
+-- what is kept is what the block at the place gives itself, and nothing beside it
+pub record IsOwn (place : ℕ) (gives : Option (List ℕ)) (kept : Option Given) : Type 0 where
   pub text : option_map (λ one. one.text.now) kept ≡ gives
   pub alone : option_and_then (λ one. one.further) kept ≡ None
+  pub origin : IfSome kept (λ one. one.origin ≡ place)
 
 -- the column has what each block gives itself
 pub record HasOwn (blocks : List Block) (directive : List ℕ)
     (column : List (Option Given)) : Type 0 where
-  pub each : (place : ℕ) → IsOwn (own blocks directive place) (slice_index_or column place None)
+  pub each : (place : ℕ) → IsOwn place (own blocks directive place) (slice_index_or column place None)
 
 -- the column has what is given to each block
 pub record HasGiven (blocks : List Block) (directive : List ℕ)
@@ -45,7 +49,8 @@ pub record HasGiven (blocks : List Block) (directive : List ℕ)
 -- give themselves
 pub record HasGivenFrom (blocks : List Block) (directive : List ℕ) (order : List ℕ) (left : ℕ)
     (column : List (Option Given)) : Type 0 where
-  pub ahead : (j : ℕ) → j < left → IsOwn (own blocks directive (slice_index order j))
+  pub ahead : (j : ℕ) → j < left → IsOwn (slice_index order j)
+      (own blocks directive (slice_index order j))
       (slice_index_or column (slice_index order j) None)
   pub done : (j : ℕ) → left ≤ j → j < length order
       → IsGivenAt blocks directive (slice_index order j)
@@ -60,6 +65,6 @@ pub record IsInherited (blocks : List Block) (directive : List ℕ) : Type 0 whe
 pub record IsNext (blocks : List Block) (directive : List ℕ) (column : List (Option Given))
     (place : ℕ) : Type 0 where
   pub inherited : IsInherited blocks directive
-  pub gives : IsOwn (own blocks directive place) (slice_index_or column place None)
+  pub gives : IsOwn place (own blocks directive place) (slice_index_or column place None)
   pub used : (q : ℕ) → Leads (template_graph blocks) place q
       → IsGivenAt blocks directive q (slice_index_or column q None)

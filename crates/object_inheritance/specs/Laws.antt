@@ -1,8 +1,8 @@
 -- Laws of what blocks inherit, of any blocks.
-use Rattle.std.specs.Prelude.{◌≡◌, ℕ, false, List, None, Some, codes}
+use Rattle.std.specs.Prelude.{◌≡◌, ℕ, ◌≤◌, false, List, [], length, None, Some, codes}
 use Rattle.std.specs.Option.{option_map}
 use Rattle.object_reader.specs.declared.block.Block.{Block}
-use Rattle.object_inheritance.specs.Inherited.{is_additive, list, own, own_entries, value}
+use Rattle.object_inheritance.specs.Inherited.{given, is_additive, list, own, own_entries, value}
 
 -- A directive that a block gives itself never comes from a template.
 abbrev pub OwnValueWins : Type 0
@@ -26,3 +26,8 @@ abbrev pub PlainListHasItsOwn : Type 0
 PlainListHasItsOwn = (blocks : List Block) (directive : List ℕ) (place : ℕ)
     → own blocks (codes "use") place ≡ None
     → list blocks directive place ≡ option_map own_entries (own blocks directive place)
+
+-- Where there is no block, nothing is given.
+abbrev pub NothingPastTheBlocks : Type 0
+NothingPastTheBlocks = (blocks : List Block) (directive : List ℕ) (place : ℕ)
+    → length blocks ≤ place → given blocks directive place ≡ []

@@ -7,7 +7,7 @@ ghost use Rattle.std.specs.Option.{option_copied, option_map};
 ghost use Rattle.object_inheritance.specs.Columns.{given_from, HasGiven, HasOwn, IsGivenAt, IsInherited};
 ghost use Rattle.object_inheritance.specs.Columns.{IsNext, IsOwn, line_of};
 ghost use Rattle.object_inheritance.specs.Givers.{last_at};
-ghost use Rattle.object_inheritance.specs.Inherited.{is_additive, list, name, name_of, own_entries};
+ghost use Rattle.object_inheritance.specs.Inherited.{given, is_additive, list, name, name_of, own_entries};
 ghost use Rattle.object_inheritance.specs.Inherited.{stays, value};
 ghost use Rattle.object_values.specs.Values.{texts};
 
@@ -79,6 +79,8 @@ pub(crate) struct Given<'a> {
     text: &'a [u8],
     /// Where the template stands from which the block of that text would take one.
     further: Option<u32>,
+    /// Where the block of that text stands.
+    origin: u32,
 }
 
 /// The first of the places for which anything is given.
@@ -103,7 +105,7 @@ fn own_column<'a>(
 ) -> Result<Vec<Option<Given<'a>>>, AllocError>
     requires { All (λ own. own.place < count) texts.now }
     ensures long { IfOk result (λ column. length column.items ≡ count) }
-    ensures each { IfOk result (λ column. (place : ℕ) → IsOwn (last_at texts.now place)
+    ensures each { IfOk result (λ column. (place : ℕ) → IsOwn place (last_at texts.now place)
         (slice_index_or column.items place None)) }
 {
     let mut column = vec![in alloc; None; count]?;
@@ -111,6 +113,7 @@ fn own_column<'a>(
         column[own.place as usize] = Some(Given {
             text: own.text,
             further: None,
+            origin: own.place,
         });
     }
     Ok(column)
@@ -228,6 +231,18 @@ impl<'a> Values<'a> {
             self.column[place]
         } else {
             None
+        }
+    }
+
+    /// The place of the block that gives what the block at the place has for the directive: its own, or that of a
+    /// template. Blocks that have nothing have the same.
+    pub fn origin(&self, place: usize) -> usize
+        ensures { given self.now.blocks self.now.directive result
+            ≡ given self.now.blocks self.now.directive place }
+    {
+        match self.given(place) {
+            Some(given) => given.origin as usize,
+            None => self.column.len(),
         }
     }
 

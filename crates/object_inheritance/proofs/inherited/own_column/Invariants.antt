@@ -7,5 +7,5 @@ use Rattle.object_inheritance.proofs.inherited.own_column.Given as goal
 abbrev pub invariant-loop-own : goal.invariant-loop-own
 invariant-loop-own l = record {
   long : length l.column.items ≡ l.count;
-  each : (place : ℕ) → IsOwn (last_at (take l.own-index l.texts) place) (get_or l.column.items place None);
+  each : (place : ℕ) → IsOwn place (last_at (take l.own-index l.texts) place) (get_or l.column.items place None);
 }

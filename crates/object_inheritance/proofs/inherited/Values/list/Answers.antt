@@ -38,4 +38,4 @@ returns c =
     (take_at c.reverse.new.self _ c.loop-given.list.len (c.reverse.ensures.len ∙ c.as_mut_slice.ensures.len) ∙ written)
     ∙ ap (λ (es : List (List ℕ)). Some es) (texts-reverse c.loop-given.list.items ∙ whole)
     ∙ sym (list-is blocks directive c.given-given.result (c.is_none.ensures ∙ ap not c.if-is_none.false))
-    ∙ ap list_given (sym c.given-given.ensures)
+    ∙ ap list_given (sym c.given-given.ensures.line)
