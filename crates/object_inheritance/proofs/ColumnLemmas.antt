@@ -242,7 +242,7 @@ fewer text line beside is = subst (λ rest. length rest < length (text ∷ line)
     by_sign true = omega arith
     by_sign false = omega arith
 
-pub list-is : (blocks : List Block) (directive : List ℕ) (kept : Option Given) → is_some kept ≡ true
-    → list_given (line_of blocks directive kept) ≡ Some (joined_entries (line_of blocks directive kept))
-list-is blocks directive None is = absurd (false≢true is)
-list-is blocks directive (Some one) is = refl
+-- a list that isn't additive
+pub plain-list : (blocks : List Block) (directive : List ℕ) (kept : Given) → is_additive kept.text.now ≡ false
+    → list_given (line_of blocks directive (Some kept)) ≡ Some (own_entries kept.text.now)
+plain-list blocks directive kept is = ap (λ (b : Bool). Some (cond b (joined_entries (given_from blocks directive kept.further)) [] ++ own_entries kept.text.now)) is

@@ -1,13 +1,14 @@
 //! What each block has for a directive: what it gives itself, or else what it takes from a template
 //! (chapter "Object Inheritance").
 
-ghost use Rattle.std.specs.Prelude.{◌≡◌, ℕ, ◌<◌, ◌++◌, List, [], None, length, find, is_some};
+ghost use Rattle.std.specs.Prelude.{◌≡◌, ℕ, ◌<◌, ◌++◌, List, [], None, Some, length, find, is_some};
 ghost use Rattle.std.specs.Prelude.{reverse, slice_index_or, All, IfOk, IfSome, OnOk, if◌then◌else◌};
 ghost use Rattle.std.specs.Option.{option_copied, option_map};
 ghost use Rattle.object_inheritance.specs.Columns.{given_from, HasGiven, HasOwn, IsGivenAt, IsInherited};
 ghost use Rattle.object_inheritance.specs.Columns.{IsNext, IsOwn, line_of};
 ghost use Rattle.object_inheritance.specs.Givers.{last_at};
-ghost use Rattle.object_inheritance.specs.Inherited.{given, is_additive, list, name, name_of, own_entries};
+ghost use Rattle.object_inheritance.specs.Inherited.{given, is_additive, joined_entries, list, name, name_of};
+ghost use Rattle.object_inheritance.specs.Inherited.{own_entries};
 ghost use Rattle.object_inheritance.specs.Inherited.{stays, value};
 ghost use Rattle.object_values.specs.Values.{texts};
 
@@ -279,6 +280,21 @@ impl<'a> Values<'a> {
         self.given(given.further? as usize)
     }
 
+    /// The entries of the texts that are given, this one first.
+    fn joined(&self, alloc: Global, first: Given<'a>) -> Result<Vec<&'a [u8]>, AllocError>
+        ensures { IfOk result (λ list. texts list.items
+            ≡ joined_entries (line_of self.now.blocks self.now.directive (Some first.entry))) }
+    {
+        let mut given = Some(first);
+        let mut list = Vec::new(alloc);
+        while let Some(next) = given {
+            push_reversed(alloc, &mut list, next.text)?;
+            given = self.beside(next);
+        }
+        list.as_mut_slice().reverse();
+        Ok(list)
+    }
+
     /// The entries that the block at the place has for the directive, where it is a list of names; none where
     /// neither it nor a template gives one, which isn't an empty list. The time grows with the texts of the
     /// additive lists that are joined. A refused growth leaves nothing.
@@ -286,17 +302,13 @@ impl<'a> Values<'a> {
         ensures { IfOk result (λ found. option_map (λ entries. texts entries.items) found
             ≡ list self.now.blocks self.now.directive place) }
     {
-        let mut given = self.given(place);
-        if given.is_none() {
+        let Some(nearest) = self.given(place) else {
             return Ok(None);
+        };
+        if !is_additive(nearest.text) {
+            return Ok(Some(own_entries(alloc, nearest.text)?));
         }
-        let mut list = Vec::new(alloc);
-        while let Some(next) = given {
-            push_reversed(alloc, &mut list, next.text)?;
-            given = self.beside(next);
-        }
-        list.as_mut_slice().reverse();
-        Ok(Some(list))
+        Ok(Some(self.joined(alloc, nearest)?))
     }
 }
 

@@ -3,7 +3,7 @@ use Rattle.std.specs.Prelude.{reverse}
 use Rattle.object_inheritance.specs.Columns.{line_of}
 use Rattle.object_inheritance.specs.Inherited.{joined_entries}
 use Rattle.object_values.specs.Values.{texts}
-use Rattle.object_inheritance.proofs.inherited.Values.list.Given as goal
+use Rattle.object_inheritance.proofs.inherited.Values.joined.Given as goal
 
 -- The entries of the texts that are left, and then those so far.
 abbrev pub invariant-loop-given : goal.invariant-loop-given
