@@ -1,29 +1,225 @@
--- What blocks list as contacts, read for a block.
-use Rattle.std.proofs.Common.{◌≡◌, ℕ, ◌<◌, ◌≤◌, List, length, sym, ap, subst, ◌∙◌, arith}
-use Rattle.std.specs.Prelude.{All}
+-- What blocks list as contacts, and the lists that are kept of it.
+use Rattle.std.proofs.Common.{◌≡◌, ℕ, ◌+◌, ◌<◌, ◌≤◌, Bool, true, false, cond, ◌&&◌, List, [], ◌∷◌, ◌++◌, length, get_or, Option, None, Some, refl, sym, ap, subst, ◌∙◌, inl, inr, ⊎_elim, eqb, eqb-true, arith}
+use Rattle.std.specs.Prelude.{All, IfSome, is_none, slice_get, unwrap_or}
+use Rattle.std.specs.Map.{lookup}
+use Rattle.std.proofs.lemmas.Bool.{and_parts, cases_lt, false≢true}
+use Rattle.std.proofs.lemmas.List.{get_or_append_left, get_or_past, length-append}
+use Rattle.std.proofs.Math.Seq.{get_or-append_seam}
 use Rattle.due_model.specs.Limits.{max_contacts}
-use Rattle.object_groups.specs.Groups.{object_kind}
+use Rattle.due_model.specs.declared.config.ContactId.{ContactId}
+use Rattle.lemmas.proofs.Elements.{Contains-none}
+use Rattle.object_groups.specs.Groups.{group_kind, GroupsOf, object_kind}
+use Rattle.object_groups.specs.Names.{Lists}
 use Rattle.object_groups.specs.Objects.{names_in}
-use Rattle.object_listing.specs.Listing.{AreThose, contact_directives, IsListed, ListingOf}
+use Rattle.object_inheritance.specs.Inherited.{given, list_given}
+use Rattle.object_inheritance.specs.Laws.{NothingPastTheBlocks}
+use Rattle.object_listing.specs.Contacts.{AddsList, AreContactsAt, AreFound, AreOfContacts, Entries, HasList, HasLists, HasListsBelow, IsListOf, pair_eq, Stay}
+use Rattle.object_listing.specs.Listing.{AreOrigins, AreThose, contact_directives, Directives, gives_neither, IsListed, ListingOf}
+use Rattle.object_listing.proofs.ListedLemmas.{lists-none}
 use Rattle.object_reader.specs.declared.block.Block.{Block}
 use Rattle.object_reader.specs.declared.block.BlockKind.TheVariants.{Contact}
 
-pub kept-are : (blocks inside : List Block) (contacts : ListingOf) → inside ≡ blocks → contacts ≡ record { blocks = inside; directives = contact_directives }
-    → contacts ≡ record { blocks = blocks; directives = contact_directives }
-kept-are blocks inside contacts same are = are ∙ ap (λ (bs : List Block). record { blocks = bs; directives = contact_directives }) same
+-- ---- the contacts of one block
 
-pub contacts-are : (blocks : List Block) (place : ℕ) (listing : ListingOf) (numbers contacts : List ℕ) → listing ≡ record { blocks = blocks; directives = contact_directives } → contacts ≡ numbers
-    → AreThose (IsListed listing.blocks listing.directives place) numbers → AreThose (IsListed blocks contact_directives place) contacts
-contacts-are blocks place listing numbers contacts kept same are =
-    subst (λ (ns : List ℕ). AreThose (IsListed blocks contact_directives place) ns) (sym same)
-    (subst (λ (l : ListingOf). AreThose (IsListed l.blocks l.directives place) numbers) kept are)
+pub contacts-are : (listing : ListingOf) (groups : GroupsOf) (place : ℕ) (numbers contacts : List ℕ) → AreOfContacts listing groups → contacts ≡ numbers
+    → AreThose (IsListed listing.blocks listing.directives place) numbers → AreThose (IsListed listing.blocks contact_directives place) contacts
+contacts-are listing groups place numbers contacts kept same are =
+    subst (λ (ns : List ℕ). AreThose (IsListed listing.blocks contact_directives place) ns) (sym same)
+    (subst (λ (d : Directives). AreThose (IsListed listing.blocks d place) numbers) kept.directives_are are)
 
-pub contacts-few : (blocks : List Block) (listing : ListingOf) (numbers given : List ℕ) → listing ≡ record { blocks = blocks; directives = contact_directives }
-    → length (names_in blocks Contact) ≤ max_contacts → given ≡ numbers → All (λ k. k < length (names_in listing.blocks (object_kind listing.directives.kind))) numbers
-    → All (λ k. k < max_contacts) given
-contacts-few blocks listing numbers given kept few same within =
+pub contacts-few : (listing : ListingOf) (groups : GroupsOf) (numbers given : List ℕ) → AreOfContacts listing groups → given ≡ numbers
+    → All (λ k. k < length (names_in listing.blocks (object_kind listing.directives.kind))) numbers → All (λ k. k < max_contacts) given
+contacts-few listing groups numbers given kept same within =
     subst (λ (ns : List ℕ). All (λ k. k < max_contacts) ns) (sym same)
-    (λ k d at. let low = low_at k d at in omega (arith, low, few))
+    (λ k d at. let low = low_at k d at in let few = kept.few in omega (arith, low, few))
   where
-    low_at : All (λ k. k < length (names_in blocks Contact)) numbers
-    low_at = subst (λ (l : ListingOf). All (λ k. k < length (names_in l.blocks (object_kind l.directives.kind))) numbers) kept within
+    low_at : All (λ k. k < length (names_in listing.blocks Contact)) numbers
+    low_at = subst (λ (d : Directives). All (λ k. k < length (names_in listing.blocks (object_kind d.kind))) numbers) kept.directives_are within
+
+pub neither-is : (listing : ListingOf) (groups : GroupsOf) (place : ℕ) (neither b : Bool) → AreOfContacts listing groups → neither ≡ gives_neither listing.blocks listing.directives place → neither ≡ b
+    → gives_neither listing.blocks contact_directives place ≡ b
+neither-is listing groups place neither b kept are is =
+    ap (λ (d : Directives). gives_neither listing.blocks d place) (sym kept.directives_are) ∙ sym are ∙ is
+
+pub origins-are : (listing : ListingOf) (groups : GroupsOf) (place : ℕ) (origins : ℕ × ℕ) → AreOfContacts listing groups → AreOrigins listing.blocks listing.directives place origins
+    → AreOrigins listing.blocks contact_directives place origins
+origins-are listing groups place origins kept of = subst (λ (d : Directives). AreOrigins listing.blocks d place origins) kept.directives_are of
+
+-- ---- blocks that give the same
+
+module _ (blocks : List Block) (listing : Directives) where
+  listed-same : (one other k : ℕ) → given blocks listing.objects one ≡ given blocks listing.objects other → given blocks listing.groups one ≡ given blocks listing.groups other
+      → IsListed blocks listing one k → IsListed blocks listing other k
+  listed-same one other k objects groups (inl named) =
+      inl (subst (λ (texts : List (List ℕ)). Lists (names_in blocks (object_kind listing.kind)) (unwrap_or (list_given texts) []) k) objects named)
+  listed-same one other k objects groups (inr some) =
+      inr (some.0, subst (λ (texts : List (List ℕ)). Lists (names_in blocks (group_kind listing.kind)) (unwrap_or (list_given texts) []) some.0) groups some.1, some.2)
+
+  -- where nothing is given nothing is listed
+  none-listed : (place k : ℕ) → given blocks listing.objects place ≡ [] → given blocks listing.groups place ≡ [] → IsListed blocks listing place k → ⊥
+  none-listed place k objects groups (inl named) =
+      lists-none (names_in blocks (object_kind listing.kind)) k
+      (subst (λ (texts : List (List ℕ)). Lists (names_in blocks (object_kind listing.kind)) (unwrap_or (list_given texts) []) k) objects named)
+  none-listed place k objects groups (inr some) =
+      lists-none (names_in blocks (group_kind listing.kind)) some.0
+      (subst (λ (texts : List (List ℕ)). Lists (names_in blocks (group_kind listing.kind)) (unwrap_or (list_given texts) []) some.0) groups some.1)
+
+  those-none : (place : ℕ) → given blocks listing.objects place ≡ [] → given blocks listing.groups place ≡ [] → AreThose (IsListed blocks listing place) []
+  those-none place objects groups = record {
+    rising = λ k low. absurd (omega (arith, low));
+    exactly = λ k. ((λ at. absurd (Contains-none k at)), (λ listed. absurd (none-listed place k objects groups listed)));
+  }
+
+module _ (blocks : List Block) where
+  -- one list is that of all blocks with the same origins
+  contacts-same : (one other : ℕ) (origins : ℕ × ℕ) (contacts : List ContactId) → AreOrigins blocks contact_directives one origins → AreOrigins blocks contact_directives other origins
+      → AreContactsAt blocks one contacts → AreContactsAt blocks other contacts
+  contacts-same one other origins contacts of_one of_other are =
+      let objects = sym of_one.objects ∙ of_other.objects in
+      let groups = sym of_one.groups ∙ of_other.groups in
+      record {
+        rising = are.rising;
+        exactly = λ k. (
+          (λ at. listed-same blocks contact_directives one other k objects groups ((are.exactly k).0 at)),
+          (λ listed. (are.exactly k).1 (listed-same blocks contact_directives other one k (sym objects) (sym groups) listed)),
+        );
+      }
+
+  -- ---- a block without a list
+
+  none-given : (texts : List (List ℕ)) → is_none (slice_get texts 0) ≡ true → texts ≡ []
+  none-given [] none = refl
+  none-given (text ∷ texts) none = absurd (false≢true none)
+
+  no-list : (lists : List (List ContactId)) (place : ℕ) → given blocks contact_directives.objects place ≡ [] → given blocks contact_directives.groups place ≡ []
+      → HasList blocks lists place None
+  no-list lists place objects groups = record {
+    within = tt;
+    lacks = sym (ap (λ (texts : List (List ℕ)). is_none (slice_get texts 0) && is_none (slice_get (given blocks contact_directives.groups place) 0)) objects
+        ∙ ap (λ (texts : List (List ℕ)). is_none (slice_get texts 0)) groups);
+    contacts = those-none blocks contact_directives place objects groups;
+  }
+
+  neither-list : (lists : List (List ContactId)) (place : ℕ) → gives_neither blocks contact_directives place ≡ true → HasList blocks lists place None
+  neither-list lists place neither =
+      let both = and_parts (is_none (slice_get (given blocks contact_directives.objects place) 0)) (is_none (slice_get (given blocks contact_directives.groups place) 0)) neither in
+      no-list lists place (none-given (given blocks contact_directives.objects place) both.0) (none-given (given blocks contact_directives.groups place) both.1)
+
+  -- ---- one block more
+
+  pub stay-all : (lists : List (List ContactId)) → Stay lists lists
+  stay-all lists number low = (low, refl)
+
+  pub adds-none : (place : ℕ) (lists : List (List ContactId)) (entries : Entries) → gives_neither blocks contact_directives place ≡ true → AreFound blocks lists entries
+      → AddsList blocks place lists lists entries None
+  adds-none place lists entries neither found = record { found = found; stay = stay-all lists; list = neither-list lists place neither }
+
+  -- a list that was found before
+  pub adds-found : (place : ℕ) (origins : ℕ × ℕ) (lists : List (List ContactId)) (entries : Entries) (number : ℕ) → gives_neither blocks contact_directives place ≡ false
+      → AreOrigins blocks contact_directives place origins → lookup (pair_eq origins) entries ≡ Some number → AreFound blocks lists entries → AddsList blocks place lists lists entries (Some number)
+  adds-found place origins lists entries number gives of is found =
+      let list = subst (λ (kept : Option ℕ). IfSome kept (IsListOf blocks lists origins)) is (found origins) in
+      record {
+        found = found;
+        stay = stay-all lists;
+        list = record { within = list.within; lacks = sym gives; contacts = list.each place of };
+      }
+
+  module _ (place : ℕ) (origins : ℕ × ℕ) (old : List (List ContactId)) (contacts : List ContactId) (new : List (List ContactId)) (of : AreOrigins blocks contact_directives place origins)
+      (are : AreContactsAt blocks place contacts) (is : new ≡ old ++ contacts ∷ []) where
+    longer : length new ≡ length old + 1
+    longer = ap (λ (lists : List (List ContactId)). length lists) is ∙ length-append old (contacts ∷ [])
+
+    stay-more : Stay old new
+    stay-more number low = (
+      (let long = longer in omega (arith, long, low)),
+      ap (λ (lists : List (List ContactId)). get_or lists number []) is ∙ get_or_append_left old (contacts ∷ []) [] number low,
+    )
+
+    last : get_or new (length old) [] ≡ contacts
+    last = ap (λ (lists : List (List ContactId)). get_or lists (length old) []) is ∙ get_or-append_seam old contacts [] []
+
+    list-last : IsListOf blocks new origins (length old)
+    list-last = record {
+      within = (let long = longer in omega (arith, long));
+      each = λ other other_of. subst (λ (cs : List ContactId). AreContactsAt blocks other cs) (sym last) (contacts-same place other origins contacts of other_of are);
+    }
+
+    list-stays : (other : ℕ × ℕ) (number : ℕ) → IsListOf blocks old other number → IsListOf blocks new other number
+    list-stays other number list =
+        let kept = stay-more number list.within in
+        record {
+          within = kept.0;
+          each = λ at at_of. subst (λ (cs : List ContactId). AreContactsAt blocks at cs) (sym kept.1) (list.each at at_of);
+        }
+
+    -- a new list
+    pub adds-new : (entries more : Entries) (number : ℕ) → gives_neither blocks contact_directives place ≡ false → number ≡ length old
+        → ((other : ℕ × ℕ) → lookup (pair_eq other) more ≡ cond (pair_eq origins other) (Some number) (lookup (pair_eq other) entries))
+        → AreFound blocks old entries → AddsList blocks place old new more (Some number)
+    adds-new entries more number gives number_is updates found = record {
+      found = λ other. subst (λ (kept : Option ℕ). IfSome kept (IsListOf blocks new other)) (sym (updates other)) (by_key other (pair_eq origins other) refl);
+      stay = stay-more;
+      list = record {
+        within = of_origins.within;
+        lacks = sym gives;
+        contacts = of_origins.each place of;
+      };
+    }
+      where
+        of_origins : IsListOf blocks new origins number
+        of_origins = subst (λ (n : ℕ). IsListOf blocks new origins n) (sym number_is) list-last
+
+        stays : (other : ℕ × ℕ) (kept : Option ℕ) → IfSome kept (IsListOf blocks old other) → IfSome kept (IsListOf blocks new other)
+        stays other None list = tt
+        stays other (Some k) list = list-stays other k list
+
+        by_key : (other : ℕ × ℕ) (b : Bool) → pair_eq origins other ≡ b → IfSome (cond b (Some number) (lookup (pair_eq other) entries)) (IsListOf blocks new other)
+        by_key other true same =
+            let both = and_parts (eqb origins.0 other.0) (eqb origins.1 other.1) same in
+            subst (λ (second : ℕ). IsListOf blocks new (other.0, second) number) (eqb-true origins.1 other.1 both.1)
+            (subst (λ (first : ℕ). IsListOf blocks new (first, origins.1) number) (eqb-true origins.0 other.0 both.0) of_origins)
+        by_key other false differs = stays other (lookup (pair_eq other) entries) (found other)
+
+  -- ---- all blocks
+
+  no-lists : HasListsBelow blocks 0 [] []
+  no-lists = record { long = refl; each = λ at low. absurd (omega (arith, low)) }
+
+  list-kept : (old new : List (List ContactId)) (place : ℕ) (number : Option ℕ) → Stay old new → HasList blocks old place number → HasList blocks new place number
+  list-kept old new place None stay list = record { within = tt; lacks = list.lacks; contacts = list.contacts }
+  list-kept old new place (Some number) stay list =
+      let kept = stay number list.within in
+      record {
+        within = kept.0;
+        lacks = list.lacks;
+        contacts = subst (λ (cs : List ContactId). AreContactsAt blocks place cs) (sym kept.1) list.contacts;
+      }
+
+  pub lists-more : (place : ℕ) (old new : List (List ContactId)) (entries : Entries) (numbers more : List (Option ℕ)) (number : Option ℕ) → HasListsBelow blocks place old numbers
+      → AddsList blocks place old new entries number → more ≡ numbers ++ number ∷ [] → HasListsBelow blocks (place + 1) new more
+  lists-more place old new entries numbers more number before adds is = record {
+    long = (let long = before.long in let length_is = ap (λ (ns : List (Option ℕ)). length ns) is ∙ length-append numbers (number ∷ []) in omega (arith, long, length_is));
+    each = λ at low. ⊎_elim
+        (λ (earlier : at < place). subst (λ (n : Option ℕ). HasList blocks new at n)
+        (sym (ap (λ (ns : List (Option ℕ)). get_or ns at None) is ∙ get_or_append_left numbers (number ∷ []) None at (let long = before.long in omega (arith, long, earlier))))
+        (list-kept old new at (get_or numbers at None) adds.stay (before.each at earlier)))
+        (λ (past : place ≤ at).
+        let here : at ≡ length numbers = let long = before.long in omega (arith, low, past, long) in
+        let same : place ≡ at = omega (arith, low, past) in
+        subst (λ (n : Option ℕ). HasList blocks new at n)
+        (sym (ap (λ (ns : List (Option ℕ)). get_or ns at None) is ∙ ap (λ (k : ℕ). get_or (numbers ++ number ∷ []) k None) here ∙ get_or-append_seam numbers number [] None))
+        (subst (λ (p : ℕ). HasList blocks new p number) same adds.list))
+        (cases_lt at place);
+  }
+
+  pub lists-all : (place : ℕ) (lists : List (List ContactId)) (numbers : List (Option ℕ)) → NothingPastTheBlocks → place ≡ length blocks → HasListsBelow blocks place lists numbers
+      → HasLists blocks lists numbers
+  lists-all place lists numbers law end before at = ⊎_elim
+      (λ (low : at < place). before.each at low)
+      (λ (past : place ≤ at). subst (λ (n : Option ℕ). HasList blocks lists at n)
+      (sym (get_or_past numbers at None (let long = before.long in omega (arith, long, past))))
+      (no-list lists at
+      (law blocks contact_directives.objects at (omega (arith, end, past)))
+      (law blocks contact_directives.groups at (omega (arith, end, past)))))
+      (cases_lt at place)

@@ -154,7 +154,7 @@ member-there blocks listing place group object found are grouped member = (are.e
 
 -- ---- the numbers are those of objects
 
-lists-none : (names : List (List ℕ)) (k : ℕ) → Lists names [] k → ⊥
+pub lists-none : (names : List (List ℕ)) (k : ℕ) → Lists names [] k → ⊥
 lists-none names k (inl both) = false≢true both.0
 lists-none names k (inr named) = Contains-none k named
 

@@ -1,3 +1,4 @@
 pub mod Listing
+pub mod Contacts
 pub mod Laws
 pub mod ListingLaws

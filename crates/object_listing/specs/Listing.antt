@@ -9,7 +9,7 @@ use Rattle.object_groups.specs.Members.{IsMember}
 use Rattle.object_groups.specs.Names.{Lists}
 use Rattle.object_groups.specs.Objects.{list_at, names_in}
 use Rattle.object_inheritance.specs.Columns.{Column}
-use Rattle.object_inheritance.specs.Inherited.{value}
+use Rattle.object_inheritance.specs.Inherited.{given, value}
 
 -- Two directives: by one a block lists objects, by the other groups of them. The type tells which objects.
 pub record Directives : Type 0 where
@@ -51,6 +51,13 @@ abbrev pub gives_neither : List Block → Directives → (place : ℕ) → Bool
 gives_neither blocks listing place =
     is_none (value blocks listing.objects place) && is_none (value blocks listing.groups place)
 
+-- The blocks at these two places have what the block at the place has: the one its list of objects, the other its
+-- list of groups.
+pub record AreOrigins (blocks : List Block) (listing : Directives) (place : ℕ)
+    (origins : ℕ × ℕ) : Type 0 where
+  pub objects : given blocks listing.objects origins.0 ≡ given blocks listing.objects place
+  pub groups : given blocks listing.groups origins.1 ≡ given blocks listing.groups place
+
 -- ---- how it is kept and found
 
 -- blocks, and two directives
@@ -63,11 +70,6 @@ pub record AreLists (blocks : List Block) (objects groups : Column)
     (listing : Directives) : Type 0 where
   pub objects_are : objects ≡ record { blocks = blocks; directive = listing.objects }
   pub groups_are : groups ≡ record { blocks = blocks; directive = listing.groups }
-
--- what they have for the directives by which a block lists contacts
-abbrev pub AreContactLists : List Block → ListingOf → Type 0
-AreContactLists blocks contacts =
-    contacts ≡ record { blocks = blocks; directives = contact_directives }
 
 -- these numbers, and exactly those beside them of which `P` says so
 abbrev pub Adds : (P : ℕ → Type 0) → (old new : List ℕ) → Type 0

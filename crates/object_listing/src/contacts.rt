@@ -1,35 +1,45 @@
 //! The contacts that blocks list, by themselves and by contact groups.
 
-ghost use Rattle.std.specs.Prelude.{◌≡◌, ◌<◌, ◌≤◌, length, map, All, IfOk};
+ghost use Rattle.std.specs.Prelude.{◌≡◌, ◌≤◌, length, map, None, All, IfOk};
+ghost use Rattle.std.specs.Prelude.{slice_index_or, ◌<◌};
 ghost use Rattle.due_model.specs.Limits.{max_contacts};
 ghost use Rattle.object_groups.specs.declared.groups.GroupKind.TheVariants.{ContactGroups};
 ghost use Rattle.object_groups.specs.Objects.{names_in};
+ghost use Rattle.object_listing.specs.Contacts.{AddsList, AreContactsAt, AreFound, AreOfContacts};
+ghost use Rattle.object_listing.specs.Contacts.{lists_in};
 ghost use Rattle.object_listing.specs.Listing.{AreThose, contact_directives, gives_neither, IsListed};
 ghost use Rattle.object_reader.specs.declared.block.BlockKind.TheVariants.{Contact};
 
 use crate::listing::Listing;
 use due_model::config::ContactId;
+use indexmap::IndexMap;
 use object_groups::groups::{GroupKind, Groups};
+use object_inheritance::laws::nothing_past_the_blocks;
 use object_inheritance::templates::Templates;
+use object_reader::block::Block;
 use std::alloc::{AllocError, Global};
 use std::marker::Model;
 
-/// What blocks list by `contacts` and `contact_groups`. It takes some 64 bytes a block. Contracts see the blocks.
+/// The contacts that blocks list by `contacts` and `contact_groups`. Blocks that take both from the same blocks share
+/// one list. It takes some 16 bytes a block, and 24 a list and 2 a contact of it. Contracts see the blocks.
 #[derive(Drop)]
 pub struct ContactListing<'a> {
-    listing: Listing<'a>,
+    blocks: &'a [Block],
+    lists: Vec<Vec<ContactId>>,
+    /// The number of each block's list; none where it gives neither directive.
+    numbers: Vec<Option<usize>>,
 }
 
 impl<'a> Model for ContactListing<'a> {
-    ghost use Rattle.std.specs.Prelude.{◌≡◌, List};
-    ghost use Rattle.object_listing.specs.Listing.{AreContactLists};
+    ghost use Rattle.std.specs.Prelude.{List};
+    ghost use Rattle.object_listing.specs.Contacts.{HasLists, lists_in};
     ghost use Rattle.object_reader.specs.declared.block.Block.{Block};
 
     ghost Value = { List Block };
 
-    ghost view = { λ s. s.listing.blocks };
+    ghost view = { λ s. s.blocks.now };
 
-    ghost invariant = { λ s. AreContactLists s.listing.blocks s.listing };
+    ghost invariant = { λ s. HasLists s.blocks.now (lists_in s.lists.items) s.numbers.items };
 }
 
 /// The contacts of these numbers.
@@ -44,15 +54,95 @@ fn contact_ids(alloc: Global, numbers: &[usize]) -> Result<Vec<ContactId>, Alloc
     Ok(ids)
 }
 
+/// The contacts that the block at the place lists.
+fn contacts_of<'a>(
+    alloc: Global,
+    listing: &Listing<'a>,
+    groups: &mut Groups<'a>,
+    place: usize,
+) -> Result<Vec<ContactId>, AllocError>
+    requires sources { AreOfContacts listing.now groups.old }
+    ensures same { groups.new ≡ groups.old }
+    ensures contacts { IfOk result (λ contacts.
+        AreContactsAt listing.now.blocks place contacts.items) }
+{
+    let numbers = listing.objects_at(alloc, groups, place)?;
+    contact_ids(alloc, numbers.as_slice())
+}
+
+/// The number of the list of the block at the place, which is added where no block before it has the same origins;
+/// none where the block gives neither directive. `numbers` are those of the lists by the origins of their blocks.
+fn list_number<'a>(
+    alloc: Global,
+    listing: &Listing<'a>,
+    groups: &mut Groups<'a>,
+    lists: &mut Vec<Vec<ContactId>>,
+    numbers: &mut IndexMap<(usize, usize), usize>,
+    place: usize,
+) -> Result<Option<usize>, AllocError>
+    requires sources { AreOfContacts listing.now groups.old }
+    requires found { AreFound listing.now.blocks (lists_in lists.old.items)
+        numbers.old.entries }
+    ensures same { groups.new ≡ groups.old }
+    ensures list { IfOk result (AddsList listing.now.blocks place (lists_in lists.old.items)
+        (lists_in lists.new.items) numbers.new.entries) }
+{
+    if listing.gives_neither(place) {
+        return Ok(None);
+    }
+    let origins = listing.origins(place);
+    if let Some(number) = numbers.get(&origins) {
+        return Ok(Some(*number));
+    }
+    let number = lists.len();
+    let contacts = contacts_of(alloc, listing, groups, place)?;
+    lists.push(contacts)?;
+    numbers.insert(origins, number)?;
+    Ok(Some(number))
+}
+
+/// The number at the place; none where there are fewer.
+fn number_at(numbers: &[Option<usize>], place: usize) -> Option<usize>
+    ensures { result ≡ slice_index_or numbers.now place None }
+{
+    if place < numbers.len() {
+        numbers[place]
+    } else {
+        None
+    }
+}
+
 impl<'a> ContactListing<'a> {
-    /// What the blocks list by the two directives. The time grows with the blocks, their directives and the templates
-    /// that they use. A refused growth leaves nothing.
-    pub fn new(alloc: Global, templates: &Templates<'a>) -> Result<ContactListing<'a>, AllocError>
-        ensures { IfOk result (λ made. made ≡ templates.now) }
+    /// The contacts that the blocks list. `groups` are the contact groups of the same blocks, which have no more
+    /// contacts than fit. The time grows with the blocks, their directives and the templates that they use, and with
+    /// the lists: with the entries of each, and with what each of the groups that it names reaches. A
+    /// refused growth leaves nothing.
+    pub fn new(
+        alloc: Global,
+        templates: &Templates<'a>,
+        groups: &mut Groups<'a>,
+    ) -> Result<ContactListing<'a>, AllocError>
+        requires groups { groups.old
+            ≡ record { blocks = templates.now; kind = ContactGroups } }
+        requires few { length (names_in templates.now Contact) ≤ max_contacts }
+        ensures same { groups.new ≡ groups.old }
+        ensures made { IfOk result (λ made. made ≡ templates.now) }
     {
+        nothing_past_the_blocks();
+        let blocks = templates.blocks();
         let kind = GroupKind::ContactGroups;
+        let listing = Listing::new(alloc, templates, kind, "contacts", "contact_groups")?;
+        let mut lists = Vec::new(alloc);
+        let mut found = IndexMap::new(alloc);
+        let mut numbers = Vec::new(alloc);
+        for place in 0..blocks.len() {
+            let number = list_number(alloc, &listing, groups, &mut lists, &mut found, place)?;
+            numbers.push(number)?;
+        }
         Ok(ContactListing {
-            listing: Listing::new(alloc, templates, kind, "contacts", "contact_groups")?,
+            blocks,
+            lists,
+            numbers,
         })
     }
 
@@ -61,26 +151,18 @@ impl<'a> ContactListing<'a> {
     pub fn gives_neither(&self, place: usize) -> bool
         ensures { result ≡ gives_neither self.now contact_directives place }
     {
-        self.listing.gives_neither(place)
+        number_at(self.numbers.as_slice(), place).is_none()
     }
 
-    /// The contacts that the block at the place lists, each once and in number order. `groups` are the contact groups of
-    /// the same blocks, which have no more contacts than fit. The time grows with the entries of the two lists and with
-    /// what each of these groups reaches. A refused growth changes nothing.
-    pub fn contacts_at(
-        &self,
-        alloc: Global,
-        groups: &mut Groups<'a>,
-        place: usize,
-    ) -> Result<Vec<ContactId>, AllocError>
-        requires groups { groups.old ≡ record { blocks = self.now; kind = ContactGroups } }
-        requires few { length (names_in self.now Contact) ≤ max_contacts }
-        ensures same { groups.new ≡ groups.old }
-        ensures contacts { IfOk result (λ contacts.
-            AreThose (IsListed self.now contact_directives place)
-            (map (λ contact. contact.0) contacts.items)) }
+    /// The contacts that the block at the place lists, each once and in number order; none where there are fewer
+    /// blocks.
+    pub fn contacts_at(&self, place: usize) -> &[ContactId]
+        ensures { AreThose (IsListed self.now contact_directives place)
+            (map (λ contact. contact.0) result.now) }
     {
-        let numbers = self.listing.objects_at(alloc, groups, place)?;
-        contact_ids(alloc, numbers.as_slice())
+        match number_at(self.numbers.as_slice(), place) {
+            Some(number) => self.lists[number].as_slice(),
+            None => &[],
+        }
     }
 }

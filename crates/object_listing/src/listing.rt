@@ -3,7 +3,7 @@
 ghost use Rattle.std.specs.Prelude.{◌≡◌, ◌<◌, length, All, IfOk};
 ghost use Rattle.object_groups.specs.Groups.{object_kind};
 ghost use Rattle.object_groups.specs.Objects.{names_in};
-ghost use Rattle.object_listing.specs.Listing.{AreThose, gives_neither, IsListed};
+ghost use Rattle.object_listing.specs.Listing.{AreOrigins, AreThose, gives_neither, IsListed};
 
 use crate::numbers::{listed, push_groups, put_in_order};
 use object_groups::groups::{GroupKind, Groups};
@@ -81,6 +81,14 @@ impl<'a> Listing<'a> {
         ensures { result ≡ gives_neither self.now.blocks self.now.directives place }
     {
         self.objects.value(place).is_none() && self.groups.value(place).is_none()
+    }
+
+    /// The places of the blocks from which the block at the place has its list of objects, and its list of groups: its
+    /// own, or those of templates. Blocks with the same origins list the same.
+    pub fn origins(&self, place: usize) -> (usize, usize)
+        ensures { AreOrigins self.now.blocks self.now.directives place result }
+    {
+        (self.objects.origin(place), self.groups.origin(place))
     }
 
     /// The objects that the block at the place lists, by their numbers, each once and in order: those that its list

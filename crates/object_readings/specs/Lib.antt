@@ -1,3 +1,3 @@
 pub mod Readings
 pub mod ReadingLaws
-pub mod Sources
+pub mod Periods

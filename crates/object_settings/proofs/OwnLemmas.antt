@@ -32,9 +32,9 @@ module _ (blocks : List Block) (kind : OptionKind) (name host_name : List ℕ) (
       → AreThose (IsListed blocks contact_directives (contacts_from blocks place host)) (map (λ contact. contact.0) (contacts_of own hosts))
   contacts-are b lacks neither =
       subst (λ (c : Bool). AreThose (IsListed blocks contact_directives (cond c host place)) (map (λ contact. contact.0) (contacts_of own hosts))) (sym neither)
-      (subst (λ (c : Bool). AreThose (IsListed blocks contact_directives (cond b host place)) (map (λ contact. contact.0) (cond c hosts.contacts.items own.contacts.items))) (sym lacks) (by_case b))
+      (subst (λ (c : Bool). AreThose (IsListed blocks contact_directives (cond b host place)) (map (λ contact. contact.0) (cond c hosts.contacts.now own.contacts.now))) (sym lacks) (by_case b))
     where
-      by_case : (c : Bool) → AreThose (IsListed blocks contact_directives (cond c host place)) (map (λ contact. contact.0) (cond c hosts.contacts.items own.contacts.items))
+      by_case : (c : Bool) → AreThose (IsListed blocks contact_directives (cond c host place)) (map (λ contact. contact.0) (cond c hosts.contacts.now own.contacts.now))
       by_case true = host_gives.contacts
       by_case false = gives.contacts
 

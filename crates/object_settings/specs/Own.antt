@@ -51,11 +51,11 @@ pub record IsOwn (blocks : List Block) (kind : OptionKind) (name : List ℕ) (pl
       ≡ own_period (names_in blocks TimePeriod) blocks (codes "notification_period") place
   pub lacks : own.lacks_contacts ≡ gives_neither blocks contact_directives place
   pub contacts : AreThose (IsListed blocks contact_directives place)
-      (map (λ contact. contact.0) own.contacts.items)
+      (map (λ contact. contact.0) own.contacts.now)
 
 -- the contacts, of the one or the other
 abbrev pub contacts_of : (own host : Own) → List ContactId
-contacts_of own host = if own.lacks_contacts then host.contacts.items else own.contacts.items
+contacts_of own host = if own.lacks_contacts then host.contacts.now else own.contacts.now
 
 -- what was taken for an object, where that host's is taken where its own lacks something
 pub record IsTaken (own host : Own) (object : Object) : Type 0 where

@@ -4,13 +4,12 @@ ghost use Rattle.std.specs.Prelude.{◌≡◌, ◌+◌, ◌<◌, ◌≤◌, None
 ghost use Rattle.std.specs.Prelude.{slice_index_or};
 ghost use Rattle.std.specs.Prelude.{sum_by, All, IfOk, OnOk, Some};
 ghost use Rattle.std.specs.List.{AllZip};
-ghost use Rattle.due_model.specs.Limits.{max_contacts, max_objects, max_periods};
+ghost use Rattle.due_model.specs.Limits.{max_objects, max_periods};
 ghost use Rattle.due_model.specs.Objects.{object_id};
-ghost use Rattle.object_groups.specs.declared.groups.GroupKind.TheVariants.{ContactGroups};
 ghost use Rattle.object_groups.specs.Objects.{name_at, names_in, objects_in};
-ghost use Rattle.object_reader.specs.declared.block.BlockKind.TheVariants.{Contact, Host, Service};
+ghost use Rattle.object_reader.specs.declared.block.BlockKind.TheVariants.{Host, Service};
 ghost use Rattle.object_reader.specs.declared.block.BlockKind.TheVariants.{TimePeriod};
-ghost use Rattle.object_readings.specs.Sources.{AreSources};
+ghost use Rattle.object_readings.specs.Periods.{ArePeriods};
 ghost use Rattle.object_services.specs.Hosts.{AreHosts};
 ghost use Rattle.object_services.specs.Limits.{AreHostLists};
 ghost use Rattle.object_settings.specs.Own.{AddsObjects, AddsServices, IsHostTaken, IsOwnOfHost};
@@ -20,10 +19,10 @@ use crate::own::{Own, object_of};
 use crate::tables::Tables;
 use due_model::config::{Object, ObjectId};
 use due_model::objects::Objects as ObjectTable;
-use object_groups::groups::Groups;
 use object_groups::names::Names;
 use object_groups::objects::Objects;
 use object_inheritance::templates::Templates;
+use object_listing::contacts::ContactListing;
 use object_listing::laws::listed_are_objects;
 use object_services::blocks::ServiceBlocks;
 use object_services::services::ServiceHosts;
@@ -34,20 +33,18 @@ use std::alloc::{AllocError, Global};
 fn owns_of<'a>(
     alloc: Global,
     tables: &Tables<'a>,
-    contacts: &mut Groups<'a>,
     periods: &Names<'a>,
     hosts: &Objects<'a>,
 ) -> Result<Vec<Own<'a>>, AllocError>
     requires hosts { hosts.now ≡ record { blocks = tables.now; kind = Host } }
-    requires sources { AreSources tables.now contacts.old periods.now }
-    ensures same { contacts.new ≡ contacts.old }
-    ensures own { IfOk result (λ owns.
+    requires periods { ArePeriods tables.now periods.now }
+    ensures { IfOk result (λ owns.
         AllZip (IsOwnOfHost tables.now) (objects_in tables.now Host) owns.items) }
 {
     let mut owns = Vec::new(alloc);
     for (number, place) in hosts.places().iter().enumerate() {
         let name = hosts.names().name(number);
-        let own = tables.own_at(alloc, contacts, periods, OptionKind::Host, name, *place)?;
+        let own = tables.own_at(periods, OptionKind::Host, name, *place);
         owns.push(own)?;
     }
     Ok(owns)
@@ -91,25 +88,23 @@ fn push_services_at<'a>(
     alloc: Global,
     objects: &mut Vec<Object>,
     tables: &Tables<'a>,
-    contacts: &mut Groups<'a>,
     periods: &Names<'a>,
     owns: &[Own<'a>],
     name: &'a [u8],
     place: usize,
     hosts: &[usize],
 ) -> Result<(), AllocError>
-    requires sources { AreSources tables.now contacts.old periods.now }
+    requires periods { ArePeriods tables.now periods.now }
     requires owns { AllZip (IsOwnOfHost tables.now) (objects_in tables.now Host) owns.now }
     requires few_hosts { length (objects_in tables.now Host) ≤ max_objects }
     requires named { name.now ≡ name_at tables.now Service place }
     requires hosts { AreHosts tables.now place hosts.now }
-    ensures same { contacts.new ≡ contacts.old }
-    ensures added { OnOk result (AddsObjects tables.now
+    ensures { OnOk result (AddsObjects tables.now
         (map (λ host. record { place = place; host = Some host }) hosts.now)
         objects.old.items objects.new.items) }
 {
     listed_are_objects();
-    let own = tables.own_at(alloc, contacts, periods, OptionKind::Service, name, place)?;
+    let own = tables.own_at(periods, OptionKind::Service, name, place);
     push_block(alloc, objects, owns, &own, hosts)?;
     Ok(())
 }
@@ -119,27 +114,23 @@ fn push_services<'a>(
     alloc: Global,
     objects: &mut Vec<Object>,
     tables: &Tables<'a>,
-    contacts: &mut Groups<'a>,
     periods: &Names<'a>,
     owns: &[Own<'a>],
     services: &Objects<'a>,
     lists: &ServiceHosts,
 ) -> Result<(), AllocError>
-    requires sources { AreSources tables.now contacts.old periods.now }
+    requires periods { ArePeriods tables.now periods.now }
     requires owns { AllZip (IsOwnOfHost tables.now) (objects_in tables.now Host) owns.now }
     requires few_hosts { length (objects_in tables.now Host) ≤ max_objects }
     requires services { services.now ≡ record { blocks = tables.now; kind = Service } }
     requires lists { AreHostLists tables.now (objects_in tables.now Service) lists.now }
-    ensures same { contacts.new ≡ contacts.old }
-    ensures added { OnOk result (AddsObjects tables.now (service_origins tables.now lists.now)
+    ensures { OnOk result (AddsObjects tables.now (service_origins tables.now lists.now)
         objects.old.items objects.new.items) }
 {
     for (number, place) in services.places().iter().enumerate() {
         let name = services.names().name(number);
         let hosts = lists.hosts(number);
-        push_services_at(
-            alloc, objects, tables, contacts, periods, owns, name, *place, hosts,
-        )?;
+        push_services_at(alloc, objects, tables, periods, owns, name, *place, hosts)?;
     }
     Ok(())
 }
@@ -148,51 +139,39 @@ fn push_services<'a>(
 fn all_objects<'a>(
     alloc: Global,
     tables: &Tables<'a>,
-    contacts: &mut Groups<'a>,
     periods: &Names<'a>,
     hosts: &Objects<'a>,
     services: &Objects<'a>,
     lists: &ServiceHosts,
 ) -> Result<Vec<Object>, AllocError>
     requires hosts { hosts.now ≡ record { blocks = tables.now; kind = Host } }
-    requires sources { AreSources tables.now contacts.old periods.now }
+    requires periods { ArePeriods tables.now periods.now }
     requires few_hosts { length (objects_in tables.now Host) ≤ max_objects }
     requires services { services.now ≡ record { blocks = tables.now; kind = Service } }
     requires lists { AreHostLists tables.now (objects_in tables.now Service) lists.now }
-    ensures same { contacts.new ≡ contacts.old }
-    ensures objects { IfOk result (λ objects.
+    ensures { IfOk result (λ objects.
         AreObjectsOf tables.now lists.now objects.items) }
 {
-    let owns = owns_of(alloc, tables, contacts, periods, hosts)?;
+    let owns = owns_of(alloc, tables, periods, hosts)?;
     let own = owns.as_slice();
     let mut objects = hosts_of(alloc, own)?;
-    push_services(
-        alloc,
-        &mut objects,
-        tables,
-        contacts,
-        periods,
-        own,
-        services,
-        lists,
-    )?;
+    push_services(alloc, &mut objects, tables, periods, own, services, lists)?;
     Ok(objects)
 }
 
 /// The objects of the blocks in number order: the hosts in file order, and then the services, block by block and
 /// within a block host by host. A service takes from its host what its block lacks: contacts, where it gives
 /// neither contacts nor contact groups, interval and period; other directives that are lacking are by default.
-/// `services` are the service blocks, `lists` their hosts, `contacts` the contact groups, and `hosts` and `periods`
-/// the hosts and the time periods, all of the same blocks; there are no more of each than fit. What a block
-/// gives is found once, however many services it has: the time grows with the blocks, the templates that they use,
-/// the entries of their lists and what the contact groups reach, and with the objects and their contacts. A
-/// refused growth changes nothing.
+/// `services` are the service blocks, `lists` their hosts, `contacts` what the blocks list as contacts, and `hosts`
+/// and `periods` the hosts and the time periods, all of the same blocks; there are no more of each than
+/// fit. What a block gives is found once, however many services it has: the time grows with the blocks and the
+/// templates that they use, and with the objects and their contacts. A refused growth leaves nothing.
 pub fn objects_of<'a>(
     alloc: Global,
     templates: &Templates<'a>,
     services: &ServiceBlocks<'a>,
     lists: &ServiceHosts,
-    contacts: &mut Groups<'a>,
+    contacts: &ContactListing<'a>,
     hosts: &Objects<'a>,
     periods: &Objects<'a>,
 ) -> Result<ObjectTable, AllocError>
@@ -200,18 +179,15 @@ pub fn objects_of<'a>(
     requires lists { AreHostLists templates.now (objects_in templates.now Service) lists.now }
     requires few { length (objects_in templates.now Host) + sum_by length lists.now
         ≤ max_objects }
-    requires contacts { contacts.old
-        ≡ record { blocks = templates.now; kind = ContactGroups } }
-    requires few_contacts { length (names_in templates.now Contact) ≤ max_contacts }
+    requires contacts { contacts.now ≡ templates.now }
     requires hosts { hosts.now ≡ record { blocks = templates.now; kind = Host } }
     requires periods { periods.now ≡ record { blocks = templates.now; kind = TimePeriod } }
     requires few_periods { length (names_in templates.now TimePeriod) ≤ max_periods }
-    ensures same { contacts.new ≡ contacts.old }
-    ensures objects { IfOk result (AreObjectsOf templates.now lists.now) }
+    ensures { IfOk result (AreObjectsOf templates.now lists.now) }
 {
-    let tables = Tables::new(alloc, templates)?;
+    let tables = Tables::new(alloc, templates, contacts)?;
     let names = periods.names();
     let blocks = services.objects();
-    let objects = all_objects(alloc, &tables, contacts, names, hosts, blocks, lists)?;
+    let objects = all_objects(alloc, &tables, names, hosts, blocks, lists)?;
     ObjectTable::new(alloc, objects)
 }

@@ -17,7 +17,7 @@ pub(crate) struct Own<'a> {
     /// Whether it gives neither contacts nor contact groups.
     pub(crate) lacks_contacts: bool,
     /// The contacts, each once and in number order.
-    pub(crate) contacts: Vec<ContactId>,
+    pub(crate) contacts: &'a [ContactId],
     /// The interval, in units of 60 seconds; none where it has none.
     pub(crate) interval: Option<u32>,
     /// The period; none where it has none, and `Some(None)` is always.
@@ -55,17 +55,13 @@ fn period_of(own: Option<Option<PeriodId>>, host: Option<Option<PeriodId>>) -> O
 }
 
 /// The contacts, or those of the host.
-fn contacts_of<'a>(
-    alloc: Global,
-    own: &Own<'a>,
-    host: &Own<'a>,
-) -> Result<ContactList, AllocError>
+fn contacts_of<'a>(alloc: Global, own: &Own<'a>, host: &Own<'a>) -> Result<ContactList, AllocError>
     ensures { IfOk result (λ contacts. contacts ≡ contacts_of own.now host.now) }
 {
     if own.lacks_contacts {
-        ContactList::new(alloc, host.contacts.as_slice())
+        ContactList::new(alloc, host.contacts)
     } else {
-        ContactList::new(alloc, own.contacts.as_slice())
+        ContactList::new(alloc, own.contacts)
     }
 }
 

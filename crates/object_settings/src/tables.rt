@@ -1,11 +1,10 @@
 //! What all blocks have for the directives of notification settings.
 
 ghost use Rattle.std.specs.Prelude.{◌≡◌, IfOk};
-ghost use Rattle.object_readings.specs.Sources.{AreSources};
+ghost use Rattle.object_readings.specs.Periods.{ArePeriods};
 ghost use Rattle.object_settings.specs.Own.{AreFilters, AreTimes, IsOwn};
 
 use crate::own::Own;
-use object_groups::groups::Groups;
 use object_groups::names::Names;
 use object_inheritance::inherited::{Values, values_of};
 use object_inheritance::templates::Templates;
@@ -35,7 +34,7 @@ pub(crate) struct Filters<'a> {
 #[derive(Drop)]
 pub(crate) struct Tables<'a> {
     blocks: &'a [Block],
-    contacts: ContactListing<'a>,
+    contacts: &'a ContactListing<'a>,
     times: Times<'a>,
     filters: Filters<'a>,
 }
@@ -49,7 +48,7 @@ impl<'a> Model for Tables<'a> {
 
     ghost view = { λ s. s.blocks.now };
 
-    ghost invariant = { λ s. AreTables s.blocks.now s.contacts s.times s.filters };
+    ghost invariant = { λ s. AreTables s.blocks.now s.contacts.now s.times s.filters };
 }
 
 /// What the blocks have for the directives that say when.
@@ -74,13 +73,18 @@ fn filters_of<'a>(alloc: Global, templates: &Templates<'a>) -> Result<Filters<'a
 }
 
 impl<'a> Tables<'a> {
-    /// What the blocks have for these directives.
-    pub(crate) fn new(alloc: Global, templates: &Templates<'a>) -> Result<Tables<'a>, AllocError>
+    /// What the blocks have for these directives, where `contacts` are the contacts that they list.
+    pub(crate) fn new(
+        alloc: Global,
+        templates: &Templates<'a>,
+        contacts: &'a ContactListing<'a>,
+    ) -> Result<Tables<'a>, AllocError>
+        requires { contacts.now ≡ templates.now }
         ensures { IfOk result (λ tables. tables ≡ templates.now) }
     {
         Ok(Tables {
             blocks: templates.blocks(),
-            contacts: ContactListing::new(alloc, templates)?,
+            contacts,
             times: times_of(alloc, templates)?,
             filters: filters_of(alloc, templates)?,
         })
@@ -89,27 +93,23 @@ impl<'a> Tables<'a> {
     /// What the block at the place gives, with the name of its objects.
     pub(crate) fn own_at(
         &self,
-        alloc: Global,
-        groups: &mut Groups<'a>,
         periods: &Names<'a>,
         kind: OptionKind,
         name: &'a [u8],
         place: usize,
-    ) -> Result<Own<'a>, AllocError>
-        requires sources { AreSources self.now groups.old periods.now }
-        ensures same { groups.new ≡ groups.old }
-        ensures own { IfOk result (IsOwn self.now kind name.now place) }
+    ) -> Own<'a>
+        requires { ArePeriods self.now periods.now }
+        ensures { IsOwn self.now kind name.now place result }
     {
-        let contacts = self.contacts.contacts_at(alloc, groups, place)?;
-        Ok(Own {
+        Own {
             name,
             lacks_contacts: self.contacts.gives_neither(place),
-            contacts,
+            contacts: self.contacts.contacts_at(place),
             interval: own_number(&self.times.intervals, place),
             period: own_period(periods, &self.times.periods, place),
             options: letters_at(&self.filters.options, kind, place),
             enabled: is_on(&self.filters.flags, true, place),
             delay: number_at(&self.times.delays, 0, place),
-        })
+        }
     }
 }

@@ -15,12 +15,12 @@ all_objects-requires-clause-few_hosts c =
 
 pub new-requires-2 : goal.new-requires-2
 new-requires-2 c =
-    let are = subst (λ (blocks : List Block). AreObjectsOf blocks c.args.lists.now c.in_ok-objects.objects.items) c.in_ok-tables.ensures c.in_ok-objects.ensures.objects in
+    let are = subst (λ (blocks : List Block). AreObjectsOf blocks c.args.lists.now c.in_ok-objects.objects.items) c.in_ok-tables.ensures c.in_ok-objects.ensures in
     let few : length c.in_ok-objects.objects.items ≤ max_objects = objects-few c.args.templates.now c.args.lists.now c.in_ok-objects.objects.items c.requires.few are in
     omega (arith, few, c.in_ok-objects.objects.ok)
 
-pub returns-clause-objects : goal.returns-clause-objects
-returns-clause-objects c = IfOk-weaker c.new-2.result _ _
+pub returns : goal.returns
+returns c = IfOk-weaker c.new-2.result _ _
     (λ made is. subst (λ (objects : List Object). AreObjectsOf c.args.templates.now c.args.lists.now objects) (sym is)
-    (subst (λ (blocks : List Block). AreObjectsOf blocks c.args.lists.now c.in_ok-objects.objects.items) c.in_ok-tables.ensures c.in_ok-objects.ensures.objects))
+    (subst (λ (blocks : List Block). AreObjectsOf blocks c.args.lists.now c.in_ok-objects.objects.items) c.in_ok-tables.ensures c.in_ok-objects.ensures))
     c.new-2.ensures

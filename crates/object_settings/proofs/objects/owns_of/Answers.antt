@@ -1,17 +1,10 @@
-use Rattle.std.proofs.Common.{◌≡◌, ◌≤◌, ◌∙◌, List, ap, arith, length, subst, sym, take_all, ℕ}
+use Rattle.std.proofs.Common.{◌≡◌, ◌≤◌, ◌∙◌, List, ap, arith, length, subst, take_all, ℕ}
 use Rattle.std.specs.List.{AllZip}
-use Rattle.object_groups.specs.Groups.{GroupsOf}
 use Rattle.object_groups.specs.Objects.{names_in, objects_in, ObjectsOf}
 use Rattle.object_reader.specs.declared.block.BlockKind.TheVariants.{Host}
-use Rattle.object_readings.specs.Sources.{AreSources}
 use Rattle.object_settings.specs.Own.{IsOwnOfHost}
 use Rattle.object_settings.proofs.ObjectLemmas.{owns-more}
 use Rattle.object_settings.proofs.objects.owns_of.Goals as goal
-
-pub own_at-requires : goal.own_at-requires
-own_at-requires c = record {
-  sources = subst (λ (contacts : GroupsOf). AreSources c.args.tables.now contacts c.args.periods.now) (sym c.loop-number.invariant.same) c.requires.sources;
-}
 
 pub loop-number-preserved : goal.loop-number-preserved
 loop-number-preserved c =
@@ -19,16 +12,13 @@ loop-number-preserved c =
     let i = c.loop-number.number in
     let listed : c.places-place-items.result.now ≡ objects_in blocks Host = c.places-place-items.ensures.places ∙ ap (λ (o : ObjectsOf). objects_in o.blocks o.kind) c.requires.hosts in
     let names = c.names.ensures.names ∙ ap (λ (o : ObjectsOf). names_in o.blocks o.kind) c.requires.hosts in
-    record {
-      same = c.own_at.ensures.same ∙ c.loop-number.invariant.same;
-      own = owns-more blocks c.places-place-items.result.now c.names.result.now i 0 c.name-name.result.now c.in_ok-own.own c.loop-number.owns.items c.push.new.self.items
-          listed c.loop-number-test.true names c.name-name.ensures c.in_ok-own.ensures.own c.loop-number.invariant.own c.in_ok-push.ensures.items;
-    }
+    owns-more blocks c.places-place-items.result.now c.names.result.now i 0 c.name-name.result.now c.own_at-own.result c.loop-number.owns.items c.push.new.self.items
+    listed c.loop-number-test.true names c.name-name.ensures c.own_at-own.ensures c.loop-number.invariant c.in_ok-push.ensures.items
 
-pub returns-clause-own : goal.returns-clause-own
-returns-clause-own c =
+pub returns : goal.returns
+returns c =
     let blocks = c.args.tables.now in
     let listed : c.places-place-items.result.now ≡ objects_in blocks Host = c.places-place-items.ensures.places ∙ ap (λ (o : ObjectsOf). objects_in o.blocks o.kind) c.requires.hosts in
     let long = ap (λ (places : List ℕ). length places) listed in
     let all : length (objects_in blocks Host) ≤ c.loop-number.number = omega (arith, long, c.loop-number-test.false) in
-    subst (λ (places : List ℕ). AllZip (IsOwnOfHost blocks) places c.loop-number.owns.items) (take_all c.loop-number.number (objects_in blocks Host) all) c.loop-number.invariant.own
+    subst (λ (places : List ℕ). AllZip (IsOwnOfHost blocks) places c.loop-number.owns.items) (take_all c.loop-number.number (objects_in blocks Host) all) c.loop-number.invariant

@@ -1,5 +1,5 @@
-use Rattle.std.proofs.Common.{get_or, length, refl}
-use Rattle.std.proofs.lemmas.Option.{slice_get_read}
+use Rattle.std.proofs.Common.{get_or}
+use Rattle.std.proofs.lemmas.Option.{slice_get-get_or}
 use Rattle.object_settings.proofs.ObjectLemmas.{services-all, services-more, services-none}
 use Rattle.object_settings.proofs.objects.push_block.Goals as goal
 
@@ -8,10 +8,9 @@ loop-host-init c = services-none c.args.owns.now c.args.own.now c.args.objects.n
 
 pub loop-host-preserved : goal.loop-host-preserved
 loop-host-preserved c =
-    services-more c.args.owns.now c.args.own.now c.index-owns-host.result c.args.hosts.now c.loop-host.host-index 0 c.in_ok-object.object
+    services-more c.args.owns.now c.args.own.now _ c.args.hosts.now c.loop-host.host-index 0 c.in_ok-object.object
     c.args.objects.now.items c.loop-host.objects.items c.push.new.self.items c.loop-host-test.true
-    (slice_get_read c.args.owns.now (length c.args.owns.now) (get_or c.args.hosts.now c.loop-host.host-index 0) c.index-owns-host.result refl
-    (c.requires.within c.loop-host.host-index 0 c.loop-host-test.true) c.index-owns-host.is)
+    (slice_get-get_or c.args.owns.now (get_or c.args.hosts.now c.loop-host.host-index 0) _ (c.requires.within c.loop-host.host-index 0 c.loop-host-test.true))
     c.in_ok-object.ensures.host c.in_ok-object.ensures.taken c.loop-host.invariant c.in_ok-push.ensures.items
 
 pub returns : goal.returns

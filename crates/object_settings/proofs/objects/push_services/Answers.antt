@@ -1,22 +1,13 @@
-use Rattle.std.proofs.Common.{◌≡◌, ◌∙◌, List, ap, arith, get_or, length, refl, subst, sym, ℕ}
+use Rattle.std.proofs.Common.{◌≡◌, ◌∙◌, List, ap, arith, get_or, length, ℕ}
 use Rattle.std.proofs.lemmas.Slice.Zip.{AllZip-long}
-use Rattle.object_groups.specs.Groups.{GroupsOf}
 use Rattle.object_groups.specs.Objects.{names_in, objects_in, ObjectsOf}
 use Rattle.object_reader.specs.declared.block.BlockKind.TheVariants.{Service}
-use Rattle.object_readings.specs.Sources.{AreSources}
 use Rattle.object_services.specs.Hosts.{AreHosts}
 use Rattle.object_settings.proofs.ObjectLemmas.{block-hosts, named-at, objects-all, objects-more, objects-none}
 use Rattle.object_settings.proofs.objects.push_services.Goals as goal
 
 pub loop-number-init : goal.loop-number-init
-loop-number-init c = record {
-  same = refl;
-  added = objects-none c.args.tables.now c.args.objects.now.items;
-}
-
-pub push_services_at-requires-clause-sources : goal.push_services_at-requires-clause-sources
-push_services_at-requires-clause-sources c =
-    subst (λ (contacts : GroupsOf). AreSources c.args.tables.now contacts c.args.periods.now) (sym c.loop-number.invariant.same) c.requires.sources
+loop-number-init c = objects-none c.args.tables.now c.args.objects.now.items
 
 pub push_services_at-requires-clause-named : goal.push_services_at-requires-clause-named
 push_services_at-requires-clause-named c =
@@ -33,18 +24,15 @@ pub loop-number-preserved : goal.loop-number-preserved
 loop-number-preserved c =
     let blocks = c.args.tables.now in
     let listed = c.places-place-items.ensures.places ∙ ap (λ (o : ObjectsOf). objects_in o.blocks o.kind) c.requires.services in
-    record {
-      same = c.push_services_at.ensures.same ∙ c.loop-number.invariant.same;
-      added = objects-more blocks c.args.lists.now c.loop-number.number (get_or c.places-place-items.result.now c.loop-number.number 0) c.hosts-hosts.result.now
-          c.args.objects.now.items c.loop-number.objects.items c.push_services_at.new.objects.items
-          (ap (λ (ps : List ℕ). get_or ps c.loop-number.number 0) listed) c.hosts-hosts.ensures c.loop-number.invariant.added c.in_ok-push_services_at.ensures.added;
-    }
+    objects-more blocks c.args.lists.now c.loop-number.number (get_or c.places-place-items.result.now c.loop-number.number 0) c.hosts-hosts.result.now
+    c.args.objects.now.items c.loop-number.objects.items c.push_services_at.new.objects.items
+    (ap (λ (ps : List ℕ). get_or ps c.loop-number.number 0) listed) c.hosts-hosts.ensures c.loop-number.invariant c.in_ok-push_services_at.ensures
 
-pub returns-clause-added : goal.returns-clause-added
-returns-clause-added c =
+pub returns : goal.returns
+returns c =
     let blocks = c.args.tables.now in
     let listed = c.places-place-items.ensures.places ∙ ap (λ (o : ObjectsOf). objects_in o.blocks o.kind) c.requires.services in
     let long = ap (λ (ps : List ℕ). length ps) listed in
     let lists = AllZip-long (AreHosts blocks) (objects_in blocks Service) c.args.lists.now c.requires.lists in
     let end : c.loop-number.number ≡ length c.args.lists.now = omega (arith, long, lists, c.loop-number.auto.number-end, c.loop-number-test.false) in
-    objects-all blocks c.args.lists.now c.loop-number.number c.args.objects.now.items c.loop-number.objects.items end c.loop-number.invariant.added
+    objects-all blocks c.args.lists.now c.loop-number.number c.args.objects.now.items c.loop-number.objects.items end c.loop-number.invariant

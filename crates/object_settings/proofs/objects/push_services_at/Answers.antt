@@ -15,7 +15,7 @@ push_block-requires-clause-few c =
     let long = AllZip-long (IsOwnOfHost c.args.tables.now) (objects_in c.args.tables.now Host) c.args.owns.now c.requires.owns in
     omega (arith, long, c.requires.few_hosts)
 
-pub returns-clause-added : goal.returns-clause-added
-returns-clause-added c =
-    block-objects c.args.tables.now c.args.place c.args.name.now c.args.owns.now c.in_ok-own.own c.args.hosts.now c.args.objects.now.items c.push_block.new.objects.items
-    c.requires.owns c.requires.named c.in_ok-own.ensures.own c.in_ok-push_block.ensures
+pub returns : goal.returns
+returns c =
+    block-objects c.args.tables.now c.args.place c.args.name.now c.args.owns.now c.own_at-own.result c.args.hosts.now c.args.objects.now.items c.push_block.new.objects.items
+    c.requires.owns c.requires.named c.own_at-own.ensures c.in_ok-push_block.ensures
