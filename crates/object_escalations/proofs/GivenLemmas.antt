@@ -43,9 +43,9 @@ module _ (blocks : List Block) (place number : ℕ) (block : Block) (given : Giv
       subst (λ (c : Bool). AreTold c blocks place object escalation.contacts) (sym neither) (by_case b lacks)
     where
       by_case : (c : Bool) → given.lacks_contacts ≡ c → AreTold c blocks place object escalation.contacts
-      by_case true is = taken.contacts ∙ ap (λ (c : Bool). if c then object.contacts else given.contacts.items) is
+      by_case true is = taken.contacts ∙ ap (λ (c : Bool). if c then object.contacts else given.contacts.now) is
       by_case false is = subst (λ (contacts : List ContactId). AreThose (IsListed blocks contact_directives place) (map (λ contact. contact.0) contacts))
-          (sym (taken.contacts ∙ ap (λ (c : Bool). if c then object.contacts else given.contacts.items) is)) gives.contacts
+          (sym (taken.contacts ∙ ap (λ (c : Bool). if c then object.contacts else given.contacts.now) is)) gives.contacts
 
   escalation-is : IsEscalationOf blocks place number object escalation
   escalation-is = record {

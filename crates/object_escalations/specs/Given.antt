@@ -59,14 +59,14 @@ pub record IsGiven (blocks : List Block) (kind : OptionKind) (place : ℕ)
   pub options : given.options ≡ letters_at blocks (codes "escalation_options") kind place
   pub lacks : given.lacks_contacts ≡ gives_neither blocks contact_directives place
   pub contacts : AreThose (IsListed blocks contact_directives place)
-      (map (λ contact. contact.0) given.contacts.items)
+      (map (λ contact. contact.0) given.contacts.now)
 
 -- ---- what is taken of it
 
 -- the contacts, of the block or of the object
 abbrev pub contacts_of : Given → Object → List ContactId
 contacts_of given object =
-    if given.lacks_contacts then object.contacts else given.contacts.items
+    if given.lacks_contacts then object.contacts else given.contacts.now
 
 -- the escalation of the object of that number, which takes from the object what the block lacks
 pub record IsTaken (given : Given) (number : ℕ) (object : Object)

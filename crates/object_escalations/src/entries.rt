@@ -4,15 +4,15 @@ ghost use Rattle.std.specs.Prelude.{◌≡◌, ◌<◌, ◌≤◌, length, slice
 ghost use Rattle.due_model.specs.Limits.{max_objects};
 ghost use Rattle.object_escalations.specs.Entries.{AddsEntries, AreEntriesOf, origins_at};
 ghost use Rattle.object_escalations.specs.Given.{AddsTaken, contacts_of, IsTaken, list_kind};
-ghost use Rattle.object_readings.specs.Sources.{AreSources};
+ghost use Rattle.object_readings.specs.Periods.{ArePeriods};
 
 use crate::escalated::EscalatedObjects;
 use crate::given::{Given, Tables};
 use due_model::config::{ContactList, Escalation, Object, ObjectId};
-use object_groups::groups::Groups;
 use object_groups::names::Names;
 use object_groups::objects::is_object;
 use object_inheritance::templates::Templates;
+use object_listing::contacts::ContactListing;
 use object_reader::block::{Block, BlockKind};
 use object_values::options::OptionKind;
 use std::alloc::{AllocError, Global};
@@ -35,7 +35,7 @@ fn contacts_of(alloc: Global, given: &Given, object: &Object) -> Result<ContactL
     if given.lacks_contacts {
         ContactList::new(alloc, object.contacts.as_slice())
     } else {
-        ContactList::new(alloc, given.contacts.as_slice())
+        ContactList::new(alloc, given.contacts)
     }
 }
 
@@ -85,25 +85,23 @@ fn push_block_at<'a>(
     alloc: Global,
     escalations: &mut Vec<Escalation>,
     tables: &Tables<'a>,
-    contacts: &mut Groups<'a>,
     periods: &Names<'a>,
     objects: &[Object],
     numbers: &[usize],
     block: &Block,
     place: usize,
 ) -> Result<(), AllocError>
-    requires sources { AreSources tables.now contacts.old periods.now }
+    requires periods { ArePeriods tables.now periods.now }
     requires within { All (λ number. number < length objects.now) numbers.now }
     requires few { length objects.now ≤ max_objects }
     requires here { slice_get tables.now place ≡ Some block.now }
-    ensures same { contacts.new ≡ contacts.old }
-    ensures added { OnOk result (AddsEntries tables.now objects.now
+    ensures { OnOk result (AddsEntries tables.now objects.now
         (origins_at place numbers.now) escalations.old.items escalations.new.items) }
 {
     if numbers.is_empty() {
         return Ok(());
     }
-    let given = tables.given_at(alloc, contacts, periods, list_kind(block), place)?;
+    let given = tables.given_at(periods, list_kind(block), place);
     push_block(alloc, escalations, &given, objects, numbers)?;
     Ok(())
 }
@@ -111,27 +109,27 @@ fn push_block_at<'a>(
 /// The escalations of the blocks: one for each object of which a block speaks, block by block in file order, and within
 /// a block in number order. An escalation takes from its object what its block lacks: contacts, where it gives neither
 /// contacts nor contact groups, interval and period; other directives that are lacking are by default.
-/// `escalated` are the objects of which each block speaks, `objects` the hosts and services, `contacts` the
-/// contact groups, and `periods` the names of the time periods, all of the same blocks. The time grows with the
-/// escalation blocks, the entries of their lists and what the contact groups reach, and with the escalations
-/// and their contacts. A refused growth changes nothing.
+/// `escalated` are the objects of which each block speaks, `objects` the hosts and services, `contacts` what the blocks
+/// list as contacts, and `periods` the names of the time periods, all of the same blocks. The time grows with the
+/// blocks and the templates that they use, and with the escalations and their contacts. A refused growth
+/// leaves nothing.
 pub fn escalations_of<'a>(
     alloc: Global,
     templates: &Templates<'a>,
     escalated: &EscalatedObjects,
     objects: &[Object],
-    contacts: &mut Groups<'a>,
+    contacts: &ContactListing<'a>,
     periods: &Names<'a>,
 ) -> Result<Vec<Escalation>, AllocError>
     requires within { All (All (λ number. number < length objects.now)) escalated.now }
     requires long { length escalated.now ≡ length templates.now }
     requires few { length objects.now ≤ max_objects }
-    requires sources { AreSources templates.now contacts.old periods.now }
-    ensures same { contacts.new ≡ contacts.old }
-    ensures escalations { IfOk result (λ escalations.
+    requires contacts { contacts.now ≡ templates.now }
+    requires periods { ArePeriods templates.now periods.now }
+    ensures { IfOk result (λ escalations.
         AreEntriesOf templates.now objects.now escalated.now escalations.items) }
 {
-    let tables = Tables::new(alloc, templates)?;
+    let tables = Tables::new(alloc, templates, contacts)?;
     let mut escalations = Vec::new(alloc);
     for (place, block) in templates.blocks().iter().enumerate() {
         let numbers = escalated.objects(place);
@@ -139,8 +137,7 @@ pub fn escalations_of<'a>(
             alloc,
             &mut escalations,
             &tables,
-            contacts,
-            periods,
+            &*periods,
             objects,
             numbers,
             block,

@@ -2,11 +2,10 @@
 
 ghost use Rattle.std.specs.Prelude.{◌≡◌, IfOk};
 ghost use Rattle.object_escalations.specs.Given.{AreFilters, AreTimes, IsGiven};
-ghost use Rattle.object_readings.specs.Sources.{AreSources};
+ghost use Rattle.object_readings.specs.Periods.{ArePeriods};
 
 use due_model::config::{ContactId, PeriodId};
 use due_model::options::OptionLetters;
-use object_groups::groups::Groups;
 use object_groups::names::Names;
 use object_inheritance::inherited::{Values, values_of};
 use object_inheritance::templates::Templates;
@@ -36,7 +35,7 @@ pub(crate) struct Filters<'a> {
 #[derive(Drop)]
 pub(crate) struct Tables<'a> {
     blocks: &'a [Block],
-    contacts: ContactListing<'a>,
+    contacts: &'a ContactListing<'a>,
     times: Times<'a>,
     filters: Filters<'a>,
 }
@@ -50,16 +49,16 @@ impl<'a> Model for Tables<'a> {
 
     ghost view = { λ s. s.blocks.now };
 
-    ghost invariant = { λ s. AreTables s.blocks.now s.contacts s.times s.filters };
+    ghost invariant = { λ s. AreTables s.blocks.now s.contacts.now s.times s.filters };
 }
 
 /// What an escalation block gives, by itself or by its templates.
 #[derive(Drop)]
-pub(crate) struct Given {
+pub(crate) struct Given<'a> {
     /// Whether it gives neither contacts nor contact groups.
     pub(crate) lacks_contacts: bool,
     /// The contacts, each once and in number order.
-    pub(crate) contacts: Vec<ContactId>,
+    pub(crate) contacts: &'a [ContactId],
     pub(crate) first: u32,
     pub(crate) last: u32,
     /// The interval, in units of 60 seconds; none where it has none.
@@ -91,40 +90,36 @@ fn filters_of<'a>(alloc: Global, templates: &Templates<'a>) -> Result<Filters<'a
 }
 
 impl<'a> Tables<'a> {
-    /// What the blocks have for these directives.
-    pub(crate) fn new(alloc: Global, templates: &Templates<'a>) -> Result<Tables<'a>, AllocError>
+    /// What the blocks have for these directives, where `contacts` are the contacts that they list.
+    pub(crate) fn new(
+        alloc: Global,
+        templates: &Templates<'a>,
+        contacts: &'a ContactListing<'a>,
+    ) -> Result<Tables<'a>, AllocError>
+        requires { contacts.now ≡ templates.now }
         ensures { IfOk result (λ tables. tables ≡ templates.now) }
     {
         Ok(Tables {
             blocks: templates.blocks(),
-            contacts: ContactListing::new(alloc, templates)?,
+            contacts,
             times: times_of(alloc, templates)?,
             filters: filters_of(alloc, templates)?,
         })
     }
 
     /// What the block at the place gives, where its option list is of that kind.
-    pub(crate) fn given_at(
-        &self,
-        alloc: Global,
-        groups: &mut Groups<'a>,
-        periods: &Names<'a>,
-        kind: OptionKind,
-        place: usize,
-    ) -> Result<Given, AllocError>
-        requires sources { AreSources self.now groups.old periods.now }
-        ensures same { groups.new ≡ groups.old }
-        ensures given { IfOk result (IsGiven self.now kind place) }
+    pub(crate) fn given_at(&self, periods: &Names<'a>, kind: OptionKind, place: usize) -> Given<'a>
+        requires { ArePeriods self.now periods.now }
+        ensures { IsGiven self.now kind place result }
     {
-        let contacts = self.contacts.contacts_at(alloc, groups, place)?;
-        Ok(Given {
+        Given {
             lacks_contacts: self.contacts.gives_neither(place),
-            contacts,
+            contacts: self.contacts.contacts_at(place),
             first: number_at(&self.times.firsts, 0, place),
             last: number_at(&self.times.lasts, 0, place),
             interval: own_number(&self.times.intervals, place),
             period: own_period(periods, &self.filters.periods, place),
             options: letters_at(&self.filters.options, kind, place),
-        })
+        }
     }
 }

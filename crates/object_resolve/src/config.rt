@@ -25,6 +25,7 @@ use object_escalations::entries::escalations_of;
 use object_escalations::laws::escalated_are_objects;
 use object_groups::groups::{GroupKind, Groups};
 use object_inheritance::templates::Templates;
+use object_listing::contacts::ContactListing;
 use object_names::named::{NamedKind, NamedObjects};
 use object_periods::periods::periods_of;
 use object_settings::objects::objects_of;
@@ -56,14 +57,28 @@ fn lanes_in(alloc: Global, objects: &NamedObjects, lanes: &[usize]) -> Result<Ve
     named_lanes(alloc, objects.objects(NamedKind::Command).names(), lanes)
 }
 
-/// The hosts and services, where `counts` are those of the blocks.
+/// What the blocks list as contacts.
+fn listed_contacts<'a>(
+    alloc: Global,
+    templates: &Templates<'a>,
+) -> Result<ContactListing<'a>, AllocError>
+    requires { AreFewOthers templates.now }
+    ensures { IfOk result (λ contacts. contacts ≡ templates.now) }
+{
+    let mut groups = Groups::new(alloc, templates, GroupKind::ContactGroups)?;
+    ContactListing::new(alloc, templates, &mut groups)
+}
+
+/// The hosts and services, where `counts` are those of the blocks, and `contacts` what the blocks list as contacts.
 fn objects_in<'a>(
     alloc: Global,
     templates: &Templates<'a>,
     tables: &Tables<'a>,
     counts: &Counts,
+    contacts: &ContactListing<'a>,
 ) -> Result<ObjectTable, AllocError>
     requires tables { AreTables templates.now tables.now }
+    requires contacts { contacts.now ≡ templates.now }
     requires few { AreFewOthers templates.now }
     requires counts { AreCounts templates.now counts.now }
     ensures { IfOk result (AreObjectsOf templates.now counts.now.hosts) }
@@ -71,27 +86,28 @@ fn objects_in<'a>(
     let hosts = tables.objects.objects(NamedKind::Host);
     let periods = tables.objects.objects(NamedKind::TimePeriod);
     let services = &tables.services;
-    let mut groups = Groups::new(alloc, templates, GroupKind::ContactGroups)?;
     objects_of(
         alloc,
         templates,
         services,
         &counts.hosts,
-        &mut groups,
+        contacts,
         hosts,
         periods,
     )
 }
 
-/// The escalations, where these are the objects.
+/// The escalations, where these are the objects, and `contacts` what the blocks list as contacts.
 fn escalations_in<'a>(
     alloc: Global,
     templates: &Templates<'a>,
     tables: &Tables<'a>,
     counts: &Counts,
     objects: &ObjectTable,
+    contacts: &ContactListing<'a>,
 ) -> Result<Vec<Escalation>, AllocError>
     requires tables { AreTables templates.now tables.now }
+    requires contacts { contacts.now ≡ templates.now }
     requires few { AreFewOthers templates.now }
     requires counts { AreCounts templates.now counts.now }
     requires objects { AreObjectsOf templates.now counts.now.hosts objects.now }
@@ -100,13 +116,12 @@ fn escalations_in<'a>(
 {
     escalated_are_objects();
     let periods = tables.objects.objects(NamedKind::TimePeriod).names();
-    let mut groups = Groups::new(alloc, templates, GroupKind::ContactGroups)?;
     escalations_of(
         alloc,
         templates,
         &counts.escalated,
         objects.as_slice(),
-        &mut groups,
+        contacts,
         periods,
     )
 }
@@ -151,8 +166,9 @@ pub(crate) fn config_of<'a>(
         templates,
         tables.objects.objects(NamedKind::TimePeriod),
     )?;
-    let objects = objects_in(alloc, templates, tables, counts)?;
-    let escalations = escalations_in(alloc, templates, tables, counts, &objects)?;
+    let listed = listed_contacts(alloc, templates)?;
+    let objects = objects_in(alloc, templates, tables, counts, &listed)?;
+    let escalations = escalations_in(alloc, templates, tables, counts, &objects, &listed)?;
     let dependencies = dependencies_in(alloc, templates, tables, counts)?;
     Ok(Config {
         objects,

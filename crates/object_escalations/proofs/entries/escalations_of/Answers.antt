@@ -1,4 +1,4 @@
-use Rattle.std.proofs.Common.{◌∙◌, List, subst}
+use Rattle.std.proofs.Common.{List, subst}
 use Rattle.object_escalations.specs.Entries.{AddsEntries, origins_at}
 use Rattle.object_reader.specs.declared.block.Block.{Block}
 use Rattle.object_escalations.proofs.GivenLemmas.{entries-more}
@@ -12,8 +12,5 @@ loop-place-preserved c =
     let numbers = c.objects-numbers.result.now in
     let old = c.loop-place.escalations.items in
     let new = c.push_block_at.new.escalations.items in
-    record {
-      same = c.push_block_at.ensures.same ∙ c.loop-place.invariant.same;
-      far = entries-more blocks objects c.args.escalated.now i numbers old new c.objects-numbers.ensures c.loop-place.invariant.far
-          (subst (λ (bs : List Block). AddsEntries bs objects (origins_at i numbers) old new) c.in_ok-tables.ensures c.in_ok-push_block_at.ensures.added);
-    }
+    entries-more blocks objects c.args.escalated.now i numbers old new c.objects-numbers.ensures c.loop-place.invariant
+    (subst (λ (bs : List Block). AddsEntries bs objects (origins_at i numbers) old new) c.in_ok-tables.ensures c.in_ok-push_block_at.ensures)

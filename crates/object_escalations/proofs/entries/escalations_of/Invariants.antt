@@ -1,11 +1,7 @@
-use Rattle.std.proofs.Common.{◌≡◌}
 use Rattle.std.specs.List.{AllZip}
 use Rattle.object_escalations.specs.Entries.{ComesFrom, origins_below}
 use Rattle.object_escalations.proofs.entries.escalations_of.Given as goal
 
--- The groups stay; the escalations of the blocks so far.
+-- The escalations of the blocks so far.
 abbrev pub invariant-loop-place : goal.invariant-loop-place
-invariant-loop-place l = record {
-  same : l.contacts ≡ l.initial.contacts;
-  far : AllZip (ComesFrom l.templates l.objects) (origins_below l.escalated l.place) l.escalations.items;
-}
+invariant-loop-place l = AllZip (ComesFrom l.fn.templates l.objects) (origins_below l.escalated l.place) l.escalations.items

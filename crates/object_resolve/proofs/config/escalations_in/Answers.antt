@@ -1,8 +1,5 @@
 use Rattle.std.proofs.Common.{rules}
-use Rattle.due_model.specs.Limits.{max_contacts}
-use Rattle.object_reader.specs.declared.block.BlockKind.TheVariants.{Contact}
 use Rattle.object_resolve.proofs.EntryLemmas.{objects-few, spoken-long, spoken-within}
-use Rattle.object_resolve.proofs.PlaceLemmas.{few-names}
 use Rattle.object_resolve.proofs.config.escalations_in.Goals as goal
 
 pub escalations_of-requires-clause-within : goal.escalations_of-requires-clause-within
@@ -17,10 +14,8 @@ pub escalations_of-requires-clause-few : goal.escalations_of-requires-clause-few
 escalations_of-requires-clause-few c =
     objects-few c.args.templates.now c.args.counts.now.hosts c.args.objects.now c.as_slice.result.now c.as_slice.ensures c.requires.objects c.requires.counts.few
 
-pub escalations_of-requires-clause-sources : goal.escalations_of-requires-clause-sources
-escalations_of-requires-clause-sources c = record {
-  groups = c.in_ok-groups.ensures;
-  few_contacts = few-names c.args.templates.now Contact max_contacts c.requires.few.contacts;
+pub escalations_of-requires-clause-periods : goal.escalations_of-requires-clause-periods
+escalations_of-requires-clause-periods c = record {
   names = search rules;
-  few_periods = search rules;
+  few = search rules;
 }

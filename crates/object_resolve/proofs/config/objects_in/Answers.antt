@@ -1,10 +1,7 @@
-use Rattle.due_model.specs.Limits.{max_contacts, max_periods}
-use Rattle.object_reader.specs.declared.block.BlockKind.TheVariants.{Contact, TimePeriod}
+use Rattle.due_model.specs.Limits.{max_periods}
+use Rattle.object_reader.specs.declared.block.BlockKind.TheVariants.{TimePeriod}
 use Rattle.object_resolve.proofs.PlaceLemmas.{few-names}
 use Rattle.object_resolve.proofs.config.objects_in.Goals as goal
-
-pub objects_of-requires-clause-few_contacts : goal.objects_of-requires-clause-few_contacts
-objects_of-requires-clause-few_contacts c = few-names c.args.templates.now Contact max_contacts c.requires.few.contacts
 
 pub objects_of-requires-clause-few_periods : goal.objects_of-requires-clause-few_periods
 objects_of-requires-clause-few_periods c = few-names c.args.templates.now TimePeriod max_periods c.requires.few.periods

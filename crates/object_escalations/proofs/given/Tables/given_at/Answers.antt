@@ -8,8 +8,8 @@ use Rattle.object_readings.specs.Readings.{letters_at, number_at, own_number, ow
 use Rattle.object_escalations.proofs.GivenLemmas.{read-are}
 use Rattle.object_escalations.proofs.given.Tables.given_at.Goals as goal
 
-pub returns-clause-given : goal.returns-clause-given
-returns-clause-given c =
+pub returns : goal.returns
+returns c =
     let blocks = c.args.self.now in
     let inside = c.self.inside.blocks.now in
     let times = c.self.inside.times in
@@ -21,11 +21,11 @@ returns-clause-given c =
       first = c.number_at.ensures ∙ read-are (λ bs d. number_at bs d 0 place) blocks inside (codes "first_notification") times.firsts same c.self.invariant.times_are.firsts_are;
       last = c.number_at-2.ensures ∙ read-are (λ bs d. number_at bs d 0 place) blocks inside (codes "last_notification") times.lasts same c.self.invariant.times_are.lasts_are;
       interval = c.own_number.ensures ∙ read-are (λ bs d. own_number bs d place) blocks inside (codes "notification_interval") times.intervals same c.self.invariant.times_are.intervals_are;
-      period = c.own_period.ensures ∙ ap (λ (periods : List (List ℕ)). own_period periods filters.periods.blocks filters.periods.directive place) c.requires.sources.names
+      period = c.own_period.ensures ∙ ap (λ (periods : List (List ℕ)). own_period periods filters.periods.blocks filters.periods.directive place) c.requires.names
           ∙ read-are (λ bs d. own_period (names_in blocks TimePeriod) bs d place) blocks inside (codes "escalation_period") filters.periods same c.self.invariant.filters_are.periods_are;
       options = c.letters_at.ensures ∙ read-are (λ bs d. letters_at bs d c.args.kind place) blocks inside (codes "escalation_options") filters.options same c.self.invariant.filters_are.options_are;
       lacks = c.gives_neither.ensures
           ∙ ap (λ (bs : List Block). gives_neither bs contact_directives place) listed;
-      contacts = subst (λ (bs : List Block). AreThose (IsListed bs contact_directives place) (map (λ contact. contact.0) c.in_ok-contacts.contacts.items)) listed
-          c.in_ok-contacts.ensures.contacts;
+      contacts = subst (λ (bs : List Block). AreThose (IsListed bs contact_directives place) (map (λ contact. contact.0) c.contacts_at.result.now)) listed
+          c.contacts_at.ensures;
     }
