@@ -1,20 +1,21 @@
 -- What is kept of each block, by what is kept of the templates that it uses.
-use Rattle.std.proofs.Common.{◌≡◌, ℕ, zero, suc, ◌+◌, ◌<◌, ◌≤◌, Bool, true, false, cond, List, [], ◌∷◌, ◌++◌, append_assoc, length, map, drop, get_or, set, Option, Some, None, refl, sym, ap, subst, ⊎_elim, ◌∙◌, Bor, arith}
+use Rattle.std.proofs.Common.{◌≡◌, ℕ, zero, suc, ◌+◌, ◌<◌, ◌≤◌, Bool, true, false, cond, List, [], ◌∷◌, ◌++◌, append_assoc, length, map, drop, take, get_or, set, Option, Some, None, refl, sym, ap, subst, eqb, eq-eqb, inl, inr, ⊎_elim, ◌∙◌, Bor, arith}
 use Rattle.std.specs.Prelude.{All, Contains, find, IfSome, is_some, reverse, unwrap_or}
-use Rattle.std.specs.Option.{option_map, option_to_list}
-use Rattle.std.proofs.lemmas.Bool.{false≢true, cases_lt}
+use Rattle.std.specs.Option.{option_and_then, option_map, option_to_list}
+use Rattle.std.proofs.lemmas.Bool.{cases_eq, cases_lt, false≢true, ne_eqb}
 use Rattle.std.proofs.lemmas.Grind.{get_or_default_zero}
 use Rattle.std.proofs.lemmas.List.{append-nil, get_or_past, get_or-set_other, get_or-set_same, map-append, reverse-append, reverse-reverse}
 use Rattle.graph.specs.Edges.{Leads}
 use Rattle.graph_order.specs.Order.{IsOrder}
 use Rattle.object_reader.specs.declared.block.Block.{Block}
 use Rattle.object_inheritance.specs.Columns.{given_from, HasGiven, HasGivenFrom, HasOwn, IsGivenAt, IsInherited, IsNext, IsOwn, line_of}
-use Rattle.object_inheritance.specs.Givers.{last_at}
+use Rattle.object_inheritance.specs.Givers.{last_at, text_at}
 use Rattle.object_inheritance.specs.Inherited.{AreInherited, first_given, given, own, own_entries, is_additive, joined_entries, list_given, sources, stays}
 use Rattle.object_inheritance.specs.Templates.{template_graph}
 use Rattle.object_values.specs.Values.{texts}
 use Rattle.object_inheritance.specs.declared.givers.OwnText.{OwnText}
 use Rattle.object_inheritance.specs.declared.inherited.Given.{Given}
+use Rattle.object_inheritance.proofs.GiverLemmas.{last-more, take-next}
 use Rattle.object_inheritance.proofs.InheritedLemmas.{given-nowhere, given-past, graph-long, sources-lead}
 use Rattle.object_inheritance.proofs.UseLemmas.{leads-within}
 
@@ -72,16 +73,16 @@ module _ (blocks : List Block) (directive : List ℕ) where
         ∙ ap (given_from blocks directive) (sym found))
 
     pub given-own : (kept : Given) → get_or column place None ≡ Some kept
-        → IsGivenAt blocks directive place (Some (record { text = kept.text; further = further; origin = kept.origin }))
+        → IsGivenAt blocks directive place (Some (record { origin = kept.origin; number = kept.number; further = further }))
     given-own kept is = record {
       line = equation
           ∙ ap (λ (gives : Option (List ℕ)). option_to_list gives ++ given_from blocks directive further)
-          (sym (ap (option_map (λ (one : Given). one.text.now)) (sym is) ∙ next.gives.text));
+          (sym (ap (option_map (λ (one : Given). text_at blocks one.origin one.number)) (sym is) ∙ next.gives.text));
       origin = ap (given blocks directive) (subst (λ (found : Option Given). IfSome found (λ one. one.origin ≡ place)) is next.gives.origin);
     }
 
     none-own : get_or column place None ≡ None → own blocks directive place ≡ None
-    none-own is = sym (ap (option_map (λ (one : Given). one.text.now)) (sym is) ∙ next.gives.text)
+    none-own is = sym (ap (option_map (λ (one : Given). text_at blocks one.origin one.number)) (sym is) ∙ next.gives.text)
 
     pub given-none : get_or column place None ≡ None → further ≡ None → IsGivenAt blocks directive place None
     given-none is none = record {
@@ -101,15 +102,41 @@ module _ (blocks : List Block) (directive : List ℕ) where
 
 -- ---- what blocks give themselves
 
-pub has-own : (givers blocks : List Block) (directive : List ℕ) (given : List OwnText) (column : List (Option Given)) → givers ≡ blocks
-    → ((place : ℕ) → last_at given place ≡ own givers directive place) → ((place : ℕ) → IsOwn place (last_at given place) (get_or column place None)) → HasOwn blocks directive column
-has-own givers blocks directive given column same last each = subst (λ (all : List Block). HasOwn all directive column) same
-    (record { each = λ place. subst (λ (gives : Option (List ℕ)). IsOwn place gives (get_or column place None)) (last place) (each place) })
+own-kept : (blocks : List Block) (one : OwnText) (place : ℕ) (gives : Option (List ℕ)) (kept : Option Given) → one.place ≡ place
+    → gives ≡ Some (text_at blocks one.place one.number) → kept ≡ Some (record { origin = one.place; number = one.number; further = None }) → IsOwn blocks place gives kept
+own-kept blocks one place gives kept here says is = record {
+  text = ap (option_map (λ (x : Given). text_at blocks x.origin x.number)) is ∙ sym says;
+  alone = ap (option_and_then (λ (x : Given). x.further)) is;
+  origin = subst (λ (found : Option Given). IfSome found (λ x. x.origin ≡ place)) (sym is) here;
+}
 
-own-line : (blocks : List Block) (directive : List ℕ) (place : ℕ) (gives : Option (List ℕ)) (kept : Option Given) → IsOwn place gives kept → option_to_list gives ≡ line_of blocks directive kept
+-- one text more in the column
+pub own-written : (blocks : List Block) (texts : List OwnText) (column : List (Option Given)) (i : ℕ) (one d : OwnText) (kept : Option Given)
+    → i < length texts → one ≡ get_or texts i d → one.place < length column → kept ≡ Some (record { origin = one.place; number = one.number; further = None })
+    → ((place : ℕ) → IsOwn blocks place (last_at blocks (take i texts) place) (get_or column place None))
+    → (place : ℕ) → IsOwn blocks place (last_at blocks (take (i + 1) texts) place) (get_or (set column one.place kept) place None)
+own-written blocks texts column i one d kept low is within keeps before place =
+    let last : last_at blocks (take (i + 1) texts) place ≡ cond (eqb one.place place) (Some (text_at blocks one.place one.number)) (last_at blocks (take i texts) place) =
+    ap (λ (all : List OwnText). last_at blocks all place) (take-next texts i d low ∙ ap (λ (x : OwnText). take i texts ++ x ∷ []) (sym is)) ∙ last-more blocks (take i texts) one place in
+    elim (cases_eq one.place place) [
+      | inl same ↦ own-kept blocks one place (last_at blocks (take (i + 1) texts) place) (get_or (set column one.place kept) place None) same
+          (last ∙ ap (λ (b : Bool). cond b (Some (text_at blocks one.place one.number)) (last_at blocks (take i texts) place)) (eq-eqb one.place place same))
+          (ap (λ (q : ℕ). get_or (set column one.place kept) q None) (sym same) ∙ get_or-set_same column one.place kept None within ∙ keeps)
+      | inr other ↦ subst (λ (gives : Option (List ℕ)). IsOwn blocks place gives (get_or (set column one.place kept) place None))
+          (sym (last ∙ ap (λ (b : Bool). cond b (Some (text_at blocks one.place one.number)) (last_at blocks (take i texts) place)) (ne_eqb one.place place other)))
+          (subst (λ (found : Option Given). IsOwn blocks place (last_at blocks (take i texts) place) found)
+          (sym (get_or-set_other column one.place place kept None (λ same. other (sym same)))) (before place))
+    ]
+
+pub has-own : (givers blocks : List Block) (directive : List ℕ) (given : List OwnText) (column : List (Option Given)) → givers ≡ blocks
+    → ((place : ℕ) → last_at givers given place ≡ own givers directive place) → ((place : ℕ) → IsOwn givers place (last_at givers given place) (get_or column place None)) → HasOwn blocks directive column
+has-own givers blocks directive given column same last each = subst (λ (all : List Block). HasOwn all directive column) same
+    (record { each = λ place. subst (λ (gives : Option (List ℕ)). IsOwn givers place gives (get_or column place None)) (last place) (each place) })
+
+own-line : (blocks : List Block) (directive : List ℕ) (place : ℕ) (gives : Option (List ℕ)) (kept : Option Given) → IsOwn blocks place gives kept → option_to_list gives ≡ line_of blocks directive kept
 own-line blocks directive place gives None is = ap option_to_list (sym is.text)
 own-line blocks directive place gives (Some kept) is =
-    ap option_to_list (sym is.text) ∙ ap (λ (further : Option ℕ). kept.text.now ∷ given_from blocks directive further) (sym is.alone)
+    ap option_to_list (sym is.text) ∙ ap (λ (further : Option ℕ). text_at blocks kept.origin kept.number ∷ given_from blocks directive further) (sym is.alone)
 
 own-origin : (blocks : List Block) (directive : List ℕ) (place : ℕ) (kept : Option Given) → IfSome kept (λ one. one.origin ≡ place)
     → IfSome kept (λ one. given blocks directive one.origin ≡ given blocks directive place)
@@ -165,7 +192,7 @@ module _ (blocks : List Block) (directive order : List ℕ) where
       → HasGivenFrom blocks directive order i (set column (get_or order i 0) kept)
   one-kept i column kept low long ordered has here = record {
     ahead = λ j before.
-        subst (λ (x : Option Given). IsOwn (get_or order j 0) (own blocks directive (get_or order j 0)) x)
+        subst (λ (x : Option Given). IsOwn blocks (get_or order j 0) (own blocks directive (get_or order j 0)) x)
         (sym (get_or-set_other column (get_or order i 0) (get_or order j 0) kept None (ordered.once j i 0 before low)))
         (has.ahead j (omega (arith, before)));
     done = λ j from inside. ⊎_elim
@@ -243,6 +270,6 @@ fewer text line beside is = subst (λ rest. length rest < length (text ∷ line)
     by_sign false = omega arith
 
 -- a list that isn't additive
-pub plain-list : (blocks : List Block) (directive : List ℕ) (kept : Given) → is_additive kept.text.now ≡ false
-    → list_given (line_of blocks directive (Some kept)) ≡ Some (own_entries kept.text.now)
-plain-list blocks directive kept is = ap (λ (b : Bool). Some (cond b (joined_entries (given_from blocks directive kept.further)) [] ++ own_entries kept.text.now)) is
+pub plain-list : (blocks : List Block) (directive : List ℕ) (kept : Given) → is_additive (text_at blocks kept.origin kept.number) ≡ false
+    → list_given (line_of blocks directive (Some kept)) ≡ Some (own_entries (text_at blocks kept.origin kept.number))
+plain-list blocks directive kept is = ap (λ (b : Bool). Some (cond b (joined_entries (given_from blocks directive kept.further)) [] ++ own_entries (text_at blocks kept.origin kept.number))) is

@@ -4,6 +4,7 @@ use Rattle.std.specs.Option.{option_and_then, option_map}
 use Rattle.graph.specs.Edges.{Leads}
 use Rattle.object_reader.specs.declared.block.Block.{Block}
 use Rattle.object_inheritance.specs.declared.inherited.Given.{Given}
+use Rattle.object_inheritance.specs.Givers.{text_at}
 use Rattle.object_inheritance.specs.Inherited.{AreInherited, given, own, stays}
 use Rattle.object_inheritance.specs.Templates.{template_graph}
 
@@ -20,7 +21,8 @@ given_from blocks directive (Some place) = given blocks directive place
 -- what is kept stands for these texts, the nearest first
 abbrev pub line_of : List Block → List ℕ → Option Given → List (List ℕ)
 line_of blocks directive None = []
-line_of blocks directive (Some kept) = kept.text.now ∷ given_from blocks directive kept.further
+line_of blocks directive (Some kept) =
+    text_at blocks kept.origin kept.number ∷ given_from blocks directive kept.further
 
 -- what is kept is what is given to the block at the place, and to the one that it comes from
 pub record IsGivenAt (blocks : List Block) (directive : List ℕ) (place : ℕ)
@@ -30,15 +32,17 @@ pub record IsGivenAt (blocks : List Block) (directive : List ℕ) (place : ℕ)
       IfSome kept (λ one. given blocks directive one.origin ≡ given blocks directive place)
 
 -- what is kept is what the block at the place gives itself, and nothing beside it
-pub record IsOwn (place : ℕ) (gives : Option (List ℕ)) (kept : Option Given) : Type 0 where
-  pub text : option_map (λ one. one.text.now) kept ≡ gives
+pub record IsOwn (blocks : List Block) (place : ℕ) (gives : Option (List ℕ))
+    (kept : Option Given) : Type 0 where
+  pub text : option_map (λ one. text_at blocks one.origin one.number) kept ≡ gives
   pub alone : option_and_then (λ one. one.further) kept ≡ None
   pub origin : IfSome kept (λ one. one.origin ≡ place)
 
 -- the column has what each block gives itself
 pub record HasOwn (blocks : List Block) (directive : List ℕ)
     (column : List (Option Given)) : Type 0 where
-  pub each : (place : ℕ) → IsOwn place (own blocks directive place) (slice_index_or column place None)
+  pub each : (place : ℕ) → IsOwn blocks place (own blocks directive place)
+      (slice_index_or column place None)
 
 -- the column has what is given to each block
 pub record HasGiven (blocks : List Block) (directive : List ℕ)
@@ -49,7 +53,7 @@ pub record HasGiven (blocks : List Block) (directive : List ℕ)
 -- give themselves
 pub record HasGivenFrom (blocks : List Block) (directive : List ℕ) (order : List ℕ) (left : ℕ)
     (column : List (Option Given)) : Type 0 where
-  pub ahead : (j : ℕ) → j < left → IsOwn (slice_index order j)
+  pub ahead : (j : ℕ) → j < left → IsOwn blocks (slice_index order j)
       (own blocks directive (slice_index order j))
       (slice_index_or column (slice_index order j) None)
   pub done : (j : ℕ) → left ≤ j → j < length order
@@ -65,6 +69,6 @@ pub record IsInherited (blocks : List Block) (directive : List ℕ) : Type 0 whe
 pub record IsNext (blocks : List Block) (directive : List ℕ) (column : List (Option Given))
     (place : ℕ) : Type 0 where
   pub inherited : IsInherited blocks directive
-  pub gives : IsOwn place (own blocks directive place) (slice_index_or column place None)
+  pub gives : IsOwn blocks place (own blocks directive place) (slice_index_or column place None)
   pub used : (q : ℕ) → Leads (template_graph blocks) place q
       → IsGivenAt blocks directive q (slice_index_or column q None)

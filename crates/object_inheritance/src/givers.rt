@@ -1,42 +1,39 @@
 //! What each block gives for a directive itself, by the directive's name.
 
 ghost use Rattle.std.specs.Prelude.{◌≡◌, ℕ, ◌&&◌, ◌<◌, ◌==◌, ◌^◌, List, length, None, Some, All, IfOk, OnOk};
-ghost use Rattle.std.specs.Prelude.{if◌then◌else◌, IfNone, IfSome};
+ghost use Rattle.std.specs.Prelude.{if◌then◌else◌, slice_get, IfNone, IfSome};
 ghost use Rattle.std.specs.Option.{option_or};
 ghost use Rattle.std.specs.Str.{bytes_eq};
-ghost use Rattle.object_inheritance.specs.Givers.{last_at, own_in};
+ghost use Rattle.object_inheritance.specs.Givers.{last_at, own_in, text_at};
 ghost use Rattle.object_inheritance.specs.Inherited.{own};
 ghost use Rattle.object_values.specs.Values.{value_in};
 
 use indexmap::IndexMap;
-use object_reader::block::{Block, Directive};
+use object_reader::block::Block;
 use std::alloc::{AllocError, Global};
 use std::marker::Model;
 
-/// What a block gives for a directive itself.
+/// Where a text stands that a block gives for a directive itself.
 #[derive(Clone, Copy)]
-pub(crate) struct OwnText<'a> {
-    /// Where the block stands.
+pub(crate) struct OwnText {
+    /// The place of the block.
     pub place: u32,
-    pub text: &'a [u8],
+    /// The number of the directive in the block, from 0.
+    pub number: u32,
 }
 
-/// Adds what the block at the place gives by a directive.
-fn add_directive<'a>(
+/// Adds a text of the directive of that name.
+fn add_text<'a>(
     alloc: Global,
-    by_name: &mut IndexMap<&'a [u8], Vec<OwnText<'a>>>,
-    place: u32,
-    directive: &'a Directive,
+    by_name: &mut IndexMap<&'a [u8], Vec<OwnText>>,
+    name: &'a [u8],
+    own: OwnText,
 ) -> Result<(), AllocError>
-    ensures { OnOk result ((name : List ℕ) (q : ℕ) → own_in by_name.new.entries name q
-        ≡ (if bytes_eq directive.now.name name && place == q then Some directive.now.value
-        else own_in by_name.old.entries name q)) }
+    ensures { OnOk result ((blocks : List Block) (other : List ℕ) (q : ℕ)
+        → own_in blocks by_name.new.entries other q
+        ≡ (if bytes_eq name.now other && own.place == q then Some (text_at blocks own.place own.number)
+        else own_in blocks by_name.old.entries other q)) }
 {
-    let name = directive.name.as_slice();
-    let own = OwnText {
-        place,
-        text: directive.value.as_slice(),
-    };
     match by_name.get_mut(&name) {
         Some(texts) => {
             texts.push(own)?;
@@ -53,27 +50,36 @@ fn add_directive<'a>(
 /// Adds what the block at the place gives by all its directives.
 fn add_block<'a>(
     alloc: Global,
-    by_name: &mut IndexMap<&'a [u8], Vec<OwnText<'a>>>,
+    by_name: &mut IndexMap<&'a [u8], Vec<OwnText>>,
     place: u32,
     block: &'a Block,
 ) -> Result<(), AllocError>
-    ensures { OnOk result ((name : List ℕ) (q : ℕ) → own_in by_name.new.entries name q
+    ensures { OnOk result ((blocks : List Block) → slice_get blocks place ≡ Some block.now
+        → (name : List ℕ) (q : ℕ) → own_in blocks by_name.new.entries name q
         ≡ option_or (if place == q then value_in block.now.directives name else None)
-        (own_in by_name.old.entries name q)) }
+        (own_in blocks by_name.old.entries name q)) }
 {
-    for directive in block.directives.as_slice() {
-        add_directive(alloc, by_name, place, directive)?;
+    let directives = block.directives.as_slice();
+    if directives.len() > u32::MAX as usize {
+        return Err(AllocError);
+    }
+    for (number, directive) in directives.iter().enumerate() {
+        let own = OwnText {
+            place,
+            number: number as u32,
+        };
+        add_text(alloc, by_name, directive.name.as_slice(), own)?;
     }
     Ok(())
 }
 
-/// What the blocks give for each directive themselves. It takes some 24 to 48 bytes a directive. Contracts see
+/// What the blocks give for each directive themselves. It takes some 8 to 16 bytes a directive. Contracts see
 /// the blocks.
 #[derive(Drop)]
 pub(crate) struct Givers<'a> {
     blocks: &'a [Block],
     /// By the names of the directives, in the order of the blocks and of each block's directives.
-    by_name: IndexMap<&'a [u8], Vec<OwnText<'a>>>,
+    by_name: IndexMap<&'a [u8], Vec<OwnText>>,
 }
 
 impl<'a> Model for Givers<'a> {
@@ -103,9 +109,9 @@ impl<'a> Givers<'a> {
 
     /// What the blocks give for a directive; none where no block gives it. Of a block that gives it several times
     /// the last text counts.
-    pub(crate) fn texts(&self, directive: &'a [u8]) -> Option<&[OwnText<'a>]>
+    pub(crate) fn texts(&self, directive: &'a [u8]) -> Option<&[OwnText]>
         ensures last { IfSome result (λ texts. (place : ℕ)
-            → last_at texts.now place ≡ own self.now directive.now place) }
+            → last_at self.now texts.now place ≡ own self.now directive.now place) }
         ensures within { IfSome result (λ texts.
             All (λ one. one.place < length self.now) texts.now) }
         ensures none { IfNone result ((place : ℕ) → own self.now directive.now place ≡ None) }

@@ -6,7 +6,7 @@ ghost use Rattle.std.specs.Prelude.{reverse, slice_index_or, All, IfOk, IfSome, 
 ghost use Rattle.std.specs.Option.{option_copied, option_map};
 ghost use Rattle.object_inheritance.specs.Columns.{given_from, HasGiven, HasOwn, IsGivenAt, IsInherited};
 ghost use Rattle.object_inheritance.specs.Columns.{IsNext, IsOwn, line_of};
-ghost use Rattle.object_inheritance.specs.Givers.{last_at};
+ghost use Rattle.object_inheritance.specs.Givers.{last_at, text_at};
 ghost use Rattle.object_inheritance.specs.Inherited.{given, is_additive, joined_entries, list, name, name_of};
 ghost use Rattle.object_inheritance.specs.Inherited.{own_entries};
 ghost use Rattle.object_inheritance.specs.Inherited.{stays, value};
@@ -73,15 +73,16 @@ fn push_reversed<'a>(
     Ok(())
 }
 
-/// What is given to a block for a directive.
+/// What is given to a block for a directive: where the nearest text stands, the block's own or that of the
+/// template from which the block takes it.
 #[derive(Clone, Copy)]
-pub(crate) struct Given<'a> {
-    /// The nearest text: the block's own, or that of the template from which the block takes it.
-    text: &'a [u8],
-    /// Where the template stands from which the block of that text would take one.
-    further: Option<u32>,
+pub(crate) struct Given {
     /// Where the block of that text stands.
     origin: u32,
+    /// The number of the text's directive in that block, from 0.
+    number: u32,
+    /// Where the template stands from which that block would take a text.
+    further: Option<u32>,
 }
 
 /// The first of the places for which anything is given.
@@ -99,22 +100,22 @@ fn first_with(column: &[Option<Given>], places: &[u32]) -> Option<u32>
 }
 
 /// What the blocks give themselves, where there are so many.
-fn own_column<'a>(
+fn own_column(
     alloc: Global,
     count: usize,
-    texts: &[OwnText<'a>],
-) -> Result<Vec<Option<Given<'a>>>, AllocError>
+    texts: &[OwnText],
+) -> Result<Vec<Option<Given>>, AllocError>
     requires { All (λ own. own.place < count) texts.now }
     ensures long { IfOk result (λ column. length column.items ≡ count) }
-    ensures each { IfOk result (λ column. (place : ℕ) → IsOwn place (last_at texts.now place)
-        (slice_index_or column.items place None)) }
+    ensures each { IfOk result (λ column. (blocks : List Block) (place : ℕ)
+        → IsOwn blocks place (last_at blocks texts.now place) (slice_index_or column.items place None)) }
 {
     let mut column = vec![in alloc; None; count]?;
     for own in texts {
         column[own.place as usize] = Some(Given {
-            text: own.text,
-            further: None,
             origin: own.place,
+            number: own.number,
+            further: None,
         });
     }
     Ok(column)
@@ -122,11 +123,7 @@ fn own_column<'a>(
 
 /// What is given to the block at the place, where the column has what it gives itself, and what is given to
 /// the templates that it uses.
-fn given_at<'a>(
-    templates: &Templates<'a>,
-    column: &[Option<Given<'a>>],
-    place: u32,
-) -> Option<Given<'a>>
+fn given_at(templates: &Templates, column: &[Option<Given>], place: u32) -> Option<Given>
     requires within { place < length templates.now }
     requires long { length column.now ≡ length templates.now }
     ensures { (directive : List ℕ) → IsNext templates.now directive column.now place
@@ -144,13 +141,10 @@ fn given_at<'a>(
 }
 
 /// What is given to the blocks, where the column has what they give themselves.
-fn with_inherited<'a>(
-    templates: &Templates<'a>,
-    own: Vec<Option<Given<'a>>>,
-) -> Vec<Option<Given<'a>>>
+fn with_inherited(templates: &Templates, own: Vec<Option<Given>>) -> Vec<Option<Given>>
     requires { length own.items ≡ length templates.now }
     ensures { (directive : List ℕ) → IsInherited templates.now directive
-        → HasOwn templates.now directive own.entry.items
+        → HasOwn templates.now directive own.items
         → HasGiven templates.now directive result.items }
 {
     let order = templates.order();
@@ -169,7 +163,7 @@ fn given_column<'a>(
     alloc: Global,
     templates: &Templates<'a>,
     directive: &'a [u8],
-) -> Result<Vec<Option<Given<'a>>>, AllocError>
+) -> Result<Vec<Option<Given>>, AllocError>
     ensures { IfOk result (λ column. HasGiven templates.now directive.now column.items) }
 {
     let blocks = templates.blocks();
@@ -183,13 +177,13 @@ fn given_column<'a>(
     Ok(with_inherited(templates, own))
 }
 
-/// What all blocks have for one directive. It takes some 32 bytes a block, and nothing where no block gives the
+/// What all blocks have for one directive. It takes some 20 bytes a block, and nothing where no block gives the
 /// directive itself. Contracts see the blocks and the directive.
 #[derive(Drop)]
 pub struct Values<'a> {
     blocks: &'a [Block],
     directive: &'a [u8],
-    column: Vec<Option<Given<'a>>>,
+    column: Vec<Option<Given>>,
 }
 
 impl<'a> Model for Values<'a> {
@@ -225,13 +219,26 @@ impl<'a> Values<'a> {
     }
 
     /// What is given to the block at the place.
-    fn given(&self, place: usize) -> Option<Given<'a>>
+    fn given(&self, place: usize) -> Option<Given>
         ensures { IsGivenAt self.now.blocks self.now.directive place result }
     {
         if place < self.column.len() {
             self.column[place]
         } else {
             None
+        }
+    }
+
+    /// The text that is given.
+    fn text(&self, given: Given) -> &'a [u8]
+        ensures { result.now ≡ text_at self.now.blocks given.origin given.number }
+    {
+        let Some(block) = self.blocks.get(given.origin as usize) else {
+            return &[];
+        };
+        match block.directives.as_slice().get(given.number as usize) {
+            Some(directive) => directive.value.as_slice(),
+            None => &[],
         }
     }
 
@@ -252,7 +259,7 @@ impl<'a> Values<'a> {
         ensures { option_copied result ≡ value self.now.blocks self.now.directive place }
     {
         match self.given(place) {
-            Some(given) => Some(given.text),
+            Some(given) => Some(self.text(given)),
             None => None,
         }
     }
@@ -269,26 +276,26 @@ impl<'a> Values<'a> {
     }
 
     /// What is given beside an additive list, and nothing beside another.
-    fn beside(&self, given: Given<'a>) -> Option<Given<'a>>
+    fn beside(&self, given: Given) -> Option<Given>
         ensures { line_of self.now.blocks self.now.directive result
-            ≡ (if is_additive given.entry.text.now
-            then given_from self.now.blocks self.now.directive given.entry.further else []) }
+            ≡ (if is_additive (text_at self.now.blocks given.origin given.number)
+            then given_from self.now.blocks self.now.directive given.further else []) }
     {
-        if !is_additive(given.text) {
+        if !is_additive(self.text(given)) {
             return None;
         }
         self.given(given.further? as usize)
     }
 
     /// The entries of the texts that are given, this one first.
-    fn joined(&self, alloc: Global, first: Given<'a>) -> Result<Vec<&'a [u8]>, AllocError>
+    fn joined(&self, alloc: Global, first: Given) -> Result<Vec<&'a [u8]>, AllocError>
         ensures { IfOk result (λ list. texts list.items
-            ≡ joined_entries (line_of self.now.blocks self.now.directive (Some first.entry))) }
+            ≡ joined_entries (line_of self.now.blocks self.now.directive (Some first))) }
     {
         let mut given = Some(first);
         let mut list = Vec::new(alloc);
         while let Some(next) = given {
-            push_reversed(alloc, &mut list, next.text)?;
+            push_reversed(alloc, &mut list, self.text(next))?;
             given = self.beside(next);
         }
         list.as_mut_slice().reverse();
@@ -305,8 +312,9 @@ impl<'a> Values<'a> {
         let Some(nearest) = self.given(place) else {
             return Ok(None);
         };
-        if !is_additive(nearest.text) {
-            return Ok(Some(own_entries(alloc, nearest.text)?));
+        let text = self.text(nearest);
+        if !is_additive(text) {
+            return Ok(Some(own_entries(alloc, text)?));
         }
         Ok(Some(self.joined(alloc, nearest)?))
     }

@@ -122,8 +122,8 @@ fn check_templates(
     Ok(())
 }
 
-/// Blocks whose templates have no fault. It takes 16 bytes a block, 4 a template that a block uses and some 24 to
-/// 48 a directive. Contracts see the blocks.
+/// Blocks whose templates have no fault. It takes 16 bytes a block, 4 a template that a block uses and some 8 to
+/// 16 a directive. Contracts see the blocks.
 #[derive(Drop)]
 pub struct Templates<'a> {
     blocks: &'a [Block],

@@ -12,9 +12,9 @@ returns-in_default c =
 pub returns-then-stays : goal.returns-then-stays
 returns-then-stays c =
     stays-given c.args.templates.now c.args.directive.now c.in_ok-own.own.items c.blocks-blocks.ensures.inherited (sym c.stays.ensures ∙ c.if-stays.true)
-    (has-own c.givers.result.now c.args.templates.now c.args.directive.now c.in-Some.texts.now c.in_ok-own.own.items c.givers.ensures c.in-Some.ensures.last c.in_ok-own.ensures.each)
+    (has-own c.givers.result.now c.args.templates.now c.args.directive.now c.in-Some.texts.now c.in_ok-own.own.items c.givers.ensures c.in-Some.ensures.last (c.in_ok-own.ensures.each c.givers.result.now))
 
 pub returns : goal.returns
 returns c =
     c.with_inherited.ensures c.args.directive.now (record { moves = sym c.stays.ensures ∙ c.if-stays.false; along = c.blocks-blocks.ensures.inherited })
-    (has-own c.givers.result.now c.args.templates.now c.args.directive.now c.in-Some.texts.now c.in_ok-own.own.items c.givers.ensures c.in-Some.ensures.last c.in_ok-own.ensures.each)
+    (has-own c.givers.result.now c.args.templates.now c.args.directive.now c.in-Some.texts.now c.in_ok-own.own.items c.givers.ensures c.in-Some.ensures.last (c.in_ok-own.ensures.each c.givers.result.now))

@@ -1,4 +1,5 @@
-use Rattle.std.proofs.Common.{◌≡◌, None, get_or, length, take, ℕ}
+use Rattle.std.proofs.Common.{◌≡◌, List, None, get_or, length, take, ℕ}
+use Rattle.object_reader.specs.declared.block.Block.{Block}
 use Rattle.object_inheritance.specs.Columns.{IsOwn}
 use Rattle.object_inheritance.specs.Givers.{last_at}
 use Rattle.object_inheritance.proofs.inherited.own_column.Given as goal
@@ -7,5 +8,5 @@ use Rattle.object_inheritance.proofs.inherited.own_column.Given as goal
 abbrev pub invariant-loop-own : goal.invariant-loop-own
 invariant-loop-own l = record {
   long : length l.column.items ≡ l.count;
-  each : (place : ℕ) → IsOwn place (last_at (take l.own-index l.texts) place) (get_or l.column.items place None);
+  each : (blocks : List Block) (place : ℕ) → IsOwn blocks place (last_at blocks (take l.own-index l.texts) place) (get_or l.column.items place None);
 }

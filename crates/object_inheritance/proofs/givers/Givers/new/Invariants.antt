@@ -5,4 +5,4 @@ use Rattle.object_inheritance.proofs.givers.Givers.new.Given as goal
 
 -- What the blocks so far give has been added.
 abbrev pub invariant-loop-place : goal.invariant-loop-place
-invariant-loop-place l = (name : List ℕ) (q : ℕ) → own_in l.by_name.entries name q ≡ own (take l.place l.blocks) name q
+invariant-loop-place l = (name : List ℕ) (q : ℕ) → own_in l.blocks l.by_name.entries name q ≡ own (take l.place l.blocks) name q
