@@ -1,6 +1,7 @@
 //! Configurations that tests are run on.
 
-ghost use Rattle.std.specs.Prelude.{◌≡◌, ◌<◌, ◌∷◌, [], None, All, IfOk, codes, length, replicate};
+ghost use Rattle.std.specs.Prelude.{◌≡◌, ◌<◌, ◌∷◌, [], None, All, IfOk, codes, length};
+ghost use Rattle.std.specs.Prelude.{replicate};
 ghost use Rattle.due_model.specs.Accepted.{IsAccepted};
 ghost use Rattle.due_laws.specs.Rows.{base, web, on_mail, by_mail};
 ghost use Rattle.acceptance_inputs.specs.Parts.{of_parts};

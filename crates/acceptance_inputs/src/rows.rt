@@ -3,8 +3,8 @@
 ghost use Rattle.std.specs.Prelude.{◌≡◌, length, IfOk};
 
 use due_model::config::{
-    Config, Contact, ContactId, ContactList, Dependency, Escalation, Lane, LaneId, Object, ObjectId, Period,
-    PeriodId, Range, Rights,
+    Config, Contact, ContactId, ContactList, Dependency, Escalation, Lane, LaneId, Object,
+    ObjectId, Period, PeriodId, Range, Rights,
 };
 use due_model::limits::MAX_OBJECTS;
 use due_model::objects::Objects;

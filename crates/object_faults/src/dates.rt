@@ -1,13 +1,15 @@
 //! Lines of dates: which a time period has, by itself or by templates (chapters "Time Periods" and "Object
 //! Inheritance").
 
-ghost use Rattle.std.specs.Prelude.{◌≡◌, ℕ, ◌<◌, ◌↔◌, ◌++◌, ◌∷◌, List, [], None, Some, true, false, length, map};
+ghost use Rattle.std.specs.Prelude.{◌≡◌, ℕ, ◌<◌, ◌↔◌, ◌++◌, ◌∷◌, List, [], None};
+ghost use Rattle.std.specs.Prelude.{Some, true, false, length, map};
 ghost use Rattle.std.specs.Prelude.{replicate, reverse, slice_index_or, IfOk, OnOk, if◌then◌else◌};
 ghost use Rattle.std.specs.Option.{option_or, option_to_list};
 ghost use Rattle.std.specs.Str.{bytes_eq};
 ghost use Rattle.object_faults.specs.Columns.{date_at, date_by, IsFirst};
 ghost use Rattle.object_faults.specs.Dated.{dated_line, has_colon, has_time};
-ghost use Rattle.object_faults.specs.Search.{AreDone, HasNoted, IsNext, IsPeriodAt, IsSearch, IsTurn, noted};
+ghost use Rattle.object_faults.specs.Search.{AreDone, HasNoted, IsNext, IsPeriodAt, IsSearch};
+ghost use Rattle.object_faults.specs.Search.{IsTurn, noted};
 ghost use Rattle.object_faults.specs.Search.{period_template, said_by, used_at};
 ghost use Rattle.object_faults.specs.declared.dates.Turn.TheVariants.{Enter, Leave};
 ghost use Rattle.object_inheritance.specs.Inherited.{AreInherited, own, value};

@@ -2,8 +2,10 @@
 
 ghost use Rattle.std.specs.Prelude.{◌≡◌};
 ghost use Rattle.object_faults.specs.Lists.{is_list_of, list_directive};
-ghost use Rattle.object_inheritance.specs.Kinds.{has_contacts, is_contact, is_contact_group, is_dependency};
-ghost use Rattle.object_inheritance.specs.Kinds.{is_group, is_host, is_host_group, is_period, is_service};
+ghost use Rattle.object_inheritance.specs.Kinds.{has_contacts, is_contact, is_contact_group};
+ghost use Rattle.object_inheritance.specs.Kinds.{is_dependency};
+ghost use Rattle.object_inheritance.specs.Kinds.{is_group, is_host, is_host_group, is_period};
+ghost use Rattle.object_inheritance.specs.Kinds.{is_service};
 ghost use Rattle.object_inheritance.specs.Kinds.{is_service_dependency, is_service_group};
 ghost use Rattle.object_inheritance.specs.Kinds.{lists_hosts, lists_services};
 

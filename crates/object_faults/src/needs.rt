@@ -2,7 +2,8 @@
 
 ghost use Rattle.std.specs.Prelude.{◌≡◌, ◌==◌, not, length, IfOk};
 ghost use Rattle.object_faults.specs.Faults.{has_hosts, has_services, is_listed, lacks};
-ghost use Rattle.object_faults.specs.Tables.{description_directive, group_directive, host_directive};
+ghost use Rattle.object_faults.specs.Tables.{description_directive, group_directive};
+ghost use Rattle.object_faults.specs.Tables.{host_directive};
 ghost use Rattle.object_faults.specs.Tables.{masters_alone, needed, service_group_directive};
 ghost use Rattle.object_groups.specs.Objects.{list_at};
 

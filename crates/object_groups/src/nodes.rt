@@ -1,11 +1,13 @@
 //! The edges of the graph in which members are found.
 
-ghost use Rattle.std.specs.Prelude.{◌≡◌, ◌+◌, ◌<◌, ◌^◌, ◌++◌, ◌∷◌, [], length, List};
+ghost use Rattle.std.specs.Prelude.{◌≡◌, ◌+◌, ◌<◌, ◌^◌, ◌++◌, ◌∷◌, [], length};
+ghost use Rattle.std.specs.Prelude.{List};
 ghost use Rattle.std.specs.Prelude.{map, IfOk, IfSome, OnErr, OnOk};
 ghost use Rattle.graph.specs.declared.edges.Edge.{Edge};
 ghost use Rattle.std.specs.Option.{option_to_list};
 ghost use Rattle.object_groups.specs.Names.{numbers_of};
-ghost use Rattle.object_groups.specs.Nodes.{all_groups, all_objects, edge, edges_of_group, edges_of_object};
+ghost use Rattle.object_groups.specs.Nodes.{all_groups, all_objects, edge, edges_of_group};
+ghost use Rattle.object_groups.specs.Nodes.{edges_of_object};
 ghost use Rattle.object_groups.specs.Nodes.{group_node, node_count, nodes_of, of_all_groups};
 ghost use Rattle.object_values.specs.Values.{texts};
 

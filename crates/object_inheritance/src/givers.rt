@@ -1,6 +1,7 @@
 //! What each block gives for a directive itself, by the directive's name.
 
-ghost use Rattle.std.specs.Prelude.{◌≡◌, ℕ, ◌&&◌, ◌<◌, ◌==◌, ◌^◌, List, length, None, Some, All, IfOk, OnOk};
+ghost use Rattle.std.specs.Prelude.{◌≡◌, ℕ, ◌&&◌, ◌<◌, ◌==◌, ◌^◌, List, length, None};
+ghost use Rattle.std.specs.Prelude.{Some, All, IfOk, OnOk};
 ghost use Rattle.std.specs.Prelude.{if◌then◌else◌, slice_get, IfNone, IfSome};
 ghost use Rattle.std.specs.Option.{option_or};
 ghost use Rattle.std.specs.Str.{bytes_eq};

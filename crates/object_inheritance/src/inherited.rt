@@ -1,13 +1,17 @@
 //! What each block has for a directive: what it gives itself, or else what it takes from a template
 //! (chapter "Object Inheritance").
 
-ghost use Rattle.std.specs.Prelude.{◌≡◌, ℕ, ◌<◌, ◌++◌, List, [], None, Some, length, find, is_some};
-ghost use Rattle.std.specs.Prelude.{reverse, slice_index_or, All, IfOk, IfSome, OnOk, if◌then◌else◌};
+ghost use Rattle.std.specs.Prelude.{◌≡◌, ℕ, ◌<◌, ◌++◌, List, [], None, Some, length, find};
+ghost use Rattle.std.specs.Prelude.{is_some};
+ghost use Rattle.std.specs.Prelude.{reverse, slice_index_or, All, IfOk, IfSome, OnOk};
+ghost use Rattle.std.specs.Prelude.{if◌then◌else◌};
 ghost use Rattle.std.specs.Option.{option_copied, option_map};
-ghost use Rattle.object_inheritance.specs.Columns.{given_from, HasGiven, HasOwn, IsGivenAt, IsInherited};
+ghost use Rattle.object_inheritance.specs.Columns.{given_from, HasGiven, HasOwn, IsGivenAt};
+ghost use Rattle.object_inheritance.specs.Columns.{IsInherited};
 ghost use Rattle.object_inheritance.specs.Columns.{IsNext, IsOwn, line_of};
 ghost use Rattle.object_inheritance.specs.Givers.{last_at, text_at};
-ghost use Rattle.object_inheritance.specs.Inherited.{given, is_additive, joined_entries, list, name, name_of};
+ghost use Rattle.object_inheritance.specs.Inherited.{given, is_additive, joined_entries, list};
+ghost use Rattle.object_inheritance.specs.Inherited.{name, name_of};
 ghost use Rattle.object_inheritance.specs.Inherited.{own_entries};
 ghost use Rattle.object_inheritance.specs.Inherited.{stays, value};
 ghost use Rattle.object_values.specs.Values.{texts};

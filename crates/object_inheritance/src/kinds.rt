@@ -1,10 +1,12 @@
 //! The types of blocks: their numbers, which tell whether two blocks are of one type, and which types are of one kind.
 
 ghost use Rattle.std.specs.Prelude.{◌≡◌};
-ghost use Rattle.object_inheritance.specs.Kinds.{has_contacts, is_contact, is_contact_group, is_dependency};
+ghost use Rattle.object_inheritance.specs.Kinds.{has_contacts, is_contact, is_contact_group};
+ghost use Rattle.object_inheritance.specs.Kinds.{is_dependency};
 ghost use Rattle.object_inheritance.specs.Kinds.{is_escalation, is_group, is_host, is_host_group};
 ghost use Rattle.object_inheritance.specs.Kinds.{is_host_or_service, is_period, is_service};
-ghost use Rattle.object_inheritance.specs.Kinds.{is_service_dependency, is_service_group, lists_hosts};
+ghost use Rattle.object_inheritance.specs.Kinds.{is_service_dependency, is_service_group};
+ghost use Rattle.object_inheritance.specs.Kinds.{lists_hosts};
 ghost use Rattle.object_inheritance.specs.Kinds.{lists_services, means_nothing};
 ghost use Rattle.object_inheritance.specs.Templates.{kind_number};
 

@@ -7,7 +7,8 @@ ghost use Rattle.object_groups.specs.declared.groups.GroupKind.TheVariants.{Cont
 ghost use Rattle.object_groups.specs.Objects.{names_in};
 ghost use Rattle.object_listing.specs.Contacts.{AddsList, AreContactsAt, AreFound, AreOfContacts};
 ghost use Rattle.object_listing.specs.Contacts.{lists_in};
-ghost use Rattle.object_listing.specs.Listing.{AreThose, contact_directives, gives_neither, IsListed};
+ghost use Rattle.object_listing.specs.Listing.{AreThose, contact_directives, gives_neither};
+ghost use Rattle.object_listing.specs.Listing.{IsListed};
 ghost use Rattle.object_reader.specs.declared.block.BlockKind.TheVariants.{Contact};
 
 use crate::listing::Listing;

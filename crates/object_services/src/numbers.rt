@@ -2,7 +2,8 @@
 
 ghost use Rattle.std.specs.Prelude.{◌≡◌, ◌<◌, ◌++◌, ◌∷◌, List, [], length, map};
 ghost use Rattle.std.specs.Prelude.{IfOk, IfSome, OnOk};
-ghost use Rattle.object_services.specs.Numbers.{HasPlaces, Pair, pairs_in, pairs_of, service_number};
+ghost use Rattle.object_services.specs.Numbers.{HasPlaces, Pair, pairs_in, pairs_of};
+ghost use Rattle.object_services.specs.Numbers.{service_number};
 
 use crate::services::ServiceHosts;
 use indexmap::IndexMap;
