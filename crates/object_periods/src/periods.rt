@@ -10,7 +10,7 @@ use crate::days::Week;
 use crate::excludes::listed_at;
 use due_model::config::{Period, PeriodId};
 use due_model::sequence::Sequence;
-use due_model::text::Text;
+use due_model::short_list::Text;
 use object_groups::names::Names;
 use object_groups::objects::Objects;
 use object_inheritance::inherited::Values;
