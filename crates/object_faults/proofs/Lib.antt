@@ -1,4 +1,5 @@
 pub mod FirstLemmas
+pub mod KnownLemmas
 pub mod TableLemmas
 pub mod NeedLemmas
 mod RankLemmas

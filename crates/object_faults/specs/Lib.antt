@@ -3,5 +3,6 @@ pub mod Dated
 pub mod Faults
 pub mod Lists
 pub mod Columns
+pub mod Known
 pub mod Needs
 pub mod Search

@@ -1,12 +1,13 @@
 //! The first block with a fault, directive by directive.
 
-ghost use Rattle.std.specs.Prelude.{◌≡◌, false, length, IfOk};
+ghost use Rattle.std.specs.Prelude.{◌≡◌, false, length, IfOk, IfSome, List};
 ghost use Rattle.std.specs.List.{list_any};
 ghost use Rattle.std.specs.Option.{option_map_or};
 ghost use Rattle.object_faults.specs.Columns.{column_fault, directive_of, earlier};
 ghost use Rattle.object_faults.specs.Columns.{fault_at, first_at, IsFirst, lower, rank};
 ghost use Rattle.object_faults.specs.Columns.{registered_fault, side_at, side_fault};
 ghost use Rattle.object_faults.specs.Faults.{breaks, is_broken, is_registered};
+ghost use Rattle.object_faults.specs.Known.{AreKnown};
 ghost use Rattle.object_groups.specs.Names.{is_exclusion};
 ghost use Rattle.object_groups.specs.Objects.{list_at};
 ghost use Rattle.object_inheritance.specs.Inherited.{value};
@@ -17,7 +18,7 @@ use crate::needs::{Needs, Side};
 use object_groups::names::has_exclusion;
 use object_groups::objects::list_at;
 use object_inheritance::inherited::Values;
-use object_inheritance::kinds::means_nothing;
+use object_inheritance::kinds::{kind_number, means_nothing};
 use object_inheritance::registered::registers;
 use object_inheritance::templates::Templates;
 use object_reader::block::{Block, BlockKind};
@@ -96,23 +97,88 @@ fn column_fault(
     }
 }
 
-/// The same, if the block is registered. That is asked only where blocks of the type have the directive.
+/// The fault of what the block at a place has for a directive, as one of that type.
+#[derive(Clone, Copy)]
+pub(crate) struct Judged {
+    kind: BlockKind,
+    fault: Option<ValueFault>,
+}
+
+/// What was found of the block at the place, as one of the type.
+fn known_at(known: &[Option<Judged>], kind: BlockKind, place: usize) -> Option<Judged>
+    ensures { (blocks : List Block) (column : Column) → AreKnown blocks column known.now
+        → IfSome result (λ one. one.fault ≡ column_fault blocks place kind column) }
+{
+    if place >= known.len() {
+        return None;
+    }
+    let one = known[place]?;
+    if kind_number(one.kind) == kind_number(kind) {
+        Some(one)
+    } else {
+        None
+    }
+}
+
+/// Keeps what was found of the block at the place, if there is one.
+fn keep(known: &mut [Option<Judged>], place: usize, one: Judged)
+    ensures { (blocks : List Block) (column : Column) → AreKnown blocks column known.old
+        → one.fault ≡ column_fault blocks place one.kind column
+        → AreKnown blocks column known.new }
+{
+    if place < known.len() {
+        known[place] = Some(one);
+    }
+}
+
+/// The fault of what a block of the type has for the directive of the values. What it has from a template is
+/// looked at where the template gives it, once for all blocks of the type that have it from there.
+fn known_fault(
+    alloc: Global,
+    values: &Values,
+    known: &mut [Option<Judged>],
+    column: Column,
+    kind: BlockKind,
+    place: usize,
+) -> Result<Option<ValueFault>, AllocError>
+    requires directive { values.now.directive ≡ directive_of column }
+    requires known { AreKnown values.now.blocks column known.old }
+    ensures fault { IfOk result (λ fault. fault
+        ≡ column_fault values.now.blocks place kind column) }
+    ensures known { AreKnown values.now.blocks column known.new }
+{
+    let origin = values.origin(place);
+    if let Some(one) = known_at(known, kind, origin) {
+        return Ok(one.fault);
+    }
+    let fault = column_fault(alloc, values, column, kind, origin)?;
+    keep(known, origin, Judged { kind, fault });
+    Ok(fault)
+}
+
+/// The same, if the block is registered. That is asked only where there is a fault.
 fn registered_fault(
     alloc: Global,
     values: &Values,
+    known: &mut [Option<Judged>],
     column: Column,
     block: &Block,
     place: usize,
 ) -> Result<Option<ValueFault>, AllocError>
-    requires { values.now.directive ≡ directive_of column }
-    ensures { IfOk result (λ fault. fault
+    requires directive { values.now.directive ≡ directive_of column }
+    requires known { AreKnown values.now.blocks column known.old }
+    ensures fault { IfOk result (λ fault. fault
         ≡ registered_fault values.now.blocks place column block.now) }
+    ensures known { AreKnown values.now.blocks column known.new }
 {
-    match check_of(column, block.kind) {
+    if check_of(column, block.kind).is_none() {
+        return Ok(None);
+    }
+    match known_fault(alloc, values, known, column, block.kind, place)? {
         None => Ok(None),
-        Some(_) => {
+        Some(fault) => {
             if is_registered(block) {
-                column_fault(alloc, values, column, block.kind, place)
+                Ok(Some(fault))
             } else {
                 Ok(None)
             }
@@ -129,8 +195,11 @@ fn first_of_column(
     ensures { IfOk result (IsFirst (length templates.now) (fault_at templates.now column)) }
 {
     let values = Values::new(alloc, templates, directive_of(column).as_bytes())?;
-    for (place, block) in templates.blocks().iter().enumerate() {
-        match registered_fault(alloc, &values, column, block, place)? {
+    let blocks = templates.blocks();
+    let mut kept = vec![in alloc; None; blocks.len()]?;
+    let known = kept.as_mut_slice();
+    for (place, block) in blocks.iter().enumerate() {
+        match registered_fault(alloc, &values, known, column, block, place)? {
             None => {}
             Some(fault) => return Ok(Some(Found { place, fault })),
         }

@@ -1,43 +1,24 @@
-use Rattle.std.proofs.Common.{◌≡◌, ◌∙◌, ◌<◌, List, Some, None, ap, arith, get_or, length, refl, sym}
+use Rattle.std.proofs.Common.{◌≡◌, ◌∙◌, ◌<◌, List, None, ap, arith, get_or, length, refl, subst, sym}
 use Rattle.std.proofs.lemmas.Option.{slice_get_read}
 use Rattle.object_reader.specs.declared.block.Block.{Block}
 use Rattle.object_faults.specs.Columns.{fault_at}
+use Rattle.object_faults.specs.Known.{AreKnown}
 use Rattle.object_faults.proofs.FirstLemmas.{at-place, none-more}
 use Rattle.object_faults.proofs.first.first_of_column.Goals as goal
-
-pub registered_fault-requires : goal.registered_fault-requires
-registered_fault-requires c = ap (λ values. values.directive) c.in_ok-values.ensures ∙ c.as_bytes.ensures.value ∙ c.directive_of.ensures
-
-pub loop-place-init : goal.loop-place-init
-loop-place-init c k low = absurd (omega (arith, low))
-
-pub returns-in-Some : goal.returns-in-Some
-returns-in-Some c =
-    let blocks = c.args.templates.now in
-    let i = c.loop-place.place in
-    let x = c.block-item.result in
-    let long = ap (λ (list : List Block). length list) c.blocks-block-items.ensures.value in
-    let within : i < length blocks = omega (arith, long, c.loop-place-test.true) in
-    let is : x ≡ get_or blocks i x = c.block-item.is ∙ ap (λ (list : List Block). get_or list i x) c.blocks-block-items.ensures.value in (
-      within,
-      at-place blocks c.in_ok-values.values.blocks c.args.column i x (Some c.in-Some.fault) (slice_get_read blocks (length blocks) i x refl within is)
-          (ap (λ values. values.blocks) c.in_ok-values.ensures) (sym c.in-Some.is ∙ c.in_ok-registered_fault.ensures),
-      c.loop-place.invariant,
-    )
 
 pub loop-place-preserved : goal.loop-place-preserved
 loop-place-preserved c =
     let blocks = c.args.templates.now in
     let i = c.loop-place.place in
-    let x = c.block-item.result in
-    let long = ap (λ (list : List Block). length list) c.blocks-block-items.ensures.value in
+    let x = c.index-blocks-place.result in
+    let same = ap (λ values. values.blocks) c.in_ok-values.ensures in
+    let long = ap (λ (list : List Block). length list) c.blocks-blocks.ensures.value in
     let within : i < length blocks = omega (arith, long, c.loop-place-test.true) in
-    let is : x ≡ get_or blocks i x = c.block-item.is ∙ ap (λ (list : List Block). get_or list i x) c.blocks-block-items.ensures.value in
-    none-more (fault_at blocks c.args.column) i c.loop-place.invariant
-    (at-place blocks c.in_ok-values.values.blocks c.args.column i x None (slice_get_read blocks (length blocks) i x refl within is)
-    (ap (λ values. values.blocks) c.in_ok-values.ensures) (sym c.in-None.is ∙ c.in_ok-registered_fault.ensures))
-
-pub returns : goal.returns
-returns c k low =
-    let long = ap (λ (list : List Block). length list) c.blocks-block-items.ensures.value in
-    c.loop-place.invariant k (omega (arith, low, long, c.loop-place-test.false))
+    let is : x ≡ get_or blocks i x = c.index-blocks-place.is ∙ ap (λ (list : List Block). get_or list i x) c.blocks-blocks.ensures.value in
+    record {
+      none =
+          none-more (fault_at blocks c.args.column) i c.loop-place.invariant.none
+          (at-place blocks c.in_ok-values.values.blocks c.args.column i x None (slice_get_read blocks (length blocks) i x refl within is)
+          same (sym c.in-None.is ∙ c.in_ok-registered_fault.ensures.fault));
+      known = subst (λ (all : List Block). AreKnown all c.args.column c.registered_fault.new.known) same c.in_ok-registered_fault.ensures.known;
+    }
