@@ -12,7 +12,6 @@ use object_reader::block::Block;
 use object_reader::reading::read;
 use object_service_groups::groups::ServiceGroups;
 use object_services::blocks::ServiceBlocks;
-use object_services::numbers::ServiceNumbers;
 use object_services::services::ServiceHosts;
 use std::alloc::{AllocError, Global};
 
@@ -50,9 +49,8 @@ fn answer_with_lists<'a, Q: Question>(
     requires lists { AreHostLists templates.now (objects_in templates.now Service) lists.now }
     requires hosts { hosts.old ≡ record { blocks = templates.now; kind = HostGroups } }
 {
-    let numbers = ServiceNumbers::new(alloc, services.objects().names(), lists)?;
     let names = hosts.objects().names();
-    let mut groups = ServiceGroups::new(alloc, templates, services, lists, &numbers, names)?;
+    let mut groups = ServiceGroups::new(alloc, templates, services, lists, names)?;
     question.answer(alloc, out, templates, services, lists, hosts, &mut groups)
 }
 

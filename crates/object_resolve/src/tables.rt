@@ -12,7 +12,6 @@ use object_inheritance::templates::Templates;
 use object_names::named::{NamedKind, NamedObjects};
 use object_service_groups::groups::ServiceGroups;
 use object_services::blocks::ServiceBlocks;
-use object_services::numbers::ServiceNumbers;
 use object_services::services::ServiceHosts;
 use std::alloc::{AllocError, Global};
 
@@ -59,7 +58,6 @@ pub(crate) fn groups_in<'a>(
     ensures { IfOk result (λ made. made ≡ templates.now) }
 {
     let services = &tables.services;
-    let numbers = ServiceNumbers::new(alloc, services.objects().names(), hosts)?;
     let names = tables.objects.objects(NamedKind::Host).names();
-    ServiceGroups::new(alloc, templates, services, hosts, &numbers, names)
+    ServiceGroups::new(alloc, templates, services, hosts, names)
 }

@@ -101,7 +101,7 @@ edges-are g middle first none one two all middle_is first_is empty groups blocks
     ∙ ap (λ (f : ℕ). flat_map (group_edges f g.named g.subgroups) (range_with_len 0 (length g.named)) ++ flat_map (block_edges (length g.owners) f g.own_groups) (range_with_len 0 (length g.own_groups)) ++ owner_edges (length g.owners) g.owners) first_is
 
 pub all-edges : (blocks : List Block) (lists : List (List ℕ)) (services : List Pair) (owners : List ℕ) (middle first : ℕ) (none one two all : List Edge)
-    → services ≡ pairs_of (names_in blocks Service) lists → owners ≡ owners_of lists → middle ≡ length services → first ≡ length services + length (objects_in blocks Service) → none ≡ []
+    → services ≡ pairs_of (names_in blocks Service) lists → owners ≡ owners_of lists → middle ≡ length owners → first ≡ length owners + length (objects_in blocks Service) → none ≡ []
     → one ≡ none ++ flat_map (group_edges first (named_in blocks services) (groups_in blocks ServiceGroup (codes "servicegroup_members"))) (range_with_len 0 (length (objects_in blocks ServiceGroup)))
     → two ≡ one ++ flat_map (block_edges middle first (groups_in blocks Service (codes "servicegroups"))) (range_with_len 0 (length (objects_in blocks Service)))
     → all ≡ two ++ owner_edges middle owners → all ≡ edges_in (grouping blocks lists)
@@ -109,11 +109,10 @@ all-edges blocks lists services owners middle first none one two all services_ar
     let g = grouping blocks lists in
     let pairs = pairs_of (names_in blocks Service) lists in
     let subgroups = groups_in blocks ServiceGroup (codes "servicegroup_members") in
-    let count = ap (λ (ps : List Pair). length ps) services_are in
-    let long = owners-long (names_in blocks Service) lists in
+    let count = ap (λ (os : List ℕ). length os) owners_are in
     let blocks_long = groups-long blocks Service (codes "servicegroups") in
-    let middle_same : middle ≡ length g.owners = omega (arith, middle_is, count, long) in
-    let first_same : first ≡ first_group g = omega (arith, first_is, count, long, blocks_long) in
+    let middle_same : middle ≡ length g.owners = omega (arith, middle_is, count) in
+    let first_same : first ≡ first_group g = omega (arith, first_is, count, blocks_long) in
     edges-are g middle first none one two all middle_same first_same empty
     (groups ∙ ap (λ (ps : List Pair). none ++ flat_map (group_edges first (named_in blocks ps) subgroups) (range_with_len 0 (length (objects_in blocks ServiceGroup)))) services_are
     ∙ ap (λ (n : ℕ). none ++ flat_map (group_edges first (named_in blocks pairs) subgroups) (range_with_len 0 n)) (sym (named-long blocks pairs)))
@@ -164,35 +163,31 @@ members-within blocks lists group service (last, reaches, inr (block, is, named)
     omega (arith, low, long)
 
 -- how many nodes there are
-pub count-is : (blocks : List Block) (lists : List (List ℕ)) (services : List Pair) → services ≡ pairs_of (names_in blocks Service) lists
-    → first_group (grouping blocks lists) + length (named_in blocks (pairs_of (names_in blocks Service) lists)) ≡ length services + length (objects_in blocks Service) + length (objects_in blocks ServiceGroup)
-count-is blocks lists services are =
-    let count = ap (λ (ps : List Pair). length ps) are in
-    let long = owners-long (names_in blocks Service) lists in
+pub count-is : (blocks : List Block) (lists : List (List ℕ)) (owners : List ℕ) → owners ≡ owners_of lists
+    → first_group (grouping blocks lists) + length (named_in blocks (pairs_of (names_in blocks Service) lists)) ≡ length owners + length (objects_in blocks Service) + length (objects_in blocks ServiceGroup)
+count-is blocks lists owners are =
+    let count = ap (λ (os : List ℕ). length os) are in
     let blocks_long = groups-long blocks Service (codes "servicegroups") in
     let named_long = named-long blocks (pairs_of (names_in blocks Service) lists) in
-    omega (arith, count, long, blocks_long, named_long)
+    omega (arith, count, blocks_long, named_long)
 
 -- ---- what is kept
 
-pub kept-are : (templates blocks : List Block) (groups : ObjectsOf) (lists : List (List ℕ)) (numbers : List Pair) (services first searched : ℕ) (graph : List (List ℕ))
+pub kept-are : (templates blocks : List Block) (groups : ObjectsOf) (lists : List (List ℕ)) (owners : List ℕ) (services first searched : ℕ) (graph : List (List ℕ))
     → blocks ≡ templates → groups ≡ record { blocks = templates; kind = ServiceGroup } → AreHostLists templates (objects_in templates Service) lists
-    → numbers ≡ pairs_of (names_in templates Service) lists → services ≡ length numbers → first ≡ length numbers + length (objects_in templates Service)
+    → owners ≡ owners_of lists → services ≡ length owners → first ≡ length owners + length (objects_in templates Service)
     → IsGraphOf (grouping templates lists) graph → length graph < 2 ^ 32 → searched ≡ length graph → AreServiceGroups blocks groups services first graph searched
-kept-are templates blocks groups lists numbers services first searched graph same groups_are are numbers_are services_are first_is has few searched_is =
+kept-are templates blocks groups lists owners services first searched graph same groups_are are owners_are services_are first_is has few searched_is =
     subst (λ (bs : List Block). AreServiceGroups bs groups services first graph searched) (sym same) (record {
       group_table = groups_are;
       has_nodes = λ other given. subst (λ (ls : List (List ℕ)). AreNodes (grouping templates ls) services first graph) (hosts-one templates (objects_in templates Service) lists other are given) nodes;
-      count = (let all = has.count in omega (arith, all, long, blocks_long, named_long, count, first_is));
+      count = (let all = has.count in omega (arith, all, blocks_long, named_long, count, first_is));
       few = few;
       has_search = searched_is;
     })
   where
-    count : length numbers ≡ length (pairs_of (names_in templates Service) lists)
-    count = ap (λ (ps : List Pair). length ps) numbers_are
-
-    long : length (owners_of lists) ≡ length (pairs_of (names_in templates Service) lists)
-    long = owners-long (names_in templates Service) lists
+    count : length owners ≡ length (owners_of lists)
+    count = ap (λ (os : List ℕ). length os) owners_are
 
     blocks_long : length (groups_in templates Service (codes "servicegroups")) ≡ length (objects_in templates Service)
     blocks_long = groups-long templates Service (codes "servicegroups")
@@ -202,7 +197,7 @@ kept-are templates blocks groups lists numbers services first searched graph sam
 
     nodes : AreNodes (grouping templates lists) services first graph
     nodes = record {
-      services_are = omega (arith, services_are, count, long);
-      first_is = omega (arith, first_is, count, long, blocks_long);
+      services_are = omega (arith, services_are, count);
+      first_is = omega (arith, first_is, count, blocks_long);
       graph_is = has;
     }

@@ -55,12 +55,12 @@ pub record AreNodes (g : Grouping) (services first : ℕ) (graph : List (List �
   pub first_is : first ≡ first_group g
   pub graph_is : IsGraphOf g graph
 
--- these are the service blocks, their hosts, the services, the names of the hosts, and the groups
+-- these are the service blocks, their hosts, the blocks of the services, the names of the hosts, and the groups
 pub record AreTables (blocks : List Block) (services : ObjectsOf) (lists : List (List ℕ))
-    (pairs : List Pair) (hosts : List (List ℕ)) (groups : ObjectsOf) : Type 0 where
+    (owners : List ℕ) (hosts : List (List ℕ)) (groups : ObjectsOf) : Type 0 where
   pub service_blocks : services ≡ record { blocks = blocks; kind = Service }
   pub host_lists : AreHostLists blocks (objects_in blocks Service) lists
-  pub pairs_are : pairs ≡ pairs_of (names_in blocks Service) lists
+  pub owners_are : owners ≡ owners_of lists
   pub host_names : hosts ≡ names_in blocks Host
   pub group_table : groups ≡ record { blocks = blocks; kind = ServiceGroup }
 

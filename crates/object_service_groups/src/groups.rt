@@ -86,8 +86,8 @@ fn push_group_at<'a>(
     )
 }
 
-/// Adds the edges of all groups.
-fn push_groups<'a>(
+/// Adds the edges of all groups, where these are the services.
+fn push_listed<'a>(
     alloc: Global,
     edges: &mut Vec<Edge>,
     templates: &Templates<'a>,
@@ -114,6 +114,34 @@ fn push_groups<'a>(
         )?;
     }
     Ok(())
+}
+
+/// Adds the edges of all groups. The services are numbered only where there is a group.
+fn push_groups<'a>(
+    alloc: Global,
+    edges: &mut Vec<Edge>,
+    templates: &Templates<'a>,
+    hosts: &Names<'a>,
+    descriptions: &Names<'a>,
+    lists: &ServiceHosts,
+    groups: &Objects<'a>,
+    first: u32,
+) -> Result<(), AllocError>
+    requires hosts { hosts.now ≡ names_in templates.now Host }
+    requires groups { groups.now ≡ record { blocks = templates.now; kind = ServiceGroup } }
+    requires few { first + length (objects_in templates.now ServiceGroup) < 2 ^ 32 }
+    requires few_services { length (pairs_of descriptions.now lists.now) < 2 ^ 32 }
+    ensures { OnOk result (edges.new.items ≡ edges.old.items
+        ++ flat_map (group_edges first
+        (named_in templates.now (pairs_of descriptions.now lists.now))
+        (groups_in templates.now ServiceGroup (codes "servicegroup_members")))
+        (range_with_len 0 (length (objects_in templates.now ServiceGroup)))) }
+{
+    if groups.places().is_empty() {
+        return Ok(());
+    }
+    let services = ServiceNumbers::new(alloc, descriptions, lists)?;
+    push_listed(alloc, edges, templates, hosts, &services, groups, first)
 }
 
 /// Adds the edges of the service block of that node, which stands at the place.
@@ -162,29 +190,38 @@ fn push_blocks<'a>(
     Ok(())
 }
 
-/// All edges of the graph in which the members are found: `middle` is the node of the first service block, and
-/// `first` that of the first group.
+/// All edges of the graph in which the members are found: `owners` are the blocks of the services, `middle` is the
+/// node of the first service block, and `first` that of the first group.
 fn edges_of<'a>(
     alloc: Global,
     templates: &Templates<'a>,
     blocks: &Objects<'a>,
     lists: &ServiceHosts,
-    services: &ServiceNumbers<'a>,
+    owners: &[usize],
     hosts: &Names<'a>,
     groups: &Objects<'a>,
     middle: u32,
     first: u32,
 ) -> Result<Vec<Edge>, AllocError>
-    requires tables { AreTables templates.now blocks.now lists.now services.now hosts.now
+    requires tables { AreTables templates.now blocks.now lists.now owners.now hosts.now
         groups.now }
-    requires middle { middle ≡ length services.now }
-    requires first { first ≡ length services.now + length (objects_in templates.now Service) }
+    requires middle { middle ≡ length owners.now }
+    requires first { first ≡ length owners.now + length (objects_in templates.now Service) }
     requires few { first + length (objects_in templates.now ServiceGroup) < 2 ^ 32 }
     ensures { IfOk result (λ edges. edges.items ≡ edges_in (grouping templates.now lists.now)) }
 {
-    let owners = owners_of(alloc, lists)?;
     let mut edges = Vec::new(alloc);
-    push_groups(alloc, &mut edges, templates, hosts, services, groups, first)?;
+    let descriptions = blocks.names();
+    push_groups(
+        alloc,
+        &mut edges,
+        templates,
+        hosts,
+        descriptions,
+        lists,
+        groups,
+        first,
+    )?;
     push_blocks(
         alloc,
         &mut edges,
@@ -194,31 +231,31 @@ fn edges_of<'a>(
         middle,
         first,
     )?;
-    push_owners(&mut edges, middle, owners.as_slice())?;
+    push_owners(&mut edges, middle, owners)?;
     Ok(edges)
 }
 
-/// The graph in which the members are found.
+/// The graph in which the members are found, where `owners` are the blocks of the services.
 fn graph_of<'a>(
     alloc: Global,
     templates: &Templates<'a>,
     blocks: &Objects<'a>,
     lists: &ServiceHosts,
-    services: &ServiceNumbers<'a>,
+    owners: &[usize],
     hosts: &Names<'a>,
     groups: &Objects<'a>,
 ) -> Result<Graph, AllocError>
-    requires tables { AreTables templates.now blocks.now lists.now services.now hosts.now
+    requires tables { AreTables templates.now blocks.now lists.now owners.now hosts.now
         groups.now }
-    requires few { length services.now + length (objects_in templates.now Service)
+    requires few { length owners.now + length (objects_in templates.now Service)
         + length (objects_in templates.now ServiceGroup) < 2 ^ 32 }
     ensures { IfOk result (IsGraphOf (grouping templates.now lists.now)) }
 {
-    let middle = services.len() as u32;
+    let middle = owners.len() as u32;
     let first = middle + blocks.places().len() as u32;
     let count = first + groups.places().len() as u32;
     let edges = edges_of(
-        alloc, templates, blocks, lists, services, hosts, groups, middle, first,
+        alloc, templates, blocks, lists, owners, hosts, groups, middle, first,
     )?;
     let graph = Graph::new(alloc, count, edges.as_slice())?;
     Ok(graph)
@@ -266,40 +303,47 @@ impl<'a> Model for ServiceGroups<'a> {
 }
 
 impl<'a> ServiceGroups<'a> {
-    /// The service groups. `services` are the service blocks, `lists` their hosts, `numbers` the services by their
-    /// places, and `hosts` the names of the hosts, all of the same blocks. A name that no service has, and no
-    /// group, adds nothing; of two of one name the first is meant; `*` is a name. Of a list of members of which
-    /// an entry is left over, no service is a member by it. The memory grows with the services, with the blocks
-    /// and with the entries of their lists; the time with these and with the templates that they use. Over
-    /// 4,294,967,295 services, service blocks and groups are want of memory. A refused growth leaves nothing.
+    /// The service groups. `services` are the service blocks, `lists` their hosts, and `hosts` the names of the
+    /// hosts, all of the same blocks. A name that no service has, and no group, adds nothing; of two of one name
+    /// the first is meant; `*` is a name. Of a list of members of which an entry is left over, no service is a
+    /// member by it. The memory grows with the services, with the blocks and with the entries of their lists; the
+    /// time with these and with the templates that they use. The services are sought by host and description only
+    /// where there is a group; that takes some 80 bytes a service, given back at the end. Over 4,294,967,295
+    /// services, service blocks and groups are want of memory. A refused growth leaves nothing.
     pub fn new(
         alloc: Global,
         templates: &Templates<'a>,
         services: &ServiceBlocks<'a>,
         lists: &ServiceHosts,
-        numbers: &ServiceNumbers<'a>,
         hosts: &Names<'a>,
     ) -> Result<ServiceGroups<'a>, AllocError>
         requires services { services.now ≡ templates.now }
         requires lists { AreHostLists templates.now (objects_in templates.now Service)
             lists.now }
-        requires numbers { numbers.now
-            ≡ pairs_of (names_in templates.now Service) lists.now }
         requires hosts { hosts.now ≡ names_in templates.now Host }
         ensures { IfOk result (λ made. made ≡ templates.now) }
     {
         let blocks = services.objects();
         let groups = Objects::new(alloc, templates, BlockKind::ServiceGroup)?;
-        let first = numbers.len().saturating_add(blocks.places().len());
+        let owners = owners_of(alloc, lists)?;
+        let first = owners.len().saturating_add(blocks.places().len());
         if first.saturating_add(groups.places().len()) > u32::MAX as usize {
             return Err(AllocError);
         }
-        let graph = graph_of(alloc, templates, blocks, lists, numbers, hosts, &groups)?;
+        let graph = graph_of(
+            alloc,
+            templates,
+            blocks,
+            lists,
+            owners.as_slice(),
+            hosts,
+            &groups,
+        )?;
         let search = Reach::new(alloc, graph.node_count())?;
         Ok(ServiceGroups {
             blocks: templates.blocks(),
             groups,
-            services: numbers.len(),
+            services: owners.len(),
             first,
             graph,
             search,

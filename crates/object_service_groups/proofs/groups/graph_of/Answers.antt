@@ -12,7 +12,7 @@ overflow_cast-first c =
 pub overflow_add-first : goal.overflow_add-first
 overflow_add-first c =
     let long = ap (λ (ps : List ℕ). length ps) c.places.ensures.places ∙ ap (λ (o : ObjectsOf). length (objects_in o.blocks o.kind)) c.requires.tables.service_blocks in
-    omega (arith, long, c.len-middle.ensures, c.requires.few)
+    omega (arith, long, c.requires.few)
 
 pub overflow_cast-count : goal.overflow_cast-count
 overflow_cast-count c =
@@ -23,32 +23,32 @@ pub overflow_add-count : goal.overflow_add-count
 overflow_add-count c =
     let long = ap (λ (ps : List ℕ). length ps) c.places.ensures.places ∙ ap (λ (o : ObjectsOf). length (objects_in o.blocks o.kind)) c.requires.tables.service_blocks in
     let groups = ap (λ (ps : List ℕ). length ps) c.places-2.ensures.places ∙ ap (λ (o : ObjectsOf). length (objects_in o.blocks o.kind)) c.requires.tables.group_table in
-    omega (arith, long, groups, c.len-middle.ensures, c.requires.few)
+    omega (arith, long, groups, c.requires.few)
 
 pub edges_of-requires-clause-first : goal.edges_of-requires-clause-first
 edges_of-requires-clause-first c =
     let long = ap (λ (ps : List ℕ). length ps) c.places.ensures.places ∙ ap (λ (o : ObjectsOf). length (objects_in o.blocks o.kind)) c.requires.tables.service_blocks in
-    omega (arith, long, c.len-middle.ensures)
+    omega (arith, long)
 
 pub edges_of-requires-clause-few : goal.edges_of-requires-clause-few
 edges_of-requires-clause-few c =
     let long = ap (λ (ps : List ℕ). length ps) c.places.ensures.places ∙ ap (λ (o : ObjectsOf). length (objects_in o.blocks o.kind)) c.requires.tables.service_blocks in
-    omega (arith, long, c.len-middle.ensures, c.requires.few)
+    omega (arith, long, c.requires.few)
 
 pub new-requires : goal.new-requires
 new-requires c =
     let g = grouping c.args.templates.now c.args.lists.now in
     let long = ap (λ (ps : List ℕ). length ps) c.places.ensures.places ∙ ap (λ (o : ObjectsOf). length (objects_in o.blocks o.kind)) c.requires.tables.service_blocks in
     let groups = ap (λ (ps : List ℕ). length ps) c.places-2.ensures.places ∙ ap (λ (o : ObjectsOf). length (objects_in o.blocks o.kind)) c.requires.tables.group_table in
-    let count = count-is c.args.templates.now c.args.lists.now c.args.services.now c.requires.tables.pairs_are in
-    edges-within g c.as_slice.result.now (c.len-middle.result + length c.places.result.now + length c.places-2.result.now) (grouping-well c.args.templates.now c.args.lists.now c.requires.tables.host_lists)
-    (c.as_slice.ensures.value ∙ c.in_ok-edges.ensures) (omega (arith, long, groups, c.len-middle.ensures, count))
+    let count = count-is c.args.templates.now c.args.lists.now c.args.owners.now c.requires.tables.owners_are in
+    edges-within g c.as_slice.result.now (length c.args.owners.now + length c.places.result.now + length c.places-2.result.now) (grouping-well c.args.templates.now c.args.lists.now c.requires.tables.host_lists)
+    (c.as_slice.ensures.value ∙ c.in_ok-edges.ensures) (omega (arith, long, groups, count))
 
 pub returns : goal.returns
 returns c =
     let g = grouping c.args.templates.now c.args.lists.now in
     let long = ap (λ (ps : List ℕ). length ps) c.places.ensures.places ∙ ap (λ (o : ObjectsOf). length (objects_in o.blocks o.kind)) c.requires.tables.service_blocks in
     let groups = ap (λ (ps : List ℕ). length ps) c.places-2.ensures.places ∙ ap (λ (o : ObjectsOf). length (objects_in o.blocks o.kind)) c.requires.tables.group_table in
-    let count = count-is c.args.templates.now c.args.lists.now c.args.services.now c.requires.tables.pairs_are in
-    graph-is g c.as_slice.result.now (c.len-middle.result + length c.places.result.now + length c.places-2.result.now) c.in_ok-graph.graph
-    (c.as_slice.ensures.value ∙ c.in_ok-edges.ensures) (omega (arith, long, groups, c.len-middle.ensures, count)) c.in_ok-graph.ensures.ends c.in_ok-graph.ensures.leads
+    let count = count-is c.args.templates.now c.args.lists.now c.args.owners.now c.requires.tables.owners_are in
+    graph-is g c.as_slice.result.now (length c.args.owners.now + length c.places.result.now + length c.places-2.result.now) c.in_ok-graph.graph
+    (c.as_slice.ensures.value ∙ c.in_ok-edges.ensures) (omega (arith, long, groups, count)) c.in_ok-graph.ensures.ends c.in_ok-graph.ensures.leads

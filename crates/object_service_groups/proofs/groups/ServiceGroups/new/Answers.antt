@@ -10,7 +10,7 @@ pub graph_of-requires-clause-tables : goal.graph_of-requires-clause-tables
 graph_of-requires-clause-tables c = record {
   service_blocks = c.objects-blocks.ensures ∙ ap (λ (bs : List Block). record { blocks = bs; kind = Service }) c.requires.services;
   host_lists = c.requires.lists;
-  pairs_are = c.requires.numbers;
+  owners_are = c.as_slice.ensures.value ∙ c.in_ok-owners.ensures;
   host_names = c.requires.hosts;
   group_table = c.in_ok-groups.ensures;
 }
@@ -28,12 +28,13 @@ invariant_of-result c =
     let long = ap (λ (ps : List ℕ). length ps) c.places.ensures.places ∙ ap (λ (o : ObjectsOf). length (objects_in o.blocks o.kind)) c.objects-blocks.ensures
     ∙ ap (λ (bs : List Block). length (objects_in bs Service)) c.requires.services in
     let groups = ap (λ (ps : List ℕ). length ps) c.places-2.ensures.places ∙ ap (λ (o : ObjectsOf). length (objects_in o.blocks o.kind)) c.in_ok-groups.ensures in
-    let first : c.saturating_add-first.result ≡ length c.args.numbers.now + length (objects_in templates Service) =
+    let first : c.saturating_add-first.result ≡ length c.in_ok-owners.owners.items + length (objects_in templates Service) =
     omega (arith, long, groups, c.len.ensures, c.saturating_add-first.ensures, c.saturating_add.ensures, c.if-saturating_add.false) in
+    let services : c.len-2.result ≡ length c.in_ok-owners.owners.items = omega (arith, c.len-2.ensures, c.in_ok-owners.owners.ok) in
     let all = c.in_ok-graph.ensures.count in
-    let count = count-is templates c.args.lists.now c.args.numbers.now c.requires.numbers in
+    let count = count-is templates c.args.lists.now c.in_ok-owners.owners.items c.in_ok-owners.ensures in
     let few : length c.in_ok-graph.graph < 2 ^ 32 =
     omega (arith, all, count, long, groups, c.len.ensures, c.saturating_add-first.ensures, c.saturating_add.ensures, c.if-saturating_add.false) in
-    kept-are templates c.blocks-2.result.now c.in_ok-groups.groups c.args.lists.now c.args.numbers.now c.len-2.result c.saturating_add-first.result c.in_ok-search.search.nodes c.in_ok-graph.graph
-    c.blocks-2.ensures.value c.in_ok-groups.ensures c.requires.lists c.requires.numbers c.len-2.ensures first c.in_ok-graph.ensures few
+    kept-are templates c.blocks-2.result.now c.in_ok-groups.groups c.args.lists.now c.in_ok-owners.owners.items c.len-2.result c.saturating_add-first.result c.in_ok-search.search.nodes c.in_ok-graph.graph
+    c.blocks-2.ensures.value c.in_ok-groups.ensures c.requires.lists c.in_ok-owners.ensures services first c.in_ok-graph.ensures few
     (ap (λ (f : Found). f.nodes) c.in_ok-search.ensures ∙ c.node_count.ensures.count)

@@ -4,7 +4,7 @@ use Rattle.std.specs.List.{flat_map, range_with_len}
 use Rattle.object_reader.specs.declared.block.BlockKind.TheVariants.{ServiceGroup}
 use Rattle.object_service_groups.specs.Groups.{groups_in, named_in}
 use Rattle.object_service_groups.specs.Nodes.{group_edges}
-use Rattle.object_service_groups.proofs.groups.push_groups.Given as goal
+use Rattle.object_service_groups.proofs.groups.push_listed.Given as goal
 
 -- The edges so far.
 abbrev pub invariant-loop-group : goal.invariant-loop-group

@@ -8,7 +8,7 @@ use Rattle.object_reader.specs.declared.block.BlockKind.TheVariants.{ServiceGrou
 use Rattle.object_service_groups.specs.Groups.{groups_in, named_in}
 use Rattle.object_service_groups.specs.Nodes.{group_edges}
 use Rattle.object_service_groups.proofs.GroupLemmas.{group-is}
-use Rattle.object_service_groups.proofs.groups.push_groups.Goals as goal
+use Rattle.object_service_groups.proofs.groups.push_listed.Goals as goal
 
 pub push_group_at-requires-clause-few : goal.push_group_at-requires-clause-few
 push_group_at-requires-clause-few c =
