@@ -1,20 +1,26 @@
 -- The first block that names something that isn't there, reference by reference.
-use Rattle.std.proofs.Common.{◌≡◌, ℕ, ◌+◌, ◌<◌, ◌≤◌, Bool, true, false, ◌&&◌, ◌||◌, List, [], ◌∷◌, length, take, get_or, Option, Some, None, refl, sym, ap, subst, ⊎_elim, ◌∙◌, ◌⊎◌, inl, inr, arith}
-use Rattle.std.specs.Prelude.{slice_get}
+use Rattle.std.proofs.Common.{◌≡◌, ℕ, zero, suc, ◌+◌, ◌<◌, ◌≤◌, Bool, true, false, ◌&&◌, ◌||◌, List, [], ◌∷◌, length, take, map, set, replicate, cond, get_or, Option, Some, None, refl, sym, ap, subst, eqb, eqb-true, ⊎_elim, ◌∙◌, ◌⊎◌, inl, inr, arith}
+use Rattle.std.specs.Prelude.{IfSome, slice_get, unwrap_or}
 use Rattle.std.specs.List.{list_any}
-use Rattle.std.specs.Option.{option_map_or}
+use Rattle.std.specs.Option.{option_map, option_map_or}
 use Rattle.std.proofs.lemmas.Bool.{cases_lt, false≢true}
 use Rattle.std.proofs.lemmas.List.{take_more}
 use Rattle.std.proofs.lemmas.List.Folds.{list_any-append}
 use Rattle.lemmas.proofs.Lists.{at-within}
+use Rattle.lemmas.proofs.Writes.{at_set}
 use Rattle.object_inheritance.specs.Columns.{Column}
+use Rattle.object_inheritance.specs.Inherited.{given, list_given, name_of}
 use Rattle.object_reader.specs.declared.block.Block.{Block}
 use Rattle.object_reader.specs.declared.block.BlockKind.{BlockKind}
 use Rattle.object_reader.specs.declared.block.BlockKind.TheVariants.{Host, HostGroup, Service, ServiceGroup, Contact, ContactGroup, TimePeriod, Command, HostEscalation, ServiceEscalation, HostDependency, ServiceDependency, HostExtInfo, ServiceExtInfo}
+use Rattle.object_values.specs.Values.{command_name}
+use Rattle.object_names.specs.declared.references.Reading.{Reading}
+use Rattle.object_names.specs.declared.references.Reading.TheVariants.{NamesOrAll, Names, Period, Commands}
 use Rattle.object_names.specs.declared.references.Reference.{Reference}
+use Rattle.object_groups.specs.Names.{has_unknown, lacks_any}
 use Rattle.object_groups.specs.First.{IsFirst, lower}
 use Rattle.object_names.specs.References.{all_references, is_reference_of, references}
-use Rattle.object_names.specs.Unknown.{has_unknown_by, HasUnknown, HasUnknownAmong, is_registered, is_unknown_by, names_unknown, names_unknown_by}
+use Rattle.object_names.specs.Unknown.{AreFound, has_unknown_by, HasUnknown, HasUnknownAmong, is_registered, is_unknown, is_unknown_by, lacks_period, names_unknown, names_unknown_by}
 use Rattle.object_groups.specs.FirstLaws.{first-either, first-same}
 
 -- ---- the blocks one after another
@@ -52,6 +58,49 @@ pub first-none : (blocks : List Block) (reference : Reference) (place : ℕ) →
 first-none blocks reference place all before = λ k is.
     let low = at-within (names_unknown_by blocks k reference) blocks k is in
     false≢true (sym (before.none k (omega (arith, low, all))) ∙ is)
+
+-- ---- what was found of a block
+
+-- blocks that have the same name the same
+pub unknown-same : (reading : Reading) (names : List (List ℕ)) (blocks : List Block) (directive : List ℕ) (one other : ℕ) → given blocks directive one ≡ given blocks directive other
+    → is_unknown reading names blocks directive one ≡ is_unknown reading names blocks directive other
+unknown-same NamesOrAll names blocks directive one other same = ap (λ (texts : List (List ℕ)). has_unknown names (unwrap_or (list_given texts) [])) same
+unknown-same Names names blocks directive one other same = ap (λ (texts : List (List ℕ)). lacks_any names (unwrap_or (list_given texts) [])) same
+unknown-same Period names blocks directive one other same = ap (λ (texts : List (List ℕ)). lacks_period names (option_map name_of (slice_get texts 0))) same
+unknown-same Commands names blocks directive one other same =
+    ap (λ (texts : List (List ℕ)). lacks_any names (map command_name (unwrap_or (list_given texts) []))) same
+
+module _ (reading : Reading) (names : List (List ℕ)) (values : Column) (found : List (Option Bool)) (origin place : ℕ) (unknown : Bool)
+    (same : given values.blocks values.directive origin ≡ given values.blocks values.directive place) (are : AreFound reading names values found) where
+  -- what was found of the block that gives it
+  pub found-before : Some unknown ≡ get_or found origin None → unknown ≡ is_unknown reading names values.blocks values.directive place
+  found-before is =
+      subst (λ (kept : Option Bool). IfSome kept (λ u. u ≡ is_unknown reading names values.blocks values.directive origin)) (sym is) (are.each origin)
+      ∙ unknown-same reading names values.blocks values.directive origin place same
+
+  -- and what is found of it now
+  pub found-now : origin < length found → unknown ≡ is_unknown reading names values.blocks values.directive place → AreFound reading names values (set found origin (Some unknown))
+  found-now within is = record {
+    each = λ at. subst (λ (kept : Option Bool). IfSome kept (λ u. u ≡ is_unknown reading names values.blocks values.directive at))
+        (sym (at_set found origin at (Some unknown) None within)) (kept-at at (eqb origin at) refl);
+  }
+    where
+      kept-at : (at : ℕ) (b : Bool) → eqb origin at ≡ b → IfSome (cond b (Some unknown) (get_or found at None)) (λ u. u ≡ is_unknown reading names values.blocks values.directive at)
+      kept-at at true equal = is ∙ sym (unknown-same reading names values.blocks values.directive origin place same)
+          ∙ ap (is_unknown reading names values.blocks values.directive) (eqb-true origin at equal)
+      kept-at at false other = are.each at
+
+all-same : {X : Type 0} (count at : ℕ) (x : X) → get_or (replicate count x) at x ≡ x
+all-same zero at x = refl
+all-same (suc count) zero x = refl
+all-same (suc count) (suc at) x = all-same count at x
+
+-- nothing was found yet
+pub none-found : (reading : Reading) (names : List (List ℕ)) (values : Column) (found : List (Option Bool)) (count : ℕ) → found ≡ replicate count None → AreFound reading names values found
+none-found reading names values found count is = record {
+  each = λ at. subst (λ (kept : Option Bool). IfSome kept (λ u. u ≡ is_unknown reading names values.blocks values.directive at))
+      (sym (ap (λ (xs : List (Option Bool)). get_or xs at None) is ∙ all-same count at None)) tt;
+}
 
 -- ---- one reference more
 

@@ -1,9 +1,10 @@
 -- Names that blocks mention and that nothing has (chapter "Object Definitions").
-use Rattle.std.specs.Prelude.{◌≡◌, ℕ, Bool, true, false, ◌&&◌, List, [], ◌∷◌, map, codes, Option, None, Some, slice_get}
+use Rattle.std.specs.Prelude.{◌≡◌, ℕ, Bool, true, false, ◌&&◌, List, [], ◌∷◌, map, codes, Option, None, Some, IfSome, slice_get, slice_index_or}
 use Rattle.std.specs.List.{list_any}
 use Rattle.std.specs.Option.{option_map_or}
 use Rattle.object_groups.specs.Names.{has_unknown, lacks, lacks_any}
 use Rattle.object_groups.specs.Objects.{list_at, names_in}
+use Rattle.object_inheritance.specs.Columns.{Column}
 use Rattle.object_inheritance.specs.Inherited.{name}
 use Rattle.object_inheritance.specs.Registered.{registers}
 use Rattle.object_reader.specs.declared.block.Block.{Block}
@@ -67,3 +68,12 @@ has_unknown_by blocks place reference =
 abbrev pub HasUnknownAmong : List Block → List Reference → ℕ → Type 0
 HasUnknownAmong blocks references place =
     list_any (has_unknown_by blocks place) references ≡ true
+
+-- ---- what was found of blocks before
+
+-- What was found of a block, by its place, is whether what it has for the directive names something that none of the
+-- names is.
+pub record AreFound (reading : Reading) (names : List (List ℕ)) (values : Column)
+    (found : List (Option Bool)) : Type 0 where
+  pub each : (place : ℕ) → IfSome (slice_index_or found place None)
+      (λ unknown. unknown ≡ is_unknown reading names values.blocks values.directive place)

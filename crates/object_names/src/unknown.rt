@@ -1,11 +1,12 @@
 //! Names that blocks mention and that nothing has.
 
-ghost use Rattle.std.specs.Prelude.{◌≡◌, map, true, IfOk};
+ghost use Rattle.std.specs.Prelude.{◌≡◌, map, true, None, slice_index_or, IfOk, OnOk};
 ghost use Rattle.std.specs.Option.{option_copied};
 ghost use Rattle.object_inheritance.specs.Inherited.{name};
 ghost use Rattle.object_groups.specs.First.{IsFirst};
 ghost use Rattle.object_names.specs.Named.{block_kind};
 ghost use Rattle.object_names.specs.References.{directive_of, named_of, reading_of};
+ghost use Rattle.object_names.specs.Unknown.{AreFound};
 ghost use Rattle.object_names.specs.Unknown.{HasUnknown, HasUnknownAmong, has_unknown_by};
 ghost use Rattle.object_names.specs.Unknown.{is_registered};
 ghost use Rattle.object_groups.specs.Names.{lacks_any};
@@ -70,6 +71,43 @@ fn is_unknown<'a>(
     })
 }
 
+/// What was found of the block at the place; none where it wasn't looked at.
+fn found_at(found: &[Option<bool>], place: usize) -> Option<bool>
+    ensures { result ≡ slice_index_or found.now place None }
+{
+    if place < found.len() {
+        found[place]
+    } else {
+        None
+    }
+}
+
+/// The same as `is_unknown`, looked at once for all blocks that take from one block what they have. `found` is what
+/// was found so far, by the places of the blocks that give it.
+fn is_unknown_once<'a>(
+    alloc: Global,
+    values: &Values<'a>,
+    reading: Reading,
+    names: &Names<'a>,
+    found: &mut Vec<Option<bool>>,
+    place: usize,
+) -> Result<bool, AllocError>
+    requires { AreFound reading names.now values.now found.old.items }
+    ensures found { OnOk result (AreFound reading names.now values.now found.new.items) }
+    ensures unknown { IfOk result (λ unknown. unknown
+        ≡ is_unknown reading names.now values.now.blocks values.now.directive place) }
+{
+    let origin = values.origin(place);
+    if let Some(unknown) = found_at(found.as_slice(), origin) {
+        return Ok(unknown);
+    }
+    let unknown = is_unknown(alloc, values, reading, names, place)?;
+    if origin < found.len() {
+        found[origin] = Some(unknown);
+    }
+    Ok(unknown)
+}
+
 /// Whether a block is an object, and not a template alone.
 fn is_registered(block: &Block) -> bool
     ensures { result ≡ is_registered block.now }
@@ -84,19 +122,23 @@ fn names_unknown<'a>(
     values: &Values<'a>,
     reference: Reference,
     names: &Names<'a>,
+    found: &mut Vec<Option<bool>>,
     block: &Block,
     place: usize,
 ) -> Result<bool, AllocError>
     requires directive { values.now.directive ≡ directive_of reference }
     requires names { names.now ≡ names_in values.now.blocks (block_kind (named_of reference)) }
-    ensures { IfOk result (λ unknown. unknown
+    requires found { AreFound (reading_of reference) names.now values.now found.old.items }
+    ensures found { OnOk result (AreFound (reading_of reference) names.now values.now
+        found.new.items) }
+    ensures unknown { IfOk result (λ unknown. unknown
         ≡ names_unknown_by values.now.blocks place reference block.now) }
 {
-    if is_reference_of(reference, block.kind) && is_registered(block) {
-        is_unknown(alloc, values, reading_of(reference), names, place)
-    } else {
-        Ok(false)
+    if !is_reference_of(reference, block.kind) {
+        return Ok(false);
     }
+    let reading = reading_of(reference);
+    Ok(is_unknown_once(alloc, values, reading, names, found, place)? && is_registered(block))
 }
 
 /// The place of the first block that names something which none of the names is, by the reference of which these are
@@ -114,8 +156,9 @@ fn first_in<'a>(
     ensures { IfOk result (IsFirst (λ place.
         has_unknown_by values.now.blocks place reference ≡ true)) }
 {
+    let mut found = vec![in alloc; None; blocks.len()]?;
     for (place, block) in blocks.iter().enumerate() {
-        if names_unknown(alloc, values, reference, names, block, place)? {
+        if names_unknown(alloc, values, reference, names, &mut found, block, place)? {
             return Ok(Some(place));
         }
     }
@@ -163,8 +206,8 @@ fn first_among<'a>(
 /// contact groups, and otherwise a name; an empty period is always; a list that begins with `+` is what
 /// is inherited and its own; `null` is empty. The `members` of service groups and the descriptions of services
 /// aren't looked at here. `objects` are those of the same blocks. The time grows with the blocks, their directives,
-/// the templates that they use and the entries of each block's lists, those that it inherits too; it takes
-/// some 32 bytes a block. A refused growth leaves nothing.
+/// the templates that they use and the entries of their lists: those that several blocks take from one are looked up
+/// once. It takes some 24 bytes a block. A refused growth leaves nothing.
 pub fn first_unknown<'a>(
     alloc: Global,
     templates: &Templates<'a>,

@@ -1,10 +1,12 @@
 -- How the objects are made: what each block gives is found once, and then taken for each of its objects.
-use Rattle.std.specs.Prelude.{◌≡◌, ℕ, true, List, ◌++◌, map, codes, unwrap_or, None, Some, slice_get, if◌then◌else◌}
+use Rattle.std.specs.Prelude.{◌≡◌, ℕ, true, List, ◌++◌, map, codes, unwrap_or, Option, None, Some, IfSome, slice_get, slice_index_or, if◌then◌else◌}
 use Rattle.std.specs.List.{AllZip}
 use Rattle.due_model.specs.Objects.{object_id}
 use Rattle.due_model.specs.declared.config.ContactId.{ContactId}
 use Rattle.due_model.specs.declared.config.Object.{Object}
+use Rattle.due_model.specs.declared.options.OptionLetters.{OptionLetters}
 use Rattle.object_groups.specs.Objects.{name_at, names_in}
+use Rattle.object_inheritance.specs.Columns.{Column}
 use Rattle.object_listing.specs.Listing.{AreThose, contact_directives, gives_neither, IsListed}
 use Rattle.object_reader.specs.declared.block.Block.{Block}
 use Rattle.object_reader.specs.declared.block.BlockKind.TheVariants.{Host, TimePeriod}
@@ -38,6 +40,16 @@ pub record AreTables (blocks : List Block) (contacts : List Block) (times : Time
   pub contacts_are : contacts ≡ blocks
   pub times_are : AreTimes blocks times
   pub filters_are : AreFilters blocks filters
+
+-- the directive of the options
+abbrev pub options_of : List Block → Column
+options_of blocks = record { blocks = blocks; directive = codes "notification_options" }
+
+-- what was read of a block, by its place, are the letters that it allows
+pub record AreRead (options : Column) (kind : OptionKind)
+    (read : List (Option OptionLetters)) : Type 0 where
+  pub each : (place : ℕ) → IfSome (slice_index_or read place None)
+      (λ letters. letters ≡ letters_at options.blocks options.directive kind place)
 
 -- what the block at the place gives, with the name of its object
 pub record IsOwn (blocks : List Block) (kind : OptionKind) (name : List ℕ) (place : ℕ)

@@ -41,10 +41,11 @@ fn owns_of<'a>(
     ensures { IfOk result (λ owns.
         AllZip (IsOwnOfHost tables.now) (objects_in tables.now Host) owns.items) }
 {
+    let mut read = tables.none_read(alloc)?;
     let mut owns = Vec::new(alloc);
     for (number, place) in hosts.places().iter().enumerate() {
         let name = hosts.names().name(number);
-        let own = tables.own_at(periods, OptionKind::Host, name, *place);
+        let own = tables.own_at(periods, OptionKind::Host, &mut read, name, *place);
         owns.push(own)?;
     }
     Ok(owns)
@@ -104,7 +105,8 @@ fn push_services_at<'a>(
         objects.old.items objects.new.items) }
 {
     listed_are_objects();
-    let own = tables.own_at(periods, OptionKind::Service, name, place);
+    let mut read = Vec::new(alloc);
+    let own = tables.own_at(periods, OptionKind::Service, &mut read, name, place);
     push_block(alloc, objects, owns, &own, hosts)?;
     Ok(())
 }

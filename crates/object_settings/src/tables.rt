@@ -2,9 +2,11 @@
 
 ghost use Rattle.std.specs.Prelude.{◌≡◌, IfOk};
 ghost use Rattle.object_readings.specs.Periods.{ArePeriods};
-ghost use Rattle.object_settings.specs.Own.{AreFilters, AreTimes, IsOwn};
+ghost use Rattle.object_readings.specs.Readings.{letters_at};
+ghost use Rattle.object_settings.specs.Own.{AreFilters, AreRead, AreTimes, IsOwn, options_of};
 
 use crate::own::Own;
+use due_model::options::OptionLetters;
 use object_groups::names::Names;
 use object_inheritance::inherited::{Values, values_of};
 use object_inheritance::templates::Templates;
@@ -72,6 +74,29 @@ fn filters_of<'a>(alloc: Global, templates: &Templates<'a>) -> Result<Filters<'a
     })
 }
 
+/// The options that the block at the place has, read once for all blocks that take them from one. `read` is what was
+/// read so far, by the places of the blocks that give it.
+fn letters_once(
+    values: &Values,
+    kind: OptionKind,
+    read: &mut Vec<Option<OptionLetters>>,
+    place: usize,
+) -> OptionLetters
+    requires { AreRead values.now kind read.old.items }
+    ensures read { AreRead values.now kind read.new.items }
+    ensures letters { result ≡ letters_at values.now.blocks values.now.directive kind place }
+{
+    let origin = values.origin(place);
+    if let Some(Some(letters)) = read.get(origin) {
+        return *letters;
+    }
+    let letters = letters_at(values, kind, place);
+    if origin < read.len() {
+        read[origin] = Some(letters);
+    }
+    letters
+}
+
 impl<'a> Tables<'a> {
     /// What the blocks have for these directives, where `contacts` are the contacts that they list.
     pub(crate) fn new(
@@ -90,16 +115,27 @@ impl<'a> Tables<'a> {
         })
     }
 
-    /// What the block at the place gives, with the name of its objects.
+    /// Room for the options that the blocks give, of which none is read.
+    pub(crate) fn none_read(&self, alloc: Global) -> Result<Vec<Option<OptionLetters>>, AllocError>
+        ensures { IfOk result (λ read. (kind : OptionKind)
+            → AreRead (options_of self.now) kind read.items) }
+    {
+        vec![in alloc; None; self.blocks.len()]
+    }
+
+    /// What the block at the place gives, with the name of its objects. `read` is what was read of the options so far.
     pub(crate) fn own_at(
         &self,
         periods: &Names<'a>,
         kind: OptionKind,
+        read: &mut Vec<Option<OptionLetters>>,
         name: &'a [u8],
         place: usize,
     ) -> Own<'a>
-        requires { ArePeriods self.now periods.now }
-        ensures { IsOwn self.now kind name.now place result }
+        requires periods { ArePeriods self.now periods.now }
+        requires read { AreRead (options_of self.now) kind read.old.items }
+        ensures read { AreRead (options_of self.now) kind read.new.items }
+        ensures own { IsOwn self.now kind name.now place result }
     {
         Own {
             name,
@@ -107,7 +143,7 @@ impl<'a> Tables<'a> {
             contacts: self.contacts.contacts_at(place),
             interval: own_number(&self.times.intervals, place),
             period: own_period(periods, &self.times.periods, place),
-            options: letters_at(&self.filters.options, kind, place),
+            options: letters_once(&self.filters.options, kind, read, place),
             enabled: is_on(&self.filters.flags, true, place),
             delay: number_at(&self.times.delays, 0, place),
         }

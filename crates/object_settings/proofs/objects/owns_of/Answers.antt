@@ -12,8 +12,11 @@ loop-number-preserved c =
     let i = c.loop-number.number in
     let listed : c.places-place-items.result.now ≡ objects_in blocks Host = c.places-place-items.ensures.places ∙ ap (λ (o : ObjectsOf). objects_in o.blocks o.kind) c.requires.hosts in
     let names = c.names.ensures.names ∙ ap (λ (o : ObjectsOf). names_in o.blocks o.kind) c.requires.hosts in
-    owns-more blocks c.places-place-items.result.now c.names.result.now i 0 c.name-name.result.now c.own_at-own.result c.loop-number.owns.items c.push.new.self.items
-    listed c.loop-number-test.true names c.name-name.ensures c.own_at-own.ensures c.loop-number.invariant c.in_ok-push.ensures.items
+    record {
+      owns = owns-more blocks c.places-place-items.result.now c.names.result.now i 0 c.name-name.result.now c.own_at-own.result c.loop-number.owns.items c.push.new.self.items
+          listed c.loop-number-test.true names c.name-name.ensures c.own_at-own.ensures.own c.loop-number.invariant.owns c.in_ok-push.ensures.items;
+      read = c.own_at-own.ensures.read;
+    }
 
 pub returns : goal.returns
 returns c =
@@ -21,4 +24,4 @@ returns c =
     let listed : c.places-place-items.result.now ≡ objects_in blocks Host = c.places-place-items.ensures.places ∙ ap (λ (o : ObjectsOf). objects_in o.blocks o.kind) c.requires.hosts in
     let long = ap (λ (places : List ℕ). length places) listed in
     let all : length (objects_in blocks Host) ≤ c.loop-number.number = omega (arith, long, c.loop-number-test.false) in
-    subst (λ (places : List ℕ). AllZip (IsOwnOfHost blocks) places c.loop-number.owns.items) (take_all c.loop-number.number (objects_in blocks Host) all) c.loop-number.invariant
+    subst (λ (places : List ℕ). AllZip (IsOwnOfHost blocks) places c.loop-number.owns.items) (take_all c.loop-number.number (objects_in blocks Host) all) c.loop-number.invariant.owns

@@ -18,4 +18,4 @@ push_block-requires-clause-few c =
 pub returns : goal.returns
 returns c =
     block-objects c.args.tables.now c.args.place c.args.name.now c.args.owns.now c.own_at-own.result c.args.hosts.now c.args.objects.now.items c.push_block.new.objects.items
-    c.requires.owns c.requires.named c.own_at-own.ensures c.in_ok-push_block.ensures
+    c.requires.owns c.requires.named c.own_at-own.ensures.own c.in_ok-push_block.ensures

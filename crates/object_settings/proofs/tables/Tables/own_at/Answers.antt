@@ -1,15 +1,24 @@
-use Rattle.std.proofs.Common.{◌∙◌, List, ap, map, refl, subst, true, ℕ}
+use Rattle.std.proofs.Common.{◌∙◌, List, ap, map, refl, subst, sym, true, ℕ}
 use Rattle.std.specs.Prelude.{codes}
 use Rattle.object_groups.specs.Objects.{names_in}
+use Rattle.object_inheritance.specs.Columns.{Column}
 use Rattle.object_listing.specs.Listing.{AreThose, contact_directives, gives_neither, IsListed}
 use Rattle.object_reader.specs.declared.block.Block.{Block}
 use Rattle.object_reader.specs.declared.block.BlockKind.TheVariants.{TimePeriod}
 use Rattle.object_readings.specs.Readings.{is_on, letters_at, number_at, own_number, own_period}
+use Rattle.object_settings.specs.Own.{AreRead, options_of}
 use Rattle.object_settings.proofs.TableLemmas.{read-are}
 use Rattle.object_settings.proofs.tables.Tables.own_at.Goals as goal
 
-pub returns : goal.returns
-returns c =
+pub letters_once-requires : goal.letters_once-requires
+letters_once-requires c = subst (λ (options : Column). AreRead options c.args.kind c.args.read.now.items) (sym (c.self.invariant.filters_are.options_are ∙ ap options_of c.self.view_is)) c.requires.read
+
+pub returns-clause-read : goal.returns-clause-read
+returns-clause-read c =
+    subst (λ (options : Column). AreRead options c.args.kind c.letters_once.new.read.items) (c.self.invariant.filters_are.options_are ∙ ap options_of c.self.view_is) c.letters_once.ensures.read
+
+pub returns-clause-own : goal.returns-clause-own
+returns-clause-own c =
     let blocks = c.args.self.now in
     let inside = c.self.inside.blocks.now in
     let times = c.self.inside.times in
@@ -20,10 +29,10 @@ returns c =
     record {
       named = refl;
       enabled = c.is_on.ensures ∙ read-are (λ bs d. is_on bs d true place) blocks inside (codes "notifications_enabled") filters.flags same c.self.invariant.filters_are.flags_are;
-      options = c.letters_at.ensures ∙ read-are (λ bs d. letters_at bs d c.args.kind place) blocks inside (codes "notification_options") filters.options same c.self.invariant.filters_are.options_are;
+      options = c.letters_once.ensures.letters ∙ read-are (λ bs d. letters_at bs d c.args.kind place) blocks inside (codes "notification_options") filters.options same c.self.invariant.filters_are.options_are;
       delay = c.number_at.ensures ∙ read-are (λ bs d. number_at bs d 0 place) blocks inside (codes "first_notification_delay") times.delays same c.self.invariant.times_are.delays_are;
       interval = c.own_number.ensures ∙ read-are (λ bs d. own_number bs d place) blocks inside (codes "notification_interval") times.intervals same c.self.invariant.times_are.intervals_are;
-      period = c.own_period.ensures ∙ ap (λ (periods : List (List ℕ)). own_period periods times.periods.blocks times.periods.directive place) c.requires.names
+      period = c.own_period.ensures ∙ ap (λ (periods : List (List ℕ)). own_period periods times.periods.blocks times.periods.directive place) c.requires.periods.names
           ∙ read-are (λ bs d. own_period (names_in blocks TimePeriod) bs d place) blocks inside (codes "notification_period") times.periods same c.self.invariant.times_are.periods_are;
       lacks = c.gives_neither.ensures
           ∙ ap (λ (bs : List Block). gives_neither bs contact_directives place) listed;
