@@ -17,6 +17,7 @@ use object_groups::groups::Groups;
 use object_groups::names::Names;
 use object_groups::objects::Objects;
 use object_inheritance::templates::Templates;
+use object_reached::reached::services_of;
 use object_reader::block::BlockKind;
 use object_service_groups::groups::ServiceGroups;
 use object_services::blocks::ServiceBlocks;
@@ -157,7 +158,8 @@ impl Question for Asked {
         hosts: &mut Groups<'a>,
         groups: &mut ServiceGroups<'a>,
     ) -> Result<(), AllocError> {
-        let blocks = DependencyBlocks::new(alloc, templates, services, lists, hosts)?;
+        let table = services_of(alloc, services, lists, hosts)?;
+        let blocks = DependencyBlocks::new(alloc, templates, &table, lists)?;
         match *self {
             Asked::Loop => show_loop(alloc, out, &blocks, hosts, groups),
             asked => show_entries(alloc, out, templates, &blocks, hosts, groups, asked),

@@ -5,6 +5,7 @@ use acceptance_objects::question::{Question, answer_of};
 use object_escalations::escalated::EscalatedObjects;
 use object_groups::groups::Groups;
 use object_inheritance::templates::Templates;
+use object_reached::reached::services_of;
 use object_service_groups::groups::ServiceGroups;
 use object_services::blocks::ServiceBlocks;
 use object_services::services::{LimitFault, ServiceHosts};
@@ -38,7 +39,8 @@ impl Question for Escalated {
         hosts: &mut Groups<'a>,
         groups: &mut ServiceGroups<'a>,
     ) -> Result<(), AllocError> {
-        match EscalatedObjects::new(alloc, templates, services, lists, hosts, groups) {
+        let table = services_of(alloc, services, lists, hosts)?;
+        match EscalatedObjects::new(alloc, templates, &table, lists, hosts, groups) {
             Ok(objects) => show_objects(out, &objects),
             Err(LimitFault::TooMany { place, line }) => write!(out, "{place} {line} TooMany"),
             Err(LimitFault::NoMemory) => out.push_str("memory"),

@@ -1,5 +1,5 @@
 -- Loops of dependencies (chapter "Host and Service Dependencies").
-use Rattle.std.specs.Prelude.{◌≡◌, ℕ, ◌<◌, List}
+use Rattle.std.specs.Prelude.{ℕ, ◌<◌, List}
 use Rattle.graph.specs.Chains.{Reaches}
 use Rattle.object_reader.specs.declared.block.Block.{Block}
 use Rattle.object_dependencies.specs.Pairs.{DependsAt}

@@ -1,10 +1,10 @@
 //! The pairs of dependents and masters of each block.
 
-ghost use Rattle.std.specs.Prelude.{◌≡◌, ◌<◌, length, IfOk};
+ghost use Rattle.std.specs.Prelude.{◌≡◌, ◌+◌, ◌<◌, ◌^◌, length, IfOk};
 ghost use Rattle.object_dependencies.specs.Pairs.{ArePairs, kept_states};
 ghost use Rattle.object_groups.specs.declared.groups.GroupKind.TheVariants.{HostGroups};
 ghost use Rattle.object_groups.specs.Objects.{names_in, objects_in};
-ghost use Rattle.object_reader.specs.declared.block.BlockKind.TheVariants.{Service};
+ghost use Rattle.object_reader.specs.declared.block.BlockKind.TheVariants.{Host, Service};
 ghost use Rattle.object_services.specs.Limits.{AreHostLists};
 ghost use Rattle.object_services.specs.Numbers.{pairs_of};
 
@@ -14,20 +14,19 @@ use object_groups::groups::Groups;
 use object_groups::objects::is_object;
 use object_inheritance::inherited::Values;
 use object_inheritance::templates::Templates;
-use object_reached::reached::{Reached, services_of};
+use object_reached::reached::Reached;
 use object_reached::roles::Role;
 use object_reached::services::HostServices;
 use object_reader::block::{Block, BlockKind};
 use object_readings::readings::own_states;
 use object_service_groups::groups::ServiceGroups;
-use object_services::blocks::ServiceBlocks;
 use object_services::services::ServiceHosts;
 use object_values::options::CriteriaKind;
 use std::alloc::{AllocError, Global};
 use std::marker::Model;
 
-/// What blocks have for the directives of dependencies. It takes some 300 bytes a block, and 28 a service. Contracts
-/// see the blocks, and the hosts of each service block.
+/// What blocks have for the directives of dependencies. It takes some 300 bytes a block. Contracts see the blocks, and
+/// the hosts of each service block.
 #[derive(Drop)]
 pub struct DependencyBlocks<'a, 'l> {
     blocks: &'a [Block],
@@ -35,7 +34,7 @@ pub struct DependencyBlocks<'a, 'l> {
     masters: Reached<'a>,
     dependents: Reached<'a>,
     criteria: Values<'a>,
-    services: HostServices<'a>,
+    services: &'l HostServices<'a>,
 }
 
 impl<'a, 'l> Model for DependencyBlocks<'a, 'l> {
@@ -46,24 +45,24 @@ impl<'a, 'l> Model for DependencyBlocks<'a, 'l> {
     ghost view = { λ s. record { blocks = s.blocks.now; lists = s.lists.now } };
 
     ghost invariant = { λ s.
-        AreDependencyBlocks s.blocks.now s.lists.now s.masters s.dependents s.criteria s.services };
+        AreDependencyBlocks s.blocks.now s.lists.now s.masters s.dependents s.criteria
+        s.services.now };
 }
 
 impl<'a, 'l> DependencyBlocks<'a, 'l> {
-    /// What the blocks have. `services` are the service blocks, `lists` their hosts, and `hosts` the host groups, all
-    /// of the same blocks. The time grows with the blocks, their directives, the templates that they use and the
-    /// services. A refused growth leaves nothing.
+    /// What the blocks have. `services` are the services, and `lists` the hosts of the service blocks, both of the same
+    /// blocks. The time grows with the blocks, their directives and the templates that they use. A refused growth
+    /// leaves nothing.
     pub fn new(
         alloc: Global,
         templates: &Templates<'a>,
-        services: &ServiceBlocks<'a>,
+        services: &'l HostServices<'a>,
         lists: &'l ServiceHosts,
-        hosts: &Groups<'a>,
     ) -> Result<DependencyBlocks<'a, 'l>, AllocError>
-        requires services { services.now ≡ templates.now }
+        requires services { services.now ≡ pairs_of (names_in templates.now Service) lists.now }
+        requires few { length (names_in templates.now Host) + length services.now < 2 ^ 32 }
         requires lists { AreHostLists templates.now (objects_in templates.now Service)
             lists.now }
-        requires hosts { hosts.now ≡ record { blocks = templates.now; kind = HostGroups } }
         ensures { IfOk result (λ made. made
             ≡ record { blocks = templates.now; lists = lists.now }) }
     {
@@ -74,7 +73,7 @@ impl<'a, 'l> DependencyBlocks<'a, 'l> {
             masters: Reached::new(alloc, templates, Role::Master)?,
             dependents: Reached::new(alloc, templates, Role::Dependent)?,
             criteria: Values::new(alloc, templates, directive.as_bytes())?,
-            services: services_of(alloc, services, lists, hosts)?,
+            services,
         })
     }
 
@@ -131,13 +130,13 @@ impl<'a, 'l> DependencyBlocks<'a, 'l> {
         }
         let masters = self
             .masters
-            .objects_at(alloc, hosts, groups, &self.services, place)?;
+            .objects_at(alloc, hosts, groups, self.services, place)?;
         if masters.is_empty() {
             return Ok(Sides::none(alloc));
         }
         let dependents = self
             .dependents
-            .objects_at(alloc, hosts, groups, &self.services, place)?;
+            .objects_at(alloc, hosts, groups, self.services, place)?;
         if dependents.is_empty() {
             return Ok(Sides::none(alloc));
         }

@@ -1,22 +1,23 @@
 //! The objects of which escalation blocks speak, within the limit of escalations.
 
-ghost use Rattle.std.specs.Prelude.{◌≡◌, ◌≤◌, ◌++◌, ◌∷◌, [], length, map};
+ghost use Rattle.std.specs.Prelude.{◌≡◌, ◌+◌, ◌<◌, ◌≤◌, ◌^◌, ◌++◌, ◌∷◌, [], length, map};
 ghost use Rattle.std.specs.Prelude.{slice_index_or, sum_by};
 ghost use Rattle.std.specs.Prelude.{IfErr, IfOk, OnOk};
 ghost use Rattle.due_model.specs.Limits.{max_escalations};
 ghost use Rattle.object_escalations.specs.Escalated.{AreEscalated, IsRefusal};
 ghost use Rattle.object_groups.specs.declared.groups.GroupKind.TheVariants.{HostGroups};
-ghost use Rattle.object_groups.specs.Objects.{objects_in};
-ghost use Rattle.object_reader.specs.declared.block.BlockKind.TheVariants.{Service};
+ghost use Rattle.object_groups.specs.Objects.{names_in, objects_in};
+ghost use Rattle.object_reader.specs.declared.block.BlockKind.TheVariants.{Host, Service};
 ghost use Rattle.object_services.specs.Limits.{AreHostLists};
+ghost use Rattle.object_services.specs.Numbers.{pairs_of};
 
 use due_model::limits::MAX_ESCALATIONS;
 use object_groups::groups::Groups;
 use object_inheritance::templates::Templates;
-use object_reached::reached::{Reached, services_of};
+use object_reached::reached::Reached;
 use object_reached::roles::Role;
+use object_reached::services::HostServices;
 use object_service_groups::groups::ServiceGroups;
-use object_services::blocks::ServiceBlocks;
 use object_services::services::{LimitFault, ServiceHosts};
 use std::alloc::{AllocError, Global};
 use std::marker::Model;
@@ -49,20 +50,21 @@ impl Model for EscalatedObjects {
 impl EscalatedObjects {
     /// The objects of all blocks: of a registered `hostescalation` the hosts that it lists, by themselves or by
     /// host groups, and of a `serviceescalation` the services, by hosts and descriptions or by service groups; of
-    /// another block none. `services` are the service blocks, `lists` their hosts, `hosts` the host groups and
-    /// `groups` the service groups, all of the same blocks. The blocks are gone through in file order, and the
+    /// another block none. `services` are the services, `lists` the hosts of the service blocks, `hosts` the host
+    /// groups and `groups` the service groups, all of the same blocks. The blocks are gone through in file order, and the
     /// first with which there are too many escalations is refused, before anything is kept of it. The time grows
     /// with that of `Reached::objects_at` for each block up to there. A refusal leaves the
     /// groups as they were.
     pub fn new<'a>(
         alloc: Global,
         templates: &Templates<'a>,
-        services: &ServiceBlocks<'a>,
+        services: &HostServices<'a>,
         lists: &ServiceHosts,
         hosts: &mut Groups<'a>,
         groups: &mut ServiceGroups<'a>,
     ) -> Result<EscalatedObjects, LimitFault>
-        requires services { services.now ≡ templates.now }
+        requires services { services.now ≡ pairs_of (names_in templates.now Service) lists.now }
+        requires few { length (names_in templates.now Host) + length services.now < 2 ^ 32 }
         requires lists { AreHostLists templates.now (objects_in templates.now Service)
             lists.now }
         requires hosts { hosts.old ≡ record { blocks = templates.now; kind = HostGroups } }
@@ -75,11 +77,10 @@ impl EscalatedObjects {
         ensures fault { IfErr result (IsRefusal templates.now lists.now) }
     {
         let reached = Reached::new(alloc, templates, Role::Escalated)?;
-        let table = services_of(alloc, services, lists, hosts)?;
         let mut found = Vec::new(alloc);
         let mut count = 0;
         for (place, block) in templates.blocks().iter().enumerate() {
-            let objects = reached.objects_at(alloc, hosts, groups, &table, place)?;
+            let objects = reached.objects_at(alloc, hosts, groups, services, place)?;
             let total = objects.len().saturating_add(count);
             if total > MAX_ESCALATIONS {
                 return Err(LimitFault::TooMany {

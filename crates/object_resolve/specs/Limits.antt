@@ -12,6 +12,7 @@ use Rattle.object_reader.specs.declared.block.Block.{Block}
 use Rattle.object_reader.specs.declared.block.BlockKind.{BlockKind}
 use Rattle.object_reader.specs.declared.block.BlockKind.TheVariants.{Command, Contact, Host, Service, TimePeriod}
 use Rattle.object_resolve.specs.declared.limits.Counts.{Counts}
+use Rattle.object_resolve.specs.Tables.{AreServices}
 use Rattle.object_services.specs.Limits.{AreHostLists, AreWithinLimit, PassesLimit, PassesNowhere}
 
 -- no more contacts, lanes and time periods than a configuration may have
@@ -92,11 +93,12 @@ IsOver blocks place =
 
 -- ---- how they are found
 
--- what is known of blocks that keep within the limits: the hosts of each service block, the objects of which each
--- escalation block speaks, the dependents and masters of each dependency block, and the lanes
+-- what is known of blocks that keep within the limits: the hosts of each service block, the services, the objects of
+-- which each escalation block speaks, the dependents and masters of each dependency block, and the lanes
 pub record AreCounts (blocks : List Block) (counts : Counts) : Type 0 where
   pub hosts_are : AreHostLists blocks (objects_in blocks Service) counts.hosts
   pub few : length (objects_in blocks Host) + sum_by length counts.hosts ≤ max_objects
+  pub services_are : AreServices blocks counts.hosts counts.services
   pub spoken_are : AreEscalated blocks counts.hosts (length blocks) counts.escalated
   pub pairs_are : ArePairsBelow blocks counts.hosts (length blocks) counts.pairs
   pub lanes_are : AreLanes (IsLane blocks) counts.lanes.items

@@ -131,7 +131,7 @@ fn dependencies_in<'a>(
     alloc: Global,
     templates: &Templates<'a>,
     tables: &Tables<'a>,
-    counts: &Counts,
+    counts: &Counts<'a>,
 ) -> Result<Vec<Dependency>, AllocError>
     requires tables { AreTables templates.now tables.now }
     requires few { AreFewOthers templates.now }
@@ -140,8 +140,7 @@ fn dependencies_in<'a>(
         (names_in templates.now TimePeriod) made.items) }
 {
     let periods = tables.objects.objects(NamedKind::TimePeriod).names();
-    let services = &tables.services;
-    let blocks = DependencyBlocks::new(alloc, templates, services, &counts.hosts, &tables.hosts)?;
+    let blocks = DependencyBlocks::new(alloc, templates, &counts.services, &counts.hosts)?;
     dependencies_of(alloc, templates, &blocks, &counts.pairs, periods)
 }
 
@@ -151,7 +150,7 @@ pub(crate) fn config_of<'a>(
     alloc: Global,
     templates: &Templates<'a>,
     tables: &Tables<'a>,
-    counts: &Counts,
+    counts: &Counts<'a>,
 ) -> Result<Config, AllocError>
     requires tables { AreTables templates.now tables.now }
     requires within { AreWithin templates.now }

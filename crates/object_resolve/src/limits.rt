@@ -16,7 +16,7 @@ ghost use Rattle.object_resolve.specs.First.{IsNowhere};
 ghost use Rattle.object_resolve.specs.Limits.{AreCounted, AreCounts, AreFewOthers, AreWithin};
 ghost use Rattle.object_resolve.specs.Limits.{PassesOther, PassesRest};
 ghost use Rattle.object_resolve.specs.Resolve.{IsDependencyLooped, IsFirstOver, IsLoopedOrOver};
-ghost use Rattle.object_resolve.specs.Tables.{AreTables};
+ghost use Rattle.object_resolve.specs.Tables.{AreServices, AreTables};
 ghost use Rattle.object_services.specs.Limits as counted;
 ghost use Rattle.object_services.specs.Limits.{AreHostLists};
 
@@ -32,6 +32,8 @@ use object_groups::first::lower;
 use object_groups::objects::Objects;
 use object_inheritance::templates::Templates;
 use object_names::named::{NamedKind, NamedObjects};
+use object_reached::reached::services_of;
+use object_reached::services::HostServices;
 use object_reader::block::Block;
 use object_service_groups::groups::ServiceGroups;
 use object_services::laws::one_place_passes;
@@ -40,9 +42,11 @@ use std::alloc::{AllocError, Global};
 
 /// What is known of blocks that keep within the limits.
 #[derive(Drop)]
-pub(crate) struct Counts {
+pub(crate) struct Counts<'a> {
     /// The hosts of each service block.
     pub(crate) hosts: ServiceHosts,
+    /// The services, and those of each host.
+    pub(crate) services: HostServices<'a>,
     /// The objects of which each escalation block speaks.
     pub(crate) escalated: EscalatedObjects,
     /// The dependents and masters of each dependency block.
@@ -115,18 +119,20 @@ fn over(blocks: &[Block], fault: LimitFault, other: Option<usize>) -> LoadFault
     }
 }
 
-/// The objects of which each escalation block speaks, where `groups` are the service groups and `hosts` the hosts of
-/// each service block.
+/// The objects of which each escalation block speaks, where `groups` are the service groups, `hosts` the hosts of each
+/// service block and `services` the services.
 fn escalated_in<'a>(
     alloc: Global,
     templates: &Templates<'a>,
     tables: &mut Tables<'a>,
     groups: &mut ServiceGroups<'a>,
     hosts: &ServiceHosts,
+    services: &HostServices<'a>,
 ) -> Result<EscalatedObjects, LimitFault>
     requires tables { AreTables templates.now tables.old }
     requires groups { groups.old ≡ templates.now }
     requires hosts { AreHostLists templates.now (objects_in templates.now Service) hosts.now }
+    requires services { AreServices templates.now hosts.now services.now }
     ensures same { tables.new ≡ tables.old }
     ensures same_groups { groups.new ≡ groups.old }
     ensures objects { IfOk result (AreEscalated templates.now hosts.now
@@ -134,7 +140,6 @@ fn escalated_in<'a>(
     ensures few { IfOk result (λ made. sum_by length made ≤ max_escalations) }
     ensures fault { IfErr result (escalated.IsRefusal templates.now hosts.now) }
 {
-    let services = &tables.services;
     EscalatedObjects::new(alloc, templates, services, hosts, &mut tables.hosts, groups)
 }
 
@@ -168,18 +173,20 @@ fn over_rest<'a>(
     tables: &mut Tables<'a>,
     groups: &mut ServiceGroups<'a>,
     hosts: &ServiceHosts,
+    services: &HostServices<'a>,
     rest: usize,
 ) -> LoadFault
     requires tables { AreTables templates.now tables.old }
     requires groups { groups.old ≡ templates.now }
     requires counted { AreCounted templates.now hosts.now }
+    requires services { AreServices templates.now hosts.now services.now }
     requires rest { IsFirst (PassesRest templates.now) (Some rest) }
     ensures same { tables.new ≡ tables.old }
     ensures same_groups { groups.new ≡ groups.old }
     ensures fault { IsAmong (IsFirstOver templates.now) result }
 {
     one_block_passes();
-    let escalated = escalated_in(alloc, templates, tables, groups, hosts);
+    let escalated = escalated_in(alloc, templates, tables, groups, hosts, services);
     let blocks = templates.blocks();
     match escalated {
         Err(fault) => over_escalations(blocks, hosts, fault, Some(rest)),
@@ -188,20 +195,22 @@ fn over_rest<'a>(
 }
 
 /// What is known of the blocks, where the objects, the dependencies and the others keep within their limits: `groups` are
-/// the service groups, `hosts` the hosts of each service block, `pairs` the dependents and masters of each block,
-/// and `lanes` the commands of the lanes. Refused is the first block with which there are too many escalations.
+/// the service groups, `hosts` the hosts of each service block, `services` the services, `pairs` the dependents and
+/// masters of each block, and `lanes` the commands of the lanes. Refused is the first block with which there are too many escalations.
 fn counts_with<'a>(
     alloc: Global,
     templates: &Templates<'a>,
     tables: &mut Tables<'a>,
     groups: &mut ServiceGroups<'a>,
     hosts: ServiceHosts,
+    services: HostServices<'a>,
     pairs: DependencyPairs,
     lanes: Vec<usize>,
-) -> Result<Counts, LoadFault>
+) -> Result<Counts<'a>, LoadFault>
     requires tables { AreTables templates.now tables.old }
     requires groups { groups.old ≡ templates.now }
     requires counted { AreCounted templates.now hosts }
+    requires services { AreServices templates.now hosts services }
     requires lanes { AreLanes (IsLane templates.now) lanes.items }
     requires pairs { ArePairsBelow templates.now hosts (length templates.now) pairs }
     requires few_pairs { sum_by length pairs ≤ max_dependencies }
@@ -213,11 +222,12 @@ fn counts_with<'a>(
     ensures counts { IfOk result (AreCounts templates.now) }
     ensures fault { IfErr result (IsAmong (IsFirstOver templates.now)) }
 {
-    let escalated = escalated_in(alloc, templates, tables, groups, &hosts);
+    let escalated = escalated_in(alloc, templates, tables, groups, &hosts, &services);
     match escalated {
         Err(fault) => Err(over_escalations(templates.blocks(), &hosts, fault, None)),
         Ok(escalated) => Ok(Counts {
             hosts,
+            services,
             escalated,
             pairs,
             lanes,
@@ -226,20 +236,22 @@ fn counts_with<'a>(
 }
 
 /// What is known of the blocks, where the objects keep within their limit: `groups` are the service groups, `hosts` the
-/// hosts of each service block, `lanes` the commands of the lanes, and `other` the first place with which there are too
-/// many of the others. Refused is the first block that passes a limit.
+/// hosts of each service block, `services` the services, `lanes` the commands of the lanes, and `other` the first place
+/// with which there are too many of the others. Refused is the first block that passes a limit.
 fn counts_of<'a>(
     alloc: Global,
     templates: &Templates<'a>,
     tables: &mut Tables<'a>,
     groups: &mut ServiceGroups<'a>,
     hosts: ServiceHosts,
+    services: HostServices<'a>,
     lanes: Vec<usize>,
     other: Option<usize>,
-) -> Result<Counts, LoadFault>
+) -> Result<Counts<'a>, LoadFault>
     requires tables { AreTables templates.now tables.old }
     requires groups { groups.old ≡ templates.now }
     requires counted { AreCounted templates.now hosts }
+    requires services { AreServices templates.now hosts services }
     requires lanes { AreLanes (IsLane templates.now) lanes.items }
     requires other { IsFirst (PassesOther templates.now) other }
     requires others { IfNone other (AreFewOthers templates.now) }
@@ -249,17 +261,19 @@ fn counts_of<'a>(
     ensures counts { IfOk result (AreCounts templates.now) }
     ensures fault { IfErr result (IsAmong (IsFirstOver templates.now)) }
 {
-    match pairs_in(alloc, templates, tables, groups, &hosts) {
+    match pairs_in(alloc, templates, tables, groups, &hosts, &services) {
         Err(fault) => match fault {
             LimitFault::NoMemory => Err(LoadFault::NoMemory),
             LimitFault::TooMany { place, line: _ } => {
                 let rest = least(place, other);
-                Err(over_rest(alloc, templates, tables, groups, &hosts, rest))
+                Err(over_rest(alloc, templates, tables, groups, &hosts, &services, rest))
             }
         },
         Ok(pairs) => match other {
-            Some(rest) => Err(over_rest(alloc, templates, tables, groups, &hosts, rest)),
-            None => counts_with(alloc, templates, tables, groups, hosts, pairs, lanes),
+            Some(rest) => Err(over_rest(alloc, templates, tables, groups, &hosts, &services, rest)),
+            None => counts_with(
+                alloc, templates, tables, groups, hosts, services, pairs, lanes,
+            ),
         },
     }
 }
@@ -273,7 +287,7 @@ fn check_counted<'a>(
     hosts: ServiceHosts,
     lanes: Vec<usize>,
     other: Option<usize>,
-) -> Result<Counts, LoadFault>
+) -> Result<Counts<'a>, LoadFault>
     requires tables { AreTables templates.now tables.old }
     requires counted { AreCounted templates.now hosts }
     requires lanes { AreLanes (IsLane templates.now) lanes.items }
@@ -285,9 +299,19 @@ fn check_counted<'a>(
     ensures counts { IfOk result (AreCounts templates.now) }
     ensures fault { IfErr result (IsAmong (IsLoopedOrOver templates.now)) }
 {
+    let services = services_of(alloc, &tables.services, &hosts, &tables.hosts)?;
     let mut groups = groups_in(alloc, templates, tables, &hosts)?;
-    check_dependency_loops(alloc, templates, tables, &mut groups, &hosts)?;
-    counts_of(alloc, templates, tables, &mut groups, hosts, lanes, other)
+    check_dependency_loops(alloc, templates, tables, &mut groups, &hosts, &services)?;
+    counts_of(
+        alloc,
+        templates,
+        tables,
+        &mut groups,
+        hosts,
+        services,
+        lanes,
+        other,
+    )
 }
 
 /// Finds the first block that lies on a loop of dependencies, and then the first that passes a limit. Where none does,
@@ -296,7 +320,7 @@ pub(crate) fn check_limits<'a>(
     alloc: Global,
     templates: &Templates<'a>,
     tables: &mut Tables<'a>,
-) -> Result<Counts, LoadFault>
+) -> Result<Counts<'a>, LoadFault>
     requires { AreTables templates.now tables.old }
     ensures same { tables.new ≡ tables.old }
     ensures no_loop { OnOk result (IsNowhere (IsDependencyLooped templates.now)) }

@@ -62,7 +62,7 @@ fn check_all<'a>(
     alloc: Global,
     templates: &Templates<'a>,
     tables: &mut Tables<'a>,
-) -> Result<Counts, LoadFault>
+) -> Result<Counts<'a>, LoadFault>
     requires { AreTables templates.now tables.old }
     ensures same { tables.new ≡ tables.old }
     ensures named { OnOk result (IsNowhere (IsMisnamed templates.now)) }

@@ -31,7 +31,7 @@ objects_at-requires-clause-groups c =
     c.requires.groups ∙ ap (λ (r : ReachedOf). r.blocks) (sym masters)
 
 pub objects_at-requires-clause-few : goal.objects_at-requires-clause-few
-objects_at-requires-clause-few c = subst (λ (r : ReachedOf). length (names_in r.blocks Host) + length c.self.inside.services < 2 ^ 32) (sym c.self.invariant.masters_are) c.self.invariant.few
+objects_at-requires-clause-few c = subst (λ (r : ReachedOf). length (names_in r.blocks Host) + length c.self.inside.services.now < 2 ^ 32) (sym c.self.invariant.masters_are) c.self.invariant.few
 
 pub objects_at-requires-2-clause-within : goal.objects_at-requires-2-clause-within
 objects_at-requires-2-clause-within c =
@@ -52,7 +52,7 @@ objects_at-requires-2-clause-groups c =
     (c.objects_at.ensures.same_groups ∙ c.requires.groups) ∙ ap (λ (r : ReachedOf). r.blocks) (sym dependents)
 
 pub objects_at-requires-2-clause-few : goal.objects_at-requires-2-clause-few
-objects_at-requires-2-clause-few c = subst (λ (r : ReachedOf). length (names_in r.blocks Host) + length c.self.inside.services < 2 ^ 32) (sym c.self.invariant.dependents_are) c.self.invariant.few
+objects_at-requires-2-clause-few c = subst (λ (r : ReachedOf). length (names_in r.blocks Host) + length c.self.inside.services.now < 2 ^ 32) (sym c.self.invariant.dependents_are) c.self.invariant.few
 
 pub returns-then-is_none-clause-pairs : goal.returns-then-is_none-clause-pairs
 returns-then-is_none-clause-pairs c =
@@ -64,10 +64,10 @@ returns-then-is_empty-clause-pairs c =
     c.self.invariant.masters_are ∙ ap (λ (v : BlocksOf). record { blocks = v.blocks; role = Master }) c.self.view_is in
     let lists : AreHostLists c.args.self.now.blocks (objects_in c.args.self.now.blocks Service) c.args.self.now.lists =
     subst (λ (v : BlocksOf). AreHostLists v.blocks (objects_in v.blocks Service) v.lists) c.self.view_is c.self.invariant.host_lists in
-    let services : c.self.inside.services ≡ pairs_of (names_in c.args.self.now.blocks Service) c.args.self.now.lists =
+    let services : c.self.inside.services.now ≡ pairs_of (names_in c.args.self.now.blocks Service) c.args.self.now.lists =
     c.self.invariant.services_are ∙ ap (λ (v : BlocksOf). pairs_of (names_in v.blocks Service) v.lists) c.self.view_is in
     let are_masters : AreThose (SpeaksOf c.args.self.now.blocks c.args.self.now.lists Master c.args.place) c.in_ok-masters.masters.items =
-    (subst (λ (r : ReachedOf). AreSpokenOf r.blocks c.self.inside.services r.role c.args.place c.in_ok-masters.masters.items) masters c.in_ok-masters.ensures.objects) c.args.self.now.lists lists services in
+    (subst (λ (r : ReachedOf). AreSpokenOf r.blocks c.self.inside.services.now r.role c.args.place c.in_ok-masters.masters.items) masters c.in_ok-masters.ensures.objects) c.args.self.now.lists lists services in
     let zero = eqb-true _ 0 (sym c.if-is_empty.ensures) in
     no-masters c.args.self.now.blocks c.args.self.now.lists c.args.place c.none-then-is_empty.result c.in_ok-masters.masters.items are_masters (nil_from_length c.in_ok-masters.masters.items (omega (arith, zero, c.in_ok-masters.masters.ok))) c.none-then-is_empty.ensures
 
@@ -77,10 +77,10 @@ returns-then-is_empty-2-clause-pairs c =
     c.self.invariant.dependents_are ∙ ap (λ (v : BlocksOf). record { blocks = v.blocks; role = Dependent }) c.self.view_is in
     let lists : AreHostLists c.args.self.now.blocks (objects_in c.args.self.now.blocks Service) c.args.self.now.lists =
     subst (λ (v : BlocksOf). AreHostLists v.blocks (objects_in v.blocks Service) v.lists) c.self.view_is c.self.invariant.host_lists in
-    let services : c.self.inside.services ≡ pairs_of (names_in c.args.self.now.blocks Service) c.args.self.now.lists =
+    let services : c.self.inside.services.now ≡ pairs_of (names_in c.args.self.now.blocks Service) c.args.self.now.lists =
     c.self.invariant.services_are ∙ ap (λ (v : BlocksOf). pairs_of (names_in v.blocks Service) v.lists) c.self.view_is in
     let are_dependents : AreThose (SpeaksOf c.args.self.now.blocks c.args.self.now.lists Dependent c.args.place) c.in_ok-dependents.dependents.items =
-    (subst (λ (r : ReachedOf). AreSpokenOf r.blocks c.self.inside.services r.role c.args.place c.in_ok-dependents.dependents.items) dependents c.in_ok-dependents.ensures.objects) c.args.self.now.lists lists services in
+    (subst (λ (r : ReachedOf). AreSpokenOf r.blocks c.self.inside.services.now r.role c.args.place c.in_ok-dependents.dependents.items) dependents c.in_ok-dependents.ensures.objects) c.args.self.now.lists lists services in
     let zero = eqb-true _ 0 (sym c.if-is_empty-2.ensures) in
     no-dependents c.args.self.now.blocks c.args.self.now.lists c.args.place c.none-then-is_empty-2.result c.in_ok-dependents.dependents.items are_dependents (nil_from_length c.in_ok-dependents.dependents.items (omega (arith, zero, c.in_ok-dependents.dependents.ok))) c.none-then-is_empty-2.ensures
 
@@ -92,10 +92,10 @@ returns-clause-pairs c =
     c.self.invariant.dependents_are ∙ ap (λ (v : BlocksOf). record { blocks = v.blocks; role = Dependent }) c.self.view_is in
     let lists : AreHostLists c.args.self.now.blocks (objects_in c.args.self.now.blocks Service) c.args.self.now.lists =
     subst (λ (v : BlocksOf). AreHostLists v.blocks (objects_in v.blocks Service) v.lists) c.self.view_is c.self.invariant.host_lists in
-    let services : c.self.inside.services ≡ pairs_of (names_in c.args.self.now.blocks Service) c.args.self.now.lists =
+    let services : c.self.inside.services.now ≡ pairs_of (names_in c.args.self.now.blocks Service) c.args.self.now.lists =
     c.self.invariant.services_are ∙ ap (λ (v : BlocksOf). pairs_of (names_in v.blocks Service) v.lists) c.self.view_is in
     let are_masters : AreThose (SpeaksOf c.args.self.now.blocks c.args.self.now.lists Master c.args.place) c.in_ok-masters.masters.items =
-    (subst (λ (r : ReachedOf). AreSpokenOf r.blocks c.self.inside.services r.role c.args.place c.in_ok-masters.masters.items) masters c.in_ok-masters.ensures.objects) c.args.self.now.lists lists services in
+    (subst (λ (r : ReachedOf). AreSpokenOf r.blocks c.self.inside.services.now r.role c.args.place c.in_ok-masters.masters.items) masters c.in_ok-masters.ensures.objects) c.args.self.now.lists lists services in
     let are_dependents : AreThose (SpeaksOf c.args.self.now.blocks c.args.self.now.lists Dependent c.args.place) c.in_ok-dependents.dependents.items =
-    (subst (λ (r : ReachedOf). AreSpokenOf r.blocks c.self.inside.services r.role c.args.place c.in_ok-dependents.dependents.items) dependents c.in_ok-dependents.ensures.objects) c.args.self.now.lists lists services in
+    (subst (λ (r : ReachedOf). AreSpokenOf r.blocks c.self.inside.services.now r.role c.args.place c.in_ok-dependents.dependents.items) dependents c.in_ok-dependents.ensures.objects) c.args.self.now.lists lists services in
     pairs-are c.args.self.now.blocks c.args.self.now.lists c.args.place c.new.result c.in_ok-dependents.dependents.items c.in_ok-masters.masters.items (sym (ap is_some c.kept_states.ensures) ∙ c.if-is_none.ensures) are_dependents are_masters c.new.ensures
