@@ -6,7 +6,7 @@ ghost use Rattle.std.specs.Option.{option_map_or};
 ghost use Rattle.graph.specs.Chains.{HasNoLoop};
 ghost use Rattle.graph.specs.Edges.{Leads};
 ghost use Rattle.graph_order.specs.Loops.{IsFirstOnLoop};
-ghost use Rattle.graph_order.specs.Order.{IsOrder};
+ghost use Rattle.graph_order.specs.Order.{HasLoop, IsOrder};
 ghost use Rattle.object_inheritance.specs.Faults.{AreFree, fault_by, is_doubled, IsRefusal};
 ghost use Rattle.object_inheritance.specs.Faults.{uses_unknown};
 ghost use Rattle.object_inheritance.specs.Inherited.{AreInherited, AreShort};
@@ -123,6 +123,21 @@ fn check_templates(
     Ok(())
 }
 
+/// The first fault of blocks of which some lie on a loop.
+fn loop_fault(alloc: Global, names: &TemplateNames, graph: &Graph) -> InheritanceFault
+    requires graph { graph.now ≡ template_graph names.now }
+    requires a_loop { HasLoop graph.now }
+    ensures { IsRefusal names.now result }
+{
+    let Ok(looped) = first_on_loop(alloc, graph) else {
+        return InheritanceFault::NoMemory;
+    };
+    match check_templates(alloc, names, looped) {
+        Err(fault) => fault,
+        Ok(()) => unreachable!(),
+    }
+}
+
 /// Blocks whose templates have no fault. It takes 16 bytes a block, 4 a template that a block uses and some 8 to
 /// 16 a directive. Contracts see the blocks.
 #[derive(Drop)]
@@ -159,18 +174,17 @@ impl<'a> Templates<'a> {
         }
         let names = TemplateNames::new(alloc, blocks)?;
         let graph = template_graph(alloc, &names)?;
-        let looped = first_on_loop(alloc, &graph)?;
-        check_templates(alloc, &names, looped)?;
+        let Some(order) = order(alloc, &graph)? else {
+            return Err(loop_fault(alloc, &names, &graph));
+        };
+        check_templates(alloc, &names, None)?;
         let givers = Givers::new(alloc, blocks)?;
-        match order(alloc, &graph)? {
-            Some(order) => Ok(Templates {
-                blocks,
-                graph,
-                order,
-                givers,
-            }),
-            None => unreachable!(),
-        }
+        Ok(Templates {
+            blocks,
+            graph,
+            order,
+            givers,
+        })
     }
 
     /// The blocks.
