@@ -25,8 +25,8 @@ use object_service_groups::groups::ServiceGroups;
 use object_services::services::{LimitFault, ServiceHosts};
 use std::alloc::{AllocError, Global};
 
-/// The dependents and masters of each block, where `groups` are the service groups, `hosts` the hosts of each service block
-/// and `services` the services.
+/// The dependents and masters of each block, where `groups` are the service groups, `hosts` the hosts of each service
+/// block and `services` the services.
 pub(crate) fn pairs_in<'a>(
     alloc: Global,
     templates: &Templates<'a>,

@@ -196,7 +196,8 @@ fn over_rest<'a>(
 
 /// What is known of the blocks, where the objects, the dependencies and the others keep within their limits: `groups` are
 /// the service groups, `hosts` the hosts of each service block, `services` the services, `pairs` the dependents and
-/// masters of each block, and `lanes` the commands of the lanes. Refused is the first block with which there are too many escalations.
+/// masters of each block, and `lanes` the commands of the lanes. Refused is the first block with which there are too
+/// many escalations.
 fn counts_with<'a>(
     alloc: Global,
     templates: &Templates<'a>,
