@@ -25,7 +25,7 @@ use object_values::options::CriteriaKind;
 use std::alloc::{AllocError, Global};
 use std::marker::Model;
 
-/// What blocks have for the directives of dependencies. It takes some 300 bytes a block. Contracts see the blocks, and
+/// What blocks have for the directives of dependencies. It takes some 180 bytes a block. Contracts see the blocks, and
 /// the hosts of each service block.
 #[derive(Drop)]
 pub struct DependencyBlocks<'a, 'l> {

@@ -15,7 +15,7 @@ use std::alloc::{AllocError, Global};
 use std::marker::Model;
 
 /// What blocks list by two directives: by one objects, by the other groups of them, as `contacts` and
-/// `contact_groups`. It takes some 64 bytes a block. Contracts see the blocks and the directives.
+/// `contact_groups`. It takes some 40 bytes a block. Contracts see the blocks and the directives.
 #[derive(Drop)]
 pub struct Listing<'a> {
     blocks: &'a [Block],

@@ -20,7 +20,7 @@ use std::alloc::{AllocError, Global};
 use std::marker::Model;
 
 /// What blocks list by four directives: hosts and host groups, descriptions of services on these hosts, and service
-/// groups, as a service escalation does. It takes some 128 bytes a block. Contracts see the blocks and the
+/// groups, as a service escalation does. It takes some 80 bytes a block. Contracts see the blocks and the
 /// directives.
 #[derive(Drop)]
 pub struct ServiceListing<'a> {

@@ -133,7 +133,7 @@ fn listing_of<'a>(
     }
 }
 
-/// The objects of which blocks speak in one role. It takes some 128 bytes a block. Contracts see the blocks and the
+/// The objects of which blocks speak in one role. It takes some 80 bytes a block. Contracts see the blocks and the
 /// role.
 #[derive(Drop)]
 pub struct Reached<'a> {
