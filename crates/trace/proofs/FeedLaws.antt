@@ -1,5 +1,5 @@
 -- The lines of a feed, one after another: what they give, and what is kept of it.
-use Rattle.std.proofs.Common.{codes, slice_index, ◌≡◌, ◌≢◌, ◌<◌, ◌≤◌, inl, inr, All, IfSome, ℕ, ◌+◌, zero, suc, Bool, true, false, List, [], ◌∷◌, ◌++◌, length, replicate, Option, None, Some, Result, Ok, Err, refl, sym, ap, subst, ◌∙◌, append_assoc, arith}
+use Rattle.std.proofs.Common.{codes, slice_index, ◌≡◌, ◌≢◌, ◌<◌, ◌≤◌, inl, inr, All, IfSome, IsSome, ℕ, ◌+◌, zero, suc, Bool, true, false, List, [], ◌∷◌, ◌++◌, length, replicate, Option, None, Some, Result, Ok, Err, refl, sym, ap, subst, ◌∙◌, append_assoc, arith}
 use Rattle.std.proofs.lemmas.List.{append-nil, length-append, length-replicate}
 use Rattle.std.proofs.lemmas.Str.{is_utf8-from_IsUtf8, IsUtf8-from_ascii}
 use Rattle.std.specs.Str.{IsAscii}
@@ -15,17 +15,18 @@ use Rattle.text_lines.specs.declared.line_reader.NextLine.TheVariants.{Line, Ove
 use Rattle.text_lines.specs.declared.line_reader.Stop.{Stop}
 use Rattle.text_lines.specs.declared.line_reader.Stop.TheVariants.{InputEnded, CutLine, ReaderFailed, TooManyCalls, TooManyBytes, TooManyLines}
 use Rattle.std.proofs.lemmas.Option.{same_Some}
-use Rattle.event_feed.specs.FeedLaws.{known_weaker}
-use Rattle.event_feed.specs.Feed.{Answer, AreGiven, AreGivenBy, Feed, ComesNext, ComesTo, FaultAnswers, FaultComesTo, FaultFits, GivesEvent, GivesFault, RefusesLine, answers_from, raised, text_reading}
+use Rattle.event_feed.specs.FeedLaws.{fault_next, known_weaker}
+use Rattle.event_feed.specs.Feed.{Answer, AnswersNone, AreGiven, AreGivenBy, Feed, FeedComesTo, ComesNext, ComesTo, FaultAnswers, FaultComesTo, FaultFits, GivesEvent, GivesFault, RefusesLine, answers_from, ends_feed, raised, text_reading}
 use Rattle.event_feed.specs.Line.{line_reading}
 use Rattle.text_lines.specs.Lines.{Known, pieces}
-use Rattle.written.specs.Written.{Leaves}
-use Rattle.written.specs.WrittenLaws.{leaves_on, leaves_all}
+use Rattle.written.specs.Written.{Leaves, WritesFront}
+use Rattle.written.specs.WrittenLaws.{front_on, leaves_on, leaves_all}
 use Rattle.trace.specs.declared.feed.AfterFeed.{AfterFeed}
 use Rattle.trace.specs.declared.feed.AfterFeed.TheVariants.{Steps, Nothing, Cut, Unread}
 use Rattle.trace.specs.declared.run.Run.{Run}
-use Rattle.trace.specs.Feed.{ComesAfter, FeedEnds, FeedGoesOn, FeedSoFar, FeedState, IsMark, added, after_answer, after_answers, after_stop, events_after, is_over_after, mark}
-use Rattle.trace.specs.FeedRun.{EndsFeed, GoesOn, Has, ReadsFeed, ReadsSome, Unmoved, feed_state}
+use Rattle.trace.specs.Feed.{ComesAfter, FeedBegins, FeedEnds, FeedGoesOn, FeedSoFar, FeedState, IsMark, added, after_answer, after_answers, after_stop, events_after, is_over_after, mark}
+use Rattle.trace.specs.FeedRun.{EndsFeed, GoesOn, Has, ReadsFeed, ReadsFront, ReadsSome, Unmoved, feed_state}
+use Rattle.trace.proofs.StepLinesLaws.{known_first}
 
 -- ---- the mark
 
@@ -71,24 +72,42 @@ after_text events over t u (answer ∷ given) =
     (append_assoc t u (added events over answer.line answer.given))
     ∙ after_text (events_after events over answer.given) (is_over_after events over answer.given) t (u ++ added events over answer.line answer.given) given
 
+-- what answers add to a run whose text is all written
+abbrev alone : Run → List Answer → FeedState
+alone run given = after_answers (record { events = run.events.items; over = run.is_over; text = [] }) given
+
+after_held : (run : Run) (held : List ℕ) (given : List Answer) → after_answers (feed_state run held) given ≡ record (alone run given) { text = held ++ (alone run given).text }
+after_held run held given =
+    ap (λ (t : List ℕ). after_answers (record { events = run.events.items; over = run.is_over; text = t }) given) (sym (append-nil held)) ∙ after_text run.events.items run.is_over held [] given
+
+after_kept : (f : FeedState) (run : Run) → run.events.items ≡ f.events → run.is_over ≡ f.over → (given : List Answer)
+    → after_answers f given ≡ record (alone run given) { text = f.text ++ (alone run given).text }
+after_kept f run events over given =
+    ap (λ (es : List Event). after_answers (record { events = es; over = f.over; text = f.text }) given) (sym events)
+    ∙ ap (λ (b : Bool). after_answers (record { events = run.events.items; over = b; text = f.text }) given) (sym over)
+    ∙ ap (λ (t : List ℕ). after_answers (record { events = run.events.items; over = run.is_over; text = t }) given) (sym (append-nil f.text)) ∙ after_text run.events.items run.is_over f.text [] given
+
 -- what is kept of further answers, with the text before it
 pub has_more : (f : FeedState) (old new : Run) (before mid after : Option (List ℕ)) (held held' : List ℕ) (given : List Answer) → Has f old before mid held
     → Has (after_answers (feed_state old held) given) new mid after held' → Has (after_answers f given) new before after held'
 has_more f old new before mid after held held' given h k =
-    let alone : FeedState = after_answers (record { events = old.events.items; over = old.is_over; text = [] }) given in
-    let here : after_answers (feed_state old held) given ≡ record alone { text = held ++ alone.text } =
-    ap (λ (t : List ℕ). after_answers (record { events = old.events.items; over = old.is_over; text = t }) given) (sym (append-nil held)) ∙ after_text old.events.items old.is_over held [] given in
-    let there : after_answers f given ≡ record alone { text = f.text ++ alone.text } =
-    ap (λ (es : List Event). after_answers (record { events = es; over = f.over; text = f.text }) given) (sym h.events)
-    ∙ ap (λ (b : Bool). after_answers (record { events = old.events.items; over = b; text = f.text }) given) (sym h.over)
-    ∙ ap (λ (t : List ℕ). after_answers (record { events = old.events.items; over = old.is_over; text = t }) given) (sym (append-nil f.text)) ∙ after_text old.events.items old.is_over f.text [] given in
+    let here = after_held old held given in
+    let there = after_kept f old h.events h.over given in
     record {
       events = k.events ∙ ap (λ (s : FeedState). s.events) here ∙ sym (ap (λ (s : FeedState). s.events) there);
       over = k.over ∙ ap (λ (s : FeedState). s.over) here ∙ sym (ap (λ (s : FeedState). s.over) there);
       text = subst (λ (text : List ℕ). Leaves before after text held') (sym (ap (λ (s : FeedState). s.text) there))
-          (leaves_on before mid after f.text held alone.text held' h.text
+          (leaves_on before mid after f.text held (alone old given).text held' h.text
           (subst (λ (text : List ℕ). Leaves mid after text held') (ap (λ (s : FeedState). s.text) here) k.text));
     }
+
+-- a front of what further answers add
+front_more : (f : FeedState) (old : Run) (before mid after : Option (List ℕ)) (held : List ℕ) (given : List Answer) → Has f old before mid held
+    → WritesFront mid after (after_answers (feed_state old held) given).text → WritesFront before after (after_answers f given).text
+front_more f old before mid after held given h k =
+    subst (λ (text : List ℕ). WritesFront before after text) (sym (ap (λ (s : FeedState). s.text) (after_kept f old h.events h.over given)))
+    (front_on before mid after f.text held (alone old given).text h.text
+    (subst (λ (text : List ℕ). WritesFront mid after text) (ap (λ (s : FeedState). s.text) (after_held old held given)) k))
 
 -- all lines up to one are before a later one
 earlier_below : (given front : List Answer) (line later : ℕ) → line < later → All (λ a. a.line ≤ line) given → All (λ a. a.line < later) front → All (λ a. a.line < later) (given ++ front)
@@ -110,6 +129,7 @@ some_none run feed bytes known held = (
     number = omega arith;
     answers = refl;
     earlier = All-nil (λ (answer : Answer). answer.line ≤ feed.line);
+    read_on = All-nil (λ (answer : Answer). ends_feed answer.given ≡ false);
   },
   record { events = refl; over = refl; text = leaves_all known held },
 )
@@ -126,6 +146,7 @@ some_more start old new feed feed' feed'' bytes mid rest before between after he
         number = omega (arith, h.1.number, on.number, length-append h.1.before on.before);
         answers = h.1.answers ∙ ap (λ (all : List Answer). h.0 ++ all) on.answers ∙ sym (append_assoc h.0 (k.0 ∷ []) (answers_from start.config.now.objects feed'' rest));
         earlier = earlier_more h.0 k.0 feed'.line feed''.line (omega (arith, on.number)) (omega (arith, on.line)) h.1.earlier;
+        read_on = All-push (λ (answer : Answer). ends_feed answer.given ≡ false) h.0 k.0 h.1.read_on on.read_on;
       },
       subst (λ (f : FeedState). Has f new before after held'') (sym (after_more (feed_state start held) h.0 (k.0 ∷ [])))
           (has_more (after_answers (feed_state start held) h.0) old new before between after held' held'' (k.0 ∷ []) h.2 k.2),
@@ -163,14 +184,31 @@ ends_more can_fail objects feed feed' bytes mid rest Steps given more h k = (
   omega (arith, h.number, k.4, length-append h.before k.0),
   h.answers ∙ ap (λ (all : List Answer). given ++ all) k.5 ∙ sym (append_assoc given more (record { line = k.1; given = Err BadStamp } ∷ k.2)),
 )
-ends_more can_fail objects feed feed' bytes mid rest Nothing given more h k = h.answers ∙ ap (λ (all : List Answer). given ++ all) k
-ends_more can_fail objects feed feed' bytes mid rest Cut given more h k =
-    (given ++ k.0, k.1, h.answers ∙ ap (λ (all : List Answer). given ++ all) k.2, ap (λ (all : List Answer). given ++ all) k.3 ∙ sym (append_assoc given k.0 _))
-ends_more can_fail objects feed feed' bytes mid rest Unread given more h k = (
-  given ++ k.0,
+ends_more can_fail objects feed feed' bytes mid rest Nothing given more h k = (
+  h.before ++ k.0,
+  comes_more bytes mid h.before k.0 ([] ∷ []) h.lines k.1,
+  h.answers ∙ ap (λ (all : List Answer). given ++ all) k.2,
+  All-append (λ (answer : Answer). ends_feed answer.given ≡ false) given more h.read_on k.3,
+)
+ends_more can_fail objects feed feed' bytes mid rest Cut given more h k = (
+  h.before ++ k.0,
   k.1,
-  given_more can_fail objects feed feed' bytes mid given more h k.2,
-  ap (λ (all : List Answer). given ++ all) k.3 ∙ sym (append_assoc given k.0 _),
+  given ++ k.2,
+  k.3,
+  comes_more bytes mid h.before k.0 (k.1 ∷ []) h.lines k.4,
+  h.answers ∙ ap (λ (all : List Answer). given ++ all) k.5,
+  ap (λ (all : List Answer). given ++ all) k.6 ∙ sym (append_assoc given k.2 _),
+)
+ends_more can_fail objects feed feed' bytes mid rest Unread given more h k = (
+  h.before ++ k.0,
+  k.1,
+  k.2,
+  given ++ k.3,
+  k.4,
+  comes_more bytes mid h.before k.0 (k.1 ∷ k.2) h.lines k.5,
+  omega (arith, h.number, k.6, length-append h.before k.0),
+  given_more can_fail objects feed feed' bytes mid given more h k.7,
+  ap (λ (all : List Answer). given ++ all) k.8 ∙ sym (append_assoc given k.3 _),
 )
 
 pub some_last : (can_fail : Bool) (start old new : Run) (feed feed' : Feed) (bytes mid rest : List ℕ) (end : AfterFeed) (before between after : Option (List ℕ)) (held held' held'' : List ℕ)
@@ -183,6 +221,53 @@ some_last can_fail start old new feed feed' bytes mid rest end before between af
       subst (λ (f : FeedState). Has f new before after held'') (sym (after_more (feed_state start held) h.0 k.0))
           (has_more (after_answers (feed_state start held) h.0) old new before between after held' held'' k.0 h.2 k.2),
     )
+
+-- ---- a front of what the feed gives
+
+begins_more : (can_fail : Bool) (objects : List Object) (feed feed' : Feed) (bytes mid : List ℕ) (given more : List Answer) → FeedSoFar objects feed bytes feed' mid given
+    → FeedBegins can_fail (answers_from objects feed' mid) feed'.line mid more → FeedBegins can_fail (answers_from objects feed bytes) feed.line bytes (given ++ more)
+begins_more can_fail objects feed feed' bytes mid given more h (inl first) = inl (record {
+  before = h.before ++ first.before;
+  others = first.others;
+  more = first.more;
+  lines = comes_more bytes mid h.before first.before first.others h.lines first.lines;
+  answers = h.answers ∙ ap (λ (all : List Answer). given ++ all) first.answers ∙ sym (append_assoc given more first.more);
+  earlier = All-append (λ (a : Answer). a.line ≤ feed.line + length (h.before ++ first.before)) given more
+      (All-weaker (λ (a : Answer). a.line ≤ feed'.line) (λ (a : Answer). a.line ≤ feed.line + length (h.before ++ first.before))
+      (λ a le. omega (arith, le, h.number, length-append h.before first.before)) given h.earlier)
+      (All-weaker (λ (a : Answer). a.line ≤ feed'.line + length first.before) (λ (a : Answer). a.line ≤ feed.line + length (h.before ++ first.before))
+      (λ a le. omega (arith, le, h.number, length-append h.before first.before)) more first.earlier);
+})
+begins_more can_fail objects feed feed' bytes mid given more h (inr ends) =
+    inr (ends.0, ends.1, ends_more can_fail objects feed feed' bytes mid ends.1 ends.0 given more h ends.2)
+
+pub some_front : (can_fail : Bool) (start old : Run) (feed feed' : Feed) (bytes mid : List ℕ) (before between after : Option (List ℕ)) (held held' : List ℕ)
+    → old.config ≡ start.config → ReadsSome start feed bytes old feed' mid before between held held' → ReadsFront can_fail old feed' mid between after held'
+    → ReadsFront can_fail start feed bytes before after held
+some_front can_fail start old feed feed' bytes mid before between after held held' same h k =
+    let begins = subst (λ x. FeedBegins can_fail (answers_from x.now.objects feed' mid) feed'.line mid k.0) same k.1 in (
+      h.0 ++ k.0,
+      begins_more can_fail start.config.now.objects feed feed' bytes mid h.0 k.0 h.1 begins,
+      subst (λ (f : FeedState). WritesFront before after f.text) (sym (after_more (feed_state start held) h.0 k.0))
+          (front_more (after_answers (feed_state start held) h.0) old before between after held' k.0 h.2 k.2),
+    )
+
+-- the front of a line after which the feed goes on, and of its last
+line_front : (can_fail : Bool) (run : Run) (feed feed' : Feed) (bytes rest : List ℕ) (answer : Answer) (before after : Option (List ℕ)) (held : List ℕ)
+    → FeedGoesOn run.config.now.objects feed bytes feed' rest answer → WritesFront before after (after_answer (feed_state run held) answer).text
+    → ReadsFront can_fail run feed bytes before after held
+line_front can_fail run feed feed' bytes rest answer before after held on front = (
+  answer ∷ [],
+  inl (record {
+    before = on.before;
+    others = pieces rest;
+    more = answers_from run.config.now.objects feed' rest;
+    lines = on.lines;
+    answers = on.answers;
+    earlier = All-cons (λ (a : Answer). a.line ≤ feed.line + length on.before) answer [] (omega (arith, on.line, on.number)) (All-nil (λ (a : Answer). a.line ≤ feed.line + length on.before));
+  }),
+  front,
+)
 
 -- ---- one line
 
@@ -199,16 +284,30 @@ comes_next from bytes rest line text next unmarked = (
   omega (arith, next.number, length-append (replicate next.empty []) (text ∷ []), length-replicate {A = List ℕ} next.empty []),
 )
 
-pub comes_marked : (from : ℕ) (bytes rest : List ℕ) (line : ℕ) (text : List ℕ) → ComesNext from (pieces bytes) line text (pieces rest) → text ≡ mark
-    → (before : List (List ℕ)) × ComesAfter bytes before (mark ∷ pieces rest) × (line ≡ from + length before + 1)
-comes_marked from bytes rest line text next marked = (
+-- the line that comes next, after empty ones
+comes_up_to : (from : ℕ) (bytes : List ℕ) (line : ℕ) (text : List ℕ) (others : List (List ℕ)) → ComesNext from (pieces bytes) line text others
+    → (before : List (List ℕ)) × ComesAfter bytes before (text ∷ others) × (line ≡ from + length before + 1)
+comes_up_to from bytes line text others next = (
   replicate next.empty [],
-  record {
-    lines = next.are ∙ ap (λ (l : List ℕ). replicate next.empty [] ++ l ∷ pieces rest) marked;
-    unmarked = All-replicate (λ (l : List ℕ). l ≢ mark) next.empty [] (λ e. absurd (cc));
-  },
+  record { lines = next.are; unmarked = All-replicate (λ (l : List ℕ). l ≢ mark) next.empty [] (λ e. absurd (cc)) },
   omega (arith, next.number, length-replicate {A = List ℕ} next.empty []),
 )
+
+pub comes_marked : (from : ℕ) (bytes rest : List ℕ) (line : ℕ) (text : List ℕ) → ComesNext from (pieces bytes) line text (pieces rest) → text ≡ mark
+    → (before : List (List ℕ)) × ComesAfter bytes before (mark ∷ pieces rest) × (line ≡ from + length before + 1)
+comes_marked from bytes rest line text next marked =
+    let comes = comes_up_to from bytes line text (pieces rest) next in
+    (comes.0, subst (λ (l : List ℕ). ComesAfter bytes comes.0 (l ∷ pieces rest)) marked comes.1, comes.2)
+
+-- the line at which the reading of a feed stopped
+stopped_at : (stop : Stop) (fault : FeedFault) (from : ℕ) (bytes : List ℕ) (line : ℕ) (kept rest : List ℕ) → stop_fault stop ≡ Some fault → ComesTo (Over stop) from bytes line kept rest
+    → (before : List (List ℕ)) × (text : List ℕ) × (others : List (List ℕ)) × ComesAfter bytes before (text ∷ others) × (line ≡ from + length before + 1)
+stopped_at InputEnded fault from bytes line kept rest e h = absurd (cc)
+stopped_at CutLine fault from bytes line kept rest e h = let comes = comes_up_to from bytes line h.0 [] h.1 in (comes.0, h.0, [], comes.1, comes.2)
+stopped_at ReaderFailed fault from bytes line kept rest e h = let comes = comes_up_to from bytes line h.0 h.1 h.2 in (comes.0, h.0, h.1, comes.1, comes.2)
+stopped_at TooManyCalls fault from bytes line kept rest e h = let comes = comes_up_to from bytes line h.0 h.1 h.2 in (comes.0, h.0, h.1, comes.1, comes.2)
+stopped_at TooManyBytes fault from bytes line kept rest e h = let comes = comes_up_to from bytes line h.0 h.1 h.2 in (comes.0, h.0, h.1, comes.1, comes.2)
+stopped_at TooManyLines fault from bytes line kept rest e h = let comes = comes_up_to from bytes line h.0.0 h.0.1 h.0.2 in (comes.0, h.0.0, h.0.1, comes.1, comes.2)
 
 -- two facts of the same bytes
 known_both : (a b : Option (List ℕ)) (P Q : List ℕ → List ℕ → Type 0) → Known a b P → Known a b Q → Known a b (λ x y. P x y × Q x y)
@@ -249,20 +348,34 @@ module _ (can_fail : Bool) (run0 run1 : Run) (feed0 feed1 : Feed) (w0 w1 : Optio
   abbrev objects : List Object
   objects = run0.config.now.objects
 
+  event_goes_on : (event : Event) → GivesEvent run0.config.now feed0 event feed1
+      → Known feed0.bytes feed1.bytes (λ bytes rest. FeedGoesOn objects feed0 bytes feed1 rest (record { line = feed1.line; given = Ok event }))
+  event_goes_on event gives =
+      known_weaker feed0.bytes feed1.bytes
+      (λ bytes rest. (answers_from objects feed0 bytes ≡ record { line = feed1.line; given = Ok event } ∷ answers_from objects feed1 rest) × ComesTo Line feed0.line bytes feed1.line feed1.text rest)
+      (λ bytes rest. FeedGoesOn objects feed0 bytes feed1 rest (record { line = feed1.line; given = Ok event }))
+      (known_both feed0.bytes feed1.bytes _ _ gives.answers gives.place)
+      (λ bytes rest h.
+      let comes = comes_next feed0.line bytes rest feed1.line feed1.text h.1.0 (event_unmarked objects feed0.last feed1.text event gives.said) in
+      record { before = comes.0; lines = comes.1; number = comes.2; answers = h.0; line = refl; read_on = refl })
+
   pub line_event : (event : Event) → GivesEvent run0.config.now feed0 event feed1 → run1.events.items ≡ events_after run0.events.items run0.is_over (Ok event)
       → run1.is_over ≡ is_over_after run0.events.items run0.is_over (Ok event) → Leaves w0 w1 (held0 ++ added run0.events.items run0.is_over feed1.line (Ok event)) held1
       → Known feed0.bytes feed1.bytes (λ bytes rest. GoesOn run0 feed0 bytes run1 feed1 rest w0 w1 held0 held1)
   line_event event gives events over text =
       known_weaker feed0.bytes feed1.bytes
-      (λ bytes rest. (answers_from objects feed0 bytes ≡ record { line = feed1.line; given = Ok event } ∷ answers_from objects feed1 rest) × ComesTo Line feed0.line bytes feed1.line feed1.text rest)
+      (λ bytes rest. FeedGoesOn objects feed0 bytes feed1 rest (record { line = feed1.line; given = Ok event }))
       (λ bytes rest. GoesOn run0 feed0 bytes run1 feed1 rest w0 w1 held0 held1)
-      (known_both feed0.bytes feed1.bytes _ _ gives.answers gives.place)
-      (λ bytes rest h.
-      let comes = comes_next feed0.line bytes rest feed1.line feed1.text h.1.0 (event_unmarked objects feed0.last feed1.text event gives.said) in (
-        record { line = feed1.line; given = Ok event },
-        record { before = comes.0; lines = comes.1; number = comes.2; answers = h.0; line = refl },
-        record { events = events; over = over; text = text },
-      ))
+      (event_goes_on event gives)
+      (λ bytes rest on. (record { line = feed1.line; given = Ok event }, on, record { events = events; over = over; text = text }))
+
+  pub event_front : (event : Event) → GivesEvent run0.config.now feed0 event feed1
+      → WritesFront w0 w1 (held0 ++ added run0.events.items run0.is_over feed1.line (Ok event)) → IfSome feed0.bytes (λ bytes. ReadsFront can_fail run0 feed0 bytes w0 w1 held0)
+  event_front event gives front =
+      known_first feed0.bytes feed1.bytes (λ bytes rest. FeedGoesOn objects feed0 bytes feed1 rest (record { line = feed1.line; given = Ok event }))
+      (λ bytes. ReadsFront can_fail run0 feed0 bytes w0 w1 held0)
+      (λ bytes rest on. line_front can_fail run0 feed0 feed1 bytes rest (record { line = feed1.line; given = Ok event }) w0 w1 held0 on front)
+      (event_goes_on event gives)
 
   pub line_refused : (refusal : RefusedLine) → GivesFault objects feed0 refusal feed1 → feed1.stop ≡ None → ¬ IsMark refusal.fault feed1.text
       → run1.events.items ≡ run0.events.items → run1.is_over ≡ run0.is_over
@@ -280,12 +393,27 @@ module _ (can_fail : Bool) (run0 run1 : Run) (feed0 feed1 : Feed) (w0 w1 : Optio
       let bad : refusal.fault ≡ BadStamp = fault_same refusal.fault BadStamp (sym h.1.reading ∙ ap (line_reading objects) marked ∙ mark_reading objects) in
       unmarked (record { refused = bad; says = h.1.stays (λ long. absurd (cc)) ∙ marked })) in (
         record { line = refusal.line; given = Err refusal.fault },
-        record { before = comes.0; lines = comes.1; number = sym gives.number ∙ comes.2; answers = h.0; line = gives.number },
+        record { before = comes.0; lines = comes.1; number = sym gives.number ∙ comes.2; answers = h.0; line = gives.number; read_on = (fault_next objects feed0 feed1 refusal going gives).1 },
         record {
           events = events ∙ refusal_events run0.events.items run0.is_over refusal.fault;
           over = over ∙ refusal_over run0.events.items run0.is_over refusal.fault;
           text = text;
         },
+      ))
+
+  -- no line is left, but empty ones
+  pub line_none : AnswersNone objects feed0 feed1 → FeedComesTo (Over InputEnded) feed0 feed1
+      → Known feed0.bytes feed1.bytes (λ bytes rest. EndsFeed can_fail run0 feed0 bytes Nothing run0 rest w0 w0 held0 held0)
+  line_none none place =
+      known_weaker feed0.bytes feed1.bytes
+      (λ bytes rest. (answers_from objects feed0 bytes ≡ []) × ComesTo (Over InputEnded) feed0.line bytes feed1.line feed1.text rest)
+      (λ bytes rest. EndsFeed can_fail run0 feed0 bytes Nothing run0 rest w0 w0 held0 held0)
+      (known_both feed0.bytes feed1.bytes _ _ none place)
+      (λ bytes rest h.
+      let comes = comes_up_to feed0.line bytes (feed1.line + 1) [] [] h.1.0 in (
+        [],
+        (comes.0, comes.1, h.0, All-nil (λ (answer : Answer). ends_feed answer.given ≡ false)),
+        record { events = refl; over = refl; text = leaves_all w0 held0 },
       ))
 
   pub line_marked : (refusal : RefusedLine) → GivesFault objects feed0 refusal feed1 → IsMark refusal.fault feed1.text
@@ -330,15 +458,21 @@ module _ (can_fail : Bool) (run0 run1 : Run) (feed0 feed1 : Feed) (w0 w1 : Optio
       let fits : stop_fault CutLine ≡ Some refusal.fault = subst (λ (stop : Option Stop). FaultFits refusal.fault stop) cut gives.fits in
       let is : refusal.fault ≡ faults.Cut = sym (same_Some faults.Cut refusal.fault fits) in
       known_weaker feed0.bytes feed1.bytes
-      (λ bytes rest. answers_from objects feed0 bytes ≡ record { line = refusal.line; given = Err refusal.fault } ∷ answers_from objects feed1 rest)
+      (λ bytes rest. (answers_from objects feed0 bytes ≡ record { line = refusal.line; given = Err refusal.fault } ∷ answers_from objects feed1 rest)
+      × ComesTo (Over CutLine) feed0.line bytes feed1.line feed1.text rest)
       (λ bytes rest. EndsFeed can_fail run0 feed0 bytes Cut run1 rest w0 w1 held0 held1)
-      (subst (λ (stop : Option Stop). FaultAnswers objects feed0 refusal stop feed1) cut gives.answers)
-      (λ bytes rest h. (
+      (known_both feed0.bytes feed1.bytes _ _ (subst (λ (stop : Option Stop). FaultAnswers objects feed0 refusal stop feed1) cut gives.answers)
+      (subst (λ (stop : Option Stop). FaultComesTo objects feed0 refusal stop feed1) cut gives.place))
+      (λ bytes rest h.
+      let comes = comes_up_to feed0.line bytes feed1.line h.1.0 [] h.1.1 in (
         record { line = refusal.line; given = Err refusal.fault } ∷ [],
         (
+          comes.0,
+          h.1.0,
           [],
           refusal.line,
-          h ∙ ap (λ (stop : Option Stop). record { line = refusal.line; given = Err refusal.fault } ∷ answers_from objects (record feed1 { stop = stop }) rest) cut,
+          comes.1,
+          h.0 ∙ ap (λ (stop : Option Stop). record { line = refusal.line; given = Err refusal.fault } ∷ answers_from objects (record feed1 { stop = stop }) rest) cut,
           ap (λ (f : FeedFault). record { line = refusal.line; given = Err f } ∷ []) is,
         ),
         has_refusal refusal events over text,
@@ -349,12 +483,24 @@ module _ (can_fail : Bool) (run0 run1 : Run) (feed0 feed1 : Feed) (w0 w1 : Optio
       → AreGivenBy can_fail objects feed0 (record { line = refusal.line; given = Err refusal.fault } ∷ [])
       → Known feed0.bytes feed1.bytes (λ bytes rest. EndsFeed can_fail run0 feed0 bytes Unread run1 rest w0 w1 held0 held1)
   line_unread refusal stop gives stopped other events over text last =
-      let is : refusal.fault ≡ faults.Read = read_stop stop refusal.fault other (subst (λ (x : Option Stop). FaultFits refusal.fault x) stopped gives.fits) in
+      let fits : stop_fault stop ≡ Some refusal.fault = subst (λ (x : Option Stop). FaultFits refusal.fault x) stopped gives.fits in
+      let is : refusal.fault ≡ faults.Read = read_stop stop refusal.fault other fits in
       known_some feed0.bytes feed1.bytes (λ bytes rest. ComesTo (Over stop) feed0.line bytes feed1.line feed1.text rest) _
       (λ bytes rest. EndsFeed can_fail run0 feed0 bytes Unread run1 rest w0 w1 held0 held1)
-      (λ bytes rest h given. (
+      (λ bytes rest h given.
+      let comes = stopped_at stop refusal.fault feed0.line bytes feed1.line feed1.text rest fits h in (
         record { line = refusal.line; given = Err refusal.fault } ∷ [],
-        ([], refusal.line, given, ap (λ (f : FeedFault). record { line = refusal.line; given = Err f } ∷ []) is),
+        (
+          comes.0,
+          comes.1,
+          comes.2,
+          [],
+          refusal.line,
+          comes.3,
+          gives.number ∙ comes.4,
+          given,
+          ap (λ (f : FeedFault). record { line = refusal.line; given = Err f } ∷ []) is,
+        ),
         has_refusal refusal events over text,
       ))
       (subst (λ (x : Option Stop). FaultComesTo objects feed0 refusal x feed1) stopped gives.place) last
@@ -377,6 +523,22 @@ module _ (can_fail : Bool) (run0 run1 : Run) (feed0 feed1 : Feed) (w0 w1 : Optio
   line_stopped refusal TooManyCalls gives stopped events over text last = line_unread refusal TooManyCalls gives stopped (λ e. absurd (cc)) events over text last
   line_stopped refusal TooManyBytes gives stopped events over text last = line_unread refusal TooManyBytes gives stopped (λ e. absurd (cc)) events over text last
   line_stopped refusal TooManyLines gives stopped events over text last = line_unread refusal TooManyLines gives stopped (λ e. absurd (cc)) events over text last
+
+-- a front of what a refused line gives
+pub refusal_front : (can_fail : Bool) (run : Run) (feed0 feed1 : Feed) (w0 w1 : Option (List ℕ)) (held : List ℕ) (refusal : RefusedLine) → GivesFault run.config.now.objects feed0 refusal feed1
+    → ¬ IsMark refusal.fault feed1.text → (IsSome feed1.stop → AreGivenBy can_fail run.config.now.objects feed0 (record { line = refusal.line; given = Err refusal.fault } ∷ []))
+    → WritesFront w0 w1 (held ++ added run.events.items run.is_over refusal.line (Err refusal.fault)) → IfSome feed0.bytes (λ bytes. ReadsFront can_fail run feed0 bytes w0 w1 held)
+refusal_front can_fail run feed0 feed1 w0 w1 held refusal gives unmarked last front = by_stop feed1.stop refl
+  where
+    by_stop : (stop : Option Stop) → feed1.stop ≡ stop → IfSome feed0.bytes (λ bytes. ReadsFront can_fail run feed0 bytes w0 w1 held)
+    by_stop None going =
+        known_first feed0.bytes feed1.bytes (λ bytes rest. GoesOn run feed0 bytes run feed1 rest w0 w1 held front.0) (λ bytes. ReadsFront can_fail run feed0 bytes w0 w1 held)
+        (λ bytes rest h. line_front can_fail run feed0 feed1 bytes rest h.0 w0 w1 held h.1 (front.0, h.2.text))
+        (line_refused can_fail run run feed0 feed1 w0 w1 held front.0 refusal gives going unmarked refl refl front.1)
+    by_stop (Some stop) stopped =
+        known_first feed0.bytes feed1.bytes (λ bytes rest. EndsFeed can_fail run feed0 bytes (after_stop stop) run rest w0 w1 held front.0) (λ bytes. ReadsFront can_fail run feed0 bytes w0 w1 held)
+        (λ bytes rest h. (h.0, inr (after_stop stop, rest, h.1), (front.0, h.2.text)))
+        (line_stopped can_fail run run feed0 feed1 w0 w1 held front.0 refusal stop gives stopped refl refl front.1 (last (rw stopped refl)))
 
 pub unmoved_join : (a b c : Run) → Unmoved a b → Unmoved b c → Unmoved a c
 unmoved_join a b c h k = record {

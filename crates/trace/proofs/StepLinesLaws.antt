@@ -8,9 +8,9 @@ use Rattle.std.proofs.lemmas.List.Elements.{All-nil, All-push}
 use Rattle.due_model.specs.declared.config.Config.{Config}
 use Rattle.command_output.specs.TraceLine.{refused_step_line}
 use Rattle.command_output.specs.declared.trace_line.StepRefusal.TheVariants.{BadStep}
-use Rattle.written.specs.Written.{Leaves}
-use Rattle.written.specs.WrittenLaws.{leaves_on, leaves_nothing}
-use Rattle.text_lines.specs.LineReader.{line_limit, cut_text}
+use Rattle.written.specs.Written.{Leaves, WritesFront}
+use Rattle.written.specs.WrittenLaws.{front_less, leaves_on, leaves_nothing}
+use Rattle.text_lines.specs.LineReader.{byte_limit, line_limit, cut_text}
 use Rattle.text_lines.specs.Lines.{BeginsWithLine, IsUnbroken, Known}
 use Rattle.steps.specs.declared.step.Step.TheVariants.{Post, Decide, Put, Lane}
 use Rattle.steps.specs.declared.step.LaneStep.TheVariants.{Pick, Settle, Fail, Ask, Close, Drain}
@@ -18,9 +18,9 @@ use Rattle.world_steps.specs.Worlds.{Setup}
 use Rattle.trace.specs.declared.step_line.StepLine.{StepLine}
 use Rattle.trace.specs.declared.step_line.StepLine.TheVariants.{PostNext, Do}
 use Rattle.trace.specs.StepLine.{Spells}
-use Rattle.trace.specs.Run.{RunState, DoesLine, DoesSaid, Says}
+use Rattle.trace.specs.Run.{RunState, DoesLine, DoesSaid, SaidFront, Says}
 use Rattle.event_feed.specs.Feed.{feed_limit}
-use Rattle.trace.specs.StepLines.{AreLines, DoesLast, DoesLines, DoesNext, DoesSoFar, WritesSteps, last_line, with_newline}
+use Rattle.trace.specs.StepLines.{AreLines, DoesLast, DoesLines, DoesNext, DoesSoFar, NextFront, StepsFront, WritesSteps, last_line, with_newline}
 
 -- ---- bytes that are known
 
@@ -109,49 +109,61 @@ module _ (c : Config) (d : ℕ) (s : Setup) where
   )
 
 -- one line more of the bytes
-pub lines_read : (bytes mid rest line : List ℕ) (lines : List (List ℕ)) → AreLines bytes lines mid → BeginsWithLine mid line rest → AreLines bytes (lines ++ line ∷ []) rest
-lines_read bytes mid rest line lines are begins = record {
+pub lines_read : (bytes mid rest line : List ℕ) (lines : List (List ℕ)) → AreLines bytes lines mid → BeginsWithLine mid line rest → length lines < feed_limit → length line ≤ byte_limit
+    → AreLines bytes (lines ++ line ∷ []) rest
+lines_read bytes mid rest line lines are begins fewer short = record {
   whole = are.whole ∙ ap (λ (r : List ℕ). flat_map with_newline lines ++ r) begins.whole
       ∙ ap (λ (r : List ℕ). flat_map with_newline lines ++ r) (sym (append_assoc line (10 ∷ []) rest))
       ∙ sym (append_assoc (flat_map with_newline lines) (line ++ 10 ∷ []) rest)
       ∙ ap (λ (f : List ℕ). f ++ rest) (sym (flat_map-append with_newline lines (line ∷ []) ∙ ap (λ (t : List ℕ). flat_map with_newline lines ++ t) (append-nil (line ++ 10 ∷ []))));
   unbroken = All-push IsUnbroken lines line are.unbroken begins.unbroken;
+  few = omega (arith, fewer, length-append lines (line ∷ []));
+  short = All-push (λ (l : List ℕ). length l ≤ byte_limit) lines line are.short short;
 }
 
 -- ---- the loop
 
 pub so_far_none : (c : Config) (d : ℕ) (s : Setup) (bytes : List ℕ) (old : RunState) (known : Option (List ℕ)) (held : List ℕ)
     → DoesSoFar c d s 0 bytes bytes old old known known held held
-so_far_none c d s bytes old known held = ([], [], record { whole = refl; unbroken = All-nil IsUnbroken }, refl, (refl, refl), leaves_nothing known held)
+so_far_none c d s bytes old known held = (
+  [],
+  [],
+  record { whole = refl; unbroken = All-nil IsUnbroken; few = omega arith; short = All-nil (λ (l : List ℕ). length l ≤ byte_limit) },
+  refl,
+  (refl, refl),
+  leaves_nothing known held,
+)
 
 pub so_far_more : (c : Config) (d : ℕ) (s : Setup) (n : ℕ) (bytes mid rest : List ℕ) (old run new : RunState) (before between after : Option (List ℕ)) (held held' held'' : List ℕ)
-    → DoesSoFar c d s n bytes mid old run before between held held' → DoesNext c d s (n + 1) mid rest run new between after held' held''
+    → n < feed_limit → DoesSoFar c d s n bytes mid old run before between held held' → DoesNext c d s (n + 1) mid rest run new between after held' held''
     → DoesSoFar c d s (n + 1) bytes rest old new before after held held''
-so_far_more c d s n bytes mid rest old run new before between after held held' held'' h k = (
+so_far_more c d s n bytes mid rest old run new before between after held held' held'' few h k = (
   h.0 ++ k.0 ∷ [],
   h.1 ++ k.1,
-  lines_read bytes mid rest k.0 h.0 h.2 k.2,
+  lines_read bytes mid rest k.0 h.0 h.2 k.2 (omega (arith, few, h.3)) k.3,
   omega (arith, length-append h.0 (k.0 ∷ []), h.3),
-  does_more c d s 1 h.0 k.0 old run new h.1 k.1 h.4 (subst (λ (m : ℕ). DoesLine c d s m k.0 run new k.1) (omega (arith, h.3)) k.3),
-  subst (λ (all : List ℕ). Leaves before after all held'') (append_assoc held h.1 k.1) (leaves_on before between after (held ++ h.1) held' k.1 held'' h.5 k.4),
+  does_more c d s 1 h.0 k.0 old run new h.1 k.1 h.4 (subst (λ (m : ℕ). DoesLine c d s m k.0 run new k.1) (omega (arith, h.3)) k.4),
+  subst (λ (all : List ℕ). Leaves before after all held'') (append_assoc held h.1 k.1) (leaves_on before between after (held ++ h.1) held' k.1 held'' h.5 k.5),
 )
 
 pub so_far_last : (can_fail : Bool) (c : Config) (d : ℕ) (s : Setup) (n : ℕ) (bytes rest : List ℕ) (all : Bool) (old run new : RunState) (before between after : Option (List ℕ)) (held held' held'' : List ℕ)
-    → DoesSoFar c d s n bytes rest old run before between held held' → DoesLast can_fail c d s (n + 1) rest all run new between after held' held''
+    → n < feed_limit → DoesSoFar c d s n bytes rest old run before between held held' → DoesLast can_fail c d s (n + 1) rest all run new between after held' held''
     → WritesSteps can_fail c d s bytes all old new before after held held''
-so_far_last can_fail c d s n bytes rest true old run new before between after held held' held'' h k = (
+so_far_last can_fail c d s n bytes rest true old run new before between after held held' held'' few h k = (
   h.1 ++ k.0,
   (
     h.0,
     rest,
     h.2,
     k.1,
+    omega (arith, few, h.3),
+    k.2,
     does_end c d s 1 h.0 (last_line rest) old run new h.1 k.0 h.4
-        (subst (λ (m : ℕ). DoesLines c d s m (last_line rest) run new k.0) (omega (arith, h.3)) k.2),
+        (subst (λ (m : ℕ). DoesLines c d s m (last_line rest) run new k.0) (omega (arith, h.3)) k.3),
   ),
-  subst (λ (text : List ℕ). Leaves before after text held'') (append_assoc held h.1 k.0) (leaves_on before between after (held ++ h.1) held' k.0 held'' h.5 k.3),
+  subst (λ (text : List ℕ). Leaves before after text held'') (append_assoc held h.1 k.0) (leaves_on before between after (held ++ h.1) held' k.0 held'' h.5 k.4),
 )
-so_far_last can_fail c d s n bytes rest false old run new before between after held held' held'' h k = (
+so_far_last can_fail c d s n bytes rest false old run new before between after held held' held'' few h k = (
   h.1,
   (h.0, rest, h.2, subst (λ (w : RunState). DoesLines c d s 1 h.0 old w h.1) (sym k.0) h.4, inl k.1),
   subst (λ (text : List ℕ). Leaves before after text held'') (append-nil (held ++ h.1)) (leaves_on before between after (held ++ h.1) held' [] held'' h.5
@@ -167,15 +179,47 @@ so_far_short can_fail c d s n bytes rest old new before after held held' all h =
 pub ends_here : (can_fail : Bool) (c : Config) (d : ℕ) (s : Setup) (n : ℕ) (bytes : List ℕ) (old : RunState) (known : Option (List ℕ)) (held : List ℕ) → bytes ≡ []
     → DoesLast can_fail c d s n bytes true old old known known held held
 ends_here can_fail c d s n bytes old known held none =
-    subst (λ (b : List ℕ). DoesLast can_fail c d s n b true old old known known held held) (sym none) ([], All-nil (λ byte. eqb byte 10 ≡ false), (refl, refl), leaves_nothing known held)
+    subst (λ (b : List ℕ). DoesLast can_fail c d s n b true old old known known held held) (sym none) ([], All-nil (λ byte. eqb byte 10 ≡ false), omega arith, (refl, refl), leaves_nothing known held)
 
-pub ends_cut : (can_fail : Bool) (c : Config) (d : ℕ) (s : Setup) (n : ℕ) (bytes : List ℕ) (old new : RunState) (before after : Option (List ℕ)) (held held' text : List ℕ) → IsUnbroken bytes → 0 < length bytes
+pub ends_cut : (can_fail : Bool) (c : Config) (d : ℕ) (s : Setup) (n : ℕ) (bytes : List ℕ) (old new : RunState) (before after : Option (List ℕ)) (held held' text : List ℕ) → IsUnbroken bytes → 0 < length bytes → length bytes ≤ byte_limit
     → DoesLine c d s n bytes old new text → Leaves before after (held ++ text) held' → DoesLast can_fail c d s n bytes true old new before after held held'
-ends_cut can_fail c d s n bytes old new before after held held' text unbroken some does leaves =
-    (text, unbroken, subst (λ (lines : List (List ℕ)). DoesLines c d s n lines old new text) (sym (by_test bytes some)) (new, text, [], does, (refl, refl), sym (append-nil text)), leaves)
+ends_cut can_fail c d s n bytes old new before after held held' text unbroken some short does leaves =
+    (text, unbroken, short, subst (λ (lines : List (List ℕ)). DoesLines c d s n lines old new text) (sym (by_test bytes some)) (new, text, [], does, (refl, refl), sym (append-nil text)), leaves)
   where
     by_test : (bs : List ℕ) → 0 < length bs → last_line bs ≡ bs ∷ []
     by_test bs h = ap (λ (b : Bool). cond b [] (bs ∷ [])) (ne_eqb (length bs) 0 (λ e. absurd (omega (arith, h, e))))
+
+-- ---- a front of what is written
+
+pub so_far_front : (c : Config) (d : ℕ) (s : Setup) (n : ℕ) (bytes rest : List ℕ) (old run : RunState) (before between after : Option (List ℕ)) (held held' : List ℕ)
+    → n < feed_limit → DoesSoFar c d s n bytes rest old run before between held held' → NextFront c d s (n + 1) rest run between after held'
+    → StepsFront c d s bytes old before after held
+so_far_front c d s n bytes rest old run before between after held held' few h (inl front) =
+    (h.1, inl (h.0, rest, run, h.2, h.4), front_less before between after (held ++ h.1) held' h.5 front)
+so_far_front c d s n bytes rest old run before between after held held' few h (inr (inl next)) =
+    let on = so_far_more c d s n bytes rest next.0 old run next.1 before between after held held' next.2 few h next.3 in
+    (on.1, inl (on.0, next.0, next.1, on.2, on.4), (next.2, on.5))
+so_far_front c d s n bytes rest old run before between after held held' few h (inr (inr last)) =
+    let all = so_far_last true c d s n bytes rest true old run last.0 before between after held held' last.1 few h last.2 in
+    (all.0, inr (last.0, all.1), (last.1, all.2))
+
+-- of a line, of one that is too long, and of one that the end of the input cut
+pub line_front : (c : Config) (d : ℕ) (s : Setup) (n : ℕ) (bytes line rest : List ℕ) (old : RunState) (before after : Option (List ℕ)) (held : List ℕ) → BeginsWithLine bytes line rest → length line ≤ line_limit
+    → SaidFront s n (λ said. Spells c d said line) old before after held → NextFront c d s n bytes old before after held
+line_front c d s n bytes line rest old before after held begins short (inl front) = inl front
+line_front c d s n bytes line rest old before after held begins short (inr said) =
+    inr (inl (rest, said.0, said.3.0, (line, said.1, begins, omega (arith, short), does_short c d s n old said.0 said.1 line short said.2, said.3.1)))
+
+pub long_front : (c : Config) (d : ℕ) (s : Setup) (n : ℕ) (bytes line rest : List ℕ) (old : RunState) (before after : Option (List ℕ)) (held : List ℕ) → BeginsWithLine bytes line rest → line_limit < length line
+    → length line ≤ byte_limit → WritesFront before after (held ++ refused_step_line n BadStep) → NextFront c d s n bytes old before after held
+long_front c d s n bytes line rest old before after held begins long fits front =
+    inr (inl (rest, old, front.0, (line, refused_step_line n BadStep, begins, fits, does_long c d s n old line long, front.1)))
+
+pub cut_front : (c : Config) (d : ℕ) (s : Setup) (n : ℕ) (bytes line : List ℕ) (old : RunState) (before after : Option (List ℕ)) (held : List ℕ) → IsUnbroken bytes → 0 < length bytes → length bytes ≤ byte_limit
+    → line ≡ cut_text (length bytes) bytes → SaidFront s n (λ said. Spells c d said line) old before after held → NextFront c d s n bytes old before after held
+cut_front c d s n bytes line old before after held unbroken some short is (inl front) = inl front
+cut_front c d s n bytes line old before after held unbroken some short is (inr said) =
+    inr (inr (said.0, said.3.0, ends_cut true c d s n bytes old said.0 before after held said.3.0 said.1 unbroken some short (does_cut c d s n old said.0 said.1 bytes line is said.2) said.3.1))
 
 -- ---- the same in the words of another run of the same world
 
@@ -191,6 +235,13 @@ module _ (can_fail : Bool) (c c' : Config) (d d' : ℕ) (s s' : Setup) (same : c
       subst (λ (x : Config). DoesLast can_fail x d s n bytes all old new before after held held') same
       (subst (λ (x : ℕ). DoesLast can_fail c' x s n bytes all old new before after held held') as_many
       (subst (λ (x : Setup). DoesLast can_fail c' d' x n bytes all old new before after held held') one h))
+
+pub front_under : (c c' : Config) (d d' : ℕ) (s s' : Setup) → c' ≡ c → d' ≡ d → s' ≡ s → (n : ℕ) (bytes : List ℕ) (old : RunState) (before after : Option (List ℕ)) (held : List ℕ)
+    → NextFront c' d' s' n bytes old before after held → NextFront c d s n bytes old before after held
+front_under c c' d d' s s' same as_many one n bytes old before after held h =
+    subst (λ (x : Config). NextFront x d s n bytes old before after held) same
+    (subst (λ (x : ℕ). NextFront c' x s n bytes old before after held) as_many
+    (subst (λ (x : Setup). NextFront c' d' x n bytes old before after held) one h))
 
 -- ---- answers of a call
 

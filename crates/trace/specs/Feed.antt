@@ -1,12 +1,12 @@
 -- The feed of a trace, up to its mark: the events that are kept, and the lines of its refusals.
-use Rattle.std.specs.Prelude.{◌≡◌, ◌≢◌, ℕ, ◌+◌, ◌≤◌, ◌==◌, All, Bool, true, false, List, [], ◌∷◌, ◌++◌, length, codes, if◌then◌else◌, Result, Ok, Err}
+use Rattle.std.specs.Prelude.{◌≡◌, ◌≢◌, ℕ, ◌+◌, ◌≤◌, ◌==◌, ◌⊎◌, All, Bool, true, false, List, [], ◌∷◌, ◌++◌, length, codes, if◌then◌else◌, Result, Ok, Err}
 use Rattle.due_model.specs.Limits.{max_events}
 use Rattle.due_model.specs.declared.config.Object.{Object}
 use Rattle.due_model.specs.declared.event.Event.{Event}
 use Rattle.event_feed.specs.declared.fault.FeedFault.{FeedFault}
 use Rattle.event_feed.specs.declared.fault.FeedFault.TheVariants.{BadStamp, Ended, Read}
 use Rattle.event_feed.specs.declared.fault.FeedFault.TheVariants as fault
-use Rattle.event_feed.specs.Feed.{Answer, AreGiven, Feed, answers_from}
+use Rattle.event_feed.specs.Feed.{Answer, AreGiven, Feed, answers_from, ends_feed}
 use Rattle.text_lines.specs.Lines.{pieces}
 use Rattle.text_lines.specs.declared.line_reader.Stop.{Stop}
 use Rattle.text_lines.specs.declared.line_reader.Stop.TheVariants.{InputEnded, CutLine, ReaderFailed, TooManyCalls, TooManyBytes, TooManyLines}
@@ -66,8 +66,8 @@ pub record ComesAfter (bytes : List ℕ) (before others : List (List ℕ)) : Typ
   pub unmarked : All (λ line. line ≢ mark) before
 
 -- Of all the answers of a feed, after so many lines, those that are given, and what follows them: the first line that is
--- the mark, which the feed answers as no line of it, and the bytes after it; or nothing; or nothing after a line that the
--- end of the input cut; or a line that can't be read.
+-- the mark, which the feed answers as no line of it, and the bytes after it; or nothing, all lines being whole and read; or
+-- nothing after a line that the end of the input cut; or a line that can't be read. No line before these is the mark.
 abbrev pub FeedEnds : (can_fail : Bool) → (all : List Answer) → (from : ℕ) → (bytes : List ℕ)
     → AfterFeed
     → (given : List Answer) → (rest : List ℕ) → Type 0
@@ -75,13 +75,36 @@ FeedEnds can_fail all from bytes Steps given rest =
     (before : List (List ℕ)) × (line : ℕ) × (others : List Answer)
     × ComesAfter bytes before (mark ∷ pieces rest) × (line ≡ from + length before + 1)
     × (all ≡ given ++ record { line = line; given = Err BadStamp } ∷ others)
-FeedEnds can_fail all from bytes Nothing given rest = all ≡ given
+FeedEnds can_fail all from bytes Nothing given rest =
+    (before : List (List ℕ)) × ComesAfter bytes before ([] ∷ []) × (all ≡ given)
+    × All (λ answer. ends_feed answer.given ≡ false) given
 FeedEnds can_fail all from bytes Cut given rest =
-    (front : List Answer) × (line : ℕ) × (all ≡ given)
+    (before : List (List ℕ)) × (last : List ℕ) × (front : List Answer) × (line : ℕ)
+    × ComesAfter bytes before (last ∷ []) × (all ≡ given)
     × (given ≡ front ++ record { line = line; given = Err fault.Cut } ∷ [])
 FeedEnds can_fail all from bytes Unread given rest =
-    (front : List Answer) × (line : ℕ) × AreGiven can_fail given all from (pieces bytes)
+    (before : List (List ℕ)) × (text : List ℕ) × (others : List (List ℕ))
+    × (front : List Answer) × (line : ℕ)
+    × ComesAfter bytes before (text ∷ others) × (line ≡ from + length before + 1)
+    × AreGiven can_fail given all from (pieces bytes)
     × (given ≡ front ++ record { line = line; given = Err Read } ∷ [])
+
+-- the first answers of a feed, after so many lines: those of lines of which none is the mark
+pub record FirstAnswers (all : List Answer) (from : ℕ) (bytes : List ℕ)
+    (given : List Answer) : Type 0 where
+  pub before : List (List ℕ)
+  pub others : List (List ℕ)
+  pub more : List Answer
+  pub lines : ComesAfter bytes before others
+  pub answers : all ≡ given ++ more
+  pub earlier : All (λ answer. answer.line ≤ from + length before) given
+
+-- the first of them, or all that are given
+abbrev pub FeedBegins : (can_fail : Bool) → (all : List Answer) → (from : ℕ) → (bytes : List ℕ)
+    → (given : List Answer) → Type 0
+FeedBegins can_fail all from bytes given =
+    FirstAnswers all from bytes given
+    ⊎ ((end : AfterFeed) × (rest : List ℕ) × FeedEnds can_fail all from bytes end given rest)
 
 -- what comes after a feed that stopped at a line
 abbrev pub after_stop : Stop → AfterFeed
@@ -100,6 +123,7 @@ pub record FeedGoesOn (objects : List Object) (old : Feed) (bytes : List ℕ) (n
   pub number : new.line ≡ old.line + length before
   pub answers : answers_from objects old bytes ≡ answer ∷ answers_from objects new rest
   pub line : answer.line ≡ new.line
+  pub read_on : ends_feed answer.given ≡ false
 
 -- so many lines of the feed were read
 pub record FeedSoFar (objects : List Object) (old : Feed) (bytes : List ℕ) (new : Feed)
@@ -109,3 +133,4 @@ pub record FeedSoFar (objects : List Object) (old : Feed) (bytes : List ℕ) (ne
   pub number : new.line ≡ old.line + length before
   pub answers : answers_from objects old bytes ≡ given ++ answers_from objects new rest
   pub earlier : All (λ answer. answer.line ≤ new.line) given
+  pub read_on : All (λ answer. ends_feed answer.given ≡ false) given

@@ -1,11 +1,11 @@
 -- What the reading of a feed does to a run.
 use Rattle.std.specs.Prelude.{◌≡◌, Bool, List, ℕ, Option}
 use Rattle.event_feed.specs.Feed.{Answer, Feed, answers_from}
-use Rattle.written.specs.Written.{Leaves}
+use Rattle.written.specs.Written.{Leaves, WritesFront}
 use Rattle.world_steps.specs.Views.{world_setup, world_state}
 use Rattle.trace.specs.declared.feed.AfterFeed.{AfterFeed}
 use Rattle.trace.specs.declared.run.Run.{Run}
-use Rattle.trace.specs.Feed.{FeedState, FeedEnds, FeedGoesOn, FeedSoFar, after_answers, after_answer}
+use Rattle.trace.specs.Feed.{FeedBegins, FeedState, FeedEnds, FeedGoesOn, FeedSoFar, after_answers, after_answer}
 
 -- the feed of a run, with bytes that are to be written
 abbrev pub feed_state : Run → List ℕ → FeedState
@@ -47,6 +47,15 @@ abbrev pub ReadsFeed : (can_fail : Bool) → Run → Feed → List ℕ → After
     → (before after : Option (List ℕ)) → (held held' : List ℕ) → Type 0
 ReadsFeed can_fail old feed bytes end new rest before after held held' =
     EndsFeed can_fail old feed bytes end new rest before after held held'
+
+-- a front of what the first lines of the feed give is written, after what is held
+abbrev pub ReadsFront : (can_fail : Bool) → Run → Feed → List ℕ → (before after : Option (List ℕ))
+    → (held : List ℕ) → Type 0
+ReadsFront can_fail old feed bytes before after held =
+    (given : List Answer)
+    × FeedBegins can_fail
+    (answers_from old.config.now.objects feed bytes) feed.line bytes given
+    × WritesFront before after (after_answers (feed_state old held) given).text
 
 -- so many lines of the feed were read, and what they give is kept or written
 abbrev pub ReadsSome : Run → Feed → List ℕ → Run → Feed → List ℕ

@@ -1,5 +1,5 @@
 -- A run of steps in a world, and what a step line does in it.
-use Rattle.std.specs.Prelude.{◌≡◌, ℕ, ◌+◌, ◌≤◌, ◌⊎◌, All, List, [], length, slice_get, Option, Some}
+use Rattle.std.specs.Prelude.{◌≡◌, ℕ, ◌+◌, ◌≤◌, ◌⊎◌, All, List, [], ◌++◌, length, slice_get, Option, Some}
 use Rattle.std.specs.Option.{option_map}
 use Rattle.due_model.specs.Proper.{IsProper}
 use Rattle.due_model.specs.Limits.{max_deciders, max_lanes, max_objects}
@@ -8,6 +8,7 @@ use Rattle.due_model.specs.declared.event.Event.{Event}
 use Rattle.command_output.specs.TraceLine.{refused_step_line}
 use Rattle.command_output.specs.declared.trace_line.StepRefusal.TheVariants.{BadStep, NotEnabled}
 use Rattle.text_lines.specs.LineReader.{line_limit}
+use Rattle.written.specs.Written.{WritesFront}
 use Rattle.steps.specs.declared.step.Step.{Step}
 use Rattle.steps.specs.declared.step.Step.TheVariants.{Post}
 use Rattle.world_steps.specs.Steps.{IsEnabled, IsProperStep, after}
@@ -79,6 +80,14 @@ DoesSaid s number IsSaid old new text =
     ⊎ ((said : StepLine) × IsSaid said
     × (((¬ IsEnabledIn s old said) × (text ≡ refused_step_line number NotEnabled) × (new ≡ old))
     ⊎ (Does s old said new × (text ≡ []))))
+
+-- a front of what is held is written, or of that and what becomes of such a line
+abbrev pub SaidFront : Setup → (number : ℕ) → (IsSaid : StepLine → Type 0) → (old : RunState)
+    → (before after : Option (List ℕ)) → (held : List ℕ) → Type 0
+SaidFront s number IsSaid old before after held =
+    WritesFront before after held
+    ⊎ ((new : RunState) × (text : List ℕ) × DoesSaid s number IsSaid old new text
+    × WritesFront before after (held ++ text))
 
 -- a line of at most as many bytes as a line may have says this
 abbrev pub Says : Config → (deciders : ℕ) → List ℕ → StepLine → Type 0

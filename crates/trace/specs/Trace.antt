@@ -14,14 +14,14 @@ use Rattle.command_output.specs.declared.outcome.CommandFault.{CommandFault}
 use Rattle.command_output.specs.declared.outcome.CommandFault.TheVariants.{Objects, Unreadable, Output, NoMemory}
 use Rattle.command_output.specs.declared.outcome.Ending.{Ending}
 use Rattle.command_output.specs.declared.outcome.Ending.TheVariants.{Short, Whole}
-use Rattle.written.specs.Written.{Leaves, Writes}
+use Rattle.written.specs.Written.{Leaves, Writes, WritesFront}
 use Rattle.trace.specs.declared.feed.AfterFeed.{AfterFeed}
 use Rattle.trace.specs.declared.feed.AfterFeed.TheVariants as feed
-use Rattle.trace.specs.Feed.{FeedEnds, FeedState, after_answers}
+use Rattle.trace.specs.Feed.{FeedBegins, FeedEnds, FeedState, after_answers}
 use Rattle.trace.specs.LaneLines.{world_text}
 use Rattle.command_input.specs.Objects.{feed_in, objects_in}
 use Rattle.trace.specs.Run.{RunState}
-use Rattle.trace.specs.StepLines.{DoesSteps}
+use Rattle.trace.specs.StepLines.{DoesFirst, DoesSteps}
 
 -- how a trace ends whose steps were read to their end
 abbrev pub ending_of : (over : Bool) → Ending
@@ -61,6 +61,22 @@ abbrev pub WritesEnd : (can_fail : Bool) → Config → (deciders : ℕ) → Set
 WritesEnd can_fail c deciders s start over end rest ending before after held held' =
     (text : List ℕ) × EndsTrace can_fail c deciders s start over end rest ending text
     × Leaves before after (held ++ text) held'
+
+-- what is written first after the feed, or all of it
+abbrev pub BeginsEnd : (can_fail : Bool) → Config → (deciders : ℕ) → Setup → (start : RunState)
+    → (over : Bool)
+    → AfterFeed → (rest : List ℕ) → (text : List ℕ) → Type 0
+BeginsEnd can_fail c deciders s start over end rest text =
+    ((end ≡ feed.Steps) × DoesFirst c deciders s rest start text)
+    ⊎ ((ending : Ending) × EndsTrace can_fail c deciders s start over end rest ending text)
+
+-- a front of it is written, after what is held
+abbrev pub EndFront : (can_fail : Bool) → Config → (deciders : ℕ) → Setup → (start : RunState)
+    → (over : Bool)
+    → AfterFeed → (rest : List ℕ) → (before after : Option (List ℕ)) → (held : List ℕ) → Type 0
+EndFront can_fail c deciders s start over end rest before after held =
+    (text : List ℕ) × BeginsEnd can_fail c deciders s start over end rest text
+    × WritesFront before after (held ++ text)
 
 -- the world in which a trace begins: all its lanes serve
 abbrev pub trace_setup : Config → Zone → Settings → Setup
@@ -103,13 +119,41 @@ abbrev pub Traces : (can_fail : Bool) → Settings → (bytes : List ℕ) → En
 Traces can_fail settings bytes ending old new =
     TracesIn can_fail Utc settings bytes ending old new
 
--- What a fault says. Where the object text is refused or can't be read nothing was written; where the output failed it was
--- accepted; and where memory ran out it was accepted, or nothing was written.
-abbrev pub FailsWith : (can_fail : Bool) → (bytes : List ℕ) → CommandFault
+-- What is written first of a feed and the steps after it: of the first lines of the feed, or of all of it and of the first
+-- step lines, or all.
+abbrev pub BeginsTrace : (can_fail : Bool) → Config → Zone → Settings → (bytes : List ℕ)
+    → (given : List Answer) → (text : List ℕ) → Type 0
+BeginsTrace can_fail c zone settings bytes given text =
+    (FeedBegins can_fail (answers c.objects 0 0 (pieces bytes)) 0 bytes given × (text ≡ []))
+    ⊎ ((end : AfterFeed) × (rest : List ℕ)
+    × FeedEnds can_fail (answers c.objects 0 0 (pieces bytes)) 0 bytes end given rest
+    × BeginsEnd can_fail c settings.deciders (trace_setup c zone settings)
+    (start_with c zone settings (after_answers no_feed given))
+    (after_answers no_feed given).over end rest text)
+
+-- a front of it was written, and nothing else
+abbrev pub TracesFront : (can_fail : Bool) → Config → Zone → Settings → (bytes : List ℕ)
     → (old new : Option (List ℕ)) → Type 0
-FailsWith can_fail bytes (Objects fault) old new =
+TracesFront can_fail c zone settings bytes old new =
+    (given : List Answer) × (text : List ℕ)
+    × BeginsTrace can_fail c zone settings bytes given text
+    × WritesFront old new ((after_answers no_feed given).text ++ text)
+
+-- the same of the bytes of an input, whose object text was accepted
+abbrev pub TracesFrontIn : (can_fail : Bool) → Zone → Settings → (bytes : List ℕ)
+    → (old new : Option (List ℕ)) → Type 0
+TracesFrontIn can_fail zone settings bytes old new =
+    (config : Config) × IsTextOf config (objects_in bytes)
+    × TracesFront can_fail config zone settings (feed_in bytes) old new
+
+-- What a fault says. Where the object text is refused or can't be read nothing was written; where the output failed it was
+-- accepted, and a front of what is written of it was; and where memory ran out that, or nothing.
+abbrev pub FailsWith : (can_fail : Bool) → Zone → Settings → (bytes : List ℕ) → CommandFault
+    → (old new : Option (List ℕ)) → Type 0
+FailsWith can_fail zone settings bytes (Objects fault) old new =
     IsTextFault (objects_in bytes) fault × Keeps old new
-FailsWith can_fail bytes Unreadable old new = Keeps old new × (can_fail ≡ true)
-FailsWith can_fail bytes Output old new = (config : Config) × IsTextOf config (objects_in bytes)
-FailsWith can_fail bytes NoMemory old new =
-    Keeps old new ⊎ ((config : Config) × IsTextOf config (objects_in bytes))
+FailsWith can_fail zone settings bytes Unreadable old new = Keeps old new × (can_fail ≡ true)
+FailsWith can_fail zone settings bytes Output old new =
+    TracesFrontIn can_fail zone settings bytes old new
+FailsWith can_fail zone settings bytes NoMemory old new =
+    Keeps old new ⊎ TracesFrontIn can_fail zone settings bytes old new

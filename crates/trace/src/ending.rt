@@ -1,12 +1,12 @@
 //! What is written after the feed of a trace, and how it ends.
 
-ghost use Rattle.std.specs.Prelude.{◌≡◌, ◌++◌, List, ℕ, IfErr, IfOk, IfSome};
+ghost use Rattle.std.specs.Prelude.{◌≡◌, ◌++◌, List, ℕ, IfErr, IfOk, IfSome, OnErr};
 ghost use Rattle.command_output.specs.Outcome.{IsWriteFault};
 ghost use Rattle.written.specs.Written.{Leaves};
 ghost use Rattle.text_lines.specs.LineReader.{to_come};
 ghost use Rattle.world_steps.specs.Views.{world_setup};
 ghost use Rattle.trace.specs.Run.{Fits, run_state};
-ghost use Rattle.trace.specs.Trace.{WritesEnd, ending_of};
+ghost use Rattle.trace.specs.Trace.{EndFront, WritesEnd, ending_of};
 
 use crate::feed::AfterFeed;
 use crate::lanes::write_lanes;
@@ -31,6 +31,10 @@ pub(crate) fn write_end<R: Input + Drop, W: Sink>(
         WritesEnd R.can_fail run.old.config.now run.old.deciders (world_setup run.old.world)
         (run_state run.old) run.old.is_over after rest ending
         (W.contents writer.old) (W.contents writer.new) lines.old lines.new)) }
+    ensures front { OnErr result (IfSome (to_come source.old) (λ rest.
+        EndFront R.can_fail run.old.config.now run.old.deciders (world_setup run.old.world)
+        (run_state run.old) run.old.is_over after rest
+        (W.contents writer.old) (W.contents writer.new) lines.old)) }
     ensures fault { IfErr result (λ fault. IsWriteFault W.can_fail fault) }
 {
     match after {
@@ -60,6 +64,10 @@ fn write_steps<R: Input + Drop, W: Sink>(
         WritesEnd R.can_fail run.old.config.now run.old.deciders (world_setup run.old.world)
         (run_state run.old) run.old.is_over AfterFeed.Steps rest ending
         (W.contents writer.old) (W.contents writer.new) lines.old lines.new)) }
+    ensures front { OnErr result (IfSome (to_come source.old) (λ rest.
+        EndFront R.can_fail run.old.config.now run.old.deciders (world_setup run.old.world)
+        (run_state run.old) run.old.is_over AfterFeed.Steps rest
+        (W.contents writer.old) (W.contents writer.new) lines.old)) }
     ensures fault { IfErr result (λ fault. IsWriteFault W.can_fail fault) }
 {
     if !do_steps(lines, writer, run, source)? {

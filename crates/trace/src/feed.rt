@@ -1,14 +1,14 @@
 //! The feed of a trace: events up to a line `%steps`.
 
 ghost use Rattle.std.specs.Prelude.{◌≡◌, ◌+◌, ◌<◌, ◌≤◌, ◌↔◌, ◌++◌, true};
-ghost use Rattle.std.specs.Prelude.{IfErr, IfNone, IfOk, IfSome, None, Ok, Err, OnOk};
+ghost use Rattle.std.specs.Prelude.{IfErr, IfNone, IfOk, IfSome, None, Ok, Err, OnErr, OnOk};
 ghost use Rattle.due_model.specs.Proper.{IsProper};
 ghost use Rattle.command_output.specs.Outcome.{IsWriteFault};
-ghost use Rattle.written.specs.Written.{Leaves};
+ghost use Rattle.written.specs.Written.{Leaves, WritesFront};
 ghost use Rattle.event_feed.specs.Feed.{feed_limit};
 ghost use Rattle.text_lines.specs.Lines.{Known};
 ghost use Rattle.trace.specs.Feed.{IsMark, added, after_stop, events_after, is_over_after};
-ghost use Rattle.trace.specs.FeedRun.{EndsFeed, GoesOn, ReadsFeed, Unmoved};
+ghost use Rattle.trace.specs.FeedRun.{EndsFeed, GoesOn, ReadsFeed, ReadsFront, Unmoved};
 ghost use Rattle.trace.specs.Run.{Fits};
 
 use crate::run::Run;
@@ -50,6 +50,9 @@ pub(crate) fn read_feed<R: Input + Drop, W: Sink>(
     ensures feed { IfOk result (λ after. Known feeder.old.bytes feeder.new.bytes (λ bytes rest.
         ReadsFeed R.can_fail run.old feeder.old bytes after run.new rest
         (W.contents writer.old) (W.contents writer.new) lines.old lines.new)) }
+    ensures front { OnErr result (IfSome feeder.old.bytes (λ bytes.
+        ReadsFront R.can_fail run.old feeder.old bytes
+        (W.contents writer.old) (W.contents writer.new) lines.old)) }
     ensures fault { IfErr result (λ fault. IsWriteFault W.can_fail fault) }
 {
     loop {
@@ -80,6 +83,9 @@ fn read_feed_line<R: Input + Drop, W: Sink>(
     ensures last { IfOk result (λ end. IfSome end (λ after. Known feeder.old.bytes feeder.new.bytes
         (λ bytes rest. EndsFeed R.can_fail run.old feeder.old bytes after run.new rest
         (W.contents writer.old) (W.contents writer.new) lines.old lines.new))) }
+    ensures front { OnErr result (IfSome feeder.old.bytes (λ bytes.
+        ReadsFront R.can_fail run.old feeder.old bytes
+        (W.contents writer.old) (W.contents writer.new) lines.old)) }
     ensures fault { IfErr result (λ fault. IsWriteFault W.can_fail fault) }
 {
     match feeder.next(run.config) {
@@ -133,6 +139,9 @@ fn write_refusal<W: Sink>(
     ensures ok { OnOk result (Leaves (W.contents writer.old) (W.contents writer.new)
         (lines.old ++ added run.now.events.items run.now.is_over refusal.line (Err refusal.fault))
         lines.new) }
+    ensures front { WritesFront (W.contents writer.old) (W.contents writer.new)
+        (lines.old
+        ++ added run.now.events.items run.now.is_over refusal.line (Err refusal.fault)) }
     ensures fault { IfErr result (λ fault. IsWriteFault W.can_fail fault) }
 {
     if run.is_over {
@@ -163,6 +172,8 @@ fn keep_event<W: Sink>(
         ≡ is_over_after run.old.events.items run.old.is_over (Ok event)) }
     ensures ok { OnOk result (Leaves (W.contents writer.old) (W.contents writer.new)
         (lines.old ++ added run.old.events.items run.old.is_over line (Ok event)) lines.new) }
+    ensures front { WritesFront (W.contents writer.old) (W.contents writer.new)
+        (lines.old ++ added run.old.events.items run.old.is_over line (Ok event)) }
     ensures fault { IfErr result (λ fault. IsWriteFault W.can_fail fault) }
 {
     if run.is_over {

@@ -1,8 +1,8 @@
 //! What the lanes of a world hold, line by line.
 
-ghost use Rattle.std.specs.Prelude.{◌++◌, ◌<◌, length, IfErr, OnOk};
+ghost use Rattle.std.specs.Prelude.{◌++◌, ◌<◌, length, IfErr, OnErr, OnOk};
 ghost use Rattle.command_output.specs.Outcome.{IsWriteFault};
-ghost use Rattle.written.specs.Written.{Leaves};
+ghost use Rattle.written.specs.Written.{Leaves, WritesFront};
 ghost use Rattle.world_steps.specs.Views.{world_setup, world_state};
 ghost use Rattle.trace.specs.LaneLines.{held_text, lane_lines, world_text};
 ghost use Rattle.trace.specs.Run.{Fits};
@@ -23,6 +23,8 @@ pub(crate) fn write_lanes<W: Sink>(
     ensures ok { OnOk result (Leaves (W.contents writer.old) (W.contents writer.new)
         (lines.old ++ world_text (world_setup run.now.world) (world_state run.now.world))
         lines.new) }
+    ensures front { OnErr result (WritesFront (W.contents writer.old) (W.contents writer.new)
+        (lines.old ++ world_text (world_setup run.now.world) (world_state run.now.world))) }
     ensures fault { IfErr result (λ fault. IsWriteFault W.can_fail fault) }
 {
     for lane in 0..run.config.lanes.len() {
@@ -44,6 +46,9 @@ fn write_lane<W: Sink>(
     ensures ok { OnOk result (Leaves (W.contents writer.old) (W.contents writer.new)
         (lines.old ++ lane_lines (world_setup run.now.world) (world_state run.now.world) lane.0)
         lines.new) }
+    ensures front { OnErr result (WritesFront (W.contents writer.old) (W.contents writer.new)
+        (lines.old
+        ++ lane_lines (world_setup run.now.world) (world_state run.now.world) lane.0)) }
     ensures fault { IfErr result (λ fault. IsWriteFault W.can_fail fault) }
 {
     for object in 0..run.config.objects.len() {
@@ -67,6 +72,9 @@ fn write_object<W: Sink>(
     ensures ok { OnOk result (Leaves (W.contents writer.old) (W.contents writer.new)
         (lines.old ++ held_text (world_setup run.now.world) (world_state run.now.world)
         lane.0 object.0) lines.new) }
+    ensures front { WritesFront (W.contents writer.old) (W.contents writer.new)
+        (lines.old ++ held_text (world_setup run.now.world) (world_state run.now.world)
+        lane.0 object.0) }
     ensures fault { IfErr result (λ fault. IsWriteFault W.can_fail fault) }
 {
     match run.world.line(alloc, lane, object) {

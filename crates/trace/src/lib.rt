@@ -1,11 +1,12 @@
 //! The command `trace`: the steps of a list, done one by one in a world of steps.
 #![tactic(auto)]
 
-ghost use Rattle.std.specs.Prelude.{◌≡◌, false, IfErr, IfOk, IfSome, IsErrOf};
+ghost use Rattle.std.specs.Prelude.{◌≡◌, false, IfErr, IfOk, IfSome, IsErrOf, OnErr};
 ghost use Rattle.due_model.specs.Accepted.{IsAccepted};
+ghost use Rattle.due_model.specs.declared.zone.Zone.{Zone};
 ghost use Rattle.command_output.specs.Outcome.{IsWriteFault};
 ghost use Rattle.text_lines.specs.LineReader.{to_come};
-ghost use Rattle.trace.specs.Trace.{FailsWith, Traces, TracesFeed, TracesIn};
+ghost use Rattle.trace.specs.Trace.{FailsWith, Traces, TracesFeed, TracesFront, TracesIn};
 
 mod ending;
 mod feed;
@@ -30,7 +31,8 @@ use world_steps::{Settings, World};
 /// Reads object text up to a line `%events`, a feed up to a line `%steps`, and step lines, and does the steps in a
 /// world in which all lanes serve. It writes the refused lines of the feed, then those of the steps, and then what
 /// each lane holds of each object. A feed ends as a replay's does, and where it or the step lines can't be read to
-/// their end, what the lanes hold isn't written. Where the object text is refused nothing is written.
+/// their end, what the lanes hold isn't written. Where the object text is refused nothing is written; where the output
+/// fails or memory runs out, a front of all that was.
 pub fn trace<R: Input + Drop, W: Sink>(
     alloc: Global,
     settings: Settings,
@@ -40,9 +42,10 @@ pub fn trace<R: Input + Drop, W: Sink>(
     // What is written is what the input makes of the steps, and nothing else.
     ensures traces { IfSome (R.remaining reader) (λ bytes. IfOk result (λ ending.
         Traces R.can_fail settings bytes ending (W.contents writer.old) (W.contents writer.new))) }
-    // A fault says what was wrong.
+    // A fault says what was wrong, and what was written.
     ensures fault { IfSome (R.remaining reader) (λ bytes. IfErr result (λ fault.
-        FailsWith R.can_fail bytes fault (W.contents writer.old) (W.contents writer.new))) }
+        FailsWith R.can_fail Zone.Utc settings bytes fault
+        (W.contents writer.old) (W.contents writer.new))) }
     // The output failed only where a call of the writer did.
     ensures sure { W.can_fail ≡ false → ¬ IsErrOf result CommandFault.Output }
 {
@@ -62,7 +65,8 @@ pub fn trace_in<R: Input + Drop, W: Sink>(
         TracesIn R.can_fail zone.now settings bytes ending
         (W.contents writer.old) (W.contents writer.new))) }
     ensures fault { IfSome (R.remaining reader) (λ bytes. IfErr result (λ fault.
-        FailsWith R.can_fail bytes fault (W.contents writer.old) (W.contents writer.new))) }
+        FailsWith R.can_fail zone.now settings bytes fault
+        (W.contents writer.old) (W.contents writer.new))) }
     ensures sure { W.can_fail ≡ false → ¬ IsErrOf result CommandFault.Output }
 {
     let mut lines = LineReader::new(alloc, reader)?;
@@ -82,6 +86,9 @@ fn trace_feed<R: Input + Drop, W: Sink>(
     requires accepted { IsAccepted config.now }
     ensures traces { IfOk result (λ ending. IfSome (to_come source) (λ bytes.
         TracesFeed R.can_fail config.now zone.now settings bytes ending
+        (W.contents writer.old) (W.contents writer.new))) }
+    ensures front { OnErr result (IfSome (to_come source) (λ bytes.
+        TracesFront R.can_fail config.now zone.now settings bytes
         (W.contents writer.old) (W.contents writer.new))) }
     ensures fault { IfErr result (λ fault. IsWriteFault W.can_fail fault) }
 {

@@ -2,7 +2,7 @@
 
 ghost use Rattle.std.specs.Prelude.{◌++◌, IfErr, OnOk};
 ghost use Rattle.command_output.specs.Outcome.{IsWriteFault};
-ghost use Rattle.written.specs.Written.{Leaves};
+ghost use Rattle.written.specs.Written.{Leaves, WritesFront};
 ghost use Rattle.command_output.specs.TraceLine.{refused_step_line};
 
 use command_output::{CommandFault, Lines, OutputLine, Sink, StepRefusal};
@@ -18,6 +18,8 @@ pub(crate) fn refuse<W: Sink>(
 ) -> Result<(), CommandFault>
     ensures ok { OnOk result (Leaves (W.contents writer.old) (W.contents writer.new)
         (lines.old ++ refused_step_line number refusal) lines.new) }
+    ensures front { WritesFront (W.contents writer.old) (W.contents writer.new)
+        (lines.old ++ refused_step_line number refusal) }
     ensures fault { IfErr result (λ fault. IsWriteFault W.can_fail fault) }
 {
     let line = OutputLine::RefusedStep {

@@ -5,7 +5,8 @@ ghost use Rattle.command_output.specs.Outcome.{IsWriteFault};
 ghost use Rattle.written.specs.Written.{Leaves};
 ghost use Rattle.world_steps.specs.Views.{world_setup, world_state};
 ghost use Rattle.trace.specs.StepLine.{Spells};
-ghost use Rattle.trace.specs.Run.{Does, DoesSaid, Fits, IsEnabledIn, IsProperLine, run_state};
+ghost use Rattle.trace.specs.Run.{Does, DoesSaid, Fits, IsEnabledIn, IsProperLine};
+ghost use Rattle.trace.specs.Run.{SaidFront, run_state};
 
 use crate::refusal::refuse;
 use crate::step_line::{StepLine, read_step};
@@ -44,6 +45,9 @@ pub(crate) fn do_line<W: Sink>(
         (λ said. Spells run.old.config.now run.old.deciders said line.now)
         (run_state run.old) (run_state run.new) text
         × Leaves (W.contents writer.old) (W.contents writer.new) (lines.old ++ text) lines.new) }
+    ensures front { OnErr result (SaidFront (world_setup run.old.world) number
+        (λ said. Spells run.old.config.now run.old.deciders said line.now) (run_state run.old)
+        (W.contents writer.old) (W.contents writer.new) lines.old) }
     ensures fault { IfErr result (λ fault. IsWriteFault W.can_fail fault) }
     ensures setup { world_setup run.new.world ≡ world_setup run.old.world }
     ensures config { run.new.config ≡ run.old.config }

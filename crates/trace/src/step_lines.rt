@@ -1,13 +1,12 @@
 //! The step lines of a trace, done in order.
 
-ghost use Rattle.std.specs.Prelude.{◌≡◌, ◌≤◌, IfErr, IfNone, IfOk, IfSome};
+ghost use Rattle.std.specs.Prelude.{◌≡◌, IfErr, IfNone, IfOk, IfSome, OnErr};
 ghost use Rattle.command_output.specs.Outcome.{IsWriteFault};
-ghost use Rattle.event_feed.specs.Feed.{feed_limit};
 ghost use Rattle.text_lines.specs.LineReader.{to_come};
 ghost use Rattle.text_lines.specs.Lines.{Known};
 ghost use Rattle.world_steps.specs.Views.{world_setup};
 ghost use Rattle.trace.specs.Run.{Fits, run_state};
-ghost use Rattle.trace.specs.StepLines.{DoesLast, DoesNext, WritesSteps};
+ghost use Rattle.trace.specs.StepLines.{DoesLast, DoesNext, NextFront, StepsFront, WritesSteps};
 
 use crate::refusal::refuse;
 use crate::run::{Run, do_line};
@@ -29,6 +28,9 @@ pub(crate) fn do_steps<R: Input + Drop, W: Sink>(
         WritesSteps R.can_fail run.old.config.now run.old.deciders (world_setup run.old.world)
         bytes all (run_state run.old) (run_state run.new)
         (W.contents writer.old) (W.contents writer.new) lines.old lines.new)) }
+    ensures front { OnErr result (IfSome (to_come source.old) (λ bytes.
+        StepsFront run.old.config.now run.old.deciders (world_setup run.old.world)
+        bytes (run_state run.old) (W.contents writer.old) (W.contents writer.new) lines.old)) }
     ensures fault { IfErr result (λ fault. IsWriteFault W.can_fail fault) }
     ensures setup { world_setup run.new.world ≡ world_setup run.old.world }
     ensures config { run.new.config ≡ run.old.config }
@@ -53,7 +55,6 @@ fn do_next_line<R: Input + Drop, W: Sink>(
     number: u64,
 ) -> Result<Option<bool>, CommandFault>
     requires fits { Fits run.old }
-    requires number { number ≤ feed_limit }
     ensures fits { Fits run.new }
     ensures next { IfOk result (λ end. IfNone end (Known (to_come source.old) (to_come source.new)
         (λ bytes rest. DoesNext run.old.config.now run.old.deciders (world_setup run.old.world)
@@ -63,6 +64,9 @@ fn do_next_line<R: Input + Drop, W: Sink>(
         (λ bytes. DoesLast R.can_fail run.old.config.now run.old.deciders
         (world_setup run.old.world) number bytes all (run_state run.old) (run_state run.new)
         (W.contents writer.old) (W.contents writer.new) lines.old lines.new))) }
+    ensures front { OnErr result (IfSome (to_come source.old) (λ bytes.
+        NextFront run.old.config.now run.old.deciders (world_setup run.old.world) number
+        bytes (run_state run.old) (W.contents writer.old) (W.contents writer.new) lines.old)) }
     ensures fault { IfErr result (λ fault. IsWriteFault W.can_fail fault) }
     ensures setup { world_setup run.new.world ≡ world_setup run.old.world }
     ensures config { run.new.config ≡ run.old.config }

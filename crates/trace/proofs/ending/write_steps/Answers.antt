@@ -1,5 +1,6 @@
 use Rattle.std.proofs.Common.{◌≡◌, ◌++◌, Bool, true, sym, ap, subst, ◌∙◌}
-use Rattle.written.specs.Written.{Leaves}
+use Rattle.lemmas.proofs.Results.{on_err_always}
+use Rattle.written.specs.Written.{Leaves, WritesFront}
 use Rattle.command_output.specs.declared.outcome.Ending.{Ending}
 use Rattle.text_lines.specs.LineReader.{to_come}
 use Rattle.world_steps.specs.Views.{world_setup, world_state}
@@ -9,7 +10,7 @@ use Rattle.trace.specs.LaneLines.{world_text}
 use Rattle.trace.specs.Run.{run_state}
 use Rattle.trace.specs.StepLines.{WritesSteps}
 use Rattle.trace.specs.Trace.{WritesEnd, ending_of}
-use Rattle.trace.proofs.EndLaws.{some_weaker, end_whole}
+use Rattle.trace.proofs.EndLaws.{some_weaker, end_whole, front_of_lanes, front_of_steps}
 use Rattle.trace.proofs.ending.write_steps.Goals as goal
 
 pub returns-clause-ok : goal.returns-clause-ok
@@ -29,3 +30,26 @@ returns-clause-ok g c =
     (end_whole g.R.Input.can_fail run.config.now run.deciders s (run_state run) (run_state new.run) run.is_over rest w0 w1 w2 c.args.lines.now new.lines last.lines
     (subst (λ (b : Bool). WritesSteps g.R.Input.can_fail run.config.now run.deciders s rest b (run_state run) (run_state new.run) w0 w1 c.args.lines.now new.lines) all h) lanes))
     c.in_ok-do_steps.ensures.steps
+
+pub returns-in_err-do_steps-clause-front : goal.returns-in_err-do_steps-clause-front
+returns-in_err-do_steps-clause-front g c =
+    let run = c.args.run.now in
+    on_err_always _ (some_weaker (to_come c.args.source.now) _ _
+    (λ rest h. front_of_steps g.R.Input.can_fail run.config.now run.deciders (world_setup run.world) (run_state run) run.is_over rest
+    (g.W.Write.contents c.args.writer.now) (g.W.Write.contents c.do_steps.new.writer) c.args.lines.now h)
+    c.in_err-do_steps.ensures.front)
+
+pub returns-in_err-write_lanes-clause-front : goal.returns-in_err-write_lanes-clause-front
+returns-in_err-write_lanes-clause-front g c =
+    let run = c.args.run.now in
+    let new = c.do_steps.new in
+    let s = world_setup run.world in
+    let w0 = g.W.Write.contents c.args.writer.now in
+    let w1 = g.W.Write.contents new.writer in
+    let w2 = g.W.Write.contents c.write_lanes.new.writer in
+    let all : c.in_ok-do_steps.field-0 ≡ true = c.if-not-branch.false in
+    let lanes = subst (λ (x : Setup). WritesFront w1 w2 (new.lines ++ world_text x (world_state new.run.world))) c.do_steps.ensures.setup c.in_err-write_lanes.ensures.front in
+    on_err_always _ (some_weaker (to_come c.args.source.now) (λ rest. WritesSteps g.R.Input.can_fail run.config.now run.deciders s rest c.in_ok-do_steps.field-0 (run_state run) (run_state new.run) w0 w1 c.args.lines.now new.lines) _
+    (λ rest h. front_of_lanes g.R.Input.can_fail run.config.now run.deciders s (run_state run) (run_state new.run) run.is_over rest w0 w1 w2 c.args.lines.now new.lines
+    (subst (λ (b : Bool). WritesSteps g.R.Input.can_fail run.config.now run.deciders s rest b (run_state run) (run_state new.run) w0 w1 c.args.lines.now new.lines) all h) lanes)
+    c.in_ok-do_steps.ensures.steps)

@@ -1,8 +1,9 @@
 use Rattle.std.proofs.Common.{refl}
+use Rattle.lemmas.proofs.Results.{on_err_always}
 use Rattle.trace.specs.FeedRun.{ReadsSome}
-use Rattle.trace.proofs.FeedLaws.{some_none, some_more, some_last, unmoved_join}
+use Rattle.trace.proofs.FeedLaws.{some_front, some_none, some_more, some_last, unmoved_join}
 use Rattle.event_feed.specs.FeedLaws.{known_same, known_then}
-use Rattle.trace.proofs.StepLinesLaws.{if_none_is, if_some_is}
+use Rattle.trace.proofs.StepLinesLaws.{if_none_is, if_some_is, known_last}
 use Rattle.trace.proofs.feed.read_feed.Goals as goal
 
 pub loop-after-init : goal.loop-after-init
@@ -34,6 +35,16 @@ loop-after-preserved g c =
           (λ x y z h k. some_more run mid new.run c.args.feeder.now c.loop-after.feeder new.feeder x y z
           (g.W.Write.contents c.args.writer.now) (g.W.Write.contents c.loop-after.writer) (g.W.Write.contents new.writer) c.args.lines.now c.loop-after.lines new.lines inv.unmoved.config h k);
     }
+
+pub returns-in_err-after-clause-front : goal.returns-in_err-after-clause-front
+returns-in_err-after-clause-front g c =
+    let run = c.args.run.now in
+    let mid = c.loop-after.run in
+    let inv = c.loop-after.invariant in
+    on_err_always _ (known_last c.args.feeder.now.bytes c.loop-after.feeder.bytes _ _ _
+    (λ x y h k. some_front g.R.Input.can_fail run mid c.args.feeder.now c.loop-after.feeder x y
+    (g.W.Write.contents c.args.writer.now) (g.W.Write.contents c.loop-after.writer) (g.W.Write.contents c.read_feed_line.new.writer) c.args.lines.now c.loop-after.lines inv.unmoved.config h k)
+    inv.so_far c.in_err-after.ensures.front)
 
 pub returns-in-Some-clause-feed : goal.returns-in-Some-clause-feed
 returns-in-Some-clause-feed g c =

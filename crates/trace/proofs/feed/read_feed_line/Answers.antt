@@ -1,5 +1,6 @@
 use Rattle.std.proofs.Common.{◌≡◌, ◌++◌, ℕ, Ok, true, refl, sym, subst, ◌∙◌}
-use Rattle.written.specs.Written.{Leaves}
+use Rattle.lemmas.proofs.Results.{on_err_always}
+use Rattle.written.specs.Written.{Leaves, WritesFront}
 use Rattle.text_lines.specs.Lines.{Known}
 use Rattle.trace.specs.declared.feed.AfterFeed.{AfterFeed}
 use Rattle.trace.specs.Feed.{added}
@@ -7,8 +8,16 @@ use Rattle.trace.specs.FeedRun.{EndsFeed}
 use Rattle.due_model.specs.declared.event.Event.{Event}
 use Rattle.event_feed.specs.Feed.{GivesEvent}
 use Rattle.trace.proofs.StepLinesLaws.{if_some_is}
-use Rattle.trace.proofs.FeedLaws.{line_event, line_refused, line_marked, line_stopped}
+use Rattle.trace.proofs.FeedLaws.{event_front, line_event, line_none, line_refused, refusal_front, line_marked, line_stopped}
 use Rattle.trace.proofs.feed.read_feed_line.Goals as goal
+
+pub returns-in-Ok-None-clause-last : goal.returns-in-Ok-None-clause-last
+returns-in-Ok-None-clause-last g c =
+    let run = c.args.run.now in
+    let w = g.W.Write.contents c.args.writer.now in
+    let none = rw c.in-Ok-None.field-0-is at c.in-Ok-None.ensures.none in
+    let ended = rw (c.requires.open, c.in-Ok-None.field-0-is) at c.in-Ok-None.ensures.ended in
+    line_none g.R.Input.can_fail run run c.args.feeder.now c.next.new.self w w c.args.lines.now c.args.lines.now none.answers ended.place
 
 pub returns-then-is_mark-clause-last : goal.returns-then-is_mark-clause-last
 returns-then-is_mark-clause-last g c =
@@ -27,6 +36,23 @@ returns-in_ok-keep_event-in-Ok-Some-clause-next g c =
     let w1 = g.W.Write.contents new.writer in
     line_event g.R.Input.can_fail run new.run c.args.feeder.now c.next.new.self w0 w1 c.args.lines.now new.lines c.in-Ok-Some.event (if_some_is (λ (event : Event). GivesEvent run.config.now c.args.feeder.now event c.next.new.self) c.in-Ok-Some.field-0 c.in-Ok-Some.event c.in-Ok-Some.field-0-is c.in-Ok-Some.ensures.event) done.events done.over
     (subst (λ (n : ℕ). Leaves w0 w1 (c.args.lines.now ++ added run.events.items run.is_over n (Ok c.in-Ok-Some.event)) new.lines) c.line-line.ensures done.ok)
+
+pub returns-in_err-keep_event-in-Ok-Some-clause-front : goal.returns-in_err-keep_event-in-Ok-Some-clause-front
+returns-in_err-keep_event-in-Ok-Some-clause-front g c =
+    let run = c.args.run.now in
+    let w0 = g.W.Write.contents c.args.writer.now in
+    let w1 = g.W.Write.contents c.keep_event.new.writer in
+    on_err_always _ (event_front g.R.Input.can_fail run run c.args.feeder.now c.next.new.self w0 w1 c.args.lines.now c.args.lines.now c.in-Ok-Some.event
+    (if_some_is (λ (event : Event). GivesEvent run.config.now c.args.feeder.now event c.next.new.self) c.in-Ok-Some.field-0 c.in-Ok-Some.event c.in-Ok-Some.field-0-is c.in-Ok-Some.ensures.event)
+    (subst (λ (n : ℕ). WritesFront w0 w1 (c.args.lines.now ++ added run.events.items run.is_over n (Ok c.in-Ok-Some.event))) c.line-line.ensures c.keep_event.ensures.front))
+
+pub returns-in_err-write_refusal-in-Err-clause-front : goal.returns-in_err-write_refusal-in-Err-clause-front
+returns-in_err-write_refusal-in-Err-clause-front g c =
+    let run = c.args.run.now in
+    on_err_always _ (refusal_front g.R.Input.can_fail run c.args.feeder.now c.next.new.self (g.W.Write.contents c.args.writer.now) (g.W.Write.contents c.write_refusal.new.writer) c.args.lines.now
+    c.in-Err.refusal c.in-Err.ensures.fault
+    (λ marked. let yes : c.is_mark.result ≡ true = c.is_mark.ensures.1 (record { refused = marked.refused; says = c.text.ensures ∙ marked.says }) in
+    let no = c.if-is_mark.false in absurd (cc)) c.in-Err.ensures.last c.write_refusal.ensures.front)
 
 pub returns-in-None-clause-next : goal.returns-in-None-clause-next
 returns-in-None-clause-next g c =

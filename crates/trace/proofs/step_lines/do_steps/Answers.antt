@@ -1,10 +1,24 @@
-use Rattle.std.proofs.Common.{◌+◌, arith, ap, ◌∙◌}
+use Rattle.std.proofs.Common.{◌+◌, arith, ap, refl, ◌∙◌}
 use Rattle.text_lines.specs.LineReader.{to_come}
 use Rattle.world_steps.specs.Views.{world_setup}
 use Rattle.trace.specs.Run.{run_state}
-use Rattle.event_feed.specs.FeedLaws.{known_then}
-use Rattle.trace.proofs.StepLinesLaws.{known_last, so_far_more, so_far_last, so_far_short, known_first, next_under, last_under, if_none_is, if_some_is}
+use Rattle.event_feed.specs.FeedLaws.{known_same, known_then}
+use Rattle.lemmas.proofs.Results.{on_err_always}
+use Rattle.trace.proofs.StepLinesLaws.{front_under, known_last, so_far_front, so_far_none, so_far_more, so_far_last, so_far_short, known_first, next_under, last_under, if_none_is, if_some_is}
 use Rattle.trace.proofs.step_lines.do_steps.Goals as goal
+
+pub loop-before-init : goal.loop-before-init
+loop-before-init g c =
+    let run = c.args.run.now in
+    record {
+      fits = c.requires.fits;
+      setup = refl;
+      config = refl;
+      deciders = refl;
+      over = refl;
+      so_far = known_same (to_come c.args.source.now) _
+          (λ bytes. so_far_none run.config.now run.deciders (world_setup run.world) bytes (run_state run) (g.W.Write.contents c.args.writer.now) c.args.lines.now);
+    }
 
 pub loop-before-preserved : goal.loop-before-preserved
 loop-before-preserved g c =
@@ -23,7 +37,7 @@ loop-before-preserved g c =
       so_far = known_then (to_come c.args.source.now) (to_come c.loop-before.source) (to_come new.source) _ _ _
           inv.so_far (if_none_is c.in_ok-all.field-0 c.in_default.is done.next)
           (λ x y z h k. so_far_more run.config.now run.deciders (world_setup run.world) n x y z (run_state run) (run_state mid) (run_state new.run)
-          (g.W.Write.contents c.args.writer.now) (g.W.Write.contents c.loop-before.writer) (g.W.Write.contents new.writer) c.args.lines.now c.loop-before.lines new.lines h
+          (g.W.Write.contents c.args.writer.now) (g.W.Write.contents c.loop-before.writer) (g.W.Write.contents new.writer) c.args.lines.now c.loop-before.lines new.lines (omega (arith, c.loop-before-test.true)) h
           (next_under g.R.Input.can_fail run.config.now mid.config.now run.deciders mid.deciders (world_setup run.world) (world_setup mid.world)
           (ap (λ r. r.now) inv.config) inv.deciders inv.setup (n + 1) (run_state mid) (run_state new.run)
           (g.W.Write.contents c.loop-before.writer) (g.W.Write.contents new.writer) c.loop-before.lines new.lines y z k));
@@ -38,11 +52,25 @@ returns-in-Some-clause-steps g c =
     let n = c.loop-before.before in
     known_last (to_come c.args.source.now) (to_come c.loop-before.source) _ _ _
     (λ x y h k. so_far_last g.R.Input.can_fail run.config.now run.deciders (world_setup run.world) n x y c.in-Some.all (run_state run) (run_state mid) (run_state new.run)
-    (g.W.Write.contents c.args.writer.now) (g.W.Write.contents c.loop-before.writer) (g.W.Write.contents new.writer) c.args.lines.now c.loop-before.lines new.lines h
+    (g.W.Write.contents c.args.writer.now) (g.W.Write.contents c.loop-before.writer) (g.W.Write.contents new.writer) c.args.lines.now c.loop-before.lines new.lines (omega (arith, c.loop-before-test.true)) h
     (last_under g.R.Input.can_fail run.config.now mid.config.now run.deciders mid.deciders (world_setup run.world) (world_setup mid.world)
     (ap (λ r. r.now) inv.config) inv.deciders inv.setup (n + 1) (run_state mid) (run_state new.run)
     (g.W.Write.contents c.loop-before.writer) (g.W.Write.contents new.writer) c.loop-before.lines new.lines y c.in-Some.all k))
     inv.so_far (if_some_is _ c.in_ok-all.field-0 c.in-Some.all c.in-Some.is c.in_ok-all.ensures.last)
+
+pub returns-in_err-all-clause-front : goal.returns-in_err-all-clause-front
+returns-in_err-all-clause-front g c =
+    let run = c.args.run.now in
+    let mid = c.loop-before.run in
+    let inv = c.loop-before.invariant in
+    let n = c.loop-before.before in
+    on_err_always _ (known_last (to_come c.args.source.now) (to_come c.loop-before.source) _ _ _
+    (λ x y h k. so_far_front run.config.now run.deciders (world_setup run.world) n x y (run_state run) (run_state mid)
+    (g.W.Write.contents c.args.writer.now) (g.W.Write.contents c.loop-before.writer) (g.W.Write.contents c.do_next_line.new.writer) c.args.lines.now c.loop-before.lines
+    (omega (arith, c.loop-before-test.true)) h
+    (front_under run.config.now mid.config.now run.deciders mid.deciders (world_setup run.world) (world_setup mid.world)
+    (ap (λ r. r.now) inv.config) inv.deciders inv.setup (n + 1) y (run_state mid) (g.W.Write.contents c.loop-before.writer) (g.W.Write.contents c.do_next_line.new.writer) c.loop-before.lines k))
+    inv.so_far c.in_err-all.ensures.front)
 
 pub returns-clause-steps : goal.returns-clause-steps
 returns-clause-steps g c =

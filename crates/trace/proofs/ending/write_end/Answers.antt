@@ -1,0 +1,27 @@
+use Rattle.std.proofs.Common.{IfSome, OnErr, subst, sym}
+use Rattle.text_lines.specs.LineReader.{to_come}
+use Rattle.lemmas.proofs.Results.{on_err_always}
+use Rattle.world_steps.specs.Views.{world_setup}
+use Rattle.trace.specs.declared.feed.AfterFeed.{AfterFeed}
+use Rattle.trace.specs.Run.{run_state}
+use Rattle.trace.specs.Trace.{EndFront}
+use Rattle.trace.proofs.EndLaws.{front_of_cut, front_of_nothing, some_all}
+use Rattle.trace.proofs.ending.write_end.Goals as goal
+
+pub returns-in-Steps-clause-front : goal.returns-in-Steps-clause-front
+returns-in-Steps-clause-front g c =
+    let run = c.args.run.now in
+    subst (λ (after : AfterFeed). OnErr c.write_steps.result (IfSome (to_come c.args.source.now) (λ rest. EndFront g.R.Input.can_fail run.config.now run.deciders (world_setup run.world) (run_state run) run.is_over
+    after rest (g.W.Write.contents c.args.writer.now) (g.W.Write.contents c.write_steps.new.writer) c.args.lines.now))) (sym c.in-Steps.is) c.write_steps.ensures.front
+
+pub returns-in_err-write_lanes-in-Nothing-clause-front : goal.returns-in_err-write_lanes-in-Nothing-clause-front
+returns-in_err-write_lanes-in-Nothing-clause-front g c =
+    let run = c.args.run.now in
+    on_err_always _ (some_all (to_come c.args.source.now) _ (λ rest. front_of_nothing g.R.Input.can_fail run.config.now run.deciders (world_setup run.world) (run_state run) run.is_over c.args.after rest
+    _ _ c.args.lines.now c.in-Nothing.is c.in_err-write_lanes-in-Nothing.ensures.front))
+
+pub returns-in_err-write_lanes-in-Cut-clause-front : goal.returns-in_err-write_lanes-in-Cut-clause-front
+returns-in_err-write_lanes-in-Cut-clause-front g c =
+    let run = c.args.run.now in
+    on_err_always _ (some_all (to_come c.args.source.now) _ (λ rest. front_of_cut g.R.Input.can_fail run.config.now run.deciders (world_setup run.world) (run_state run) run.is_over c.args.after rest
+    _ _ c.args.lines.now c.in-Cut.is c.in_err-write_lanes-in-Cut.ensures.front))
