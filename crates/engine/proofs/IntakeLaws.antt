@@ -17,7 +17,7 @@ use Rattle.text_lines.specs.declared.line_reader.Stop.TheVariants.{InputEnded, C
 use Rattle.event_feed.specs.Fault.{is_line_fault, stop_fault}
 use Rattle.event_feed.specs.Feed.{Answer, AnswersNext, AreGivenBy, refusal, FaultFits, Feed, GivesEvent, GivesFault, GivesNone, answers_from, PassesLines, ends_feed}
 use Rattle.text_lines.specs.Lines.{Known, pieces}
-use Rattle.engine.specs.Feed.{AreTaken, CameFirst, HasEnded, HasRead, Intake, IsFrontOfFeed, Offers, accepted, count_after, ended, event_in, events_in, is_cut, is_unnumbered, refused_in, refusals_in, taken_after}
+use Rattle.engine.specs.Feed.{AreTaken, AreFrontOfFeed, CameFirst, HasEnded, HasRead, Intake, IsFrontOfFeed, Offers, accepted, count_after, ended, event_in, events_in, is_cut, is_unnumbered, refused_in, refusals_in, taken_after}
 use Rattle.engine.specs.Lists.{IsFrontOf}
 use Rattle.event_feed.specs.FeedLaws.{known_then, Passed, passed_more, event_passes, fault_passes, next_given, none_given, fault_last, fault_next, event_answers, earlier_more, then_by}
 
@@ -219,3 +219,19 @@ read_front c start said now h = front_by c start said now.feed now.events start.
 
 pub offered_front : (c : Config) (start : Feed) (said : List Answer) (e : Event) (now : Intake) → Offers c start said e now → IsFrontOfFeed c start now.events
 offered_front c start said e now h = read_front c start said (record now { feed = h.before }) h.read
+
+-- and so are the answers that were taken
+said_by : (c : Config) (start : Feed) (given : List Answer) (now : Feed) (count : ℕ) (bytes rest : Option (List ℕ))
+    → Known bytes rest (λ before after. answers_from c.objects start before ≡ given ++ answers_from c.objects now after)
+    → ((others : List Answer) → taken_after 0 (given ++ others) ≡ given ++ taken_after count others)
+    → IfSome bytes (λ before. IsFrontOf given (taken_after 0 (answers_from c.objects start before)))
+said_by c start given now count None rest known taken = tt
+said_by c start given now count (Some before) None known taken = absurd known
+said_by c start given now count (Some before) (Some after) known taken =
+    let others = answers_from c.objects now after in (taken_after count others, ap (λ all. taken_after 0 all) known ∙ taken others)
+
+pub read_said : (c : Config) (start : Feed) (said : List Answer) (now : Intake) → HasRead c start said now → AreFrontOfFeed c start said
+read_said c start said now h = said_by c start said now.feed (length now.events) start.bytes now.feed.bytes h.first.answers h.first.taken
+
+pub offered_said : (c : Config) (start : Feed) (said : List Answer) (e : Event) (now : Intake) → Offers c start said e now → AreFrontOfFeed c start said
+offered_said c start said e now h = read_said c start said (record now { feed = h.before }) h.read

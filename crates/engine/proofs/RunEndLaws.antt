@@ -18,14 +18,14 @@ use Rattle.steps.specs.Lanes.{about}
 use Rattle.text_lines.specs.Lines.{pieces}
 use Rattle.engine.specs.declared.run_end.RunEnd.{RunEnd}
 use Rattle.engine.specs.Due.{HaveCauses, IsLog, IsNamed, LanesAreDue, LanesBeginDue, made_due, of_object, suppressed}
-use Rattle.engine.specs.Feed.{AreTaken, HasEnded, Intake, IsFrontOfFeed, IsWhatWasRead, count_after, event_in, events_in, events_of, is_unnumbered, refusals_in, taken_after}
+use Rattle.engine.specs.Feed.{AreFrontOfFeed, AreTaken, HasEnded, Intake, IsFrontOfFeed, IsFrontRead, IsFrontTaken, IsWhatWasRead, count_after, event_in, events_in, events_of, is_unnumbered, refusals_in, taken_after}
 use Rattle.engine.specs.Lanes.{IsCause, LaneParts, LaneValue, MayBeShut, joined}
 use Rattle.engine.specs.Lists.{IsFrontOf}
 use Rattle.engine.specs.Run.{After, EndsAfter, IsRunEnd, IsTakenOf, last_turn}
 use Rattle.engine.specs.Served.{DeskValue, Holds, IsFirst, IsOver, IsStopped, held_at, lane_at}
 use Rattle.engine.proofs.DeskLaws.{stands_holds}
 use Rattle.engine.proofs.DueLaws.{made_due_named, made_due_of, suppressed_is_sup}
-use Rattle.engine.proofs.IntakeLaws.{offered_front, read_front}
+use Rattle.engine.proofs.IntakeLaws.{offered_front, offered_said, read_front, read_said}
 
 -- ---- the events are a front of the feed's, also where the reading broke off
 
@@ -93,8 +93,9 @@ module _ (can_fail : Bool) (c : Config) (zone : Zone) (posted : ℕ → Bool) (s
 
   from_holds : (memory : Bool) → end.memory ≡ memory → Holds c zone posted memory (reverse intake.events) desk
       → (memory ≡ false → (given : List Answer) × AreGivenBy can_fail c.objects start given × AreTaken given intake.events intake.refused end.cut × (said ≡ taken_after 0 given))
-      → intake.events ≡ events_in said → intake.refused ≡ refusals_in said → IsFrontOfFeed c start intake.events → All (IsProper c) intake.events → All (λ r. r.fault ≢ fault.NoMemory) intake.refused → (memory ≡ true → end.cut ≡ false) → IsRunEnd can_fail c zone posted start said end
-  from_holds memory is h read events_are refused_are front proper named uncut = record {
+      → intake.events ≡ events_in said → intake.refused ≡ refusals_in said → IsFrontOfFeed c start intake.events → All (IsProper c) intake.events → All (λ r. r.fault ≢ fault.NoMemory) intake.refused → (memory ≡ true → end.cut ≡ false) → (memory ≡ true → AreFrontOfFeed c start said)
+      → IsRunEnd can_fail c zone posted start said end
+  from_holds memory is h read events_are refused_are front proper named uncut said_front = record {
     read = λ none. let r = read (sym is ∙ none) in (
       r.0,
       r.1,
@@ -102,6 +103,7 @@ module _ (can_fail : Bool) (c : Config) (zone : Zone) (posted : ℕ → Bool) (s
       r.3,
     );
     uncut = λ out. uncut (sym is ∙ out);
+    said_front = λ out. said_front (sym is ∙ out);
     events = events ∙ events_are;
     refused = refused ∙ refused_are;
     front = subst (λ (xs : List Event). IsFrontOfFeed c start xs) (sym events) front;
@@ -124,12 +126,12 @@ module _ (can_fail : Bool) (c : Config) (zone : Zone) (posted : ℕ → Bool) (s
       from_holds false memory (stands_holds c zone posted (reverse intake.events) desk o.stands)
       (λ none. (o.ended.given, o.ended.of_feed, subst (λ (b : Bool). AreTaken o.ended.given intake.events intake.refused b) (sym same) o.ended.taken, o.ended.said_is))
       (o.ended.taken.events_are ∙ ap events_in (sym o.ended.said_is)) (o.ended.taken.refused_are ∙ ap refusals_in (sym o.ended.said_is))
-      (ended_front can_fail c start said cut intake o.ended) o.ended.proper o.ended.named (λ out. absurd (cc))
+      (ended_front can_fail c start said cut intake o.ended) o.ended.proper o.ended.named (λ out. absurd (cc)) (λ out. absurd (cc))
 
   stopped_end : end.memory ≡ true → end.cut ≡ false → IsStopped c zone posted start said intake desk → IsRunEnd can_fail c zone posted start said end
   stopped_end memory uncut s = elim s.read [
-    | inl r ↦ from_holds true memory s.holds (λ none. absurd (cc)) r.first.events_are r.first.refused_are (read_front c start said intake r) r.proper r.named (λ out. uncut)
-    | inr o ↦ from_holds true memory s.holds (λ none. absurd (cc)) o.1.read.first.events_are o.1.read.first.refused_are (offered_front c start said o.0 intake o.1) o.1.read.proper o.1.read.named (λ out. uncut)
+    | inl r ↦ from_holds true memory s.holds (λ none. absurd (cc)) r.first.events_are r.first.refused_are (read_front c start said intake r) r.proper r.named (λ out. uncut) (λ out. read_said c start said intake r)
+    | inr o ↦ from_holds true memory s.holds (λ none. absurd (cc)) o.1.read.first.events_are o.1.read.first.refused_are (offered_front c start said o.0 intake o.1) o.1.read.proper o.1.read.named (λ out. uncut) (λ out. offered_said c start said o.0 intake o.1)
   ]
 
   pub run_end_is : {E : Type 0} (read : Result Bool E) → end.memory ≡ is_err read → end.cut ≡ result_unwrap_or read false
@@ -152,6 +154,7 @@ module _ (can_fail : Bool) (c : Config) (zone : Zone) (posted : ℕ → Bool) (s
     count = r.count;
     each = λ l lane found. record {
       number = r.number l lane found;
+      order = r.all none l lane found;
       due = λ o inside. ap (about o) (r.all none l lane found) ∙ made_due_of c zone l the_past o inside;
       named = subst (λ (ns : List Notice). All (IsNamed c l) ns) (sym (r.all none l lane found)) (made_due_named c zone l the_past);
     };
@@ -160,6 +163,7 @@ module _ (can_fail : Bool) (c : Config) (zone : Zone) (posted : ℕ → Bool) (s
   lanes_begin_due : LanesBeginDue c zone (reverse end.events.items) end.lanes.items
   lanes_begin_due l lane found = let f = r.fronts l lane found in record {
     number = r.number l lane found;
+    order = f;
     due = λ o inside. (
       about o f.0,
       sym (made_due_of c zone l the_past o inside) ∙ ap (about o) f.1 ∙ filter-append (λ (n : Notice). n.object.0 == o) (joined lane) f.0,
@@ -192,13 +196,13 @@ module _ (can_fail : Bool) (c : Config) (zone : Zone) (posted : ℕ → Bool) (k
   and_taken None given h t = tt
   and_taken (Some bytes) given h t = (given, h, t)
 
-  later : (k : Option (List ℕ)) (P : List ℕ → Type 0) → (end.memory ≡ false → IfSome k P) → IfSome k (λ bytes. end.memory ≡ false → P bytes)
-  later None P h = tt
-  later (Some bytes) P h = h
+  later : (b : Bool) (k : Option (List ℕ)) (P : List ℕ → Type 0) → (end.memory ≡ b → IfSome k P) → IfSome k (λ bytes. end.memory ≡ b → P bytes)
+  later b None P h = tt
+  later b (Some bytes) P h = h
 
   what_was_read : IfSome known (λ bytes. end.memory ≡ false → IsWhatWasRead can_fail c.objects bytes end.events.items end.refused.items end.cut)
   what_was_read =
-      later known (λ bytes. IsWhatWasRead can_fail c.objects bytes end.events.items end.refused.items end.cut)
+      later false known (λ bytes. IsWhatWasRead can_fail c.objects bytes end.events.items end.refused.items end.cut)
       (λ none. let g = r.read none in and_taken known g.0 (from_start (λ bytes all line. AreGiven can_fail g.0 all line (pieces bytes)) g.1) g.2)
 
   events_front : IfSome known (λ bytes. IsFrontOf end.events.items (events_of c.objects bytes))
@@ -211,8 +215,18 @@ module _ (can_fail : Bool) (c : Config) (zone : Zone) (posted : ℕ → Bool) (k
 
   was_taken : IfSome known (λ bytes. end.memory ≡ false → IsTakenOf can_fail c bytes said)
   was_taken =
-      later known (λ bytes. IsTakenOf can_fail c bytes said)
+      later false known (λ bytes. IsTakenOf can_fail c bytes said)
       (λ none. let g = r.read none in and_said known g.0 (from_start (λ bytes all line. AreGiven can_fail g.0 all line (pieces bytes)) g.1) g.3)
+
+  front_taken : IfSome known (λ bytes. end.memory ≡ true → IsFrontTaken c.objects bytes said)
+  front_taken =
+      later true known (λ bytes. IsFrontTaken c.objects bytes said)
+      (λ out. from_start (λ bytes all line. IsFrontOf said (taken_after 0 all)) (r.said_front out))
+
+  front_read : (k : Option (List ℕ)) → IfSome k (λ bytes. end.memory ≡ true → IsFrontTaken c.objects bytes said)
+      → IfSome k (λ bytes. end.memory ≡ true → IsFrontRead c.objects bytes end.events.items end.refused.items)
+  front_read None h = tt
+  front_read (Some bytes) h = λ out. (said, h out, r.events, r.refused)
 
   pub ends_after : EndsAfter can_fail c zone posted known said end
   ends_after = record {
@@ -223,6 +237,7 @@ module _ (can_fail : Bool) (c : Config) (zone : Zone) (posted : ℕ → Bool) (k
       proper = r.proper;
       named = r.named;
       front = events_front;
+      read_front = front_read known front_taken;
       due_front = lanes_begin_due can_fail c zone posted start said end r;
       uncut = r.uncut;
       causes = r.causes;
@@ -230,17 +245,27 @@ module _ (can_fail : Bool) (c : Config) (zone : Zone) (posted : ℕ → Bool) (k
     events = r.events;
     refused = r.refused;
     taken = was_taken;
+    taken_front = front_taken;
   }
 
 -- ---- where memory ran out before anything was read
 
-unread : (known : Option (List ℕ)) (memory : Bool) (P : List ℕ → Type 0) → memory ≡ true → IfSome known (λ bytes. memory ≡ false → P bytes)
+pub unread : (known : Option (List ℕ)) (memory : Bool) (P : List ℕ → Type 0) → memory ≡ true → IfSome known (λ bytes. memory ≡ false → P bytes)
 unread None memory P h = tt
 unread (Some bytes) memory P h = λ e. absurd (cc)
 
 no_front : (known : Option (List ℕ)) (f : List ℕ → List Event) (events : List Event) → events ≡ [] → IfSome known (λ bytes. IsFrontOf events (f bytes))
 no_front None f events none = tt
 no_front (Some bytes) f events none = (f bytes, ap (λ (xs : List Event). xs ++ f bytes) (sym none))
+
+unread_taken : (c : Config) (known : Option (List ℕ)) (memory : Bool) → IfSome known (λ bytes. memory ≡ true → IsFrontTaken c.objects bytes [])
+unread_taken c None memory = tt
+unread_taken c (Some bytes) memory = λ out. (taken_after 0 (answers c.objects 0 0 (pieces bytes)), refl)
+
+unread_read : (c : Config) (known : Option (List ℕ)) (end : RunEnd) → end.events.items ≡ [] → end.refused.items ≡ []
+    → IfSome known (λ bytes. end.memory ≡ true → IsFrontRead c.objects bytes end.events.items end.refused.items)
+unread_read c None end events refused = tt
+unread_read c (Some bytes) end events refused = λ out. ([], (taken_after 0 (answers c.objects 0 0 (pieces bytes)), refl), events, refused)
 
 no_log : (c : Config) (zone : Zone) (events : List Event) (log : List Suppression) → events ≡ [] → log ≡ [] → IsLog c zone (reverse events) log
 no_log c zone events log no_events none =
@@ -267,6 +292,7 @@ ends_unread can_fail c zone posted known end events refused log lanes memory unc
     proper = All-same (IsProper c) end.events.items [] events (All-nil (IsProper c));
     named = All-same (λ (r : RefusedLine). r.fault ≢ fault.NoMemory) end.refused.items [] refused (All-nil (λ (r : RefusedLine). r.fault ≢ fault.NoMemory));
     front = no_front known (events_of c.objects) end.events.items events;
+    read_front = unread_read c known end events refused;
     due_front = no_lanes_due c zone (reverse end.events.items) end.lanes.items lanes;
     uncut = λ out. uncut;
     causes = no_causes posted end.memory end.lanes.items lanes;
@@ -274,4 +300,5 @@ ends_unread can_fail c zone posted known end events refused log lanes memory unc
   events = events;
   refused = refused;
   taken = unread known end.memory (λ bytes. IsTakenOf can_fail c bytes []) memory;
+  taken_front = unread_taken c known end.memory;
 }

@@ -76,6 +76,18 @@ IsWhatWasRead can_fail objects bytes events refused cut =
 abbrev pub events_of : List Object → (bytes : List ℕ) → List Event
 events_of objects bytes = events_in (taken_after 0 (answers objects 0 0 (pieces bytes)))
 
+-- these answers are a front of all that is taken of the bytes
+abbrev pub IsFrontTaken : List Object → (bytes : List ℕ) → (said : List Answer) → Type 0
+IsFrontTaken objects bytes said =
+    IsFrontOf said (taken_after 0 (answers objects 0 0 (pieces bytes)))
+
+-- The events and the refused lines are those of a front of what the bytes give, as far as memory sufficed.
+abbrev pub IsFrontRead : List Object → (bytes : List ℕ) → List Event → List RefusedLine → Type 0
+IsFrontRead objects bytes events refused =
+    (said : List Answer)
+    × IsFrontTaken objects bytes said
+    × (events ≡ events_in said) × (refused ≡ refusals_in said)
+
 -- ---- while it is read
 
 -- what is read of a feed so far: the feed after it, the events that were accepted and the lines that were refused
@@ -140,6 +152,12 @@ abbrev pub IsFrontOfFeed : Config → Feed → List Event → Type 0
 IsFrontOfFeed c start events =
     IfSome start.bytes
     (λ bytes. IsFrontOf events (events_in (taken_after 0 (answers_from c.objects start bytes))))
+
+-- and the answers are a front of what is taken of it
+abbrev pub AreFrontOfFeed : Config → Feed → (said : List Answer) → Type 0
+AreFrontOfFeed c start said =
+    IfSome start.bytes
+    (λ bytes. IsFrontOf said (taken_after 0 (answers_from c.objects start bytes)))
 
 -- what the next line of the feed makes of a run that has taken these answers
 abbrev pub Follows : (can_fail : Bool) → Config → (start : Feed) → (said : List Answer) → Next

@@ -13,7 +13,7 @@ use Rattle.engine.specs.declared.run.Turn.{Turn}
 use Rattle.engine.specs.declared.run.Turn.TheVariants as turn
 use Rattle.engine.specs.declared.run_end.RunEnd.{RunEnd}
 use Rattle.engine.specs.Due.{HaveCauses, IsLog, LanesAreDue, LanesBeginDue, made_due, suppressed}
-use Rattle.engine.specs.Feed.{AreTaken, Intake, IsFrontOfFeed, IsWhatWasRead, events_in, events_of, refusals_in, taken_after}
+use Rattle.engine.specs.Feed.{AreFrontOfFeed, AreTaken, Intake, IsFrontOfFeed, IsFrontRead, IsFrontTaken, IsWhatWasRead, events_in, events_of, refusals_in, taken_after}
 use Rattle.engine.specs.Lanes.{LaneParts, joined}
 use Rattle.engine.specs.Lists.{IsFrontOf}
 use Rattle.engine.specs.Served.{DeskValue, GoesOn, IsFirst, IsOver, IsStopped, desk_value}
@@ -33,6 +33,8 @@ pub record IsRunOf (can_fail : Bool) (c : Config) (zone : Zone) (posted : ℕ �
   pub named : All (λ r. r.fault ≢ fault.NoMemory) end.refused.items
   -- where memory ran out, a front of that
   pub front : IfSome known (λ bytes. IsFrontOf end.events.items (events_of c.objects bytes))
+  pub read_front : IfSome known (λ bytes. end.memory ≡ true
+      → IsFrontRead c.objects bytes end.events.items end.refused.items)
   pub due_front : LanesBeginDue c zone (reverse end.events.items) end.lanes.items
   -- and the feed isn't said to be cut
   pub uncut : end.memory ≡ true → end.cut ≡ false
@@ -53,6 +55,8 @@ pub record EndsAfter (can_fail : Bool) (c : Config) (zone : Zone) (posted : ℕ 
   pub events : end.events.items ≡ events_in said
   pub refused : end.refused.items ≡ refusals_in said
   pub taken : IfSome known (λ bytes. end.memory ≡ false → IsTakenOf can_fail c bytes said)
+  -- where memory ran out, a front of what the bytes give
+  pub taken_front : IfSome known (λ bytes. end.memory ≡ true → IsFrontTaken c.objects bytes said)
 
 -- ---- while it goes on
 
@@ -118,6 +122,7 @@ pub record IsRunEnd (can_fail : Bool) (c : Config) (zone : Zone) (posted : ℕ �
   pub events : end.events.items ≡ events_in said
   pub refused : end.refused.items ≡ refusals_in said
   pub front : IsFrontOfFeed c start end.events.items
+  pub said_front : end.memory ≡ true → AreFrontOfFeed c start said
   pub proper : All (IsProper c) end.events.items
   pub named : All (λ r. r.fault ≢ fault.NoMemory) end.refused.items
   pub log_is : end.log.items ≡ suppressed c zone (reverse end.events.items)

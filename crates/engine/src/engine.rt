@@ -5,7 +5,7 @@ ghost use Rattle.std.specs.List.{list_any};
 ghost use Rattle.due_model.specs.Accepted.{IsAccepted};
 ghost use Rattle.due_model.specs.Proper.{IsProper};
 ghost use Rattle.engine.specs.Due.{HaveCauses, IsLog, LanesAreDue, LanesBeginDue};
-ghost use Rattle.engine.specs.Feed.{IsWhatWasRead, events_of};
+ghost use Rattle.engine.specs.Feed.{IsFrontRead, IsWhatWasRead, events_of};
 ghost use Rattle.engine.specs.Lists.{IsFrontOf};
 
 use crate::post::Post;
@@ -51,6 +51,8 @@ impl Engine {
         // Want of memory: what is there is a front of it,
         ensures front { IfSome (R.remaining reader) (λ bytes.
             IsFrontOf result.events.items (events_of config.now.objects bytes)) }
+        ensures read_front { IfSome (R.remaining reader) (λ bytes. result.memory ≡ true
+            → IsFrontRead config.now.objects bytes result.events.items result.refused.items) }
         ensures due_front { LanesBeginDue config.now zone.now (reverse result.events.items)
             result.lanes.items }
         // and the feed is not said to be cut.

@@ -1,3 +1,4 @@
+use Rattle.engine.proofs.RunEndLaws.{unread}
 use Rattle.engine.proofs.engine.Engine.run.Goals as goal
 
 pub complete-requires : goal.complete-requires
@@ -21,6 +22,9 @@ returns-in-Ok-clause-named g c = (c.complete.ensures _ _ _ _ _ c.in-Ok.ensures.b
 pub returns-in-Ok-clause-front : goal.returns-in-Ok-clause-front
 returns-in-Ok-clause-front g c = (c.complete.ensures _ _ _ _ _ c.in-Ok.ensures.begun).1.run.front
 
+pub returns-in-Ok-clause-read_front : goal.returns-in-Ok-clause-read_front
+returns-in-Ok-clause-read_front g c = (c.complete.ensures _ _ _ _ _ c.in-Ok.ensures.begun).1.run.read_front
+
 pub returns-in-Ok-clause-due_front : goal.returns-in-Ok-clause-due_front
 returns-in-Ok-clause-due_front g c = (c.complete.ensures _ _ _ _ _ c.in-Ok.ensures.begun).1.run.due_front
 
@@ -37,16 +41,16 @@ pub returns-in-Err-clause-log : goal.returns-in-Err-clause-log
 returns-in-Err-clause-log g c = c.in-Err.ensures.none.1.run.log
 
 pub returns-in-Err-clause-read : goal.returns-in-Err-clause-read
-returns-in-Err-clause-read g c = c.in-Err.ensures.none.1.run.read
+returns-in-Err-clause-read g c = unread _ _ _ c.in-Err.ensures.none.0
 
 pub returns-in-Err-clause-proper : goal.returns-in-Err-clause-proper
 returns-in-Err-clause-proper g c = c.in-Err.ensures.none.1.run.proper
 
-pub returns-in-Err-clause-named : goal.returns-in-Err-clause-named
-returns-in-Err-clause-named g c = c.in-Err.ensures.none.1.run.named
-
 pub returns-in-Err-clause-front : goal.returns-in-Err-clause-front
 returns-in-Err-clause-front g c = c.in-Err.ensures.none.1.run.front
+
+pub returns-in-Err-clause-read_front : goal.returns-in-Err-clause-read_front
+returns-in-Err-clause-read_front g c = c.in-Err.ensures.none.1.run.read_front
 
 pub returns-in-Err-clause-due_front : goal.returns-in-Err-clause-due_front
 returns-in-Err-clause-due_front g c = c.in-Err.ensures.none.1.run.due_front
