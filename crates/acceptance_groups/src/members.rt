@@ -1,5 +1,6 @@
 //! The members of groups, and the names of objects and groups, as the manual's rules give them.
 
+use acceptance_shown::text_or_mark;
 use object_groups::groups::{GroupKind, Groups};
 use object_groups::laws::loop_adds_nothing;
 use object_groups::names::{Names, has_exclusion, is_all};
@@ -12,11 +13,6 @@ use std::alloc::{AllocError, Global};
 use std::fmt::Write;
 use std::process::Abort;
 use std::test::Fail;
-
-/// A text, or `?` where it isn't UTF-8.
-fn text_or_mark(bytes: &[u8]) -> &str {
-    str::from_utf8(bytes).unwrap_or("?")
-}
 
 /// A group's members by their names.
 fn show_group(

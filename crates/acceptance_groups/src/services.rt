@@ -3,6 +3,7 @@
 ghost use Rattle.std.specs.Prelude.{◌≡◌};
 ghost use Rattle.object_groups.specs.declared.groups.GroupKind.TheVariants.{HostGroups};
 
+use acceptance_shown::text_or_mark;
 use object_groups::groups::{GroupKind, Groups};
 use object_inheritance::templates::Templates;
 use object_reader::block::Block;
@@ -15,11 +16,6 @@ use object_services::unknown::first_unknown;
 use std::alloc::{AllocError, Global};
 use std::fmt::Write;
 use std::test::Fail;
-
-/// A text, or `?` where it isn't UTF-8.
-fn text_or_mark(bytes: &[u8]) -> &str {
-    str::from_utf8(bytes).unwrap_or("?")
-}
 
 /// The description of the services of the block of that number, and its hosts.
 fn show_block<'a>(

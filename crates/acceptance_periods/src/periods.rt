@@ -1,5 +1,6 @@
 //! The periods that blocks give, as the manual's rules give them.
 
+use acceptance_shown::text_or_mark;
 use due_model::config::{Period, Range};
 use object_groups::objects::Objects;
 use object_inheritance::templates::Templates;
@@ -11,11 +12,6 @@ use std::alloc::{AllocError, Global};
 use std::fmt::Write;
 use std::process::Abort;
 use std::test::Fail;
-
-/// A text, or `?` where it isn't UTF-8.
-fn text_or_mark(bytes: &[u8]) -> &str {
-    str::from_utf8(bytes).unwrap_or("?")
-}
 
 /// The ranges of a weekday, where it has any: its number, a colon, and the ranges in seconds.
 fn show_day(out: &mut String, weekday: usize, ranges: &[Range]) -> Result<(), AllocError> {

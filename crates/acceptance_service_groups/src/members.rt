@@ -2,6 +2,7 @@
 
 use crate::numbers::push_numbers;
 use acceptance_objects::question::{Question, answer_of};
+use acceptance_shown::text_or_mark;
 use object_groups::groups::Groups;
 use object_inheritance::templates::Templates;
 use object_service_groups::groups::ServiceGroups;
@@ -9,11 +10,6 @@ use object_services::blocks::ServiceBlocks;
 use object_services::services::ServiceHosts;
 use std::alloc::{AllocError, Global};
 use std::test::Fail;
-
-/// A text, or `?` where it isn't UTF-8.
-fn text_or_mark(bytes: &[u8]) -> &str {
-    str::from_utf8(bytes).unwrap_or("?")
-}
 
 /// The name of a group, and the places of its members among the services.
 fn show_group(

@@ -1,6 +1,7 @@
 //! Whole configurations, as object texts give them and as tests show them.
 
-use crate::shown::{is_shown, text_or_mark};
+use crate::shown::is_shown;
+use acceptance_shown::text_or_mark;
 use due_model::config::{
     Config, Contact, ContactId, Dependency, Escalation, Lane, LaneId, Object, ObjectId, Period,
     PeriodId, Range, Rights,

@@ -1,6 +1,7 @@
 //! What blocks inherit from templates, and the faults of that, as the manual's rules give them.
 
-use crate::shown::{is_shown, text_or_mark};
+use crate::shown::is_shown;
+use acceptance_shown::text_or_mark;
 use object_inheritance::inherited::Values;
 use object_inheritance::templates::{InheritanceFault, TemplateFault, Templates};
 use object_reader::block::Block;

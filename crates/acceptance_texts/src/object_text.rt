@@ -1,7 +1,8 @@
 //! Texts, and what the rules of object text make of each.
 
-use crate::shown::{is_shown, text_or_mark};
+use crate::shown::is_shown;
 use acceptance_inputs::texts::BASE;
+use acceptance_shown::text_or_mark;
 use object_reader::block::Block;
 use object_reader::fault::LineFault;
 use object_reader::reading::{TEXT_LIMIT, read};

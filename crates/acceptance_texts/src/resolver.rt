@@ -1,7 +1,8 @@
 //! Object texts, and the configuration or the fault that the rules give for each.
 
-use crate::shown::{is_shown, text_or_mark};
+use crate::shown::is_shown;
 use acceptance_inputs::texts::BASE;
+use acceptance_shown::text_or_mark;
 use due_model::config::{Config, Contact, Lane, LaneId, Object};
 use object_resolve::{LoadFault, load};
 use std::alloc::{AllocError, Global};
