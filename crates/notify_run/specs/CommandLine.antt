@@ -1,10 +1,14 @@
 -- What the words of a command line ask, and which words there are.
 use Rattle.std.specs.Prelude.{◌≡◌, ℕ, List, [], ◌∷◌, map, Some, pos, true, false, codes}
 use Rattle.std.specs.Option.{option_copied, option_map}
+use Rattle.std.specs.Str.Parse.{digits_value, IsNumeral, without_leading_plus}
 use Rattle.clap.specs.Lexer.{usize_max}
-use Rattle.clap.specs.Matches.{first_value, matched_of, raw_values}
+use Rattle.clap.specs.Matches.{first_value, matched_of, one_text, raw_values}
+use Rattle.clap.specs.declared.parser.matches.ArgMatches.{ArgMatches}
 use Rattle.clap.specs.declared.parser.matches.Found.{Found}
-use Rattle.clap.specs.Words.{App, Rule, Shape, new_app, new_rule, with_rule}
+use Rattle.clap.specs.Words.{App, Rule, Shape, new_app, new_rule, rows_of, subcommand_rows_of}
+use Rattle.clap.specs.Words.{with_rule}
+use Rattle.steps.specs.declared.settings.Settings.{Settings}
 use Rattle.clap.specs.declared.builder.value_parser.ValueParser.TheVariants.{Signed}
 use Rattle.notify_run.specs.declared.command_line.Request.{Request}
 use Rattle.notify_run.specs.declared.command_line.ZoneWords.{ZoneWords}
@@ -27,27 +31,42 @@ pub record IsZoneOf (options : Found) (words : ZoneWords) : Type 0 where
   pub rule : option_copied words.rule ≡ first_value options (codes "zone")
   pub file : option_copied words.file ≡ first_value options (codes "zone-file")
 
--- what the options of `replay` hold
-abbrev pub IsReplayOf : Found → Request → Type 0
-IsReplayOf options (Replay objects zone) =
+-- An option holds the number: what is read of it is the number in decimal digits.
+abbrev pub HoldsNumber : Found → (name : List ℕ) → (number : ℕ) → Type 0
+HoldsNumber options name number = (text : List ℕ) × (one_text options name ≡ Some text)
+    × IsNumeral 10 (without_leading_plus text)
+    × (number ≡ digits_value 10 (without_leading_plus text))
+
+-- the numbers that the options of a command hold of a lane
+pub record HoldSettings (options : Found) (settings : Settings) : Type 0 where
+  pub queue : HoldsNumber options (codes "queue") settings.queue
+  pub tries : HoldsNumber options (codes "tries") settings.tries
+
+-- What the options of a command hold: of `replay` the file of the object text, if it is given; of `trace` the settings; of
+-- `run` the file, the settings but the number of deciders, which is 1, and the channel words; and of each the zone.
+abbrev pub IsRequestOf : Found → Request → Type 0
+IsRequestOf options (Replay objects zone) =
     (option_copied objects ≡ first_value options (codes "objects")) × IsZoneOf options zone
-IsReplayOf options (Trace settings zone) = ⊥
-IsReplayOf options (Run objects settings zone channels) = ⊥
-
--- what those of `trace` hold of the zone
-abbrev pub IsTraceOf : Found → Request → Type 0
-IsTraceOf options (Replay objects zone) = ⊥
-IsTraceOf options (Trace settings zone) = IsZoneOf options zone
-IsTraceOf options (Run objects settings zone channels) = ⊥
-
--- and those of `run`: the file, the zone, and the channel words
-abbrev pub IsRunOf : Found → Request → Type 0
-IsRunOf options (Replay objects zone) = ⊥
-IsRunOf options (Trace settings zone) = ⊥
-IsRunOf options (Run objects settings zone channels) =
-    (Some objects.now ≡ first_value options (codes "objects")) × IsZoneOf options zone
+IsRequestOf options (Trace settings zone) =
+    HoldsNumber options (codes "deciders") settings.deciders × HoldSettings options settings
+    × IsZoneOf options zone
+IsRequestOf options (Run objects settings zone channels) =
+    (Some objects.now ≡ first_value options (codes "objects")) × (settings.deciders ≡ 1)
+    × HoldSettings options settings × IsZoneOf options zone
     × (option_map (λ words. map (λ word. word.now) words.now) channels
     ≡ option_map raw_values (matched_of options (codes "channel")))
+
+-- it is what the command that was met asks, with its options
+abbrev pub IsAskedBy : ArgMatches → Request → Type 0
+IsAskedBy matches request = (options : Found)
+    × (subcommand_rows_of matches ≡ Some (request_name request, rows_of options))
+    × IsRequestOf options request
+
+-- what it says of the zone
+abbrev pub request_zone : Request → ZoneWords
+request_zone (Replay objects zone) = zone
+request_zone (Trace settings zone) = zone
+request_zone (Run objects settings zone channels) = zone
 
 -- `--NAME NUMBER`, with a number from 1 to `most`, or with `default` where it is left out
 abbrev pub number_option : List ℕ → List ℕ → ℕ → Rule

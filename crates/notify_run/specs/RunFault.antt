@@ -1,10 +1,11 @@
 -- What a run is given up for, and how the program then ends.
-use Rattle.std.specs.Prelude.{ℕ, ◌⊎◌, List, Result, Ok, Err}
+use Rattle.std.specs.Prelude.{ℕ, ◌⊎◌, Bool, List, Option, Result, Ok, Err}
 use Rattle.channel_words.specs.declared.fault.ChannelFault.{ChannelFault}
 use Rattle.channel_words.specs.declared.word.ChannelWord.{ChannelWord}
 use Rattle.channel_words.specs.Fault.{fault_status as channel_status}
 use Rattle.channel_words.specs.Lanes.{AreLanesOf, NamesFail, names_of}
 use Rattle.channel_words.specs.Words.{AreRead, ShapeFails}
+use Rattle.command_input.specs.Objects.{FileFails, IsFileOf}
 use Rattle.command_output.specs.declared.outcome.Ending.{Ending}
 use Rattle.command_output.specs.Outcome.{ending_status, fault_status}
 use Rattle.due_model.specs.declared.config.Config.{Config}
@@ -29,6 +30,20 @@ NamesOrOpeningFail words fault =
     × (NamesFail config (names_of words) fault
     ⊎ ((lanes : List LaneId) × AreLanesOf config (names_of words) lanes
     × IsOpeningFault (names_of words) fault))
+
+-- What is wrong with the object text, or by it with the names of words, where its bytes are known.
+abbrev pub ChecksFail : (can_fail : Bool) → (known : Option (List ℕ)) → (names : List (List ℕ))
+    → RunFault → Type 0
+ChecksFail can_fail known names (Channel fault) =
+    (config : Config) × IsAccepted config × IsFileOf config known × NamesFail config names fault
+ChecksFail can_fail known names (Command fault) = FileFails can_fail fault known
+
+-- the configuration of the text, where its bytes are known, and the lanes of the names
+pub record AreChecked (known : Option (List ℕ)) (names : List (List ℕ)) (config : Config)
+    (lanes : List LaneId) : Type 0 where
+  pub accepted : IsAccepted config
+  pub text : IsFileOf config known
+  pub lanes_are : AreLanesOf config names lanes
 
 -- First the shape of the texts of all words; the rest is only looked at where that is right.
 abbrev pub RunFails : (texts : List (List ℕ)) → RunFault → Type 0

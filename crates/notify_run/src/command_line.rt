@@ -3,11 +3,11 @@
 ghost use Rattle.std.specs.Prelude.{◌≡◌, codes, false, IfOk, IfSome, is_some, Some, true};
 ghost use Rattle.clap.specs.Matches.{found_of};
 ghost use Rattle.clap.specs.Words.{app_of, rule_of, subcommand_name_of};
-ghost use Rattle.notify_run.specs.CommandLine.{AreSettingsFit, IsReplayOf, IsRunOf, IsTraceOf};
-ghost use Rattle.notify_run.specs.CommandLine.{IsZoneOf};
+ghost use Rattle.notify_run.specs.CommandLine.{AreSettingsFit, IsAskedBy, IsRequestOf, IsZoneOf};
+ghost use Rattle.notify_run.specs.CommandLine.{HoldSettings};
 ghost use Rattle.notify_run.specs.CommandLine.{number_option, program_words, replay_words};
-ghost use Rattle.notify_run.specs.CommandLine.{request_name, run_words, text_option, trace_words};
-ghost use Rattle.notify_run.specs.CommandLine.{with_lane_options, with_zone, word_list};
+ghost use Rattle.notify_run.specs.CommandLine.{request_name, request_zone, run_words, text_option};
+ghost use Rattle.notify_run.specs.CommandLine.{trace_words, with_lane_options, with_zone, word_list};
 
 use clap::{Arg, ArgMatches, Command, value_parser};
 use std::alloc::{AllocError, Global};
@@ -47,8 +47,9 @@ comes, and what an event adds is written before more input is waited for, so tha
 const TRACE: &str = "\
 Shows the design of the notification engine at work: deciders, queues and channels as
 one state, in which you choose which part acts next. Whatever the order, each channel
-takes what `replay` reports for its lane, in the order of the events; use it to see how
-a notice gets there, or where it stands when a lane fails or closes.
+takes what `replay` reports for its lane, of each host or service in the order of the
+events; use it to see how a notice gets there, or where it stands when a lane fails or
+closes.
 
 Reads object text, a line `%events`, a feed of events, a line `%steps` and steps
 from standard input, one step a line, and does them one by one:
@@ -132,7 +133,9 @@ pub enum Request<'m, 'a> {
 
 impl<'a> Request<'_, 'a> {
     /// What it says of the zone.
-    pub fn zone(self) -> ZoneWords<'a> {
+    pub fn zone(self) -> ZoneWords<'a>
+        ensures { result ≡ request_zone self.entry }
+    {
         match self {
             Request::Replay { zone, .. } => zone,
             Request::Trace { zone, .. } => zone,
@@ -189,42 +192,70 @@ fn replay_command<'a>(alloc: Global) -> Result<Command<'a>, AllocError>
     with_zone(alloc, command)
 }
 
-/// The command `trace` and its options.
-fn trace_command<'a>(alloc: Global) -> Result<Command<'a>, AllocError>
-    ensures words { IfOk result (λ command. app_of command ≡ trace_words) }
+/// The option that says how many deciders there are.
+fn deciders_option<'a>(alloc: Global) -> Arg<'a>
+    ensures rule { rule_of result ≡ number_option (codes "deciders") (codes "1") 8 }
+    ensures local { result.global ≡ false }
 {
-    let deciders = Arg::new(alloc, "deciders")
+    Arg::new(alloc, "deciders")
         .long("deciders")
         .value_name("NUMBER")
         .value_parser(value_parser!(u8).range(1..=8))
         .default_value("1")
-        .help("How many deciders share the objects, 1 to 8");
-    let command = Command::new(alloc, "trace")
-        .about("The engine's design at work, step by step, in an order that you choose")
-        .long_about(TRACE)
-        .arg(deciders)?;
-    let with_lanes = with_lane_options(alloc, command)?;
-    with_zone(alloc, with_lanes)
+        .help("How many deciders share the objects, 1 to 8")
 }
 
-/// Adds the options of a lane: how long its queue is, and how often it tries a message.
-fn with_lane_options<'a>(alloc: Global, command: Command<'a>) -> Result<Command<'a>, AllocError>
-    ensures words { IfOk result (λ command_with. app_of command_with
-        ≡ with_lane_options (app_of command.entry)) }
+/// The option that says how many notices a lane's queue holds.
+fn queue_option<'a>(alloc: Global, help: &'a str) -> Arg<'a>
+    ensures rule { rule_of result ≡ number_option (codes "queue") (codes "64") 1024 }
+    ensures local { result.global ≡ false }
 {
-    let queue = Arg::new(alloc, "queue")
+    Arg::new(alloc, "queue")
         .long("queue")
         .value_name("NUMBER")
         .value_parser(value_parser!(u16).range(1..=1024))
         .default_value("64")
-        .help("How many notices the queue of a lane holds, 1 to 1024");
-    let tries = Arg::new(alloc, "tries")
+        .help(help)
+}
+
+/// The option that says how often a message is tried.
+fn tries_option<'a>(alloc: Global) -> Arg<'a>
+    ensures rule { rule_of result ≡ number_option (codes "tries") (codes "3") 10 }
+    ensures local { result.global ≡ false }
+{
+    Arg::new(alloc, "tries")
         .long("tries")
         .value_name("NUMBER")
         .value_parser(value_parser!(u8).range(1..=10))
         .default_value("3")
-        .help("How often a message is tried, 1 to 10");
-    command.arg(queue)?.arg(tries)
+        .help("How often a message is tried, 1 to 10")
+}
+
+/// The command `trace` and its options.
+fn trace_command<'a>(alloc: Global) -> Result<Command<'a>, AllocError>
+    ensures words { IfOk result (λ command. app_of command ≡ trace_words) }
+{
+    let command = Command::new(alloc, "trace")
+        .about("The engine's design at work, step by step, in an order that you choose")
+        .long_about(TRACE)
+        .arg(deciders_option(alloc))?;
+    let queue = "How many notices the queue of a lane holds, 1 to 1024";
+    let with_lanes = with_lane_options(alloc, command, queue)?;
+    with_zone(alloc, with_lanes)
+}
+
+/// Adds the options of a lane: how long its queue is, of which the help is given, and how often it tries a message.
+fn with_lane_options<'a>(
+    alloc: Global,
+    command: Command<'a>,
+    queue_help: &'a str,
+) -> Result<Command<'a>, AllocError>
+    ensures words { IfOk result (λ command_with. app_of command_with
+        ≡ with_lane_options (app_of command.entry)) }
+{
+    command
+        .arg(queue_option(alloc, queue_help))?
+        .arg(tries_option(alloc))
 }
 
 /// The words of channels, of which there may be any number.
@@ -247,7 +278,8 @@ fn run_command<'a>(alloc: Global) -> Result<Command<'a>, AllocError>
         .about("Sends what is due, from an object file and a feed of events")
         .long_about(RUN)
         .arg(objects)?;
-    let with_lanes = with_lane_options(alloc, command)?;
+    let queue = "Without effect yet: a run hands each notice to its channel at once; 1 to 1024";
+    let with_lanes = with_lane_options(alloc, command, queue)?;
     let with_options = with_zone(alloc, with_lanes)?;
     with_options.arg(channel_words(alloc))
 }
@@ -269,10 +301,12 @@ pub fn command<'a>(alloc: Global) -> Result<Command<'a>, AllocError>
         .subcommand(run_command(alloc)?)
 }
 
-/// The settings of a trace. Each option has a default, and its range is that of the settings, so that there are
-/// some for each command line that was read.
-fn settings_of(options: &ArgMatches<'_>) -> Option<Settings> {
-    let deciders = options.get_one::<u8>("deciders")?;
+/// The settings of so many deciders and of the options of a lane. Each option has a default, and its range is that of the
+/// settings, so that there are some for each command line that was read.
+fn settings_of(options: &ArgMatches<'_>, deciders: u8) -> Option<Settings>
+    ensures deciders { IfSome result (λ settings. settings.deciders ≡ deciders) }
+    ensures held { IfSome result (HoldSettings (found_of options.now)) }
+{
     let queue = options.get_one::<u16>("queue")?;
     let tries = options.get_one::<u8>("tries")?;
     Settings::new(deciders, queue, tries)
@@ -291,7 +325,7 @@ fn zone_words<'a>(options: &ArgMatches<'a>) -> ZoneWords<'a>
 /// What the options of `replay` ask.
 fn replay_request<'m, 'a>(options: &'m ArgMatches<'a>) -> Request<'m, 'a>
     ensures named { request_name result ≡ codes "replay" }
-    ensures options { IsReplayOf (found_of options.now) result }
+    ensures options { IsRequestOf (found_of options.now) result }
 {
     Request::Replay {
         objects: options.get_str("objects"),
@@ -302,31 +336,23 @@ fn replay_request<'m, 'a>(options: &'m ArgMatches<'a>) -> Request<'m, 'a>
 /// What the options of `trace` ask.
 fn trace_request<'m, 'a>(options: &'m ArgMatches<'a>) -> Option<Request<'m, 'a>>
     ensures named { IfSome result (λ request. request_name request ≡ codes "trace") }
-    ensures options { IfSome result (IsTraceOf (found_of options.now)) }
+    ensures options { IfSome result (IsRequestOf (found_of options.now)) }
 {
+    let deciders = options.get_one::<u8>("deciders")?;
     Some(Request::Trace {
-        settings: settings_of(options)?,
+        settings: settings_of(options, deciders)?,
         zone: zone_words(options),
     })
-}
-
-/// The settings of a run: those of its options, and one decider.
-fn run_settings(options: &ArgMatches<'_>) -> Option<Settings>
-    ensures { IfSome result (λ settings. settings.deciders ≡ 1) }
-{
-    let queue = options.get_one::<u16>("queue")?;
-    let tries = options.get_one::<u8>("tries")?;
-    Settings::new(1, queue, tries)
 }
 
 /// What the options of `run` ask.
 fn run_request<'m, 'a>(options: &'m ArgMatches<'a>) -> Option<Request<'m, 'a>>
     ensures named { IfSome result (λ request. request_name request ≡ codes "run") }
-    ensures options { IfSome result (IsRunOf (found_of options.now)) }
+    ensures options { IfSome result (IsRequestOf (found_of options.now)) }
     ensures settings { IfSome result AreSettingsFit }
 {
     let objects = options.get_str("objects")?;
-    let settings = run_settings(options)?;
+    let settings = settings_of(options, 1)?;
     Some(Request::Run {
         objects,
         settings,
@@ -340,6 +366,7 @@ pub fn request_of<'m, 'a>(matches: &'m ArgMatches<'a>) -> Option<Request<'m, 'a>
     ensures settings { IfSome result AreSettingsFit }
     ensures named { IfSome result (λ request.
         subcommand_name_of matches.now ≡ Some (request_name request)) }
+    ensures asked { IfSome result (IsAskedBy matches.now) }
     ensures replay { subcommand_name_of matches.now ≡ Some (codes "replay")
         → is_some result ≡ true }
 {

@@ -3,8 +3,10 @@
 
 ghost use Rattle.std.specs.Prelude.{◌≡◌};
 ghost use Rattle.std.specs.Process.{exit_status};
+ghost use Rattle.clap.specs.Values.{kind_of};
 ghost use Rattle.command_output.specs.Outcome.{outcome_status};
 ghost use Rattle.notify_run.specs.CommandLine.{AreSettingsFit};
+ghost use Rattle.notify_run.specs.Refusal.{refusal_status};
 ghost use Rattle.notify_run.specs.RunFault.{run_status};
 ghost use Rattle.notify_run.specs.Zones.{zone_fault_status};
 
@@ -51,7 +53,9 @@ fn out_of_memory<R: Eprint>(rt: &R) -> ExitCode
 }
 
 /// Writes what `clap` says of a command line that asks for help or the version, or is wrong, and gives the exit status.
-fn status_of_refusal<R: Print + Eprint>(rt: &R, error: &clap::Error) -> ExitCode {
+fn status_of_refusal<R: Print + Eprint>(rt: &R, error: &clap::Error) -> ExitCode
+    ensures { exit_status result ≡ refusal_status (kind_of error.now) }
+{
     if error.kind() == ErrorKind::OutOfMemory {
         return out_of_memory(rt);
     }

@@ -2,13 +2,14 @@
 
 ghost use Rattle.std.specs.Prelude.{◌≡◌, [], map, unwrap_or, IfErr, IfOk};
 ghost use Rattle.std.specs.Option.{option_map};
+ghost use Rattle.channel_words.specs.Lanes.{names_of};
 ghost use Rattle.due_model.specs.Accepted.{IsAccepted};
-ghost use Rattle.notify_run.specs.RunFault.{IsCommandFault, RunFails};
+ghost use Rattle.notify_run.specs.RunFault.{AreChecked, ChecksFail, IsCommandFault, RunFails};
 
 use crate::channels::{OpenedChannel, open_channels};
 use crate::run_fault::RunFault;
 use channel::Channel;
-use channel_words::{lanes_of, read_words};
+use channel_words::{ChannelWord, lanes_of, read_words};
 use command_input::read_object_file;
 use command_output::{AnyWriter, CommandFault, Ending};
 use due_model::config::{Config, LaneId};
@@ -16,9 +17,10 @@ use due_model::zone::Zone;
 use engine::Post;
 use progress::ProgressLine;
 use run_command::run;
+use std::alloc::Global;
 use std::fs::File;
 use std::io::IsTerminal;
-use text_lines::AnyReader;
+use text_lines::{AnyReader, Input};
 use world_steps::Settings;
 
 /// Does a run. The shape of all words is looked at before the object text is read; their names once that is accepted; then
@@ -37,8 +39,10 @@ pub fn do_run<'a>(
 {
     let alloc = rt.alloc();
     let words = read_words(alloc, texts_of(channels))?;
-    let config = config_of_file(rt, objects)?;
-    let lanes = lanes_of(alloc, &config, &words)?;
+    let Ok(file) = File::open(rt, objects) else {
+        return Err(RunFault::Command(CommandFault::Unreadable));
+    };
+    let (config, lanes) = checked(alloc, AnyReader::new(file), &words)?;
     let opened = open_channels(rt, &words)?;
     let ending = run_through(rt, &config, zone, settings, &lanes, opened)?;
     Ok(ending)
@@ -54,14 +58,21 @@ fn texts_of<'m, 'a>(channels: Option<&'m [&'a str]>) -> &'m [&'a str]
     }
 }
 
-/// The configuration of a file of object text.
-fn config_of_file(rt: &HostRuntime, path: &str) -> Result<Config, CommandFault>
-    ensures { IfOk result (λ config. IsAccepted config) }
+/// The configuration of object text, and the lanes that words name by it, one for each in order. The shape of the words
+/// was right.
+fn checked<'a, O: Input + Drop>(
+    alloc: Global,
+    objects: O,
+    words: &[ChannelWord<'a>],
+) -> Result<(Config, Vec<LaneId>), RunFault<'a>>
+    ensures checked { IfOk result (λ found.
+        AreChecked (O.remaining objects) (names_of words.now) found.0 found.1.items) }
+    ensures fault { IfErr result (ChecksFail O.can_fail (O.remaining objects)
+        (names_of words.now)) }
 {
-    match File::open(rt, path) {
-        Ok(file) => read_object_file(rt.alloc(), AnyReader::new(file)),
-        Err(_) => Err(CommandFault::Unreadable),
-    }
+    let config = read_object_file(alloc, objects)?;
+    let lanes = lanes_of(alloc, &config, words)?;
+    Ok((config, lanes))
 }
 
 /// Reads the feed, with channels for these lanes, one each in order. A terminal at standard error shows how far it is.
