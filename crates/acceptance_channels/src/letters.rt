@@ -14,6 +14,7 @@ fn a_service(alloc: Global) -> Result<Config, AllocError> {
     let host = ObjectRow {
         name: "front",
         host: None,
+        enabled: true,
         options: OptionLetters::ALL,
         period: None,
         interval: 1,

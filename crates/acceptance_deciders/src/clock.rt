@@ -41,6 +41,7 @@ fn host(interval: u32) -> ObjectRow {
     ObjectRow {
         name: "host",
         host: None,
+        enabled: true,
         options: OptionLetters::ALL,
         period: None,
         interval,

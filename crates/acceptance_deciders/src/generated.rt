@@ -1,8 +1,9 @@
-//! Generated configurations and events, with services, periods, escalations, dependencies, restricted contacts,
-//! downtimes and flapping. On each, the slow program, one decider, and two, three and eight say the same; what was due
-//! or suppressed after some of the events is the front of that after all of them, and no notice stands twice.
+//! Generated configurations and events, with services, disabled objects, periods that exclude others, escalations of
+//! some letters, dependencies, contacts restricted for hosts and for services, downtimes and flapping. On each, the
+//! slow program, one decider, and two, three and eight say the same; what was due or suppressed after some of the
+//! events is the front of that after all of them, and no notice stands twice.
 
-ghost use Rattle.std.specs.Prelude.{◌<◌, All, length};
+ghost use Rattle.std.specs.Prelude.{◌<◌, ◌≤◌, All, length};
 ghost use Rattle.due_model.specs.Accepted.{IsAccepted};
 ghost use Rattle.due_model.specs.Proper.{IsProper};
 
@@ -10,10 +11,12 @@ use crate::comparison;
 use crate::numbers::Numbers;
 use acceptance_inputs::accepted::is_accepted;
 use acceptance_inputs::events::are_proper;
-use acceptance_inputs::rows::{ContactRow, EscalationRow, ObjectRow, Rows, config_of};
+use acceptance_inputs::rows::{
+    ContactRow, EscalationRow, ObjectRow, PeriodRow, RightsRow, Rows, config_of,
+};
 use due_model::config::{Config, ContactId, Dependency, LaneId, ObjectId, PeriodId, Range};
 use due_model::event::{DowntimeChange, Event, EventKind};
-use due_model::notice::Notice;
+use due_model::notice::{Filter, Notice, Suppression};
 use due_model::options::OptionLetters;
 use due_model::state::{State, StateSet};
 use due_model::zone::Zone;
@@ -31,11 +34,26 @@ const EVENTS: u64 = 24;
 /// How many objects each has: two hosts, a service of each, and one more of the second.
 const OBJECTS: u16 = 5;
 
+/// How many filters there are.
+const FILTERS: usize = 13;
+
 /// How many commands each has.
 const LANES: u8 = 2;
 
 /// How many periods each has.
 const PERIODS: u16 = 3;
+
+/// The last of the periods, the only one that objects name.
+const LAST: PeriodId = PeriodId(2);
+
+/// Which periods one excludes: the first may have the first of these, the second one of two, the last any. So a period
+/// excludes earlier ones alone.
+const EXCLUDED: [&[PeriodId]; 4] = [
+    &[],
+    &[PeriodId(0)],
+    &[PeriodId(1)],
+    &[PeriodId(1), PeriodId(0)],
+];
 
 /// The hosts of the objects.
 const HOSTS: [Option<ObjectId>; 5] = [
@@ -125,39 +143,66 @@ impl Numbers {
         }
     }
 
-    /// The first period, or none. The slow program goes over the seconds to the next one of an object's period, and
-    /// over less than an hour of the first.
+    /// The last period, or none. The slow program goes over the seconds to the next one of an object's period, and
+    /// over less than two hours of the last.
     fn from_a_moment_on(&mut self) -> Option<PeriodId> {
+        if self.once_in(2) { Some(LAST) } else { None }
+    }
+
+    /// Which periods one excludes: none, or one of the first lists of `EXCLUDED`, so many.
+    fn excluded(&mut self, lists: u64) -> &'static [PeriodId]
+        requires none { 0 < lists }
+        requires few { lists ≤ 4 }
+    {
         if self.once_in(2) {
-            Some(PeriodId(0))
+            EXCLUDED[self.below(lists) as usize]
         } else {
-            None
+            &[]
         }
     }
 
-    /// The first period: each day from a moment of its first hour on.
-    fn late(&mut self) -> Range {
-        Range {
-            start: self.below(3_600) as u32,
-            end: 86_400,
+    /// The last period: each day from a moment of its first hour on, without the minutes that it excludes.
+    fn late(&mut self) -> PeriodRow {
+        let start = self.below(3_600) as u32;
+        PeriodRow {
+            range: Range { start, end: 86_400 },
+            excludes: self.excluded(4),
         }
     }
 
-    /// A period of some minutes of each day.
-    fn range(&mut self) -> Range {
+    /// A period of some minutes of each day, in its first two hours.
+    fn minutes(&mut self, lists: u64) -> PeriodRow
+        requires none { 0 < lists }
+        requires few { lists ≤ 4 }
+    {
         let start = self.below(3_600) as u32;
         let end = start + 1 + self.below(3_600) as u32;
-        Range { start, end }
+        PeriodRow {
+            range: Range { start, end },
+            excludes: self.excluded(lists),
+        }
     }
 
-    /// A contact.
-    fn contact(&mut self) -> ContactRow {
-        ContactRow {
-            name: "contact",
+    /// What a contact is notified of, for one kind of object.
+    fn rights(&mut self) -> RightsRow {
+        RightsRow {
             enabled: !self.once_in(8),
             options: self.letters(),
             period: self.period(),
             lanes: self.on(),
+        }
+    }
+
+    /// A contact: what holds for hosts, and what holds for services.
+    fn contact(&mut self) -> ContactRow {
+        let hosts = self.rights();
+        ContactRow {
+            name: "contact",
+            enabled: hosts.enabled,
+            options: hosts.options,
+            period: hosts.period,
+            lanes: hosts.lanes,
+            services: Some(self.rights()),
         }
     }
 
@@ -166,6 +211,7 @@ impl Numbers {
         ObjectRow {
             name: "object",
             host,
+            enabled: !self.once_in(12),
             options: self.letters(),
             period: self.from_a_moment_on(),
             interval: self.below(4) as u32,
@@ -183,6 +229,7 @@ impl Numbers {
             last: if self.once_in(2) { 0 } else { first + 1 },
             interval: self.below(4) as u32,
             period: self.period(),
+            options: self.letters(),
             contacts: self.named(),
         }
     }
@@ -281,7 +328,7 @@ fn objects(alloc: Global, numbers: &mut Numbers) -> Result<Vec<ObjectRow>, Alloc
 /// The configuration of a seed.
 fn config(alloc: Global, numbers: &mut Numbers) -> Result<Config, AllocError> {
     let contacts = [numbers.contact(), numbers.contact(), numbers.contact()];
-    let periods = [numbers.late(), numbers.range(), numbers.range()];
+    let periods = [numbers.minutes(1), numbers.minutes(2), numbers.late()];
     let objects = objects(alloc, numbers)?;
     let escalations = escalations(alloc, numbers)?;
     let dependencies = dependencies(alloc, numbers)?;
@@ -308,10 +355,24 @@ fn events(alloc: Global, numbers: &mut Numbers) -> Result<Vec<Event>, AllocError
 }
 
 /// How much was compared.
-#[derive(Clone, Copy, Debug)]
+#[derive(Debug, Drop)]
 struct Counts {
     notices: usize,
     suppressions: usize,
+    /// The filters that stopped something, each once.
+    filters: Vec<Filter>,
+}
+
+impl Counts {
+    /// Adds the filters of these suppressions.
+    fn add_filters(&mut self, suppressions: &[Suppression]) -> Result<(), AllocError> {
+        for suppression in suppressions {
+            if !self.filters.contains(&suppression.filter) {
+                self.filters.push(suppression.filter)?;
+            }
+        }
+        Ok(())
+    }
 }
 
 /// No notice stands twice.
@@ -404,7 +465,8 @@ fn compare(
     counts: &mut Counts,
 ) -> Result<(), Fail> {
     assert!(rt; is_accepted(config) && are_proper(config, events) && are_proper(config, some));
-    let _said = comparison::compare(rt, alloc, config, events)?;
+    let said = comparison::compare(rt, alloc, config, events)?;
+    counts.add_filters(said.suppressions.as_slice())?;
     each_grows(rt, alloc, config, events, some, counts)
 }
 
@@ -428,6 +490,7 @@ fn what_was_due_stays_due(rt: HostRuntime) -> Result<(), Fail> {
     let mut counts = Counts {
         notices: 0,
         suppressions: 0,
+        filters: Vec::new(rt.alloc()),
     };
     for seed in 0..SEEDS {
         compare_seed(&rt, rt.alloc(), seed, &mut counts)?;
@@ -437,5 +500,7 @@ fn what_was_due_stays_due(rt: HostRuntime) -> Result<(), Fail> {
         counts.notices > 200 && counts.suppressions > 400,
         "{counts:?}"
     );
+    // Each filter stops something.
+    assert_eq!(&rt; counts.filters.len(), FILTERS, "{counts:?}");
     Ok(())
 }

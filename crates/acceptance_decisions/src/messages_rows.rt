@@ -6,7 +6,9 @@ ghost use Rattle.outcomes.specs.Outcome.{IsInRange};
 ghost use Rattle.outcomes.specs.Rules.{AreRules};
 
 use acceptance_inputs::accepted::is_accepted;
-use acceptance_inputs::rows::{ContactRow, EscalationRow, NO_LETTER, ObjectRow, Rows, config_of};
+use acceptance_inputs::rows::{
+    ContactRow, EscalationRow, NO_LETTER, ObjectRow, PeriodRow, Rows, config_of,
+};
 use due_model::config::{Config, ContactId, LaneId, ObjectId, PeriodId, Range};
 use due_model::notice::{Filter, Kind, Notice, Outcome, Suppression};
 use due_model::options::OptionLetters;
@@ -59,15 +61,19 @@ const WEB: Rows<'static> = Rows {
     objects: &[ObjectRow {
         name: "web",
         host: None,
+        enabled: true,
         options: OptionLetters::ALL,
         period: None,
         interval: 1,
         delay: 0,
         contacts: &[ContactId(1), ContactId(0)],
     }],
-    periods: &[Range {
-        start: 43_200,
-        end: 46_800,
+    periods: &[PeriodRow {
+        range: Range {
+            start: 43_200,
+            end: 46_800,
+        },
+        excludes: &[],
     }],
     escalations: &[EscalationRow {
         object: ObjectId(0),
@@ -75,6 +81,7 @@ const WEB: Rows<'static> = Rows {
         last: 2,
         interval: 1,
         period: None,
+        options: OptionLetters::ALL,
         contacts: &[ContactId(2), ContactId(1)],
     }],
     dependencies: &[],

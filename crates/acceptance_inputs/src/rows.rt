@@ -1,4 +1,4 @@
-//! Small configurations as tables, for the worked rows: the same rights of a contact for hosts and for services.
+//! Small configurations as tables, for the worked rows and for those that are generated.
 
 ghost use Rattle.std.specs.Prelude.{◌≡◌, length, IfOk};
 
@@ -25,6 +25,15 @@ pub const NO_LETTER: OptionLetters = OptionLetters {
     downtime: false,
 };
 
+/// What a contact is notified of, and on which lanes.
+#[derive(Clone, Copy)]
+pub struct RightsRow {
+    pub enabled: bool,
+    pub options: OptionLetters,
+    pub period: Option<PeriodId>,
+    pub lanes: &'static [LaneId],
+}
+
 /// A contact, with what it is notified of, and on which lanes.
 #[derive(Clone, Copy)]
 pub struct ContactRow {
@@ -33,6 +42,8 @@ pub struct ContactRow {
     pub options: OptionLetters,
     pub period: Option<PeriodId>,
     pub lanes: &'static [LaneId],
+    /// What holds for services; none is the same as for hosts.
+    pub services: Option<RightsRow>,
 }
 
 impl ContactRow {
@@ -43,7 +54,18 @@ impl ContactRow {
         options: OptionLetters::ALL,
         period: None,
         lanes: &[LaneId(0)],
+        services: None,
     };
+
+    /// What holds for hosts.
+    fn hosts(&self) -> RightsRow {
+        RightsRow {
+            enabled: self.enabled,
+            options: self.options,
+            period: self.period,
+            lanes: self.lanes,
+        }
+    }
 }
 
 /// A host, or a service of a host. Interval and delay are in units of 60 seconds.
@@ -51,6 +73,7 @@ impl ContactRow {
 pub struct ObjectRow {
     pub name: &'static str,
     pub host: Option<ObjectId>,
+    pub enabled: bool,
     pub options: OptionLetters,
     pub period: Option<PeriodId>,
     pub interval: u32,
@@ -58,7 +81,14 @@ pub struct ObjectRow {
     pub contacts: &'static [ContactId],
 }
 
-/// An escalation of one object, with every letter.
+/// A period with one range, the same on all seven days.
+#[derive(Clone, Copy)]
+pub struct PeriodRow {
+    pub range: Range,
+    pub excludes: &'static [PeriodId],
+}
+
+/// An escalation of one object.
 #[derive(Clone, Copy)]
 pub struct EscalationRow {
     pub object: ObjectId,
@@ -66,22 +96,23 @@ pub struct EscalationRow {
     pub last: u32,
     pub interval: u32,
     pub period: Option<PeriodId>,
+    pub options: OptionLetters,
     pub contacts: &'static [ContactId],
 }
 
-/// A configuration. Each period has one range, the same on all seven days.
+/// A configuration.
 #[derive(Clone, Copy)]
 pub struct Rows<'a> {
     /// How many commands there are.
     pub lanes: u8,
     pub contacts: &'a [ContactRow],
     pub objects: &'a [ObjectRow],
-    pub periods: &'a [Range],
+    pub periods: &'a [PeriodRow],
     pub escalations: &'a [EscalationRow],
     pub dependencies: &'a [Dependency],
 }
 
-fn rights(alloc: Global, row: ContactRow) -> Result<Rights, AllocError> {
+fn rights(alloc: Global, row: RightsRow) -> Result<Rights, AllocError> {
     Ok(Rights {
         enabled: row.enabled,
         options: row.options,
@@ -92,8 +123,8 @@ fn rights(alloc: Global, row: ContactRow) -> Result<Rights, AllocError> {
 
 fn contact(alloc: Global, row: ContactRow) -> Result<Contact, AllocError> {
     let name = Text::new(alloc, row.name.as_bytes())?;
-    let hosts = rights(alloc, row)?;
-    let services = rights(alloc, row)?;
+    let hosts = rights(alloc, row.hosts())?;
+    let services = rights(alloc, row.services.unwrap_or(row.hosts()))?;
     Ok(Contact {
         name,
         hosts,
@@ -116,7 +147,7 @@ fn object(alloc: Global, row: ObjectRow) -> Result<Object, AllocError> {
     Ok(Object {
         name,
         host: row.host,
-        enabled: true,
+        enabled: row.enabled,
         options: row.options,
         period: row.period,
         interval: row.interval,
@@ -138,25 +169,25 @@ fn ranges(alloc: Global, range: Range) -> Result<Sequence<Range>, AllocError> {
     Ok(Sequence::new(Vec::from_slice(alloc, &[range])?))
 }
 
-fn period(alloc: Global, range: Range) -> Result<Period, AllocError> {
+fn period(alloc: Global, row: PeriodRow) -> Result<Period, AllocError> {
     let days = [
-        ranges(alloc, range)?,
-        ranges(alloc, range)?,
-        ranges(alloc, range)?,
-        ranges(alloc, range)?,
-        ranges(alloc, range)?,
-        ranges(alloc, range)?,
-        ranges(alloc, range)?,
+        ranges(alloc, row.range)?,
+        ranges(alloc, row.range)?,
+        ranges(alloc, row.range)?,
+        ranges(alloc, row.range)?,
+        ranges(alloc, row.range)?,
+        ranges(alloc, row.range)?,
+        ranges(alloc, row.range)?,
     ];
     let name = Text::new(alloc, "work".as_bytes())?;
     Ok(Period {
         name,
         days,
-        excludes: Sequence::new(Vec::new(alloc)),
+        excludes: Sequence::new(Vec::from_slice(alloc, row.excludes)?),
     })
 }
 
-fn periods(alloc: Global, rows: &[Range]) -> Result<Sequence<Period>, AllocError>
+fn periods(alloc: Global, rows: &[PeriodRow]) -> Result<Sequence<Period>, AllocError>
     ensures { IfOk result (λ made. length made ≡ length rows.now) }
 {
     let mut made = Vec::new(alloc);
@@ -173,7 +204,7 @@ fn escalation(alloc: Global, row: EscalationRow) -> Result<Escalation, AllocErro
         last: row.last,
         interval: row.interval,
         period: row.period,
-        options: OptionLetters::ALL,
+        options: row.options,
         contacts: ContactList::new(alloc, row.contacts)?,
     })
 }

@@ -4,7 +4,9 @@
 use acceptance_inputs::accepted::is_accepted;
 use acceptance_inputs::dependencies::ON_CRITICAL;
 use acceptance_inputs::events::{are_proper, at, clock, hard};
-use acceptance_inputs::rows::{ContactRow, EscalationRow, NO_LETTER, ObjectRow, Rows, config_of};
+use acceptance_inputs::rows::{
+    ContactRow, EscalationRow, NO_LETTER, ObjectRow, PeriodRow, Rows, config_of,
+};
 use due_model::config::{Config, ContactId, Dependency, LaneId, ObjectId, PeriodId, Range};
 use due_model::event::{DowntimeChange, Event, EventKind};
 use due_model::notice::{Filter, Kind, Notice, Suppression};
@@ -119,6 +121,7 @@ const PEOPLE: &[ContactRow] = &[
 const WEB: ObjectRow = ObjectRow {
     name: "web",
     host: None,
+    enabled: true,
     options: OptionLetters::ALL,
     period: None,
     interval: 1,
@@ -210,6 +213,7 @@ const THIRD_TO_BOB: Rows<'static> = Rows {
         last: 3,
         interval: 1,
         period: None,
+        options: OptionLetters::ALL,
         contacts: BOB,
     }],
     ..BASE
@@ -254,6 +258,7 @@ const OVERLAP: Rows<'static> = Rows {
             last: 5,
             interval: 45,
             period: None,
+            options: OptionLetters::ALL,
             contacts: BOB,
         },
         EscalationRow {
@@ -262,6 +267,7 @@ const OVERLAP: Rows<'static> = Rows {
             last: 0,
             interval: 60,
             period: None,
+            options: OptionLetters::ALL,
             contacts: CAT,
         },
     ],
@@ -309,6 +315,7 @@ fn manual_overlap(rt: HostRuntime) -> Result<(), Fail> {
 const PING: ObjectRow = ObjectRow {
     name: "PING",
     host: Some(ObjectId(0)),
+    enabled: true,
     options: OptionLetters::ALL,
     period: None,
     interval: 1,
@@ -324,6 +331,7 @@ const NEVER_AFTER_FOUR: Rows<'static> = Rows {
         last: 6,
         interval: 0,
         period: None,
+        options: OptionLetters::ALL,
         contacts: BOB,
     }],
     ..BASE
@@ -366,9 +374,12 @@ const AT_WORK: Rows<'static> = Rows {
         period: Some(PeriodId(0)),
         ..WEB
     }],
-    periods: &[Range {
-        start: 32_400,
-        end: 61_200,
+    periods: &[PeriodRow {
+        range: Range {
+            start: 32_400,
+            end: 61_200,
+        },
+        excludes: &[],
     }],
     ..BASE
 };
@@ -554,9 +565,12 @@ fn nested_downtimes(rt: HostRuntime) -> Result<(), Fail> {
 
 /// An escalation outside its period reaches nobody.
 const AT_NIGHT: Rows<'static> = Rows {
-    periods: &[Range {
-        start: 0,
-        end: 1110,
+    periods: &[PeriodRow {
+        range: Range {
+            start: 0,
+            end: 1110,
+        },
+        excludes: &[],
     }],
     escalations: &[EscalationRow {
         object: ObjectId(0),
@@ -564,6 +578,7 @@ const AT_NIGHT: Rows<'static> = Rows {
         last: 0,
         interval: 1,
         period: Some(PeriodId(0)),
+        options: OptionLetters::ALL,
         contacts: BOB,
     }],
     ..BASE
