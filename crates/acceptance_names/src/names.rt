@@ -141,18 +141,56 @@ fn is_as_said(alloc: Global, row: &(&str, &str, &str, &str)) -> Result<bool, All
     Ok(known.as_str() == "- -" && other.as_str() == "- 0" && all.as_str() == row.3)
 }
 
+/// What is found in a text with a template, whose directive names what isn't there, and such a block that uses it.
+fn found_beside_template(
+    alloc: Global,
+    kind: &str,
+    directive: &str,
+    value: &str,
+) -> Result<String, AllocError> {
+    let mut text = String::new(alloc);
+    write!(
+        text,
+        "define {kind}{{\nname t\nregister 0\n{directive} x\n}}\ndefine {kind}{{\nuse t\n{directive} {value}\n}}\n"
+    )?;
+    places_in(alloc, text.as_str())
+}
+
+/// What is found where the value is a name that is there after a `+`: a list may begin so, a period's name may not.
+fn found_after_plus(directive: &str) -> &'static str {
+    if directive.ends_with("_period") {
+        "- 0"
+    } else {
+        "- -"
+    }
+}
+
+/// Whether `null` names nothing, whatever a template gives, and a `+` begins lists alone, which are added to what the
+/// template gives.
+fn is_added_as_said(alloc: Global, row: &(&str, &str, &str, &str)) -> Result<bool, AllocError> {
+    let added = ["+", row.2].concat(alloc)?;
+    let known = found_by(alloc, row.0, row.1, added.as_str())?;
+    let other = found_by(alloc, row.0, row.1, "+x")?;
+    let none = found_beside_template(alloc, row.0, row.1, "null")?;
+    let both = found_beside_template(alloc, row.0, row.1, added.as_str())?;
+    let named = known.as_str() == found_after_plus(row.1) && other.as_str() == "- 0";
+    Ok(named && none.as_str() == "- -" && both.as_str() == "- 1")
+}
+
 #[test]
 fn each_directive_names_objects_of_one_type(rt: HostRuntime) -> Result<(), Fail> {
     for row in &DIRECTIVES {
         let directive = row.1;
         let said = is_as_said(rt.alloc(), row)?;
         assert!(rt; said, "{directive}");
+        let added = is_added_as_said(rt.alloc(), row)?;
+        assert!(rt; added, "null and + of {directive}");
     }
     Ok(())
 }
 
 /// Blocks, and the places of the first that is doubled and of the first that names something that isn't there.
-const CASES: [(&str, &str); 34] = [
+const CASES: [(&str, &str); 42] = [
     ("", "- -"),
     // Two of one name, and of three the second.
     (
@@ -282,7 +320,39 @@ const CASES: [(&str, &str); 34] = [
     ),
     // Directives of other types.
     (
-        "define hostgroup{\nhostgroup_name x\ncontacts nobody\n}\ndefine command{\ncommand_name y\nhost_name nobody\n}\ndefine host{\nhost_name z\nhost_name w\nescalation_period night\n}\ndefine servicegroup{\nservicegroup_name u\nmembers nobody,s\n}\n",
+        "define hostgroup{\nhostgroup_name x\ncontacts nobody\n}\ndefine command{\ncommand_name y\nhost_name nobody\n}\ndefine host{\nhost_name z\nhost_name w\nescalation_period night\n}\ndefine servicegroup{\nservicegroup_name u\nmembers nobody,s\nhostgroup_members nowhere\n}\n",
+        "- -",
+    ),
+    (
+        "define service{\nservice_description s\nhost_name a\nhostgroups nowhere\nescalation_period night\ndependent_host_name nobody\n}\n",
+        "- -",
+    ),
+    (
+        "define contact{\ncontact_name c\ncontacts nobody\ncontact_groups nobody\nnotification_period night\n}\n",
+        "- -",
+    ),
+    (
+        "define contactgroup{\ncontactgroup_name c\ncontacts nobody\ncontact_groups nobody\ncontactgroups nobody\nhostgroup_members nowhere\n}\n",
+        "- -",
+    ),
+    (
+        "define timeperiod{\ntimeperiod_name p\nmembers nobody\nnotification_period night\ndependency_period night\n}\n",
+        "- -",
+    ),
+    (
+        "define hostescalation{\nhost_name a\nhostgroups nowhere\nservicegroup_name nowhere\nnotification_period night\ndependency_period night\n}\n",
+        "- -",
+    ),
+    (
+        "define serviceescalation{\nhost_name a\nservice_description s\nservicegroups nowhere\nnotification_period night\ndependent_host_name nobody\ndependent_servicegroup_name nowhere\n}\n",
+        "- -",
+    ),
+    (
+        "define hostdependency{\nhost_name a\ndependent_host_name b\ncontacts nobody\nservicegroup_name nowhere\ndependent_servicegroup_name nowhere\nescalation_period night\n}\n",
+        "- -",
+    ),
+    (
+        "define servicedependency{\nhost_name a\nservice_description s\ndependent_host_name b\ndependent_service_description s\ncontact_groups nobody\nservicegroups nowhere\nnotification_period night\nescalation_period night\n}\n",
         "- -",
     ),
     // Types that say nothing.
