@@ -1,5 +1,5 @@
 -- The command that was met, by its name and its rows.
-use Rattle.std.proofs.Common.{◌≡◌, ◌∙◌, List, [], Option, Some, None, ap, ap₂, sym, IfSome}
+use Rattle.std.proofs.Common.{◌≡◌, ◌∙◌, List, [], Option, Some, None, ap, ap₂, sym, IfNone, IfSome}
 use Rattle.std.specs.Prelude.{option_map, unwrap_or}
 use Rattle.std.specs.Box.{box_value}
 use Rattle.clap.specs.Matches.{found_of, subcommand_name_of}
@@ -8,7 +8,7 @@ use Rattle.clap.specs.declared.parser.matches.ArgMatches.{ArgMatches}
 use Rattle.clap.specs.declared.parser.matches.ArgMatches.TheViews.{out-ArgMatches, out-SubCommand}
 use Rattle.clap.specs.declared.parser.matches.Found.{Found}
 use Rattle.notify_run.specs.declared.command_line.Request.{Request}
-use Rattle.notify_run.specs.CommandLine.{IsAskedBy, IsRequestOf, request_name}
+use Rattle.notify_run.specs.CommandLine.{IsAskedBy, IsMetWith, IsRequestOf, request_name}
 
 module _ {X : Type 0} (name_in : X → Text) (rows_in : X → List Row) where
   abbrev both : X → Text × List Row
@@ -37,3 +37,14 @@ pub some-asked : (matches : ArgMatches) (options : Found) (name : Text) (found :
     → IfSome found (IsAskedBy matches)
 some-asked matches options name None named rowed same is = is
 some-asked matches options name (Some request) named rowed same is = is-asked matches options name request named rowed same is
+
+-- options that make no request are those of the command that was met
+pub none-asked : (matches : ArgMatches) (options : Found) (name : Text) (found : Option Request) (so : Found → Type 0) → Some name ≡ subcommand_name_of matches
+    → Some (rows_of options) ≡ option_map (λ (p : Text × List Row). p.1) (subcommand_rows_of matches) → IfNone found (so options)
+    → IfNone found (subcommand_name_of matches ≡ Some name → IsMetWith matches name so)
+none-asked matches options name (Some request) so named rowed is = is
+none-asked matches options name None so named rowed is = λ _. (
+  options,
+  met (λ b. (out-SubCommand (box_value b)).name.now) (λ b. rows_of (found_of (out-SubCommand (box_value b)).matches)) (out-ArgMatches matches).subcommand name (rows_of options) named rowed,
+  is,
+)

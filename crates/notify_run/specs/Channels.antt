@@ -1,5 +1,5 @@
 -- The channels that the words of a command line ask for.
-use Rattle.std.specs.Prelude.{ℕ, List, [], map, Contains, Option, Some, None, ⊤}
+use Rattle.std.specs.Prelude.{ℕ, List, Contains, ⊤}
 use Rattle.channel.specs.declared.Kind.{Kind}
 use Rattle.channel.specs.declared.Kind.TheVariants as kinds
 use Rattle.channel_words.specs.declared.fault.ChannelFault.{ChannelFault}

@@ -1,14 +1,15 @@
 -- What the words of a command line ask, and which words there are.
-use Rattle.std.specs.Prelude.{◌≡◌, ℕ, List, [], ◌∷◌, map, Some, pos, true, false, codes}
+use Rattle.std.specs.Prelude.{◌≡◌, ℕ, List, [], ◌∷◌, map, Some, pos, true, false, codes, is_some}
 use Rattle.std.specs.Option.{option_copied, option_map}
 use Rattle.std.specs.Str.Parse.{digits_value, IsNumeral, without_leading_plus}
 use Rattle.clap.specs.Lexer.{usize_max}
 use Rattle.clap.specs.Matches.{first_value, matched_of, one_text, raw_values}
 use Rattle.clap.specs.declared.parser.matches.ArgMatches.{ArgMatches}
 use Rattle.clap.specs.declared.parser.matches.Found.{Found}
-use Rattle.clap.specs.Words.{App, Rule, Shape, new_app, new_rule, rows_of, subcommand_rows_of}
+use Rattle.clap.specs.Words.{App, Rule, new_app, new_rule, rows_of, subcommand_rows_of}
 use Rattle.clap.specs.Words.{with_rule}
 use Rattle.steps.specs.declared.settings.Settings.{Settings}
+use Rattle.steps.specs.Settings.{AreSettings}
 use Rattle.clap.specs.declared.builder.value_parser.ValueParser.TheVariants.{Signed}
 use Rattle.notify_run.specs.declared.command_line.Request.{Request}
 use Rattle.notify_run.specs.declared.command_line.ZoneWords.{ZoneWords}
@@ -42,6 +43,22 @@ pub record HoldSettings (options : Found) (settings : Settings) : Type 0 where
   pub queue : HoldsNumber options (codes "queue") settings.queue
   pub tries : HoldsNumber options (codes "tries") settings.tries
 
+-- The numbers that they hold are settings, with so many deciders.
+abbrev pub HoldFitting : Found → (deciders : ℕ) → Type 0
+HoldFitting options deciders = (queue : ℕ) × (tries : ℕ)
+    × HoldsNumber options (codes "queue") queue × HoldsNumber options (codes "tries") tries
+    × AreSettings deciders queue tries
+
+-- The options of `trace` make no request: the numbers that they hold are no settings.
+abbrev pub TraceLacks : Found → Type 0
+TraceLacks options = (deciders : ℕ) → HoldsNumber options (codes "deciders") deciders
+    → HoldFitting options deciders → ⊥
+
+-- The options of `run` make no request: they name no file, or the numbers that they hold are no settings.
+abbrev pub RunLacks : Found → Type 0
+RunLacks options = is_some (first_value options (codes "objects")) ≡ true
+    → HoldFitting options 1 → ⊥
+
 -- What the options of a command hold: of `replay` the file of the object text, if it is given; of `trace` the settings; of
 -- `run` the file, the settings but the number of deciders, which is 1, and the channel words; and of each the zone.
 abbrev pub IsRequestOf : Found → Request → Type 0
@@ -62,11 +79,20 @@ IsAskedBy matches request = (options : Found)
     × (subcommand_rows_of matches ≡ Some (request_name request, rows_of options))
     × IsRequestOf options request
 
+-- The command of that name was met, and of its options this is so.
+abbrev pub IsMetWith : ArgMatches → (name : List ℕ) → (Found → Type 0) → Type 0
+IsMetWith matches name so = (options : Found)
+    × (subcommand_rows_of matches ≡ Some (name, rows_of options)) × so options
+
 -- what it says of the zone
 abbrev pub request_zone : Request → ZoneWords
 request_zone (Replay objects zone) = zone
 request_zone (Trace settings zone) = zone
 request_zone (Run objects settings zone channels) = zone
+
+-- it gives a rule and a file
+abbrev pub AreTwo : ZoneWords → Type 0
+AreTwo words = (is_some words.rule ≡ true) × (is_some words.file ≡ true)
 
 -- `--NAME NUMBER`, with a number from 1 to `most`, or with `default` where it is left out
 abbrev pub number_option : List ℕ → List ℕ → ℕ → Rule

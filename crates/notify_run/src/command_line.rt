@@ -1,10 +1,11 @@
 //! The command line: what `notify-run` can be asked, and what its words ask.
 
-ghost use Rattle.std.specs.Prelude.{◌≡◌, codes, false, IfOk, IfSome, is_some, Some, true};
+ghost use Rattle.std.specs.Prelude.{◌≡◌, codes, false, IfNone, IfOk, IfSome, is_some, Some, true};
 ghost use Rattle.clap.specs.Matches.{found_of};
 ghost use Rattle.clap.specs.Words.{app_of, rule_of, subcommand_name_of};
 ghost use Rattle.notify_run.specs.CommandLine.{AreSettingsFit, IsAskedBy, IsRequestOf, IsZoneOf};
-ghost use Rattle.notify_run.specs.CommandLine.{HoldSettings};
+ghost use Rattle.notify_run.specs.CommandLine.{HoldFitting, HoldSettings, IsMetWith, RunLacks};
+ghost use Rattle.notify_run.specs.CommandLine.{TraceLacks};
 ghost use Rattle.notify_run.specs.CommandLine.{number_option, program_words, replay_words};
 ghost use Rattle.notify_run.specs.CommandLine.{request_name, request_zone, run_words, text_option};
 ghost use Rattle.notify_run.specs.CommandLine.{trace_words, with_lane_options, with_zone, word_list};
@@ -306,6 +307,7 @@ pub fn command<'a>(alloc: Global) -> Result<Command<'a>, AllocError>
 fn settings_of(options: &ArgMatches<'_>, deciders: u8) -> Option<Settings>
     ensures deciders { IfSome result (λ settings. settings.deciders ≡ deciders) }
     ensures held { IfSome result (HoldSettings (found_of options.now)) }
+    ensures lacking { IfNone result (HoldFitting (found_of options.now) deciders → ⊥) }
 {
     let queue = options.get_one::<u16>("queue")?;
     let tries = options.get_one::<u8>("tries")?;
@@ -337,6 +339,7 @@ fn replay_request<'m, 'a>(options: &'m ArgMatches<'a>) -> Request<'m, 'a>
 fn trace_request<'m, 'a>(options: &'m ArgMatches<'a>) -> Option<Request<'m, 'a>>
     ensures named { IfSome result (λ request. request_name request ≡ codes "trace") }
     ensures options { IfSome result (IsRequestOf (found_of options.now)) }
+    ensures lacking { IfNone result (TraceLacks (found_of options.now)) }
 {
     let deciders = options.get_one::<u8>("deciders")?;
     Some(Request::Trace {
@@ -350,6 +353,7 @@ fn run_request<'m, 'a>(options: &'m ArgMatches<'a>) -> Option<Request<'m, 'a>>
     ensures named { IfSome result (λ request. request_name request ≡ codes "run") }
     ensures options { IfSome result (IsRequestOf (found_of options.now)) }
     ensures settings { IfSome result AreSettingsFit }
+    ensures lacking { IfNone result (RunLacks (found_of options.now)) }
 {
     let objects = options.get_str("objects")?;
     let settings = settings_of(options, 1)?;
@@ -369,6 +373,10 @@ pub fn request_of<'m, 'a>(matches: &'m ArgMatches<'a>) -> Option<Request<'m, 'a>
     ensures asked { IfSome result (IsAskedBy matches.now) }
     ensures replay { subcommand_name_of matches.now ≡ Some (codes "replay")
         → is_some result ≡ true }
+    ensures trace { IfNone result (subcommand_name_of matches.now ≡ Some (codes "trace")
+        → IsMetWith matches.now (codes "trace") TraceLacks) }
+    ensures run { IfNone result (subcommand_name_of matches.now ≡ Some (codes "run")
+        → IsMetWith matches.now (codes "run") RunLacks) }
 {
     match matches.subcommand() {
         Some(("replay", options)) => Some(replay_request(options)),

@@ -5,7 +5,7 @@ ghost use Rattle.std.specs.Prelude.{◌≡◌};
 ghost use Rattle.std.specs.Process.{exit_status};
 ghost use Rattle.clap.specs.Values.{kind_of};
 ghost use Rattle.command_output.specs.Outcome.{outcome_status};
-ghost use Rattle.notify_run.specs.CommandLine.{AreSettingsFit};
+ghost use Rattle.notify_run.specs.CommandLine.{AreSettingsFit, AreTwo, request_zone};
 ghost use Rattle.notify_run.specs.Refusal.{refusal_status};
 ghost use Rattle.notify_run.specs.RunFault.{run_status};
 ghost use Rattle.notify_run.specs.Zones.{zone_fault_status};
@@ -136,6 +136,7 @@ fn status_of_run<R: Eprint>(rt: &R, outcome: Result<Ending, RunFault<'_>>) -> Ex
 /// Does what is asked, and gives the exit status. The zone is read before anything else.
 fn status_of_request(rt: &HostRuntime, request: Request<'_, '_>) -> ExitCode
     requires { AreSettingsFit request }
+    ensures { AreTwo (request_zone request.entry) → exit_status result ≡ 2 }
 {
     let zone = match zone_of(rt, request.zone()) {
         Ok(zone) => zone,

@@ -1,8 +1,7 @@
-use Rattle.std.proofs.Common.{List, Option, Some, codes, ap, sym, ℕ, ◌∙◌, IfSome, subst}
+use Rattle.std.proofs.Common.{List, Some, codes, ap, sym, ℕ, ◌∙◌}
 use Rattle.clap.specs.Matches.{found_of}
-use Rattle.notify_run.specs.declared.command_line.Request.{Request}
-use Rattle.notify_run.specs.CommandLine.{request_name}
-use Rattle.notify_run.proofs.RequestLemmas.{is-asked, some-asked}
+use Rattle.notify_run.specs.CommandLine.{RunLacks, TraceLacks}
+use Rattle.notify_run.proofs.RequestLemmas.{is-asked, none-asked, some-asked}
 use Rattle.notify_run.proofs.command_line.request_of.Goals as goal
 
 pub returns-in-Some-replay-default-clause-asked : goal.returns-in-Some-replay-default-clause-asked
@@ -22,3 +21,15 @@ returns-in-Some-run-default-clause-asked c =
     let met = c.in-Some-run-default in
     some-asked c.args.matches.now (found_of met.options.now) (codes "run") c.run_request.result (ap (λ (n : List ℕ). Some n) (sym met.is-run) ∙ met.ensures.name) met.ensures.rows
     c.run_request.ensures.named c.run_request.ensures.options
+
+pub returns-in-Some-trace-default-clause-trace : goal.returns-in-Some-trace-default-clause-trace
+returns-in-Some-trace-default-clause-trace c =
+    let met = c.in-Some-trace-default in
+    none-asked c.args.matches.now (found_of met.options.now) (codes "trace") c.trace_request.result TraceLacks (ap (λ (n : List ℕ). Some n) (sym met.is-trace) ∙ met.ensures.name) met.ensures.rows
+    c.trace_request.ensures.lacking
+
+pub returns-in-Some-run-default-clause-run : goal.returns-in-Some-run-default-clause-run
+returns-in-Some-run-default-clause-run c =
+    let met = c.in-Some-run-default in
+    none-asked c.args.matches.now (found_of met.options.now) (codes "run") c.run_request.result RunLacks (ap (λ (n : List ℕ). Some n) (sym met.is-run) ∙ met.ensures.name) met.ensures.rows
+    c.run_request.ensures.lacking
