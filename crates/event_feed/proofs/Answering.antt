@@ -1,6 +1,6 @@
 -- What the reading of lines makes of the answers to come.
-use Rattle.std.proofs.Common.{◌≡◌, ◌≢◌, inl, inr, Bool, IfSome, ℕ, suc, ◌+◌, ◌<◌, ◌≤◌, max, true, false, cond, ltb, leb, eqb, List, [], ◌∷◌, ◌++◌, append_assoc, length, take, drop, replicate, Option, Some, None, Result, Ok, Err, refl, sym, ap, subst, ◌∙◌, arith, one-add}
-use Rattle.std.specs.Prelude.{is_some, IsTrue, take_while}
+use Rattle.std.proofs.Common.{◌≡◌, ◌≢◌, inl, inr, Bool, IfSome, ℕ, suc, ◌+◌, ◌-◌, ◌*◌, ◌<◌, ◌≤◌, max, true, false, cond, ltb, leb, eqb, List, [], ◌∷◌, ◌++◌, append_assoc, length, take, drop, replicate, Option, Some, None, Result, Ok, Err, refl, sym, ap, subst, ◌∙◌, arith, one-add}
+use Rattle.std.specs.Prelude.{is_some, IfNone, IsTrue, take_while}
 use Rattle.std.specs.List.{list_any}
 use Rattle.std.proofs.lemmas.List.Folds.{list_any-append}
 use Rattle.std.proofs.lemmas.List.{take-append-drop}
@@ -22,8 +22,9 @@ use Rattle.text_lines.specs.declared.line_reader.NextLine.{NextLine}
 use Rattle.text_lines.specs.declared.line_reader.NextLine.TheVariants.{Line, Long, Over}
 use Rattle.event_feed.specs.Line.{line_reading}
 use Rattle.text_lines.specs.Lines.{is_newline, IsUnbroken, BeginsWithLine, pieces, Known, has_newline, has_line}
-use Rattle.text_lines.specs.LineReader.{Reading, to_come, line_limit, byte_limit, call_limit, ReadsFrom, ReadsLine, ReadsHeld}
-use Rattle.event_feed.specs.Feed.{Answer, AreGiven, AreGivenBy, HasLong, least_at_read, refusal, answers, feed_limit, is_stopped, text_reading, moment_after, AreFromLine, ComesNext, ComesLong, ComesTo, GivesEvent, GivesFault, feed_of, raised}
+use Rattle.text_lines.specs.CountedReader.{calls_after}
+use Rattle.text_lines.specs.LineReader.{Reading, to_come, line_limit, byte_limit, call_limit, CallsFit, ReadsFrom, ReadsLine, ReadsHeld}
+use Rattle.event_feed.specs.Feed.{Answer, AreGiven, AreGivenBy, HasLong, least_at_read, refusal, answers, feed_limit, is_stopped, text_reading, moment_after, AreFromLine, ComesNext, ComesLong, ComesWithin, ComesTo, GivesEvent, GivesFault, feed_of, lines_asked, raised}
 use Rattle.event_feed.specs.Feeder.{LineAnswers, GoesToLine, CountsLine, begun_lines}
 use Rattle.lemmas.proofs.Lists.{HasFirst, slice_split-first}
 use Rattle.event_feed.proofs.ProperLines.{line_reading-fault}
@@ -35,17 +36,18 @@ pub pieces-line : (bytes text rest : List ℕ) → BeginsWithLine bytes text res
 pieces-line bytes text rest begins = ap pieces begins.whole ∙ slice_split_at is_newline text 10 rest begins.unbroken refl
 
 -- bytes with no newline among them go onto the first piece
-pub record Fronted (text : List ℕ) (texts : List (List ℕ)) : Type 0 where
+pub record Fronted (text : List ℕ) (texts left : List (List ℕ)) : Type 0 where
   pub first : List ℕ
   pub others : List (List ℕ)
   pub are : texts ≡ (text ++ first) ∷ others
+  pub left_are : left ≡ first ∷ others
 
-pub pieces-unbroken : (text more : List ℕ) → IsUnbroken text → Fronted text (pieces (text ++ more))
-pieces-unbroken [] more unbroken = let split = slice_split-first is_newline more in record { first = split.first; others = split.others; are = split.are }
+pub pieces-unbroken : (text more : List ℕ) → IsUnbroken text → Fronted text (pieces (text ++ more)) (pieces more)
+pieces-unbroken [] more unbroken = let split = slice_split-first is_newline more in record { first = split.first; others = split.others; are = split.are; left_are = split.are }
 pieces-unbroken (byte ∷ text) more unbroken =
     let rest = pieces-unbroken text more (λ k d within. unbroken (suc k) d (omega arith)) in
     let here : is_newline byte ≡ false = unbroken 0 0 (omega arith) in
-    record { first = rest.first; others = rest.others; are = rw (here, rest.are) refl }
+    record { first = rest.first; others = rest.others; are = rw (here, rest.are) refl; left_are = rest.left_are }
 
 -- ---- the answers at the first piece
 
@@ -162,6 +164,17 @@ comes-long from to count texts now front more goes unbroken whole many =
       rw length-append (omega (arith, many)),
     )
 
+comes-within : (from to : ℕ) (texts : List (List ℕ)) (now front rest : List ℕ) → Goes from to texts (pieces now) → IsUnbroken front → now ≡ front ++ rest
+    → ComesWithin from texts (to + 1) (pieces rest)
+comes-within from to texts now front rest goes unbroken whole =
+    let fronted = pieces-unbroken front rest unbroken in (
+      front,
+      fronted.first,
+      fronted.others,
+      comes from to texts (front ++ fronted.first) fronted.others (subst (λ (others : List (List ℕ)). Goes from to texts others) (ap pieces whole ∙ fronted.are) goes),
+      fronted.left_are,
+    )
+
 comes-to : (from to : ℕ) (bytes now : List ℕ) (how : NextLine) (text rest : List ℕ) → Goes from to (pieces bytes) (pieces now) → ReadsFrom now how text rest → (how ≡ Line → 0 < length text)
     → (how ≡ Over InputEnded → ⊥) → ComesTo how from bytes (to + 1) text rest
 comes-to from to bytes now Line text rest goes reads full other = (
@@ -180,7 +193,7 @@ comes-to from to bytes now (Over CutLine) text rest goes reads full other = (
   reads.1,
   reads.3,
 )
-comes-to from to bytes now (Over ReaderFailed) text rest goes reads full other = comes-long from to 0 (pieces bytes) now reads.0 rest goes reads.1 reads.2 (omega arith)
+comes-to from to bytes now (Over ReaderFailed) text rest goes reads full other = comes-within from to (pieces bytes) now reads.0 rest goes reads.1 reads.2
 comes-to from to bytes now (Over TooManyCalls) text rest goes reads full other = comes-long from to call_limit (pieces bytes) now reads.0 reads.1 goes reads.2 reads.3 reads.4
 comes-to from to bytes now (Over TooManyBytes) text rest goes reads full other = comes-long from to (byte_limit + 1) (pieces bytes) now reads.0 reads.1 goes reads.2 reads.3 reads.4
 comes-to from to bytes now (Over TooManyLines) text rest goes reads full other = absurd reads
@@ -354,6 +367,10 @@ has_long from texts line count least few comes = record {
   long = omega (arith, few, comes.3);
 }
 
+-- of a line that the reading broke off in nothing is said of its length
+within-long : (from : ℕ) (texts : List (List ℕ)) (line : ℕ) (left : List (List ℕ)) → ComesWithin from texts line left → ComesLong from texts line 0
+within-long from texts line left comes = (comes.0 ++ comes.1, comes.2, comes.3, omega arith)
+
 -- the answer at which the feed ends is its last
 ends_with : (can_fail : Bool) (all given : List Answer) (from : ℕ) (texts : List (List ℕ)) (line : ℕ) (fault f : FeedFault) → Some f ≡ Some fault
     → all ≡ record { line = line; given = Err f } ∷ [] → AreGiven can_fail (record { line = line; given = Err fault } ∷ []) all from texts
@@ -388,7 +405,7 @@ given_at : (can_fail : Bool) (objects : List Object) (last from : ℕ) (how : St
 given_at can_fail objects last from InputEnded text line bytes rest fault answer comes sure is = absurd (cc)
 given_at can_fail objects last from CutLine text line bytes rest fault answer comes sure is = ends_with can_fail _ [] from (pieces bytes) line fault Cut is answer
 given_at can_fail objects last from ReaderFailed text line bytes rest fault answer comes sure is =
-    breaks_off can_fail _ from (pieces bytes) line fault is (has_long from (pieces bytes) line 0 (least_at_read can_fail) (least_failed can_fail sure) comes) answer
+    breaks_off can_fail _ from (pieces bytes) line fault is (has_long from (pieces bytes) line 0 (least_at_read can_fail) (least_failed can_fail sure) (within-long from (pieces bytes) line (pieces rest) comes)) answer
 given_at can_fail objects last from TooManyCalls text line bytes rest fault answer comes sure is =
     breaks_off can_fail _ from (pieces bytes) line fault is (has_long from (pieces bytes) line call_limit (least_at_read can_fail) (least_called can_fail) comes) answer
 given_at can_fail objects last from TooManyBytes text line bytes rest fault answer comes sure is = ends_with can_fail _ [] from (pieces bytes) line fault Read is answer
@@ -440,3 +457,49 @@ held-more old now new stays reads none = λ is.
       line.calls ∙ held.0,
       sym (ap has_line whole ∙ has_line-next new.held) ∙ held.1,
     )
+
+-- ---- the calls of the reader
+
+-- one line more
+pub few-line : (old now new from read : ℕ) → from ≤ read → now ≤ old + call_limit * (read - from) → new ≤ now + call_limit
+    → new ≤ old + call_limit * (read + 1 - from)
+few-line old now new from read later few one = omega arith
+
+pub few-over : (old now new from read : ℕ) (stop : Stop) → from ≤ read → now ≤ old + call_limit * (read - from) → new ≤ now + call_limit
+    → new ≤ old + call_limit * lines_asked (Some stop) (read + begun_lines stop - from)
+few-over old now new from read InputEnded later few one = omega arith
+few-over old now new from read CutLine later few one = omega arith
+few-over old now new from read ReaderFailed later few one = omega arith
+few-over old now new from read TooManyCalls later few one = omega arith
+few-over old now new from read TooManyBytes later few one = omega arith
+few-over old now new from read TooManyLines later few one = omega arith
+
+-- a line that isn't read
+pub few-last : (old now from read : ℕ) → now ≤ old + call_limit * (read - from) → now ≤ old + call_limit * (read + 1 - from)
+few-last old now from read few = omega arith
+
+-- no call is taken back
+pub least-line : (old now new : ℕ) → calls_after old 0 ≤ now → calls_after now 0 ≤ new → calls_after old 0 ≤ new
+least-line old now new least one = omega arith
+
+pub many-over : (old now new : ℕ) (stop : Stop) → calls_after old 0 ≤ now → CallsFit now (Over stop) new → Over stop ≡ Over TooManyCalls → calls_after old call_limit ≤ new
+many-over old now new InputEnded least fits is = absurd (cc)
+many-over old now new CutLine least fits is = absurd (cc)
+many-over old now new ReaderFailed least fits is = absurd (cc)
+many-over old now new TooManyCalls least fits is = let same : new ≡ calls_after now call_limit = fits in omega (arith, least, same)
+many-over old now new TooManyBytes least fits is = absurd (cc)
+many-over old now new TooManyLines least fits is = absurd (cc)
+
+-- a feed that goes on was asked for the lines that it passed, and isn't over
+pub few-going : (old new passed : ℕ) (stop : Option Stop) → is_some stop ≡ false → new ≤ old + call_limit * passed → new ≤ old + call_limit * lines_asked stop passed
+few-going old new passed None on few = few
+few-going old new passed (Some stop) on few = absurd (true≢false on)
+
+pub not_over : (stop : Option Stop) (how : Stop) (P : Type 0) → is_some stop ≡ false → IfNone stop (stop ≡ Some how → P)
+not_over None how P on = λ is. absurd (cc)
+not_over (Some stop) how P on = absurd (true≢false on)
+
+-- a feed is over as its reading is
+pub over_so : (old : Option Stop) (stop how : Stop) (P : Type 0) → (Over stop ≡ Over how → P) → IfNone old (Some stop ≡ Some how → P)
+over_so None stop how P each = λ is. each (let e : stop ≡ how = cc in ap (λ (s : Stop). Over s) e)
+over_so (Some before) stop how P each = tt

@@ -122,6 +122,12 @@ ComesLong from texts line count =
     (text : List ℕ) × (others : List (List ℕ)) × ComesNext from texts line text others
     × (count ≤ length text)
 
+-- the line of this number comes next, and the reading broke off in it: what is left of it comes first of these pieces
+abbrev pub ComesWithin : ℕ → List (List ℕ) → ℕ → List (List ℕ) → Type 0
+ComesWithin from texts line left =
+    (front : List ℕ) × (text : List ℕ) × (others : List (List ℕ))
+    × ComesNext from texts line (front ++ text) others × (left ≡ text ∷ others)
+
 -- The line that a reading came to: its number, its text where it is there, and the bytes after it. At the end of the
 -- input the number is that of the last line, which an empty piece follows.
 abbrev pub ComesTo : NextLine → (from : ℕ) → List ℕ → ℕ → List ℕ → List ℕ → Type 0
@@ -135,7 +141,8 @@ ComesTo (Over InputEnded) from bytes line text rest =
 ComesTo (Over CutLine) from bytes line text rest =
     (cut : List ℕ) × ComesNext from (pieces bytes) line cut [] × (0 < length cut)
     × (text ≡ cut_text (length cut) cut)
-ComesTo (Over ReaderFailed) from bytes line text rest = ComesLong from (pieces bytes) line 0
+ComesTo (Over ReaderFailed) from bytes line text rest =
+    ComesWithin from (pieces bytes) line (pieces rest)
 ComesTo (Over TooManyCalls) from bytes line text rest =
     ComesLong from (pieces bytes) line call_limit
 ComesTo (Over TooManyBytes) from bytes line text rest =
@@ -267,6 +274,12 @@ pub record GivesFault (objects : List Object) (old : Feed) (fault : RefusedLine)
   pub number : fault.line ≡ new.line
   pub last : new.last ≡ old.last
   pub line : old.line < new.line
+
+-- How many lines the reader of lines was asked for where so many were passed: one more where it found the end of the
+-- input.
+abbrev pub lines_asked : Option Stop → ℕ → ℕ
+lines_asked (Some InputEnded) passed = passed + 1
+lines_asked stop passed = passed
 
 -- ---- for those who read a feed
 

@@ -1,5 +1,5 @@
 -- How a feeder goes from line to line: what one line that was read makes of the answers to come.
-use Rattle.std.specs.Prelude.{◌≡◌, ℕ, ◌+◌, ◌<◌, ◌≤◌, List, [], ◌∷◌, Err}
+use Rattle.std.specs.Prelude.{◌≡◌, ℕ, ◌+◌, ◌<◌, ◌≤◌, List, [], ◌∷◌, Err, Option, None, Some}
 use Rattle.due_model.specs.declared.config.Object.{Object}
 use Rattle.event_feed.specs.declared.fault.FeedFault.TheVariants.{LineTooLong, Cut, Read}
 use Rattle.event_feed.specs.Feed.{Answer, AreFromLine, ComesTo, answers, feed_limit, moment_after, text_reading}
@@ -34,6 +34,12 @@ GoesToLine old from how new line =
     ((objects : List Object) (last : ℕ) →
     LineAnswers objects last how new.line line rest (answers objects from last (pieces bytes)))
     × ComesTo how from bytes line new.line rest)
+
+-- why the reading is over, if it is
+abbrev pub stop_of : NextLine → Option Stop
+stop_of Line = None
+stop_of Long = None
+stop_of (Over stop) = Some stop
 
 -- how many lines are begun where the reading is over: none where the input ended after a whole line
 abbrev pub begun_lines : Stop → ℕ

@@ -1,10 +1,12 @@
 //! The events of a feed, in order, from a reader of lines.
 
-ghost use Rattle.std.specs.Prelude.{◌≡◌, ◌≢◌, ◌+◌, ◌≤◌, ◌∷◌, [], false, IsSome};
+ghost use Rattle.std.specs.Prelude.{◌≡◌, ◌≢◌, ◌+◌, ◌-◌, ◌*◌, ◌≤◌, ◌∷◌, [], false, IsSome};
 ghost use Rattle.std.specs.Prelude.{None, Some, Ok, IfOk, IfErr, IfSome, IfNone, OnSome, IsTrue};
 ghost use Rattle.event_feed.specs.Feed.{AreGivenBy, ComesToEnd, GivesEvent, GivesFault, GivesNone};
-ghost use Rattle.event_feed.specs.Feed.{feed_limit, feed_of, raised, refusal};
-ghost use Rattle.event_feed.specs.Feeder.{CountsLine, GoesToLine, begun_lines};
+ghost use Rattle.event_feed.specs.Feed.{feed_limit, feed_of, lines_asked, raised, refusal};
+ghost use Rattle.event_feed.specs.Feeder.{CountsLine, GoesToLine, begun_lines, stop_of};
+ghost use Rattle.text_lines.specs.CountedReader.{calls_after};
+ghost use Rattle.text_lines.specs.LineReader.{call_limit};
 ghost use Rattle.text_lines.specs.Lines.{has_line};
 
 use crate::fault::{FeedFault, RefusedLine, stop_fault};
@@ -96,7 +98,8 @@ impl<R: Input + Drop> Feeder<R> {
     /// The next event, or the next line that gives none. Empty lines are passed over, and a stamp below the
     /// last moment is raised to it. A line with another fault than Cut and Read is read over, and the feed
     /// goes on after it; after Cut and Read, and at the end of the input, it is over, and the answer is
-    /// `Ok(None)` from then on. It takes no memory, and calls no reader where `has_line` says so.
+    /// `Ok(None)` from then on. It takes no memory, and calls no reader where `has_line` says so; else it calls the
+    /// reader at most 65,536 times for a line, and for the end of the input.
     pub fn next(&mut self, config: &Config) -> Result<Option<Event>, RefusedLine>
         ensures over { OnSome self.old.stop ((result ≡ Ok None) × (self.new ≡ self.old)) }
         ensures event { IfOk result (λ found. IfSome found (λ event.
@@ -111,6 +114,12 @@ impl<R: Input + Drop> Feeder<R> {
             → AreGivenBy R.can_fail config.now.objects self.old (refusal fault ∷ [])) }
         ensures limit { self.new.line ≤ feed_limit + 1 }
         ensures held { IsTrue (has_line self.old.held) → self.new.calls ≡ self.old.calls }
+        ensures few { self.new.calls ≤ self.old.calls
+            + call_limit * lines_asked self.new.stop (self.new.line - self.old.line) }
+        ensures many { IfNone self.old.stop (self.new.stop ≡ Some Stop.TooManyCalls
+            → calls_after self.old.calls call_limit ≤ self.new.calls) }
+        ensures sure { R.can_fail ≡ false
+            → IfNone self.old.stop (self.new.stop ≢ Some Stop.ReaderFailed) }
     {
         if self.stop.is_some() {
             return Ok(None);
@@ -147,6 +156,10 @@ fn next_line<R: Input + Drop>(lines: &mut LineReader<R>, line: &mut u64) -> Next
     ensures goes { GoesToLine lines.old line.old result lines.new line.new }
     ensures counts { CountsLine line.old result line.new }
     ensures held { IsTrue (has_line lines.old.held) → lines.new.calls ≡ lines.old.calls }
+    ensures few { lines.new.calls ≤ lines.old.calls
+        + call_limit * lines_asked (stop_of result) (line.new - line.old) }
+    ensures many { result ≡ NextLine.Over Stop.TooManyCalls
+        → calls_after lines.old.calls call_limit ≤ lines.new.calls }
     ensures sure { R.can_fail ≡ false → result ≢ NextLine.Over Stop.ReaderFailed }
 {
     for read in *line..FEED_LIMIT {

@@ -136,6 +136,10 @@ calls-more old now room new call none some same one =
     (λ (zero : call ≤ 0). let is : now ≡ old = none (omega arith) in omega (arith, is, same, one))
     (cases_lt 0 call)
 
+-- none is taken back
+pub least-more : (old now room new : ℕ) → calls_after old 0 ≤ now → room ≡ now → new ≡ calls_after room 1 → calls_after old 0 ≤ new
+least-more old now room new least same one = omega (arith, least, same, one)
+
 -- ---- the ends of a line
 
 -- by how long it is

@@ -65,9 +65,10 @@ abbrev pub CallsFit : ℕ → NextLine → ℕ → Type 0
 CallsFit old (Over TooManyCalls) new = new ≡ calls_after old call_limit
 CallsFit old how new = ⊤
 
--- the calls of a line: no more than it may take
+-- the calls of a line: no more than it may take, and none is taken back
 pub record SpendsCalls (old : Reading) (how : NextLine) (new : Reading) : Type 0 where
   pub few : new.calls ≤ old.calls + call_limit
+  pub least : calls_after old.calls 0 ≤ new.calls
   pub many : CallsFit old.calls how new.calls
 
 -- the text of a line that is there

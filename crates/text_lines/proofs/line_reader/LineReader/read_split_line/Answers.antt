@@ -1,7 +1,7 @@
 use Rattle.std.proofs.Common.{◌≡◌, ◌<◌, ℕ, List, take, length, arith, ap, refl, subst, ◌∙◌}
 use Rattle.std.proofs.Math.Seq.{take-length}
 use Rattle.text_lines.specs.Lines.{IsUnbroken}
-use Rattle.text_lines.proofs.ReadLines.{OnTheWay-none, OnTheWay-room, OnTheWay-more, length-more, calls-more, Reads-line, Reads-too_many, Reads-cut, Reads-end, Reads-failed}
+use Rattle.text_lines.proofs.ReadLines.{OnTheWay-none, OnTheWay-room, OnTheWay-more, length-more, calls-more, least-more, Reads-line, Reads-too_many, Reads-cut, Reads-end, Reads-failed}
 use Rattle.text_lines.proofs.line_reader.LineReader.read_split_line.Goals as goal
 
 pub returns-then-skipped-held_len-gt-BYTE_LIMIT-clause-line : goal.returns-then-skipped-held_len-gt-BYTE_LIMIT-clause-line
@@ -41,7 +41,7 @@ returns-then-place-held_len-clause-line g c =
     c.end_line.ensures.line c.end_line.ensures.held c.end_line.ensures.unread c.end_line.result c.end_line.ensures.how
 
 pub loop-call-init : goal.loop-call-init
-loop-call-init g c = record { way = OnTheWay-none c.args.self.now; held = c.requires; few = omega arith; many = λ none. absurd (omega arith); each = omega arith; none = λ _. refl; calls = λ some. absurd (omega arith) }
+loop-call-init g c = record { way = OnTheWay-none c.args.self.now; held = c.requires; few = omega arith; many = λ none. absurd (omega arith); each = omega arith; none = λ _. refl; calls = λ some. absurd (omega arith); least = omega arith }
 
 pub loop-call-preserved : goal.loop-call-preserved
 loop-call-preserved g c =
@@ -57,6 +57,8 @@ loop-call-preserved g c =
       none = λ zero. absurd (omega arith);
       calls = λ _. calls-more c.args.self.now.calls c.loop-call.self.calls c.make_room-skipped.new.self.calls c.fill.new.self.calls c.loop-call._call
           c.loop-call.invariant.none c.loop-call.invariant.calls c.make_room-skipped.ensures.calls c.in-More.ensures.calls;
+      least = least-more c.args.self.now.calls c.loop-call.self.calls c.make_room-skipped.new.self.calls c.fill.new.self.calls
+          c.loop-call.invariant.least c.make_room-skipped.ensures.calls c.in-More.ensures.calls;
     }
 
 pub returns-clause-line : goal.returns-clause-line

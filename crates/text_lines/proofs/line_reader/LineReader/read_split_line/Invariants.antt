@@ -15,4 +15,5 @@ invariant-loop-call g l = record {
   each : l._call ≤ l.skipped + length l.self.held;
   none : l._call ≡ 0 → l.self.calls ≡ l.initial.self.calls;
   calls : 0 < l._call → l.self.calls ≡ calls_after l.initial.self.calls l._call;
+  least : calls_after l.initial.self.calls 0 ≤ l.self.calls;
 }
