@@ -1,0 +1,3 @@
+mod LinkLemmas
+mod ChainLemmas
+mod LoopLemmas

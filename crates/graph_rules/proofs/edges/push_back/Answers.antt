@@ -1,0 +1,9 @@
+use Rattle.std.proofs.Common.{◌+◌}
+use Rattle.graph_rules.specs.Rules.{edge}
+use Rattle.graph_rules.proofs.LinkLemmas.{pushed-more}
+use Rattle.graph_rules.proofs.edges.push_back.Goals as goal
+
+pub loop-one-preserved : goal.loop-one-preserved
+loop-one-preserved c =
+    pushed-more (λ one. edge (c.args.from + one.to) (c.args.to + one.from)) c.args.more.now c.loop-one.one-index (edge 0 0) c.args.edges.now.items c.loop-one.edges.items
+    c.push.new.self.items c.loop-one-test.true c.loop-one.invariant c.in_ok-push.ensures.items
