@@ -1,6 +1,6 @@
 -- What is kept of each block, by what is kept of the templates that it uses.
 use Rattle.std.proofs.Common.{◌≡◌, ℕ, zero, suc, ◌+◌, ◌<◌, ◌≤◌, Bool, true, false, cond, List, [], ◌∷◌, ◌++◌, append_assoc, length, map, drop, take, get_or, set, Option, Some, None, refl, sym, ap, subst, eqb, eq-eqb, inl, inr, ⊎_elim, ◌∙◌, Bor, arith}
-use Rattle.std.specs.Prelude.{All, Contains, find, IfSome, is_some, reverse, unwrap_or}
+use Rattle.std.specs.Prelude.{All, Contains, find, IfSome, is_some, reverse, slice_get, unwrap_or}
 use Rattle.std.specs.Option.{option_and_then, option_map, option_to_list}
 use Rattle.std.proofs.lemmas.Bool.{cases_eq, cases_lt, false≢true, ne_eqb}
 use Rattle.std.proofs.lemmas.Grind.{get_or_default_zero}
@@ -10,13 +10,14 @@ use Rattle.graph_order.specs.Order.{IsOrder}
 use Rattle.object_reader.specs.declared.block.Block.{Block}
 use Rattle.object_inheritance.specs.Columns.{given_from, HasGiven, HasGivenFrom, HasOwn, IsGivenAt, IsInherited, IsNext, IsOwn, line_of}
 use Rattle.object_inheritance.specs.Givers.{last_at, text_at}
-use Rattle.object_inheritance.specs.Inherited.{AreInherited, first_given, given, own, own_entries, is_additive, joined_entries, list_given, sources, stays}
+use Rattle.object_inheritance.specs.Inherited.{AreInherited, first_given, given, own, own_entries, is_additive, joined_entries, list_given, sources, stays, value}
 use Rattle.object_inheritance.specs.Templates.{template_graph}
 use Rattle.object_values.specs.Values.{texts}
 use Rattle.object_inheritance.specs.declared.givers.OwnText.{OwnText}
 use Rattle.object_inheritance.specs.declared.inherited.Given.{Given}
 use Rattle.object_inheritance.proofs.GiverLemmas.{last-more, take-next}
 use Rattle.object_inheritance.proofs.InheritedLemmas.{given-nowhere, given-past, graph-long, sources-lead}
+use Rattle.object_inheritance.proofs.LawLemmas.{own-first}
 use Rattle.object_inheritance.proofs.UseLemmas.{leads-within}
 
 -- ---- the first for which anything is given
@@ -49,6 +50,16 @@ find-contains p (x ∷ xs) q is =
       | false ↦ λ later. let at = find-contains p xs q later in (suc at.0, omega (arith, at.1), at.2)
     ] is
 
+-- what is kept of a block that gives a text itself
+own-gives : (blocks : List Block) (directive : List ℕ) (place : ℕ) (kept : Given) → IsOwn blocks place (own blocks directive place) (Some kept)
+    → own blocks directive kept.origin ≡ Some (text_at blocks kept.origin kept.number)
+own-gives blocks directive place kept is = ap (own blocks directive) is.origin ∙ sym is.text
+
+own-given : (blocks : List Block) (directive : List ℕ) (place : ℕ) (kept : Option Given) → IsOwn blocks place (own blocks directive place) kept
+    → IfSome kept (λ one. own blocks directive one.origin ≡ Some (text_at blocks one.origin one.number))
+own-given blocks directive place None is = tt
+own-given blocks directive place (Some kept) is = own-gives blocks directive place kept is
+
 module _ (blocks : List Block) (directive : List ℕ) where
   first-one : (x : ℕ) (kept : Option Given) (rest : List (List (List ℕ))) (later : Option ℕ) → IsGivenAt blocks directive x kept
       → first_given rest ≡ given_from blocks directive later
@@ -79,6 +90,7 @@ module _ (blocks : List Block) (directive : List ℕ) where
           ∙ ap (λ (gives : Option (List ℕ)). option_to_list gives ++ given_from blocks directive further)
           (sym (ap (option_map (λ (one : Given). text_at blocks one.origin one.number)) (sym is) ∙ next.gives.text));
       origin = ap (given blocks directive) (subst (λ (found : Option Given). IfSome found (λ one. one.origin ≡ place)) is next.gives.origin);
+      gives = own-gives blocks directive place kept (subst (λ (found : Option Given). IsOwn blocks place (own blocks directive place) found) is next.gives);
     }
 
     none-own : get_or column place None ≡ None → own blocks directive place ≡ None
@@ -88,6 +100,7 @@ module _ (blocks : List Block) (directive : List ℕ) where
     given-none is none = record {
       line = equation ∙ ap (λ (gives : Option (List ℕ)). option_to_list gives ++ given_from blocks directive further) (none-own is) ∙ ap (given_from blocks directive) none;
       origin = tt;
+      gives = tt;
     }
 
     pub given-taken : (q : ℕ) → get_or column place None ≡ None → further ≡ Some q → IsGivenAt blocks directive place (get_or column q None)
@@ -98,6 +111,7 @@ module _ (blocks : List Block) (directive : List ℕ) where
         record {
           line = taken ∙ used.line;
           origin = subst (λ (line : List (List ℕ)). IfSome (get_or column q None) (λ one. given blocks directive one.origin ≡ line)) (sym taken) used.origin;
+          gives = used.gives;
         }
 
 -- ---- what blocks give themselves
@@ -153,13 +167,14 @@ stays-given blocks directive column along is has = record {
         ∙ append-nil (option_to_list (own blocks directive place))
         ∙ own-line blocks directive place (own blocks directive place) (get_or column place None) (has.each place);
     origin = own-origin blocks directive place (get_or column place None) (has.each place).origin;
+    gives = own-given blocks directive place (get_or column place None) (has.each place);
   };
 }
 
 -- what is kept of a block to which nothing is given
 none-kept : (blocks : List Block) (directive : List ℕ) (place : ℕ) (kept : Option Given) → given blocks directive place ≡ [] → kept ≡ None → IsGivenAt blocks directive place kept
 none-kept blocks directive place kept none is =
-    subst (λ (found : Option Given). IsGivenAt blocks directive place found) (sym is) (record { line = none; origin = tt })
+    subst (λ (found : Option Given). IsGivenAt blocks directive place found) (sym is) (record { line = none; origin = tt; gives = tt })
 
 -- a directive that no block gives
 pub nothing-given : (blocks : List Block) (directive : List ℕ) (column : List (Option Given)) → column ≡ [] → ((place : ℕ) → own blocks directive place ≡ None) → HasGiven blocks directive column
@@ -239,6 +254,29 @@ pub past-none : (blocks : List Block) (directive : List ℕ) (column : List (Opt
 past-none blocks directive column has =
     (has.each (length column)).line ∙ ap (line_of blocks directive) (get_or_past column (length column) None (omega arith))
 
+-- a block to which nothing is given gives nothing itself
+pub none-given : (blocks : List Block) (directive : List ℕ) (place : ℕ) → given blocks directive place ≡ [] → own blocks directive place ≡ None
+none-given blocks directive place none = by_own (own blocks directive place) refl
+  where
+    by_own : (found : Option (List ℕ)) → own blocks directive place ≡ found → found ≡ None
+    by_own None is = refl
+    by_own (Some text) is =
+        let front = own-first blocks directive place text is in
+        let more : length (text ∷ front.0) ≡ 0 = ap (λ (line : List (List ℕ)). length line) (sym front.1 ∙ none) in
+        absurd (omega (arith, more))
+
+-- the block that what is kept comes from gives itself the value of the block at the place
+pub origin-gives : (blocks : List Block) (directive : List ℕ) (place : ℕ) (kept : Option Given) → IsGivenAt blocks directive place kept
+    → IfSome kept (λ one. own blocks directive one.origin ≡ value blocks directive place)
+origin-gives blocks directive place None is = tt
+origin-gives blocks directive place (Some kept) is = is.gives ∙ sym (ap (λ (line : List (List ℕ)). slice_get line 0) is.line)
+
+-- where nothing is kept, a block to which nothing is given gives it too
+pub none-gives : (blocks : List Block) (directive : List ℕ) (place origin : ℕ) (kept : Option Given) → IsGivenAt blocks directive place kept → kept ≡ None
+    → given blocks directive origin ≡ [] → own blocks directive origin ≡ value blocks directive place
+none-gives blocks directive place origin kept is none past =
+    none-given blocks directive origin past ∙ sym (ap (λ (line : List (List ℕ)). slice_get line 0) (is.line ∙ ap (line_of blocks directive) none))
+
 -- ---- lists
 
 pub texts-reverse : (xs : List (Bor (List ℕ))) → texts (reverse xs) ≡ reverse (texts xs)
@@ -247,7 +285,7 @@ texts-reverse (x ∷ xs) =
     ap texts (reverse-append (x ∷ []) xs) ∙ map-append (λ text. text.now) (reverse xs) (x ∷ [])
     ∙ ap (λ front. front ++ x.now ∷ []) (texts-reverse xs) ∙ sym (reverse-append (x.now ∷ []) (texts xs))
 
-joined-beside : (additive : Bool) (line : List (List ℕ)) → joined_entries (cond additive line []) ≡ cond additive (joined_entries line) []
+pub joined-beside : (additive : Bool) (line : List (List ℕ)) → joined_entries (cond additive line []) ≡ cond additive (joined_entries line) []
 joined-beside true line = refl
 joined-beside false line = refl
 

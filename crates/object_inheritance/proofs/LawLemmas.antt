@@ -20,7 +20,8 @@ given-front all (block ∷ blocks) directive place text same gives = (
   ap (λ (found : Option (List ℕ)). option_to_list found ++ first_given (map (given_along (length blocks) all directive) (sources all directive place))) gives,
 )
 
-own-first : (blocks : List Block) (directive : List ℕ) (place : ℕ) (text : List ℕ) → own blocks directive place ≡ Some text
+-- what a block gives itself is the first that is given
+pub own-first : (blocks : List Block) (directive : List ℕ) (place : ℕ) (text : List ℕ) → own blocks directive place ≡ Some text
     → (others : List (List ℕ)) × (given blocks directive place ≡ text ∷ others)
 unfolding given
 own-first blocks directive place text gives = given-front blocks blocks directive place text refl gives

@@ -5,3 +5,4 @@ mod InheritedLemmas
 mod GiverLemmas
 mod ColumnLemmas
 mod LawLemmas
+mod EntryLemmas

@@ -24,12 +24,15 @@ line_of blocks directive None = []
 line_of blocks directive (Some kept) =
     text_at blocks kept.origin kept.number ∷ given_from blocks directive kept.further
 
--- what is kept is what is given to the block at the place, and to the one that it comes from
+-- what is kept is what is given to the block at the place, and to the one that it comes from, which gives the
+-- nearest text itself
 pub record IsGivenAt (blocks : List Block) (directive : List ℕ) (place : ℕ)
     (kept : Option Given) : Type 0 where
   pub line : given blocks directive place ≡ line_of blocks directive kept
   pub origin :
       IfSome kept (λ one. given blocks directive one.origin ≡ given blocks directive place)
+  pub gives : IfSome kept (λ one.
+      own blocks directive one.origin ≡ Some (text_at blocks one.origin one.number))
 
 -- what is kept is what the block at the place gives itself, and nothing beside it
 pub record IsOwn (blocks : List Block) (place : ℕ) (gives : Option (List ℕ))

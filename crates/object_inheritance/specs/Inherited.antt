@@ -1,11 +1,12 @@
 -- What each block has for a directive (chapter "Object Inheritance").
-use Rattle.std.specs.Prelude.{◌≡◌, ℕ, zero, suc, ◌≤◌, Bool, false, ◌==◌, List, [], ◌∷◌, ◌++◌, length, map, drop, Option, None, Some, codes, slice_get, slice_index_or, if◌then◌else◌}
+use Rattle.std.specs.Prelude.{◌≡◌, ℕ, zero, suc, ◌≤◌, Bool, false, not, ◌==◌, ◌||◌, List, [], ◌∷◌, ◌++◌, length, map, drop, Option, None, Some, codes, slice_get, slice_index_or, unwrap_or, if◌then◌else◌}
 use Rattle.std.specs.List.{list_any}
 use Rattle.std.specs.Option.{option_and_then, option_map, option_to_list}
 use Rattle.std.specs.Str.{bytes_eq}
 use Rattle.object_reader.specs.declared.block.Block.{Block}
+use Rattle.object_reader.specs.Blanks.{is_blank}
 use Rattle.object_inheritance.specs.Templates.{template_graph}
-use Rattle.object_values.specs.Values.{entries, value_in}
+use Rattle.object_values.specs.Values.{entries, is_comma, value_in}
 
 -- what the block at the place gives for the directive itself
 abbrev pub own : List Block → List ℕ → ℕ → Option (List ℕ)
@@ -74,9 +75,33 @@ list_given (text ∷ texts) = Some (joined_entries (text ∷ texts))
 abbrev pub list : List Block → List ℕ → ℕ → Option (List (List ℕ))
 list blocks directive place = list_given (given blocks directive place)
 
+-- whether there is any of the entries
+abbrev pub has_any : List (List ℕ) → Bool
+has_any found = not (length found == 0)
+
+-- whether the block at the place has an entry for a directive that is a list of names
+abbrev pub has_entries : List Block → List ℕ → ℕ → Bool
+has_entries blocks directive place = has_any (unwrap_or (list blocks directive place) [])
+
+-- whether a byte is of an entry: no comma, and no blank
+abbrev pub is_of_entry : ℕ → Bool
+is_of_entry b = not (is_comma b || is_blank b)
+
 -- The name that a block has for a directive that is a name which may be empty, as that of a period.
 abbrev pub name : List Block → List ℕ → ℕ → Option (List ℕ)
 name blocks directive place = option_map name_of (value blocks directive place)
+
+-- ---- a list that is added to another
+
+-- the texts that are given beside an additive list, and none beside another
+abbrev pub beside : List (List ℕ) → List (List ℕ)
+beside [] = []
+beside (text ∷ texts) = if is_additive text then texts else []
+
+-- the entries of the nearest text alone
+abbrev pub nearest_entries : List (List ℕ) → List (List ℕ)
+nearest_entries [] = []
+nearest_entries (text ∷ texts) = own_entries text
 
 -- ---- of blocks whose templates have no fault
 

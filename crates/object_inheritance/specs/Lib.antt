@@ -7,3 +7,4 @@ pub mod Registered
 pub mod Columns
 pub mod Laws
 pub mod Kinds
+pub mod JoinedLaws

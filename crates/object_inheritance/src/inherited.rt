@@ -10,11 +10,12 @@ ghost use Rattle.object_inheritance.specs.Columns.{given_from, HasGiven, HasOwn,
 ghost use Rattle.object_inheritance.specs.Columns.{IsInherited};
 ghost use Rattle.object_inheritance.specs.Columns.{IsNext, IsOwn, line_of};
 ghost use Rattle.object_inheritance.specs.Givers.{last_at, text_at};
-ghost use Rattle.object_inheritance.specs.Inherited.{given, is_additive, joined_entries, list};
-ghost use Rattle.object_inheritance.specs.Inherited.{name, name_of};
+ghost use Rattle.object_inheritance.specs.Inherited.{beside, given, has_any, has_entries};
+ghost use Rattle.object_inheritance.specs.Inherited.{is_additive, is_of_entry, joined_entries};
+ghost use Rattle.object_inheritance.specs.Inherited.{list, name, name_of, nearest_entries, own};
 ghost use Rattle.object_inheritance.specs.Inherited.{own_entries};
 ghost use Rattle.object_inheritance.specs.Inherited.{stays, value};
-ghost use Rattle.object_values.specs.Values.{texts};
+ghost use Rattle.object_values.specs.Values.{entries, texts};
 
 use crate::givers::OwnText;
 use crate::templates::Templates;
@@ -59,6 +60,31 @@ fn own_entries<'a>(alloc: Global, text: &'a [u8]) -> Result<Vec<&'a [u8]>, Alloc
         entries(alloc, &text[1..])
     } else {
         entries(alloc, name_of(text))
+    }
+}
+
+/// Whether a byte is of an entry: it is neither a comma nor a blank.
+fn is_of_entry(byte: u8) -> bool
+    ensures { result ≡ is_of_entry byte }
+{
+    byte != b',' && byte != b' ' && byte != b'\t'
+}
+
+/// Whether a list has an entry.
+fn has_entry(list: &[u8]) -> bool
+    ensures { result ≡ has_any (entries list.now) }
+{
+    list.iter().any(|byte| is_of_entry(*byte))
+}
+
+/// Whether a list has an entry itself.
+fn has_own_entry(text: &[u8]) -> bool
+    ensures { result ≡ has_any (own_entries text.now) }
+{
+    if is_additive(text) {
+        has_entry(&text[1..])
+    } else {
+        has_entry(name_of(text))
     }
 }
 
@@ -249,8 +275,10 @@ impl<'a> Values<'a> {
     /// The place of the block that gives what the block at the place has for the directive: its own, or that of a
     /// template. Blocks that have nothing have the same.
     pub fn origin(&self, place: usize) -> usize
-        ensures { given self.now.blocks self.now.directive result
+        ensures same { given self.now.blocks self.now.directive result
             ≡ given self.now.blocks self.now.directive place }
+        ensures own { own self.now.blocks self.now.directive result
+            ≡ value self.now.blocks self.now.directive place }
     {
         match self.given(place) {
             Some(given) => given.origin as usize,
@@ -321,6 +349,51 @@ impl<'a> Values<'a> {
             return Ok(Some(own_entries(alloc, text)?));
         }
         Ok(Some(self.joined(alloc, nearest)?))
+    }
+
+    /// The place of the block that gives the list to which that of the block at the place is added; none where the
+    /// list isn't additive, or where no template gives one beside it. Less is given to that block.
+    pub fn added_to(&self, place: usize) -> Option<usize>
+        ensures beside { given_from self.now.blocks self.now.directive result
+            ≡ beside (given self.now.blocks self.now.directive place) }
+        ensures less { IfSome result (λ at. length (given self.now.blocks self.now.directive at)
+            < length (given self.now.blocks self.now.directive place)) }
+    {
+        let nearest = self.given(place)?;
+        if !is_additive(self.text(nearest)) {
+            return None;
+        }
+        match nearest.further {
+            Some(template) => Some(self.origin(template as usize)),
+            None => None,
+        }
+    }
+
+    /// The entries that the text given to the block at the place has itself, without those of the list to which it is
+    /// added; none where no text is given. A refused growth leaves nothing.
+    pub fn nearest_list(&self, alloc: Global, place: usize) -> Result<Vec<&'a [u8]>, AllocError>
+        ensures { IfOk result (λ entries. texts entries.items
+            ≡ nearest_entries (given self.now.blocks self.now.directive place)) }
+    {
+        match self.given(place) {
+            Some(nearest) => own_entries(alloc, self.text(nearest)),
+            None => Ok(Vec::new(alloc)),
+        }
+    }
+
+    /// Whether the block at the place has an entry for the directive, where it is a list of names. The time grows
+    /// with the bytes before the first entry that is found, of the texts that `list` would join. It takes no memory.
+    pub fn has_entries(&self, place: usize) -> bool
+        ensures { result ≡ has_entries self.now.blocks self.now.directive place }
+    {
+        let mut left = self.given(place);
+        while let Some(next) = left {
+            if has_own_entry(self.text(next)) {
+                return true;
+            }
+            left = self.beside(next);
+        }
+        false
     }
 }
 

@@ -162,8 +162,8 @@ impl<'a> Model for Templates<'a> {
 }
 
 impl<'a> Templates<'a> {
-    /// The templates of the blocks, or the first fault. The time grows with the bytes of the blocks, and
-    /// where there is a loop also with what each block before it reaches. A refusal leaves nothing.
+    /// The templates of the blocks, or the first fault. The time grows with the bytes of the blocks. A refusal
+    /// leaves nothing.
     pub fn new(alloc: Global, blocks: &'a [Block]) -> Result<Templates<'a>, InheritanceFault>
         ensures blocks { IfOk result (λ templates. templates ≡ blocks.now) }
         ensures free { OnOk result (AreFree blocks.now) }
