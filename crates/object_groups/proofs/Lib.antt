@@ -1,4 +1,6 @@
 mod NumberLemmas
+mod LawLemmas
+mod SharedLemmas
+mod ListLemmas
 mod NodeLemmas
 mod GroupLemmas
-mod LawLemmas

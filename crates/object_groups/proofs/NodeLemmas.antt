@@ -1,19 +1,22 @@
 -- The graph in which members are found: what its edges are, and that a chain in it leads from a group to an
 -- object exactly where the object is a member.
-use Rattle.std.proofs.Common.{◌≡◌, ℕ, zero, suc, ◌+◌, ◌<◌, ◌≤◌, Bool, true, false, cond, List, [], ◌∷◌, ◌++◌, length, map, get_or, refl, sym, subst, ◌∙◌, ◌⊎◌, inl, inr, ⊎_elim, arith}
-use Rattle.std.specs.Prelude.{Contains}
+use Rattle.std.proofs.Common.{◌≡◌, ℕ, zero, suc, ◌+◌, ◌<◌, ◌≤◌, Bool, true, false, cond, List, [], ◌∷◌, ◌++◌, length, map, get_or, Some, None, refl, sym, subst, ◌∙◌, ◌⊎◌, inl, inr, ⊎_elim, arith}
+use Rattle.std.specs.Prelude.{All, Contains}
 use Rattle.std.specs.List.{flat_map, range_with_len}
 use Rattle.std.proofs.lemmas.Bool.{cases_lt, false≢true}
 use Rattle.std.proofs.lemmas.List.{get_or_past}
-use Rattle.std.proofs.lemmas.List.Elements.{Contains-append_left, Contains-append_right, Contains-append_cases}
+use Rattle.std.proofs.lemmas.List.Elements.{All-from_get_or, Contains-append_left, Contains-append_right, Contains-append_cases, Contains-get_or}
 use Rattle.graph.specs.declared.edges.Edge.{Edge}
 use Rattle.graph.specs.Chains.{Chain, Reaches}
-use Rattle.graph.specs.Edges.{IsWithin, Leads}
+use Rattle.graph.specs.Edges.{IsWithin}
+use Rattle.object_groups.specs.declared.lists.Direction.TheVariants.{FromNames, ToNames}
+use Rattle.object_groups.specs.ListEdges.{edge, IsEdge, named, nodes_of}
 use Rattle.object_groups.specs.Members.{Grouping, Holds, Includes, IsMember}
 use Rattle.object_groups.specs.Names.{is_all, Lists, numbers_of}
-use Rattle.object_groups.specs.Nodes.{all_groups, all_objects, edge, edges_in, group_edges, group_node, IsGraphOf, node_count, nodes_of, object_edges, of_all_groups}
+use Rattle.object_groups.specs.Nodes.{all_groups, all_objects, edges_in, end_edges, group_ends, group_node, member_edges, node_count, of_all_groups, own_edges, subgroup_edges}
 use Rattle.object_groups.specs.ObjectLaws.{listed-within, numbers-within}
 use Rattle.object_groups.specs.NodeLaws.{edge-from, edge-to}
+use Rattle.object_groups.specs.ReachLaws.{list-edge, of-list}
 use Rattle.lemmas.proofs.Elements.{Contains-cases, Contains-flat_map, Contains-from_flat_map, Contains-from_map, Contains-from_range, Contains-here, Contains-later, Contains-map, Contains-none, Contains-range}
 use Rattle.lemmas.proofs.Chains.{Reaches-join}
 
@@ -22,7 +25,7 @@ use Rattle.lemmas.proofs.Chains.{Reaches-join}
 -- a list names one: by the node of all, or by its own
 abbrev ToNode : (names entries : List (List ℕ)) (first all k : ℕ) → Type 0
 ToNode names entries first all k =
-    Contains (nodes_of names entries first all) all ⊎ Contains (nodes_of names entries first all) (first + k)
+    Contains (nodes_of names entries first (Some all)) all ⊎ Contains (nodes_of names entries first (Some all)) (first + k)
 
 to_node : (names entries : List (List ℕ)) (first all k : ℕ) → Lists names entries k → ToNode names entries first all k
 to_node names entries first all k lists = by_all (is_all entries) refl lists
@@ -37,11 +40,11 @@ abbrev FromNode : (names entries : List (List ℕ)) (first all node : ℕ) → T
 FromNode names entries first all node = ((node ≡ all) × (is_all entries ≡ true))
     ⊎ ((k : ℕ) × (k < length names) × (node ≡ first + k) × Contains (numbers_of names entries) k)
 
-from_node : (names entries : List (List ℕ)) (first all node : ℕ) → Contains (nodes_of names entries first all) node → FromNode names entries first all node
+from_node : (names entries : List (List ℕ)) (first all node : ℕ) → Contains (nodes_of names entries first (Some all)) node → FromNode names entries first all node
 from_node names entries first all node at = by_all (is_all entries) refl
   where
-    given : (b : Bool) → is_all entries ≡ b → Contains (cond b (all ∷ []) (map (λ number. first + number) (numbers_of names entries))) node
-    given b is = subst (λ c. Contains (cond c (all ∷ []) (map (λ number. first + number) (numbers_of names entries))) node) is at
+    given : (b : Bool) → is_all entries ≡ b → Contains (named names entries first (cond b (Some all) None)) node
+    given b is = subst (λ c. Contains (named names entries first (cond c (Some all) None)) node) is at
 
     by_all : (b : Bool) → is_all entries ≡ b → FromNode names entries first all node
     by_all true is = ⊎_elim
@@ -69,83 +72,93 @@ Link g from to = ((p : ℕ) × (p < length g.groups) × (from ≡ group_node g.o
     ⊎ (((p : ℕ) × (p < length g.groups) × (from ≡ all_groups g.objects g.groups) × (to ≡ group_node g.objects p))
     ⊎ ((k : ℕ) × (k < length g.objects) × (to ≡ k) × ToObject g k from))
 
-link_group : (g : Grouping) (p from to : ℕ) → p < length g.groups → Contains (group_edges g p) (edge from to) → Link g from to
-link_group g p from to low at =
-    let here = group_node g.objects p in
-    let members = nodes_of g.objects (get_or g.members p []) 0 (all_objects g.objects g.groups) in
-    let subgroups = nodes_of g.groups (get_or g.subgroups p []) (length g.objects) (all_groups g.objects g.groups) in
-    let last = edge here (of_all_groups g.objects g.groups) in
-    let back = edge (all_groups g.objects g.groups) here in
-    ⊎_elim
-    (λ (lists : Contains (map (edge here) members ++ map (edge here) subgroups) (edge from to)). ⊎_elim
-    (λ (first : Contains (map (edge here) members) (edge from to)).
-    let on = Contains-from_map (edge here) members (edge from to) first in
-    inl (
-      p,
-      low,
-      edge-from here on.0 from to on.2,
-      inl (subst (λ node. FromNode g.objects (get_or g.members p []) 0 (all_objects g.objects g.groups) node) (sym (edge-to here on.0 from to on.2))
-          (from_node g.objects (get_or g.members p []) 0 (all_objects g.objects g.groups) on.0 on.1)),
-    ))
-    (λ (second : Contains (map (edge here) subgroups) (edge from to)).
-    let on = Contains-from_map (edge here) subgroups (edge from to) second in
-    inl (
-      p,
-      low,
-      edge-from here on.0 from to on.2,
-      inr (inl (subst (λ node. FromNode g.groups (get_or g.subgroups p []) (length g.objects) (all_groups g.objects g.groups) node) (sym (edge-to here on.0 from to on.2))
-          (from_node g.groups (get_or g.subgroups p []) (length g.objects) (all_groups g.objects g.groups) on.0 on.1))),
-    ))
-    (Contains-append_cases (map (edge here) members) (map (edge here) subgroups) (edge from to) lists))
-    (λ (end : Contains (last ∷ back ∷ []) (edge from to)). ⊎_elim
-    (λ (is : last ≡ edge from to). inl (p, low, edge-from here (of_all_groups g.objects g.groups) from to is, inr (inr (edge-to here (of_all_groups g.objects g.groups) from to is))))
-    (λ (other : Contains (back ∷ []) (edge from to)). ⊎_elim
-    (λ (is : back ≡ edge from to). inr (inl (p, low, edge-from (all_groups g.objects g.groups) here from to is, edge-to (all_groups g.objects g.groups) here from to is)))
-    (λ (none : Contains [] (edge from to)). absurd (Contains-none (edge from to) none))
-    (Contains-cases back (edge from to) [] other))
-    (Contains-cases last (edge from to) (back ∷ []) end))
-    (Contains-append_cases (map (edge here) members ++ map (edge here) subgroups) (last ∷ back ∷ []) (edge from to) at)
+-- the nodes that an object's list of groups names, and that a group's lists name
+abbrev own_nodes : Grouping → ℕ → List ℕ
+own_nodes g k = nodes_of g.groups (get_or g.own_groups k []) (length g.objects) (Some (of_all_groups g.objects g.groups))
 
-link_object : (g : Grouping) (k from to : ℕ) → k < length g.objects → Contains (object_edges g k) (edge from to) → Link g from to
-link_object g k from to low at =
-    let own = nodes_of g.groups (get_or g.own_groups k []) (length g.objects) (of_all_groups g.objects g.groups) in
-    let all = edge (all_objects g.objects g.groups) k in
-    ⊎_elim
-    (λ (first : Contains (map (λ node. edge node k) own) (edge from to)).
-    let on = Contains-from_map (λ node. edge node k) own (edge from to) first in
-    inr (inr (
-      k,
-      low,
-      edge-to on.0 k from to on.2,
-      inl (subst (λ node. FromNode g.groups (get_or g.own_groups k []) (length g.objects) (of_all_groups g.objects g.groups) node) (sym (edge-from on.0 k from to on.2))
-          (from_node g.groups (get_or g.own_groups k []) (length g.objects) (of_all_groups g.objects g.groups) on.0 on.1)),
-    )))
-    (λ (rest : Contains (all ∷ []) (edge from to)). ⊎_elim
-    (λ (is : all ≡ edge from to). inr (inr (k, low, edge-to (all_objects g.objects g.groups) k from to is, inr (edge-from (all_objects g.objects g.groups) k from to is))))
-    (λ (none : Contains [] (edge from to)). absurd (Contains-none (edge from to) none))
-    (Contains-cases all (edge from to) [] rest))
-    (Contains-append_cases (map (λ node. edge node k) own) (all ∷ []) (edge from to) at)
+abbrev member_nodes : Grouping → ℕ → List ℕ
+member_nodes g p = nodes_of g.objects (get_or g.members p []) 0 (Some (all_objects g.objects g.groups))
 
-link : (g : Grouping) (from to : ℕ) → Contains (edges_in g) (edge from to) → Link g from to
+abbrev subgroup_nodes : Grouping → ℕ → List ℕ
+subgroup_nodes g p = nodes_of g.groups (get_or g.subgroups p []) (length g.objects) (Some (all_groups g.objects g.groups))
+
+-- the edges from the node of all objects
+abbrev object_ends : Grouping → List Edge
+object_ends g = map (edge (all_objects g.objects g.groups)) (range_with_len 0 (length g.objects))
+
+abbrev all_group_ends : Grouping → List Edge
+all_group_ends g = flat_map (group_ends g.objects g.groups) (range_with_len 0 (length g.groups))
+
+link_ends : (g : Grouping) (from to : ℕ) → IsEdge (end_edges g.objects g.groups) from to → Link g from to
+link_ends g from to at = ⊎_elim
+    (λ (group : IsEdge (all_group_ends g) from to).
+    let on = Contains-from_flat_map (group_ends g.objects g.groups) (range_with_len 0 (length g.groups)) (edge from to) group in
+    by_group on.0 (Contains-from_range (length g.groups) on.0 on.1) on.2)
+    (λ (object : IsEdge (object_ends g) from to).
+    let on = Contains-from_map (edge (all_objects g.objects g.groups)) (range_with_len 0 (length g.objects)) (edge from to) object in
+    inr (inr (on.0, Contains-from_range (length g.objects) on.0 on.1, edge-to (all_objects g.objects g.groups) on.0 from to on.2, inr (edge-from (all_objects g.objects g.groups) on.0 from to on.2))))
+    (Contains-append_cases (all_group_ends g) (object_ends g) (edge from to) at)
+  where
+    by_group : (p : ℕ) → p < length g.groups → Contains (group_ends g.objects g.groups p) (edge from to) → Link g from to
+    by_group p low end =
+        let here = group_node g.objects p in
+        let last = edge here (of_all_groups g.objects g.groups) in
+        let back = edge (all_groups g.objects g.groups) here in
+        ⊎_elim
+        (λ (is : last ≡ edge from to). inl (p, low, edge-from here (of_all_groups g.objects g.groups) from to is, inr (inr (edge-to here (of_all_groups g.objects g.groups) from to is))))
+        (λ (other : Contains (back ∷ []) (edge from to)). ⊎_elim
+        (λ (is : back ≡ edge from to). inr (inl (p, low, edge-from (all_groups g.objects g.groups) here from to is, edge-to (all_groups g.objects g.groups) here from to is)))
+        (λ (none : Contains [] (edge from to)). absurd (Contains-none (edge from to) none))
+        (Contains-cases back (edge from to) [] other))
+        (Contains-cases last (edge from to) (back ∷ []) end)
+
+link_own : (g : Grouping) (from to : ℕ) → IsEdge (own_edges g) from to → Link g from to
+link_own g from to at =
+    let on = list-edge FromNames 0 (length g.objects) (own_nodes g) from to at in
+    let is = on.2 in
+    inr (inr (on.0, on.1, omega (arith, is), inl (from_node g.groups (get_or g.own_groups on.0 []) (length g.objects) (of_all_groups g.objects g.groups) from on.3)))
+
+link_member : (g : Grouping) (from to : ℕ) → IsEdge (member_edges g) from to → Link g from to
+link_member g from to at =
+    let on = list-edge ToNames (length g.objects) (length g.groups) (member_nodes g) from to at in
+    inl (on.0, on.1, on.2, inl (from_node g.objects (get_or g.members on.0 []) 0 (all_objects g.objects g.groups) to on.3))
+
+link_subgroup : (g : Grouping) (from to : ℕ) → IsEdge (subgroup_edges g) from to → Link g from to
+link_subgroup g from to at =
+    let on = list-edge ToNames (length g.objects) (length g.groups) (subgroup_nodes g) from to at in
+    inl (on.0, on.1, on.2, inr (inl (from_node g.groups (get_or g.subgroups on.0 []) (length g.objects) (all_groups g.objects g.groups) to on.3)))
+
+link : (g : Grouping) (from to : ℕ) → IsEdge (edges_in g) from to → Link g from to
 unfolding edges_in
 link g from to at = ⊎_elim
-    (λ (first : Contains (flat_map (group_edges g) (range_with_len 0 (length g.groups))) (edge from to)).
-    let on = Contains-from_flat_map (group_edges g) (range_with_len 0 (length g.groups)) (edge from to) first in
-    link_group g on.0 from to (Contains-from_range (length g.groups) on.0 on.1) on.2)
-    (λ (second : Contains (flat_map (object_edges g) (range_with_len 0 (length g.objects))) (edge from to)).
-    let on = Contains-from_flat_map (object_edges g) (range_with_len 0 (length g.objects)) (edge from to) second in
-    link_object g on.0 from to (Contains-from_range (length g.objects) on.0 on.1) on.2)
-    (Contains-append_cases (flat_map (group_edges g) (range_with_len 0 (length g.groups))) (flat_map (object_edges g) (range_with_len 0 (length g.objects))) (edge from to) at)
+    (λ (three : IsEdge (end_edges g.objects g.groups ++ own_edges g ++ member_edges g) from to). ⊎_elim
+    (λ (two : IsEdge (end_edges g.objects g.groups ++ own_edges g) from to). ⊎_elim
+    (λ (one : IsEdge (end_edges g.objects g.groups) from to). link_ends g from to one)
+    (λ (own : IsEdge (own_edges g) from to). link_own g from to own)
+    (Contains-append_cases (end_edges g.objects g.groups) (own_edges g) (edge from to) two))
+    (λ (member : IsEdge (member_edges g) from to). link_member g from to member)
+    (Contains-append_cases (end_edges g.objects g.groups ++ own_edges g) (member_edges g) (edge from to) three))
+    (λ (subgroup : IsEdge (subgroup_edges g) from to). link_subgroup g from to subgroup)
+    (Contains-append_cases (end_edges g.objects g.groups ++ own_edges g ++ member_edges g) (subgroup_edges g) (edge from to) at)
 
-of_group : (g : Grouping) (p : ℕ) (e : Edge) → p < length g.groups → Contains (group_edges g p) e → Contains (edges_in g) e
+of_ends : (g : Grouping) (e : Edge) → Contains (end_edges g.objects g.groups) e → Contains (edges_in g) e
 unfolding edges_in
-of_group g p e low at = Contains-append_left (flat_map (group_edges g) (range_with_len 0 (length g.groups))) (flat_map (object_edges g) (range_with_len 0 (length g.objects))) e
-    (Contains-flat_map (group_edges g) (range_with_len 0 (length g.groups)) p e (Contains-range (length g.groups) p low) at)
+of_ends g e at = Contains-append_left (end_edges g.objects g.groups ++ own_edges g ++ member_edges g) (subgroup_edges g) e
+    (Contains-append_left (end_edges g.objects g.groups ++ own_edges g) (member_edges g) e (Contains-append_left (end_edges g.objects g.groups) (own_edges g) e at))
 
-of_object : (g : Grouping) (k : ℕ) (e : Edge) → k < length g.objects → Contains (object_edges g k) e → Contains (edges_in g) e
+of_own : (g : Grouping) (e : Edge) → Contains (own_edges g) e → Contains (edges_in g) e
 unfolding edges_in
-of_object g k e low at = Contains-append_right (flat_map (group_edges g) (range_with_len 0 (length g.groups))) (flat_map (object_edges g) (range_with_len 0 (length g.objects))) e
-    (Contains-flat_map (object_edges g) (range_with_len 0 (length g.objects)) k e (Contains-range (length g.objects) k low) at)
+of_own g e at = Contains-append_left (end_edges g.objects g.groups ++ own_edges g ++ member_edges g) (subgroup_edges g) e
+    (Contains-append_left (end_edges g.objects g.groups ++ own_edges g) (member_edges g) e (Contains-append_right (end_edges g.objects g.groups) (own_edges g) e at))
+
+of_members : (g : Grouping) (e : Edge) → Contains (member_edges g) e → Contains (edges_in g) e
+unfolding edges_in
+of_members g e at = Contains-append_left (end_edges g.objects g.groups ++ own_edges g ++ member_edges g) (subgroup_edges g) e
+    (Contains-append_right (end_edges g.objects g.groups ++ own_edges g) (member_edges g) e at)
+
+of_subgroups : (g : Grouping) (e : Edge) → Contains (subgroup_edges g) e → Contains (edges_in g) e
+unfolding edges_in
+of_subgroups g e at = Contains-append_right (end_edges g.objects g.groups ++ own_edges g ++ member_edges g) (subgroup_edges g) e at
 
 -- ---- every end is a node
 
@@ -154,7 +167,7 @@ node-within : (g : Grouping) (names entries : List (List ℕ)) (first all node :
 node-within g names entries first all node low few (inl every) = omega (arith, low, every.0)
 node-within g names entries first all node low few (inr named) = omega (arith, few, named.1, named.2)
 
-pub edge-within : (g : Grouping) (e : Edge) → Contains (edges_in g) e → IsWithin (node_count g.objects g.groups) e
+edge-within : (g : Grouping) (e : Edge) → Contains (edges_in g) e → IsWithin (node_count g.objects g.groups) e
 edge-within g e at = by_link (link g e.from e.to at)
   where
     by_link : Link g e.from e.to → IsWithin (node_count g.objects g.groups) e
@@ -164,6 +177,22 @@ edge-within g e at = by_link (link g e.from e.to at)
     by_link (inr (inl (p, low, is, to))) = record { from = omega (arith, is); to = omega (arith, low, to) }
     by_link (inr (inr (k, low, is, inl own))) = record { from = node-within g _ _ _ _ e.from (omega arith) (omega arith) own; to = omega (arith, low, is) }
     by_link (inr (inr (k, low, is, inr all))) = record { from = omega (arith, all); to = omega (arith, low, is) }
+
+all-within : (g : Grouping) (edges : List Edge) → ((e : Edge) → Contains edges e → Contains (edges_in g) e) → All (IsWithin (node_count g.objects g.groups)) edges
+all-within g edges among = All-from_get_or (IsWithin (node_count g.objects g.groups)) edges (edge 0 0)
+    (λ i low. edge-within g (get_or edges i (edge 0 0)) (among (get_or edges i (edge 0 0)) (Contains-get_or edges i (edge 0 0) low)))
+
+pub ends-within : (g : Grouping) → All (IsWithin (node_count g.objects g.groups)) (end_edges g.objects g.groups)
+ends-within g = all-within g (end_edges g.objects g.groups) (of_ends g)
+
+pub own-edges-within : (g : Grouping) → All (IsWithin (node_count g.objects g.groups)) (own_edges g)
+own-edges-within g = all-within g (own_edges g) (of_own g)
+
+pub members-within : (g : Grouping) → All (IsWithin (node_count g.objects g.groups)) (member_edges g)
+members-within g = all-within g (member_edges g) (of_members g)
+
+pub subgroups-within : (g : Grouping) → All (IsWithin (node_count g.objects g.groups)) (subgroup_edges g)
+subgroups-within g = all-within g (subgroup_edges g) (of_subgroups g)
 
 -- ---- from chains to members
 
@@ -242,80 +271,64 @@ module _ (g : Grouping) (object : ℕ) (there : object < length g.objects) where
       means_group from q few at (member_held q (inr (inr (subst (λ number. Contains (numbers_of g.groups (get_or g.own_groups number [])) q) same named))))
   means_step from to (inr (inr (k, low, is, inr all))) means = means_all_objects from all
 
-  module _ (graph : List (List ℕ)) (has : IsGraphOf g graph) where
-    means_chain : (steps node : ℕ) → Chain (Leads graph) steps node object → Means node
-    means_chain zero node chain = subst Means (sym chain) means_itself
-    means_chain (suc steps) node (middle, leads, chain) = means_step node middle (link g node middle ((has.leads node middle).0 leads)) (means_chain steps middle chain)
+  means_chain : (steps node : ℕ) → Chain (IsEdge (edges_in g)) steps node object → Means node
+  means_chain zero node chain = subst Means (sym chain) means_itself
+  means_chain (suc steps) node (middle, leads, chain) = means_step node middle (link g node middle leads) (means_chain steps middle chain)
 
-    pub member-from_reached : (p : ℕ) → p < length g.groups → Reaches (Leads graph) (group_node g.objects p) object → IsMember g p object
-    member-from_reached p low reaches = (means_chain reaches.0 (group_node g.objects p) reaches.1).at_group p low refl
+  pub member-from_reached : (p : ℕ) → p < length g.groups → Reaches (IsEdge (edges_in g)) (group_node g.objects p) object → IsMember g p object
+  member-from_reached p low reaches = (means_chain reaches.0 (group_node g.objects p) reaches.1).at_group p low refl
 
 -- ---- from members to chains
 
-module _ (g : Grouping) (graph : List (List ℕ)) (has : IsGraphOf g graph) where
-  led : (from to : ℕ) → Contains (edges_in g) (edge from to) → Reaches (Leads graph) from to
-  led from to at = (1, (to, (has.leads from to).1 at, refl))
+module _ (g : Grouping) where
+  led : (from to : ℕ) → IsEdge (edges_in g) from to → Reaches (IsEdge (edges_in g)) from to
+  led from to at = (1, (to, at, refl))
 
-  abbrev members_of : ℕ → List Edge
-  members_of p = map (edge (group_node g.objects p)) (nodes_of g.objects (get_or g.members p []) 0 (all_objects g.objects g.groups))
+  from_members : (p to : ℕ) → p < length g.groups → Contains (member_nodes g p) to → Reaches (IsEdge (edges_in g)) (group_node g.objects p) to
+  from_members p to low at = led (group_node g.objects p) to (of_members g (edge (group_node g.objects p) to) (of-list ToNames (length g.objects) (length g.groups) (member_nodes g) p to low at))
 
-  abbrev subgroups_of : ℕ → List Edge
-  subgroups_of p = map (edge (group_node g.objects p)) (nodes_of g.groups (get_or g.subgroups p []) (length g.objects) (all_groups g.objects g.groups))
+  from_subgroups : (p to : ℕ) → p < length g.groups → Contains (subgroup_nodes g p) to → Reaches (IsEdge (edges_in g)) (group_node g.objects p) to
+  from_subgroups p to low at = led (group_node g.objects p) to (of_subgroups g (edge (group_node g.objects p) to) (of-list ToNames (length g.objects) (length g.groups) (subgroup_nodes g) p to low at))
+
+  of_group_ends : (p : ℕ) (e : Edge) → p < length g.groups → Contains (group_ends g.objects g.groups p) e → Contains (edges_in g) e
+  of_group_ends p e low at = of_ends g e (Contains-append_left (all_group_ends g) (object_ends g) e
+      (Contains-flat_map (group_ends g.objects g.groups) (range_with_len 0 (length g.groups)) p e (Contains-range (length g.groups) p low) at))
 
   abbrev last_of : ℕ → List Edge
   last_of p = edge (all_groups g.objects g.groups) (group_node g.objects p) ∷ []
 
-  abbrev own_of : ℕ → List Edge
-  own_of k = map (λ node. edge node k) (nodes_of g.groups (get_or g.own_groups k []) (length g.objects) (of_all_groups g.objects g.groups))
+  from_each : (p : ℕ) → p < length g.groups → Reaches (IsEdge (edges_in g)) (group_node g.objects p) (of_all_groups g.objects g.groups)
+  from_each p low = led (group_node g.objects p) (of_all_groups g.objects g.groups)
+      (of_group_ends p (edge (group_node g.objects p) (of_all_groups g.objects g.groups)) low (Contains-here (edge (group_node g.objects p) (of_all_groups g.objects g.groups)) (last_of p)))
 
-  from_members : (p to : ℕ) → p < length g.groups → Contains (nodes_of g.objects (get_or g.members p []) 0 (all_objects g.objects g.groups)) to
-      → Reaches (Leads graph) (group_node g.objects p) to
-  from_members p to low at = led (group_node g.objects p) to (of_group g p (edge (group_node g.objects p) to) low
-      (Contains-append_left (members_of p ++ subgroups_of p) (edge (group_node g.objects p) (of_all_groups g.objects g.groups) ∷ last_of p) (edge (group_node g.objects p) to)
-      (Contains-append_left (members_of p) (subgroups_of p) (edge (group_node g.objects p) to)
-      (Contains-map (edge (group_node g.objects p)) (nodes_of g.objects (get_or g.members p []) 0 (all_objects g.objects g.groups)) to at))))
-
-  from_subgroups : (p to : ℕ) → p < length g.groups → Contains (nodes_of g.groups (get_or g.subgroups p []) (length g.objects) (all_groups g.objects g.groups)) to
-      → Reaches (Leads graph) (group_node g.objects p) to
-  from_subgroups p to low at = led (group_node g.objects p) to (of_group g p (edge (group_node g.objects p) to) low
-      (Contains-append_left (members_of p ++ subgroups_of p) (edge (group_node g.objects p) (of_all_groups g.objects g.groups) ∷ last_of p) (edge (group_node g.objects p) to)
-      (Contains-append_right (members_of p) (subgroups_of p) (edge (group_node g.objects p) to)
-      (Contains-map (edge (group_node g.objects p)) (nodes_of g.groups (get_or g.subgroups p []) (length g.objects) (all_groups g.objects g.groups)) to at))))
-
-  from_each : (p : ℕ) → p < length g.groups → Reaches (Leads graph) (group_node g.objects p) (of_all_groups g.objects g.groups)
-  from_each p low = led (group_node g.objects p) (of_all_groups g.objects g.groups) (of_group g p (edge (group_node g.objects p) (of_all_groups g.objects g.groups)) low
-      (Contains-append_right (members_of p ++ subgroups_of p) (edge (group_node g.objects p) (of_all_groups g.objects g.groups) ∷ last_of p) (edge (group_node g.objects p) (of_all_groups g.objects g.groups))
-      (Contains-here (edge (group_node g.objects p) (of_all_groups g.objects g.groups)) (last_of p))))
-
-  to_each : (p : ℕ) → p < length g.groups → Reaches (Leads graph) (all_groups g.objects g.groups) (group_node g.objects p)
-  to_each p low = led (all_groups g.objects g.groups) (group_node g.objects p) (of_group g p (edge (all_groups g.objects g.groups) (group_node g.objects p)) low
-      (Contains-append_right (members_of p ++ subgroups_of p) (edge (group_node g.objects p) (of_all_groups g.objects g.groups) ∷ last_of p) (edge (all_groups g.objects g.groups) (group_node g.objects p))
+  to_each : (p : ℕ) → p < length g.groups → Reaches (IsEdge (edges_in g)) (all_groups g.objects g.groups) (group_node g.objects p)
+  to_each p low = led (all_groups g.objects g.groups) (group_node g.objects p)
+      (of_group_ends p (edge (all_groups g.objects g.groups) (group_node g.objects p)) low
       (Contains-later (edge (group_node g.objects p) (of_all_groups g.objects g.groups)) (edge (all_groups g.objects g.groups) (group_node g.objects p)) (last_of p)
-      (Contains-here (edge (all_groups g.objects g.groups) (group_node g.objects p)) []))))
+      (Contains-here (edge (all_groups g.objects g.groups) (group_node g.objects p)) [])))
 
-  from_own : (k from : ℕ) → k < length g.objects → Contains (nodes_of g.groups (get_or g.own_groups k []) (length g.objects) (of_all_groups g.objects g.groups)) from
-      → Reaches (Leads graph) from k
-  from_own k from low at = led from k (of_object g k (edge from k) low (Contains-append_left (own_of k) (edge (all_objects g.objects g.groups) k ∷ []) (edge from k)
-      (Contains-map (λ node. edge node k) (nodes_of g.groups (get_or g.own_groups k []) (length g.objects) (of_all_groups g.objects g.groups)) from at)))
+  from_own : (k from : ℕ) → k < length g.objects → Contains (own_nodes g k) from → Reaches (IsEdge (edges_in g)) from k
+  from_own k from low at =
+      let same : 0 + k ≡ k = omega arith in
+      subst (λ (to : ℕ). Reaches (IsEdge (edges_in g)) from to) same (led from (0 + k) (of_own g (edge from (0 + k)) (of-list FromNames 0 (length g.objects) (own_nodes g) k from low at)))
 
-  to_each_object : (k : ℕ) → k < length g.objects → Reaches (Leads graph) (all_objects g.objects g.groups) k
-  to_each_object k low = led (all_objects g.objects g.groups) k (of_object g k (edge (all_objects g.objects g.groups) k) low
-      (Contains-append_right (own_of k) (edge (all_objects g.objects g.groups) k ∷ []) (edge (all_objects g.objects g.groups) k)
-      (Contains-here (edge (all_objects g.objects g.groups) k) [])))
+  to_each_object : (k : ℕ) → k < length g.objects → Reaches (IsEdge (edges_in g)) (all_objects g.objects g.groups) k
+  to_each_object k low = led (all_objects g.objects g.groups) k (of_ends g (edge (all_objects g.objects g.groups) k) (Contains-append_right (all_group_ends g) (object_ends g) (edge (all_objects g.objects g.groups) k)
+      (Contains-map (edge (all_objects g.objects g.groups)) (range_with_len 0 (length g.objects)) k (Contains-range (length g.objects) k low))))
 
-  reached_group : (p q : ℕ) → p < length g.groups → Includes g p q → Reaches (Leads graph) (group_node g.objects p) (group_node g.objects q)
+  reached_group : (p q : ℕ) → p < length g.groups → Includes g p q → Reaches (IsEdge (edges_in g)) (group_node g.objects p) (group_node g.objects q)
   reached_group p q low includes = ⊎_elim
-      (λ (every : Contains (nodes_of g.groups (get_or g.subgroups p []) (length g.objects) (all_groups g.objects g.groups)) (all_groups g.objects g.groups)).
-      Reaches-join (Leads graph) _ (all_groups g.objects g.groups) _ (from_subgroups p _ low every) (to_each q (listed-within g.groups (get_or g.subgroups p []) q includes)))
-      (λ (named : Contains (nodes_of g.groups (get_or g.subgroups p []) (length g.objects) (all_groups g.objects g.groups)) (length g.objects + q)).
+      (λ (every : Contains (subgroup_nodes g p) (all_groups g.objects g.groups)).
+      Reaches-join (IsEdge (edges_in g)) _ (all_groups g.objects g.groups) _ (from_subgroups p _ low every) (to_each q (listed-within g.groups (get_or g.subgroups p []) q includes)))
+      (λ (named : Contains (subgroup_nodes g p) (length g.objects + q)).
       from_subgroups p (group_node g.objects q) low named)
       (to_node g.groups (get_or g.subgroups p []) (length g.objects) (all_groups g.objects g.groups) q includes)
 
-  reached_last : (steps p q : ℕ) → p < length g.groups → Chain (Includes g) steps p q → (q < length g.groups) × Reaches (Leads graph) (group_node g.objects p) (group_node g.objects q)
-  reached_last zero p q low chain = (omega (arith, low, chain), subst (λ r. Reaches (Leads graph) (group_node g.objects p) (group_node g.objects r)) chain (0, refl))
+  reached_last : (steps p q : ℕ) → p < length g.groups → Chain (Includes g) steps p q → (q < length g.groups) × Reaches (IsEdge (edges_in g)) (group_node g.objects p) (group_node g.objects q)
+  reached_last zero p q low chain = (omega (arith, low, chain), subst (λ r. Reaches (IsEdge (edges_in g)) (group_node g.objects p) (group_node g.objects r)) chain (0, refl))
   reached_last (suc steps) p q low (middle, includes, chain) =
       let rest = reached_last steps middle q (listed-within g.groups (get_or g.subgroups p []) middle includes) chain in
-      (rest.0, Reaches-join (Leads graph) _ (group_node g.objects middle) _ (reached_group p middle low includes) rest.1)
+      (rest.0, Reaches-join (IsEdge (edges_in g)) _ (group_node g.objects middle) _ (reached_group p middle low includes) rest.1)
 
   module _ (lists : length g.own_groups ≡ length g.objects) where
     own-within : (k q : ℕ) → Lists g.groups (get_or g.own_groups k []) q → k < length g.objects
@@ -332,21 +345,21 @@ module _ (g : Grouping) (graph : List (List ℕ)) (has : IsGraphOf g graph) wher
     held-within q k (inl lists) = listed-within g.objects (get_or g.members q []) k lists
     held-within q k (inr own) = own-within k q own
 
-    reached_object : (q k : ℕ) → q < length g.groups → Holds g q k → Reaches (Leads graph) (group_node g.objects q) k
+    reached_object : (q k : ℕ) → q < length g.groups → Holds g q k → Reaches (IsEdge (edges_in g)) (group_node g.objects q) k
     reached_object q k low (inl listed) = ⊎_elim
-        (λ (every : Contains (nodes_of g.objects (get_or g.members q []) 0 (all_objects g.objects g.groups)) (all_objects g.objects g.groups)).
-        Reaches-join (Leads graph) _ (all_objects g.objects g.groups) _ (from_members q _ low every) (to_each_object k (listed-within g.objects (get_or g.members q []) k listed)))
-        (λ (named : Contains (nodes_of g.objects (get_or g.members q []) 0 (all_objects g.objects g.groups)) (0 + k)). from_members q k low (let same : 0 + k ≡ k = omega arith in subst (λ (x : ℕ). Contains (nodes_of g.objects (get_or g.members q []) 0 (all_objects g.objects g.groups)) x) same named))
+        (λ (every : Contains (member_nodes g q) (all_objects g.objects g.groups)).
+        Reaches-join (IsEdge (edges_in g)) _ (all_objects g.objects g.groups) _ (from_members q _ low every) (to_each_object k (listed-within g.objects (get_or g.members q []) k listed)))
+        (λ (named : Contains (member_nodes g q) (0 + k)). from_members q k low (let same : 0 + k ≡ k = omega arith in subst (λ (x : ℕ). Contains (member_nodes g q) x) same named))
         (to_node g.objects (get_or g.members q []) 0 (all_objects g.objects g.groups) k listed)
     reached_object q k low (inr own) =
         let there = own-within k q own in
         ⊎_elim
-        (λ (every : Contains (nodes_of g.groups (get_or g.own_groups k []) (length g.objects) (of_all_groups g.objects g.groups)) (of_all_groups g.objects g.groups)).
-        Reaches-join (Leads graph) _ (of_all_groups g.objects g.groups) _ (from_each q low) (from_own k _ there every))
-        (λ (named : Contains (nodes_of g.groups (get_or g.own_groups k []) (length g.objects) (of_all_groups g.objects g.groups)) (length g.objects + q)). from_own k (group_node g.objects q) there named)
+        (λ (every : Contains (own_nodes g k) (of_all_groups g.objects g.groups)).
+        Reaches-join (IsEdge (edges_in g)) _ (of_all_groups g.objects g.groups) _ (from_each q low) (from_own k _ there every))
+        (λ (named : Contains (own_nodes g k) (length g.objects + q)). from_own k (group_node g.objects q) there named)
         (to_node g.groups (get_or g.own_groups k []) (length g.objects) (of_all_groups g.objects g.groups) q own)
 
-    pub reached-from_member : (p k : ℕ) → p < length g.groups → IsMember g p k → (k < length g.objects) × Reaches (Leads graph) (group_node g.objects p) k
+    pub reached-from_member : (p k : ℕ) → p < length g.groups → IsMember g p k → (k < length g.objects) × Reaches (IsEdge (edges_in g)) (group_node g.objects p) k
     reached-from_member p k low (last, (steps, chain), holds) =
         let on = reached_last steps p last low chain in
-        (held-within last k holds, Reaches-join (Leads graph) _ (group_node g.objects last) _ on.1 (reached_object last k on.0 holds))
+        (held-within last k holds, Reaches-join (IsEdge (edges_in g)) _ (group_node g.objects last) _ on.1 (reached_object last k on.0 holds))

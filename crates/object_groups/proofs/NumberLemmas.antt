@@ -13,7 +13,6 @@ use Rattle.std.proofs.lemmas.List.Elements.{filter-append, filter_map-append}
 use Rattle.lemmas.proofs.Searches.{found-one, or-none, position-snoc, texts-more}
 use Rattle.graph.specs.declared.edges.Edge.{Edge}
 use Rattle.object_groups.specs.Names.{HasNumbers, name_eq, number_of, numbers_of}
-use Rattle.object_groups.specs.Nodes.{edge}
 use Rattle.object_values.specs.Values.{texts}
 use Rattle.lemmas.proofs.Numbers.{below_more}
 
@@ -62,34 +61,20 @@ numbers-more names xs i d old new found within before is more =
     ∙ ap (λ one. numbers_of names (texts (take i xs)) ++ one) (found-one (number_of names ((get_or xs i d).now)) ∙ ap option_to_list (sym is)) in
     more ∙ ap (λ numbers. numbers ++ option_to_list found) before ∙ sym all
 
-pub nodes-more : (first : ℕ) (names : List (List ℕ)) (xs : List (Bor (List ℕ))) (i : ℕ) (d : Bor (List ℕ)) (old new : List ℕ) (found : Option ℕ) → i < length xs
-    → old ≡ map (λ number. first + number) (numbers_of names (texts (take i xs))) → found ≡ number_of names ((get_or xs i d).now)
-    → new ≡ old ++ map (λ number. first + number) (option_to_list found)
-    → new ≡ map (λ number. first + number) (numbers_of names (texts (take (i + 1) xs)))
-nodes-more first names xs i d old new found within before is more =
-    let all : numbers_of names (texts (take (i + 1) xs)) ≡ numbers_of names (texts (take i xs)) ++ option_to_list found =
-    ap (numbers_of names) (texts-more xs i d within) ∙ filter_map-append (number_of names) (texts (take i xs)) ((get_or xs i d).now ∷ [])
-    ∙ ap (λ one. numbers_of names (texts (take i xs)) ++ one) (found-one (number_of names ((get_or xs i d).now)) ∙ ap option_to_list (sym is)) in
-    more ∙ ap (λ nodes. nodes ++ map (λ number. first + number) (option_to_list found)) before
-    ∙ sym (map-append (λ number. first + number) (numbers_of names (texts (take i xs))) (option_to_list found)) ∙ ap (map (λ number. first + number)) (sym all)
-
 -- the edges of one entry more
-pub edges-to-more : (first to : ℕ) (names : List (List ℕ)) (xs : List (Bor (List ℕ))) (i : ℕ) (d : Bor (List ℕ)) (start old new : List Edge) (found : Option ℕ) → i < length xs
-    → old ≡ start ++ map (λ from. edge from to) (map (λ number. first + number) (numbers_of names (texts (take i xs)))) → found ≡ number_of names ((get_or xs i d).now)
-    → new ≡ old ++ map (λ number. edge (first + number) to) (option_to_list found)
-    → new ≡ start ++ map (λ from. edge from to) (map (λ number. first + number) (numbers_of names (texts (take (i + 1) xs))))
-edges-to-more first to names xs i d start old new found within before is more =
-    let nodes = map (λ number. first + number) (numbers_of names (texts (take i xs))) in
+pub edges-more : (f : ℕ → Edge) (first : ℕ) (names : List (List ℕ)) (xs : List (Bor (List ℕ))) (i : ℕ) (d : Bor (List ℕ)) (start old new : List Edge) (found : Option ℕ) → i < length xs
+    → old ≡ start ++ map f (map (λ number. first + number) (numbers_of names (texts (take i xs)))) → found ≡ number_of names ((get_or xs i d).now)
+    → new ≡ old ++ map f (map (λ number. first + number) (option_to_list found))
+    → new ≡ start ++ map f (map (λ number. first + number) (numbers_of names (texts (take (i + 1) xs))))
+edges-more f first names xs i d start old new found within before is more =
+    let nodes : List ℕ = map (λ number. first + number) (numbers_of names (texts (take i xs))) in
     let last : List ℕ = map (λ number. first + number) (option_to_list found) in
-    more ∙ ap (λ (edges : List Edge). edges ++ map (λ number. edge (first + number) to) (option_to_list found)) before
-    ∙ append_assoc start (map (λ from. edge from to) nodes) (map (λ number. edge (first + number) to) (option_to_list found))
-    ∙ ap (λ (edges : List Edge). start ++ (map (λ from. edge from to) nodes ++ edges)) (one found)
-    ∙ ap (λ (edges : List Edge). start ++ edges) (sym (map-append (λ from. edge from to) nodes last))
-    ∙ ap (λ (all : List ℕ). start ++ map (λ from. edge from to) all) (nodes-more first names xs i d nodes (nodes ++ last) found within refl is refl)
-  where
-    one : (f : Option ℕ) → map (λ number. edge (first + number) to) (option_to_list f) ≡ map (λ from. edge from to) (map (λ number. first + number) (option_to_list f))
-    one None = refl
-    one (Some number) = refl
+    let all : numbers_of names (texts (take i xs)) ++ option_to_list found ≡ numbers_of names (texts (take (i + 1) xs)) = numbers-more names xs i d _ _ found within refl is refl in
+    more ∙ ap (λ (edges : List Edge). edges ++ map f last) before
+    ∙ append_assoc start (map f nodes) (map f last)
+    ∙ ap (λ (edges : List Edge). start ++ edges) (sym (map-append f nodes last))
+    ∙ ap (λ (all : List ℕ). start ++ map f all) (sym (map-append (λ number. first + number) (numbers_of names (texts (take i xs))) (option_to_list found)))
+    ∙ ap (λ (numbers : List ℕ). start ++ map f (map (λ number. first + number) numbers)) all
 
 -- ---- one number more
 

@@ -8,3 +8,7 @@ pub mod ObjectLaws
 pub mod NodeLaws
 pub mod First
 pub mod FirstLaws
+pub mod Shared
+pub mod SharedLaws
+pub mod ListEdges
+pub mod ReachLaws

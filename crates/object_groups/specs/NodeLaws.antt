@@ -7,7 +7,8 @@ use Rattle.std.specs.Ordering.{nat_cmp}
 use Rattle.std.proofs.lemmas.Bool.{false≢true, lt-ltb, ltb-true}
 use Rattle.lemmas.proofs.Elements.{Contains-filter, Contains-from_filter, in_order-rising, in_order-same}
 use Rattle.graph.specs.declared.edges.Edge.{Edge}
-use Rattle.object_groups.specs.Nodes.{AreBelow, edge}
+use Rattle.object_groups.specs.ListEdges.{edge}
+use Rattle.object_groups.specs.Nodes.{AreBelow}
 
 pub edge-from : (a b from to : ℕ) → edge a b ≡ edge from to → from ≡ a
 edge-from a b from to is = sym (ap (λ (e : Edge). e.from) is)

@@ -1,13 +1,16 @@
 -- The graph in which members are found. Its nodes are the objects, then the groups, then three more: one that
 -- leads to all objects, one that leads to all groups, and one to which all groups lead and that leads to the
--- objects that name all groups. So a list that is `*` alone is one edge.
-use Rattle.std.specs.Prelude.{◌≡◌, ℕ, ◌+◌, ◌<◌, ◌↔◌, List, [], ◌∷◌, ◌++◌, length, map, Contains, slice_index_or, if◌then◌else◌}
+-- objects that name all groups. So a list that is `*` alone is one edge. After them come those of lists that several
+-- of them have: these lead to what a list names, or what it names leads to them.
+use Rattle.std.specs.Prelude.{ℕ, ◌+◌, ◌<◌, ◌≤◌, ◌↔◌, List, [], ◌∷◌, ◌++◌, length, map, Contains, Some, slice_index_or}
 use Rattle.std.specs.List.{flat_map, range_with_len}
 use Rattle.std.specs.List.Sorted.{IsStrictlyIncreasing}
 use Rattle.graph.specs.declared.edges.Edge.{Edge}
+use Rattle.graph.specs.Chains.{Reaches}
 use Rattle.graph.specs.Edges.{Leads}
+use Rattle.object_groups.specs.declared.lists.Direction.TheVariants.{FromNames, ToNames}
+use Rattle.object_groups.specs.ListEdges.{edge, IsEdge, list_edges, nodes_of}
 use Rattle.object_groups.specs.Members.{Grouping}
-use Rattle.object_groups.specs.Names.{is_all, numbers_of}
 
 -- the numbers of the nodes, where these are the names of the objects and of the groups
 abbrev pub group_node : (objects : List (List ℕ)) → ℕ → ℕ
@@ -25,49 +28,46 @@ of_all_groups objects groups = length objects + length groups + 2
 abbrev pub node_count : (objects groups : List (List ℕ)) → ℕ
 node_count objects groups = length objects + length groups + 3
 
-abbrev pub edge : (from to : ℕ) → Edge
-edge from to = record { from = from; to = to }
-
--- The nodes that a list names, where the node of the first name is `first`: `all`, where it names all.
-abbrev pub nodes_of : (names entries : List (List ℕ)) → (first all : ℕ) → List ℕ
-nodes_of names entries first all =
-    if is_all entries then all ∷ [] else map (λ number. first + number) (numbers_of names entries)
-
--- the edges of a group with these lists
-abbrev pub edges_of_group : (objects groups : List (List ℕ)) → ℕ
-    → (members subgroups : List (List ℕ)) → List Edge
-edges_of_group objects groups group members subgroups =
-    map (edge (group_node objects group)) (nodes_of objects members 0 (all_objects objects groups))
-    ++ map (edge (group_node objects group))
-    (nodes_of groups subgroups (length objects) (all_groups objects groups))
-    ++ edge (group_node objects group) (of_all_groups objects groups)
+-- the edges between a group and the nodes of all groups
+abbrev pub group_ends : (objects groups : List (List ℕ)) → ℕ → List Edge
+group_ends objects groups group =
+    edge (group_node objects group) (of_all_groups objects groups)
     ∷ edge (all_groups objects groups) (group_node objects group) ∷ []
 
--- the edges of an object with this list
-abbrev pub edges_of_object : (objects groups : List (List ℕ)) → ℕ → List (List ℕ) → List Edge
-edges_of_object objects groups object own =
-    map (λ from. edge from object)
-    (nodes_of groups own (length objects) (of_all_groups objects groups))
-    ++ edge (all_objects objects groups) object ∷ []
+-- those of all groups, and those from the node of all objects
+abbrev pub end_edges : (objects groups : List (List ℕ)) → List Edge
+end_edges objects groups =
+    flat_map (group_ends objects groups) (range_with_len 0 (length groups))
+    ++ map (edge (all_objects objects groups)) (range_with_len 0 (length objects))
 
--- the edges of the group, and of the object, of that number
-abbrev pub group_edges : Grouping → ℕ → List Edge
-group_edges g group = edges_of_group g.objects g.groups group
-    (slice_index_or g.members group []) (slice_index_or g.subgroups group [])
+-- the edges to the objects from the groups that they name
+abbrev pub own_edges : Grouping → List Edge
+own_edges g = list_edges FromNames 0 (length g.objects)
+    (λ object. nodes_of g.groups (slice_index_or g.own_groups object []) (length g.objects)
+    (Some (of_all_groups g.objects g.groups)))
 
-abbrev pub object_edges : Grouping → ℕ → List Edge
-object_edges g object =
-    edges_of_object g.objects g.groups object (slice_index_or g.own_groups object [])
+-- the edges from the groups to the objects that they list, and to the groups
+abbrev pub member_edges : Grouping → List Edge
+member_edges g = list_edges ToNames (length g.objects) (length g.groups)
+    (λ group. nodes_of g.objects (slice_index_or g.members group []) 0
+    (Some (all_objects g.objects g.groups)))
 
--- all edges
+abbrev pub subgroup_edges : Grouping → List Edge
+subgroup_edges g = list_edges ToNames (length g.objects) (length g.groups)
+    (λ group. nodes_of g.groups (slice_index_or g.subgroups group []) (length g.objects)
+    (Some (all_groups g.objects g.groups)))
+
+-- all edges, where no list is shared
 unfoldable pub edges_in : Grouping → List Edge
-edges_in g = flat_map (group_edges g) (range_with_len 0 (length g.groups))
-    ++ flat_map (object_edges g) (range_with_len 0 (length g.objects))
+edges_in g =
+    end_edges g.objects g.groups ++ own_edges g ++ member_edges g ++ subgroup_edges g
 
--- these are the nodes, and these edges lead from one to another
+-- The graph has these nodes, and among them each leads to what it would by these edges.
 pub record IsGraphOf (g : Grouping) (graph : List (List ℕ)) : Type 0 where
-  pub count : length graph ≡ node_count g.objects g.groups
-  pub leads : (from to : ℕ) → Leads graph from to ↔ Contains (edges_in g) (edge from to)
+  pub count : node_count g.objects g.groups ≤ length graph
+  pub same : (from to : ℕ) → from < node_count g.objects g.groups
+      → to < node_count g.objects g.groups
+      → Reaches (Leads graph) from to ↔ Reaches (IsEdge (edges_in g)) from to
 
 -- those of the nodes that are below the first group's, each once and in order
 pub record AreBelow (objects : ℕ) (nodes found : List ℕ) : Type 0 where

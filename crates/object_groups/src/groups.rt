@@ -1,19 +1,22 @@
 //! The groups of hosts and of contacts, and their members (chapter "Object Definitions").
 
-ghost use Rattle.std.specs.Prelude.{◌≡◌, ◌+◌, ◌<◌, ◌++◌, ◌^◌, ◌↔◌, true, length};
+ghost use Rattle.std.specs.Prelude.{◌≡◌, ◌+◌, ◌<◌, ◌≤◌, ◌++◌, ◌^◌, ◌↔◌, [], true, length, map};
 ghost use Rattle.std.specs.Prelude.{nat_lt, All, IfOk, OnOk};
 ghost use Rattle.std.specs.List.{flat_map, range_with_len};
 ghost use Rattle.std.specs.List.Sorted.{IsStrictlyIncreasing};
 ghost use Rattle.graph.specs.Edges.{IsWithin};
 ghost use Rattle.object_groups.specs.Groups.{AreNumbered, group_kind, grouping, object_kind};
 ghost use Rattle.object_groups.specs.Groups.{own_groups_directive, subgroups_directive};
+ghost use Rattle.object_groups.specs.ListEdges.{edge, LeadOver};
 ghost use Rattle.object_groups.specs.Members.{AreMembers};
-ghost use Rattle.object_groups.specs.Nodes.{AreBelow, edges_in, edges_of_group, edges_of_object};
-ghost use Rattle.object_groups.specs.Nodes.{group_edges, IsGraphOf, node_count, object_edges};
-ghost use Rattle.object_groups.specs.Objects.{list_at, names_in};
+ghost use Rattle.object_groups.specs.Nodes.{all_objects, AreBelow, edges_in, group_ends};
+ghost use Rattle.object_groups.specs.Nodes.{IsGraphOf, member_edges, node_count, own_edges};
+ghost use Rattle.object_groups.specs.Nodes.{subgroup_edges};
+ghost use Rattle.object_groups.specs.Objects.{names_in};
 
-use crate::nodes::{push_group, push_object};
-use crate::objects::{Objects, list_at};
+use crate::lists::{Direction, ListNodes, push_lists};
+use crate::names::Names;
+use crate::objects::Objects;
 use graph::edges::{Edge, Graph};
 use graph::reach::Reach;
 use object_inheritance::inherited::{Values, values_of};
@@ -83,110 +86,176 @@ fn own_groups_of<'a>(
     }
 }
 
-/// Adds the edges of the group of that number, whose block stands at the place.
-fn push_group_at<'a>(
-    alloc: Global,
+/// Adds the edges between all groups and the nodes of all groups.
+fn push_group_ends<'a>(
     edges: &mut Vec<Edge>,
-    objects: &Objects<'a>,
-    groups: &Objects<'a>,
-    members: &Values<'a>,
-    subgroups: &Values<'a>,
-    group: usize,
-    place: usize,
+    objects: &Names<'a>,
+    groups: &Names<'a>,
 ) -> Result<(), AllocError>
-    requires few { node_count (names_in objects.now.blocks objects.now.kind)
-        (names_in groups.now.blocks groups.now.kind) < 2 ^ 32 }
-    requires within { group < length (names_in groups.now.blocks groups.now.kind) }
+    requires { node_count objects.now groups.now < 2 ^ 32 }
     ensures { OnOk result (edges.new.items ≡ edges.old.items
-        ++ edges_of_group (names_in objects.now.blocks objects.now.kind)
-        (names_in groups.now.blocks groups.now.kind) group
-        (list_at members.now.blocks members.now.directive place)
-        (list_at subgroups.now.blocks subgroups.now.directive place)) }
+        ++ flat_map (group_ends objects.now groups.now) (range_with_len 0 (length groups.now))) }
 {
-    let listed = list_at(alloc, members, place)?;
-    let included = list_at(alloc, subgroups, place)?;
-    push_group(
-        alloc,
-        edges,
-        objects.names(),
-        groups.names(),
-        group,
-        listed.as_slice(),
-        included.as_slice(),
-    )
-}
-
-/// Adds the edges of all groups.
-fn push_groups<'a>(
-    alloc: Global,
-    edges: &mut Vec<Edge>,
-    templates: &Templates<'a>,
-    kind: GroupKind,
-    objects: &Objects<'a>,
-    groups: &Objects<'a>,
-) -> Result<(), AllocError>
-    requires { AreNumbered templates.now kind objects.now groups.now }
-    ensures { OnOk result (edges.new.items ≡ edges.old.items
-        ++ flat_map (group_edges (grouping templates.now kind))
-        (range_with_len 0 (length (names_in templates.now (group_kind kind))))) }
-{
-    let members = values_of(alloc, templates, "members")?;
-    let subgroups = subgroups_of(alloc, templates, kind)?;
-    for (group, place) in groups.places().iter().enumerate() {
-        push_group_at(
-            alloc, edges, objects, groups, &members, &subgroups, group, *place,
-        )?;
+    let first = objects.len() as u32;
+    let count = first + groups.len() as u32;
+    for group in 0..groups.len() {
+        let node = first + group as u32;
+        edges.push(Edge {
+            from: node,
+            to: count + 2,
+        })?;
+        edges.push(Edge {
+            from: count + 1,
+            to: node,
+        })?;
     }
     Ok(())
 }
 
-/// Adds the edges of the object of that number, whose block stands at the place.
-fn push_object_at<'a>(
-    alloc: Global,
+/// Adds the edges from the node of all objects.
+fn push_object_ends<'a>(
     edges: &mut Vec<Edge>,
-    objects: &Objects<'a>,
-    groups: &Objects<'a>,
-    own: &Values<'a>,
-    object: usize,
-    place: usize,
+    objects: &Names<'a>,
+    groups: &Names<'a>,
 ) -> Result<(), AllocError>
-    requires few { node_count (names_in objects.now.blocks objects.now.kind)
-        (names_in groups.now.blocks groups.now.kind) < 2 ^ 32 }
-    requires within { object < length (names_in objects.now.blocks objects.now.kind) }
+    requires { node_count objects.now groups.now < 2 ^ 32 }
     ensures { OnOk result (edges.new.items ≡ edges.old.items
-        ++ edges_of_object (names_in objects.now.blocks objects.now.kind)
-        (names_in groups.now.blocks groups.now.kind) object
-        (list_at own.now.blocks own.now.directive place)) }
+        ++ map (edge (all_objects objects.now groups.now))
+        (range_with_len 0 (length objects.now))) }
 {
-    let named = list_at(alloc, own, place)?;
-    push_object(
-        edges,
-        objects.names(),
-        groups.names(),
-        object,
-        named.as_slice(),
-    )
+    let count = objects.len() as u32 + groups.len() as u32;
+    for object in 0..objects.len() {
+        edges.push(Edge {
+            from: count,
+            to: object as u32,
+        })?;
+    }
+    Ok(())
 }
 
-/// Adds the edges of all objects.
-fn push_objects<'a>(
+/// Adds the edges to the objects from the groups that they name, and the next node, where there are so many nodes.
+fn push_own<'a>(
     alloc: Global,
     edges: &mut Vec<Edge>,
     templates: &Templates<'a>,
     kind: GroupKind,
     objects: &Objects<'a>,
     groups: &Objects<'a>,
-) -> Result<(), AllocError>
-    requires { AreNumbered templates.now kind objects.now groups.now }
-    ensures { OnOk result (edges.new.items ≡ edges.old.items
-        ++ flat_map (object_edges (grouping templates.now kind))
-        (range_with_len 0 (length (names_in templates.now (object_kind kind))))) }
+    count: u32,
+) -> Result<u32, AllocError>
+    requires tables { AreNumbered templates.now kind objects.now groups.now }
+    requires within { All (IsWithin count) edges.old.items }
+    requires count { node_count (names_in templates.now (object_kind kind))
+        (names_in templates.now (group_kind kind)) ≤ count }
+    ensures { IfOk result (λ next. LeadOver count
+        (edges.old.items ++ own_edges (grouping templates.now kind)) next edges.new.items) }
 {
     let own = own_groups_of(alloc, templates, kind)?;
-    for (object, place) in objects.places().iter().enumerate() {
-        push_object_at(alloc, edges, objects, groups, &own, object, *place)?;
-    }
-    Ok(())
+    let first = objects.names().len() as u32;
+    let nodes = ListNodes {
+        direction: Direction::FromNames,
+        node: 0,
+        first,
+        all: Some(first + groups.names().len() as u32 + 2),
+        count,
+    };
+    push_lists(alloc, edges, &own, objects.places(), groups.names(), nodes)
+}
+
+/// Adds the edges from the groups to the objects that they list. As `push_own`.
+fn push_members<'a>(
+    alloc: Global,
+    edges: &mut Vec<Edge>,
+    templates: &Templates<'a>,
+    kind: GroupKind,
+    objects: &Objects<'a>,
+    groups: &Objects<'a>,
+    count: u32,
+) -> Result<u32, AllocError>
+    requires tables { AreNumbered templates.now kind objects.now groups.now }
+    requires within { All (IsWithin count) edges.old.items }
+    requires count { node_count (names_in templates.now (object_kind kind))
+        (names_in templates.now (group_kind kind)) ≤ count }
+    ensures { IfOk result (λ next. LeadOver count
+        (edges.old.items ++ member_edges (grouping templates.now kind)) next edges.new.items) }
+{
+    let members = values_of(alloc, templates, "members")?;
+    let first = objects.names().len() as u32;
+    let nodes = ListNodes {
+        direction: Direction::ToNames,
+        node: first,
+        first: 0,
+        all: Some(first + groups.names().len() as u32),
+        count,
+    };
+    push_lists(
+        alloc,
+        edges,
+        &members,
+        groups.places(),
+        objects.names(),
+        nodes,
+    )
+}
+
+/// Adds the edges from the groups to the groups that they list. As `push_own`.
+fn push_subgroups<'a>(
+    alloc: Global,
+    edges: &mut Vec<Edge>,
+    templates: &Templates<'a>,
+    kind: GroupKind,
+    objects: &Objects<'a>,
+    groups: &Objects<'a>,
+    count: u32,
+) -> Result<u32, AllocError>
+    requires tables { AreNumbered templates.now kind objects.now groups.now }
+    requires within { All (IsWithin count) edges.old.items }
+    requires count { node_count (names_in templates.now (object_kind kind))
+        (names_in templates.now (group_kind kind)) ≤ count }
+    ensures { IfOk result (λ next. LeadOver count
+        (edges.old.items ++ subgroup_edges (grouping templates.now kind)) next edges.new.items) }
+{
+    let subgroups = subgroups_of(alloc, templates, kind)?;
+    let first = objects.names().len() as u32;
+    let nodes = ListNodes {
+        direction: Direction::ToNames,
+        node: first,
+        first,
+        all: Some(first + groups.names().len() as u32 + 1),
+        count,
+    };
+    push_lists(
+        alloc,
+        edges,
+        &subgroups,
+        groups.places(),
+        groups.names(),
+        nodes,
+    )
+}
+
+/// Adds all edges to none, where there are so many nodes, and the next node.
+fn push_all<'a>(
+    alloc: Global,
+    edges: &mut Vec<Edge>,
+    templates: &Templates<'a>,
+    kind: GroupKind,
+    objects: &Objects<'a>,
+    groups: &Objects<'a>,
+    count: u32,
+) -> Result<u32, AllocError>
+    requires tables { AreNumbered templates.now kind objects.now groups.now }
+    requires none { edges.old.items ≡ [] }
+    requires count { count ≡ node_count (names_in templates.now (object_kind kind))
+        (names_in templates.now (group_kind kind)) }
+    ensures { IfOk result (λ next.
+        LeadOver count (edges_in (grouping templates.now kind)) next edges.new.items) }
+{
+    push_group_ends(edges, objects.names(), groups.names())?;
+    push_object_ends(edges, objects.names(), groups.names())?;
+    let next = push_own(alloc, edges, templates, kind, objects, groups, count)?;
+    let next = push_members(alloc, edges, templates, kind, objects, groups, next)?;
+    push_subgroups(alloc, edges, templates, kind, objects, groups, next)
 }
 
 /// The graph in which the members are found.
@@ -202,9 +271,16 @@ fn graph_of<'a>(
 {
     let count = objects.names().len() + groups.names().len() + 3;
     let mut edges = Vec::with_capacity(alloc, count)?;
-    push_groups(alloc, &mut edges, templates, kind, objects, groups)?;
-    push_objects(alloc, &mut edges, templates, kind, objects, groups)?;
-    let graph = Graph::new(alloc, count as u32, edges.as_slice())?;
+    let next = push_all(
+        alloc,
+        &mut edges,
+        templates,
+        kind,
+        objects,
+        groups,
+        count as u32,
+    )?;
+    let graph = Graph::new(alloc, next, edges.as_slice())?;
     Ok(graph)
 }
 
@@ -265,8 +341,9 @@ impl<'a> Model for Groups<'a> {
 
 impl<'a> Groups<'a> {
     /// The groups of the type. A name that no object has, and no group, adds nothing; of two of one name the
-    /// first is meant. The time grows with the blocks, the templates that they use and the entries of their
-    /// lists. Over 4,294,967,292 objects and groups are want of memory. A refusal leaves nothing.
+    /// first is meant. The time and the memory grow with the blocks, the templates that they use and the entries
+    /// that these give themselves: a list that many blocks have is followed once. Over 4,294,967,292 objects, groups
+    /// and lists that others take are want of memory. A refusal leaves nothing.
     pub fn new(
         alloc: Global,
         templates: &Templates<'a>,

@@ -5,6 +5,7 @@
 pub mod first;
 pub mod groups;
 pub mod laws;
+pub mod lists;
 pub mod names;
-pub mod nodes;
 pub mod objects;
+pub mod shared;

@@ -50,11 +50,11 @@ found-one (Some n) others bound k here rest at = ⊎_elim
     (λ (later : Contains others k). rest later)
     (Contains-cases n k others at)
 
-found-within : (f : NamedPair → Option ℕ) (bound k : ℕ) → ((pair : NamedPair) → IfSome (f pair) (λ n. n < bound)) → (pairs : List NamedPair) → Contains (filter_map f pairs) k → k < bound
+pub found-within : (f : NamedPair → Option ℕ) (bound k : ℕ) → ((pair : NamedPair) → IfSome (f pair) (λ n. n < bound)) → (pairs : List NamedPair) → Contains (filter_map f pairs) k → k < bound
 found-within f bound k each [] at = absurd (Contains-none k at)
 found-within f bound k each (pair ∷ pairs) at = found-one (f pair) (filter_map f pairs) bound k (each pair) (λ later. found-within f bound k each pairs later) at
 
-place-within : (hosts : List (List ℕ)) (services : List Pair) (pair : NamedPair) → IfSome (place_of_pair hosts services pair) (λ n. n < length services)
+pub place-within : (hosts : List (List ℕ)) (services : List Pair) (pair : NamedPair) → IfSome (place_of_pair hosts services pair) (λ n. n < length services)
 place-within hosts services pair = by_host (number_of hosts pair.0)
   where
     by_host : (host : Option ℕ) → IfSome (option_and_then (λ h. service_number services h pair.1) host) (λ n. n < length services)

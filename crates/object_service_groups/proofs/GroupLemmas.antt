@@ -1,14 +1,23 @@
 -- The service groups of blocks: their lists by numbers, their edges, and what is kept of them.
-use Rattle.std.proofs.Common.{◌≡◌, ℕ, ◌+◌, ◌<◌, ◌^◌, List, [], ◌∷◌, ◌++◌, length, get_or, refl, sym, ap, subst, ◌∙◌, inl, inr, arith}
+use Rattle.std.proofs.Common.{◌≡◌, ℕ, ◌+◌, ◌<◌, ◌^◌, List, [], ◌∷◌, ◌++◌, length, map, get_or, None, refl, sym, ap, subst, ◌∙◌, inl, inr, arith}
 use Rattle.std.specs.Prelude.{All, Contains, codes, ◌↔◌}
 use Rattle.std.specs.List.{AllZip, flat_map, range_with_len}
-use Rattle.std.proofs.lemmas.List.{get_or-map, length-map}
-use Rattle.std.proofs.lemmas.List.Elements.{All-from_get_or, Contains-get_or}
+use Rattle.std.proofs.lemmas.List.{append-nil, get_or-map, get_or_default, length-map}
+use Rattle.std.proofs.lemmas.List.Concat.{flat_map-cons}
+use Rattle.std.proofs.lemmas.List.Elements.{Contains-get_or}
 use Rattle.graph.specs.declared.edges.Edge.{Edge}
+use Rattle.graph.specs.Chains.{Reaches}
 use Rattle.graph.specs.Edges.{HasEdges, IsWithin, Leads}
+use Rattle.lemmas.proofs.Chains.{Chain-map}
+use Rattle.lemmas.proofs.Elements.{Contains-from_range, Contains-here, Contains-later}
+use Rattle.object_groups.specs.declared.lists.Direction.{Direction}
+use Rattle.object_groups.specs.declared.lists.Direction.TheVariants.{FromNames, ToNames}
+use Rattle.object_groups.specs.declared.lists.ListNodes.{ListNodes}
+use Rattle.object_groups.specs.ListEdges.{between, edge, edges_at, IsEdge, LeadOver, list_edges, nodes_at}
 use Rattle.object_groups.specs.Names.{numbers_of}
 use Rattle.object_groups.specs.Objects.{list_at, names_in, objects_in, ObjectsOf}
 use Rattle.object_groups.specs.ObjectLaws.{names-long, numbers-within}
+use Rattle.object_groups.specs.ReachLaws.{lead-none, lead-on}
 use Rattle.object_inheritance.specs.Columns.{Column}
 use Rattle.object_pairs.specs.Members.{places_of}
 use Rattle.object_reader.specs.declared.block.Block.{Block}
@@ -18,11 +27,12 @@ use Rattle.object_services.specs.Hosts.{AreHosts}
 use Rattle.object_services.specs.Limits.{AreHostLists}
 use Rattle.object_services.specs.Numbers.{Pair, pairs_of}
 use Rattle.object_services.specs.HostLaws.{hosts-one}
-use Rattle.object_service_groups.specs.Groups.{AreNodes, AreServiceGroups, grouping, groups_in, named_in, owners_of}
+use Rattle.object_service_groups.specs.Groups.{AreNodes, AreServiceGroups, grouping, groups_in, listed_in, named_in, owners_of}
 use Rattle.object_service_groups.specs.Members.{Grouping, IsMember}
-use Rattle.object_service_groups.specs.Nodes.{block_edges, edge, edges_in, edges_of_block, edges_of_group, first_group, group_edges, IsGraphOf, owner_edges}
+use Rattle.object_service_groups.specs.Nodes.{edges_in, first_group, IsGraphOf, named_edges, node_count, own_edges, owner_edges, subgroup_edges}
+use Rattle.object_service_groups.specs.Pairs.{services_at}
 use Rattle.object_service_groups.proofs.ElementLemmas.{mapped-within, owners-long, owners-within, place-there, places-within}
-use Rattle.object_service_groups.proofs.NodeLemmas.{edge-within, IsWell}
+use Rattle.object_service_groups.proofs.NodeLemmas.{IsWell, named-inside, owners-inside, subgroups-inside}
 
 -- ---- lists by numbers
 
@@ -62,74 +72,67 @@ groups-are blocks kind directive number place within is =
 
 -- ---- edges
 
--- the edges of the group at a place
-pub group-is : (blocks : List Block) (services : List Pair) (hosts names : List (List ℕ)) (members subgroups : Column) (first group place : ℕ)
-    → hosts ≡ names_in blocks Host → names ≡ names_in blocks ServiceGroup
-    → members ≡ record { blocks = blocks; directive = codes "members" } → subgroups ≡ record { blocks = blocks; directive = codes "servicegroup_members" }
-    → group < length (objects_in blocks ServiceGroup) → place ≡ get_or (objects_in blocks ServiceGroup) group place
-    → edges_of_group (first + group) first (places_of hosts services (list_at members.blocks members.directive place)) (numbers_of names (list_at subgroups.blocks subgroups.directive place))
-    ≡ group_edges first (named_in blocks services) (groups_in blocks ServiceGroup (codes "servicegroup_members")) group
-group-is blocks services hosts names members subgroups first group place hosts_are names_are members_are subgroups_are within is =
-    ap (λ (hs : List (List ℕ)). edges_of_group (first + group) first (places_of hs services (list_at members.blocks members.directive place)) (numbers_of names (list_at subgroups.blocks subgroups.directive place))) hosts_are
-    ∙ ap (λ (c : Column). edges_of_group (first + group) first (places_of (names_in blocks Host) services (list_at c.blocks c.directive place)) (numbers_of names (list_at subgroups.blocks subgroups.directive place))) members_are
-    ∙ ap (λ (ns : List (List ℕ)). edges_of_group (first + group) first (places_of (names_in blocks Host) services (list_at blocks (codes "members") place)) (numbers_of ns (list_at subgroups.blocks subgroups.directive place))) names_are
-    ∙ ap (λ (c : Column). edges_of_group (first + group) first (places_of (names_in blocks Host) services (list_at blocks (codes "members") place)) (numbers_of (names_in blocks ServiceGroup) (list_at c.blocks c.directive place))) subgroups_are
-    ∙ ap (λ (ns : List ℕ). edges_of_group (first + group) first ns (numbers_of (names_in blocks ServiceGroup) (list_at blocks (codes "servicegroup_members") place))) (sym (named-is blocks services group place within is))
-    ∙ ap (λ (ns : List ℕ). edges_of_group (first + group) first (get_or (named_in blocks services) group []) ns) (sym (groups-are blocks ServiceGroup (codes "servicegroup_members") group place within is))
+flat-same : (f h : ℕ → List Edge) (ns : List ℕ) → ((n : ℕ) → Contains ns n → f n ≡ h n) → flat_map f ns ≡ flat_map h ns
+flat-same f h [] same = refl
+flat-same f h (n ∷ ns) same =
+    flat_map-cons f n ns ∙ ap (λ (es : List Edge). es ++ flat_map f ns) (same n (Contains-here n ns))
+    ∙ ap (λ (es : List Edge). h n ++ es) (flat-same f h ns (λ m at. same m (Contains-later n m ns at))) ∙ sym (flat_map-cons h n ns)
 
--- and of the service block at a place
-pub block-is : (blocks : List Block) (names : List (List ℕ)) (own : Column) (middle first block place : ℕ)
-    → names ≡ names_in blocks ServiceGroup → own ≡ record { blocks = blocks; directive = codes "servicegroups" }
-    → block < length (objects_in blocks Service) → place ≡ get_or (objects_in blocks Service) block place
-    → edges_of_block (middle + block) first (numbers_of names (list_at own.blocks own.directive place)) ≡ block_edges middle first (groups_in blocks Service (codes "servicegroups")) block
-block-is blocks names own middle first block place names_are own_are within is =
-    ap (λ (ns : List (List ℕ)). edges_of_block (middle + block) first (numbers_of ns (list_at own.blocks own.directive place))) names_are
-    ∙ ap (λ (c : Column). edges_of_block (middle + block) first (numbers_of (names_in blocks ServiceGroup) (list_at c.blocks c.directive place))) own_are
-    ∙ ap (λ (ns : List ℕ). edges_of_block (middle + block) first ns) (sym (groups-are blocks Service (codes "servicegroups") block place within is))
+edges-same : (direction : Direction) (node count : ℕ) (nodes others : ℕ → List ℕ) → ((k : ℕ) → k < count → nodes k ≡ others k) → list_edges direction node count nodes ≡ list_edges direction node count others
+edges-same direction node count nodes others same =
+    flat-same (λ k. map (between direction (node + k)) (nodes k)) (λ k. map (between direction (node + k)) (others k)) (range_with_len 0 count)
+    (λ k at. ap (λ (ends : List ℕ). map (between direction (node + k)) ends) (same k (Contains-from_range count k at)))
 
-edges-are : (g : Grouping) (middle first : ℕ) (none one two all : List Edge) → middle ≡ length g.owners → first ≡ first_group g → none ≡ []
-    → one ≡ none ++ flat_map (group_edges first g.named g.subgroups) (range_with_len 0 (length g.named))
-    → two ≡ one ++ flat_map (block_edges middle first g.own_groups) (range_with_len 0 (length g.own_groups))
-    → all ≡ two ++ owner_edges middle g.owners → all ≡ edges_in g
-unfolding edges_in
-edges-are g middle first none one two all middle_is first_is empty groups blocks owners =
-    owners
-    ∙ ap (λ (es : List Edge). es ++ owner_edges middle g.owners)
-    (blocks ∙ ap (λ (es : List Edge). es ++ flat_map (block_edges middle first g.own_groups) (range_with_len 0 (length g.own_groups)))
-    (groups ∙ ap (λ (es : List Edge). es ++ flat_map (group_edges first g.named g.subgroups) (range_with_len 0 (length g.named))) empty))
-    ∙ ap (λ (m : ℕ). flat_map (group_edges first g.named g.subgroups) (range_with_len 0 (length g.named)) ++ flat_map (block_edges m first g.own_groups) (range_with_len 0 (length g.own_groups)) ++ owner_edges m g.owners) middle_is
-    ∙ ap (λ (f : ℕ). flat_map (group_edges f g.named g.subgroups) (range_with_len 0 (length g.named)) ++ flat_map (block_edges (length g.owners) f g.own_groups) (range_with_len 0 (length g.own_groups)) ++ owner_edges (length g.owners) g.owners) first_is
+-- the edges of the lists of groups that blocks of a type have for a directive
+pub listed-are : (blocks : List Block) (kind : BlockKind) (directive : List ℕ) (given : List (List ℕ)) (column : Column) (places : List ℕ) (direction : Direction) (node first count : ℕ)
+    → column ≡ record { blocks = blocks; directive = directive } → places ≡ objects_in blocks kind → given ≡ names_in blocks ServiceGroup
+    → edges_at given column.blocks column.directive places (record { direction = direction; node = node; first = first; all = None; count = count })
+    ≡ list_edges direction node (length (objects_in blocks kind)) (listed_in blocks kind directive first)
+listed-are blocks kind directive given column places direction node first count column_is places_are given_is =
+    let nodes : ListNodes = record { direction = direction; node = node; first = first; all = None; count = count } in
+    ap (λ (c : Column). edges_at given c.blocks c.directive places nodes) column_is
+    ∙ ap (λ (ps : List ℕ). edges_at given blocks directive ps nodes) places_are
+    ∙ ap (λ (ns : List (List ℕ)). edges_at ns blocks directive (objects_in blocks kind) nodes) given_is
+    ∙ edges-same direction node (length (objects_in blocks kind)) (nodes_at (names_in blocks ServiceGroup) blocks directive (objects_in blocks kind) nodes) (listed_in blocks kind directive first)
+    (λ k low. ap (λ (ns : List ℕ). map (λ group. first + group) ns)
+    (sym (groups-are blocks kind directive k (get_or (objects_in blocks kind) k 0) low (get_or_default (objects_in blocks kind) k 0 (get_or (objects_in blocks kind) k 0) low))))
 
-pub all-edges : (blocks : List Block) (lists : List (List ℕ)) (services : List Pair) (owners : List ℕ) (middle first : ℕ) (none one two all : List Edge)
-    → services ≡ pairs_of (names_in blocks Service) lists → owners ≡ owners_of lists → middle ≡ length owners → first ≡ length owners + length (objects_in blocks Service) → none ≡ []
-    → one ≡ none ++ flat_map (group_edges first (named_in blocks services) (groups_in blocks ServiceGroup (codes "servicegroup_members"))) (range_with_len 0 (length (objects_in blocks ServiceGroup)))
-    → two ≡ one ++ flat_map (block_edges middle first (groups_in blocks Service (codes "servicegroups"))) (range_with_len 0 (length (objects_in blocks Service)))
-    → all ≡ two ++ owner_edges middle owners → all ≡ edges_in (grouping blocks lists)
-all-edges blocks lists services owners middle first none one two all services_are owners_are middle_is first_is empty groups own given =
-    let g = grouping blocks lists in
-    let pairs = pairs_of (names_in blocks Service) lists in
-    let subgroups = groups_in blocks ServiceGroup (codes "servicegroup_members") in
-    let count = ap (λ (os : List ℕ). length os) owners_are in
-    let blocks_long = groups-long blocks Service (codes "servicegroups") in
-    let middle_same : middle ≡ length g.owners = omega (arith, middle_is, count) in
-    let first_same : first ≡ first_group g = omega (arith, first_is, count, blocks_long) in
-    edges-are g middle first none one two all middle_same first_same empty
-    (groups ∙ ap (λ (ps : List Pair). none ++ flat_map (group_edges first (named_in blocks ps) subgroups) (range_with_len 0 (length (objects_in blocks ServiceGroup)))) services_are
-    ∙ ap (λ (n : ℕ). none ++ flat_map (group_edges first (named_in blocks pairs) subgroups) (range_with_len 0 n)) (sym (named-long blocks pairs)))
-    (own ∙ ap (λ (n : ℕ). one ++ flat_map (block_edges middle first g.own_groups) (range_with_len 0 n)) (sym blocks_long))
-    (given ∙ ap (λ (os : List ℕ). two ++ owner_edges middle os) owners_are)
+-- and of the lists of members
+pub named-are : (blocks : List Block) (services : List Pair) (hosts : List (List ℕ)) (column : Column) (places : List ℕ) (first : ℕ)
+    → hosts ≡ names_in blocks Host → column ≡ record { blocks = blocks; directive = codes "members" } → places ≡ objects_in blocks ServiceGroup
+    → list_edges ToNames first (length places) (services_at hosts services column.blocks column.directive places)
+    ≡ list_edges ToNames first (length (objects_in blocks ServiceGroup)) (λ group. get_or (named_in blocks services) group [])
+named-are blocks services hosts column places first hosts_are column_is places_are =
+    ap (λ (hs : List (List ℕ)). list_edges ToNames first (length places) (services_at hs services column.blocks column.directive places)) hosts_are
+    ∙ ap (λ (c : Column). list_edges ToNames first (length places) (services_at (names_in blocks Host) services c.blocks c.directive places)) column_is
+    ∙ ap (λ (ps : List ℕ). list_edges ToNames first (length ps) (services_at (names_in blocks Host) services blocks (codes "members") ps)) places_are
+    ∙ edges-same ToNames first (length (objects_in blocks ServiceGroup)) (services_at (names_in blocks Host) services blocks (codes "members") (objects_in blocks ServiceGroup))
+    (λ group. get_or (named_in blocks services) group [])
+    (λ k low. sym (named-is blocks services k (get_or (objects_in blocks ServiceGroup) k 0) low
+    (get_or_default (objects_in blocks ServiceGroup) k 0 (get_or (objects_in blocks ServiceGroup) k 0) low)))
 
-pub edges-within : (g : Grouping) (edges : List Edge) (count : ℕ) → IsWell g → edges ≡ edges_in g → count ≡ first_group g + length g.named → All (IsWithin count) edges
-edges-within g edges count well are is = All-from_get_or (IsWithin count) edges (edge 0 0)
-    (λ i low. subst (λ (n : ℕ). IsWithin n (get_or edges i (edge 0 0))) (sym is) (edge-within g well (get_or edges i (edge 0 0))
-    (subst (λ es. Contains es (get_or edges i (edge 0 0))) are (Contains-get_or edges i (edge 0 0) low))))
+-- where there is no group, none
+pub named-none : (blocks : List Block) (nodes : ℕ → List ℕ) (first count : ℕ) (edges : List Edge) (places : List ℕ) → places ≡ objects_in blocks ServiceGroup → length places ≡ 0 → All (IsWithin count) edges
+    → LeadOver count (edges ++ list_edges ToNames first (length (objects_in blocks ServiceGroup)) nodes) count edges
+named-none blocks nodes first count edges places are none inside =
+    let long : length (objects_in blocks ServiceGroup) ≡ 0 = sym (ap (λ (ps : List ℕ). length ps) are) ∙ none in
+    subst (λ (n : ℕ). LeadOver count (edges ++ list_edges ToNames first n nodes) count edges) (sym long)
+    (subst (λ (es : List Edge). LeadOver count es count edges) (sym (append-nil edges)) (lead-none count edges inside))
 
-pub graph-is : (g : Grouping) (edges : List Edge) (count : ℕ) (graph : List (List ℕ)) → edges ≡ edges_in g → count ≡ first_group g + length g.named
-    → HasEdges count edges graph → ((p q : ℕ) → Leads graph p q ↔ Contains edges (record { from = p; to = q })) → IsGraphOf g graph
-graph-is g edges count graph are is has leads = record {
-  count = has.count ∙ is;
-  leads = λ from to. subst (λ es. Leads graph from to ↔ Contains es (edge from to)) are (leads from to);
+pub graph-is : (g : Grouping) (edges given : List Edge) (count next : ℕ) (graph : List (List ℕ)) → count ≡ node_count g → LeadOver count (edges_in g) next edges → given ≡ edges
+    → HasEdges next given graph → ((p q : ℕ) → Leads graph p q ↔ Contains given (record { from = p; to = q })) → IsGraphOf g graph
+graph-is g edges given count next graph count_is over are has leads = record {
+  count = (let few = over.more in let all = has.count in omega (arith, few, all, count_is));
+  same = λ from to low high.
+      let alike = over.same from to (omega (arith, low, count_is)) (omega (arith, high, count_is)) in
+      ((λ (reaches : Reaches (Leads graph) from to). alike.0 (there from to reaches)), (λ (reaches : Reaches (IsEdge (edges_in g)) from to). back from to (alike.1 reaches)));
 }
+  where
+    there : (from to : ℕ) → Reaches (Leads graph) from to → Reaches (IsEdge edges) from to
+    there from to (steps, chain) = (steps, Chain-map (Leads graph) (IsEdge edges) (λ p q at. subst (λ (es : List Edge). Contains es (edge p q)) are ((leads p q).0 at)) steps from to chain)
+
+    back : (from to : ℕ) → Reaches (IsEdge edges) from to → Reaches (Leads graph) from to
+    back from to (steps, chain) = (steps, Chain-map (IsEdge edges) (Leads graph) (λ p q at. (leads p q).1 (subst (λ (es : List Edge). Contains es (edge p q)) (sym are) at)) steps from to chain)
 
 -- ---- what is below what
 
@@ -154,6 +157,77 @@ grouping-well blocks lists are =
       own_groups = λ b p at. let low = groups-within blocks Service (codes "servicegroups") b p at in omega (arith, low, named_long, names_long);
       owners = λ s few. let low = owners-within lists (get_or (owners_of lists) s 0) (Contains-get_or (owners_of lists) s 0 few) in omega (arith, low, blocks_long, lists_long);
     }
+
+-- ---- all edges, over the nodes of shared lists
+
+module _ (blocks : List Block) (lists : List (List ℕ)) (services : List Pair) (owners : List ℕ) (middle first count : ℕ) (services_are : services ≡ pairs_of (names_in blocks Service) lists)
+    (owners_are : owners ≡ owners_of lists) (middle_is : middle ≡ length owners) (first_is : first ≡ length owners + length (objects_in blocks Service))
+    (count_is : count ≡ first + length (objects_in blocks ServiceGroup)) where
+  abbrev g : Grouping
+  g = grouping blocks lists
+
+  middle-same : middle ≡ length g.owners
+  middle-same = middle_is ∙ ap (λ (os : List ℕ). length os) owners_are
+
+  first-same : first ≡ first_group g
+  first-same =
+      let many = ap (λ (os : List ℕ). length os) owners_are in
+      let long = groups-long blocks Service (codes "servicegroups") in
+      omega (arith, first_is, many, long)
+
+  pub count-same : count ≡ node_count g
+  count-same =
+      let same = first-same in
+      let long = named-long blocks (pairs_of (names_in blocks Service) lists) in
+      omega (arith, count_is, same, long)
+
+  owners-is : owner_edges middle owners ≡ owner_edges (length g.owners) g.owners
+  owners-is = ap (λ (m : ℕ). owner_edges m owners) middle-same ∙ ap (owner_edges (length g.owners)) owners_are
+
+  own-is : list_edges FromNames middle (length (objects_in blocks Service)) (listed_in blocks Service (codes "servicegroups") first) ≡ own_edges g
+  own-is =
+      ap (λ (m : ℕ). list_edges FromNames m (length (objects_in blocks Service)) (listed_in blocks Service (codes "servicegroups") first)) middle-same
+      ∙ ap (λ (n : ℕ). list_edges FromNames (length g.owners) n (listed_in blocks Service (codes "servicegroups") first)) (sym (groups-long blocks Service (codes "servicegroups")))
+      ∙ ap (λ (f : ℕ). list_edges FromNames (length g.owners) (length g.own_groups) (listed_in blocks Service (codes "servicegroups") f)) first-same
+
+  subgroups-is : list_edges ToNames first (length (objects_in blocks ServiceGroup)) (listed_in blocks ServiceGroup (codes "servicegroup_members") first) ≡ subgroup_edges g
+  subgroups-is =
+      ap (λ (f : ℕ). list_edges ToNames f (length (objects_in blocks ServiceGroup)) (listed_in blocks ServiceGroup (codes "servicegroup_members") f)) first-same
+      ∙ ap (λ (n : ℕ). list_edges ToNames (first_group g) n (listed_in blocks ServiceGroup (codes "servicegroup_members") (first_group g)))
+      (sym (named-long blocks (pairs_of (names_in blocks Service) lists)))
+
+  named-edges-is : list_edges ToNames first (length (objects_in blocks ServiceGroup)) (λ group. get_or (named_in blocks services) group []) ≡ named_edges g
+  named-edges-is =
+      ap (λ (ps : List Pair). list_edges ToNames first (length (objects_in blocks ServiceGroup)) (λ group. get_or (named_in blocks ps) group [])) services_are
+      ∙ ap (λ (f : ℕ). list_edges ToNames f (length (objects_in blocks ServiceGroup)) (λ group. get_or g.named group [])) first-same
+      ∙ ap (λ (n : ℕ). list_edges ToNames (first_group g) n (λ group. get_or g.named group [])) (sym (named-long blocks (pairs_of (names_in blocks Service) lists)))
+
+  module _ (are : AreHostLists blocks (objects_in blocks Service) lists) (none one : List Edge) (empty : none ≡ []) (owned : one ≡ none ++ owner_edges middle owners) where
+    one-is : one ≡ owner_edges (length g.owners) g.owners
+    one-is = owned ∙ ap (λ (es : List Edge). es ++ owner_edges middle owners) empty ∙ owners-is
+
+    inside : (edges : List Edge) → All (IsWithin (node_count g)) edges → All (IsWithin count) edges
+    inside edges within = subst (λ (n : ℕ). All (IsWithin n) edges) (sym count-same) within
+
+    pub owners-below : All (IsWithin count) one
+    owners-below = inside one (subst (λ (es : List Edge). All (IsWithin (node_count g)) es) (sym one-is) (owners-inside g (grouping-well blocks lists are)))
+
+    pub all-lead : (two three four : List Edge) (m l next : ℕ)
+        → LeadOver count (one ++ list_edges FromNames middle (length (objects_in blocks Service)) (listed_in blocks Service (codes "servicegroups") first)) m two
+        → LeadOver m (two ++ list_edges ToNames first (length (objects_in blocks ServiceGroup)) (listed_in blocks ServiceGroup (codes "servicegroup_members") first)) l three
+        → LeadOver l (three ++ list_edges ToNames first (length (objects_in blocks ServiceGroup)) (λ group. get_or (named_in blocks services) group [])) next four
+        → LeadOver count (edges_in g) next four
+    unfolding edges_in
+    all-lead two three four m l next own subgroups named =
+        let well = grouping-well blocks lists are in
+        let of_owners = owner_edges (length g.owners) g.owners in
+        lead-on count l next (of_owners ++ own_edges g ++ subgroup_edges g) (named_edges g) three four
+        (lead-on count m l (of_owners ++ own_edges g) (subgroup_edges g) two three
+        (subst (λ (es : List Edge). LeadOver count (es ++ own_edges g) m two) one-is (subst (λ (es : List Edge). LeadOver count (one ++ es) m two) own-is own))
+        (inside (subgroup_edges g) (subgroups-inside g well))
+        (subst (λ (es : List Edge). LeadOver m (two ++ es) l three) subgroups-is subgroups))
+        (inside (named_edges g) (named-inside g well))
+        (subst (λ (es : List Edge). LeadOver l (three ++ es) next four) named-edges-is named)
 
 pub members-within : (blocks : List Block) (lists : List (List ℕ)) (group service : ℕ) → IsMember (grouping blocks lists) group service → service < length (pairs_of (names_in blocks Service) lists)
 members-within blocks lists group service (last, reaches, inl named) = named-within blocks (pairs_of (names_in blocks Service) lists) last service named

@@ -1,5 +1,6 @@
 mod ElementLemmas
 mod NumberLemmas
+mod MemberLemmas
 mod NodeLemmas
 mod GroupLemmas
 mod LawLemmas

@@ -1,5 +1,5 @@
 -- The service groups that blocks define (chapter "Object Definitions").
-use Rattle.std.specs.Prelude.{◌≡◌, ℕ, ◌+◌, ◌^◌, ◌<◌, List, [], codes, length, map, replicate, slice_index_or}
+use Rattle.std.specs.Prelude.{◌≡◌, ℕ, ◌+◌, ◌^◌, ◌<◌, ◌≤◌, List, [], codes, length, map, replicate, slice_index_or}
 use Rattle.std.specs.List.{flat_map, range_with_len}
 use Rattle.object_groups.specs.Names.{numbers_of}
 use Rattle.object_groups.specs.Objects.{list_at, names_in, objects_in, ObjectsOf}
@@ -24,6 +24,11 @@ unfoldable pub groups_in : List Block → BlockKind → List ℕ → List (List 
 groups_in blocks kind directive = map
     (λ place. numbers_of (names_in blocks ServiceGroup) (list_at blocks directive place))
     (objects_in blocks kind)
+
+-- the nodes of these, where the node of the first group is `first`
+abbrev pub listed_in : List Block → BlockKind → List ℕ → (first number : ℕ) → List ℕ
+listed_in blocks kind directive first number = map (λ group. first + group)
+    (slice_index_or (groups_in blocks kind directive) number [])
 
 -- The block of each service, where these are the hosts of each block: block by block, and within a block one
 -- service for each host.
@@ -70,6 +75,6 @@ pub record AreServiceGroups (blocks : List Block) (groups : ObjectsOf) (services
   pub group_table : groups ≡ record { blocks = blocks; kind = ServiceGroup }
   pub has_nodes : (lists : List (List ℕ)) → AreHostLists blocks (objects_in blocks Service) lists
       → AreNodes (grouping blocks lists) services first graph
-  pub count : length graph ≡ first + length (objects_in blocks ServiceGroup)
+  pub count : first + length (objects_in blocks ServiceGroup) ≤ length graph
   pub few : length graph < 2 ^ 32
   pub has_search : searched ≡ length graph

@@ -1,4 +1,5 @@
 pub mod Members
 pub mod Groups
 pub mod Nodes
+pub mod Pairs
 pub mod Laws

@@ -1,30 +1,29 @@
 //! The service groups of blocks, and their members.
 
-ghost use Rattle.std.specs.Prelude.{◌≡◌, ◌+◌, ◌<◌, ◌≤◌, ◌^◌, ◌++◌, codes, length};
-ghost use Rattle.std.specs.Prelude.{All, IfOk, OnOk};
-ghost use Rattle.std.specs.List.{flat_map, range_with_len};
-ghost use Rattle.object_groups.specs.Names.{numbers_of};
-ghost use Rattle.object_groups.specs.Objects.{list_at, names_in, objects_in};
-ghost use Rattle.object_pairs.specs.Members.{places_of};
+ghost use Rattle.std.specs.Prelude.{◌≡◌, ◌+◌, ◌<◌, ◌≤◌, ◌^◌, ◌++◌, [], codes, length};
+ghost use Rattle.std.specs.Prelude.{slice_index_or, All, IfOk};
+ghost use Rattle.graph.specs.Edges.{IsWithin};
+ghost use Rattle.object_groups.specs.declared.lists.Direction.TheVariants.{FromNames, ToNames};
+ghost use Rattle.object_groups.specs.ListEdges.{LeadOver, list_edges};
+ghost use Rattle.object_groups.specs.Objects.{names_in, objects_in};
 ghost use Rattle.object_reader.specs.declared.block.BlockKind.TheVariants.{Host, Service};
 ghost use Rattle.object_reader.specs.declared.block.BlockKind.TheVariants.{ServiceGroup};
-ghost use Rattle.object_service_groups.specs.Groups.{AreMembersOf, AreTables, grouping, groups_in};
+ghost use Rattle.object_service_groups.specs.Groups.{AreMembersOf, AreTables, grouping, listed_in};
 ghost use Rattle.object_service_groups.specs.Groups.{named_in};
-ghost use Rattle.object_service_groups.specs.Nodes.{AreBelow, block_edges, edges_in};
-ghost use Rattle.object_service_groups.specs.Nodes.{edges_of_block};
-ghost use Rattle.object_service_groups.specs.Nodes.{edges_of_group, group_edges, IsGraphOf};
+ghost use Rattle.object_service_groups.specs.Nodes.{AreBelow, edges_in, IsGraphOf};
 ghost use Rattle.object_services.specs.Limits.{AreHostLists};
 ghost use Rattle.object_services.specs.Numbers.{pairs_of};
 
-use crate::nodes::{push_block, push_group, push_owners};
+use crate::members::push_members;
+use crate::nodes::push_owners;
 use crate::owners::owners_of;
 use graph::edges::{Edge, Graph};
 use graph::reach::Reach;
+use object_groups::lists::{Direction, ListNodes, push_lists};
 use object_groups::names::Names;
-use object_groups::objects::{Objects, list_at};
-use object_inheritance::inherited::{Values, values_of};
+use object_groups::objects::Objects;
+use object_inheritance::inherited::values_of;
 use object_inheritance::templates::Templates;
-use object_pairs::members::services_named;
 use object_reader::block::{Block, BlockKind};
 use object_services::blocks::ServiceBlocks;
 use object_services::numbers::ServiceNumbers;
@@ -32,92 +31,76 @@ use object_services::services::ServiceHosts;
 use std::alloc::{AllocError, Global};
 use std::marker::Model;
 
-/// The places of the services that the block at the place names by the directive of the values.
-fn named_at<'a>(
-    alloc: Global,
-    hosts: &Names<'a>,
-    services: &ServiceNumbers<'a>,
-    members: &Values<'a>,
-    place: usize,
-) -> Result<Vec<usize>, AllocError>
-    ensures named { IfOk result (λ named. named.items ≡ places_of hosts.now services.now
-        (list_at members.now.blocks members.now.directive place)) }
-    ensures within { IfOk result (λ named.
-        All (λ service. service < length services.now) named.items) }
-{
-    let listed = list_at(alloc, members, place)?;
-    let named = services_named(alloc, hosts, services, listed.as_slice())?;
-    Ok(named)
-}
-
-/// Adds the edges of the group of that number, whose block stands at the place.
-fn push_group_at<'a>(
-    alloc: Global,
-    edges: &mut Vec<Edge>,
-    hosts: &Names<'a>,
-    services: &ServiceNumbers<'a>,
-    groups: &Names<'a>,
-    members: &Values<'a>,
-    subgroups: &Values<'a>,
-    first: u32,
-    group: usize,
-    place: usize,
-) -> Result<(), AllocError>
-    requires few { first + length groups.now < 2 ^ 32 }
-    requires few_services { length services.now < 2 ^ 32 }
-    requires within { group < length groups.now }
-    ensures { OnOk result (edges.new.items ≡ edges.old.items
-        ++ edges_of_group (first + group) first
-        (places_of hosts.now services.now (list_at members.now.blocks members.now.directive place))
-        (numbers_of groups.now
-        (list_at subgroups.now.blocks subgroups.now.directive place))) }
-{
-    let named = named_at(alloc, hosts, services, members, place)?;
-    let listed = list_at(alloc, subgroups, place)?;
-    let node = first + group as u32;
-    push_group(
-        alloc,
-        edges,
-        groups,
-        first,
-        node,
-        named.as_slice(),
-        listed.as_slice(),
-    )
-}
-
-/// Adds the edges of all groups, where these are the services.
-fn push_listed<'a>(
+/// Adds the edges to the service blocks from the groups that they name, and the next node, where there are so many
+/// nodes: the first service block's is `middle`, and the first group's is `first`.
+fn push_own<'a>(
     alloc: Global,
     edges: &mut Vec<Edge>,
     templates: &Templates<'a>,
-    hosts: &Names<'a>,
-    services: &ServiceNumbers<'a>,
+    blocks: &Objects<'a>,
     groups: &Objects<'a>,
+    middle: u32,
     first: u32,
-) -> Result<(), AllocError>
-    requires hosts { hosts.now ≡ names_in templates.now Host }
+    count: u32,
+) -> Result<u32, AllocError>
+    requires blocks { blocks.now ≡ record { blocks = templates.now; kind = Service } }
     requires groups { groups.now ≡ record { blocks = templates.now; kind = ServiceGroup } }
-    requires few { first + length (objects_in templates.now ServiceGroup) < 2 ^ 32 }
-    requires few_services { length services.now < 2 ^ 32 }
-    ensures { OnOk result (edges.new.items ≡ edges.old.items
-        ++ flat_map (group_edges first (named_in templates.now services.now)
-        (groups_in templates.now ServiceGroup (codes "servicegroup_members")))
-        (range_with_len 0 (length (objects_in templates.now ServiceGroup)))) }
+    requires within { All (IsWithin count) edges.old.items }
+    requires first { middle + length (objects_in templates.now Service) ≤ first }
+    requires count { first + length (objects_in templates.now ServiceGroup) ≤ count }
+    ensures { IfOk result (λ next. LeadOver count (edges.old.items
+        ++ list_edges FromNames middle (length (objects_in templates.now Service))
+        (listed_in templates.now Service (codes "servicegroups") first)) next edges.new.items) }
 {
-    let members = values_of(alloc, templates, "members")?;
-    let subgroups = values_of(alloc, templates, "servicegroup_members")?;
-    for (group, place) in groups.places().iter().enumerate() {
-        let names = groups.names();
-        push_group_at(
-            alloc, edges, hosts, services, names, &members, &subgroups, first, group, *place,
-        )?;
-    }
-    Ok(())
+    let own = values_of(alloc, templates, "servicegroups")?;
+    let nodes = ListNodes {
+        direction: Direction::FromNames,
+        node: middle,
+        first,
+        all: None,
+        count,
+    };
+    push_lists(alloc, edges, &own, blocks.places(), groups.names(), nodes)
 }
 
-/// Adds the edges of all groups. The services are numbered only where there is a group.
-fn push_groups<'a>(
+/// Adds the edges from the groups to the groups that they list. As `push_own`.
+fn push_subgroups<'a>(
+    alloc: Global,
+    edges: &mut Vec<Edge>,
+    templates: &Templates<'a>,
+    groups: &Objects<'a>,
+    first: u32,
+    count: u32,
+) -> Result<u32, AllocError>
+    requires groups { groups.now ≡ record { blocks = templates.now; kind = ServiceGroup } }
+    requires within { All (IsWithin count) edges.old.items }
+    requires count { first + length (objects_in templates.now ServiceGroup) ≤ count }
+    ensures { IfOk result (λ next. LeadOver count (edges.old.items
+        ++ list_edges ToNames first (length (objects_in templates.now ServiceGroup))
+        (listed_in templates.now ServiceGroup (codes "servicegroup_members") first))
+        next edges.new.items) }
+{
+    let subgroups = values_of(alloc, templates, "servicegroup_members")?;
+    let nodes = ListNodes {
+        direction: Direction::ToNames,
+        node: first,
+        first,
+        all: None,
+        count,
+    };
+    push_lists(
+        alloc,
+        edges,
+        &subgroups,
+        groups.places(),
+        groups.names(),
+        nodes,
+    )
+}
+
+/// Adds the edges from the groups to the services that they name. The services are numbered only where there is a
+/// group. As `push_own`.
+fn push_named<'a>(
     alloc: Global,
     edges: &mut Vec<Edge>,
     templates: &Templates<'a>,
@@ -126,74 +109,41 @@ fn push_groups<'a>(
     lists: &ServiceHosts,
     groups: &Objects<'a>,
     first: u32,
-) -> Result<(), AllocError>
+    count: u32,
+) -> Result<u32, AllocError>
     requires hosts { hosts.now ≡ names_in templates.now Host }
     requires groups { groups.now ≡ record { blocks = templates.now; kind = ServiceGroup } }
-    requires few { first + length (objects_in templates.now ServiceGroup) < 2 ^ 32 }
-    requires few_services { length (pairs_of descriptions.now lists.now) < 2 ^ 32 }
-    ensures { OnOk result (edges.new.items ≡ edges.old.items
-        ++ flat_map (group_edges first
-        (named_in templates.now (pairs_of descriptions.now lists.now))
-        (groups_in templates.now ServiceGroup (codes "servicegroup_members")))
-        (range_with_len 0 (length (objects_in templates.now ServiceGroup)))) }
+    requires within { All (IsWithin count) edges.old.items }
+    requires services { length (pairs_of descriptions.now lists.now) ≤ count }
+    requires count { first + length (objects_in templates.now ServiceGroup) ≤ count }
+    ensures { IfOk result (λ next. LeadOver count (edges.old.items
+        ++ list_edges ToNames first (length (objects_in templates.now ServiceGroup))
+        (λ group. slice_index_or (named_in templates.now (pairs_of descriptions.now lists.now))
+        group [])) next edges.new.items) }
 {
     if groups.places().is_empty() {
-        return Ok(());
+        return Ok(count);
     }
     let services = ServiceNumbers::new(alloc, descriptions, lists)?;
-    push_listed(alloc, edges, templates, hosts, &services, groups, first)
+    let members = values_of(alloc, templates, "members")?;
+    push_members(
+        alloc,
+        edges,
+        &members,
+        groups.places(),
+        hosts,
+        &services,
+        first,
+        count,
+    )
 }
 
-/// Adds the edges of the service block of that node, which stands at the place.
-fn push_block_at<'a>(
+/// Adds all edges of the graph in which the members are found to none, and the next node, where there are so many:
+/// `owners` are the blocks of the services, `middle` is the node of the first service block, and `first` that of the
+/// first group.
+fn push_all<'a>(
     alloc: Global,
     edges: &mut Vec<Edge>,
-    groups: &Names<'a>,
-    own: &Values<'a>,
-    first: u32,
-    node: u32,
-    place: usize,
-) -> Result<(), AllocError>
-    requires few { first + length groups.now < 2 ^ 32 }
-    ensures { OnOk result (edges.new.items ≡ edges.old.items
-        ++ edges_of_block node first
-        (numbers_of groups.now (list_at own.now.blocks own.now.directive place))) }
-{
-    let named = list_at(alloc, own, place)?;
-    push_block(alloc, edges, groups, first, node, named.as_slice())
-}
-
-/// Adds the edges of all service blocks.
-fn push_blocks<'a>(
-    alloc: Global,
-    edges: &mut Vec<Edge>,
-    templates: &Templates<'a>,
-    blocks: &Objects<'a>,
-    groups: &Names<'a>,
-    middle: u32,
-    first: u32,
-) -> Result<(), AllocError>
-    requires blocks { blocks.now ≡ record { blocks = templates.now; kind = Service } }
-    requires groups { groups.now ≡ names_in templates.now ServiceGroup }
-    requires few { first + length groups.now < 2 ^ 32 }
-    requires before { middle + length (objects_in templates.now Service) ≤ first }
-    ensures { OnOk result (edges.new.items ≡ edges.old.items
-        ++ flat_map (block_edges middle first
-        (groups_in templates.now Service (codes "servicegroups")))
-        (range_with_len 0 (length (objects_in templates.now Service)))) }
-{
-    let own = values_of(alloc, templates, "servicegroups")?;
-    for (block, place) in blocks.places().iter().enumerate() {
-        let node = middle + block as u32;
-        push_block_at(alloc, edges, groups, &own, first, node, *place)?;
-    }
-    Ok(())
-}
-
-/// All edges of the graph in which the members are found: `owners` are the blocks of the services, `middle` is the
-/// node of the first service block, and `first` that of the first group.
-fn edges_of<'a>(
-    alloc: Global,
     templates: &Templates<'a>,
     blocks: &Objects<'a>,
     lists: &ServiceHosts,
@@ -202,37 +152,34 @@ fn edges_of<'a>(
     groups: &Objects<'a>,
     middle: u32,
     first: u32,
-) -> Result<Vec<Edge>, AllocError>
+    count: u32,
+) -> Result<u32, AllocError>
     requires tables { AreTables templates.now blocks.now lists.now owners.now hosts.now
         groups.now }
+    requires none { edges.old.items ≡ [] }
     requires middle { middle ≡ length owners.now }
     requires first { first ≡ length owners.now + length (objects_in templates.now Service) }
-    requires few { first + length (objects_in templates.now ServiceGroup) < 2 ^ 32 }
-    ensures { IfOk result (λ edges. edges.items ≡ edges_in (grouping templates.now lists.now)) }
+    requires count { count ≡ first + length (objects_in templates.now ServiceGroup) }
+    ensures { IfOk result (λ next. LeadOver count (edges_in (grouping templates.now lists.now))
+        next edges.new.items) }
 {
-    let mut edges = Vec::new(alloc);
+    push_owners(edges, middle, owners)?;
+    let next = push_own(
+        alloc, edges, templates, blocks, groups, middle, first, count,
+    )?;
+    let next = push_subgroups(alloc, edges, templates, groups, first, next)?;
     let descriptions = blocks.names();
-    push_groups(
+    push_named(
         alloc,
-        &mut edges,
+        edges,
         templates,
         hosts,
         descriptions,
         lists,
         groups,
         first,
-    )?;
-    push_blocks(
-        alloc,
-        &mut edges,
-        templates,
-        blocks,
-        groups.names(),
-        middle,
-        first,
-    )?;
-    push_owners(&mut edges, middle, owners)?;
-    Ok(edges)
+        next,
+    )
 }
 
 /// The graph in which the members are found, where `owners` are the blocks of the services.
@@ -254,10 +201,11 @@ fn graph_of<'a>(
     let middle = owners.len() as u32;
     let first = middle + blocks.places().len() as u32;
     let count = first + groups.places().len() as u32;
-    let edges = edges_of(
-        alloc, templates, blocks, lists, owners, hosts, groups, middle, first,
+    let mut edges = Vec::new(alloc);
+    let next = push_all(
+        alloc, &mut edges, templates, blocks, lists, owners, hosts, groups, middle, first, count,
     )?;
-    let graph = Graph::new(alloc, count, edges.as_slice())?;
+    let graph = Graph::new(alloc, next, edges.as_slice())?;
     Ok(graph)
 }
 
@@ -306,10 +254,11 @@ impl<'a> ServiceGroups<'a> {
     /// The service groups. `services` are the service blocks, `lists` their hosts, and `hosts` the names of the
     /// hosts, all of the same blocks. A name that no service has, and no group, adds nothing; of two of one name
     /// the first is meant; `*` is a name. Of a list of members of which an entry is left over, no service is a
-    /// member by it. The memory grows with the services, with the blocks and with the entries of their lists; the
-    /// time with these and with the templates that they use. The services are sought by host and description only
-    /// where there is a group; that takes some 80 bytes a service, given back at the end. Over 4,294,967,295
-    /// services, service blocks and groups are want of memory. A refused growth leaves nothing.
+    /// member by it. The memory grows with the services, with the blocks and with the entries of lists that they and
+    /// the templates that they use give themselves, where a list that many have counts once; the time with these and
+    /// with the templates. The services are sought by host and description only where there is a group; that takes
+    /// some 80 bytes a service, given back at the end. Over 4,294,967,295 services, service blocks, groups and lists
+    /// that others take are want of memory. A refused growth leaves nothing.
     pub fn new(
         alloc: Global,
         templates: &Templates<'a>,

@@ -4,5 +4,6 @@
 
 pub mod groups;
 pub mod laws;
+mod members;
 mod nodes;
 mod owners;

@@ -1,24 +1,18 @@
-use Rattle.std.proofs.Common.{◌≡◌, ◌+◌, ◌∙◌, List, ap, arith, length, ℕ}
-use Rattle.object_groups.specs.Groups.{grouping}
-use Rattle.object_groups.specs.Nodes.{edges_in}
-use Rattle.object_groups.specs.Objects.{names_in, ObjectsOf}
-use Rattle.object_groups.proofs.GroupLemmas.{edges-are, edges-within, graph-is}
+use Rattle.std.proofs.Common.{◌≡◌, ◌+◌, arith, subst, ℕ}
+use Rattle.object_groups.specs.Groups.{group_kind, grouping, object_kind}
+use Rattle.object_groups.specs.ListEdges.{LeadOver}
+use Rattle.object_groups.specs.Nodes.{edges_in, node_count}
+use Rattle.object_groups.proofs.GroupLemmas.{graph-is, table-long}
 use Rattle.object_groups.proofs.groups.graph_of.Goals as goal
-
-pub new-requires : goal.new-requires
-new-requires c =
-    let g = grouping c.args.templates.now c.args.kind in
-    let objects : c.len.result ≡ length g.objects = c.len.ensures ∙ ap (λ (names : List (List ℕ)). length names) c.names.ensures.names ∙ ap (λ (o : ObjectsOf). length (names_in o.blocks o.kind)) c.requires.object_table in
-    let groups : c.len-2.result ≡ length g.groups = c.len-2.ensures ∙ ap (λ (names : List (List ℕ)). length names) c.names-2.ensures.names ∙ ap (λ (o : ObjectsOf). length (names_in o.blocks o.kind)) c.requires.group_table in
-    let are : c.as_slice.result.now ≡ edges_in g = c.as_slice.ensures.value
-    ∙ edges-are g c.in_ok-edges.edges.items c.push_groups.new.edges.items c.push_objects.new.edges.items c.in_ok-edges.ensures.items c.in_ok-push_groups.ensures c.in_ok-push_objects.ensures in
-    edges-within g c.as_slice.result.now (c.len.result + c.len-2.result + 3) are (omega (arith, objects, groups))
 
 pub returns : goal.returns
 returns c =
-    let g = grouping c.args.templates.now c.args.kind in
-    let objects : c.len.result ≡ length g.objects = c.len.ensures ∙ ap (λ (names : List (List ℕ)). length names) c.names.ensures.names ∙ ap (λ (o : ObjectsOf). length (names_in o.blocks o.kind)) c.requires.object_table in
-    let groups : c.len-2.result ≡ length g.groups = c.len-2.ensures ∙ ap (λ (names : List (List ℕ)). length names) c.names-2.ensures.names ∙ ap (λ (o : ObjectsOf). length (names_in o.blocks o.kind)) c.requires.group_table in
-    let are : c.as_slice.result.now ≡ edges_in g = c.as_slice.ensures.value
-    ∙ edges-are g c.in_ok-edges.edges.items c.push_groups.new.edges.items c.push_objects.new.edges.items c.in_ok-edges.ensures.items c.in_ok-push_groups.ensures c.in_ok-push_objects.ensures in
-    graph-is g c.as_slice.result.now (c.len.result + c.len-2.result + 3) c.in_ok-graph.graph are (omega (arith, objects, groups)) c.in_ok-graph.ensures.ends c.in_ok-graph.ensures.leads
+    let blocks = c.args.templates.now in
+    let kind = c.args.kind in
+    let g = grouping blocks kind in
+    let objects = table-long blocks (object_kind kind) c.args.objects.now c.names.result.now c.len.result c.requires.object_table c.names.ensures.names c.len.ensures in
+    let groups = table-long blocks (group_kind kind) c.args.groups.now c.names-2.result.now c.len-2.result c.requires.group_table c.names-2.ensures.names c.len-2.ensures in
+    let count : c.len.result + c.len-2.result + 3 ≡ node_count g.objects g.groups = omega (arith, objects, groups) in
+    graph-is g c.push_all.new.edges.items c.as_slice.result.now c.in_ok-next.next c.in_ok-graph.graph
+    (subst (λ (n : ℕ). LeadOver n (edges_in g) c.in_ok-next.next c.push_all.new.edges.items) count c.in_ok-next.ensures)
+    c.as_slice.ensures.value c.in_ok-graph.ensures.ends c.in_ok-graph.ensures.leads

@@ -1,54 +1,21 @@
-use Rattle.std.proofs.Common.{◌+◌, ◌∙◌, List, ap, arith, length, ℕ}
-use Rattle.object_groups.specs.Objects.{objects_in, ObjectsOf}
+use Rattle.std.proofs.Common.{◌≡◌, ◌+◌, ◌∙◌, List, ap, arith, length, refl, ℕ}
+use Rattle.object_groups.specs.Objects.{names_in, objects_in, ObjectsOf}
+use Rattle.object_reader.specs.declared.block.BlockKind.TheVariants.{Service, ServiceGroup}
+use Rattle.object_services.specs.Numbers.{pairs_of}
 use Rattle.object_service_groups.specs.Groups.{grouping}
-use Rattle.object_service_groups.proofs.GroupLemmas.{count-is, edges-within, graph-is, grouping-well}
+use Rattle.object_service_groups.proofs.GroupLemmas.{count-same, graph-is}
 use Rattle.object_service_groups.proofs.groups.graph_of.Goals as goal
-
-pub overflow_cast-first : goal.overflow_cast-first
-overflow_cast-first c =
-    let long = ap (λ (ps : List ℕ). length ps) c.places.ensures.places ∙ ap (λ (o : ObjectsOf). length (objects_in o.blocks o.kind)) c.requires.tables.service_blocks in
-    omega (arith, long, c.requires.few)
-
-pub overflow_add-first : goal.overflow_add-first
-overflow_add-first c =
-    let long = ap (λ (ps : List ℕ). length ps) c.places.ensures.places ∙ ap (λ (o : ObjectsOf). length (objects_in o.blocks o.kind)) c.requires.tables.service_blocks in
-    omega (arith, long, c.requires.few)
-
-pub overflow_cast-count : goal.overflow_cast-count
-overflow_cast-count c =
-    let groups = ap (λ (ps : List ℕ). length ps) c.places-2.ensures.places ∙ ap (λ (o : ObjectsOf). length (objects_in o.blocks o.kind)) c.requires.tables.group_table in
-    omega (arith, groups, c.requires.few)
-
-pub overflow_add-count : goal.overflow_add-count
-overflow_add-count c =
-    let long = ap (λ (ps : List ℕ). length ps) c.places.ensures.places ∙ ap (λ (o : ObjectsOf). length (objects_in o.blocks o.kind)) c.requires.tables.service_blocks in
-    let groups = ap (λ (ps : List ℕ). length ps) c.places-2.ensures.places ∙ ap (λ (o : ObjectsOf). length (objects_in o.blocks o.kind)) c.requires.tables.group_table in
-    omega (arith, long, groups, c.requires.few)
-
-pub edges_of-requires-clause-first : goal.edges_of-requires-clause-first
-edges_of-requires-clause-first c =
-    let long = ap (λ (ps : List ℕ). length ps) c.places.ensures.places ∙ ap (λ (o : ObjectsOf). length (objects_in o.blocks o.kind)) c.requires.tables.service_blocks in
-    omega (arith, long)
-
-pub edges_of-requires-clause-few : goal.edges_of-requires-clause-few
-edges_of-requires-clause-few c =
-    let long = ap (λ (ps : List ℕ). length ps) c.places.ensures.places ∙ ap (λ (o : ObjectsOf). length (objects_in o.blocks o.kind)) c.requires.tables.service_blocks in
-    omega (arith, long, c.requires.few)
-
-pub new-requires : goal.new-requires
-new-requires c =
-    let g = grouping c.args.templates.now c.args.lists.now in
-    let long = ap (λ (ps : List ℕ). length ps) c.places.ensures.places ∙ ap (λ (o : ObjectsOf). length (objects_in o.blocks o.kind)) c.requires.tables.service_blocks in
-    let groups = ap (λ (ps : List ℕ). length ps) c.places-2.ensures.places ∙ ap (λ (o : ObjectsOf). length (objects_in o.blocks o.kind)) c.requires.tables.group_table in
-    let count = count-is c.args.templates.now c.args.lists.now c.args.owners.now c.requires.tables.owners_are in
-    edges-within g c.as_slice.result.now (length c.args.owners.now + length c.places.result.now + length c.places-2.result.now) (grouping-well c.args.templates.now c.args.lists.now c.requires.tables.host_lists)
-    (c.as_slice.ensures.value ∙ c.in_ok-edges.ensures) (omega (arith, long, groups, count))
 
 pub returns : goal.returns
 returns c =
-    let g = grouping c.args.templates.now c.args.lists.now in
+    let blocks = c.args.templates.now in
+    let lists = c.args.lists.now in
+    let owners = c.args.owners.now in
     let long = ap (λ (ps : List ℕ). length ps) c.places.ensures.places ∙ ap (λ (o : ObjectsOf). length (objects_in o.blocks o.kind)) c.requires.tables.service_blocks in
     let groups = ap (λ (ps : List ℕ). length ps) c.places-2.ensures.places ∙ ap (λ (o : ObjectsOf). length (objects_in o.blocks o.kind)) c.requires.tables.group_table in
-    let count = count-is c.args.templates.now c.args.lists.now c.args.owners.now c.requires.tables.owners_are in
-    graph-is g c.as_slice.result.now (length c.args.owners.now + length c.places.result.now + length c.places-2.result.now) c.in_ok-graph.graph
-    (c.as_slice.ensures.value ∙ c.in_ok-edges.ensures) (omega (arith, long, groups, count)) c.in_ok-graph.ensures.ends c.in_ok-graph.ensures.leads
+    let first : length owners + length c.places.result.now ≡ length owners + length (objects_in blocks Service) = omega (arith, long) in
+    let count : length owners + length c.places.result.now + length c.places-2.result.now ≡ length owners + length c.places.result.now + length (objects_in blocks ServiceGroup) = omega (arith, groups) in
+    graph-is (grouping blocks lists) c.push_all.new.edges.items c.as_slice.result.now (length owners + length c.places.result.now + length c.places-2.result.now) c.in_ok-next.next c.in_ok-graph.graph
+    (count-same blocks lists (pairs_of (names_in blocks Service) lists) owners (length owners) (length owners + length c.places.result.now) (length owners + length c.places.result.now + length c.places-2.result.now)
+    refl c.requires.tables.owners_are refl first count)
+    c.in_ok-next.ensures c.as_slice.ensures.value c.in_ok-graph.ensures.ends c.in_ok-graph.ensures.leads

@@ -2,7 +2,7 @@ use Rattle.std.proofs.Common.{◌≡◌, ◌+◌, ◌++◌, ◌∙◌, ap, arith
 use Rattle.std.specs.Prelude.{slice_index_or}
 use Rattle.std.specs.List.{range_with_len}
 use Rattle.std.proofs.lemmas.List.{get_or_default}
-use Rattle.object_service_groups.specs.Nodes.{edge}
+use Rattle.object_groups.specs.ListEdges.{edge}
 use Rattle.object_service_groups.proofs.NumberLemmas.{owners-more}
 use Rattle.object_service_groups.proofs.nodes.push_owners.Goals as goal
 

@@ -1,7 +1,7 @@
 use Rattle.std.proofs.Common.{◌≡◌, ◌+◌, ◌++◌, map}
 use Rattle.std.specs.Prelude.{slice_index_or}
 use Rattle.std.specs.List.{range_with_len}
-use Rattle.object_service_groups.specs.Nodes.{edge}
+use Rattle.object_groups.specs.ListEdges.{edge}
 use Rattle.object_service_groups.proofs.nodes.push_owners.Given as goal
 
 -- The edges of the services so far.

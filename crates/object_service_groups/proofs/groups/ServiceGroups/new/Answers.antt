@@ -3,7 +3,7 @@ use Rattle.graph.specs.Reach.{Found}
 use Rattle.object_groups.specs.Objects.{objects_in, ObjectsOf}
 use Rattle.object_reader.specs.declared.block.Block.{Block}
 use Rattle.object_reader.specs.declared.block.BlockKind.TheVariants.{Service}
-use Rattle.object_service_groups.proofs.GroupLemmas.{count-is, kept-are}
+use Rattle.object_service_groups.proofs.GroupLemmas.{kept-are}
 use Rattle.object_service_groups.proofs.groups.ServiceGroups.new.Goals as goal
 
 pub graph_of-requires-clause-tables : goal.graph_of-requires-clause-tables
@@ -31,10 +31,8 @@ invariant_of-result c =
     let first : c.saturating_add-first.result ≡ length c.in_ok-owners.owners.items + length (objects_in templates Service) =
     omega (arith, long, groups, c.len.ensures, c.saturating_add-first.ensures, c.saturating_add.ensures, c.if-saturating_add.false) in
     let services : c.len-2.result ≡ length c.in_ok-owners.owners.items = omega (arith, c.len-2.ensures, c.in_ok-owners.owners.ok) in
-    let all = c.in_ok-graph.ensures.count in
-    let count = count-is templates c.args.lists.now c.in_ok-owners.owners.items c.in_ok-owners.ensures in
-    let few : length c.in_ok-graph.graph < 2 ^ 32 =
-    omega (arith, all, count, long, groups, c.len.ensures, c.saturating_add-first.ensures, c.saturating_add.ensures, c.if-saturating_add.false) in
+    let nodes = c.node_count.ensures.count in
+    let few : length c.in_ok-graph.graph < 2 ^ 32 = omega (arith, nodes, c.node_count.type_inv) in
     kept-are templates c.blocks-2.result.now c.in_ok-groups.groups c.args.lists.now c.in_ok-owners.owners.items c.len-2.result c.saturating_add-first.result c.in_ok-search.search.nodes c.in_ok-graph.graph
     c.blocks-2.ensures.value c.in_ok-groups.ensures c.requires.lists c.in_ok-owners.ensures services first c.in_ok-graph.ensures few
     (ap (λ (f : Found). f.nodes) c.in_ok-search.ensures ∙ c.node_count.ensures.count)

@@ -1,9 +1,0 @@
-use Rattle.std.proofs.Common.{◌≡◌, ◌++◌}
-use Rattle.std.specs.List.{flat_map, range_with_len}
-use Rattle.object_groups.specs.Groups.{grouping}
-use Rattle.object_groups.specs.Nodes.{group_edges}
-use Rattle.object_groups.proofs.groups.push_groups.Given as goal
-
--- The edges so far.
-abbrev pub invariant-loop-group : goal.invariant-loop-group
-invariant-loop-group l = l.edges.items ≡ l.initial.edges.items ++ flat_map (group_edges (grouping l.templates l.fn.kind)) (range_with_len 0 l.group)
