@@ -1,14 +1,22 @@
 -- The lanes, and the lanes that a list names.
-use Rattle.std.proofs.Common.{◌≡◌, ℕ, Bool, false, List, length, replicate, ap, subst, ◌∙◌}
+use Rattle.std.proofs.Common.{◌≡◌, ℕ, Bool, false, List, length, replicate, get_or, sym, ap, subst, ◌∙◌}
 use Rattle.std.specs.Prelude.{codes}
+use Rattle.std.proofs.lemmas.Bool.{false≢true}
 use Rattle.std.proofs.lemmas.List.{length-replicate}
-use Rattle.object_contacts.specs.Lanes.{AreLanes, IsLane, IsUsed, NamesCommand}
+use Rattle.lemmas.proofs.Lists.{none-marked}
+use Rattle.object_contacts.specs.Lanes.{AreLanes, AreRead, IsLane, IsUsed, NamesCommand}
 use Rattle.object_contacts.specs.Marks.{marked, Marks, OfSome}
 use Rattle.object_contacts.proofs.MarkLemmas.{are-lanes, marks-both}
 use Rattle.object_groups.specs.Objects.{list_at, names_in, objects_in, ObjectsOf}
 use Rattle.object_inheritance.specs.Columns.{Column}
 use Rattle.object_reader.specs.declared.block.Block.{Block}
 use Rattle.object_reader.specs.declared.block.BlockKind.TheVariants.{Command, Contact}
+
+-- no list was read yet
+pub nothing-read : (commands : List (List ℕ)) (values : Column) (read marks : List Bool) (count : ℕ) → read ≡ replicate count false → AreRead commands values read marks
+nothing-read commands values read marks count is = record {
+  each = λ at mark command names. absurd (false≢true (sym (ap (λ (ms : List Bool). get_or ms at false) is ∙ none-marked count at) ∙ mark));
+}
 
 -- what is marked for a directive
 pub used-for : (blocks : List Block) (directive : List ℕ) (column : Column) (contacts commands : ObjectsOf) (names : List (List ℕ)) (places : List ℕ) (old new : List Bool)

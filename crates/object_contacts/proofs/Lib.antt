@@ -1,3 +1,4 @@
 pub mod MarkLemmas
 pub mod LaneLemmas
 pub mod ContactLemmas
+pub mod LawLemmas

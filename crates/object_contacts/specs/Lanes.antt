@@ -1,10 +1,12 @@
 -- Lanes: the notification commands that contacts name (chapter "Object Definitions").
-use Rattle.std.specs.Prelude.{◌≡◌, ℕ, ◌==◌, List, codes, Option, Some, Contains, ◌⊎◌, ◌↔◌}
+use Rattle.std.specs.Prelude.{◌≡◌, ℕ, Bool, ◌==◌, List, codes, Option, Some, Contains, ◌⊎◌, ◌↔◌}
 use Rattle.std.specs.List.{position}
 use Rattle.std.specs.List.Sorted.{IsStrictlyIncreasing}
 use Rattle.std.specs.Option.{option_and_then}
+use Rattle.object_contacts.specs.Marks.{IsMarked}
 use Rattle.object_groups.specs.Names.{number_of}
 use Rattle.object_groups.specs.Objects.{list_at, names_in, objects_in}
+use Rattle.object_inheritance.specs.Columns.{Column}
 use Rattle.object_reader.specs.declared.block.Block.{Block}
 use Rattle.object_reader.specs.declared.block.BlockKind.TheVariants.{Command, Contact}
 use Rattle.object_values.specs.Values.{command_name}
@@ -27,6 +29,14 @@ IsUsed blocks directive command = (place : ℕ) × Contains (objects_in blocks C
 abbrev pub IsLane : List Block → (command : ℕ) → Type 0
 IsLane blocks command = IsUsed blocks (codes "host_notification_commands") command
     ⊎ IsUsed blocks (codes "service_notification_commands") command
+
+-- Of each block that was read, by its place, the commands that its list for the directive of the values names are
+-- marked.
+pub record AreRead (commands : List (List ℕ)) (values : Column) (read marks : List Bool)
+    : Type 0 where
+  pub each : (place : ℕ) → IsMarked read place → (command : ℕ)
+      → NamesCommand commands (list_at values.blocks values.directive place) command
+      → IsMarked marks command
 
 -- exactly the numbers of which `P` says so, each once and in order
 pub record AreLanes (P : ℕ → Type 0) (numbers : List ℕ) : Type 0 where

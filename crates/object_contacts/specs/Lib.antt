@@ -1,3 +1,4 @@
 pub mod Lanes
 pub mod Contacts
 pub mod Marks
+pub mod Laws

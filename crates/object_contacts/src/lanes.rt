@@ -1,13 +1,14 @@
 //! The lanes of a configuration: the notification commands that contacts name.
 
 ghost use Rattle.std.specs.Prelude.{◌≡◌, ◌<◌, length, map, slice_index_or, [], IfOk, IfSome, OnOk};
-ghost use Rattle.object_contacts.specs.Lanes.{AreLanes, IsLane, command_named, NamesCommand};
+ghost use Rattle.object_contacts.specs.Lanes.{AreLanes, AreRead, IsLane, command_named};
+ghost use Rattle.object_contacts.specs.Lanes.{NamesCommand};
 ghost use Rattle.object_contacts.specs.Marks.{Marks, OfSome};
 ghost use Rattle.object_groups.specs.Objects.{list_at};
 ghost use Rattle.object_reader.specs.declared.block.BlockKind.TheVariants.{Command, Contact};
 ghost use Rattle.object_values.specs.Values.{texts};
 
-use crate::marks::{mark, marked_numbers};
+use crate::marks::{is_marked, mark, marked_numbers};
 use due_model::config::Lane;
 use due_model::short_list::Text;
 use object_groups::names::Names;
@@ -36,13 +37,63 @@ fn mark_used<'a>(marks: &mut [bool], commands: &Names<'a>, entries: &[&'a [u8]])
     }
 }
 
-/// Marks the commands that the lists name which the blocks at the places have for the directive of the values.
+/// Marks the commands that the list names which the block at the place has for the directive of the values.
+fn mark_used_at<'a>(
+    alloc: Global,
+    marks: &mut [bool],
+    commands: &Names<'a>,
+    values: &Values<'a>,
+    place: usize,
+) -> Result<(), AllocError>
+    requires { length marks.old ≡ length commands.now }
+    ensures long { length marks.new ≡ length marks.old }
+    ensures marked { OnOk result (Marks
+        (NamesCommand commands.now (list_at values.now.blocks values.now.directive place))
+        marks.old marks.new) }
+{
+    let entries = list_at(alloc, values, place)?;
+    mark_used(marks, commands, entries.as_slice());
+    Ok(())
+}
+
+/// The same, read once for all blocks that take from one block what they have. `read` marks the blocks that give what
+/// was read.
+fn mark_used_once<'a>(
+    alloc: Global,
+    marks: &mut [bool],
+    commands: &Names<'a>,
+    values: &Values<'a>,
+    read: &mut Vec<bool>,
+    place: usize,
+) -> Result<(), AllocError>
+    requires long { length marks.old ≡ length commands.now }
+    requires read { AreRead commands.now values.now read.old.items marks.old }
+    ensures long { length marks.new ≡ length marks.old }
+    ensures read { OnOk result (AreRead commands.now values.now read.new.items marks.new) }
+    ensures marked { OnOk result (Marks
+        (NamesCommand commands.now (list_at values.now.blocks values.now.directive place))
+        marks.old marks.new) }
+{
+    let origin = values.origin(place);
+    if is_marked(read.as_slice(), origin) {
+        return Ok(());
+    }
+    mark_used_at(alloc, marks, commands, values, place)?;
+    if origin < read.len() {
+        read[origin] = true;
+    }
+    Ok(())
+}
+
+/// Marks the commands that the lists name which the blocks at the places have for the directive of the values, where
+/// `count` is how many blocks there are.
 fn mark_used_for<'a>(
     alloc: Global,
     marks: &mut [bool],
     commands: &Names<'a>,
     values: &Values<'a>,
     places: &[usize],
+    count: usize,
 ) -> Result<(), AllocError>
     requires { length marks.old ≡ length commands.now }
     ensures long { length marks.new ≡ length marks.old }
@@ -50,9 +101,9 @@ fn mark_used_for<'a>(
         (λ place. NamesCommand commands.now (list_at values.now.blocks values.now.directive place))
         places.now) marks.old marks.new) }
 {
+    let mut read = vec![in alloc; false; count]?;
     for place in places {
-        let entries = list_at(alloc, values, *place)?;
-        mark_used(marks, commands, entries.as_slice());
+        mark_used_once(alloc, marks, commands, values, &mut read, *place)?;
     }
     Ok(())
 }
@@ -61,7 +112,8 @@ fn mark_used_for<'a>(
 /// `service_notification_commands`, by their numbers among the commands, each once and in the order of their
 /// blocks. A command's name in such a list is all before the first `!`; a name that no command has adds
 /// nothing. `contacts` and `commands` are those of the same blocks. The time grows with the blocks, their directives, the
-/// templates that they use, and the entries of the contacts' lists. A refused growth leaves nothing.
+/// templates that they use, and the entries of the contacts' lists: a list that several contacts take from one block is
+/// read once. A refused growth leaves nothing.
 pub fn lanes_of<'a>(
     alloc: Global,
     templates: &Templates<'a>,
@@ -76,9 +128,10 @@ pub fn lanes_of<'a>(
     let names = commands.names();
     let hosts = Values::new(alloc, templates, "host_notification_commands".as_bytes())?;
     let services = Values::new(alloc, templates, "service_notification_commands".as_bytes())?;
+    let count = templates.blocks().len();
     let mut marks = vec![in alloc; false; names.len()]?;
-    mark_used_for(alloc, marks.as_mut_slice(), names, &hosts, places)?;
-    mark_used_for(alloc, marks.as_mut_slice(), names, &services, places)?;
+    mark_used_for(alloc, marks.as_mut_slice(), names, &hosts, places, count)?;
+    mark_used_for(alloc, marks.as_mut_slice(), names, &services, places, count)?;
     marked_numbers(alloc, marks.as_slice())
 }
 

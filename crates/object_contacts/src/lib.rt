@@ -4,5 +4,6 @@
 
 pub mod contacts;
 pub mod lanes;
+pub mod laws;
 mod marks;
 pub mod rights;

@@ -1,13 +1,24 @@
 //! Marks, one for each number below a count, and the numbers that are marked.
 
 ghost use Rattle.std.specs.Prelude.{◌≡◌, ◌<◌, ◌≤◌, ◌++◌, ◌∷◌, [], length, map};
-ghost use Rattle.std.specs.Prelude.{Some};
+ghost use Rattle.std.specs.Prelude.{false, slice_index_or, Some};
 ghost use Rattle.std.specs.Prelude.{All, IfOk, IfSome, OnOk, if◌then◌else◌};
 ghost use Rattle.due_model.specs.Limits.{max_lanes};
 ghost use Rattle.object_contacts.specs.Marks.{marked, Marks};
 
 use due_model::config::LaneId;
 use std::alloc::{AllocError, Global};
+
+/// Whether the number is marked.
+pub(crate) fn is_marked(marks: &[bool], number: usize) -> bool
+    ensures { result ≡ slice_index_or marks.now number false }
+{
+    if number < marks.len() {
+        marks[number]
+    } else {
+        false
+    }
+}
 
 /// Marks the number that is found.
 pub(crate) fn mark(marks: &mut [bool], found: Option<usize>)

@@ -3,13 +3,14 @@ use Rattle.std.proofs.Common.{◌≡◌, ℕ, ◌+◌, ◌<◌, ◌≤◌, Bool,
 use Rattle.std.specs.Prelude.{nat_le, slice_get}
 use Rattle.std.specs.Option.{option_and_then, option_or}
 use Rattle.std.proofs.lemmas.Bool.{cases_lt}
-use Rattle.std.proofs.lemmas.List.{map-append, take_more}
+use Rattle.std.proofs.lemmas.List.{get_or-map, map-append, take_more}
 use Rattle.object_reader.specs.declared.block.Block.{Block}
 use Rattle.object_faults.specs.Columns.{earlier, fault_at, first_at, first_of, IsFirst, registered_fault, side_at, side_fault}
 use Rattle.object_faults.specs.declared.column.Column.{Column}
 use Rattle.object_faults.specs.declared.fault.ValueFault.{ValueFault}
 use Rattle.object_faults.specs.declared.first.Found.{Found}
 use Rattle.object_faults.specs.declared.needs.Side.{Side}
+use Rattle.object_faults.specs.Faults.{is_registered}
 use Rattle.object_faults.specs.Needs.{NeedsOf}
 
 or-none : (fault other : Option ValueFault) → fault ≡ None → option_or fault other ≡ other
@@ -76,6 +77,12 @@ one-column blocks columns i d first second low before here =
     (first-earlier (length blocks) (first_at blocks (take i columns)) (fault_at blocks (get_or columns i d)) first second before here)
 
 -- ---- the blocks of one column
+
+-- what was found of the block at a place
+pub marked-at : (blocks : List Block) (registered : List Bool) (i : ℕ) (x : Block) → registered ≡ map is_registered blocks → i < length blocks → x ≡ get_or blocks i x
+    → get_or registered i false ≡ is_registered x
+marked-at blocks registered i x are within is =
+    ap (λ (marks : List Bool). get_or marks i false) are ∙ get_or-map is_registered blocks i x false within ∙ ap is_registered (sym is)
 
 -- what a block at a place has
 pub at-place : (blocks seen : List Block) (column : Column) (i : ℕ) (x : Block) (fault : Option ValueFault) → slice_get blocks i ≡ Some x → seen ≡ blocks

@@ -1,5 +1,5 @@
 -- What is kept of a column: the fault of the block at each place.
-use Rattle.std.proofs.Common.{◌≡◌, ℕ, ◌<◌, Bool, true, false, cond, List, length, get_or, set, Option, Some, None, refl, sym, subst, ⊎_elim}
+use Rattle.std.proofs.Common.{◌≡◌, ℕ, ◌<◌, Bool, true, false, cond, List, length, get_or, set, Option, Some, None, refl, sym, ap, subst, ⊎_elim}
 use Rattle.std.specs.Prelude.{IfSome, is_some}
 use Rattle.std.specs.Option.{option_and_then}
 use Rattle.std.proofs.lemmas.Bool.{cases_eq, false≢true}
@@ -23,6 +23,15 @@ none-either b x is = elim b as (λ b. None ≡ cond b x None) [ true ↦ is | fa
 pub unasked : (blocks : List Block) (place : ℕ) (column : Column) (block : Block) → is_some (check_of column block.kind) ≡ false → None ≡ registered_fault blocks place column block
 unasked blocks place column block is =
     none-either (is_registered block) (column_fault blocks place block.kind column) (none-by _ (check_of column block.kind) is)
+
+-- ---- blocks that are registered, and others
+
+pub unregistered : (blocks : List Block) (place : ℕ) (column : Column) (block : Block) → is_registered block ≡ false → None ≡ registered_fault blocks place column block
+unregistered blocks place column block is = sym (ap (λ (b : Bool). cond b (column_fault blocks place block.kind column) None) is)
+
+pub of-registered : (blocks : List Block) (place : ℕ) (column : Column) (block : Block) → is_registered block ≡ true
+    → column_fault blocks place block.kind column ≡ registered_fault blocks place column block
+of-registered blocks place column block is = sym (ap (λ (b : Bool). cond b (column_fault blocks place block.kind column) None) is)
 
 -- ---- what is kept
 

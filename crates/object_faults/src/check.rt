@@ -1,14 +1,14 @@
 //! The first fault of registered blocks by themselves.
 
-ghost use Rattle.std.specs.Prelude.{length, IfErr, IfOk, OnOk, Some};
+ghost use Rattle.std.specs.Prelude.{◌≡◌, length, map, IfErr, IfOk, OnOk, Some};
 ghost use Rattle.object_faults.specs.Columns.{any_at, first_at, IsFirst, lacking_at};
 ghost use Rattle.object_faults.specs.Columns.{name_columns, value_columns, whole_at};
-ghost use Rattle.object_faults.specs.Faults.{AreFree, IsRefusal};
+ghost use Rattle.object_faults.specs.Faults.{AreFree, is_registered, IsRefusal};
 
 use crate::column::Column;
 use crate::dates::first_dated;
 use crate::fault::PassFault;
-use crate::first::{Found, earlier, first_of_columns, first_of_side, lower};
+use crate::first::{Found, earlier, first_of_columns, first_of_side, lower, registered_blocks};
 use crate::lists::NameList;
 use crate::needs::Side;
 use object_inheritance::templates::Templates;
@@ -16,7 +16,12 @@ use object_reader::block::BlockKind;
 use std::alloc::{AllocError, Global};
 
 /// The first block that lacks its name.
-fn first_unnamed(alloc: Global, templates: &Templates) -> Result<Option<Found>, AllocError>
+fn first_unnamed(
+    alloc: Global,
+    templates: &Templates,
+    registered: &[bool],
+) -> Result<Option<Found>, AllocError>
+    requires { registered.now ≡ map is_registered templates.now }
     ensures { IfOk result (IsFirst (length templates.now) (first_at templates.now name_columns)) }
 {
     let columns = [
@@ -29,7 +34,7 @@ fn first_unnamed(alloc: Global, templates: &Templates) -> Result<Option<Found>, 
         Column::Name(BlockKind::TimePeriod),
         Column::Name(BlockKind::Command),
     ];
-    first_of_columns(alloc, templates, &columns)
+    first_of_columns(alloc, templates, registered, &columns)
 }
 
 /// The directives and lists of which each block is asked whether what it has is what it must be.
@@ -80,19 +85,29 @@ const VALUES: [Column; 43] = [
 ];
 
 /// The first block with something that isn't what it must be.
-fn first_broken(alloc: Global, templates: &Templates) -> Result<Option<Found>, AllocError>
+fn first_broken(
+    alloc: Global,
+    templates: &Templates,
+    registered: &[bool],
+) -> Result<Option<Found>, AllocError>
+    requires { registered.now ≡ map is_registered templates.now }
     ensures { IfOk result (IsFirst (length templates.now) (first_at templates.now value_columns)) }
 {
-    first_of_columns(alloc, templates, &VALUES)
+    first_of_columns(alloc, templates, registered, &VALUES)
 }
 
 /// The first block that lacks what it must have.
-fn first_lacking(alloc: Global, templates: &Templates) -> Result<Option<Found>, AllocError>
+fn first_lacking(
+    alloc: Global,
+    templates: &Templates,
+    registered: &[bool],
+) -> Result<Option<Found>, AllocError>
+    requires { registered.now ≡ map is_registered templates.now }
     ensures { IfOk result (IsFirst (length templates.now) (lacking_at templates.now)) }
 {
-    let unnamed = first_unnamed(alloc, templates)?;
-    let masters = first_of_side(alloc, templates, Side::Masters)?;
-    let dependents = first_of_side(alloc, templates, Side::Dependents)?;
+    let unnamed = first_unnamed(alloc, templates, registered)?;
+    let masters = first_of_side(alloc, templates, registered, Side::Masters)?;
+    let dependents = first_of_side(alloc, templates, registered, Side::Dependents)?;
     Ok(earlier(unnamed, earlier(masters, dependents)))
 }
 
@@ -100,8 +115,10 @@ fn first_lacking(alloc: Global, templates: &Templates) -> Result<Option<Found>, 
 fn first_plain(alloc: Global, templates: &Templates) -> Result<Option<Found>, AllocError>
     ensures { IfOk result (IsFirst (length templates.now) (any_at templates.now)) }
 {
-    let lacking = first_lacking(alloc, templates)?;
-    let broken = first_broken(alloc, templates)?;
+    let marks = registered_blocks(alloc, templates.blocks())?;
+    let registered = marks.as_slice();
+    let lacking = first_lacking(alloc, templates, registered)?;
+    let broken = first_broken(alloc, templates, registered)?;
     Ok(earlier(lacking, broken))
 }
 
@@ -133,8 +150,10 @@ fn refused(templates: &Templates, found: Found) -> PassFault
 /// failure criteria or a weekday's ranges aren't, or a line of dates has no word with a colon; a service is volatile; a
 /// list of names has an exclusion; a time period has a line of dates. A directive that a template gives counts, line
 /// by line. Blocks of which `register` is 0 aren't looked at, but what they give is
-/// where another block takes it. The time grows with the blocks, their directives, the templates that they
-/// use, and the entries of each block's lists, those that it inherits too; it takes some 128 bytes a block.
+/// where another block takes it. The time grows with the blocks, the bytes of their directives, the templates that they
+/// use, and the entries of the lists that registered blocks have: a list that blocks take from a template as it is counts
+/// once, and one that begins with `+` with all that it is added to. Of lists of hosts and services the bytes before the
+/// first entry count for each block. It takes some 128 bytes a block.
 pub fn check(alloc: Global, templates: &Templates) -> Result<(), PassFault>
     ensures free { OnOk result (AreFree templates.now) }
     ensures fault { IfErr result (IsRefusal templates.now) }

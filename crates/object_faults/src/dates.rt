@@ -338,10 +338,10 @@ fn date_fault<'a>(
     ensures long { OnOk result (length done.new.items ≡ length blocks.now) }
 {
     let block = &blocks[place];
-    if !is_registered(block) {
+    if !is_period(block.kind) {
         return Ok(None);
     }
-    if !is_period(block.kind) {
+    if !is_registered(block) {
         return Ok(None);
     }
     search(alloc, names, blocks, place, dates, done)?;

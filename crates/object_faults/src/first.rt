@@ -1,6 +1,6 @@
 //! The first block with a fault, directive by directive.
 
-ghost use Rattle.std.specs.Prelude.{◌≡◌, false, length, IfOk, IfSome, List};
+ghost use Rattle.std.specs.Prelude.{◌≡◌, false, length, map, slice_index_or, IfOk, IfSome, List};
 ghost use Rattle.std.specs.List.{list_any};
 ghost use Rattle.std.specs.Option.{option_map_or};
 ghost use Rattle.object_faults.specs.Columns.{column_fault, directive_of, earlier};
@@ -38,6 +38,28 @@ pub(crate) fn is_registered(block: &Block) -> bool
 {
     !means_nothing(block.kind)
         && registers(value_in(block.directives.as_slice(), "register".as_bytes()))
+}
+
+/// Of each block whether it is registered.
+pub(crate) fn registered_blocks(alloc: Global, blocks: &[Block]) -> Result<Vec<bool>, AllocError>
+    ensures { IfOk result (λ registered. registered.items ≡ map is_registered blocks.now) }
+{
+    let mut registered = Vec::with_capacity(alloc, blocks.len())?;
+    for block in blocks {
+        registered.push(is_registered(block))?;
+    }
+    Ok(registered)
+}
+
+/// Whether the block at the place is registered, as was found of each before.
+fn is_marked(registered: &[bool], place: usize) -> bool
+    ensures { result ≡ slice_index_or registered.now place false }
+{
+    if place < registered.len() {
+        registered[place]
+    } else {
+        false
+    }
 }
 
 /// Whether what the block at the place has for the directive of the values is given, and isn't what it must be.
@@ -156,16 +178,18 @@ fn known_fault(
     Ok(fault)
 }
 
-/// The same, if the block is registered. That is asked only where there is a fault.
+/// The same, if the block is registered. Nothing is looked at of a template alone.
 fn registered_fault(
     alloc: Global,
     values: &Values,
+    registered: &[bool],
     known: &mut [Option<Judged>],
     column: Column,
     block: &Block,
     place: usize,
 ) -> Result<Option<ValueFault>, AllocError>
     requires directive { values.now.directive ≡ directive_of column }
+    requires registered { slice_index_or registered.now place false ≡ is_registered block.now }
     requires known { AreKnown values.now.blocks column known.old }
     ensures fault { IfOk result (λ fault. fault
         ≡ registered_fault values.now.blocks place column block.now) }
@@ -174,24 +198,20 @@ fn registered_fault(
     if check_of(column, block.kind).is_none() {
         return Ok(None);
     }
-    match known_fault(alloc, values, known, column, block.kind, place)? {
-        None => Ok(None),
-        Some(fault) => {
-            if is_registered(block) {
-                Ok(Some(fault))
-            } else {
-                Ok(None)
-            }
-        }
+    if !is_marked(registered, place) {
+        return Ok(None);
     }
+    known_fault(alloc, values, known, column, block.kind, place)
 }
 
 /// The first block with a fault of one directive.
 fn first_of_column(
     alloc: Global,
     templates: &Templates,
+    registered: &[bool],
     column: Column,
 ) -> Result<Option<Found>, AllocError>
+    requires { registered.now ≡ map is_registered templates.now }
     ensures { IfOk result (IsFirst (length templates.now) (fault_at templates.now column)) }
 {
     let values = Values::new(alloc, templates, directive_of(column).as_bytes())?;
@@ -199,7 +219,7 @@ fn first_of_column(
     let mut kept = vec![in alloc; None; blocks.len()]?;
     let known = kept.as_mut_slice();
     for (place, block) in blocks.iter().enumerate() {
-        match registered_fault(alloc, &values, known, column, block, place)? {
+        match registered_fault(alloc, &values, registered, known, column, block, place)? {
             None => {}
             Some(fault) => return Ok(Some(Found { place, fault })),
         }
@@ -208,22 +228,14 @@ fn first_of_column(
 }
 
 /// The fault of a block that lacks what it must list on the side of the needs, if it is registered.
-fn side_fault(
-    alloc: Global,
-    needs: &Needs,
-    block: &Block,
-    place: usize,
-) -> Result<Option<ValueFault>, AllocError>
-    ensures { IfOk result (λ fault. fault
-        ≡ side_fault needs.now.blocks place needs.now.side block.now) }
+fn side_fault(needs: &Needs, registered: &[bool], block: &Block, place: usize) -> Option<ValueFault>
+    requires { slice_index_or registered.now place false ≡ is_registered block.now }
+    ensures { result ≡ side_fault needs.now.blocks place needs.now.side block.now }
 {
-    if !is_registered(block) {
-        return Ok(None);
-    }
-    if needs.lacks(alloc, block.kind, place)? {
-        Ok(Some(ValueFault::MissingDirective))
+    if is_marked(registered, place) && needs.lacks(block.kind, place) {
+        Some(ValueFault::MissingDirective)
     } else {
-        Ok(None)
+        None
     }
 }
 
@@ -231,13 +243,15 @@ fn side_fault(
 pub(crate) fn first_of_side(
     alloc: Global,
     templates: &Templates,
+    registered: &[bool],
     side: Side,
 ) -> Result<Option<Found>, AllocError>
+    requires { registered.now ≡ map is_registered templates.now }
     ensures { IfOk result (IsFirst (length templates.now) (side_at templates.now side)) }
 {
     let needs = Needs::new(alloc, templates, side)?;
     for (place, block) in templates.blocks().iter().enumerate() {
-        match side_fault(alloc, &needs, block, place)? {
+        match side_fault(&needs, registered, block, place) {
             None => {}
             Some(fault) => return Ok(Some(Found { place, fault })),
         }
@@ -304,13 +318,15 @@ pub(crate) fn lower(first: Option<Found>, second: Option<Found>) -> Option<Found
 pub(crate) fn first_of_columns(
     alloc: Global,
     templates: &Templates,
+    registered: &[bool],
     columns: &[Column],
 ) -> Result<Option<Found>, AllocError>
+    requires { registered.now ≡ map is_registered templates.now }
     ensures { IfOk result (IsFirst (length templates.now) (first_at templates.now columns.now)) }
 {
     let mut first = None;
     for column in columns {
-        let found = first_of_column(alloc, templates, *column)?;
+        let found = first_of_column(alloc, templates, registered, *column)?;
         first = earlier(first, found);
     }
     Ok(first)

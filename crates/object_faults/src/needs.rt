@@ -1,13 +1,11 @@
 //! The lists of which a block must have an entry: of hosts, or of services.
 
-ghost use Rattle.std.specs.Prelude.{◌≡◌, ◌==◌, not, length, IfOk};
+ghost use Rattle.std.specs.Prelude.{◌≡◌, IfOk};
 ghost use Rattle.object_faults.specs.Faults.{has_hosts, has_services, is_listed, lacks};
 ghost use Rattle.object_faults.specs.Tables.{description_directive, group_directive};
 ghost use Rattle.object_faults.specs.Tables.{host_directive};
 ghost use Rattle.object_faults.specs.Tables.{masters_alone, needed, service_group_directive};
-ghost use Rattle.object_groups.specs.Objects.{list_at};
 
-use object_groups::objects::list_at;
 use object_inheritance::inherited::{Values, values_of};
 use object_inheritance::templates::Templates;
 use object_reader::block::{Block, BlockKind};
@@ -119,12 +117,10 @@ fn service_groups_of<'a>(
 }
 
 /// Whether the block at the place has an entry in its list for the directive of the values.
-fn is_listed(alloc: Global, values: &Values, place: usize) -> Result<bool, AllocError>
-    ensures { IfOk result (λ listed.
-        listed ≡ is_listed values.now.blocks place values.now.directive) }
+fn is_listed(values: &Values, place: usize) -> bool
+    ensures { result ≡ is_listed values.now.blocks place values.now.directive }
 {
-    let entries = list_at(alloc, values, place)?;
-    Ok(entries.len() != 0)
+    values.has_entries(place)
 }
 
 /// What all blocks have for the four lists of a side. Contracts see the blocks and the side.
@@ -177,56 +173,28 @@ impl<'a> Needs<'a> {
     }
 
     /// Whether the block at the place lists a host or a host group.
-    fn has_hosts(&self, alloc: Global, place: usize) -> Result<bool, AllocError>
-        ensures { IfOk result (λ has. has ≡ has_hosts self.now.blocks place self.now.side) }
+    fn has_hosts(&self, place: usize) -> bool
+        ensures { result ≡ has_hosts self.now.blocks place self.now.side }
     {
-        let named = is_listed(alloc, &self.hosts, place)?;
-        let grouped = is_listed(alloc, &self.groups, place)?;
-        Ok(named || grouped)
+        is_listed(&self.hosts, place) || is_listed(&self.groups, place)
     }
 
     /// Whether the block at the place lists a host or a host group, and a description; or a service group.
-    fn has_services(&self, alloc: Global, place: usize) -> Result<bool, AllocError>
-        ensures { IfOk result (λ has. has ≡ has_services self.now.blocks place self.now.side) }
+    fn has_services(&self, place: usize) -> bool
+        ensures { result ≡ has_services self.now.blocks place self.now.side }
     {
-        let hosts = self.has_hosts(alloc, place)?;
-        let described = is_listed(alloc, &self.descriptions, place)?;
-        let grouped = is_listed(alloc, &self.service_groups, place)?;
-        Ok(hosts && described || grouped)
+        let described = self.has_hosts(place) && is_listed(&self.descriptions, place);
+        described || is_listed(&self.service_groups, place)
     }
 
-    /// Whether the block at the place lists neither a host nor a host group.
-    fn lacks_hosts(&self, alloc: Global, place: usize) -> Result<bool, AllocError>
-        ensures { IfOk result (λ lacks.
-            lacks ≡ not (has_hosts self.now.blocks place self.now.side)) }
-    {
-        let has = self.has_hosts(alloc, place)?;
-        Ok(!has)
-    }
-
-    /// Whether the block at the place lists no services.
-    fn lacks_services(&self, alloc: Global, place: usize) -> Result<bool, AllocError>
-        ensures { IfOk result (λ lacks. lacks
-            ≡ not (has_services self.now.blocks place self.now.side)) }
-    {
-        let has = self.has_services(alloc, place)?;
-        Ok(!has)
-    }
-
-    /// Whether the block at the place, of the type, lacks what it must list on the side.
-    pub(crate) fn lacks(
-        &self,
-        alloc: Global,
-        kind: BlockKind,
-        place: usize,
-    ) -> Result<bool, AllocError>
-        ensures { IfOk result (λ answer. answer
-            ≡ lacks self.now.blocks place kind self.now.side) }
+    /// Whether the block at the place, of the type, lacks what it must list on the side. It takes no memory.
+    pub(crate) fn lacks(&self, kind: BlockKind, place: usize) -> bool
+        ensures { result ≡ lacks self.now.blocks place kind self.now.side }
     {
         match needed(kind, self.side) {
-            Need::Nothing => Ok(false),
-            Need::Hosts => self.lacks_hosts(alloc, place),
-            Need::Services => self.lacks_services(alloc, place),
+            Need::Nothing => false,
+            Need::Hosts => !self.has_hosts(place),
+            Need::Services => !self.has_services(place),
         }
     }
 }

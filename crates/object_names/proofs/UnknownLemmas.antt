@@ -4,7 +4,7 @@ use Rattle.std.specs.Prelude.{IfSome, slice_get, unwrap_or}
 use Rattle.std.specs.List.{list_any}
 use Rattle.std.specs.Option.{option_map, option_map_or}
 use Rattle.std.proofs.lemmas.Bool.{cases_lt, false≢true}
-use Rattle.std.proofs.lemmas.List.{take_more}
+use Rattle.std.proofs.lemmas.List.{get_or-map, take_more}
 use Rattle.std.proofs.lemmas.List.Folds.{list_any-append}
 use Rattle.lemmas.proofs.Lists.{at-within}
 use Rattle.lemmas.proofs.Writes.{at_set}
@@ -24,6 +24,12 @@ use Rattle.object_names.specs.Unknown.{AreFound, has_unknown_by, HasUnknown, Has
 use Rattle.object_groups.specs.FirstLaws.{first-either, first-same}
 
 -- ---- the blocks one after another
+
+-- what was found of the block at a place
+pub marked-at : (blocks : List Block) (registered : List Bool) (i : ℕ) (x : Block) → registered ≡ map is_registered blocks → i < length blocks → x ≡ get_or blocks i x
+    → get_or registered i false ≡ is_registered x
+marked-at blocks registered i x are within is =
+    ap (λ (marks : List Bool). get_or marks i false) are ∙ get_or-map is_registered blocks i x false within ∙ ap is_registered (sym is)
 
 -- what is said of a place, by its block
 pub at-place : (blocks : List Block) (reference : Reference) (i : ℕ) (x : Block) (unknown : Bool) → slice_get blocks i ≡ Some x → unknown ≡ names_unknown_by blocks i reference x

@@ -1,6 +1,6 @@
 //! Names that blocks mention and that nothing has.
 
-ghost use Rattle.std.specs.Prelude.{◌≡◌, map, true, None, slice_index_or, IfOk, OnOk};
+ghost use Rattle.std.specs.Prelude.{◌≡◌, map, false, true, None, slice_index_or, IfOk, OnOk};
 ghost use Rattle.std.specs.Option.{option_copied};
 ghost use Rattle.object_inheritance.specs.Inherited.{name};
 ghost use Rattle.object_groups.specs.First.{IsFirst};
@@ -115,19 +115,43 @@ fn is_registered(block: &Block) -> bool
     registers(value_in(block.directives.as_slice(), "register".as_bytes()))
 }
 
+/// Of each block whether it is an object.
+fn registered_blocks(alloc: Global, blocks: &[Block]) -> Result<Vec<bool>, AllocError>
+    ensures { IfOk result (λ registered. registered.items ≡ map is_registered blocks.now) }
+{
+    let mut registered = Vec::with_capacity(alloc, blocks.len())?;
+    for block in blocks {
+        registered.push(is_registered(block))?;
+    }
+    Ok(registered)
+}
+
+/// Whether the block at the place is an object, as was found of each before.
+fn is_marked(registered: &[bool], place: usize) -> bool
+    ensures { result ≡ slice_index_or registered.now place false }
+{
+    if place < registered.len() {
+        registered[place]
+    } else {
+        false
+    }
+}
+
 /// Whether the block, which stands at the place, is registered and names by the reference something that
-/// none of the names is.
+/// none of the names is. Nothing is looked at of a template alone.
 fn names_unknown<'a>(
     alloc: Global,
     values: &Values<'a>,
     reference: Reference,
     names: &Names<'a>,
+    registered: &[bool],
     found: &mut Vec<Option<bool>>,
     block: &Block,
     place: usize,
 ) -> Result<bool, AllocError>
     requires directive { values.now.directive ≡ directive_of reference }
     requires names { names.now ≡ names_in values.now.blocks (block_kind (named_of reference)) }
+    requires registered { slice_index_or registered.now place false ≡ is_registered block.now }
     requires found { AreFound (reading_of reference) names.now values.now found.old.items }
     ensures found { OnOk result (AreFound (reading_of reference) names.now values.now
         found.new.items) }
@@ -137,8 +161,10 @@ fn names_unknown<'a>(
     if !is_reference_of(reference, block.kind) {
         return Ok(false);
     }
-    let reading = reading_of(reference);
-    Ok(is_unknown_once(alloc, values, reading, names, found, place)? && is_registered(block))
+    if !is_marked(registered, place) {
+        return Ok(false);
+    }
+    is_unknown_once(alloc, values, reading_of(reference), names, found, place)
 }
 
 /// The place of the first block that names something which none of the names is, by the reference of which these are
@@ -149,16 +175,20 @@ fn first_in<'a>(
     values: &Values<'a>,
     reference: Reference,
     names: &Names<'a>,
+    registered: &[bool],
 ) -> Result<Option<usize>, AllocError>
     requires blocks { blocks.now ≡ values.now.blocks }
     requires directive { values.now.directive ≡ directive_of reference }
     requires names { names.now ≡ names_in values.now.blocks (block_kind (named_of reference)) }
+    requires registered { registered.now ≡ map is_registered values.now.blocks }
     ensures { IfOk result (IsFirst (λ place.
         has_unknown_by values.now.blocks place reference ≡ true)) }
 {
     let mut found = vec![in alloc; None; blocks.len()]?;
     for (place, block) in blocks.iter().enumerate() {
-        if names_unknown(alloc, values, reference, names, &mut found, block, place)? {
+        if names_unknown(
+            alloc, values, reference, names, registered, &mut found, block, place,
+        )? {
             return Ok(Some(place));
         }
     }
@@ -170,15 +200,24 @@ fn first_by<'a>(
     alloc: Global,
     templates: &Templates<'a>,
     objects: &NamedObjects<'a>,
+    registered: &[bool],
     reference: Reference,
 ) -> Result<Option<usize>, AllocError>
-    requires { objects.now ≡ templates.now }
+    requires objects { objects.now ≡ templates.now }
+    requires registered { registered.now ≡ map is_registered templates.now }
     ensures { IfOk result (IsFirst (λ place.
         has_unknown_by templates.now place reference ≡ true)) }
 {
     let values = Values::new(alloc, templates, directive_of(reference).as_bytes())?;
     let named = objects.objects(named_of(reference));
-    first_in(alloc, templates.blocks(), &values, reference, named.names())
+    first_in(
+        alloc,
+        templates.blocks(),
+        &values,
+        reference,
+        named.names(),
+        registered,
+    )
 }
 
 /// The place of the first block that names by one of the references something that isn't there.
@@ -191,9 +230,11 @@ fn first_among<'a>(
     requires { objects.now ≡ templates.now }
     ensures { IfOk result (IsFirst (HasUnknownAmong templates.now references.now)) }
 {
+    let marks = registered_blocks(alloc, templates.blocks())?;
+    let registered = marks.as_slice();
     let mut first = None;
     for reference in references {
-        let found = first_by(alloc, templates, objects, *reference)?;
+        let found = first_by(alloc, templates, objects, registered, *reference)?;
         first = lower(first, found);
     }
     Ok(first)
@@ -206,8 +247,8 @@ fn first_among<'a>(
 /// contact groups, and otherwise a name; an empty period is always; a list that begins with `+` is what
 /// is inherited and its own; `null` is empty. The `members` of service groups and the descriptions of services
 /// aren't looked at here. `objects` are those of the same blocks. The time grows with the blocks, their directives,
-/// the templates that they use and the entries of their lists: those that several blocks take from one are looked up
-/// once. It takes some 24 bytes a block. A refused growth leaves nothing.
+/// the templates that they use and the entries of the lists that registered blocks have: those that several blocks take
+/// from one are looked up once. It takes some 24 bytes a block. A refused growth leaves nothing.
 pub fn first_unknown<'a>(
     alloc: Global,
     templates: &Templates<'a>,

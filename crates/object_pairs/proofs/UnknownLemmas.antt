@@ -18,7 +18,7 @@ use Rattle.object_reader.specs.declared.block.BlockKind.TheVariants.{Host, Servi
 use Rattle.object_services.specs.Numbers.{Key}
 use Rattle.object_pairs.specs.Members.{AreServicePairs, HasUnknownMember, IsServicePair}
 use Rattle.object_pairs.specs.Pairs.{by_two, NamedPair, pairs_in}
-use Rattle.object_pairs.specs.Wanted.{AreAllWanted, AreFound, AreWanted, has, is_found, IsWanted, lacks_pair, LacksPair}
+use Rattle.object_pairs.specs.Wanted.{AreAllWanted, AreFound, AreWanted, has, is_found, IsWanted, lacks_at, lacks_pair, LacksPair}
 use Rattle.object_pairs.proofs.PairLemmas.{front-more, Text}
 
 -- ---- pairs that are found are services
@@ -130,30 +130,27 @@ module _ (blocks : List Block) where
       (cases_lt m n)
 
   module _ (hosts : List (List ℕ)) (found : List Key) (values : Column) where
-    abbrev pub lacks_at : ℕ → Bool
-    lacks_at place = lacks_pair hosts found (list_at values.blocks values.directive place)
-
-    pub first-here : (places : List ℕ) (number : ℕ) → places ≡ objects_in blocks ServiceGroup → number < length places → NoneLacks lacks_at number → lacks_at (get_or places number 0) ≡ true
+    pub first-here : (places : List ℕ) (number : ℕ) → places ≡ objects_in blocks ServiceGroup → number < length places → NoneLacks (lacks_at hosts found values) number → lacks_at hosts found values (get_or places number 0) ≡ true
         → IsFirst (LacksPair blocks hosts found values) (Some (get_or places number 0))
     first-here places number listed within before here =
         let ps = objects_in blocks ServiceGroup in
         let under : number < length ps = subst (λ (xs : List ℕ). number < length xs) listed within in
         subst (λ (xs : List ℕ). IsFirst (LacksPair blocks hosts found values) (Some (get_or xs number 0))) (sym listed) (
-          (is-group (get_or ps number 0) (Contains-get_or ps number 0 under), subst (λ (xs : List ℕ). lacks_at (get_or xs number 0) ≡ true) listed here),
+          (is-group (get_or ps number 0) (Contains-get_or ps number 0 under), subst (λ (xs : List ℕ). lacks_at hosts found values (get_or xs number 0) ≡ true) listed here),
           (λ k early other.
               let one = number-at k other.0 in
               let less : get_or ps one.0 0 < get_or ps number 0 = let there = one.2 in omega (arith, early, there) in
               let low = number-lower one.0 number one.1 under less in
-              false≢true (sym (before.none one.0 low) ∙ ap lacks_at one.2 ∙ other.1)),
+              false≢true (sym (before.none one.0 low) ∙ ap (lacks_at hosts found values) one.2 ∙ other.1)),
         )
 
-    pub first-none : (places : List ℕ) (number : ℕ) → places ≡ objects_in blocks ServiceGroup → length places ≤ number → NoneLacks lacks_at number
+    pub first-none : (places : List ℕ) (number : ℕ) → places ≡ objects_in blocks ServiceGroup → length places ≤ number → NoneLacks (lacks_at hosts found values) number
         → IsFirst (LacksPair blocks hosts found values) None
     first-none places number listed all before = λ k other.
         let one = number-at k other.0 in
         let under = one.1 in
         let long : length places ≡ length (objects_in blocks ServiceGroup) = ap (λ (xs : List ℕ). length xs) listed in
-        false≢true (sym (before.none one.0 (omega (arith, under, long, all))) ∙ ap lacks_at one.2 ∙ other.1)
+        false≢true (sym (before.none one.0 (omega (arith, under, long, all))) ∙ ap (lacks_at hosts found values) one.2 ∙ other.1)
 
 -- ---- what is found is what is said
 

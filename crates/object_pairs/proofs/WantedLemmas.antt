@@ -1,17 +1,19 @@
 -- The pairs that are wanted, one more.
-use Rattle.std.proofs.Common.{◌≡◌, ℕ, ◌+◌, ◌<◌, Bool, true, false, cond, ◌&&◌, List, [], ◌∷◌, length, take, get_or, Option, Some, None, refl, sym, ap, subst, eqb, eq-eqb, ◌∙◌}
+use Rattle.std.proofs.Common.{◌≡◌, ℕ, ◌+◌, ◌<◌, Bool, true, false, cond, ◌&&◌, List, [], ◌∷◌, length, take, replicate, get_or, Option, Some, None, refl, sym, ap, subst, eqb, eq-eqb, ◌∙◌}
 use Rattle.std.specs.Prelude.{All}
 use Rattle.std.specs.Str.{bytes_eq}
+use Rattle.std.proofs.lemmas.Bool.{false≢true}
 use Rattle.std.proofs.lemmas.Cmp.{nat_list_eq_equiv}
 use Rattle.std.proofs.lemmas.List.{take_more}
 use Rattle.std.proofs.lemmas.List.Elements.{All-append, All-cons, All-nil, All-weaker}
 use Rattle.std.proofs.lemmas.Option.{none-some, same_Some}
+use Rattle.lemmas.proofs.Lists.{none-marked}
 use Rattle.object_groups.specs.Names.{number_of}
 use Rattle.object_groups.specs.Objects.{list_at}
 use Rattle.object_inheritance.specs.Columns.{Column}
 use Rattle.object_services.specs.Numbers.{Key, Pair}
 use Rattle.object_pairs.specs.Pairs.{by_two, NamedPair, pairs_in}
-use Rattle.object_pairs.specs.Wanted.{AreAllWanted, AreWanted, has, IsWanted, Keeps}
+use Rattle.object_pairs.specs.Wanted.{AreAllWanted, AreMarked, AreWanted, AreWantedAt, has, IsWanted, Keeps}
 use Rattle.object_pairs.proofs.PairLemmas.{front-more, Text}
 
 -- what a set has after one more
@@ -84,16 +86,22 @@ list-without hosts keys entries is pairs at = absurd (none-some pairs (is ∙ at
 
 -- one list more
 module _ (hosts : List (List ℕ)) (values : Column) where
-  abbrev pub At : List Key → ℕ → Type 0
-  At keys place = AreWanted hosts keys (list_at values.blocks values.directive place)
+  pub wanted-still : (old new : List Key) → Keeps old new → (place : ℕ) → AreWantedAt hosts old values place → AreWantedAt hosts new values place
+  wanted-still old new keeps place = list-kept hosts old new keeps (list_at values.blocks values.directive place)
 
   pub lists-none : (keys : List Key) → AreAllWanted hosts keys values []
-  lists-none keys = All-nil (At keys)
+  lists-none keys = All-nil (AreWantedAt hosts keys values)
 
   pub lists-more : (old new : List Key) (places : List ℕ) (i : ℕ) → i < length places → AreAllWanted hosts old values (take i places) → Keeps old new
-      → At new (get_or places i 0) → AreAllWanted hosts new values (take (i + 1) places)
+      → AreWantedAt hosts new values (get_or places i 0) → AreAllWanted hosts new values (take (i + 1) places)
   lists-more old new places i within before keeps here =
-      subst (λ (ps : List ℕ). All (At new) ps) (sym (take_more places i 0 within))
-      (All-append (At new) (take i places) (get_or places i 0 ∷ [])
-      (All-weaker (At old) (At new) (λ place. list-kept hosts old new keeps (list_at values.blocks values.directive place)) (take i places) before)
-      (All-cons (At new) (get_or places i 0) [] here (All-nil (At new))))
+      subst (λ (ps : List ℕ). AreAllWanted hosts new values ps) (sym (take_more places i 0 within))
+      (All-append (AreWantedAt hosts new values) (take i places) (get_or places i 0 ∷ [])
+      (All-weaker (AreWantedAt hosts old values) (AreWantedAt hosts new values) (wanted-still old new keeps) (take i places) before)
+      (All-cons (AreWantedAt hosts new values) (get_or places i 0) [] here (All-nil (AreWantedAt hosts new values))))
+
+-- no block was read yet
+pub nothing-read : (P : ℕ → Type 0) (marks : List Bool) (count : ℕ) → marks ≡ replicate count false → AreMarked P marks
+nothing-read P marks count is = record {
+  each = λ at mark. absurd (false≢true (sym (ap (λ (ms : List Bool). get_or ms at false) is ∙ none-marked count at) ∙ mark));
+}

@@ -1,6 +1,6 @@
 -- How it is found which pairs are services: first all pairs that members name, and then those of them that service
 -- blocks give.
-use Rattle.std.specs.Prelude.{◌≡◌, ℕ, ◌<◌, Bool, true, false, not, ◌&&◌, ◌||◌, ◌==◌, ◌↔◌, List, All, length, Some}
+use Rattle.std.specs.Prelude.{◌≡◌, ℕ, ◌<◌, Bool, true, false, not, ◌&&◌, ◌||◌, ◌==◌, ◌↔◌, List, All, length, Some, slice_index_or}
 use Rattle.std.specs.List.{list_all, list_any}
 use Rattle.std.specs.Option.{option_map_or}
 use Rattle.std.specs.Str.{bytes_eq}
@@ -34,10 +34,14 @@ abbrev pub AreWanted : (hosts : List (List ℕ)) → List Key → (entries : Lis
 AreWanted hosts keys entries = (pairs : List NamedPair)
     → by_two entries ≡ Some pairs → All (IsWanted hosts keys) pairs
 
+-- those of the list that the block at the place has are
+abbrev pub AreWantedAt : (hosts : List (List ℕ)) → List Key → Column → (place : ℕ) → Type 0
+AreWantedAt hosts keys values place =
+    AreWanted hosts keys (list_at values.blocks values.directive place)
+
 -- those of the lists that the blocks at these places have are
 abbrev pub AreAllWanted : (hosts : List (List ℕ)) → List Key → Column → (places : List ℕ) → Type 0
-AreAllWanted hosts keys values places =
-    All (λ place. AreWanted hosts keys (list_at values.blocks values.directive place)) places
+AreAllWanted hosts keys values places = All (AreWantedAt hosts keys values) places
 
 -- a host with each of these descriptions is there
 abbrev pub AreWith : List Key → (descriptions : List (List ℕ)) → (host : ℕ) → Type 0
@@ -84,8 +88,19 @@ abbrev pub lacks_pair : (hosts : List (List ℕ)) → (found : List Key) → (en
 lacks_pair hosts found entries =
     option_map_or (λ pairs. not (list_all (is_found hosts found) pairs)) (by_two entries) true
 
+-- whether that is so of the list that the block at the place has
+abbrev pub lacks_at : (hosts : List (List ℕ)) → (found : List Key) → Column → (place : ℕ) → Bool
+lacks_at hosts found values place =
+    lacks_pair hosts found (list_at values.blocks values.directive place)
+
 -- the block at the place is a service group, and that is so of what it has for the directive of the values
 abbrev pub LacksPair : List Block → (hosts : List (List ℕ)) → (found : List Key) → Column → ℕ
     → Type 0
 LacksPair blocks hosts found values place = (is_object_at blocks ServiceGroup place ≡ true)
-    × (lacks_pair hosts found (list_at values.blocks values.directive place) ≡ true)
+    × (lacks_at hosts found values place ≡ true)
+
+-- ---- what was read of blocks before
+
+-- Of each block that is marked, by its place, `P` says that it is so.
+pub record AreMarked (P : (place : ℕ) → Type 0) (marks : List Bool) : Type 0 where
+  pub each : (place : ℕ) → slice_index_or marks place false ≡ true → P place

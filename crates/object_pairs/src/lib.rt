@@ -2,6 +2,7 @@
 //! group with members that aren't, and the services that members name.
 #![tactic(auto)]
 
+mod marks;
 pub mod members;
 pub mod pairs;
 pub mod unknown;

@@ -1,15 +1,15 @@
 //! Service groups whose members aren't hosts and services by turns.
 
-ghost use Rattle.std.specs.Prelude.{◌≡◌, IfOk};
+ghost use Rattle.std.specs.Prelude.{◌≡◌, false, IfOk, OnOk};
 ghost use Rattle.std.specs.List.{list_all};
 ghost use Rattle.object_groups.specs.declared.groups.GroupKind.TheVariants.{HostGroups};
-ghost use Rattle.object_groups.specs.Objects.{list_at};
 ghost use Rattle.object_groups.specs.First.{IsFirst};
 ghost use Rattle.object_pairs.specs.Members.{HasUnknownMember};
 ghost use Rattle.object_pairs.specs.Pairs.{pairs_in};
-ghost use Rattle.object_pairs.specs.Wanted.{is_found, lacks_pair, LacksPair};
+ghost use Rattle.object_pairs.specs.Wanted.{AreMarked, is_found, lacks_at, LacksPair};
 ghost use Rattle.object_reader.specs.declared.block.BlockKind.TheVariants.{ServiceGroup};
 
+use crate::marks::is_marked;
 use crate::pairs::by_two;
 use crate::wanted::{found_among, wanted_in};
 use indexmap::IndexSet;
@@ -61,8 +61,7 @@ fn lacks_pair<'a>(
     values: &Values<'a>,
     place: usize,
 ) -> Result<bool, AllocError>
-    ensures { IfOk result (λ lacks. lacks ≡ lacks_pair hosts.now found.now.keys
-        (list_at values.now.blocks values.now.directive place)) }
+    ensures { IfOk result (λ lacks. lacks ≡ lacks_at hosts.now found.now.keys values.now place) }
 {
     let entries = list_at(alloc, values, place)?;
     match by_two(alloc, entries.as_slice())? {
@@ -71,20 +70,53 @@ fn lacks_pair<'a>(
     }
 }
 
-/// The place of the first of the service groups of which that is so.
+/// The same, judged once for all blocks that take from one block what they have. `whole` marks the blocks that give a
+/// list of which that isn't so.
+fn lacks_pair_once<'a>(
+    alloc: Global,
+    hosts: &Names<'a>,
+    found: &IndexSet<(usize, &'a [u8])>,
+    values: &Values<'a>,
+    whole: &mut Vec<bool>,
+    place: usize,
+) -> Result<bool, AllocError>
+    requires { AreMarked (λ place. lacks_at hosts.now found.now.keys values.now place ≡ false)
+        whole.old.items }
+    ensures whole { OnOk result
+        (AreMarked (λ place. lacks_at hosts.now found.now.keys values.now place ≡ false)
+        whole.new.items) }
+    ensures lacks { IfOk result (λ lacks.
+        lacks ≡ lacks_at hosts.now found.now.keys values.now place) }
+{
+    let origin = values.origin(place);
+    if is_marked(whole.as_slice(), origin) {
+        return Ok(false);
+    }
+    if lacks_pair(alloc, hosts, found, values, place)? {
+        return Ok(true);
+    }
+    if origin < whole.len() {
+        whole[origin] = true;
+    }
+    Ok(false)
+}
+
+/// The place of the first of the service groups of which that is so, where `count` is how many blocks there are.
 fn first_lacking<'a>(
     alloc: Global,
     groups: &Objects<'a>,
     hosts: &Names<'a>,
     found: &IndexSet<(usize, &'a [u8])>,
     values: &Values<'a>,
+    count: usize,
 ) -> Result<Option<usize>, AllocError>
     requires { groups.now.kind ≡ ServiceGroup }
     ensures { IfOk result (IsFirst
         (LacksPair groups.now.blocks hosts.now found.now.keys values.now)) }
 {
+    let mut whole = vec![in alloc; false; count]?;
     for place in groups.places() {
-        if lacks_pair(alloc, hosts, found, values, *place)? {
+        if lacks_pair_once(alloc, hosts, found, values, &mut whole, *place)? {
             return Ok(Some(*place));
         }
     }
@@ -94,8 +126,9 @@ fn first_lacking<'a>(
 /// The place of the first registered service group, in file order, whose `members` aren't hosts and services by turns,
 /// if there is one: an entry is left over, a first isn't the name of a host, or no service block with the
 /// second as its description has that host. `services` are the service blocks and `hosts` the host groups
-/// of the same blocks. Where any members are named, the time grows with that of `hosts_at` for each service block,
-/// and the memory with the entries of the `members`, however many services there are. A refused growth
+/// of the same blocks. The time grows with the blocks and the entries of the `members`, where those that several groups
+/// take from one block are read once, and, where any members are named, with that of `hosts_at` for each service block;
+/// the memory grows with the blocks and the entries of the `members`, however many services there are. A refused growth
 /// leaves the groups as they were.
 pub fn first_unknown_member<'a>(
     alloc: Global,
@@ -110,7 +143,21 @@ pub fn first_unknown_member<'a>(
 {
     let groups = Objects::new(alloc, templates, BlockKind::ServiceGroup)?;
     let values = Values::new(alloc, templates, "members".as_bytes())?;
-    let wanted = wanted_in(alloc, hosts.objects().names(), &values, groups.places())?;
+    let count = templates.blocks().len();
+    let wanted = wanted_in(
+        alloc,
+        hosts.objects().names(),
+        &values,
+        groups.places(),
+        count,
+    )?;
     let found = found_among(alloc, services, hosts, &wanted)?;
-    first_lacking(alloc, &groups, hosts.objects().names(), &found, &values)
+    first_lacking(
+        alloc,
+        &groups,
+        hosts.objects().names(),
+        &found,
+        &values,
+        count,
+    )
 }

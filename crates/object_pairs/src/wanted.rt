@@ -2,13 +2,14 @@
 
 ghost use Rattle.std.specs.Prelude.{◌≡◌, ◌∷◌, [], ℕ, All, IfOk, OnOk, Some, true};
 ghost use Rattle.object_groups.specs.declared.groups.GroupKind.TheVariants.{HostGroups};
-ghost use Rattle.object_groups.specs.Objects.{list_at};
 ghost use Rattle.object_pairs.specs.Pairs.{pairs_in};
-ghost use Rattle.object_pairs.specs.Wanted.{AddsFound, AreAllWanted, AreFound, AreWanted, AreWith};
+ghost use Rattle.object_pairs.specs.Wanted.{AddsFound, AreAllWanted, AreFound, AreMarked};
+ghost use Rattle.object_pairs.specs.Wanted.{AreWantedAt, AreWith};
 ghost use Rattle.object_pairs.specs.Wanted.{has, IsWanted};
 ghost use Rattle.object_pairs.specs.Wanted.{Keeps};
 ghost use Rattle.object_values.specs.Values.{texts};
 
+use crate::marks::is_marked;
 use crate::pairs::by_two;
 use indexmap::IndexSet;
 use object_groups::groups::Groups;
@@ -58,8 +59,7 @@ fn want_at<'a>(
     place: usize,
 ) -> Result<(), AllocError>
     ensures keeps { OnOk result (Keeps wanted.old.keys wanted.new.keys) }
-    ensures all { OnOk result (AreWanted hosts.now wanted.new.keys
-        (list_at values.now.blocks values.now.directive place)) }
+    ensures all { OnOk result (AreWantedAt hosts.now wanted.new.keys values.now place) }
 {
     let entries = list_at(alloc, values, place)?;
     match by_two(alloc, entries.as_slice())? {
@@ -68,19 +68,49 @@ fn want_at<'a>(
     }
 }
 
-/// The pairs of the lists that the blocks at the places have for the directive of the values.
+/// The same, read once for all blocks that take from one block what they have. `read` marks the blocks that give what
+/// was read.
+fn want_once<'a>(
+    alloc: Global,
+    wanted: &mut IndexSet<(usize, &'a [u8])>,
+    hosts: &Names<'a>,
+    values: &Values<'a>,
+    read: &mut Vec<bool>,
+    place: usize,
+) -> Result<(), AllocError>
+    requires { AreMarked (AreWantedAt hosts.now wanted.old.keys values.now) read.old.items }
+    ensures read { OnOk result
+        (AreMarked (AreWantedAt hosts.now wanted.new.keys values.now) read.new.items) }
+    ensures keeps { OnOk result (Keeps wanted.old.keys wanted.new.keys) }
+    ensures all { OnOk result (AreWantedAt hosts.now wanted.new.keys values.now place) }
+{
+    let origin = values.origin(place);
+    if is_marked(read.as_slice(), origin) {
+        return Ok(());
+    }
+    want_at(alloc, wanted, hosts, values, place)?;
+    if origin < read.len() {
+        read[origin] = true;
+    }
+    Ok(())
+}
+
+/// The pairs of the lists that the blocks at the places have for the directive of the values, where `count` is how many
+/// blocks there are.
 pub(crate) fn wanted_in<'a>(
     alloc: Global,
     hosts: &Names<'a>,
     values: &Values<'a>,
     places: &[usize],
+    count: usize,
 ) -> Result<IndexSet<(usize, &'a [u8])>, AllocError>
     ensures { IfOk result (λ wanted.
         AreAllWanted hosts.now wanted.keys values.now places.now) }
 {
     let mut wanted = IndexSet::new(alloc);
+    let mut read = vec![in alloc; false; count]?;
     for place in places {
-        want_at(alloc, &mut wanted, hosts, values, *place)?;
+        want_once(alloc, &mut wanted, hosts, values, &mut read, *place)?;
     }
     Ok(wanted)
 }

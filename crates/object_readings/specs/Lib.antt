@@ -1,3 +1,4 @@
 pub mod Readings
 pub mod ReadingLaws
 pub mod Periods
+pub mod Plain

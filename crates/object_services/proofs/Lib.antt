@@ -3,5 +3,4 @@ mod LimitLemmas
 mod LimitLaws
 mod DoubledLemmas
 mod AlikeLemmas
-mod UnknownLemmas
 mod PairLemmas

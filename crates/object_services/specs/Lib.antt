@@ -4,6 +4,5 @@ pub mod Limits
 pub mod Laws
 pub mod Doubled
 pub mod Alike
-pub mod Unknown
 pub mod Numbers
 pub mod HostLaws

@@ -1,17 +1,22 @@
-use Rattle.std.proofs.Common.{◌∙◌, List, ap, get_or, refl, subst, take, take_all, ℕ}
+use Rattle.std.proofs.Common.{rules, ◌∙◌, List, get_or, refl, subst, take, take_all, ℕ}
 use Rattle.std.proofs.lemmas.List.{take_more}
 use Rattle.object_contacts.specs.Lanes.{NamesCommand}
 use Rattle.object_contacts.specs.Marks.{Marks, OfSome}
+use Rattle.object_contacts.proofs.LaneLemmas.{nothing-read}
 use Rattle.object_contacts.proofs.MarkLemmas.{marks-more, marks-none}
 use Rattle.object_contacts.proofs.lanes.mark_used_for.Goals as goal
 use Rattle.object_groups.specs.Objects.{list_at}
-use Rattle.object_values.specs.Values.{texts}
 
 pub loop-place-init : goal.loop-place-init
 loop-place-init c = record {
   long = refl;
   marked = marks-none (λ place. NamesCommand c.args.commands.now (list_at c.args.values.now.blocks c.args.values.now.directive place)) c.args.marks.now;
+  read = nothing-read c.args.commands.now c.args.values.now c.in_ok-read.read.items c.args.marks.now c.args.count
+      (c.in_ok-read.ensures.items_if_clones_equal (λ y is. search rules));
 }
+
+pub mark_used_once-requires-clause-long : goal.mark_used_once-requires-clause-long
+mark_used_once-requires-clause-long c = c.loop-place.invariant.long ∙ c.requires
 
 pub loop-place-preserved : goal.loop-place-preserved
 loop-place-preserved c =
@@ -20,11 +25,10 @@ loop-place-preserved c =
     let places = c.args.places.now in
     let i = c.loop-place.place-index in
     record {
-      long = c.mark_used.ensures.long ∙ c.loop-place.invariant.long;
+      long = c.mark_used_once.ensures.long ∙ c.loop-place.invariant.long;
       marked = marks-more (λ place. NamesCommand commands (list_at values.blocks values.directive place)) (take i places) _ (get_or places i 0) _ c.loop-place.marks _
-          (take_more places i 0 c.loop-place-test.true) c.loop-place.invariant.marked
-          (subst (λ (entries : List (List ℕ)). Marks (NamesCommand commands entries) c.loop-place.marks c.mark_used.new.marks)
-          (ap texts c.as_slice.ensures.value ∙ c.in_ok-entries.ensures) c.mark_used.ensures.marked);
+          (take_more places i 0 c.loop-place-test.true) c.loop-place.invariant.marked c.in_ok-mark_used_once.ensures.marked;
+      read = c.in_ok-mark_used_once.ensures.read;
     }
 
 pub returns-clause-marked : goal.returns-clause-marked

@@ -1,12 +1,15 @@
-use Rattle.std.proofs.Common.{List, subst, take_all}
+use Rattle.std.proofs.Common.{◌∙◌, List, ap, map, subst, take_all}
 use Rattle.object_names.specs.declared.references.Reference.{Reference}
 use Rattle.object_groups.specs.First.{IsFirst}
-use Rattle.object_names.specs.Unknown.{HasUnknownAmong}
+use Rattle.object_names.specs.Unknown.{HasUnknownAmong, is_registered}
 use Rattle.object_names.proofs.UnknownLemmas.{none-yet, one-more}
 use Rattle.object_names.proofs.unknown.first_among.Goals as goal
 
 pub loop-reference-init : goal.loop-reference-init
 loop-reference-init c = none-yet c.args.templates.now
+
+pub first_by-requires-clause-registered : goal.first_by-requires-clause-registered
+first_by-requires-clause-registered c = c.as_slice-registered.ensures.value ∙ c.in_ok-marks.ensures ∙ ap (map is_registered) c.blocks-2.ensures.value
 
 pub loop-reference-preserved : goal.loop-reference-preserved
 loop-reference-preserved c =

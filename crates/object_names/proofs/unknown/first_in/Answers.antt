@@ -2,7 +2,7 @@ use Rattle.std.proofs.Common.{rules, ◌≡◌, ◌∙◌, ◌<◌, ◌≤◌, L
 use Rattle.std.proofs.lemmas.Option.{slice_get_read}
 use Rattle.object_reader.specs.declared.block.Block.{Block}
 use Rattle.object_names.specs.Unknown.{has_unknown_by}
-use Rattle.object_names.proofs.UnknownLemmas.{at-place, first-here, first-none, none-before, none-found, none-here}
+use Rattle.object_names.proofs.UnknownLemmas.{at-place, first-here, first-none, marked-at, none-before, none-found, none-here}
 use Rattle.object_names.proofs.unknown.first_in.Goals as goal
 
 pub loop-place-init : goal.loop-place-init
@@ -10,6 +10,15 @@ loop-place-init c = record {
   none = none-before (λ place. has_unknown_by c.args.values.now.blocks place c.args.reference);
   found = none-found _ c.args.names.now c.args.values.now c.in_ok-found.found.items (length c.args.blocks.now) (c.in_ok-found.ensures.items_if_clones_equal (λ y is. search rules));
 }
+
+pub names_unknown-requires-clause-registered : goal.names_unknown-requires-clause-registered
+names_unknown-requires-clause-registered c =
+    let blocks = c.args.values.now.blocks in
+    let i = c.loop-place.place in
+    let x = c.index-blocks-place.result in
+    let long = ap (λ (list : List Block). length list) c.requires.blocks in
+    let within : i < length blocks = omega (arith, long, c.loop-place-test.true) in
+    marked-at blocks c.args.registered.now i x c.requires.registered within (c.index-blocks-place.is ∙ ap (λ (list : List Block). get_or list i x) c.requires.blocks)
 
 pub returns-then-branch : goal.returns-then-branch
 returns-then-branch c =
