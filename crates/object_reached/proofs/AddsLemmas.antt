@@ -1,12 +1,15 @@
 -- Numbers that come to numbers: those of one thing, and of one thing more.
-use Rattle.std.proofs.Common.{◌≡◌, ℕ, zero, suc, ◌+◌, ◌<◌, Bool, List, [], ◌∷◌, ◌++◌, length, filter, get_or, Some, refl, sym, ap, subst, ◌∙◌, ◌⊎◌, inl, inr, ⊎_elim, arith}
-use Rattle.std.specs.Prelude.{Contains, slice_get, ◌↔◌}
+use Rattle.std.proofs.Common.{◌≡◌, ℕ, zero, suc, ◌<◌, ◌≤◌, Bool, List, [], ◌∷◌, ◌++◌, length, filter, get_or, Option, None, Some, refl, sym, ap, subst, ◌∙◌, ◌⊎◌, inl, inr, ⊎_elim, arith}
+use Rattle.std.specs.Prelude.{All, Contains, slice_get, ◌↔◌}
+use Rattle.std.specs.List.{range_with_len}
+use Rattle.std.specs.Option.{option_to_list}
 use Rattle.std.proofs.lemmas.List.{get_or-map, length-map}
-use Rattle.std.proofs.lemmas.List.Elements.{Contains-append_left, Contains-append_right, Contains-append_cases}
+use Rattle.std.proofs.lemmas.List.Elements.{All-contains, Contains-append_left, Contains-append_right, Contains-append_cases}
 use Rattle.std.proofs.lemmas.Option.{get_or_from_slice_get, slice_get-get_or}
-use Rattle.lemmas.proofs.Elements.{Contains-cases, Contains-filter, Contains-from_filter, Contains-here, Contains-none}
-use Rattle.object_reached.specs.Listed.{is_named, IsOn, OfSome}
-use Rattle.object_reached.specs.Services.{hosts_in}
+use Rattle.lemmas.proofs.Elements.{at-Contains, Contains-cases, Contains-filter, Contains-from_filter, Contains-here, Contains-none, Contains-range}
+use Rattle.object_reached.specs.Listed.{is_named, IsNthOn, IsOn, OfSome}
+use Rattle.object_reached.specs.Services.{hosts_in, services_on}
+use Rattle.object_reached.proofs.ServiceLemmas.{on-exactly}
 use Rattle.object_listing.specs.Listing.{Adds}
 use Rattle.object_services.specs.Numbers.{Pair}
 
@@ -108,3 +111,68 @@ adds-host services entries host ends old new are is k = (
         Contains-append_right old (filter test ends) k (Contains-filter test ends k
         ((are k).1 (omega (arith, low, long), host-read services k low ∙ ap (λ (p : Pair). p.0) read))
         (ap (λ (p : Pair). is_named entries p.1) read ∙ named))
+
+-- ---- the services of hosts, by turns
+
+-- that at one place of a host
+pub adds-nth : (services : List Pair) (entries : List (List ℕ)) (turn host : ℕ) (old new : List ℕ)
+    → new ≡ old ++ filter (λ service. is_named entries ((get_or services service (0, [])).1)) (option_to_list (slice_get (services_on services host) turn))
+    → Adds (IsNthOn services entries turn host) old new
+adds-nth services entries turn host old new is k = (
+  (λ at. ⊎_elim (λ (before : Contains old k). inl before) (λ (here : Contains (filter test (option_to_list nth)) k). inr (to here))
+      (Contains-append_cases old (filter test (option_to_list nth)) k (subst (λ ns. Contains ns k) is at))),
+  (λ either. subst (λ ns. Contains ns k) (sym is) (from either)),
+)
+  where
+    nth : Option ℕ
+    nth = slice_get (services_on services host) turn
+
+    test : ℕ → Bool
+    test service = is_named entries ((get_or services service (0, [])).1)
+
+    only : (found : Option ℕ) → Contains (option_to_list found) k → found ≡ Some k
+    only None at = absurd (Contains-none k at)
+    only (Some x) at = ⊎_elim (λ (same : x ≡ k). ap (λ (y : ℕ). Some y) same) (λ (none : Contains [] k). absurd (Contains-none k none)) (Contains-cases x k [] at)
+
+    to : Contains (filter test (option_to_list nth)) k → IsNthOn services entries turn host k
+    to here = let on = Contains-from_filter test (option_to_list nth) k here in (only nth on.0, on.1)
+
+    from : Contains old k ⊎ IsNthOn services entries turn host k → Contains (old ++ filter test (option_to_list nth)) k
+    from (inl before) = Contains-append_left old (filter test (option_to_list nth)) k before
+    from (inr (is_nth, named)) = Contains-append_right old (filter test (option_to_list nth)) k
+        (Contains-filter test (option_to_list nth) k (subst (λ (found : Option ℕ). Contains (option_to_list found) k) (sym is_nth) (Contains-here k [])) named)
+
+-- those of as many turns as the longest list has
+pub adds-by_turns : (services : List Pair) (entries : List (List ℕ)) (hosts : List ℕ) (turns : ℕ) (old new : List ℕ)
+    → All (λ host. length (services_on services host) ≤ turns) hosts
+    → Adds (OfSome (λ turn. OfSome (IsNthOn services entries turn) hosts) (range_with_len 0 turns)) old new → Adds (OfSome (IsOn services entries) hosts) old new
+adds-by_turns services entries hosts turns old new long added k = (
+  (λ at. ⊎_elim (λ (before : Contains old k). inl before) (λ (some : OfSome (λ turn. OfSome (IsNthOn services entries turn) hosts) (range_with_len 0 turns) k). inr (to some.0 some.2)) ((added k).0 at)),
+  (λ either. (added k).1 (⊎_elim (λ (before : Contains old k). inl before) (λ (some : OfSome (IsOn services entries) hosts k). inr (from some.0 some.1 some.2)) either)),
+)
+  where
+    to : (turn : ℕ) → OfSome (IsNthOn services entries turn) hosts k → OfSome (IsOn services entries) hosts k
+    to turn (host, there, (nth, named)) =
+        let both = (on-exactly services host k).0 (at-Contains (services_on services host) turn k nth) in
+        let same = length-map services (λ service. service.0) in
+        let first = both.0 in
+        let low : k < length services = omega (arith, first, same) in
+        let head : (get_or services k (0, [])).0 ≡ host = sym (host-read services k low) ∙ both.1 in
+        (host, there, ((get_or services k (0, [])).1, slice_get-get_or services k (0, []) low ∙ ap (λ (h : ℕ). Some (h, (get_or services k (0, [])).1)) head, named))
+
+    from : (host : ℕ) → Contains hosts host → IsOn services entries host k → OfSome (λ turn. OfSome (IsNthOn services entries turn) hosts) (range_with_len 0 turns) k
+    from host there (description, here, named) =
+        let low = place-there services k (host, description) here in
+        let read : get_or services k (0, []) ≡ (host, description) = get_or_from_slice_get services k (host, description) (0, []) here in
+        let same = length-map services (λ service. service.0) in
+        let at = (on-exactly services host k).1 (omega (arith, low, same), host-read services k low ∙ ap (λ (p : Pair). p.0) read) in
+        let few : length (services_on services host) ≤ turns = All-contains (λ h. length (services_on services h) ≤ turns) hosts host long there in
+        let within = at.1 in (
+          at.0,
+          Contains-range turns at.0 (omega (arith, within, few)),
+          (
+            host,
+            there,
+            (slice_get-get_or (services_on services host) at.0 k within ∙ ap (λ (s : ℕ). Some s) at.2, ap (λ (p : Pair). is_named entries p.1) read ∙ named),
+          ),
+        )

@@ -1,16 +1,16 @@
 -- Services by their hosts: the graph of them, and what stands at a place.
-use Rattle.std.proofs.Common.{◌≡◌, ℕ, ◌+◌, ◌<◌, ◌≤◌, List, [], ◌∷◌, ◌++◌, length, map, get_or, sym, ap, subst, ◌∙◌, ⊎_elim, arith}
+use Rattle.std.proofs.Common.{◌≡◌, ℕ, ◌+◌, ◌<◌, ◌≤◌, Bool, true, false, cond, eqb, eqb-true, eq-eqb, List, [], ◌∷◌, ◌++◌, length, map, filter, get_or, refl, sym, ap, subst, ◌∙◌, ⊎_elim, arith}
 use Rattle.std.specs.Prelude.{All, Contains, slice_index_or, ◌↔◌}
 use Rattle.std.specs.List.{flat_map, range_with_len}
 use Rattle.std.proofs.lemmas.List.{get_or-map, length-map, map-append}
 use Rattle.std.proofs.lemmas.List.Concat.{flat_map-cons}
 use Rattle.std.proofs.lemmas.List.Elements.{All-contains, All-from_get_or, Contains-append_cases, Contains-get_or}
 use Rattle.graph.specs.declared.edges.Edge.{Edge}
-use Rattle.graph.specs.Edges.{IsWithin, Leads}
-use Rattle.lemmas.proofs.Elements.{Contains-from_map, Contains-from_range, Contains-here, Contains-later, Contains-map, Contains-none, Contains-range}
+use Rattle.graph.specs.Edges.{HasEdges, IsWithin, ends_of}
+use Rattle.lemmas.proofs.Elements.{Contains-filter, Contains-from_filter, Contains-from_map, Contains-from_range, Contains-here, Contains-later, Contains-none, Contains-range}
 use Rattle.lemmas.proofs.Numbers.{below_more}
 use Rattle.object_services.specs.Numbers.{Key, Pair, pairs_in, pairs_of}
-use Rattle.object_reached.specs.Services.{edge, host_edges, hosts_in, IsByHost}
+use Rattle.object_reached.specs.Services.{edge, host_edges, hosts_in, IsByHost, services_on}
 
 -- ---- the host and the description at a place
 
@@ -82,22 +82,73 @@ edges-within keys bound nodes edges all few are = All-from_get_or (IsWithin node
     let below = hosts-within keys bound all e.to service in
     record { from = omega (arith, below, host, few); to = omega (arith, service, few) })
 
-pub by-host : (keys : List Key) (edges : List Edge) (graph : List (List ℕ)) → edges ≡ host_edges (hosts_in (pairs_in keys)) (length keys)
-    → ((p q : ℕ) → Leads graph p q ↔ Contains edges (record { from = p; to = q })) → IsByHost (hosts_in (pairs_in keys)) graph
-by-host keys edges graph are leads = record {
-  leads = λ host service. (
-    (λ led. let at = edge-at (hosts_in (pairs_in keys)) (length keys) host service (subst (λ es. Contains es (edge host service)) are ((leads host service).0 led)) in
-        let low = at.0 in let long = long-in keys in (omega (arith, low, long), at.1)),
-    (λ both. let low = both.0 in
-        let long = long-in keys in
-        (leads host service).1 (subst (λ es. Contains es (edge host service)) (sym are)
-        (subst (λ (h : ℕ). Contains (host_edges (hosts_in (pairs_in keys)) (length keys)) (edge h service)) both.1
-        (Contains-map (λ s. edge (get_or (hosts_in (pairs_in keys)) s 0) s) (range_with_len 0 (length keys)) service (Contains-range (length keys) service (omega (arith, low, long))))))),
-  );
+-- where the edges from a host lead
+ends-on : (host_of : ℕ → ℕ) (services : List ℕ) (host : ℕ) → ends_of (map (λ service. edge (host_of service) service) services) host ≡ filter (λ service. eqb (host_of service) host) services
+ends-on host_of [] host = refl
+ends-on host_of (s ∷ services) host =
+    elim (eqb (host_of s) host) as (λ b. map (λ (e : Edge). e.to) (cond b (edge (host_of s) s ∷ filter (λ (e : Edge). eqb e.from host) (map (λ service. edge (host_of service) service) services)) (filter (λ (e : Edge). eqb e.from host) (map (λ service. edge (host_of service) service) services)))
+    ≡ cond b (s ∷ filter (λ service. eqb (host_of service) host) services) (filter (λ service. eqb (host_of service) host) services)) [
+      | true ↦ ap (λ (more : List ℕ). s ∷ more) (ends-on host_of services host)
+      | false ↦ ends-on host_of services host
+    ]
+
+pub by-host : (keys : List Key) (bound nodes : ℕ) (edges : List Edge) (graph : List (List ℕ)) → All (λ key. key.0 < bound) keys → bound + length keys ≤ nodes
+    → edges ≡ host_edges (hosts_in (pairs_in keys)) (length keys) → HasEdges nodes edges graph → IsByHost (pairs_in keys) graph
+by-host keys bound nodes edges graph all few are has = record {
+  hosts = All-from_get_or (λ host. host < length graph) (hosts_in (pairs_in keys)) 0 (λ i low.
+      let long = long-in keys in
+      let below = hosts-within keys bound all i (omega (arith, low, long)) in
+      let count = has.count in
+      omega (arith, below, few, count));
+  ends = λ host low. let count = has.count in
+      has.ends host (omega (arith, low, count))
+      ∙ ap (λ (es : List Edge). ends_of es host) are
+      ∙ ends-on (λ service. get_or (hosts_in (pairs_in keys)) service 0) (range_with_len 0 (length keys)) host
+      ∙ ap (λ (n : ℕ). filter (λ service. eqb (get_or (hosts_in (pairs_in keys)) service 0) host) (range_with_len 0 n)) (sym (length-map {B = Pair} keys (λ key. (key.0, key.1.now))));
 }
 
--- the services of a host, where its node has these ends, and where there is no such node
-pub of-host : (hosts : List ℕ) (graph : List (List ℕ)) (host : ℕ) (ends : List ℕ) → IsByHost hosts graph → ends ≡ slice_index_or graph host []
-    → (service : ℕ) → Contains ends service ↔ ((service < length hosts) × (slice_index_or hosts service 0 ≡ host))
-of-host hosts graph host ends has are service =
-    subst (λ (es : List ℕ). Contains es service ↔ ((service < length hosts) × (slice_index_or hosts service 0 ≡ host))) (sym are) (has.leads host service)
+-- ---- the services of a host
+
+filter-none : (p : ℕ → Bool) (xs : List ℕ) → ((k : ℕ) → Contains xs k → p k ≡ false) → filter p xs ≡ []
+filter-none p [] never = refl
+filter-none p (x ∷ xs) never = rw (never x (Contains-here x xs)) (filter-none p xs (λ k at. never k (Contains-later x k xs at)))
+
+other-eqb : (a b : ℕ) → (a ≡ b → ⊥) → eqb a b ≡ false
+other-eqb a b differ = elim (eqb a b) as (λ found. eqb a b ≡ found → found ≡ false) [
+  | true ↦ λ same. absurd (differ (eqb-true a b same))
+  | false ↦ λ other. refl
+] refl
+
+-- of a host that is no node there are none
+pub none-on : (services : List Pair) (graph : List (List ℕ)) (host : ℕ) → IsByHost services graph → length graph ≤ host → [] ≡ services_on services host
+none-on services graph host has past = sym (filter-none (λ service. eqb (get_or (hosts_in services) service 0) host) (range_with_len 0 (length services))
+    (λ service at. other-eqb (get_or (hosts_in services) service 0) host (λ same.
+    let long = length-map services (λ one. one.0) in
+    let low = Contains-from_range (length services) service at in
+    let below = has.hosts service 0 (omega (arith, low, long)) in
+    omega (arith, below, same, past))))
+
+-- they are exactly those that have the host
+pub on-exactly : (services : List Pair) (host service : ℕ) → Contains (services_on services host) service ↔ ((service < length (hosts_in services)) × (get_or (hosts_in services) service 0 ≡ host))
+on-exactly services host service = (to, from)
+  where
+    test : ℕ → Bool
+    test one = eqb (get_or (hosts_in services) one 0) host
+
+    long : length (hosts_in services) ≡ length services
+    long = length-map services (λ one. one.0)
+
+    to : Contains (services_on services host) service → (service < length (hosts_in services)) × (get_or (hosts_in services) service 0 ≡ host)
+    to at =
+        let on = Contains-from_filter test (range_with_len 0 (length services)) service at in
+        let low = Contains-from_range (length services) service on.0 in
+        (omega (arith, low, long), eqb-true (get_or (hosts_in services) service 0) host on.1)
+
+    from : (service < length (hosts_in services)) × (get_or (hosts_in services) service 0 ≡ host) → Contains (services_on services host) service
+    from (low, is) = Contains-filter test (range_with_len 0 (length services)) service
+        (Contains-range (length services) service (omega (arith, low, long))) (eq-eqb (get_or (hosts_in services) service 0) host is)
+
+pub exactly-of : (services : List Pair) (host : ℕ) (found : List ℕ) → found ≡ services_on services host
+    → (service : ℕ) → Contains found service ↔ ((service < length (hosts_in services)) × (get_or (hosts_in services) service 0 ≡ host))
+exactly-of services host found are service =
+    subst (λ (on : List ℕ). Contains on service ↔ ((service < length (hosts_in services)) × (get_or (hosts_in services) service 0 ≡ host))) (sym are) (on-exactly services host service)

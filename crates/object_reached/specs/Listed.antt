@@ -1,5 +1,5 @@
 -- Services that blocks list by their hosts and descriptions and by service groups (chapter "Object Definitions").
-use Rattle.std.specs.Prelude.{◌≡◌, ℕ, Bool, true, ◌||◌, List, is_some, Contains, ◌⊎◌}
+use Rattle.std.specs.Prelude.{◌≡◌, ℕ, Bool, true, ◌||◌, List, [], Some, is_some, Contains, ◌⊎◌, slice_get, slice_index_or}
 use Rattle.object_groups.specs.declared.groups.GroupKind.TheVariants.{HostGroups}
 use Rattle.object_groups.specs.Names.{is_all, number_of, numbers_of}
 use Rattle.object_groups.specs.Objects.{list_at, names_in, objects_in}
@@ -11,7 +11,7 @@ use Rattle.object_service_groups.specs.Groups.{grouping}
 use Rattle.object_service_groups.specs.Members.{IsMember}
 use Rattle.object_services.specs.Limits.{AreHostLists}
 use Rattle.object_services.specs.Numbers.{Pair, pairs_of}
-use Rattle.object_reached.specs.Services.{IsServiceOf}
+use Rattle.object_reached.specs.Services.{IsServiceOf, services_on}
 
 -- Four directives: by the first two a block lists hosts and host groups, by the third the descriptions of services
 -- on these hosts, and by the fourth service groups.
@@ -86,6 +86,12 @@ pub record AreServiceLists (blocks : List Block) (hosts : ListingOf) (descriptio
 abbrev pub IsOn : (services : List Pair) → (entries : List (List ℕ)) → (host service : ℕ) → Type 0
 IsOn services entries host service = (description : List ℕ)
     × IsServiceOf services service host description × (is_named entries description ≡ true)
+
+-- the service is at that place among those of the host, and of a description that the list names
+abbrev pub IsNthOn : (services : List Pair) → (entries : List (List ℕ)) → (turn host service : ℕ)
+    → Type 0
+IsNthOn services entries turn host service = (slice_get (services_on services host) turn ≡ Some service)
+    × (is_named entries ((slice_index_or services service (0, [])).1) ≡ true)
 
 -- what is so of one of these, as a member of one of these groups
 abbrev pub OfSome : {X : Type 0} → (member : X → ℕ → Type 0) → List X → ℕ → Type 0

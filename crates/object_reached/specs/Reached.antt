@@ -7,7 +7,7 @@ use Rattle.object_reader.specs.declared.block.BlockKind.TheVariants.{Host, Servi
 use Rattle.object_services.specs.Limits.{AreHostLists}
 use Rattle.object_services.specs.Numbers.{Pair, pairs_of}
 use Rattle.object_reached.specs.declared.roles.Role.{Role}
-use Rattle.object_reached.specs.Listed.{AreServicesListed, IsServiceListed, of_hosts, ServiceDirectives, ServiceListingOf}
+use Rattle.object_reached.specs.Listed.{IsServiceListed, of_hosts, ServiceDirectives, ServiceListingOf}
 use Rattle.object_reached.specs.Roles.{directives_of, host_kind, service_kind}
 
 -- The block at the place is of the type that speaks of hosts in that role, registered, and lists the host of that number.

@@ -1,6 +1,6 @@
 -- The roles that objects have in blocks, and the directives that list them (chapters "Notification Escalations" and
 -- "Host and Service Dependencies").
-use Rattle.std.specs.Prelude.{ℕ, List, codes}
+use Rattle.std.specs.Prelude.{codes}
 use Rattle.object_reader.specs.declared.block.BlockKind.{BlockKind}
 use Rattle.object_reader.specs.declared.block.BlockKind.TheVariants.{HostEscalation, ServiceEscalation, HostDependency, ServiceDependency}
 use Rattle.object_reached.specs.declared.roles.Role.{Role}

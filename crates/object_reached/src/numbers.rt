@@ -1,7 +1,10 @@
 //! The places of the services that lists of hosts, of descriptions and of groups reach.
 
-ghost use Rattle.std.specs.Prelude.{◌≡◌, ℕ, List, ◌||◌, Contains, IfOk, OnOk, is_some};
-ghost use Rattle.object_reached.specs.Listed.{AddsMembers, is_named, IsOn, OfSome};
+ghost use Rattle.std.specs.Prelude.{◌≡◌, ◌≤◌, ℕ, List, [], ◌++◌, ◌||◌, All, Contains, IfOk, IfSome};
+ghost use Rattle.std.specs.Prelude.{OnOk, filter, is_some, length, slice_get, slice_index_or};
+ghost use Rattle.std.specs.Option.{option_to_list};
+ghost use Rattle.object_reached.specs.Listed.{AddsMembers, is_named, IsNthOn, IsOn, OfSome};
+ghost use Rattle.object_reached.specs.Services.{services_on};
 ghost use Rattle.object_listing.specs.Listing.{Adds};
 ghost use Rattle.object_values.specs.Values.{texts};
 
@@ -66,8 +69,8 @@ fn push_host<'a>(
     Ok(())
 }
 
-/// Adds those of all these hosts.
-pub(crate) fn push_hosts<'a>(
+/// Adds those of all these hosts, host by host.
+fn push_each<'a>(
     found: &mut Vec<usize>,
     services: &HostServices<'a>,
     descriptions: &Descriptions<'a>,
@@ -80,6 +83,102 @@ pub(crate) fn push_hosts<'a>(
         push_host(found, services, descriptions, *host)?;
     }
     Ok(())
+}
+
+/// Adds the service at the place of the turn among those of a host, where the list names its description.
+fn push_nth<'a>(
+    found: &mut Vec<usize>,
+    services: &HostServices<'a>,
+    descriptions: &Descriptions<'a>,
+    turn: usize,
+    host: usize,
+) -> Result<(), AllocError>
+    ensures { OnOk result (found.new.items ≡ found.old.items
+        ++ filter (λ service. is_named descriptions.now (slice_index_or services.now service (0, [])).1)
+        (option_to_list (slice_get (services_on services.now host) turn))) }
+{
+    let on = services.of_host(host);
+    if turn < on.len() {
+        let service = on[turn] as usize;
+        if descriptions.has(services.description(service)) {
+            found.push(service)?;
+        }
+    }
+    Ok(())
+}
+
+/// Adds those at the place of the turn of all these hosts.
+fn push_turn<'a>(
+    found: &mut Vec<usize>,
+    services: &HostServices<'a>,
+    descriptions: &Descriptions<'a>,
+    hosts: &[usize],
+    turn: usize,
+) -> Result<(), AllocError>
+    ensures { OnOk result (Adds (OfSome (IsNthOn services.now descriptions.now turn) hosts.now)
+        found.old.items found.new.items) }
+{
+    for host in hosts {
+        push_nth(found, services, descriptions, turn, *host)?;
+    }
+    Ok(())
+}
+
+/// Adds those of all these hosts, of which none has more services than there are turns: the first of each host, then the
+/// second of each, and so on. Where the hosts have their services from the same blocks, they come so in order.
+fn push_by_turns<'a>(
+    found: &mut Vec<usize>,
+    services: &HostServices<'a>,
+    descriptions: &Descriptions<'a>,
+    hosts: &[usize],
+    turns: usize,
+) -> Result<(), AllocError>
+    requires { All (λ host. length (services_on services.now host) ≤ turns) hosts.now }
+    ensures { OnOk result (Adds (OfSome (IsOn services.now descriptions.now) hosts.now)
+        found.old.items found.new.items) }
+{
+    for turn in 0..turns {
+        push_turn(found, services, descriptions, hosts, turn)?;
+    }
+    Ok(())
+}
+
+/// How many services the host that has the most has, where there are at least half as many for each of the hosts; none
+/// where there are fewer, so that turns would find too little.
+fn turns_of<'a>(services: &HostServices<'a>, hosts: &[usize]) -> Option<usize>
+    ensures { IfSome result (λ turns.
+        All (λ host. length (services_on services.now host) ≤ turns) hosts.now) }
+{
+    let mut most = 0;
+    let mut all: usize = 0;
+    for host in hosts {
+        let count = services.of_host(*host).len();
+        all = all.saturating_add(count);
+        if most < count {
+            most = count;
+        }
+    }
+    if hosts.len().saturating_mul(most) / 2 <= all {
+        Some(most)
+    } else {
+        None
+    }
+}
+
+/// Adds those of all these hosts.
+pub(crate) fn push_hosts<'a>(
+    found: &mut Vec<usize>,
+    services: &HostServices<'a>,
+    descriptions: &Descriptions<'a>,
+    hosts: &[usize],
+) -> Result<(), AllocError>
+    ensures { OnOk result (Adds (OfSome (IsOn services.now descriptions.now) hosts.now)
+        found.old.items found.new.items) }
+{
+    match turns_of(services, hosts) {
+        Some(turns) => push_by_turns(found, services, descriptions, hosts, turns),
+        None => push_each(found, services, descriptions, hosts),
+    }
 }
 
 /// Adds the members of a group. Where there are more than twice as many numbers as services they are put in

@@ -3,7 +3,7 @@
 ghost use Rattle.std.specs.Prelude.{◌≡◌, ◌+◌, ◌<◌, ◌^◌, ◌↔◌, ℕ, [], length, All};
 ghost use Rattle.std.specs.Prelude.{Contains};
 ghost use Rattle.std.specs.Prelude.{IfOk, OnOk, slice_index_or};
-ghost use Rattle.object_reached.specs.Services.{host_edges, hosts_in, IsByHost};
+ghost use Rattle.object_reached.specs.Services.{host_edges, hosts_in, IsByHost, services_on};
 ghost use Rattle.object_services.specs.Numbers.{pairs_in, pairs_of};
 
 use graph::edges::{Edge, Graph};
@@ -33,7 +33,7 @@ fn edges_of(alloc: Global, pairs: &[(usize, &[u8])]) -> Result<Vec<Edge>, AllocE
 /// The graph in which each of so many hosts leads to its services.
 fn graph_of(alloc: Global, hosts: usize, pairs: &[(usize, &[u8])]) -> Result<Graph, AllocError>
     requires hosts { All (λ pair. pair.0 < hosts) pairs.now }
-    ensures by_host { IfOk result (IsByHost (hosts_in (pairs_in pairs.now))) }
+    ensures by_host { IfOk result (IsByHost (pairs_in pairs.now)) }
     ensures few { OnOk result (hosts + length pairs.now < 2 ^ 32) }
 {
     let nodes = hosts.saturating_add(pairs.len());
@@ -55,14 +55,14 @@ pub struct HostServices<'a> {
 
 impl<'a> Model for HostServices<'a> {
     ghost use Rattle.std.specs.Prelude.{List};
-    ghost use Rattle.object_reached.specs.Services.{hosts_in, IsByHost};
+    ghost use Rattle.object_reached.specs.Services.{IsByHost};
     ghost use Rattle.object_services.specs.Numbers.{Pair, pairs_in};
 
     ghost Value = { List Pair };
 
     ghost view = { λ s. pairs_in s.pairs.items };
 
-    ghost invariant = { λ s. IsByHost (hosts_in (pairs_in s.pairs.items)) s.graph };
+    ghost invariant = { λ s. IsByHost (pairs_in s.pairs.items) s.graph };
 }
 
 impl<'a> HostServices<'a> {
@@ -102,9 +102,10 @@ impl<'a> HostServices<'a> {
         }
     }
 
-    /// The services of a host, by their places; none where no service has the host.
+    /// The services of a host, by their places, in order; none where no service has the host.
     pub fn of_host(&self, host: usize) -> &[u32]
-        ensures { (service : ℕ) → Contains result.now service
+        ensures are { result.now ≡ services_on self.now host }
+        ensures exactly { (service : ℕ) → Contains result.now service
             ↔ ((service < length (hosts_in self.now))
             × (slice_index_or (hosts_in self.now) service 0 ≡ host)) }
     {

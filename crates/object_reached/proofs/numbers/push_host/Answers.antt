@@ -6,7 +6,7 @@ use Rattle.object_reached.proofs.numbers.push_host.Goals as goal
 
 pub returns : goal.returns
 returns c =
-    adds-host c.args.services.now c.args.descriptions.now c.args.host c.of_host-service-items.result.now c.args.found.now.items c.loop-service.found.items c.of_host-service-items.ensures
+    adds-host c.args.services.now c.args.descriptions.now c.args.host c.of_host-service-items.result.now c.args.found.now.items c.loop-service.found.items c.of_host-service-items.ensures.exactly
     (c.loop-service.invariant
     ∙ ap (λ (services : List ℕ). c.args.found.now.items ++ filter (λ service. is_named c.args.descriptions.now ((slice_index_or c.args.services.now service (0, [])).1)) services)
     (take_all c.loop-service.service-index c.of_host-service-items.result.now c.loop-service-test.false))

@@ -1,17 +1,19 @@
-use Rattle.std.proofs.Common.{◌≤◌, List, [], arith, length, subst, sym}
-use Rattle.std.proofs.lemmas.List.{get_or_past}
-use Rattle.object_reached.specs.Services.{hosts_in, IsByHost}
+use Rattle.std.proofs.Common.{◌≡◌, ◌<◌, ◌≤◌, ◌∙◌, List, [], arith, length, subst}
+use Rattle.object_reached.specs.Services.{IsByHost, services_on}
 use Rattle.object_services.specs.Numbers.{Pair}
-use Rattle.object_reached.proofs.ServiceLemmas.{of-host}
+use Rattle.object_reached.proofs.ServiceLemmas.{exactly-of, none-on}
 use Rattle.object_reached.proofs.services.HostServices.of_host.Goals as goal
 
 pub returns-then-host-node_count : goal.returns-then-host-node_count
 returns-then-host-node_count c =
-    of-host (hosts_in c.args.self.now) c.self.inside.graph c.args.host c.ends.result.now
-    (subst (λ (services : List Pair). IsByHost (hosts_in services) c.self.inside.graph) c.self.view_is c.self.invariant) c.ends.ensures.value
+    let has : IsByHost c.args.self.now c.self.inside.graph = subst (λ (services : List Pair). IsByHost services c.self.inside.graph) c.self.view_is c.self.invariant in
+    let low : c.args.host < length c.self.inside.graph = omega (arith, c.node_count.ensures.count, c.if-host-node_count.true) in
+    let are : c.ends.result.now ≡ services_on c.args.self.now c.args.host = c.ends.ensures.value ∙ has.ends c.args.host low in
+    record { are = are; exactly = exactly-of c.args.self.now c.args.host c.ends.result.now are }
 
 pub returns-else-host-node_count : goal.returns-else-host-node_count
 returns-else-host-node_count c =
+    let has : IsByHost c.args.self.now c.self.inside.graph = subst (λ (services : List Pair). IsByHost services c.self.inside.graph) c.self.view_is c.self.invariant in
     let past : length c.self.inside.graph ≤ c.args.host = omega (arith, c.node_count.ensures.count, c.if-host-node_count.false) in
-    of-host (hosts_in c.args.self.now) c.self.inside.graph c.args.host []
-    (subst (λ (services : List Pair). IsByHost (hosts_in services) c.self.inside.graph) c.self.view_is c.self.invariant) (sym (get_or_past c.self.inside.graph c.args.host [] past))
+    let are : [] ≡ services_on c.args.self.now c.args.host = none-on c.args.self.now c.self.inside.graph c.args.host has past in
+    record { are = are; exactly = exactly-of c.args.self.now c.args.host [] are }
