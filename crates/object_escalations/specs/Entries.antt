@@ -1,11 +1,12 @@
 -- The escalations that blocks give (chapters "Notification Escalations" and "Object Definitions").
-use Rattle.std.specs.Prelude.{◌≡◌, ℕ, Bool, true, false, List, [], ◌++◌, length, map, codes, Some, slice_get, slice_index_or, unwrap_or, if◌then◌else◌}
+use Rattle.std.specs.Prelude.{◌≡◌, ℕ, ◌<◌, Bool, true, false, List, [], ◌++◌, length, map, codes, Some, slice_get, slice_index_or, unwrap_or, if◌then◌else◌}
 use Rattle.std.specs.List.{AllZip, flat_map, range_with_len}
 use Rattle.due_model.specs.Objects.{object_id}
 use Rattle.due_model.specs.declared.config.ContactId.{ContactId}
 use Rattle.due_model.specs.declared.config.Escalation.{Escalation}
 use Rattle.due_model.specs.declared.config.Object.{Object}
 use Rattle.object_groups.specs.Objects.{is_object_at, names_in}
+use Rattle.object_listing.specs.Contacts.{IsAsked}
 use Rattle.object_listing.specs.Listing.{AreThose, contact_directives, gives_neither, IsListed}
 use Rattle.object_reader.specs.declared.block.Block.{Block}
 use Rattle.object_reader.specs.declared.block.BlockKind.TheVariants.{HostEscalation, TimePeriod}
@@ -76,6 +77,11 @@ AreEntriesOf blocks objects spoken escalations =
     AllZip (ComesFrom blocks objects) (origins_below spoken (length spoken)) escalations
 
 -- ---- how they are made
+
+-- the contacts of each block that speaks of an object are asked for, where these are the objects of which each speaks
+abbrev pub AskForAll : (spoken : List (List ℕ)) → (asked : List Bool) → Type 0
+AskForAll spoken asked =
+    (place : ℕ) → 0 < length (slice_index_or spoken place []) → IsAsked asked place
 
 -- the escalations that come from there came
 pub record AddsEntries (blocks : List Block) (objects : List Object) (origins : List Origin)

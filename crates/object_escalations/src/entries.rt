@@ -2,8 +2,10 @@
 
 ghost use Rattle.std.specs.Prelude.{◌≡◌, ◌<◌, ◌≤◌, length, slice_get, All, IfOk, OnOk, Some};
 ghost use Rattle.due_model.specs.Limits.{max_objects};
-ghost use Rattle.object_escalations.specs.Entries.{AddsEntries, AreEntriesOf, origins_at};
+ghost use Rattle.object_escalations.specs.Entries.{AddsEntries, AreEntriesOf, AskForAll};
+ghost use Rattle.object_escalations.specs.Entries.{origins_at};
 ghost use Rattle.object_escalations.specs.Given.{AddsTaken, contacts_of, IsTaken, list_kind};
+ghost use Rattle.object_listing.specs.Contacts.{IsAsked};
 ghost use Rattle.object_readings.specs.Periods.{ArePeriods};
 
 use crate::escalated::EscalatedObjects;
@@ -80,7 +82,8 @@ fn push_block(
     Ok(())
 }
 
-/// Adds the escalations of the block at the place, which speaks of the objects of these numbers.
+/// Adds the escalations of the block at the place, which speaks of the objects of these numbers, and whose contacts were
+/// asked for where there are any.
 fn push_block_at<'a>(
     alloc: Global,
     escalations: &mut Vec<Escalation>,
@@ -91,11 +94,12 @@ fn push_block_at<'a>(
     block: &Block,
     place: usize,
 ) -> Result<(), AllocError>
-    requires periods { ArePeriods tables.now periods.now }
+    requires periods { ArePeriods tables.now.blocks periods.now }
     requires within { All (λ number. number < length objects.now) numbers.now }
     requires few { length objects.now ≤ max_objects }
-    requires here { slice_get tables.now place ≡ Some block.now }
-    ensures { OnOk result (AddsEntries tables.now objects.now
+    requires here { slice_get tables.now.blocks place ≡ Some block.now }
+    requires asked { 0 < length numbers.now → IsAsked tables.now.asked place }
+    ensures { OnOk result (AddsEntries tables.now.blocks objects.now
         (origins_at place numbers.now) escalations.old.items escalations.new.items) }
 {
     if numbers.is_empty() {
@@ -110,9 +114,9 @@ fn push_block_at<'a>(
 /// a block in number order. An escalation takes from its object what its block lacks: contacts, where it gives neither
 /// contacts nor contact groups, interval and period; other directives that are lacking are by default.
 /// `escalated` are the objects of which each block speaks, `objects` the hosts and services, `contacts` what the blocks
-/// list as contacts, and `periods` the names of the time periods, all of the same blocks. The time grows with the
-/// blocks and the templates that they use, and with the escalations and their contacts. A refused growth
-/// leaves nothing.
+/// list as contacts, asked for of each that speaks of an object, and `periods` the names of the time periods, all of the
+/// same blocks. The time grows with the blocks and the templates that they use, and with the escalations and their
+/// contacts. A refused growth leaves nothing.
 pub fn escalations_of<'a>(
     alloc: Global,
     templates: &Templates<'a>,
@@ -124,7 +128,8 @@ pub fn escalations_of<'a>(
     requires within { All (All (λ number. number < length objects.now)) escalated.now }
     requires long { length escalated.now ≡ length templates.now }
     requires few { length objects.now ≤ max_objects }
-    requires contacts { contacts.now ≡ templates.now }
+    requires contacts { contacts.now.blocks ≡ templates.now }
+    requires asked { AskForAll escalated.now contacts.now.asked }
     requires periods { ArePeriods templates.now periods.now }
     ensures { IfOk result (λ escalations.
         AreEntriesOf templates.now objects.now escalated.now escalations.items) }

@@ -2,6 +2,7 @@
 
 ghost use Rattle.std.specs.Prelude.{◌≡◌, IfOk};
 ghost use Rattle.object_escalations.specs.Given.{AreFilters, AreTimes, IsGiven};
+ghost use Rattle.object_listing.specs.Contacts.{IsAsked};
 ghost use Rattle.object_readings.specs.Periods.{ArePeriods};
 
 use due_model::config::{ContactId, PeriodId};
@@ -31,7 +32,8 @@ pub(crate) struct Filters<'a> {
     options: Values<'a>,
 }
 
-/// What all blocks have for the directives of escalations. Contracts see the blocks.
+/// What all blocks have for the directives of escalations. Contracts see the blocks, and the flags of those whose
+/// contacts were asked for.
 #[derive(Drop)]
 pub(crate) struct Tables<'a> {
     blocks: &'a [Block],
@@ -41,15 +43,14 @@ pub(crate) struct Tables<'a> {
 }
 
 impl<'a> Model for Tables<'a> {
-    ghost use Rattle.std.specs.Prelude.{List};
     ghost use Rattle.object_escalations.specs.Given.{AreTables};
-    ghost use Rattle.object_reader.specs.declared.block.Block.{Block};
+    ghost use Rattle.object_listing.specs.Contacts.{AskedContacts};
 
-    ghost Value = { List Block };
+    ghost Value = { AskedContacts };
 
-    ghost view = { λ s. s.blocks.now };
+    ghost view = { λ s. record { blocks = s.blocks.now; asked = s.contacts.now.asked } };
 
-    ghost invariant = { λ s. AreTables s.blocks.now s.contacts.now s.times s.filters };
+    ghost invariant = { λ s. AreTables s.blocks.now s.contacts.now.blocks s.times s.filters };
 }
 
 /// What an escalation block gives, by itself or by its templates.
@@ -96,8 +97,9 @@ impl<'a> Tables<'a> {
         templates: &Templates<'a>,
         contacts: &'a ContactListing<'a>,
     ) -> Result<Tables<'a>, AllocError>
-        requires { contacts.now ≡ templates.now }
-        ensures { IfOk result (λ tables. tables ≡ templates.now) }
+        requires { contacts.now.blocks ≡ templates.now }
+        ensures { IfOk result (λ tables.
+            tables ≡ record { blocks = templates.now; asked = contacts.now.asked }) }
     {
         Ok(Tables {
             blocks: templates.blocks(),
@@ -107,10 +109,11 @@ impl<'a> Tables<'a> {
         })
     }
 
-    /// What the block at the place gives, where its option list is of that kind.
+    /// What the block at the place, whose contacts were asked for, gives, where its option list is of that kind.
     pub(crate) fn given_at(&self, periods: &Names<'a>, kind: OptionKind, place: usize) -> Given<'a>
-        requires { ArePeriods self.now periods.now }
-        ensures { IsGiven self.now kind place result }
+        requires asked { IsAsked self.now.asked place }
+        requires periods { ArePeriods self.now.blocks periods.now }
+        ensures { IsGiven self.now.blocks kind place result }
     {
         Given {
             lacks_contacts: self.contacts.gives_neither(place),

@@ -1,9 +1,10 @@
 -- What blocks list as contacts, and the lists that are kept of it.
 use Rattle.std.proofs.Common.{◌≡◌, ℕ, ◌+◌, ◌<◌, ◌≤◌, Bool, true, false, cond, ◌&&◌, List, [], ◌∷◌, ◌++◌, length, get_or, Option, None, Some, refl, sym, ap, subst, ◌∙◌, inl, inr, ⊎_elim, eqb, eqb-true, arith}
-use Rattle.std.specs.Prelude.{All, IfSome, is_none, slice_get, unwrap_or}
+use Rattle.std.specs.Prelude.{◌⊎◌, All, IfSome, is_none, slice_get, slice_index_or, unwrap_or}
 use Rattle.std.specs.Map.{lookup}
 use Rattle.std.proofs.lemmas.Bool.{and_parts, cases_lt, false≢true}
 use Rattle.std.proofs.lemmas.List.{get_or_append_left, get_or_past, length-append}
+use Rattle.std.proofs.lemmas.Option.{none-some}
 use Rattle.std.proofs.Math.Seq.{get_or-append_seam}
 use Rattle.due_model.specs.Limits.{max_contacts}
 use Rattle.due_model.specs.declared.config.ContactId.{ContactId}
@@ -12,8 +13,7 @@ use Rattle.object_groups.specs.Groups.{group_kind, GroupsOf, object_kind}
 use Rattle.object_groups.specs.Names.{Lists}
 use Rattle.object_groups.specs.Objects.{names_in}
 use Rattle.object_inheritance.specs.Inherited.{given, list_given}
-use Rattle.object_inheritance.specs.Laws.{NothingPastTheBlocks}
-use Rattle.object_listing.specs.Contacts.{AddsList, AreContactsAt, AreFound, AreOfContacts, Entries, HasList, HasLists, HasListsBelow, IsListOf, pair_eq, Stay}
+use Rattle.object_listing.specs.Contacts.{AddsList, AreContactsAt, AreFound, AreOfContacts, Entries, HasList, HasLists, HasListsBelow, IsAsked, IsAskedList, IsListOf, pair_eq, Stay}
 use Rattle.object_listing.specs.Listing.{AreOrigins, AreThose, contact_directives, Directives, gives_neither, IsListed, ListingOf}
 use Rattle.object_listing.proofs.ListedLemmas.{lists-none}
 use Rattle.object_reader.specs.declared.block.Block.{Block}
@@ -110,19 +110,35 @@ module _ (blocks : List Block) where
   pub stay-all : (lists : List (List ContactId)) → Stay lists lists
   stay-all lists number low = (low, refl)
 
-  pub adds-none : (place : ℕ) (lists : List (List ContactId)) (entries : Entries) → gives_neither blocks contact_directives place ≡ true → AreFound blocks lists entries
-      → AddsList blocks place lists lists entries None
-  adds-none place lists entries neither found = record { found = found; stay = stay-all lists; list = neither-list lists place neither }
+  -- no list more
+  none-more : (asked : Bool) (lists : List (List ContactId)) (number : Option ℕ) (k : ℕ) → k < length lists → (k < length lists) ⊎ ((asked ≡ true) × (number ≡ Some k))
+  none-more asked lists number k low = inl low
+
+  -- a block that isn't asked for
+  pub adds-nothing : (place : ℕ) (asked : Bool) (lists : List (List ContactId)) (entries : Entries) → asked ≡ false → AreFound blocks lists entries
+      → AddsList blocks place asked lists lists entries None
+  adds-nothing place asked lists entries other found = record {
+    found = found;
+    stay = stay-all lists;
+    more = none-more asked lists None;
+    list = λ is. absurd (false≢true (sym other ∙ is));
+  }
+
+  -- one that gives neither directive
+  pub adds-none : (place : ℕ) (asked : Bool) (lists : List (List ContactId)) (entries : Entries) → gives_neither blocks contact_directives place ≡ true → AreFound blocks lists entries
+      → AddsList blocks place asked lists lists entries None
+  adds-none place asked lists entries neither found = record { found = found; stay = stay-all lists; more = none-more asked lists None; list = λ is. neither-list lists place neither }
 
   -- a list that was found before
-  pub adds-found : (place : ℕ) (origins : ℕ × ℕ) (lists : List (List ContactId)) (entries : Entries) (number : ℕ) → gives_neither blocks contact_directives place ≡ false
-      → AreOrigins blocks contact_directives place origins → lookup (pair_eq origins) entries ≡ Some number → AreFound blocks lists entries → AddsList blocks place lists lists entries (Some number)
-  adds-found place origins lists entries number gives of is found =
+  pub adds-found : (place : ℕ) (asked : Bool) (origins : ℕ × ℕ) (lists : List (List ContactId)) (entries : Entries) (number : ℕ) → gives_neither blocks contact_directives place ≡ false
+      → AreOrigins blocks contact_directives place origins → lookup (pair_eq origins) entries ≡ Some number → AreFound blocks lists entries → AddsList blocks place asked lists lists entries (Some number)
+  adds-found place asked origins lists entries number gives of is found =
       let list = subst (λ (kept : Option ℕ). IfSome kept (IsListOf blocks lists origins)) is (found origins) in
       record {
         found = found;
         stay = stay-all lists;
-        list = record { within = list.within; lacks = sym gives; contacts = list.each place of };
+        more = none-more asked lists (Some number);
+        list = λ set. record { within = list.within; lacks = sym gives; contacts = list.each place of };
       }
 
   module _ (place : ℕ) (origins : ℕ × ℕ) (old : List (List ContactId)) (contacts : List ContactId) (new : List (List ContactId)) (of : AreOrigins blocks contact_directives place origins)
@@ -154,13 +170,19 @@ module _ (blocks : List Block) where
         }
 
     -- a new list
-    pub adds-new : (entries more : Entries) (number : ℕ) → gives_neither blocks contact_directives place ≡ false → number ≡ length old
+    pub adds-new : (asked : Bool) (entries more : Entries) (number : ℕ) → asked ≡ true → gives_neither blocks contact_directives place ≡ false → number ≡ length old
         → ((other : ℕ × ℕ) → lookup (pair_eq other) more ≡ cond (pair_eq origins other) (Some number) (lookup (pair_eq other) entries))
-        → AreFound blocks old entries → AddsList blocks place old new more (Some number)
-    adds-new entries more number gives number_is updates found = record {
+        → AreFound blocks old entries → AddsList blocks place asked old new more (Some number)
+    adds-new asked entries more number set gives number_is updates found = record {
       found = λ other. subst (λ (kept : Option ℕ). IfSome kept (IsListOf blocks new other)) (sym (updates other)) (by_key other (pair_eq origins other) refl);
       stay = stay-more;
-      list = record {
+      more = λ k low. ⊎_elim
+          (λ (earlier : k < length old). inl earlier)
+          (λ (past : length old ≤ k).
+          let same : number ≡ k = let long = longer in omega (arith, long, low, past, number_is) in
+          inr (set, ap (λ (n : ℕ). Some n) same))
+          (cases_lt k (length old));
+      list = λ is. record {
         within = of_origins.within;
         lacks = sym gives;
         contacts = of_origins.each place of;
@@ -183,43 +205,63 @@ module _ (blocks : List Block) where
 
   -- ---- all blocks
 
-  no-lists : HasListsBelow blocks 0 [] []
-  no-lists = record { long = refl; each = λ at low. absurd (omega (arith, low)) }
+  module _ (asked : List Bool) where
+    pub no-lists : HasListsBelow blocks asked 0 [] []
+    no-lists = record { long = refl; each = λ at low is. absurd (omega (arith, low)); only = λ number low. absurd (omega (arith, low)) }
 
-  list-kept : (old new : List (List ContactId)) (place : ℕ) (number : Option ℕ) → Stay old new → HasList blocks old place number → HasList blocks new place number
-  list-kept old new place None stay list = record { within = tt; lacks = list.lacks; contacts = list.contacts }
-  list-kept old new place (Some number) stay list =
-      let kept = stay number list.within in
-      record {
-        within = kept.0;
-        lacks = list.lacks;
-        contacts = subst (λ (cs : List ContactId). AreContactsAt blocks place cs) (sym kept.1) list.contacts;
-      }
+    list-kept : (old new : List (List ContactId)) (place : ℕ) (number : Option ℕ) → Stay old new → HasList blocks old place number → HasList blocks new place number
+    list-kept old new place None stay list = record { within = tt; lacks = list.lacks; contacts = list.contacts }
+    list-kept old new place (Some number) stay list =
+        let kept = stay number list.within in
+        record {
+          within = kept.0;
+          lacks = list.lacks;
+          contacts = subst (λ (cs : List ContactId). AreContactsAt blocks place cs) (sym kept.1) list.contacts;
+        }
 
-  pub lists-more : (place : ℕ) (old new : List (List ContactId)) (entries : Entries) (numbers more : List (Option ℕ)) (number : Option ℕ) → HasListsBelow blocks place old numbers
-      → AddsList blocks place old new entries number → more ≡ numbers ++ number ∷ [] → HasListsBelow blocks (place + 1) new more
-  lists-more place old new entries numbers more number before adds is = record {
-    long = (let long = before.long in let length_is = ap (λ (ns : List (Option ℕ)). length ns) is ∙ length-append numbers (number ∷ []) in omega (arith, long, length_is));
-    each = λ at low. ⊎_elim
-        (λ (earlier : at < place). subst (λ (n : Option ℕ). HasList blocks new at n)
-        (sym (ap (λ (ns : List (Option ℕ)). get_or ns at None) is ∙ get_or_append_left numbers (number ∷ []) None at (let long = before.long in omega (arith, long, earlier))))
-        (list-kept old new at (get_or numbers at None) adds.stay (before.each at earlier)))
-        (λ (past : place ≤ at).
-        let here : at ≡ length numbers = let long = before.long in omega (arith, low, past, long) in
-        let same : place ≡ at = omega (arith, low, past) in
-        subst (λ (n : Option ℕ). HasList blocks new at n)
-        (sym (ap (λ (ns : List (Option ℕ)). get_or ns at None) is ∙ ap (λ (k : ℕ). get_or (numbers ++ number ∷ []) k None) here ∙ get_or-append_seam numbers number [] None))
-        (subst (λ (p : ℕ). HasList blocks new p number) same adds.list))
-        (cases_lt at place);
-  }
+    number-kept : (numbers more : List (Option ℕ)) (number : Option ℕ) (at k : ℕ) → more ≡ numbers ++ number ∷ [] → slice_index_or numbers at None ≡ Some k → slice_index_or more at None ≡ Some k
+    number-kept numbers more number at k is here = ⊎_elim
+        (λ (low : at < length numbers). ap (λ (ns : List (Option ℕ)). get_or ns at None) is ∙ get_or_append_left numbers (number ∷ []) None at low ∙ here)
+        (λ (past : length numbers ≤ at). absurd (none-some k (sym (get_or_past numbers at None past) ∙ here)))
+        (cases_lt at (length numbers))
 
-  pub lists-all : (place : ℕ) (lists : List (List ContactId)) (numbers : List (Option ℕ)) → NothingPastTheBlocks → place ≡ length blocks → HasListsBelow blocks place lists numbers
-      → HasLists blocks lists numbers
-  lists-all place lists numbers law end before at = ⊎_elim
-      (λ (low : at < place). before.each at low)
-      (λ (past : place ≤ at). subst (λ (n : Option ℕ). HasList blocks lists at n)
-      (sym (get_or_past numbers at None (let long = before.long in omega (arith, long, past))))
-      (no-list lists at
-      (law blocks contact_directives.objects at (omega (arith, end, past)))
-      (law blocks contact_directives.groups at (omega (arith, end, past)))))
-      (cases_lt at place)
+    number-last : (numbers more : List (Option ℕ)) (number : Option ℕ) (at : ℕ) → more ≡ numbers ++ number ∷ [] → at ≡ length numbers → slice_index_or more at None ≡ number
+    number-last numbers more number at is here =
+        ap (λ (ns : List (Option ℕ)). get_or ns at None) is ∙ ap (λ (k : ℕ). get_or (numbers ++ number ∷ []) k None) here ∙ get_or-append_seam numbers number [] None
+
+    pub lists-more : (place : ℕ) (flag : Bool) (old new : List (List ContactId)) (entries : Entries) (numbers more : List (Option ℕ)) (number : Option ℕ)
+        → flag ≡ slice_index_or asked place false → HasListsBelow blocks asked place old numbers → AddsList blocks place flag old new entries number
+        → more ≡ numbers ++ number ∷ [] → HasListsBelow blocks asked (place + 1) new more
+    lists-more place flag old new entries numbers more number flag_is before adds is = record {
+      long = (let long = before.long in let length_is = ap (λ (ns : List (Option ℕ)). length ns) is ∙ length-append numbers (number ∷ []) in omega (arith, long, length_is));
+      each = λ at low set. ⊎_elim
+          (λ (earlier : at < place). subst (λ (n : Option ℕ). HasList blocks new at n)
+          (sym (ap (λ (ns : List (Option ℕ)). get_or ns at None) is ∙ get_or_append_left numbers (number ∷ []) None at (let long = before.long in omega (arith, long, earlier))))
+          (list-kept old new at (get_or numbers at None) adds.stay (before.each at earlier set)))
+          (λ (past : place ≤ at).
+          let here : at ≡ length numbers = let long = before.long in omega (arith, low, past, long) in
+          let same : place ≡ at = omega (arith, low, past) in
+          subst (λ (n : Option ℕ). HasList blocks new at n) (sym (number-last numbers more number at is here))
+          (subst (λ (p : ℕ). HasList blocks new p number) same (adds.list (flag_is ∙ subst (λ (p : ℕ). IsAsked asked p) (sym same) set))))
+          (cases_lt at place);
+      only = λ k low. ⊎_elim earlier_list last_list (adds.more k low);
+    }
+      where
+        earlier_list : {k : ℕ} → k < length old → IsAskedList asked more k
+        earlier_list {k} low =
+            let list = before.only k low in
+            (list.0, list.1, number-kept numbers more number list.0 k is list.2)
+
+        last_list : {k : ℕ} → (flag ≡ true) × (number ≡ Some k) → IsAskedList asked more k
+        last_list {k} both =
+            (place, sym flag_is ∙ both.0, number-last numbers more number place is (sym before.long) ∙ both.1)
+
+    pub lists-all : (place : ℕ) (lists : List (List ContactId)) (numbers : List (Option ℕ)) → place ≡ length asked → HasListsBelow blocks asked place lists numbers
+        → HasLists blocks asked lists numbers
+    lists-all place lists numbers end before = record { each = each_list; only = before.only }
+      where
+        each_list : (at : ℕ) → IsAsked asked at → HasList blocks lists at (slice_index_or numbers at None)
+        each_list at set = ⊎_elim
+            (λ (low : at < place). before.each at low set)
+            (λ (past : place ≤ at). absurd (false≢true (sym (get_or_past asked at false (omega (arith, end, past))) ∙ set)))
+            (cases_lt at place)

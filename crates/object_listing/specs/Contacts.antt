@@ -1,5 +1,6 @@
--- How it is kept what blocks list as contacts: each list once, and which of them a block has.
-use Rattle.std.specs.Prelude.{◌≡◌, ℕ, ◌<◌, ◌≤◌, Bool, ◌&&◌, ◌==◌, List, [], length, map, is_none, Option, None, Some, IfSome, slice_index_or}
+-- The contacts that blocks list, and how it is kept what those list that are asked for: each list once, and which of
+-- them a block has.
+use Rattle.std.specs.Prelude.{◌≡◌, ℕ, ◌<◌, ◌≤◌, Bool, true, false, ◌&&◌, ◌==◌, ◌⊎◌, List, [], length, map, is_none, Option, None, Some, IfSome, slice_index_or}
 use Rattle.std.specs.Map.{lookup}
 use Rattle.std.proofs.Common.{Global, Vec}
 use Rattle.due_model.specs.Limits.{max_contacts}
@@ -23,6 +24,17 @@ abbrev pub AreContactsAt : List Block → (place : ℕ) → List ContactId → T
 AreContactsAt blocks place contacts =
     AreThose (IsListed blocks contact_directives place) (map (λ contact. contact.0) contacts)
 
+-- ---- what is asked for
+
+-- the contacts of the blocks that are asked for, each of which has its flag set
+pub record AskedContacts : Type 0 where
+  pub blocks : List Block
+  pub asked : List Bool
+
+-- the block at the place is asked for
+abbrev pub IsAsked : (asked : List Bool) → (place : ℕ) → Type 0
+IsAsked asked place = slice_index_or asked place false ≡ true
+
 -- ---- the lists by their numbers
 
 -- the list that a block has: that of the number, or an empty one
@@ -37,16 +49,25 @@ pub record HasList (blocks : List Block) (lists : List (List ContactId)) (place 
   pub lacks : is_none number ≡ gives_neither blocks contact_directives place
   pub contacts : AreContactsAt blocks place (list_of lists number)
 
--- the same of all places; where there is no block nothing is listed
-abbrev pub HasLists : List Block → List (List ContactId) → (numbers : List (Option ℕ)) → Type 0
-HasLists blocks lists numbers =
-    (place : ℕ) → HasList blocks lists place (slice_index_or numbers place None)
+-- some block that is asked for has the list of that number
+abbrev pub IsAskedList : (asked : List Bool) → (numbers : List (Option ℕ)) → (number : ℕ) → Type 0
+IsAskedList asked numbers number =
+    (place : ℕ) × IsAsked asked place × (slice_index_or numbers place None ≡ Some number)
 
--- the same of the blocks below a place
-pub record HasListsBelow (blocks : List Block) (place : ℕ) (lists : List (List ContactId))
+-- each block that is asked for has its list, and there are no lists but theirs
+pub record HasLists (blocks : List Block) (asked : List Bool) (lists : List (List ContactId))
     (numbers : List (Option ℕ)) : Type 0 where
+  pub each : (place : ℕ) → IsAsked asked place
+      → HasList blocks lists place (slice_index_or numbers place None)
+  pub only : (number : ℕ) → number < length lists → IsAskedList asked numbers number
+
+-- the same of those below a place
+pub record HasListsBelow (blocks : List Block) (asked : List Bool) (place : ℕ)
+    (lists : List (List ContactId)) (numbers : List (Option ℕ)) : Type 0 where
   pub long : length numbers ≡ place
-  pub each : (at : ℕ) → at < place → HasList blocks lists at (slice_index_or numbers at None)
+  pub each : (at : ℕ) → at < place → IsAsked asked at
+      → HasList blocks lists at (slice_index_or numbers at None)
+  pub only : (number : ℕ) → number < length lists → IsAskedList asked numbers number
 
 -- ---- the lists by the origins of their blocks
 
@@ -74,12 +95,15 @@ abbrev pub Stay : (old new : List (List ContactId)) → Type 0
 Stay old new = (number : ℕ) → number < length old
     → (number < length new) × (slice_index_or new number [] ≡ slice_index_or old number [])
 
--- the block at the place has the list of that number, and the others stay
-pub record AddsList (blocks : List Block) (place : ℕ) (old new : List (List ContactId))
-    (entries : Entries) (number : Option ℕ) : Type 0 where
+-- The block at the place has the list of that number, where it is asked for. The others stay, and there is none more but
+-- the block's own.
+pub record AddsList (blocks : List Block) (place : ℕ) (asked : Bool)
+    (old new : List (List ContactId)) (entries : Entries) (number : Option ℕ) : Type 0 where
   pub found : AreFound blocks new entries
   pub stay : Stay old new
-  pub list : HasList blocks new place number
+  pub more : (k : ℕ) → k < length new
+      → (k < length old) ⊎ ((asked ≡ true) × (number ≡ Some k))
+  pub list : asked ≡ true → HasList blocks new place number
 
 -- ---- how they are kept
 

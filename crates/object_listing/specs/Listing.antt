@@ -9,7 +9,7 @@ use Rattle.object_groups.specs.Members.{IsMember}
 use Rattle.object_groups.specs.Names.{Lists}
 use Rattle.object_groups.specs.Objects.{list_at, names_in}
 use Rattle.object_inheritance.specs.Columns.{Column}
-use Rattle.object_inheritance.specs.Inherited.{given, value}
+use Rattle.object_inheritance.specs.Inherited.{given, own, value}
 
 -- Two directives: by one a block lists objects, by the other groups of them. The type tells which objects.
 pub record Directives : Type 0 where
@@ -57,6 +57,12 @@ pub record AreOrigins (blocks : List Block) (listing : Directives) (place : ℕ)
     (origins : ℕ × ℕ) : Type 0 where
   pub objects : given blocks listing.objects origins.0 ≡ given blocks listing.objects place
   pub groups : given blocks listing.groups origins.1 ≡ given blocks listing.groups place
+
+-- They give it themselves, where it has any.
+pub record AreGivers (blocks : List Block) (listing : Directives) (place : ℕ)
+    (origins : ℕ × ℕ) : Type 0 where
+  pub objects : own blocks listing.objects origins.0 ≡ value blocks listing.objects place
+  pub groups : own blocks listing.groups origins.1 ≡ value blocks listing.groups place
 
 -- ---- how it is kept and found
 

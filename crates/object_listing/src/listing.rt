@@ -3,7 +3,8 @@
 ghost use Rattle.std.specs.Prelude.{◌≡◌, ◌<◌, length, All, IfOk};
 ghost use Rattle.object_groups.specs.Groups.{object_kind};
 ghost use Rattle.object_groups.specs.Objects.{names_in};
-ghost use Rattle.object_listing.specs.Listing.{AreOrigins, AreThose, gives_neither, IsListed};
+ghost use Rattle.object_listing.specs.Listing.{AreGivers, AreOrigins, AreThose, gives_neither};
+ghost use Rattle.object_listing.specs.Listing.{IsListed};
 
 use crate::numbers::{listed, push_groups, put_in_order};
 use object_groups::groups::{GroupKind, Groups};
@@ -86,7 +87,8 @@ impl<'a> Listing<'a> {
     /// The places of the blocks from which the block at the place has its list of objects, and its list of groups: its
     /// own, or those of templates. Blocks with the same origins list the same.
     pub fn origins(&self, place: usize) -> (usize, usize)
-        ensures { AreOrigins self.now.blocks self.now.directives place result }
+        ensures same { AreOrigins self.now.blocks self.now.directives place result }
+        ensures own { AreGivers self.now.blocks self.now.directives place result }
     {
         (self.objects.origin(place), self.groups.origin(place))
     }

@@ -17,7 +17,6 @@ use Rattle.object_dependencies.specs.Entries.{AreDependencies, entries_at, entry
 use Rattle.object_dependencies.specs.Limits.{GiveDependencies, PassesLimit}
 use Rattle.object_dependencies.specs.Pairs.{ArePairs, ArePairsBelow, IsBefore, Pair}
 use Rattle.object_reader.specs.declared.block.Block.{Block}
-use Rattle.object_services.specs.Numbers as services
 
 -- ---- two lists of the same pairs in order are one
 

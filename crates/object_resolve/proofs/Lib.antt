@@ -4,5 +4,7 @@ pub mod LimitLemmas
 pub mod Accepted
 pub mod Refusals
 pub mod TextLemmas
+pub mod PlainLemmas
 mod CountLemmas
 mod EntryLemmas
+mod AskedLemmas

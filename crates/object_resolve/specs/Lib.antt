@@ -2,8 +2,10 @@ pub mod Fault
 pub mod First
 pub mod Names
 pub mod Limits
+pub mod Asked
 pub mod Config
 pub mod Resolve
 pub mod Laws
+pub mod PlainLaws
 pub mod Text
 pub mod Tables

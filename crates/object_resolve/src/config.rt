@@ -7,11 +7,13 @@ ghost use Rattle.object_dependencies.specs.Entries.{AreDependencies};
 ghost use Rattle.object_escalations.specs.Entries.{AreEntriesOf};
 ghost use Rattle.object_groups.specs.Objects.{names_in};
 ghost use Rattle.object_reader.specs.declared.block.BlockKind.TheVariants.{TimePeriod};
+ghost use Rattle.object_resolve.specs.Asked.{asked_contacts};
 ghost use Rattle.object_resolve.specs.Config.{IsConfigOf, command_at};
 ghost use Rattle.object_resolve.specs.Limits.{AreCounts, AreFewOthers, AreWithin};
 ghost use Rattle.object_resolve.specs.Tables.{AreTables};
 ghost use Rattle.object_settings.specs.Settings.{AreObjectsOf};
 
+use crate::asked::asked_of;
 use crate::limits::Counts;
 use crate::tables::Tables;
 use due_model::config::{Config, Contact, Dependency, Escalation, Lane};
@@ -57,16 +59,19 @@ fn lanes_in(alloc: Global, objects: &NamedObjects, lanes: &[usize]) -> Result<Ve
     named_lanes(alloc, objects.objects(NamedKind::Command).names(), lanes)
 }
 
-/// What the blocks list as contacts.
+/// What the blocks list as contacts, of those that give objects or escalations, where `counts` are those of the blocks.
 fn listed_contacts<'a>(
     alloc: Global,
     templates: &Templates<'a>,
+    counts: &Counts<'a>,
 ) -> Result<ContactListing<'a>, AllocError>
     requires { AreFewOthers templates.now }
-    ensures { IfOk result (λ contacts. contacts ≡ templates.now) }
+    ensures { IfOk result (λ contacts.
+        contacts ≡ asked_contacts templates.now counts.now.hosts counts.now.escalated) }
 {
+    let asked = asked_of(alloc, templates.blocks(), &counts.hosts, &counts.escalated)?;
     let mut groups = Groups::new(alloc, templates, GroupKind::ContactGroups)?;
-    ContactListing::new(alloc, templates, &mut groups)
+    ContactListing::new(alloc, templates, &mut groups, asked)
 }
 
 /// The hosts and services, where `counts` are those of the blocks, and `contacts` what the blocks list as contacts.
@@ -78,7 +83,8 @@ fn objects_in<'a>(
     contacts: &ContactListing<'a>,
 ) -> Result<ObjectTable, AllocError>
     requires tables { AreTables templates.now tables.now }
-    requires contacts { contacts.now ≡ templates.now }
+    requires contacts { contacts.now
+        ≡ asked_contacts templates.now counts.now.hosts counts.now.escalated }
     requires few { AreFewOthers templates.now }
     requires counts { AreCounts templates.now counts.now }
     ensures { IfOk result (AreObjectsOf templates.now counts.now.hosts) }
@@ -107,7 +113,8 @@ fn escalations_in<'a>(
     contacts: &ContactListing<'a>,
 ) -> Result<Vec<Escalation>, AllocError>
     requires tables { AreTables templates.now tables.now }
-    requires contacts { contacts.now ≡ templates.now }
+    requires contacts { contacts.now
+        ≡ asked_contacts templates.now counts.now.hosts counts.now.escalated }
     requires few { AreFewOthers templates.now }
     requires counts { AreCounts templates.now counts.now }
     requires objects { AreObjectsOf templates.now counts.now.hosts objects.now }
@@ -165,7 +172,7 @@ pub(crate) fn config_of<'a>(
         templates,
         tables.objects.objects(NamedKind::TimePeriod),
     )?;
-    let listed = listed_contacts(alloc, templates)?;
+    let listed = listed_contacts(alloc, templates, counts)?;
     let objects = objects_in(alloc, templates, tables, counts, &listed)?;
     let escalations = escalations_in(alloc, templates, tables, counts, &objects, &listed)?;
     let dependencies = dependencies_in(alloc, templates, tables, counts)?;

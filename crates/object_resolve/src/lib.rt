@@ -2,6 +2,7 @@
 //! (chapters "Object Definitions" and "Object Inheritance").
 #![tactic(auto)]
 
+mod asked;
 mod config;
 mod dependencies;
 mod fault;

@@ -1,21 +1,22 @@
 -- The objects that came so far, and all objects.
-use Rattle.std.proofs.Common.{◌≡◌, ℕ, zero, suc, ◌+◌, ◌<◌, ◌≤◌, List, [], ◌∷◌, ◌++◌, append_assoc, length, map, take, get_or, None, Some, sym, ap, subst, ◌∙◌, arith}
-use Rattle.std.specs.Prelude.{slice_get, slice_index_or}
+use Rattle.std.proofs.Common.{◌≡◌, ℕ, zero, suc, ◌+◌, ◌<◌, ◌≤◌, Bool, List, [], ◌∷◌, ◌++◌, append_assoc, length, map, take, get_or, None, Some, sym, ap, subst, ◌∙◌, arith}
+use Rattle.std.specs.Prelude.{All, slice_get, slice_index_or}
 use Rattle.std.specs.List.{AllZip, flat_map, range_with_len, sum_by}
-use Rattle.std.proofs.lemmas.List.{append-nil, get_or-map, take_all, take_more}
+use Rattle.std.proofs.lemmas.List.{append-nil, get_or_default, get_or-map, take_all, take_more}
 use Rattle.lemmas.proofs.Numbers.{flat_range_more}
 use Rattle.lemmas.proofs.Zips.{zip-append, zip-map}
 use Rattle.due_model.specs.Limits.{max_objects}
 use Rattle.due_model.specs.Objects.{object_id}
 use Rattle.due_model.specs.declared.config.Object.{Object}
 use Rattle.object_groups.specs.Objects.{name_at, names_in, objects_in}
+use Rattle.object_listing.specs.Contacts.{IsAsked}
 use Rattle.object_reader.specs.declared.block.Block.{Block}
 use Rattle.object_reader.specs.declared.block.BlockKind.{BlockKind}
 use Rattle.object_reader.specs.declared.block.BlockKind.TheVariants.{Host, Service}
 use Rattle.object_services.specs.Hosts.{AreHosts}
 use Rattle.object_services.specs.Limits.{AreHostLists}
 use Rattle.object_settings.specs.Own.{AddsObjects, AddsServices, IsHostTaken, IsOwn, IsOwnOfHost, IsServiceTaken, IsTaken}
-use Rattle.object_settings.specs.Settings.{AreObjectsOf, block_origins, host_origins, IsObjectOf, Origin, service_origins}
+use Rattle.object_settings.specs.Settings.{AreObjectsOf, AskForHosts, AskForServices, block_origins, host_origins, IsObjectOf, Origin, service_origins}
 use Rattle.object_settings.specs.declared.own.Own.{Own}
 use Rattle.object_settings.proofs.OwnLemmas.{host-is, service-is, zip-through}
 use Rattle.object_settings.specs.ObjectLaws.{object-count}
@@ -45,6 +46,13 @@ services-more hosts own host numbers i d object first old new within here named 
 pub services-all : (hosts : List Own) (own : Own) (numbers : List ℕ) (i : ℕ) (first new : List Object) → length numbers ≤ i → AddsServices hosts own (take i numbers) first new
     → AddsServices hosts own numbers first new
 services-all hosts own numbers i first new all before = subst (λ (ns : List ℕ). AddsServices hosts own ns first new) (take_all i numbers all) before
+
+-- a block without hosts gives none
+pub none-objects : (blocks : List Block) (place : ℕ) (numbers : List ℕ) (objects : List Object) → numbers ≡ []
+    → AddsObjects blocks (map (λ host. record { place = place; host = Some host }) numbers) objects objects
+none-objects blocks place numbers objects none =
+    subst (λ (ns : List ℕ). AddsObjects blocks (map (λ host. record { place = place; host = Some host }) ns) objects objects) (sym none)
+    (record { added = []; are = sym (append-nil objects); all = tt })
 
 -- as objects of the blocks
 pub block-objects : (blocks : List Block) (place : ℕ) (name : List ℕ) (hosts : List Own) (own : Own) (numbers : List ℕ) (old new : List Object)
@@ -107,6 +115,18 @@ pub named-at : (blocks : List Block) (kind : BlockKind) (places : List ℕ) (nam
 named-at blocks kind places names i d name listed within names_are named =
     named ∙ ap (λ (ns : List (List ℕ)). slice_index_or ns i []) names_are
     ∙ name-is blocks kind i (get_or places i d) d (subst (λ (ps : List ℕ). i < length ps) listed within) (ap (λ (ps : List ℕ). get_or ps i d) listed)
+
+-- the contacts of the host's block that was read are asked for
+pub host-asked : (blocks : List Block) (asked : List Bool) (places : List ℕ) (i d : ℕ) → places ≡ objects_in blocks Host → i < length places → AskForHosts blocks asked
+    → IsAsked asked (get_or places i d)
+host-asked blocks asked places i d listed within all = subst (λ (ps : List ℕ). All (IsAsked asked) ps) (sym listed) all i d within
+
+-- and those of the service block that was read, where it has hosts
+pub service-asked : (blocks : List Block) (asked : List Bool) (places : List ℕ) (lists : List (List ℕ)) (i d : ℕ) (hosts : List ℕ) → places ≡ objects_in blocks Service → i < length places
+    → AskForServices blocks lists asked → hosts ≡ slice_index_or lists i [] → 0 < length hosts → IsAsked asked (get_or places i d)
+service-asked blocks asked places lists i d hosts listed within all are some =
+    subst (λ (p : ℕ). IsAsked asked p) (get_or_default places i 0 d within)
+    (subst (λ (ps : List ℕ). IsAsked asked (get_or ps i 0)) (sym listed) (all i (subst (λ (hs : List ℕ). 0 < length hs) are some)))
 
 -- the hosts of the block of that number
 hosts-at : (blocks : List Block) (places : List ℕ) (hosts : List (List ℕ)) (i d : ℕ) → i < length places → AreHostLists blocks places hosts

@@ -1,11 +1,12 @@
 -- The hosts and services of a configuration, and their notification settings (chapters "Object Definitions",
 -- "Object Inheritance" and "Notifications").
-use Rattle.std.specs.Prelude.{◌≡◌, ℕ, true, List, [], ◌++◌, length, map, codes, unwrap_or, Option, None, Some, slice_index_or, if◌then◌else◌}
+use Rattle.std.specs.Prelude.{◌≡◌, ℕ, ◌<◌, Bool, true, All, List, [], ◌++◌, length, map, codes, unwrap_or, Option, None, Some, slice_index_or, if◌then◌else◌}
 use Rattle.std.specs.List.{AllZip, flat_map, range_with_len}
 use Rattle.due_model.specs.Objects.{object_id}
 use Rattle.due_model.specs.declared.config.Object.{Object}
 use Rattle.due_model.specs.declared.config.PeriodId.{PeriodId}
 use Rattle.object_groups.specs.Objects.{name_at, names_in, objects_in}
+use Rattle.object_listing.specs.Contacts.{IsAsked}
 use Rattle.object_listing.specs.Listing.{AreThose, contact_directives, gives_neither, IsListed}
 use Rattle.object_reader.specs.declared.block.Block.{Block}
 use Rattle.object_reader.specs.declared.block.BlockKind.TheVariants.{Host, Service, TimePeriod}
@@ -96,3 +97,14 @@ service_origins blocks hosts =
 abbrev pub AreObjectsOf : List Block → (hosts : List (List ℕ)) → List Object → Type 0
 AreObjectsOf blocks hosts objects =
     AllZip (IsObjectOf blocks) (host_origins blocks ++ service_origins blocks hosts) objects
+
+-- ---- what has to be known for them
+
+-- the contacts of each host's block are asked for
+abbrev pub AskForHosts : List Block → (asked : List Bool) → Type 0
+AskForHosts blocks asked = All (IsAsked asked) (objects_in blocks Host)
+
+-- those of each service block that has hosts are asked for, where these are the hosts of each
+abbrev pub AskForServices : List Block → (hosts : List (List ℕ)) → (asked : List Bool) → Type 0
+AskForServices blocks hosts asked = (number : ℕ) → 0 < length (slice_index_or hosts number [])
+    → IsAsked asked (slice_index_or (objects_in blocks Service) number 0)

@@ -7,18 +7,22 @@ ghost use Rattle.std.specs.List.{AllZip};
 ghost use Rattle.due_model.specs.Limits.{max_objects, max_periods};
 ghost use Rattle.due_model.specs.Objects.{object_id};
 ghost use Rattle.object_groups.specs.Objects.{name_at, names_in, objects_in};
+ghost use Rattle.object_listing.specs.Contacts.{IsAsked};
 ghost use Rattle.object_reader.specs.declared.block.BlockKind.TheVariants.{Host, Service};
 ghost use Rattle.object_reader.specs.declared.block.BlockKind.TheVariants.{TimePeriod};
 ghost use Rattle.object_readings.specs.Periods.{ArePeriods};
 ghost use Rattle.object_services.specs.Hosts.{AreHosts};
 ghost use Rattle.object_services.specs.Limits.{AreHostLists};
-ghost use Rattle.object_settings.specs.Own.{AddsObjects, AddsServices, IsHostTaken, IsOwnOfHost};
-ghost use Rattle.object_settings.specs.Settings.{AreObjectsOf, service_origins};
+ghost use Rattle.object_settings.specs.Own.{AddsObjects, AddsServices, AreRead, IsHostTaken};
+ghost use Rattle.object_settings.specs.Own.{IsOwnOfHost, options_of};
+ghost use Rattle.object_settings.specs.Settings.{AreObjectsOf, AskForHosts, AskForServices};
+ghost use Rattle.object_settings.specs.Settings.{service_origins};
 
 use crate::own::{Own, object_of};
 use crate::tables::Tables;
 use due_model::config::{Object, ObjectId};
 use due_model::objects::Objects as ObjectTable;
+use due_model::options::OptionLetters;
 use object_groups::names::Names;
 use object_groups::objects::Objects;
 use object_inheritance::templates::Templates;
@@ -36,10 +40,11 @@ fn owns_of<'a>(
     periods: &Names<'a>,
     hosts: &Objects<'a>,
 ) -> Result<Vec<Own<'a>>, AllocError>
-    requires hosts { hosts.now ≡ record { blocks = tables.now; kind = Host } }
-    requires periods { ArePeriods tables.now periods.now }
+    requires hosts { hosts.now ≡ record { blocks = tables.now.blocks; kind = Host } }
+    requires periods { ArePeriods tables.now.blocks periods.now }
+    requires asked { AskForHosts tables.now.blocks tables.now.asked }
     ensures { IfOk result (λ owns.
-        AllZip (IsOwnOfHost tables.now) (objects_in tables.now Host) owns.items) }
+        AllZip (IsOwnOfHost tables.now.blocks) (objects_in tables.now.blocks Host) owns.items) }
 {
     let mut read = tables.none_read(alloc)?;
     let mut owns = Vec::new(alloc);
@@ -84,29 +89,37 @@ fn push_block<'a>(
     Ok(())
 }
 
-/// Adds the services of the service block at the place.
+/// Adds the services of the service block at the place, whose contacts were asked for where it has hosts. `read` is what
+/// was read of the options of service blocks so far.
 fn push_services_at<'a>(
     alloc: Global,
     objects: &mut Vec<Object>,
     tables: &Tables<'a>,
     periods: &Names<'a>,
     owns: &[Own<'a>],
+    read: &mut Vec<Option<OptionLetters>>,
     name: &'a [u8],
     place: usize,
     hosts: &[usize],
 ) -> Result<(), AllocError>
-    requires periods { ArePeriods tables.now periods.now }
-    requires owns { AllZip (IsOwnOfHost tables.now) (objects_in tables.now Host) owns.now }
-    requires few_hosts { length (objects_in tables.now Host) ≤ max_objects }
-    requires named { name.now ≡ name_at tables.now Service place }
-    requires hosts { AreHosts tables.now place hosts.now }
-    ensures { OnOk result (AddsObjects tables.now
+    requires periods { ArePeriods tables.now.blocks periods.now }
+    requires owns { AllZip (IsOwnOfHost tables.now.blocks) (objects_in tables.now.blocks Host)
+        owns.now }
+    requires few_hosts { length (objects_in tables.now.blocks Host) ≤ max_objects }
+    requires read { AreRead (options_of tables.now.blocks) OptionKind.Service read.old.items }
+    requires named { name.now ≡ name_at tables.now.blocks Service place }
+    requires asked { 0 < length hosts.now → IsAsked tables.now.asked place }
+    requires hosts { AreHosts tables.now.blocks place hosts.now }
+    ensures read { AreRead (options_of tables.now.blocks) OptionKind.Service read.new.items }
+    ensures objects { OnOk result (AddsObjects tables.now.blocks
         (map (λ host. record { place = place; host = Some host }) hosts.now)
         objects.old.items objects.new.items) }
 {
     listed_are_objects();
-    let mut read = Vec::new(alloc);
-    let own = tables.own_at(periods, OptionKind::Service, &mut read, name, place);
+    if hosts.is_empty() {
+        return Ok(());
+    }
+    let own = tables.own_at(periods, OptionKind::Service, read, name, place);
     push_block(alloc, objects, owns, &own, hosts)?;
     Ok(())
 }
@@ -121,18 +134,24 @@ fn push_services<'a>(
     services: &Objects<'a>,
     lists: &ServiceHosts,
 ) -> Result<(), AllocError>
-    requires periods { ArePeriods tables.now periods.now }
-    requires owns { AllZip (IsOwnOfHost tables.now) (objects_in tables.now Host) owns.now }
-    requires few_hosts { length (objects_in tables.now Host) ≤ max_objects }
-    requires services { services.now ≡ record { blocks = tables.now; kind = Service } }
-    requires lists { AreHostLists tables.now (objects_in tables.now Service) lists.now }
-    ensures { OnOk result (AddsObjects tables.now (service_origins tables.now lists.now)
-        objects.old.items objects.new.items) }
+    requires periods { ArePeriods tables.now.blocks periods.now }
+    requires owns { AllZip (IsOwnOfHost tables.now.blocks) (objects_in tables.now.blocks Host)
+        owns.now }
+    requires few_hosts { length (objects_in tables.now.blocks Host) ≤ max_objects }
+    requires services { services.now ≡ record { blocks = tables.now.blocks; kind = Service } }
+    requires lists { AreHostLists tables.now.blocks (objects_in tables.now.blocks Service)
+        lists.now }
+    requires asked { AskForServices tables.now.blocks lists.now tables.now.asked }
+    ensures { OnOk result (AddsObjects tables.now.blocks
+        (service_origins tables.now.blocks lists.now) objects.old.items objects.new.items) }
 {
+    let mut read = tables.none_read(alloc)?;
     for (number, place) in services.places().iter().enumerate() {
         let name = services.names().name(number);
         let hosts = lists.hosts(number);
-        push_services_at(alloc, objects, tables, periods, owns, name, *place, hosts)?;
+        push_services_at(
+            alloc, objects, tables, periods, owns, &mut read, name, *place, hosts,
+        )?;
     }
     Ok(())
 }
@@ -146,13 +165,16 @@ fn all_objects<'a>(
     services: &Objects<'a>,
     lists: &ServiceHosts,
 ) -> Result<Vec<Object>, AllocError>
-    requires hosts { hosts.now ≡ record { blocks = tables.now; kind = Host } }
-    requires periods { ArePeriods tables.now periods.now }
-    requires few_hosts { length (objects_in tables.now Host) ≤ max_objects }
-    requires services { services.now ≡ record { blocks = tables.now; kind = Service } }
-    requires lists { AreHostLists tables.now (objects_in tables.now Service) lists.now }
+    requires hosts { hosts.now ≡ record { blocks = tables.now.blocks; kind = Host } }
+    requires periods { ArePeriods tables.now.blocks periods.now }
+    requires few_hosts { length (objects_in tables.now.blocks Host) ≤ max_objects }
+    requires services { services.now ≡ record { blocks = tables.now.blocks; kind = Service } }
+    requires lists { AreHostLists tables.now.blocks (objects_in tables.now.blocks Service)
+        lists.now }
+    requires asked_hosts { AskForHosts tables.now.blocks tables.now.asked }
+    requires asked_services { AskForServices tables.now.blocks lists.now tables.now.asked }
     ensures { IfOk result (λ objects.
-        AreObjectsOf tables.now lists.now objects.items) }
+        AreObjectsOf tables.now.blocks lists.now objects.items) }
 {
     let owns = owns_of(alloc, tables, periods, hosts)?;
     let own = owns.as_slice();
@@ -164,10 +186,11 @@ fn all_objects<'a>(
 /// The objects of the blocks in number order: the hosts in file order, and then the services, block by block and
 /// within a block host by host. A service takes from its host what its block lacks: contacts, where it gives
 /// neither contacts nor contact groups, interval and period; other directives that are lacking are by default.
-/// `services` are the service blocks, `lists` their hosts, `contacts` what the blocks list as contacts, and `hosts`
-/// and `periods` the hosts and the time periods, all of the same blocks; there are no more of each than
-/// fit. What a block gives is found once, however many services it has: the time grows with the blocks and the
-/// templates that they use, and with the objects and their contacts. A refused growth leaves nothing.
+/// `services` are the service blocks, `lists` their hosts, `contacts` what the blocks list as contacts, asked for of each
+/// host and of each service block with hosts, and `hosts` and `periods` the hosts and the time periods, all of the same
+/// blocks; there are no more of each than fit. What a block gives is found once, however many services it has: the time
+/// grows with the blocks and the templates that they use, and with the objects and their contacts. A refused growth
+/// leaves nothing.
 pub fn objects_of<'a>(
     alloc: Global,
     templates: &Templates<'a>,
@@ -181,7 +204,9 @@ pub fn objects_of<'a>(
     requires lists { AreHostLists templates.now (objects_in templates.now Service) lists.now }
     requires few { length (objects_in templates.now Host) + sum_by length lists.now
         ≤ max_objects }
-    requires contacts { contacts.now ≡ templates.now }
+    requires contacts { contacts.now.blocks ≡ templates.now }
+    requires asked_hosts { AskForHosts templates.now contacts.now.asked }
+    requires asked_services { AskForServices templates.now lists.now contacts.now.asked }
     requires hosts { hosts.now ≡ record { blocks = templates.now; kind = Host } }
     requires periods { periods.now ≡ record { blocks = templates.now; kind = TimePeriod } }
     requires few_periods { length (names_in templates.now TimePeriod) ≤ max_periods }

@@ -1,6 +1,7 @@
 //! What all blocks have for the directives of notification settings.
 
 ghost use Rattle.std.specs.Prelude.{◌≡◌, IfOk};
+ghost use Rattle.object_listing.specs.Contacts.{IsAsked};
 ghost use Rattle.object_readings.specs.Periods.{ArePeriods};
 ghost use Rattle.object_readings.specs.Readings.{letters_at};
 ghost use Rattle.object_settings.specs.Own.{AreFilters, AreRead, AreTimes, IsOwn, options_of};
@@ -32,7 +33,8 @@ pub(crate) struct Filters<'a> {
     flags: Values<'a>,
 }
 
-/// What all blocks have for the directives of notification settings. Contracts see the blocks.
+/// What all blocks have for the directives of notification settings. Contracts see the blocks, and the flags of those
+/// whose contacts were asked for.
 #[derive(Drop)]
 pub(crate) struct Tables<'a> {
     blocks: &'a [Block],
@@ -42,15 +44,14 @@ pub(crate) struct Tables<'a> {
 }
 
 impl<'a> Model for Tables<'a> {
-    ghost use Rattle.std.specs.Prelude.{List};
-    ghost use Rattle.object_reader.specs.declared.block.Block.{Block};
+    ghost use Rattle.object_listing.specs.Contacts.{AskedContacts};
     ghost use Rattle.object_settings.specs.Own.{AreTables};
 
-    ghost Value = { List Block };
+    ghost Value = { AskedContacts };
 
-    ghost view = { λ s. s.blocks.now };
+    ghost view = { λ s. record { blocks = s.blocks.now; asked = s.contacts.now.asked } };
 
-    ghost invariant = { λ s. AreTables s.blocks.now s.contacts.now s.times s.filters };
+    ghost invariant = { λ s. AreTables s.blocks.now s.contacts.now.blocks s.times s.filters };
 }
 
 /// What the blocks have for the directives that say when.
@@ -104,8 +105,9 @@ impl<'a> Tables<'a> {
         templates: &Templates<'a>,
         contacts: &'a ContactListing<'a>,
     ) -> Result<Tables<'a>, AllocError>
-        requires { contacts.now ≡ templates.now }
-        ensures { IfOk result (λ tables. tables ≡ templates.now) }
+        requires { contacts.now.blocks ≡ templates.now }
+        ensures { IfOk result (λ tables.
+            tables ≡ record { blocks = templates.now; asked = contacts.now.asked }) }
     {
         Ok(Tables {
             blocks: templates.blocks(),
@@ -118,12 +120,13 @@ impl<'a> Tables<'a> {
     /// Room for the options that the blocks give, of which none is read.
     pub(crate) fn none_read(&self, alloc: Global) -> Result<Vec<Option<OptionLetters>>, AllocError>
         ensures { IfOk result (λ read. (kind : OptionKind)
-            → AreRead (options_of self.now) kind read.items) }
+            → AreRead (options_of self.now.blocks) kind read.items) }
     {
         vec![in alloc; None; self.blocks.len()]
     }
 
-    /// What the block at the place gives, with the name of its objects. `read` is what was read of the options so far.
+    /// What the block at the place, whose contacts were asked for, gives, with the name of its objects. `read` is what was
+    /// read of the options so far.
     pub(crate) fn own_at(
         &self,
         periods: &Names<'a>,
@@ -132,10 +135,11 @@ impl<'a> Tables<'a> {
         name: &'a [u8],
         place: usize,
     ) -> Own<'a>
-        requires periods { ArePeriods self.now periods.now }
-        requires read { AreRead (options_of self.now) kind read.old.items }
-        ensures read { AreRead (options_of self.now) kind read.new.items }
-        ensures own { IsOwn self.now kind name.now place result }
+        requires asked { IsAsked self.now.asked place }
+        requires periods { ArePeriods self.now.blocks periods.now }
+        requires read { AreRead (options_of self.now.blocks) kind read.old.items }
+        ensures read { AreRead (options_of self.now.blocks) kind read.new.items }
+        ensures own { IsOwn self.now.blocks kind name.now place result }
     {
         Own {
             name,

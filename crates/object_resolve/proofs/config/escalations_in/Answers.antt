@@ -1,4 +1,7 @@
-use Rattle.std.proofs.Common.{rules}
+use Rattle.std.proofs.Common.{rules, List, Bool, ap, subst, sym}
+use Rattle.object_escalations.specs.Entries.{AskForAll}
+use Rattle.object_listing.specs.Contacts.{AskedContacts}
+use Rattle.object_resolve.proofs.AskedLemmas.{escalations-asked}
 use Rattle.object_resolve.proofs.EntryLemmas.{objects-few, spoken-long, spoken-within}
 use Rattle.object_resolve.proofs.config.escalations_in.Goals as goal
 
@@ -6,6 +9,14 @@ pub escalations_of-requires-clause-within : goal.escalations_of-requires-clause-
 escalations_of-requires-clause-within c =
     spoken-within c.escalated_are_objects.ensures c.args.templates.now c.args.counts.now.hosts c.args.counts.now.escalated c.args.objects.now c.as_slice.result.now c.as_slice.ensures
     c.requires.objects c.requires.counts.spoken_are
+
+pub escalations_of-requires-clause-contacts : goal.escalations_of-requires-clause-contacts
+escalations_of-requires-clause-contacts c = ap (λ (t : AskedContacts). t.blocks) c.requires.contacts
+
+pub escalations_of-requires-clause-asked : goal.escalations_of-requires-clause-asked
+escalations_of-requires-clause-asked c =
+    subst (λ (asked : List Bool). AskForAll c.args.counts.now.escalated asked) (sym (ap (λ (t : AskedContacts). t.asked) c.requires.contacts))
+    (escalations-asked c.args.templates.now c.args.counts.now.hosts c.args.counts.now.escalated c.requires.counts.spoken_are)
 
 pub escalations_of-requires-clause-long : goal.escalations_of-requires-clause-long
 escalations_of-requires-clause-long c = spoken-long c.args.templates.now c.args.counts.now.hosts c.args.counts.now.escalated c.requires.counts.spoken_are

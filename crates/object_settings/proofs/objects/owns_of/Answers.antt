@@ -3,12 +3,17 @@ use Rattle.std.specs.List.{AllZip}
 use Rattle.object_groups.specs.Objects.{names_in, objects_in, ObjectsOf}
 use Rattle.object_reader.specs.declared.block.BlockKind.TheVariants.{Host}
 use Rattle.object_settings.specs.Own.{IsOwnOfHost}
-use Rattle.object_settings.proofs.ObjectLemmas.{owns-more}
+use Rattle.object_settings.proofs.ObjectLemmas.{host-asked, owns-more}
 use Rattle.object_settings.proofs.objects.owns_of.Goals as goal
+
+pub own_at-own-requires-clause-asked : goal.own_at-own-requires-clause-asked
+own_at-own-requires-clause-asked c =
+    let listed : c.places-place-items.result.now ≡ objects_in c.args.tables.now.blocks Host = c.places-place-items.ensures.places ∙ ap (λ (o : ObjectsOf). objects_in o.blocks o.kind) c.requires.hosts in
+    host-asked _ c.args.tables.now.asked c.places-place-items.result.now c.loop-number.number 0 listed c.loop-number-test.true c.requires.asked
 
 pub loop-number-preserved : goal.loop-number-preserved
 loop-number-preserved c =
-    let blocks = c.args.tables.now in
+    let blocks = c.args.tables.now.blocks in
     let i = c.loop-number.number in
     let listed : c.places-place-items.result.now ≡ objects_in blocks Host = c.places-place-items.ensures.places ∙ ap (λ (o : ObjectsOf). objects_in o.blocks o.kind) c.requires.hosts in
     let names = c.names.ensures.names ∙ ap (λ (o : ObjectsOf). names_in o.blocks o.kind) c.requires.hosts in
@@ -20,7 +25,7 @@ loop-number-preserved c =
 
 pub returns : goal.returns
 returns c =
-    let blocks = c.args.tables.now in
+    let blocks = c.args.tables.now.blocks in
     let listed : c.places-place-items.result.now ≡ objects_in blocks Host = c.places-place-items.ensures.places ∙ ap (λ (o : ObjectsOf). objects_in o.blocks o.kind) c.requires.hosts in
     let long = ap (λ (places : List ℕ). length places) listed in
     let all : length (objects_in blocks Host) ≤ c.loop-number.number = omega (arith, long, c.loop-number-test.false) in

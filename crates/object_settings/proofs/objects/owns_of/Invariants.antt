@@ -9,6 +9,6 @@ use Rattle.object_settings.proofs.objects.owns_of.Given as goal
 -- What the blocks so far give, and what is read of their options.
 abbrev pub invariant-loop-number : goal.invariant-loop-number
 invariant-loop-number l = record {
-  owns : AllZip (IsOwnOfHost l.tables) (take l.number (objects_in l.tables Host)) l.owns.items;
-  read : AreRead (options_of l.tables) lists.Host l.read.items;
+  owns : AllZip (IsOwnOfHost l.tables.blocks) (take l.number (objects_in l.tables.blocks Host)) l.owns.items;
+  read : AreRead (options_of l.tables.blocks) lists.Host l.read.items;
 }

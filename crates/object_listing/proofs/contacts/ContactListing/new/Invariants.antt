@@ -6,6 +6,6 @@ use Rattle.object_listing.proofs.contacts.ContactListing.new.Given as goal
 abbrev pub invariant-loop-place : goal.invariant-loop-place
 invariant-loop-place l = record {
   same : l.groups ≡ l.initial.groups;
-  found : AreFound l.blocks (lists_in l.lists.items) l.found.entries;
-  below : HasListsBelow l.blocks l.place (lists_in l.lists.items) l.numbers.items;
+  found : AreFound l.fn.templates (lists_in l.lists.items) l.found.entries;
+  below : HasListsBelow l.fn.templates l.fn.asked.items l.place (lists_in l.lists.items) l.numbers.items;
 }

@@ -1,7 +1,8 @@
-use Rattle.std.proofs.Common.{◌∙◌, List, ap, map, refl, subst, sym, true, ℕ}
+use Rattle.std.proofs.Common.{◌∙◌, List, Bool, ap, map, refl, subst, sym, true, ℕ}
 use Rattle.std.specs.Prelude.{codes}
 use Rattle.object_groups.specs.Objects.{names_in}
 use Rattle.object_inheritance.specs.Columns.{Column}
+use Rattle.object_listing.specs.Contacts.{AskedContacts, IsAsked}
 use Rattle.object_listing.specs.Listing.{AreThose, contact_directives, gives_neither, IsListed}
 use Rattle.object_reader.specs.declared.block.Block.{Block}
 use Rattle.object_reader.specs.declared.block.BlockKind.TheVariants.{TimePeriod}
@@ -10,21 +11,27 @@ use Rattle.object_settings.specs.Own.{AreRead, options_of}
 use Rattle.object_settings.proofs.TableLemmas.{read-are}
 use Rattle.object_settings.proofs.tables.Tables.own_at.Goals as goal
 
+pub gives_neither-requires : goal.gives_neither-requires
+gives_neither-requires c = subst (λ (asked : List Bool). IsAsked asked c.args.place) (sym (ap (λ (t : AskedContacts). t.asked) c.self.view_is)) c.requires.asked
+
+pub contacts_at-requires : goal.contacts_at-requires
+contacts_at-requires c = subst (λ (asked : List Bool). IsAsked asked c.args.place) (sym (ap (λ (t : AskedContacts). t.asked) c.self.view_is)) c.requires.asked
+
 pub letters_once-requires : goal.letters_once-requires
-letters_once-requires c = subst (λ (options : Column). AreRead options c.args.kind c.args.read.now.items) (sym (c.self.invariant.filters_are.options_are ∙ ap options_of c.self.view_is)) c.requires.read
+letters_once-requires c = subst (λ (options : Column). AreRead options c.args.kind c.args.read.now.items) (sym (c.self.invariant.filters_are.options_are ∙ ap (λ (t : AskedContacts). options_of t.blocks) c.self.view_is)) c.requires.read
 
 pub returns-clause-read : goal.returns-clause-read
 returns-clause-read c =
-    subst (λ (options : Column). AreRead options c.args.kind c.letters_once.new.read.items) (c.self.invariant.filters_are.options_are ∙ ap options_of c.self.view_is) c.letters_once.ensures.read
+    subst (λ (options : Column). AreRead options c.args.kind c.letters_once.new.read.items) (c.self.invariant.filters_are.options_are ∙ ap (λ (t : AskedContacts). options_of t.blocks) c.self.view_is) c.letters_once.ensures.read
 
 pub returns-clause-own : goal.returns-clause-own
 returns-clause-own c =
-    let blocks = c.args.self.now in
+    let blocks = c.args.self.now.blocks in
     let inside = c.self.inside.blocks.now in
     let times = c.self.inside.times in
     let filters = c.self.inside.filters in
     let place = c.args.place in
-    let same = c.self.view_is in
+    let same = ap (λ (t : AskedContacts). t.blocks) c.self.view_is in
     let listed = c.self.invariant.contacts_are ∙ same in
     record {
       named = refl;
