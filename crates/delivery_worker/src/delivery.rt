@@ -1,11 +1,12 @@
 //! The delivery of one notice of a lane.
 
-ghost use Rattle.std.specs.Prelude.{◌≡◌, ◌↔◌, ◌⊎◌, ◌+◌, ◌<◌, [], ◌∷◌};
+ghost use Rattle.std.specs.Prelude.{◌≡◌, ◌↔◌, ◌⊎◌, ◌+◌, ◌<◌, ◌≤◌, [], ◌∷◌};
 ghost use Rattle.std.specs.Prelude.{◌++◌, List, None, length};
 ghost use Rattle.std.specs.Prelude.{IfErr, IsErrOf, OnErr, OnOk};
 ghost use Rattle.channel.specs.Channels.{receipt_of};
 ghost use Rattle.channel.specs.Letter.{letter_of};
-ghost use Rattle.delivery_worker.specs.Attempts.{KeepsInHand, TriesFailed, contents, with_taken};
+ghost use Rattle.delivery_worker.specs.Attempts.{HasTriedAndAsked, KeepsInHand, TriesFailed};
+ghost use Rattle.delivery_worker.specs.Attempts.{contents, with_taken};
 ghost use Rattle.due_model.specs.declared.notice.Notice.{Notice};
 
 use crate::laws::attempt;
@@ -14,8 +15,18 @@ use channel::Channel;
 use channel::letter::letter_text;
 use due_model::config::Config;
 use due_model::notice::Notice;
-use std::alloc::Global;
+use std::alloc::{AllocError, Global};
 use undelivered::{LaneRecord, Why};
+
+/// Makes room for one receipt more. A refused growth is the only error; nothing that a letter is tried by changes.
+fn keep_room(channel: &mut Box<dyn Channel>) -> Result<(), AllocError>
+    ensures room { OnOk result (0 < room channel.new) }
+    ensures taken { taken channel.new ≡ taken channel.old }
+    ensures failures { failures channel.new ≡ failures channel.old }
+    ensures limit { limit channel.new ≡ limit channel.old }
+{
+    channel.reserve()
+}
 
 /// Takes a notice up and hands its letter to the lane's channel, as often as it may be tried. After Ok the channel and the
 /// record have it as the last that was taken. An error says why the lane is to close: `Asked`, `Failed`, or `NoMemory`, where a
@@ -42,6 +53,21 @@ pub fn deliver_notice<B: Bell>(
     ensures order { (queue : List Notice) → lane.old.undelivered ≡ []
         → (contents lane.new ++ queue ≡ contents lane.old ++ notice ∷ queue)
         ⊎ ((lane.new ≡ lane.old) × IsErrOf result Why.NoMemory) }
+    // The bell was asked before each try that failed, and once more where that wasn't the end; where memory ran out, it wasn't.
+    ensures tries_taken { OnOk result
+        (HasTriedAndAsked Attempted.Settled tries (limit channel.old)
+        (length (letter_of config.now notice)) (failures channel.old) (failures channel.new)
+        (B.asks bell.old) (B.asks bell.new)) }
+    ensures tries_asked { IsErrOf result Why.Asked
+        → HasTriedAndAsked Attempted.Asked tries (limit channel.old)
+        (length (letter_of config.now notice)) (failures channel.old) (failures channel.new)
+        (B.asks bell.old) (B.asks bell.new) }
+    ensures tries_failed { IsErrOf result Why.Failed
+        → HasTriedAndAsked Attempted.Failed tries (limit channel.old)
+        (length (letter_of config.now notice)) (failures channel.old) (failures channel.new)
+        (B.asks bell.old) (B.asks bell.new) }
+    ensures no_tries { IsErrOf result Why.NoMemory → B.asks bell.new ≡ B.asks bell.old }
+    ensures bell { B.count bell.new ≤ B.count bell.old + 1 }
     // Why the lane is to close has its cause.
     ensures asked { IsErrOf result Why.Asked ↔ (B.count bell.old < B.count bell.new) }
     ensures failed { IsErrOf result Why.Failed
@@ -53,7 +79,7 @@ pub fn deliver_notice<B: Bell>(
     ensures has_channel { ¬ IsErrOf result Why.NoChannel }
     ensures limit { limit channel.new ≡ limit channel.old }
 {
-    if channel.reserve().is_err() || lane.take_up(notice).is_err() {
+    if keep_room(channel).is_err() || lane.take_up(notice).is_err() {
         return Err(Why::NoMemory);
     }
     let Ok(letter) = letter_text(alloc, config, notice) else {

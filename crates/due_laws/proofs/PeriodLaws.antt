@@ -1,5 +1,5 @@
 -- When a period of an accepted configuration holds: as the definition says, but with no depth.
-use Rattle.std.proofs.Common.{◌≡◌, ◌↔◌, ℕ, zero, suc, ◌<◌, ◌≤◌, Bool, true, false, not, ◌&&◌, ◌||◌, nat_le, nat_lt, List, [], ◌∷◌, length, slice_get, All, Any, Contains, Option, None, Some, refl, sym, ap, ap₂, ◌∙◌, arith, leb-true, ltb-true, le-leb, lt-ltb}
+use Rattle.std.proofs.Common.{◌≡◌, ◌↔◌, ℕ, zero, suc, ◌<◌, ◌≤◌, Bool, true, false, not, ◌&&◌, nat_le, nat_lt, List, length, slice_get, All, Any, Option, None, Some, refl, sym, ap, ◌∙◌, arith, leb-true, ltb-true, le-leb, lt-ltb}
 use Rattle.std.specs.List.{list_any}
 use Rattle.std.proofs.lemmas.Bool.{and_parts, and_from}
 use Rattle.std.proofs.lemmas.List.Elements.{All-contains, All-from_recursion}

@@ -1,6 +1,6 @@
 -- The numbers of the limits.
 use Rattle.std.specs.Prelude.{◌≡◌}
-use Rattle.due_model.specs.Limits.{max_objects, max_contacts, max_lanes, max_periods, max_escalations, max_dependencies, max_number, last_moment, max_events, max_deciders, max_queue, max_tries}
+use Rattle.due_model.specs.Limits.{max_objects, max_contacts, max_lanes, max_periods, max_escalations, max_dependencies, max_number, last_moment, day, text_limit, line_limit, max_events, max_deciders, max_queue, max_tries}
 
 pub record LimitsAreThese : Type 0 where
   pub objects : max_objects ≡ 65_535
@@ -12,6 +12,11 @@ pub record LimitsAreThese : Type 0 where
   pub number : max_number ≡ 1_000_000
   -- the end of the year 2999 in UTC
   pub moment : last_moment ≡ 32_503_679_999
+  -- the seconds of a day
+  pub seconds : day ≡ 86_400
+  -- the bytes of object text, and of a line
+  pub text : text_limit ≡ 16_777_216
+  pub line : line_limit ≡ 4_096
   -- 2 ^ 32
   pub events : max_events ≡ 4_294_967_296
   pub deciders : max_deciders ≡ 8

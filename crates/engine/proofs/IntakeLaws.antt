@@ -5,6 +5,7 @@ use Rattle.std.proofs.lemmas.Bool.{eq-eqb, ne_eqb}
 use Rattle.std.proofs.lemmas.Grind.{flat_map-append}
 use Rattle.std.proofs.lemmas.List.{append-nil}
 use Rattle.std.proofs.lemmas.List.Elements.{All-push}
+use Rattle.std.proofs.lemmas.Option.{IfSome_then}
 use Rattle.due_model.specs.declared.config.Config.{Config}
 use Rattle.due_model.specs.declared.event.Event.{Event}
 use Rattle.due_model.specs.Limits.{max_events}
@@ -200,27 +201,7 @@ event_refused can_fail c start said e now h full =
 
 -- ---- a front
 
-front_by : (c : Config) (start : Feed) (given : List Answer) (now : Feed) (events : List Event) (bytes rest : Option (List ℕ))
-    → Known bytes rest (λ before after. answers_from c.objects start before ≡ given ++ answers_from c.objects now after)
-    → events ≡ events_in given → ((others : List Answer) → taken_after 0 (given ++ others) ≡ given ++ taken_after (length events) others)
-    → IfSome bytes (λ before. IsFrontOf events (events_in (taken_after 0 (answers_from c.objects start before))))
-front_by c start given now events None rest known e taken = tt
-front_by c start given now events (Some before) None known e taken = absurd known
-front_by c start given now events (Some before) (Some after) known e taken =
-    let others = answers_from c.objects now after in (
-      events_in (taken_after (length events) others),
-      ap (λ all. events_in (taken_after 0 all)) known ∙ ap events_in (taken others)
-          ∙ flat_map-append (λ (a : Answer). event_in a.given) given (taken_after (length events) others)
-          ∙ ap (λ (xs : List Event). xs ++ events_in (taken_after (length events) others)) (sym e),
-    )
-
-pub read_front : (c : Config) (start : Feed) (said : List Answer) (now : Intake) → HasRead c start said now → IsFrontOfFeed c start now.events
-read_front c start said now h = front_by c start said now.feed now.events start.bytes now.feed.bytes h.first.answers h.first.events_are h.first.taken
-
-pub offered_front : (c : Config) (start : Feed) (said : List Answer) (e : Event) (now : Intake) → Offers c start said e now → IsFrontOfFeed c start now.events
-offered_front c start said e now h = read_front c start said (record now { feed = h.before }) h.read
-
--- and so are the answers that were taken
+-- the answers that were taken are a front of the feed's
 said_by : (c : Config) (start : Feed) (given : List Answer) (now : Feed) (count : ℕ) (bytes rest : Option (List ℕ))
     → Known bytes rest (λ before after. answers_from c.objects start before ≡ given ++ answers_from c.objects now after)
     → ((others : List Answer) → taken_after 0 (given ++ others) ≡ given ++ taken_after count others)
@@ -233,5 +214,18 @@ said_by c start given now count (Some before) (Some after) known taken =
 pub read_said : (c : Config) (start : Feed) (said : List Answer) (now : Intake) → HasRead c start said now → AreFrontOfFeed c start said
 read_said c start said now h = said_by c start said now.feed (length now.events) start.bytes now.feed.bytes h.first.answers h.first.taken
 
+-- and so are their events
+pub read_front : (c : Config) (start : Feed) (said : List Answer) (now : Intake) → HasRead c start said now → IsFrontOfFeed c start now.events
+read_front c start said now h =
+    IfSome_then start.bytes (read_said c start said now h)
+    (λ bytes front. (
+      events_in front.0,
+      ap events_in front.1 ∙ flat_map-append (λ (a : Answer). event_in a.given) said front.0 ∙ ap (λ (xs : List Event). xs ++ events_in front.0) (sym h.first.events_are),
+    ))
+
+-- the same before the event that is offered is accepted
 pub offered_said : (c : Config) (start : Feed) (said : List Answer) (e : Event) (now : Intake) → Offers c start said e now → AreFrontOfFeed c start said
 offered_said c start said e now h = read_said c start said (record now { feed = h.before }) h.read
+
+pub offered_front : (c : Config) (start : Feed) (said : List Answer) (e : Event) (now : Intake) → Offers c start said e now → IsFrontOfFeed c start now.events
+offered_front c start said e now h = read_front c start said (record now { feed = h.before }) h.read

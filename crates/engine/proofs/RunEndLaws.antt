@@ -3,7 +3,7 @@ use Rattle.std.proofs.Common.{◌≡◌, ◌≢◌, ◌==◌, ℕ, ◌<◌, All,
 use Rattle.std.specs.Result.{result_unwrap_or}
 use Rattle.std.proofs.lemmas.List.{append-nil}
 use Rattle.std.proofs.lemmas.List.Elements.{All-nil, All-cons, All-head, All-same, All-tail, filter-append}
-use Rattle.std.proofs.lemmas.Option.{slice_get_within}
+use Rattle.std.proofs.lemmas.Option.{IfSome_then, slice_get_within}
 use Rattle.due_model.specs.declared.config.Config.{Config}
 use Rattle.due_model.specs.declared.config.LaneId.{LaneId}
 use Rattle.due_model.specs.declared.event.Event.{Event}
@@ -59,12 +59,8 @@ given_by can_fail given all line texts (inr broken) =
     )
 
 given_front : (can_fail : Bool) (c : Config) (start : Feed) (given : List Answer) → AreGivenBy can_fail c.objects start given → IsFrontOfFeed c start (events_in (taken_after 0 given))
-given_front can_fail c start given h = by_bytes start.bytes h
-  where
-    by_bytes : (bytes : Option (List ℕ)) → IfSome bytes (λ xs. AreGiven can_fail given (answers_from c.objects start xs) start.line (pieces xs))
-        → IfSome bytes (λ xs. IsFrontOf (events_in (taken_after 0 given)) (events_in (taken_after 0 (answers_from c.objects start xs))))
-    by_bytes None h = tt
-    by_bytes (Some xs) h = given_by can_fail given (answers_from c.objects start xs) start.line (pieces xs) h
+given_front can_fail c start given h =
+    IfSome_then start.bytes h (λ bytes of. given_by can_fail given (answers_from c.objects start bytes) start.line (pieces bytes) of)
 
 ended_front : (can_fail : Bool) (c : Config) (start : Feed) (said : List Answer) (cut : Bool) (now : Intake) → HasEnded can_fail c start said cut now → IsFrontOfFeed c start now.events
 ended_front can_fail c start said cut now h = subst (λ (xs : List Event). IsFrontOfFeed c start xs) (sym h.taken.events_are) (given_front can_fail c start h.given h.of_feed)
@@ -191,42 +187,34 @@ module _ (can_fail : Bool) (c : Config) (zone : Zone) (posted : ℕ → Bool) (k
       (subst (λ (n : ℕ). IfSome start.bytes (λ bytes. P bytes (answers c.objects start.line n (pieces bytes)) start.line)) s.last
       (subst (λ (b : Bool). IfSome start.bytes (λ bytes. P bytes (first_answers start.line start.last b bytes) start.line)) (ap is_some s.goes_on) h)))
 
-  and_taken : (k : Option (List ℕ)) (given : List Answer) → IfSome k (λ bytes. AreGiven can_fail given (answers c.objects 0 0 (pieces bytes)) 0 (pieces bytes)) → AreTaken given end.events.items end.refused.items end.cut
-      → IfSome k (λ bytes. IsWhatWasRead can_fail c.objects bytes end.events.items end.refused.items end.cut)
-  and_taken None given h t = tt
-  and_taken (Some bytes) given h t = (given, h, t)
-
   later : (b : Bool) (k : Option (List ℕ)) (P : List ℕ → Type 0) → (end.memory ≡ b → IfSome k P) → IfSome k (λ bytes. end.memory ≡ b → P bytes)
   later b None P h = tt
   later b (Some bytes) P h = h
 
+  -- what all answers that were given say of the bytes, where memory sufficed
+  all_given : (Q : List ℕ → Type 0)
+      → ((bytes : List ℕ) (given : List Answer) → AreGiven can_fail given (answers c.objects 0 0 (pieces bytes)) 0 (pieces bytes) → AreTaken given end.events.items end.refused.items end.cut → said ≡ taken_after 0 given → Q bytes)
+      → IfSome known (λ bytes. end.memory ≡ false → Q bytes)
+  all_given Q each =
+      later false known Q
+      (λ none. let all = r.read none in IfSome_then known (from_start (λ bytes answers line. AreGiven can_fail all.0 answers line (pieces bytes)) all.1) (λ bytes of. each bytes all.0 of all.2 all.3))
+
   what_was_read : IfSome known (λ bytes. end.memory ≡ false → IsWhatWasRead can_fail c.objects bytes end.events.items end.refused.items end.cut)
-  what_was_read =
-      later false known (λ bytes. IsWhatWasRead can_fail c.objects bytes end.events.items end.refused.items end.cut)
-      (λ none. let g = r.read none in and_taken known g.0 (from_start (λ bytes all line. AreGiven can_fail g.0 all line (pieces bytes)) g.1) g.2)
+  what_was_read = all_given (λ bytes. IsWhatWasRead can_fail c.objects bytes end.events.items end.refused.items end.cut) (λ bytes given of taken is. (given, of, taken))
 
   events_front : IfSome known (λ bytes. IsFrontOf end.events.items (events_of c.objects bytes))
   events_front = from_start (λ bytes all line. IsFrontOf end.events.items (events_in (taken_after 0 all))) r.front
 
-  and_said : (k : Option (List ℕ)) (given : List Answer) → IfSome k (λ bytes. AreGiven can_fail given (answers c.objects 0 0 (pieces bytes)) 0 (pieces bytes)) → said ≡ taken_after 0 given
-      → IfSome k (λ bytes. IsTakenOf can_fail c bytes said)
-  and_said None given h e = tt
-  and_said (Some bytes) given h e = (given, h, e)
-
   was_taken : IfSome known (λ bytes. end.memory ≡ false → IsTakenOf can_fail c bytes said)
-  was_taken =
-      later false known (λ bytes. IsTakenOf can_fail c bytes said)
-      (λ none. let g = r.read none in and_said known g.0 (from_start (λ bytes all line. AreGiven can_fail g.0 all line (pieces bytes)) g.1) g.3)
+  was_taken = all_given (λ bytes. IsTakenOf can_fail c bytes said) (λ bytes given of taken is. (given, of, is))
 
   front_taken : IfSome known (λ bytes. end.memory ≡ true → IsFrontTaken c.objects bytes said)
   front_taken =
       later true known (λ bytes. IsFrontTaken c.objects bytes said)
       (λ out. from_start (λ bytes all line. IsFrontOf said (taken_after 0 all)) (r.said_front out))
 
-  front_read : (k : Option (List ℕ)) → IfSome k (λ bytes. end.memory ≡ true → IsFrontTaken c.objects bytes said)
-      → IfSome k (λ bytes. end.memory ≡ true → IsFrontRead c.objects bytes end.events.items end.refused.items)
-  front_read None h = tt
-  front_read (Some bytes) h = λ out. (said, h out, r.events, r.refused)
+  front_read : IfSome known (λ bytes. end.memory ≡ true → IsFrontRead c.objects bytes end.events.items end.refused.items)
+  front_read = IfSome_then known front_taken (λ bytes first out. (said, first out, r.events, r.refused))
 
   pub ends_after : EndsAfter can_fail c zone posted known said end
   ends_after = record {
@@ -237,7 +225,7 @@ module _ (can_fail : Bool) (c : Config) (zone : Zone) (posted : ℕ → Bool) (k
       proper = r.proper;
       named = r.named;
       front = events_front;
-      read_front = front_read known front_taken;
+      read_front = front_read;
       due_front = lanes_begin_due can_fail c zone posted start said end r;
       uncut = r.uncut;
       causes = r.causes;
@@ -264,8 +252,7 @@ unread_taken c (Some bytes) memory = λ out. (taken_after 0 (answers c.objects 0
 
 unread_read : (c : Config) (known : Option (List ℕ)) (end : RunEnd) → end.events.items ≡ [] → end.refused.items ≡ []
     → IfSome known (λ bytes. end.memory ≡ true → IsFrontRead c.objects bytes end.events.items end.refused.items)
-unread_read c None end events refused = tt
-unread_read c (Some bytes) end events refused = λ out. ([], (taken_after 0 (answers c.objects 0 0 (pieces bytes)), refl), events, refused)
+unread_read c known end events refused = IfSome_then known (unread_taken c known end.memory) (λ bytes first out. ([], first out, events, refused))
 
 no_log : (c : Config) (zone : Zone) (events : List Event) (log : List Suppression) → events ≡ [] → log ≡ [] → IsLog c zone (reverse events) log
 no_log c zone events log no_events none =

@@ -4,7 +4,7 @@ use Rattle.due_model.specs.declared.config.LaneId.{LaneId}
 use Rattle.due_model.specs.declared.notice.Notice.{Notice}
 use Rattle.undelivered.specs.Record.{Record}
 use Rattle.undelivered.specs.declared.Why.{Why}
-use Rattle.undelivered.specs.declared.Why.TheVariants.{FeedOver, Asked, NoMemory, NoChannel}
+use Rattle.undelivered.specs.declared.Why.TheVariants.{FeedOver, Asked, Failed, NoMemory, NoChannel}
 
 -- ---- how it ends
 
@@ -19,10 +19,11 @@ pub record LaneParts : Type 0 where
 abbrev pub joined : LaneParts → List Notice
 joined lane = lane.taken ++ lane.undelivered
 
--- A lane's close has its cause: where the feed is over nothing is undelivered, a lane has no channel, and has taken nothing,
--- exactly where none was given, memory ran out only where the run says so, and nobody asks.
+-- A lane's close has its cause: where the feed is over nothing is undelivered, a lane that failed gave something up, a lane has
+-- no channel, and has taken nothing, exactly where none was given, memory ran out only where the run says so, and nobody asks.
 pub record IsCause (posted memory : Bool) (lane : LaneParts) : Type 0 where
   pub over : lane.why ≡ FeedOver → lane.undelivered ≡ []
+  pub failed : lane.why ≡ Failed → lane.undelivered ≢ []
   pub unposted : lane.why ≡ NoChannel → posted ≡ false
   pub no_channel : posted ≡ false → lane.why ≡ NoChannel
   pub untaken : lane.why ≡ NoChannel → lane.taken ≡ []
@@ -49,13 +50,14 @@ no_lane = record {
   kept = record { taken = []; hand = None; undelivered = []; why = None };
 }
 
--- A lane has nothing in hand between two notices. While it serves it is open, and nothing was given up; else it is shut. Without
--- a channel from the first it has taken nothing.
+-- A lane has nothing in hand between two notices. While it serves it is open, and nothing was given up; else it is shut. One
+-- that failed gave up a notice. Without a channel from the first it has taken nothing.
 pub record Stands (lane : LaneValue) : Type 0 where
   pub hand : lane.kept.hand ≡ None
   pub serving : lane.serves ≡ true → lane.kept.why ≡ None
   pub nothing : lane.serves ≡ true → lane.kept.undelivered ≡ []
   pub shut : lane.serves ≡ false → lane.kept.why ≢ None
+  pub failed : lane.kept.why ≡ Some Failed → lane.kept.undelivered ≢ []
   pub untaken : lane.kept.why ≡ Some NoChannel → lane.kept.taken ≡ []
 
 -- why a lane may be shut while the feed goes on
