@@ -1,5 +1,6 @@
 -- The object text at the head of an input, and the feed after it; and the object text of a file.
-use Rattle.std.specs.Prelude.{◌≡◌, ℕ, Bool, true, List, codes, IfSome, Option, None, Some, ⊤}
+use Rattle.std.specs.Prelude.{◌≡◌, ℕ, Bool, true, List, codes, IfSome, ◌⊎◌, Option, None, Some, ⊤}
+use Rattle.std.specs.Io.KnownBytes.{Keeps}
 use Rattle.due_model.specs.declared.config.Config.{Config}
 use Rattle.object_resolve.specs.Text.{IsTextFault, IsTextOf}
 use Rattle.text_lines.specs.Lines.{Known}
@@ -49,3 +50,14 @@ IsFileOf config known = IfSome known (λ text. IsTextOf config text)
 -- what a fault says of it
 abbrev pub FileFails : (can_fail : Bool) → CommandFault → Option (List ℕ) → Type 0
 FileFails can_fail fault known = TextFails can_fail None fault known
+
+-- ---- what a command that reads it says of its fault
+
+-- Where the text is refused or can't be read nothing was written; where the output failed what was written is a front, and
+-- where memory ran out that, or nothing. Only a reader that can fail makes the text unreadable.
+abbrev pub CommandFails : (can_fail : Bool) → (text : List ℕ) → CommandFault
+    → (old new : Option (List ℕ)) → (IsFront : Type 0) → Type 0
+CommandFails can_fail text (Objects fault) old new IsFront = IsTextFault text fault × Keeps old new
+CommandFails can_fail text Unreadable old new IsFront = Keeps old new × (can_fail ≡ true)
+CommandFails can_fail text Output old new IsFront = IsFront
+CommandFails can_fail text NoMemory old new IsFront = Keeps old new ⊎ IsFront

@@ -1,5 +1,5 @@
 -- What the answers of a feeder say of the lines of its feed.
-use Rattle.std.proofs.Common.{◌≡◌, ℕ, ◌+◌, ◌≤◌, true, false, cond, ◌||◌, List, [], ◌∷◌, ◌++◌, Option, None, Some, Bool, IfNone, IfSome, Ok, Err, refl, sym, ap, subst, ◌∙◌, inl, arith, append_assoc}
+use Rattle.std.proofs.Common.{◌≡◌, ℕ, ◌≤◌, true, false, cond, ◌||◌, List, [], ◌∷◌, ◌++◌, Option, None, Some, Bool, IfNone, IfSome, Ok, Err, refl, sym, ap, subst, ◌∙◌, inl, arith, append_assoc}
 use Rattle.std.proofs.lemmas.List.{append-nil}
 use Rattle.std.proofs.lemmas.List.Elements.{All-nil}
 use Rattle.due_model.specs.declared.config.Config.{Config}
@@ -145,23 +145,6 @@ text_of_end c zone past line e h = sym (ap (λ b. cond b (refused_line line Ende
 pub event_text : (c : Config) (zone : Zone) (past : List Event) (line : ℕ) (e : Event) (entries : List Entry) → entries ≡ event_entries c zone e past → is_ended past (Ok e) ≡ false
     → entries_text c entries ≡ answer_text c zone past (record { line = line; given = Ok e })
 event_text c zone past line e entries are h = ap (entries_text c) are ∙ text_of_event c zone past line e h
-
--- ---- from one configuration to an equal one
-
-pub goes_on_of : (c c' : Config) (zone zone' : Zone) (old : Kept) (feed : Feed) (before : Option (List ℕ)) (held : List ℕ) (new : Kept) (feed' : Feed) (after : Option (List ℕ)) (held' : List ℕ)
-    → c ≡ c' → zone ≡ zone' → GoesOn c zone old feed before held new feed' after held' → GoesOn c' zone' old feed before held new feed' after held'
-goes_on_of c c' zone zone' old feed before held new feed' after held' e f h =
-    subst (λ (t : Config × Zone). GoesOn t.0 t.1 old feed before held new feed' after held') (ap (λ (x : Config). (x, zone)) e ∙ ap (λ (z : Zone). (c', z)) f) h
-
-pub ends_of : (can_fail : Bool) (c c' : Config) (zone zone' : Zone) (old : Kept) (feed : Feed) (before : Option (List ℕ)) (held : List ℕ) (ending : Ending) (after : Option (List ℕ)) (held' : List ℕ)
-    → c ≡ c' → zone ≡ zone' → Ends can_fail c zone old feed before held ending after held' → Ends can_fail c' zone' old feed before held ending after held'
-ends_of can_fail c c' zone zone' old feed before held ending after held' e f h =
-    subst (λ (t : Config × Zone). Ends can_fail t.0 t.1 old feed before held ending after held') (ap (λ (x : Config). (x, zone)) e ∙ ap (λ (z : Zone). (c', z)) f) h
-
-pub breaks_off_of : (can_fail : Bool) (c c' : Config) (zone zone' : Zone) (old : Kept) (feed : Feed) (before : Option (List ℕ)) (held : List ℕ) (after : Option (List ℕ))
-    → c ≡ c' → zone ≡ zone' → WritesPart can_fail c zone old feed before held after → WritesPart can_fail c' zone' old feed before held after
-breaks_off_of can_fail c c' zone zone' old feed before held after e f h =
-    subst (λ (t : Config × Zone). WritesPart can_fail t.0 t.1 old feed before held after) (ap (λ (x : Config). (x, zone)) e ∙ ap (λ (z : Zone). (c', z)) f) h
 
 -- ---- how far a report has come
 

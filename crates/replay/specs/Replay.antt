@@ -1,16 +1,14 @@
 -- What a replay does: it writes the report of its input, or fails.
-use Rattle.std.specs.Prelude.{◌≡◌, ℕ, Bool, true, List, [], ◌⊎◌, Option}
-use Rattle.std.specs.Io.KnownBytes.{Keeps}
+use Rattle.std.specs.Prelude.{◌≡◌, ℕ, Bool, List, [], Option}
 use Rattle.due_model.specs.declared.config.Config.{Config}
 use Rattle.due_model.specs.declared.zone.Zone.{Zone}
 use Rattle.event_feed.specs.Feed.{Answer, AreGiven, answers}
-use Rattle.object_resolve.specs.Text.{IsTextFault, IsTextOf}
+use Rattle.object_resolve.specs.Text.{IsTextOf}
 use Rattle.text_lines.specs.Lines.{pieces}
 use Rattle.command_output.specs.declared.outcome.CommandFault.{CommandFault}
-use Rattle.command_output.specs.declared.outcome.CommandFault.TheVariants.{Objects, Unreadable, Output, NoMemory}
 use Rattle.command_output.specs.declared.outcome.Ending.{Ending}
 use Rattle.written.specs.Written.{Writes, WritesFront}
-use Rattle.command_input.specs.Objects.{feed_in, objects_in}
+use Rattle.command_input.specs.Objects.{CommandFails, feed_in, objects_in}
 use Rattle.replay.specs.Report.{ending_after, report_text}
 
 -- the answers are those of a feed from its first line on
@@ -34,18 +32,12 @@ ReportsFrontOf can_fail objects feed zone old new =
     × AreOfFeed can_fail config feed given
     × WritesFront old new (report_text config zone given)
 
--- What a fault says. Where the object text is refused or can't be read nothing was written; where the output failed a
--- front of the report, and where memory ran out that, or nothing. Only a reader that can fail makes the text unreadable.
+-- what a fault says: a front of the report is written at most
 abbrev pub FailsOf : (text_can_fail can_fail : Bool) → (objects feed : List ℕ) → Zone
     → CommandFault → (old new : Option (List ℕ)) → Type 0
-FailsOf text_can_fail can_fail objects feed zone (Objects fault) old new =
-    IsTextFault objects fault × Keeps old new
-FailsOf text_can_fail can_fail objects feed zone Unreadable old new =
-    Keeps old new × (text_can_fail ≡ true)
-FailsOf text_can_fail can_fail objects feed zone Output old new =
-    ReportsFrontOf can_fail objects feed zone old new
-FailsOf text_can_fail can_fail objects feed zone NoMemory old new =
-    Keeps old new ⊎ ReportsFrontOf can_fail objects feed zone old new
+FailsOf text_can_fail can_fail objects feed zone fault old new =
+    CommandFails text_can_fail objects fault old new
+    (ReportsFrontOf can_fail objects feed zone old new)
 
 -- ---- of one input, which has the object text, a mark, and the feed
 

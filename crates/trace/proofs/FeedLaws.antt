@@ -1,9 +1,10 @@
 -- The lines of a feed, one after another: what they give, and what is kept of it.
-use Rattle.std.proofs.Common.{codes, slice_index, ◌≡◌, ◌≢◌, ◌<◌, ◌≤◌, inl, inr, All, IfSome, IsSome, ℕ, ◌+◌, zero, suc, Bool, true, false, List, [], ◌∷◌, ◌++◌, length, replicate, Option, None, Some, Result, Ok, Err, refl, sym, ap, subst, ◌∙◌, append_assoc, arith}
+use Rattle.std.proofs.Common.{codes, slice_index, ◌≡◌, ◌≢◌, ◌<◌, ◌≤◌, inl, inr, IfSome, IsSome, ℕ, ◌+◌, zero, suc, Bool, true, false, List, [], ◌∷◌, ◌++◌, length, replicate, Option, None, Some, Result, Ok, Err, refl, sym, ap, subst, ◌∙◌, append_assoc, arith}
 use Rattle.std.proofs.lemmas.List.{append-nil, length-append, length-replicate}
 use Rattle.std.proofs.lemmas.Str.{is_utf8-from_IsUtf8, IsUtf8-from_ascii}
 use Rattle.std.specs.Str.{IsAscii}
 use Rattle.std.proofs.lemmas.List.Elements.{All-nil, All-cons, All-append, All-push, All-replicate, All-weaker}
+use Rattle.due_model.specs.declared.config.Config.{Config}
 use Rattle.due_model.specs.declared.config.Object.{Object}
 use Rattle.due_model.specs.declared.event.Event.{Event}
 use Rattle.event_feed.specs.declared.fault.FeedFault.{FeedFault}
@@ -11,12 +12,12 @@ use Rattle.event_feed.specs.declared.fault.FeedFault.TheVariants.{BadStamp}
 use Rattle.event_feed.specs.declared.fault.FeedFault.TheVariants as faults
 use Rattle.event_feed.specs.declared.fault.RefusedLine.{RefusedLine}
 use Rattle.event_feed.specs.Fault.{stop_fault}
-use Rattle.text_lines.specs.declared.line_reader.NextLine.TheVariants.{Line, Over}
+use Rattle.text_lines.specs.declared.line_reader.NextLine.TheVariants.{Over}
 use Rattle.text_lines.specs.declared.line_reader.Stop.{Stop}
-use Rattle.text_lines.specs.declared.line_reader.Stop.TheVariants.{InputEnded, CutLine, ReaderFailed, TooManyCalls, TooManyBytes, TooManyLines}
+use Rattle.text_lines.specs.declared.line_reader.Stop.TheVariants.{InputEnded, CutLine, ReaderFailed, TooManyLines}
 use Rattle.std.proofs.lemmas.Option.{same_Some}
-use Rattle.event_feed.specs.FeedLaws.{fault_next, known_weaker}
-use Rattle.event_feed.specs.Feed.{Answer, AnswersNone, AreGiven, AreGivenBy, Feed, FeedComesTo, ComesNext, ComesTo, FaultAnswers, FaultComesTo, FaultFits, GivesEvent, GivesFault, RefusesLine, answers_from, ends_feed, raised, text_reading}
+use Rattle.event_feed.specs.FeedLaws.{earlier_more, fault_next, known_weaker, then_by}
+use Rattle.event_feed.specs.Feed.{Answer, AnswersNone, AreGivenBy, Feed, FeedComesTo, ComesNext, ComesTo, FaultAnswers, FaultComesTo, FaultFits, GivesEvent, GivesFault, answers_from, ends_feed, raised, refusal as answer_of, text_reading}
 use Rattle.event_feed.specs.Line.{line_reading}
 use Rattle.text_lines.specs.Lines.{Known, pieces}
 use Rattle.written.specs.Written.{Leaves, WritesFront}
@@ -87,6 +88,10 @@ after_kept f run events over given =
     ∙ ap (λ (b : Bool). after_answers (record { events = run.events.items; over = b; text = f.text }) given) (sym over)
     ∙ ap (λ (t : List ℕ). after_answers (record { events = run.events.items; over = run.is_over; text = t }) given) (sym (append-nil f.text)) ∙ after_text run.events.items run.is_over f.text [] given
 
+-- what is kept of no answer
+has_none : (run : Run) (known : Option (List ℕ)) (held : List ℕ) → Has (feed_state run held) run known known held
+has_none run known held = record { events = refl; over = refl; text = leaves_all known held }
+
 -- what is kept of further answers, with the text before it
 pub has_more : (f : FeedState) (old new : Run) (before mid after : Option (List ℕ)) (held held' : List ℕ) (given : List Answer) → Has f old before mid held
     → Has (after_answers (feed_state old held) given) new mid after held' → Has (after_answers f given) new before after held'
@@ -109,15 +114,6 @@ front_more f old before mid after held given h k =
     (front_on before mid after f.text held (alone old given).text h.text
     (subst (λ (text : List ℕ). WritesFront mid after text) (ap (λ (s : FeedState). s.text) (after_held old held given)) k))
 
--- all lines up to one are before a later one
-earlier_below : (given front : List Answer) (line later : ℕ) → line < later → All (λ a. a.line ≤ line) given → All (λ a. a.line < later) front → All (λ a. a.line < later) (given ++ front)
-earlier_below given front line later below h k =
-    All-append (λ a. a.line < later) given front (All-weaker (λ a. a.line ≤ line) (λ a. a.line < later) (λ a le. omega (arith, le, below)) given h) k
-
-earlier_more : (given : List Answer) (answer : Answer) (line line' : ℕ) → line ≤ line' → answer.line ≤ line' → All (λ a. a.line ≤ line) given → All (λ a. a.line ≤ line') (given ++ answer ∷ [])
-earlier_more given answer line line' le at h =
-    All-push (λ a. a.line ≤ line') given answer (All-weaker (λ a. a.line ≤ line) (λ a. a.line ≤ line') (λ a k. omega (arith, k, le)) given h) at
-
 -- ---- the loop
 
 pub some_none : (run : Run) (feed : Feed) (bytes : List ℕ) (known : Option (List ℕ)) (held : List ℕ) → ReadsSome run feed bytes run feed bytes known known held held
@@ -131,7 +127,7 @@ some_none run feed bytes known held = (
     earlier = All-nil (λ (answer : Answer). answer.line ≤ feed.line);
     read_on = All-nil (λ (answer : Answer). ends_feed answer.given ≡ false);
   },
-  record { events = refl; over = refl; text = leaves_all known held },
+  has_none run known held,
 )
 
 pub some_more : (start old new : Run) (feed feed' feed'' : Feed) (bytes mid rest : List ℕ) (before between after : Option (List ℕ)) (held held' held'' : List ℕ)
@@ -152,31 +148,10 @@ some_more start old new feed feed' feed'' bytes mid rest before between after he
           (has_more (after_answers (feed_state start held) h.0) old new before between after held' held'' (k.0 ∷ []) h.2 k.2),
     )
 
--- what is given of the feed after some of its lines
-given_more : (can_fail : Bool) (objects : List Object) (feed feed' : Feed) (bytes mid : List ℕ) (given more : List Answer) → FeedSoFar objects feed bytes feed' mid given
-    → AreGiven can_fail more (answers_from objects feed' mid) feed'.line (pieces mid) → AreGiven can_fail (given ++ more) (answers_from objects feed bytes) feed.line (pieces bytes)
-given_more can_fail objects feed feed' bytes mid given more h (inl same) = inl (ap (λ (all : List Answer). given ++ all) same ∙ sym h.answers)
-given_more can_fail objects feed feed' bytes mid given more h (inr breaks) = inr (record {
-  front = given ++ breaks.front;
-  line = breaks.line;
-  others = breaks.others;
-  begins = h.answers ∙ ap (λ (all : List Answer). given ++ all) breaks.begins ∙ sym (append_assoc given breaks.front breaks.others);
-  place = record {
-    before = h.before ++ breaks.place.before;
-    text = breaks.place.text;
-    others = breaks.place.others;
-    are = h.lines.lines ∙ ap (λ (ls : List (List ℕ)). h.before ++ ls) breaks.place.are ∙ sym (append_assoc h.before breaks.place.before (breaks.place.text ∷ breaks.place.others));
-    number = omega (arith, breaks.place.number, h.number, length-append h.before breaks.place.before);
-    long = breaks.place.long;
-  };
-  earlier = earlier_below given breaks.front feed'.line breaks.line (omega (arith, breaks.place.number)) h.earlier breaks.earlier;
-  later = breaks.later;
-  whole = ap (λ (all : List Answer). given ++ all) breaks.whole ∙ sym (append_assoc given breaks.front (record { line = breaks.line; given = Err faults.Read } ∷ []));
-})
-
-ends_more : (can_fail : Bool) (objects : List Object) (feed feed' : Feed) (bytes mid rest : List ℕ) (end : AfterFeed) (given more : List Answer) → FeedSoFar objects feed bytes feed' mid given
-    → FeedEnds can_fail (answers_from objects feed' mid) feed'.line mid end more rest → FeedEnds can_fail (answers_from objects feed bytes) feed.line bytes end (given ++ more) rest
-ends_more can_fail objects feed feed' bytes mid rest Steps given more h k = (
+-- how it ends after some of its lines
+ends_more : (can_fail : Bool) (c : Config) (feed feed' : Feed) (bytes mid rest : List ℕ) (end : AfterFeed) (given more : List Answer) → FeedSoFar c.objects feed bytes feed' mid given
+    → FeedEnds can_fail (answers_from c.objects feed' mid) feed'.line mid end more rest → FeedEnds can_fail (answers_from c.objects feed bytes) feed.line bytes end (given ++ more) rest
+ends_more can_fail c feed feed' bytes mid rest Steps given more h k = (
   h.before ++ k.0,
   k.1,
   k.2,
@@ -184,13 +159,13 @@ ends_more can_fail objects feed feed' bytes mid rest Steps given more h k = (
   omega (arith, h.number, k.4, length-append h.before k.0),
   h.answers ∙ ap (λ (all : List Answer). given ++ all) k.5 ∙ sym (append_assoc given more (record { line = k.1; given = Err BadStamp } ∷ k.2)),
 )
-ends_more can_fail objects feed feed' bytes mid rest Nothing given more h k = (
+ends_more can_fail c feed feed' bytes mid rest Nothing given more h k = (
   h.before ++ k.0,
   comes_more bytes mid h.before k.0 ([] ∷ []) h.lines k.1,
   h.answers ∙ ap (λ (all : List Answer). given ++ all) k.2,
   All-append (λ (answer : Answer). ends_feed answer.given ≡ false) given more h.read_on k.3,
 )
-ends_more can_fail objects feed feed' bytes mid rest Cut given more h k = (
+ends_more can_fail c feed feed' bytes mid rest Cut given more h k = (
   h.before ++ k.0,
   k.1,
   given ++ k.2,
@@ -199,7 +174,7 @@ ends_more can_fail objects feed feed' bytes mid rest Cut given more h k = (
   h.answers ∙ ap (λ (all : List Answer). given ++ all) k.5,
   ap (λ (all : List Answer). given ++ all) k.6 ∙ sym (append_assoc given k.2 _),
 )
-ends_more can_fail objects feed feed' bytes mid rest Unread given more h k = (
+ends_more can_fail c feed feed' bytes mid rest Unread given more h k = (
   h.before ++ k.0,
   k.1,
   k.2,
@@ -207,7 +182,7 @@ ends_more can_fail objects feed feed' bytes mid rest Unread given more h k = (
   k.4,
   comes_more bytes mid h.before k.0 (k.1 ∷ k.2) h.lines k.5,
   omega (arith, h.number, k.6, length-append h.before k.0),
-  given_more can_fail objects feed feed' bytes mid given more h k.7,
+  then_by can_fail c feed feed' given more (Some bytes) (Some mid) (omega (arith, h.number)) h.earlier h.answers (h.before, h.lines.lines, h.number) k.7,
   ap (λ (all : List Answer). given ++ all) k.8 ∙ sym (append_assoc given k.3 _),
 )
 
@@ -217,16 +192,16 @@ pub some_last : (can_fail : Bool) (start old new : Run) (feed feed' : Feed) (byt
 some_last can_fail start old new feed feed' bytes mid rest end before between after held held' held'' same h k =
     let ends = subst (λ x. FeedEnds can_fail (answers_from x.now.objects feed' mid) feed'.line mid end k.0 rest) same k.1 in (
       h.0 ++ k.0,
-      ends_more can_fail start.config.now.objects feed feed' bytes mid rest end h.0 k.0 h.1 ends,
+      ends_more can_fail start.config.now feed feed' bytes mid rest end h.0 k.0 h.1 ends,
       subst (λ (f : FeedState). Has f new before after held'') (sym (after_more (feed_state start held) h.0 k.0))
           (has_more (after_answers (feed_state start held) h.0) old new before between after held' held'' k.0 h.2 k.2),
     )
 
 -- ---- a front of what the feed gives
 
-begins_more : (can_fail : Bool) (objects : List Object) (feed feed' : Feed) (bytes mid : List ℕ) (given more : List Answer) → FeedSoFar objects feed bytes feed' mid given
-    → FeedBegins can_fail (answers_from objects feed' mid) feed'.line mid more → FeedBegins can_fail (answers_from objects feed bytes) feed.line bytes (given ++ more)
-begins_more can_fail objects feed feed' bytes mid given more h (inl first) = inl (record {
+begins_more : (can_fail : Bool) (c : Config) (feed feed' : Feed) (bytes mid : List ℕ) (given more : List Answer) → FeedSoFar c.objects feed bytes feed' mid given
+    → FeedBegins can_fail (answers_from c.objects feed' mid) feed'.line mid more → FeedBegins can_fail (answers_from c.objects feed bytes) feed.line bytes (given ++ more)
+begins_more can_fail c feed feed' bytes mid given more h (inl first) = inl (record {
   before = h.before ++ first.before;
   others = first.others;
   more = first.more;
@@ -238,8 +213,8 @@ begins_more can_fail objects feed feed' bytes mid given more h (inl first) = inl
       (All-weaker (λ (a : Answer). a.line ≤ feed'.line + length first.before) (λ (a : Answer). a.line ≤ feed.line + length (h.before ++ first.before))
       (λ a le. omega (arith, le, h.number, length-append h.before first.before)) more first.earlier);
 })
-begins_more can_fail objects feed feed' bytes mid given more h (inr ends) =
-    inr (ends.0, ends.1, ends_more can_fail objects feed feed' bytes mid ends.1 ends.0 given more h ends.2)
+begins_more can_fail c feed feed' bytes mid given more h (inr ends) =
+    inr (ends.0, ends.1, ends_more can_fail c feed feed' bytes mid ends.1 ends.0 given more h ends.2)
 
 pub some_front : (can_fail : Bool) (start old : Run) (feed feed' : Feed) (bytes mid : List ℕ) (before between after : Option (List ℕ)) (held held' : List ℕ)
     → old.config ≡ start.config → ReadsSome start feed bytes old feed' mid before between held held' → ReadsFront can_fail old feed' mid between after held'
@@ -247,7 +222,7 @@ pub some_front : (can_fail : Bool) (start old : Run) (feed feed' : Feed) (bytes 
 some_front can_fail start old feed feed' bytes mid before between after held held' same h k =
     let begins = subst (λ x. FeedBegins can_fail (answers_from x.now.objects feed' mid) feed'.line mid k.0) same k.1 in (
       h.0 ++ k.0,
-      begins_more can_fail start.config.now.objects feed feed' bytes mid h.0 k.0 h.1 begins,
+      begins_more can_fail start.config.now feed feed' bytes mid h.0 k.0 h.1 begins,
       subst (λ (f : FeedState). WritesFront before after f.text) (sym (after_more (feed_state start held) h.0 k.0))
           (front_more (after_answers (feed_state start held) h.0) old before between after held' k.0 h.2 k.2),
     )
@@ -271,19 +246,6 @@ line_front can_fail run feed feed' bytes rest answer before after held on front 
 
 -- ---- one line
 
--- a line after empty ones
-pub comes_next : (from : ℕ) (bytes rest : List ℕ) (line : ℕ) (text : List ℕ) → ComesNext from (pieces bytes) line text (pieces rest) → text ≢ mark
-    → (before : List (List ℕ)) × ComesAfter bytes before (pieces rest) × (line ≡ from + length before)
-comes_next from bytes rest line text next unmarked = (
-  replicate next.empty [] ++ text ∷ [],
-  record {
-    lines = next.are ∙ sym (append_assoc (replicate next.empty []) (text ∷ []) (pieces rest));
-    unmarked = All-append (λ (l : List ℕ). l ≢ mark) (replicate next.empty []) (text ∷ []) (All-replicate (λ (l : List ℕ). l ≢ mark) next.empty [] (λ e. absurd (cc)))
-        (All-cons (λ (l : List ℕ). l ≢ mark) text [] unmarked (All-nil (λ (l : List ℕ). l ≢ mark)));
-  },
-  omega (arith, next.number, length-append (replicate next.empty []) (text ∷ []), length-replicate {A = List ℕ} next.empty []),
-)
-
 -- the line that comes next, after empty ones
 comes_up_to : (from : ℕ) (bytes : List ℕ) (line : ℕ) (text : List ℕ) (others : List (List ℕ)) → ComesNext from (pieces bytes) line text others
     → (before : List (List ℕ)) × ComesAfter bytes before (text ∷ others) × (line ≡ from + length before + 1)
@@ -293,7 +255,20 @@ comes_up_to from bytes line text others next = (
   omega (arith, next.number, length-replicate {A = List ℕ} next.empty []),
 )
 
-pub comes_marked : (from : ℕ) (bytes rest : List ℕ) (line : ℕ) (text : List ℕ) → ComesNext from (pieces bytes) line text (pieces rest) → text ≡ mark
+-- a line after empty ones
+comes_next : (from : ℕ) (bytes rest : List ℕ) (line : ℕ) (text : List ℕ) → ComesNext from (pieces bytes) line text (pieces rest) → text ≢ mark
+    → (before : List (List ℕ)) × ComesAfter bytes before (pieces rest) × (line ≡ from + length before)
+comes_next from bytes rest line text next unmarked =
+    let up = comes_up_to from bytes line text (pieces rest) next in (
+      up.0 ++ text ∷ [],
+      record {
+        lines = up.1.lines ∙ sym (append_assoc up.0 (text ∷ []) (pieces rest));
+        unmarked = All-push (λ (l : List ℕ). l ≢ mark) up.0 text up.1.unmarked unmarked;
+      },
+      omega (arith, up.2, length-append up.0 (text ∷ [])),
+    )
+
+comes_marked : (from : ℕ) (bytes rest : List ℕ) (line : ℕ) (text : List ℕ) → ComesNext from (pieces bytes) line text (pieces rest) → text ≡ mark
     → (before : List (List ℕ)) × ComesAfter bytes before (mark ∷ pieces rest) × (line ≡ from + length before + 1)
 comes_marked from bytes rest line text next marked =
     let comes = comes_up_to from bytes line text (pieces rest) next in
@@ -304,23 +279,23 @@ stopped_at : (stop : Stop) (fault : FeedFault) (from : ℕ) (bytes : List ℕ) (
     → (before : List (List ℕ)) × (text : List ℕ) × (others : List (List ℕ)) × ComesAfter bytes before (text ∷ others) × (line ≡ from + length before + 1)
 stopped_at InputEnded fault from bytes line kept rest e h = absurd (cc)
 stopped_at CutLine fault from bytes line kept rest e h = let comes = comes_up_to from bytes line h.0 [] h.1 in (comes.0, h.0, [], comes.1, comes.2)
-stopped_at ReaderFailed fault from bytes line kept rest e h = let comes = comes_up_to from bytes line h.0 h.1 h.2 in (comes.0, h.0, h.1, comes.1, comes.2)
-stopped_at TooManyCalls fault from bytes line kept rest e h = let comes = comes_up_to from bytes line h.0 h.1 h.2 in (comes.0, h.0, h.1, comes.1, comes.2)
-stopped_at TooManyBytes fault from bytes line kept rest e h = let comes = comes_up_to from bytes line h.0 h.1 h.2 in (comes.0, h.0, h.1, comes.1, comes.2)
+stopped_at ReaderFailed fault from bytes line kept rest e h =
+    let comes = comes_up_to from bytes line (h.0 ++ h.1) h.2 h.3 in (comes.0, h.0 ++ h.1, h.2, comes.1, comes.2)
 stopped_at TooManyLines fault from bytes line kept rest e h = let comes = comes_up_to from bytes line h.0.0 h.0.1 h.0.2 in (comes.0, h.0.0, h.0.1, comes.1, comes.2)
+stopped_at stop fault from bytes line kept rest e h = let comes = comes_up_to from bytes line h.0 h.1 h.2 in (comes.0, h.0, h.1, comes.1, comes.2)
 
--- two facts of the same bytes
-known_both : (a b : Option (List ℕ)) (P Q : List ℕ → List ℕ → Type 0) → Known a b P → Known a b Q → Known a b (λ x y. P x y × Q x y)
-known_both None b P Q h k = tt
-known_both (Some x) None P Q h k = h
-known_both (Some x) (Some y) P Q h k = (h, k)
+-- what follows of the same bytes from two facts of them
+known_with : (a b : Option (List ℕ)) (P Q R : List ℕ → List ℕ → Type 0) → Known a b P → Known a b Q → ((x y : List ℕ) → P x y → Q x y → R x y) → Known a b R
+known_with None b P Q R h k each = tt
+known_with (Some x) None P Q R h k each = h
+known_with (Some x) (Some y) P Q R h k each = each x y h k
 
--- a fact of the first bytes beside one of both
-known_some : (a b : Option (List ℕ)) (P : List ℕ → List ℕ → Type 0) (Q : List ℕ → Type 0) (R : List ℕ → List ℕ → Type 0) → ((x y : List ℕ) → P x y → Q x → R x y)
-    → Known a b P → IfSome a Q → Known a b R
-known_some None b P Q R each h k = tt
-known_some (Some x) None P Q R each h k = h
-known_some (Some x) (Some y) P Q R each h k = each x y h k
+-- and from one of both and one of the first
+known_some : (a b : Option (List ℕ)) (P : List ℕ → List ℕ → Type 0) (Q : List ℕ → Type 0) (R : List ℕ → List ℕ → Type 0) → Known a b P → IfSome a Q → ((x y : List ℕ) → P x y → Q x → R x y)
+    → Known a b R
+known_some None b P Q R h k each = tt
+known_some (Some x) None P Q R h k each = h
+known_some (Some x) (Some y) P Q R h k each = each x y h k
 
 -- a refusal keeps the events
 refusal_events : (events : List Event) (over : Bool) (fault : FeedFault) → events ≡ events_after events over (Err fault)
@@ -336,197 +311,155 @@ mark_goes_on : (stop : Option Stop) (fault : FeedFault) → fault ≡ BadStamp �
 mark_goes_on None fault is fits = refl
 mark_goes_on (Some InputEnded) fault is fits = absurd (cc)
 mark_goes_on (Some CutLine) fault is fits = let e : faults.Cut ≡ fault = same_Some faults.Cut fault fits in absurd (cc)
-mark_goes_on (Some ReaderFailed) fault is fits = let e : faults.Read ≡ fault = same_Some faults.Read fault fits in absurd (cc)
-mark_goes_on (Some TooManyCalls) fault is fits = let e : faults.Read ≡ fault = same_Some faults.Read fault fits in absurd (cc)
-mark_goes_on (Some TooManyBytes) fault is fits = let e : faults.Read ≡ fault = same_Some faults.Read fault fits in absurd (cc)
-mark_goes_on (Some TooManyLines) fault is fits = let e : faults.Read ≡ fault = same_Some faults.Read fault fits in absurd (cc)
+mark_goes_on (Some stop) fault is fits = let e : faults.Read ≡ fault = same_Some faults.Read fault fits in absurd (cc)
 
 fault_same : (a b : FeedFault) → ◌≡◌ {A = Result Event FeedFault} (Err a) (Err b) → a ≡ b
 fault_same a b e = cc
 
-module _ (can_fail : Bool) (run0 run1 : Run) (feed0 feed1 : Feed) (w0 w1 : Option (List ℕ)) (held0 held1 : List ℕ) where
+module _ (can_fail : Bool) (run : Run) (feed0 feed1 : Feed) (w0 w1 : Option (List ℕ)) (held0 held1 : List ℕ) where
   abbrev objects : List Object
-  objects = run0.config.now.objects
+  objects = run.config.now.objects
 
-  event_goes_on : (event : Event) → GivesEvent run0.config.now feed0 event feed1
+  -- ---- of an event
+
+  event_goes_on : (event : Event) → GivesEvent run.config.now feed0 event feed1
       → Known feed0.bytes feed1.bytes (λ bytes rest. FeedGoesOn objects feed0 bytes feed1 rest (record { line = feed1.line; given = Ok event }))
   event_goes_on event gives =
-      known_weaker feed0.bytes feed1.bytes
-      (λ bytes rest. (answers_from objects feed0 bytes ≡ record { line = feed1.line; given = Ok event } ∷ answers_from objects feed1 rest) × ComesTo Line feed0.line bytes feed1.line feed1.text rest)
-      (λ bytes rest. FeedGoesOn objects feed0 bytes feed1 rest (record { line = feed1.line; given = Ok event }))
-      (known_both feed0.bytes feed1.bytes _ _ gives.answers gives.place)
-      (λ bytes rest h.
-      let comes = comes_next feed0.line bytes rest feed1.line feed1.text h.1.0 (event_unmarked objects feed0.last feed1.text event gives.said) in
-      record { before = comes.0; lines = comes.1; number = comes.2; answers = h.0; line = refl; read_on = refl })
+      known_with feed0.bytes feed1.bytes _ _ (λ bytes rest. FeedGoesOn objects feed0 bytes feed1 rest (record { line = feed1.line; given = Ok event })) gives.answers gives.place
+      (λ bytes rest answers place.
+      let comes = comes_next feed0.line bytes rest feed1.line feed1.text place.0 (event_unmarked objects feed0.last feed1.text event gives.said) in
+      record { before = comes.0; lines = comes.1; number = comes.2; answers = answers; line = refl; read_on = refl })
 
-  pub line_event : (event : Event) → GivesEvent run0.config.now feed0 event feed1 → run1.events.items ≡ events_after run0.events.items run0.is_over (Ok event)
-      → run1.is_over ≡ is_over_after run0.events.items run0.is_over (Ok event) → Leaves w0 w1 (held0 ++ added run0.events.items run0.is_over feed1.line (Ok event)) held1
-      → Known feed0.bytes feed1.bytes (λ bytes rest. GoesOn run0 feed0 bytes run1 feed1 rest w0 w1 held0 held1)
-  line_event event gives events over text =
+  pub line_event : (event : Event) (new : Run) → GivesEvent run.config.now feed0 event feed1 → new.events.items ≡ events_after run.events.items run.is_over (Ok event)
+      → new.is_over ≡ is_over_after run.events.items run.is_over (Ok event) → Leaves w0 w1 (held0 ++ added run.events.items run.is_over feed1.line (Ok event)) held1
+      → Known feed0.bytes feed1.bytes (λ bytes rest. GoesOn run feed0 bytes new feed1 rest w0 w1 held0 held1)
+  line_event event new gives events over text =
       known_weaker feed0.bytes feed1.bytes
       (λ bytes rest. FeedGoesOn objects feed0 bytes feed1 rest (record { line = feed1.line; given = Ok event }))
-      (λ bytes rest. GoesOn run0 feed0 bytes run1 feed1 rest w0 w1 held0 held1)
+      (λ bytes rest. GoesOn run feed0 bytes new feed1 rest w0 w1 held0 held1)
       (event_goes_on event gives)
       (λ bytes rest on. (record { line = feed1.line; given = Ok event }, on, record { events = events; over = over; text = text }))
 
-  pub event_front : (event : Event) → GivesEvent run0.config.now feed0 event feed1
-      → WritesFront w0 w1 (held0 ++ added run0.events.items run0.is_over feed1.line (Ok event)) → IfSome feed0.bytes (λ bytes. ReadsFront can_fail run0 feed0 bytes w0 w1 held0)
+  pub event_front : (event : Event) → GivesEvent run.config.now feed0 event feed1
+      → WritesFront w0 w1 (held0 ++ added run.events.items run.is_over feed1.line (Ok event)) → IfSome feed0.bytes (λ bytes. ReadsFront can_fail run feed0 bytes w0 w1 held0)
   event_front event gives front =
       known_first feed0.bytes feed1.bytes (λ bytes rest. FeedGoesOn objects feed0 bytes feed1 rest (record { line = feed1.line; given = Ok event }))
-      (λ bytes. ReadsFront can_fail run0 feed0 bytes w0 w1 held0)
-      (λ bytes rest on. line_front can_fail run0 feed0 feed1 bytes rest (record { line = feed1.line; given = Ok event }) w0 w1 held0 on front)
+      (λ bytes. ReadsFront can_fail run feed0 bytes w0 w1 held0)
+      (λ bytes rest on. line_front can_fail run feed0 feed1 bytes rest (record { line = feed1.line; given = Ok event }) w0 w1 held0 on front)
       (event_goes_on event gives)
 
-  pub line_refused : (refusal : RefusedLine) → GivesFault objects feed0 refusal feed1 → feed1.stop ≡ None → ¬ IsMark refusal.fault feed1.text
-      → run1.events.items ≡ run0.events.items → run1.is_over ≡ run0.is_over
-      → Leaves w0 w1 (held0 ++ added run0.events.items run0.is_over refusal.line (Err refusal.fault)) held1
-      → Known feed0.bytes feed1.bytes (λ bytes rest. GoesOn run0 feed0 bytes run1 feed1 rest w0 w1 held0 held1)
-  line_refused refusal gives going unmarked events over text =
-      known_weaker feed0.bytes feed1.bytes
-      (λ bytes rest. (answers_from objects feed0 bytes ≡ record { line = refusal.line; given = Err refusal.fault } ∷ answers_from objects feed1 rest)
-      × RefusesLine objects feed0.line bytes refusal feed1.text rest)
-      (λ bytes rest. GoesOn run0 feed0 bytes run1 feed1 rest w0 w1 held0 held1)
-      (known_both feed0.bytes feed1.bytes _ _ (subst (λ (stop : Option Stop). FaultAnswers objects feed0 refusal stop feed1) going gives.answers)
-      (subst (λ (stop : Option Stop). FaultComesTo objects feed0 refusal stop feed1) going gives.place))
-      (λ bytes rest h.
-      let comes = comes_next feed0.line bytes rest refusal.line h.1.text h.1.next (λ marked.
-      let bad : refusal.fault ≡ BadStamp = fault_same refusal.fault BadStamp (sym h.1.reading ∙ ap (line_reading objects) marked ∙ mark_reading objects) in
-      unmarked (record { refused = bad; says = h.1.stays (λ long. absurd (cc)) ∙ marked })) in (
-        record { line = refusal.line; given = Err refusal.fault },
-        record { before = comes.0; lines = comes.1; number = sym gives.number ∙ comes.2; answers = h.0; line = gives.number; read_on = (fault_next objects feed0 feed1 refusal going gives).1 },
-        record {
-          events = events ∙ refusal_events run0.events.items run0.is_over refusal.fault;
-          over = over ∙ refusal_over run0.events.items run0.is_over refusal.fault;
-          text = text;
-        },
-      ))
+  -- ---- of the end
 
   -- no line is left, but empty ones
   pub line_none : AnswersNone objects feed0 feed1 → FeedComesTo (Over InputEnded) feed0 feed1
-      → Known feed0.bytes feed1.bytes (λ bytes rest. EndsFeed can_fail run0 feed0 bytes Nothing run0 rest w0 w0 held0 held0)
+      → Known feed0.bytes feed1.bytes (λ bytes rest. EndsFeed can_fail run feed0 bytes Nothing run rest w0 w0 held0 held0)
   line_none none place =
-      known_weaker feed0.bytes feed1.bytes
-      (λ bytes rest. (answers_from objects feed0 bytes ≡ []) × ComesTo (Over InputEnded) feed0.line bytes feed1.line feed1.text rest)
-      (λ bytes rest. EndsFeed can_fail run0 feed0 bytes Nothing run0 rest w0 w0 held0 held0)
-      (known_both feed0.bytes feed1.bytes _ _ none place)
-      (λ bytes rest h.
-      let comes = comes_up_to feed0.line bytes (feed1.line + 1) [] [] h.1.0 in (
-        [],
-        (comes.0, comes.1, h.0, All-nil (λ (answer : Answer). ends_feed answer.given ≡ false)),
-        record { events = refl; over = refl; text = leaves_all w0 held0 },
-      ))
+      known_with feed0.bytes feed1.bytes _ _ (λ bytes rest. EndsFeed can_fail run feed0 bytes Nothing run rest w0 w0 held0 held0) none place
+      (λ bytes rest answers end.
+      let comes = comes_up_to feed0.line bytes (feed1.line + 1) [] [] end.0 in
+      ([], (comes.0, comes.1, answers, All-nil (λ (answer : Answer). ends_feed answer.given ≡ false)), has_none run w0 held0))
 
-  pub line_marked : (refusal : RefusedLine) → GivesFault objects feed0 refusal feed1 → IsMark refusal.fault feed1.text
-      → Known feed0.bytes feed1.bytes (λ bytes rest. EndsFeed can_fail run0 feed0 bytes Steps run0 rest w0 w0 held0 held0)
-  line_marked refusal gives marked =
-      let going : feed1.stop ≡ None = mark_goes_on feed1.stop refusal.fault marked.refused gives.fits in
-      known_weaker feed0.bytes feed1.bytes
-      (λ bytes rest. (answers_from objects feed0 bytes ≡ record { line = refusal.line; given = Err refusal.fault } ∷ answers_from objects feed1 rest)
-      × RefusesLine objects feed0.line bytes refusal feed1.text rest)
-      (λ bytes rest. EndsFeed can_fail run0 feed0 bytes Steps run0 rest w0 w0 held0 held0)
-      (known_both feed0.bytes feed1.bytes _ _ (subst (λ (stop : Option Stop). FaultAnswers objects feed0 refusal stop feed1) going gives.answers)
-      (subst (λ (stop : Option Stop). FaultComesTo objects feed0 refusal stop feed1) going gives.place))
-      (λ bytes rest h.
-      let is : h.1.text ≡ mark = sym (h.1.stays (λ long. let bad = marked.refused in absurd (cc))) ∙ marked.says in
-      let comes = comes_marked feed0.line bytes rest refusal.line h.1.text h.1.next is in (
-        [],
-        (
-          comes.0,
-          refusal.line,
-          answers_from objects feed1 rest,
-          comes.1,
-          comes.2,
-          h.0 ∙ ap (λ (f : FeedFault). record { line = refusal.line; given = Err f } ∷ answers_from objects feed1 rest) marked.refused,
-        ),
-        record { events = refl; over = refl; text = leaves_all w0 held0 },
-      ))
+  -- ---- of a refusal
 
-  -- what the last line gives
-  has_refusal : (refusal : RefusedLine) → run1.events.items ≡ run0.events.items → run1.is_over ≡ run0.is_over
-      → Leaves w0 w1 (held0 ++ added run0.events.items run0.is_over refusal.line (Err refusal.fault)) held1
-      → Has (after_answers (feed_state run0 held0) (record { line = refusal.line; given = Err refusal.fault } ∷ [])) run1 w0 w1 held1
-  has_refusal refusal events over text = record {
-    events = events ∙ refusal_events run0.events.items run0.is_over refusal.fault;
-    over = over ∙ refusal_over run0.events.items run0.is_over refusal.fault;
-    text = text;
-  }
+  module _ (refusal : RefusedLine) (gives : GivesFault objects feed0 refusal feed1) where
+    -- what it says of the bytes, by whether the feed goes on after it
+    at_stop : (stop : Option Stop) → feed1.stop ≡ stop → FaultAnswers objects feed0 refusal stop feed1 × FaultComesTo objects feed0 refusal stop feed1 × FaultFits refusal.fault stop
+    at_stop stop is =
+        subst (λ (s : Option Stop). FaultAnswers objects feed0 refusal s feed1 × FaultComesTo objects feed0 refusal s feed1 × FaultFits refusal.fault s) is (gives.answers, gives.place, gives.fits)
 
-  pub line_cut : (refusal : RefusedLine) → GivesFault objects feed0 refusal feed1 → feed1.stop ≡ Some CutLine → run1.events.items ≡ run0.events.items → run1.is_over ≡ run0.is_over
-      → Leaves w0 w1 (held0 ++ added run0.events.items run0.is_over refusal.line (Err refusal.fault)) held1
-      → Known feed0.bytes feed1.bytes (λ bytes rest. EndsFeed can_fail run0 feed0 bytes Cut run1 rest w0 w1 held0 held1)
-  line_cut refusal gives cut events over text =
-      let fits : stop_fault CutLine ≡ Some refusal.fault = subst (λ (stop : Option Stop). FaultFits refusal.fault stop) cut gives.fits in
-      let is : refusal.fault ≡ faults.Cut = sym (same_Some faults.Cut refusal.fault fits) in
-      known_weaker feed0.bytes feed1.bytes
-      (λ bytes rest. (answers_from objects feed0 bytes ≡ record { line = refusal.line; given = Err refusal.fault } ∷ answers_from objects feed1 rest)
-      × ComesTo (Over CutLine) feed0.line bytes feed1.line feed1.text rest)
-      (λ bytes rest. EndsFeed can_fail run0 feed0 bytes Cut run1 rest w0 w1 held0 held1)
-      (known_both feed0.bytes feed1.bytes _ _ (subst (λ (stop : Option Stop). FaultAnswers objects feed0 refusal stop feed1) cut gives.answers)
-      (subst (λ (stop : Option Stop). FaultComesTo objects feed0 refusal stop feed1) cut gives.place))
-      (λ bytes rest h.
-      let comes = comes_up_to feed0.line bytes feed1.line h.1.0 [] h.1.1 in (
-        record { line = refusal.line; given = Err refusal.fault } ∷ [],
-        (
-          comes.0,
-          h.1.0,
+    has_refusal : Leaves w0 w1 (held0 ++ added run.events.items run.is_over refusal.line (Err refusal.fault)) held1
+        → Has (after_answer (feed_state run held0) (answer_of refusal)) run w0 w1 held1
+    has_refusal text = record {
+      events = refusal_events run.events.items run.is_over refusal.fault;
+      over = refusal_over run.events.items run.is_over refusal.fault;
+      text = text;
+    }
+
+    pub line_refused : feed1.stop ≡ None → ¬ IsMark refusal.fault feed1.text → Leaves w0 w1 (held0 ++ added run.events.items run.is_over refusal.line (Err refusal.fault)) held1
+        → Known feed0.bytes feed1.bytes (λ bytes rest. GoesOn run feed0 bytes run feed1 rest w0 w1 held0 held1)
+    line_refused going unmarked text =
+        let at = at_stop None going in
+        known_with feed0.bytes feed1.bytes _ _ (λ bytes rest. GoesOn run feed0 bytes run feed1 rest w0 w1 held0 held1) at.0 at.1
+        (λ bytes rest answers line.
+        let comes = comes_next feed0.line bytes rest refusal.line line.text line.next (λ marked.
+        let bad : refusal.fault ≡ BadStamp = fault_same refusal.fault BadStamp (sym line.reading ∙ ap (line_reading objects) marked ∙ mark_reading objects) in
+        unmarked (record { refused = bad; says = line.stays (λ long. absurd (cc)) ∙ marked })) in (
+          answer_of refusal,
+          record { before = comes.0; lines = comes.1; number = sym gives.number ∙ comes.2; answers = answers; line = gives.number; read_on = (fault_next objects feed0 feed1 refusal going gives).1 },
+          has_refusal text,
+        ))
+
+    pub line_marked : IsMark refusal.fault feed1.text → Known feed0.bytes feed1.bytes (λ bytes rest. EndsFeed can_fail run feed0 bytes Steps run rest w0 w0 held0 held0)
+    line_marked marked =
+        let at = at_stop None (mark_goes_on feed1.stop refusal.fault marked.refused gives.fits) in
+        known_with feed0.bytes feed1.bytes _ _ (λ bytes rest. EndsFeed can_fail run feed0 bytes Steps run rest w0 w0 held0 held0) at.0 at.1
+        (λ bytes rest answers line.
+        let is : line.text ≡ mark = sym (line.stays (λ long. let bad = marked.refused in absurd (cc))) ∙ marked.says in
+        let comes = comes_marked feed0.line bytes rest refusal.line line.text line.next is in (
           [],
-          refusal.line,
-          comes.1,
-          h.0 ∙ ap (λ (stop : Option Stop). record { line = refusal.line; given = Err refusal.fault } ∷ answers_from objects (record feed1 { stop = stop }) rest) cut,
-          ap (λ (f : FeedFault). record { line = refusal.line; given = Err f } ∷ []) is,
-        ),
-        has_refusal refusal events over text,
-      ))
+          (
+            comes.0,
+            refusal.line,
+            answers_from objects feed1 rest,
+            comes.1,
+            comes.2,
+            answers ∙ ap (λ (f : FeedFault). record { line = refusal.line; given = Err f } ∷ answers_from objects feed1 rest) marked.refused,
+          ),
+          has_none run w0 held0,
+        ))
 
-  pub line_unread : (refusal : RefusedLine) (stop : Stop) → GivesFault objects feed0 refusal feed1 → feed1.stop ≡ Some stop → stop ≢ CutLine → run1.events.items ≡ run0.events.items → run1.is_over ≡ run0.is_over
-      → Leaves w0 w1 (held0 ++ added run0.events.items run0.is_over refusal.line (Err refusal.fault)) held1
-      → AreGivenBy can_fail objects feed0 (record { line = refusal.line; given = Err refusal.fault } ∷ [])
-      → Known feed0.bytes feed1.bytes (λ bytes rest. EndsFeed can_fail run0 feed0 bytes Unread run1 rest w0 w1 held0 held1)
-  line_unread refusal stop gives stopped other events over text last =
-      let fits : stop_fault stop ≡ Some refusal.fault = subst (λ (x : Option Stop). FaultFits refusal.fault x) stopped gives.fits in
-      let is : refusal.fault ≡ faults.Read = read_stop stop refusal.fault other fits in
-      known_some feed0.bytes feed1.bytes (λ bytes rest. ComesTo (Over stop) feed0.line bytes feed1.line feed1.text rest) _
-      (λ bytes rest. EndsFeed can_fail run0 feed0 bytes Unread run1 rest w0 w1 held0 held1)
-      (λ bytes rest h given.
-      let comes = stopped_at stop refusal.fault feed0.line bytes feed1.line feed1.text rest fits h in (
-        record { line = refusal.line; given = Err refusal.fault } ∷ [],
-        (
-          comes.0,
-          comes.1,
-          comes.2,
-          [],
-          refusal.line,
-          comes.3,
-          gives.number ∙ comes.4,
-          given,
-          ap (λ (f : FeedFault). record { line = refusal.line; given = Err f } ∷ []) is,
-        ),
-        has_refusal refusal events over text,
-      ))
-      (subst (λ (x : Option Stop). FaultComesTo objects feed0 refusal x feed1) stopped gives.place) last
-    where
-      read_stop : (s : Stop) (f : FeedFault) → s ≢ CutLine → stop_fault s ≡ Some f → f ≡ faults.Read
-      read_stop InputEnded f other e = absurd (cc)
-      read_stop CutLine f other e = absurd (other refl)
-      read_stop ReaderFailed f other e = sym (same_Some faults.Read f e)
-      read_stop TooManyCalls f other e = sym (same_Some faults.Read f e)
-      read_stop TooManyBytes f other e = sym (same_Some faults.Read f e)
-      read_stop TooManyLines f other e = sym (same_Some faults.Read f e)
+    line_cut : feed1.stop ≡ Some CutLine → Leaves w0 w1 (held0 ++ added run.events.items run.is_over refusal.line (Err refusal.fault)) held1
+        → Known feed0.bytes feed1.bytes (λ bytes rest. EndsFeed can_fail run feed0 bytes Cut run rest w0 w1 held0 held1)
+    line_cut cut text =
+        let at = at_stop (Some CutLine) cut in
+        let is : refusal.fault ≡ faults.Cut = sym (same_Some faults.Cut refusal.fault at.2) in
+        known_with feed0.bytes feed1.bytes _ _ (λ bytes rest. EndsFeed can_fail run feed0 bytes Cut run rest w0 w1 held0 held1) at.0 at.1
+        (λ bytes rest answers place.
+        let comes = comes_up_to feed0.line bytes feed1.line place.0 [] place.1 in (
+          answer_of refusal ∷ [],
+          (
+            comes.0,
+            place.0,
+            [],
+            refusal.line,
+            comes.1,
+            answers ∙ ap (λ (stop : Option Stop). answer_of refusal ∷ answers_from objects (record feed1 { stop = stop }) rest) cut,
+            ap (λ (f : FeedFault). record { line = refusal.line; given = Err f } ∷ []) is,
+          ),
+          has_refusal text,
+        ))
 
-  pub line_stopped : (refusal : RefusedLine) (stop : Stop) → GivesFault objects feed0 refusal feed1 → feed1.stop ≡ Some stop → run1.events.items ≡ run0.events.items → run1.is_over ≡ run0.is_over
-      → Leaves w0 w1 (held0 ++ added run0.events.items run0.is_over refusal.line (Err refusal.fault)) held1
-      → AreGivenBy can_fail objects feed0 (record { line = refusal.line; given = Err refusal.fault } ∷ [])
-      → Known feed0.bytes feed1.bytes (λ bytes rest. EndsFeed can_fail run0 feed0 bytes (after_stop stop) run1 rest w0 w1 held0 held1)
-  line_stopped refusal InputEnded gives stopped events over text last = line_unread refusal InputEnded gives stopped (λ e. absurd (cc)) events over text last
-  line_stopped refusal CutLine gives stopped events over text last = line_cut refusal gives stopped events over text
-  line_stopped refusal ReaderFailed gives stopped events over text last = line_unread refusal ReaderFailed gives stopped (λ e. absurd (cc)) events over text last
-  line_stopped refusal TooManyCalls gives stopped events over text last = line_unread refusal TooManyCalls gives stopped (λ e. absurd (cc)) events over text last
-  line_stopped refusal TooManyBytes gives stopped events over text last = line_unread refusal TooManyBytes gives stopped (λ e. absurd (cc)) events over text last
-  line_stopped refusal TooManyLines gives stopped events over text last = line_unread refusal TooManyLines gives stopped (λ e. absurd (cc)) events over text last
+    line_unread : (stop : Stop) → feed1.stop ≡ Some stop → refusal.fault ≡ faults.Read → Leaves w0 w1 (held0 ++ added run.events.items run.is_over refusal.line (Err refusal.fault)) held1
+        → AreGivenBy can_fail objects feed0 (answer_of refusal ∷ []) → Known feed0.bytes feed1.bytes (λ bytes rest. EndsFeed can_fail run feed0 bytes Unread run rest w0 w1 held0 held1)
+    line_unread stop stopped is text last =
+        let at = at_stop (Some stop) stopped in
+        known_some feed0.bytes feed1.bytes _ _ (λ bytes rest. EndsFeed can_fail run feed0 bytes Unread run rest w0 w1 held0 held1) at.1 last
+        (λ bytes rest place given.
+        let comes = stopped_at stop refusal.fault feed0.line bytes feed1.line feed1.text rest at.2 place in (
+          answer_of refusal ∷ [],
+          (
+            comes.0,
+            comes.1,
+            comes.2,
+            [],
+            refusal.line,
+            comes.3,
+            gives.number ∙ comes.4,
+            given,
+            ap (λ (f : FeedFault). record { line = refusal.line; given = Err f } ∷ []) is,
+          ),
+          has_refusal text,
+        ))
+
+    pub line_stopped : (stop : Stop) → feed1.stop ≡ Some stop → Leaves w0 w1 (held0 ++ added run.events.items run.is_over refusal.line (Err refusal.fault)) held1
+        → AreGivenBy can_fail objects feed0 (answer_of refusal ∷ []) → Known feed0.bytes feed1.bytes (λ bytes rest. EndsFeed can_fail run feed0 bytes (after_stop stop) run rest w0 w1 held0 held1)
+    line_stopped InputEnded stopped text last = let fits : stop_fault InputEnded ≡ Some refusal.fault = (at_stop (Some InputEnded) stopped).2 in absurd (cc)
+    line_stopped CutLine stopped text last = line_cut stopped text
+    line_stopped stop stopped text last = line_unread stop stopped (sym (same_Some faults.Read refusal.fault (at_stop (Some stop) stopped).2)) text last
 
 -- a front of what a refused line gives
 pub refusal_front : (can_fail : Bool) (run : Run) (feed0 feed1 : Feed) (w0 w1 : Option (List ℕ)) (held : List ℕ) (refusal : RefusedLine) → GivesFault run.config.now.objects feed0 refusal feed1
-    → ¬ IsMark refusal.fault feed1.text → (IsSome feed1.stop → AreGivenBy can_fail run.config.now.objects feed0 (record { line = refusal.line; given = Err refusal.fault } ∷ []))
+    → ¬ IsMark refusal.fault feed1.text → (IsSome feed1.stop → AreGivenBy can_fail run.config.now.objects feed0 (answer_of refusal ∷ []))
     → WritesFront w0 w1 (held ++ added run.events.items run.is_over refusal.line (Err refusal.fault)) → IfSome feed0.bytes (λ bytes. ReadsFront can_fail run feed0 bytes w0 w1 held)
 refusal_front can_fail run feed0 feed1 w0 w1 held refusal gives unmarked last front = by_stop feed1.stop refl
   where
@@ -534,11 +467,11 @@ refusal_front can_fail run feed0 feed1 w0 w1 held refusal gives unmarked last fr
     by_stop None going =
         known_first feed0.bytes feed1.bytes (λ bytes rest. GoesOn run feed0 bytes run feed1 rest w0 w1 held front.0) (λ bytes. ReadsFront can_fail run feed0 bytes w0 w1 held)
         (λ bytes rest h. line_front can_fail run feed0 feed1 bytes rest h.0 w0 w1 held h.1 (front.0, h.2.text))
-        (line_refused can_fail run run feed0 feed1 w0 w1 held front.0 refusal gives going unmarked refl refl front.1)
+        (line_refused can_fail run feed0 feed1 w0 w1 held front.0 refusal gives going unmarked front.1)
     by_stop (Some stop) stopped =
         known_first feed0.bytes feed1.bytes (λ bytes rest. EndsFeed can_fail run feed0 bytes (after_stop stop) run rest w0 w1 held front.0) (λ bytes. ReadsFront can_fail run feed0 bytes w0 w1 held)
         (λ bytes rest h. (h.0, inr (after_stop stop, rest, h.1), (front.0, h.2.text)))
-        (line_stopped can_fail run run feed0 feed1 w0 w1 held front.0 refusal stop gives stopped refl refl front.1 (last (rw stopped refl)))
+        (line_stopped can_fail run feed0 feed1 w0 w1 held front.0 refusal gives stop stopped front.1 (last (rw stopped refl)))
 
 pub unmoved_join : (a b c : Run) → Unmoved a b → Unmoved b c → Unmoved a c
 unmoved_join a b c h k = record {

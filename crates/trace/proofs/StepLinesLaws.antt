@@ -13,11 +13,12 @@ use Rattle.written.specs.WrittenLaws.{front_less, leaves_on, leaves_nothing}
 use Rattle.text_lines.specs.LineReader.{byte_limit, line_limit, cut_text}
 use Rattle.text_lines.specs.Lines.{BeginsWithLine, IsUnbroken, Known}
 use Rattle.steps.specs.declared.step.Step.TheVariants.{Post, Decide, Put, Lane}
+use Rattle.steps.specs.declared.step.LaneStep.{LaneStep}
 use Rattle.steps.specs.declared.step.LaneStep.TheVariants.{Pick, Settle, Fail, Ask, Close, Drain}
 use Rattle.world_steps.specs.Worlds.{Setup}
 use Rattle.trace.specs.declared.step_line.StepLine.{StepLine}
 use Rattle.trace.specs.declared.step_line.StepLine.TheVariants.{PostNext, Do}
-use Rattle.trace.specs.StepLine.{Spells}
+use Rattle.trace.specs.StepLine.{Spells, word_of}
 use Rattle.trace.specs.Run.{RunState, DoesLine, DoesSaid, SaidFront, Says}
 use Rattle.event_feed.specs.Feed.{feed_limit}
 use Rattle.trace.specs.StepLines.{AreLines, DoesLast, DoesLines, DoesNext, DoesSoFar, NextFront, StepsFront, WritesSteps, last_line, with_newline}
@@ -50,18 +51,24 @@ module _ (c : Config) (d : ℕ) (s : Setup) (n : ℕ) (old new : RunState) (text
 pub does_long : (c : Config) (d : ℕ) (s : Setup) (n : ℕ) (old : RunState) (line : List ℕ) → line_limit < length line → DoesLine c d s n line old old (refused_step_line n BadStep)
 does_long c d s n old line long = inl ((λ said says. absurd (omega (arith, long, says.1))), refl, refl)
 
--- the empty line says nothing
+-- the empty line says nothing: what a step is spelled by begins with a word
+no_word : (word rest : List ℕ) → 0 < length word → [] ≡ word ++ rest → ⊥
+no_word word rest some spelled = let e : 0 ≡ length (word ++ rest) = ap length spelled in absurd (omega (arith, e, some, length-append word rest))
+
 says_nothing : (c : Config) (d : ℕ) (said : StepLine) → Spells c d said [] → ⊥
-says_nothing c d PostNext spelled = let e : 0 ≡ 4 = ap length spelled in absurd (omega (arith, e))
+says_nothing c d PostNext spelled = no_word (codes "post") [] (omega arith) spelled
 says_nothing c d (Do (Post event)) spelled = spelled
-says_nothing c d (Do (Decide k)) spelled = let e : 0 ≡ length (codes "decide " ++ spelled.0) = ap length spelled.1 in absurd (omega (arith, e, length-append (codes "decide ") spelled.0))
-says_nothing c d (Do (Put k lane)) spelled = let e : 0 ≡ length (codes "put " ++ (spelled.0 ++ 32 ∷ spelled.1)) = ap length spelled.2 in absurd (omega (arith, e, length-append (codes "put ") (spelled.0 ++ 32 ∷ spelled.1)))
-says_nothing c d (Do (Lane lane Pick)) spelled = let e : 0 ≡ length (codes "pick " ++ spelled.0) = ap length spelled.1 in absurd (omega (arith, e, length-append (codes "pick ") spelled.0))
-says_nothing c d (Do (Lane lane Settle)) spelled = let e : 0 ≡ length (codes "settle " ++ spelled.0) = ap length spelled.1 in absurd (omega (arith, e, length-append (codes "settle ") spelled.0))
-says_nothing c d (Do (Lane lane Fail)) spelled = let e : 0 ≡ length (codes "fail " ++ spelled.0) = ap length spelled.1 in absurd (omega (arith, e, length-append (codes "fail ") spelled.0))
-says_nothing c d (Do (Lane lane Ask)) spelled = let e : 0 ≡ length (codes "ask " ++ spelled.0) = ap length spelled.1 in absurd (omega (arith, e, length-append (codes "ask ") spelled.0))
-says_nothing c d (Do (Lane lane Close)) spelled = let e : 0 ≡ length (codes "close " ++ spelled.0) = ap length spelled.1 in absurd (omega (arith, e, length-append (codes "close ") spelled.0))
-says_nothing c d (Do (Lane lane Drain)) spelled = let e : 0 ≡ length (codes "drain " ++ spelled.0) = ap length spelled.1 in absurd (omega (arith, e, length-append (codes "drain ") spelled.0))
+says_nothing c d (Do (Decide k)) spelled = no_word (codes "decide ") spelled.0 (omega arith) spelled.1
+says_nothing c d (Do (Put k lane)) spelled = no_word (codes "put ") (spelled.0 ++ 32 ∷ spelled.1) (omega arith) spelled.2
+says_nothing c d (Do (Lane lane step)) spelled = no_word (word_of step) spelled.0 (some step) spelled.1
+  where
+    some : (step : LaneStep) → 0 < length (word_of step)
+    some Pick = omega arith
+    some Settle = omega arith
+    some Fail = omega arith
+    some Ask = omega arith
+    some Close = omega arith
+    some Drain = omega arith
 
 -- the text that is kept of a line that the end of the input cut
 pub does_cut : (c : Config) (d : ℕ) (s : Setup) (n : ℕ) (old new : RunState) (text bytes line : List ℕ) → line ≡ cut_text (length bytes) bytes
@@ -85,16 +92,8 @@ does_cut c d s n old new text bytes line is h = elim (cases_lt line_limit (lengt
 -- ---- lines in order
 
 module _ (c : Config) (d : ℕ) (s : Setup) where
-  pub does_more : (n : ℕ) (lines : List (List ℕ)) (line : List ℕ) (old mid new : RunState) (first next : List ℕ) → DoesLines c d s n lines old mid first
-      → DoesLine c d s (n + length lines) line mid new next → DoesLines c d s n (lines ++ line ∷ []) old new (first ++ next)
-  does_more n [] line old mid new first next h k =
-      (new, next, [], subst (λ (w : RunState). DoesLine c d s n line w new next) h.0 (subst (λ (m : ℕ). DoesLine c d s m line mid new next) (omega arith) k), (refl, refl), ap (λ (t : List ℕ). t ++ next) h.1 ∙ sym (append-nil next))
-  does_more n (x ∷ lines) line old mid new first next h k =
-      let others = does_more (n + 1) lines line h.0 mid new h.2 next h.4 (subst (λ (m : ℕ). DoesLine c d s m line mid new next) (omega arith) k) in
-      (h.0, h.1, h.2 ++ next, h.3, others, ap (λ (t : List ℕ). t ++ next) h.5 ∙ append_assoc h.1 h.2 next)
-
-  -- a last line that may be none
-  pub does_end : (n : ℕ) (lines ends : List (List ℕ)) (old mid new : RunState) (first next : List ℕ) → DoesLines c d s n lines old mid first
+  -- other lines after them
+  does_end : (n : ℕ) (lines ends : List (List ℕ)) (old mid new : RunState) (first next : List ℕ) → DoesLines c d s n lines old mid first
       → DoesLines c d s (n + length lines) ends mid new next → DoesLines c d s n (lines ++ ends) old new (first ++ next)
   does_end n [] ends old mid new first next h k =
       subst (λ (t : List ℕ). DoesLines c d s n ends old new t) (ap (λ (t : List ℕ). t ++ next) (sym h.1)) (subst (λ (w : RunState). DoesLines c d s n ends w new next) h.0
@@ -107,6 +106,11 @@ module _ (c : Config) (d : ℕ) (s : Setup) where
     does_end (n + 1) lines ends h.0 mid new h.2 next h.4 (subst (λ (m : ℕ). DoesLines c d s m ends mid new next) (omega arith) k),
     ap (λ (t : List ℕ). t ++ next) h.5 ∙ append_assoc h.1 h.2 next,
   )
+
+  -- one line more
+  does_more : (n : ℕ) (lines : List (List ℕ)) (line : List ℕ) (old mid new : RunState) (first next : List ℕ) → DoesLines c d s n lines old mid first
+      → DoesLine c d s (n + length lines) line mid new next → DoesLines c d s n (lines ++ line ∷ []) old new (first ++ next)
+  does_more n lines line old mid new first next h k = does_end n lines (line ∷ []) old mid new first next h (new, next, [], k, (refl, refl), sym (append-nil next))
 
 -- one line more of the bytes
 pub lines_read : (bytes mid rest line : List ℕ) (lines : List (List ℕ)) → AreLines bytes lines mid → BeginsWithLine mid line rest → length lines < feed_limit → length line ≤ byte_limit
@@ -223,25 +227,9 @@ cut_front c d s n bytes line old before after held unbroken some short is (inr s
 
 -- ---- the same in the words of another run of the same world
 
-module _ (can_fail : Bool) (c c' : Config) (d d' : ℕ) (s s' : Setup) (same : c' ≡ c) (as_many : d' ≡ d) (one : s' ≡ s) (n : ℕ) (old new : RunState) (before after : Option (List ℕ)) (held held' : List ℕ) where
-  pub next_under : (bytes rest : List ℕ) → DoesNext c' d' s' n bytes rest old new before after held held' → DoesNext c d s n bytes rest old new before after held held'
-  next_under bytes rest h =
-      subst (λ (x : Config). DoesNext x d s n bytes rest old new before after held held') same
-      (subst (λ (x : ℕ). DoesNext c' x s n bytes rest old new before after held held') as_many
-      (subst (λ (x : Setup). DoesNext c' d' x n bytes rest old new before after held held') one h))
-
-  pub last_under : (bytes : List ℕ) (all : Bool) → DoesLast can_fail c' d' s' n bytes all old new before after held held' → DoesLast can_fail c d s n bytes all old new before after held held'
-  last_under bytes all h =
-      subst (λ (x : Config). DoesLast can_fail x d s n bytes all old new before after held held') same
-      (subst (λ (x : ℕ). DoesLast can_fail c' x s n bytes all old new before after held held') as_many
-      (subst (λ (x : Setup). DoesLast can_fail c' d' x n bytes all old new before after held held') one h))
-
-pub front_under : (c c' : Config) (d d' : ℕ) (s s' : Setup) → c' ≡ c → d' ≡ d → s' ≡ s → (n : ℕ) (bytes : List ℕ) (old : RunState) (before after : Option (List ℕ)) (held : List ℕ)
-    → NextFront c' d' s' n bytes old before after held → NextFront c d s n bytes old before after held
-front_under c c' d d' s s' same as_many one n bytes old before after held h =
-    subst (λ (x : Config). NextFront x d s n bytes old before after held) same
-    (subst (λ (x : ℕ). NextFront c' x s n bytes old before after held) as_many
-    (subst (λ (x : Setup). NextFront c' d' x n bytes old before after held) one h))
+pub same_parts : (P : Config → ℕ → Setup → Type 0) (c c' : Config) (d d' : ℕ) (s s' : Setup) → c' ≡ c → d' ≡ d → s' ≡ s → P c' d' s' → P c d s
+same_parts P c c' d d' s s' same as_many one h =
+    subst (λ (x : Config). P x d s) same (subst (λ (x : ℕ). P c' x s) as_many (subst (λ (x : Setup). P c' d' x) one h))
 
 -- ---- answers of a call
 

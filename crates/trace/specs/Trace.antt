@@ -1,17 +1,15 @@
 -- What a trace does: it writes what its steps lead to, or fails.
 use Rattle.std.specs.Prelude.{◌≡◌, ℕ, Bool, true, false, List, [], ◌++◌, length, replicate, ◌⊎◌, Option}
-use Rattle.std.specs.Io.KnownBytes.{Keeps}
 use Rattle.due_model.specs.declared.config.Config.{Config}
 use Rattle.due_model.specs.declared.zone.Zone.{Zone}
 use Rattle.due_model.specs.declared.zone.Zone.TheVariants.{Utc}
 use Rattle.event_feed.specs.Feed.{Answer, answers}
-use Rattle.object_resolve.specs.Text.{IsTextFault, IsTextOf}
+use Rattle.object_resolve.specs.Text.{IsTextOf}
 use Rattle.text_lines.specs.Lines.{pieces}
 use Rattle.steps.specs.declared.settings.Settings.{Settings}
 use Rattle.world_steps.specs.Runs.{new_world}
 use Rattle.world_steps.specs.Worlds.{Setup, setup_for}
 use Rattle.command_output.specs.declared.outcome.CommandFault.{CommandFault}
-use Rattle.command_output.specs.declared.outcome.CommandFault.TheVariants.{Objects, Unreadable, Output, NoMemory}
 use Rattle.command_output.specs.declared.outcome.Ending.{Ending}
 use Rattle.command_output.specs.declared.outcome.Ending.TheVariants.{Short, Whole}
 use Rattle.written.specs.Written.{Leaves, Writes, WritesFront}
@@ -19,7 +17,7 @@ use Rattle.trace.specs.declared.feed.AfterFeed.{AfterFeed}
 use Rattle.trace.specs.declared.feed.AfterFeed.TheVariants as feed
 use Rattle.trace.specs.Feed.{FeedBegins, FeedEnds, FeedState, after_answers}
 use Rattle.trace.specs.LaneLines.{world_text}
-use Rattle.command_input.specs.Objects.{feed_in, objects_in}
+use Rattle.command_input.specs.Objects.{CommandFails, feed_in, objects_in}
 use Rattle.trace.specs.Run.{RunState}
 use Rattle.trace.specs.StepLines.{DoesFirst, DoesSteps}
 
@@ -146,14 +144,9 @@ TracesFrontIn can_fail zone settings bytes old new =
     (config : Config) × IsTextOf config (objects_in bytes)
     × TracesFront can_fail config zone settings (feed_in bytes) old new
 
--- What a fault says. Where the object text is refused or can't be read nothing was written; where the output failed it was
--- accepted, and a front of what is written of it was; and where memory ran out that, or nothing.
+-- what a fault says: a front of the trace is written at most
 abbrev pub FailsWith : (can_fail : Bool) → Zone → Settings → (bytes : List ℕ) → CommandFault
     → (old new : Option (List ℕ)) → Type 0
-FailsWith can_fail zone settings bytes (Objects fault) old new =
-    IsTextFault (objects_in bytes) fault × Keeps old new
-FailsWith can_fail zone settings bytes Unreadable old new = Keeps old new × (can_fail ≡ true)
-FailsWith can_fail zone settings bytes Output old new =
-    TracesFrontIn can_fail zone settings bytes old new
-FailsWith can_fail zone settings bytes NoMemory old new =
-    Keeps old new ⊎ TracesFrontIn can_fail zone settings bytes old new
+FailsWith can_fail zone settings bytes fault old new =
+    CommandFails can_fail (objects_in bytes) fault old new
+    (TracesFrontIn can_fail zone settings bytes old new)

@@ -1,8 +1,10 @@
-use Rattle.std.proofs.Common.{ap}
+use Rattle.std.proofs.Common.{ap, inl}
 use Rattle.std.proofs.lemmas.Result.{err_from_is_err_and}
 use Rattle.event_feed.specs.Feed.{Feed}
-use Rattle.text_lines.specs.LineReader.{Reading, to_come}
-use Rattle.replay.proofs.ReplayLaws.{fault_of_input, no_memory, refused_input, report_of_input}
+use Rattle.written.specs.WrittenLaws.{keeps_same}
+use Rattle.command_input.specs.InputLaws.{input_failed, some_all}
+use Rattle.replay.specs.Replay.{ReportsFront}
+use Rattle.replay.proofs.ReplayLaws.{fault_of_input, report_of_input}
 use Rattle.replay.proofs.replay_in.Goals as goal
 
 pub write-requires-clause-goes_on : goal.write-requires-clause-goes_on
@@ -11,28 +13,26 @@ write-requires-clause-goes_on g c = ap (λ (feed : Feed). feed.stop) c.in_ok-rep
 pub returns-in_err-lines-clause-fault : goal.returns-in_err-lines-clause-fault
 returns-in_err-lines-clause-fault g c =
     let p = err_from_is_err_and c.from_residual.result c.from_residual.ensures.1 in
-    rw (p.1, p.2) (no_memory g.R.Input.can_fail c.args.zone.now (g.R.Read.remaining c.args.reader) (g.W.Write.contents c.args.writer.now))
+    rw (p.1, p.2) (some_all (g.R.Read.remaining c.args.reader) _ (λ bytes. inl (keeps_same (g.W.Write.contents c.args.writer.now))))
 
 pub returns-in_err-config-clause-fault : goal.returns-in_err-config-clause-fault
 returns-in_err-config-clause-fault g c =
     let p = err_from_is_err_and c.from_residual-in_err-config.result c.from_residual-in_err-config.ensures.1 in
-    rw (p.1, p.2) (refused_input g.R.Input.can_fail c.args.zone.now (g.R.Read.remaining c.args.reader) c.in_ok-lines.lines c.in_err-config.field-0.0 (g.W.Write.contents c.args.writer.now)
-    (ap (λ (r : Reading). to_come r) c.in_ok-lines.ensures) c.in_err-config.ensures.fault)
+    let w = g.W.Write.contents c.args.writer.now in
+    rw (p.1, p.2) (input_failed g.R.Input.can_fail (g.R.Read.remaining c.args.reader) c.in_ok-lines.lines c.in_err-config.field-0.0 w
+    (λ bytes. ReportsFront g.R.Input.can_fail bytes c.args.zone.now w w) c.in_ok-lines.ensures c.in_err-config.ensures.fault)
 
 pub returns-in_err-report-clause-fault : goal.returns-in_err-report-clause-fault
 returns-in_err-report-clause-fault g c =
     let p = err_from_is_err_and c.from_residual-in_err-report.result c.from_residual-in_err-report.ensures.1 in
-    rw (p.1, p.2) (no_memory g.R.Input.can_fail c.args.zone.now (g.R.Read.remaining c.args.reader) (g.W.Write.contents c.args.writer.now))
+    rw (p.1, p.2) (some_all (g.R.Read.remaining c.args.reader) _ (λ bytes. inl (keeps_same (g.W.Write.contents c.args.writer.now))))
 
 pub returns-clause-report : goal.returns-clause-report
 returns-clause-report g c =
-    report_of_input g.R.Input.can_fail c.in_ok-config.config c.in_ok-report.report.config.now c.args.zone.now c.in_ok-report.report.zone.now (g.R.Read.remaining c.args.reader) c.in_ok-lines.lines
-    c.read_objects.new.lines c.in_ok-report.report.feeder c.write.result _ _
-    (ap (λ (r : Reading). to_come r) c.in_ok-lines.ensures) c.in_ok-report.ensures.feed c.in_ok-config.ensures.config c.in_ok-report.ensures.config c.in_ok-report.ensures.zone c.write.ensures.ok
+    report_of_input g.R.Input.can_fail _ _ _ _ c.read_objects.new.lines _ c.write.result _ _ c.in_ok-report.ensures.feed c.in_ok-report.ensures.config c.in_ok-report.ensures.zone
+    _ _ c.in_ok-lines.ensures c.in_ok-config.ensures.config c.write.ensures.ok
 
 pub returns-clause-fault : goal.returns-clause-fault
 returns-clause-fault g c =
-    fault_of_input g.W.Sink.can_fail g.R.Input.can_fail c.in_ok-config.config c.in_ok-report.report.config.now c.args.zone.now c.in_ok-report.report.zone.now (g.R.Read.remaining c.args.reader) c.in_ok-lines.lines
-    c.read_objects.new.lines c.in_ok-report.report.feeder c.write.result _ _
-    (ap (λ (r : Reading). to_come r) c.in_ok-lines.ensures) c.in_ok-report.ensures.feed c.in_ok-config.ensures.config c.in_ok-report.ensures.config c.in_ok-report.ensures.zone
-    c.write.ensures.front c.write.ensures.fault
+    fault_of_input g.R.Input.can_fail _ _ _ _ c.read_objects.new.lines _ c.write.result _ _ c.in_ok-report.ensures.feed c.in_ok-report.ensures.config c.in_ok-report.ensures.zone
+    g.W.Sink.can_fail _ _ c.in_ok-lines.ensures c.in_ok-config.ensures.config c.write.ensures.front c.write.ensures.fault

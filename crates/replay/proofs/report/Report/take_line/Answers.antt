@@ -1,12 +1,15 @@
-use Rattle.std.proofs.Common.{◌≡◌, ◌∷◌, [], cond, None, Ok, Some, refl, rules, ◌∙◌}
+use Rattle.std.proofs.Common.{◌≡◌, List, ◌∷◌, [], cond, None, Ok, Some, refl, rules, ◌∙◌}
 use Rattle.std.proofs.lemmas.Option.{IfSome_then}
 use Rattle.std.proofs.lemmas.Result.{IfOk-weaker}
-use Rattle.event_feed.specs.Feed.{Answer, refusal}
+use Rattle.decider.specs.Fits.{core_kept}
+use Rattle.event_feed.specs.Feed.{Answer, AreGivenBy, refusal}
 use Rattle.event_feed.specs.FeedLaws.{event_answers, fault_given, fault_last, next_given, none_given}
 use Rattle.written.specs.WrittenLaws.{front_begun, front_none, leaves_nothing, leaves_same}
 use Rattle.command_output.specs.ReportLine.{refused_line}
-use Rattle.replay.specs.Report.{answer_text, is_ended, past_after, report_from}
+use Rattle.replay.specs.Report.{WritesPart, answer_text, is_ended, past_after, report_from}
 use Rattle.replay.proofs.ReportLaws.{event_taken, fault_taken, if_none, report_of_end, report_of_refusal, short_at_end, short_at_refusal, taken_same, text_of_event}
+use Rattle.replay.proofs.report.Report.take_line.Given.{Over}
+use Rattle.replay.proofs.report.Report.take_line.Goals.{After-decide_event, After-write}
 use Rattle.replay.proofs.report.Report.take_line.Goals as goal
 
 pub returns-in-Ok-None-clause-ends : goal.returns-in-Ok-None-clause-ends
@@ -19,13 +22,25 @@ returns-in-Ok-None-clause-front g c =
     let gives = rw c.in-Ok-None.field-0-is at c.in-Ok-None.ensures.none in
     record { each = λ past s. ([], none_given g.R.Input.can_fail c.args.self.now.config.now.objects c.args.self.now.feeder c.next.new.self gives.answers, front_none _ _) }
 
+-- the answer of an event
+abbrev answer_of : (g : Over) → After-decide_event g → Answer
+answer_of g c = record { line = c.line-line.result; given = Ok c.in-Ok-Some.event }
+
+-- and what is given of the feed with it
+more : (g : Over) (c : After-decide_event g) → (others : List Answer) × AreGivenBy g.R.Input.can_fail c.args.self.now.config.now.objects c.args.self.now.feeder (answer_of g c ∷ others)
+more g c =
+    let gives = rw c.in-Ok-Some.field-0-is at c.in-Ok-Some.ensures.event in
+    let config = c.args.self.now.config.now in
+    next_given g.R.Input.can_fail config.objects c.args.self.now.feeder c.next.new.self (answer_of g c)
+    (event_answers config c.args.self.now.feeder c.next.new.self c.in-Ok-Some.event c.line-line.result c.line-line.ensures gives)
+
 pub returns-in-Ok-Some-clause-goes_on : goal.returns-in-Ok-Some-clause-goes_on
 returns-in-Ok-Some-clause-goes_on g c =
     let gives = rw c.in-Ok-Some.field-0-is at c.in-Ok-Some.ensures.event in
     let event = c.in-Ok-Some.event in
     let config = c.args.self.now.config.now in
     let line = c.line-line.result in
-    let answer : Answer = record { line = line; given = Ok event } in
+    let answer = answer_of g (goal.at.returns-in-Ok-Some-clause-goes_on g c).After-decide_event in
     IfOk-weaker c.decide_event.result _ _
     (λ ended. if_none _ _ ended (λ on. record {
       each = λ past s.
@@ -41,11 +56,9 @@ returns-in-Ok-Some-clause-goes_on g c =
 
 pub returns-in-Ok-Some-clause-ends : goal.returns-in-Ok-Some-clause-ends
 returns-in-Ok-Some-clause-ends g c =
-    let gives = rw c.in-Ok-Some.field-0-is at c.in-Ok-Some.ensures.event in
-    let config = c.args.self.now.config.now in
-    let answer : Answer = record { line = c.line-line.result; given = Ok c.in-Ok-Some.event } in
-    let more = next_given g.R.Input.can_fail config.objects c.args.self.now.feeder c.next.new.self answer
-    (event_answers config c.args.self.now.feeder c.next.new.self c.in-Ok-Some.event c.line-line.result c.line-line.ensures gives) in
+    let here = (goal.at.returns-in-Ok-Some-clause-ends g c).After-decide_event in
+    let answer = answer_of g here in
+    let more = more g here in
     IfOk-weaker c.decide_event.result _ _
     (λ ended found. IfSome_then ended found (λ ending at. record {
       each = λ past s.
@@ -53,19 +66,18 @@ returns-in-Ok-Some-clause-ends g c =
             answer ∷ more.0,
             more.1,
             now.1 ∙ short_at_end past answer more.0 now.0,
-            leaves_same _ _ c.args.self.now.lines _ _ _ (report_of_end config c.args.self.now.zone.now past answer more.0 now.0) now.2,
+            leaves_same _ _ c.args.self.now.lines _ _ _ (report_of_end c.args.self.now.config.now c.args.self.now.zone.now past answer more.0 now.0) now.2,
           );
     }))
     c.decide_event.ensures.ends
 
 pub returns-in-Ok-Some-clause-front : goal.returns-in-Ok-Some-clause-front
 returns-in-Ok-Some-clause-front g c =
-    let gives = rw c.in-Ok-Some.field-0-is at c.in-Ok-Some.ensures.event in
+    let here = (goal.at.returns-in-Ok-Some-clause-front g c).After-decide_event in
     let config = c.args.self.now.config.now in
     let zone = c.args.self.now.zone.now in
-    let answer : Answer = record { line = c.line-line.result; given = Ok c.in-Ok-Some.event } in
-    let more = next_given g.R.Input.can_fail config.objects c.args.self.now.feeder c.next.new.self answer
-    (event_answers config c.args.self.now.feeder c.next.new.self c.in-Ok-Some.event c.line-line.result c.line-line.ensures gives) in
+    let answer = answer_of g here in
+    let more = more g here in
     let front = rw c.in-Ok-Some.field-0-is at c.decide_event.ensures.front in
     record {
       each = λ past s. (
@@ -76,8 +88,10 @@ returns-in-Ok-Some-clause-front g c =
       );
     }
 
-pub returns-in_err-write-in-Err-clause-front : goal.returns-in_err-write-in-Err-clause-front
-returns-in_err-write-in-Err-clause-front g c =
+-- a front of a refusal
+refused : (g : Over) (c : After-write g) → WritesPart g.R.Input.can_fail c.args.self.now.config.now c.args.self.now.zone.now (core_kept c.args.self.now.decider) c.args.self.now.feeder
+    (g.W.Write.contents c.args.writer.now) c.args.self.now.lines (g.W.Write.contents c.write.new.writer)
+refused g c =
     let fault = c.in-Err.refusal in
     let config = c.args.self.now.config.now in
     let more = fault_given g.R.Input.can_fail config.objects c.args.self.now.feeder c.next.new.self fault c.in-Err.ensures.fault c.in-Err.ensures.last in
@@ -85,9 +99,12 @@ returns-in_err-write-in-Err-clause-front g c =
       each = λ past s. (
         refusal fault ∷ more.0,
         more.1,
-        front_begun _ _ c.args.self.now.lines (refused_line fault.line fault.fault) (report_from config c.args.self.now.zone.now past more.0) c.in_err-write-in-Err.ensures.front,
+        front_begun _ _ c.args.self.now.lines (refused_line fault.line fault.fault) (report_from config c.args.self.now.zone.now past more.0) c.write.ensures.front,
       );
     }
+
+pub returns-in_err-write-in-Err-clause-front : goal.returns-in_err-write-in-Err-clause-front
+returns-in_err-write-in-Err-clause-front g c = refused g (goal.at.returns-in_err-write-in-Err-clause-front g c).After-write
 
 pub returns-in-None-clause-goes_on : goal.returns-in-None-clause-goes_on
 returns-in-None-clause-goes_on g c =
@@ -103,17 +120,7 @@ returns-in-None-clause-goes_on g c =
     }
 
 pub returns-in-None-clause-front : goal.returns-in-None-clause-front
-returns-in-None-clause-front g c =
-    let fault = c.in-Err.refusal in
-    let config = c.args.self.now.config.now in
-    let more = fault_given g.R.Input.can_fail config.objects c.args.self.now.feeder c.next.new.self fault c.in-Err.ensures.fault c.in-Err.ensures.last in
-    record {
-      each = λ past s. (
-        refusal fault ∷ more.0,
-        more.1,
-        front_begun _ _ c.args.self.now.lines (refused_line fault.line fault.fault) (report_from config c.args.self.now.zone.now past more.0) c.in_ok-write-in-Err.ensures.front,
-      );
-    }
+returns-in-None-clause-front g c = refused g (goal.at.returns-in-None-clause-front g c).After-write
 
 pub returns-in-Some-clause-ends : goal.returns-in-Some-clause-ends
 returns-in-Some-clause-ends g c =
@@ -130,14 +137,4 @@ returns-in-Some-clause-ends g c =
     }
 
 pub returns-in-Some-clause-front : goal.returns-in-Some-clause-front
-returns-in-Some-clause-front g c =
-    let fault = c.in-Err.refusal in
-    let config = c.args.self.now.config.now in
-    let more = fault_given g.R.Input.can_fail config.objects c.args.self.now.feeder c.next.new.self fault c.in-Err.ensures.fault c.in-Err.ensures.last in
-    record {
-      each = λ past s. (
-        refusal fault ∷ more.0,
-        more.1,
-        front_begun _ _ c.args.self.now.lines (refused_line fault.line fault.fault) (report_from config c.args.self.now.zone.now past more.0) c.in_ok-write-in-Err.ensures.front,
-      );
-    }
+returns-in-Some-clause-front g c = refused g (goal.at.returns-in-Some-clause-front g c).After-write
