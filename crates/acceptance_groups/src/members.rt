@@ -63,7 +63,7 @@ const HOSTS: &str =
     "define host{\nhost_name a\n}\ndefine host{\nhost_name b\n}\ndefine host{\nhost_name c\n}\n";
 
 /// Groups of hosts, and the members of each.
-const CASES: [(&str, &str); 24] = [
+const CASES: [(&str, &str); 28] = [
     ("", ""),
     ("define hostgroup{\nhostgroup_name g\n}\n", "g:\n"),
     (
@@ -136,6 +136,24 @@ const CASES: [(&str, &str); 24] = [
     (
         "define host{\nhost_name d\nregister 1\nhostgroups g\n}\ndefine hostgroup{\nhostgroup_name g\nregister 00\n}\ndefine hostgroup{\nhostgroup_name g\nmembers a\n}\n",
         "g:a.d.\n",
+    ),
+    // What several take from templates, and what is added to it, line by line of templates.
+    (
+        "define host{\nname t\nregister 0\nhostgroups g\n}\ndefine host{\nname u\nuse t\nregister 0\nhostgroups +h\n}\ndefine host{\nuse u\nhost_name d\n}\ndefine host{\nuse u\nhost_name e\nhostgroups +i\n}\ndefine host{\nuse t\nhost_name f\nhostgroups +\n}\ndefine hostgroup{\nhostgroup_name g\n}\ndefine hostgroup{\nhostgroup_name h\n}\ndefine hostgroup{\nhostgroup_name i\n}\n",
+        "g:d.e.f.\nh:d.e.\ni:e.\n",
+    ),
+    (
+        "define hostgroup{\nname t\nregister 0\nmembers a\nhostgroup_members i\n}\ndefine hostgroup{\nuse t\nhostgroup_name g\n}\ndefine hostgroup{\nuse t\nhostgroup_name h\nhostgroup_members null\n}\ndefine hostgroup{\nhostgroup_name i\nmembers c\n}\n",
+        "g:a.c.\nh:a.\ni:c.\n",
+    ),
+    // `*` alone is all where it is taken, too, but a name where anything is added to it.
+    (
+        "define host{\nname t\nregister 0\nhostgroups *\n}\ndefine host{\nuse t\nhost_name d\n}\ndefine host{\nuse t\nhost_name e\nhostgroups +g\n}\ndefine host{\nuse t\nhost_name f\nhostgroups +\n}\ndefine hostgroup{\nhostgroup_name g\n}\ndefine hostgroup{\nhostgroup_name h\n}\n",
+        "g:d.e.f.\nh:d.f.\n",
+    ),
+    (
+        "define hostgroup{\nname t\nregister 0\nmembers *\n}\ndefine hostgroup{\nuse t\nhostgroup_name g\n}\ndefine hostgroup{\nuse t\nhostgroup_name h\nmembers +b\n}\ndefine hostgroup{\nuse t\nhostgroup_name i\nmembers +*\n}\n",
+        "g:a.b.c.\nh:b.\ni:\n",
     ),
     // Of two groups of one name the first is meant.
     (

@@ -12,7 +12,6 @@ use object_services::blocks::ServiceBlocks;
 use object_services::doubled::first_doubled;
 use object_services::numbers::ServiceNumbers;
 use object_services::services::{LimitFault, ServiceHosts};
-use object_services::unknown::first_unknown;
 use std::alloc::{AllocError, Global};
 use std::fmt::Write;
 use std::test::Fail;
@@ -335,113 +334,6 @@ fn show_number(out: &mut String, number: Option<usize>) -> Result<(), AllocError
     match number {
         None => out.push_str("-")?,
         Some(number) => write!(out, "{number}")?,
-    }
-    Ok(())
-}
-
-/// The first service block with a name that nothing has.
-fn show_unknown<'a>(
-    alloc: Global,
-    out: &mut String,
-    templates: &Templates<'a>,
-) -> Result<(), AllocError> {
-    let services = ServiceBlocks::new(alloc, templates)?;
-    let found = first_unknown(alloc, templates, &services)?;
-    show_number(out, found)
-}
-
-/// The same of a text.
-fn unknown_text(alloc: Global, text: &str) -> Result<String, AllocError> {
-    let mut out = String::new(alloc);
-    let Ok(blocks) = read(alloc, text.as_bytes()) else {
-        out.push_str("unread")?;
-        return Ok(out);
-    };
-    match Templates::new(alloc, blocks.as_slice()) {
-        Ok(templates) => show_unknown(alloc, &mut out, &templates)?,
-        Err(_) => out.push_str("templates")?,
-    }
-    Ok(out)
-}
-
-/// A contact, a contact group and a service group, after the hosts and host groups.
-const PEOPLE: &str =
-    "define contact{\ncontact_name ann\n}\ndefine contactgroup{\ncontactgroup_name team\n}\ndefine servicegroup{\nservicegroup_name v\n}\n";
-
-/// Service blocks after them, and the first with a name that nothing has.
-const UNKNOWN: [(&str, &str); 16] = [
-    ("", "-"),
-    (
-        "define service{\nservice_description s\nhost_name a,b\n}\n",
-        "-",
-    ),
-    (
-        "define service{\nservice_description s\nhost_name a,x\n}\n",
-        "0",
-    ),
-    (
-        "define service{\nservice_description s\nhost_name a\n}\ndefine service{\nservice_description s\nhostgroup_name g,y\n}\n",
-        "1",
-    ),
-    // `*` alone is all, and beside others a name; of service groups it is always a name.
-    (
-        "define service{\nservice_description s\nhost_name *\ncontact_groups *\n}\n",
-        "-",
-    ),
-    (
-        "define service{\nservice_description s\nhost_name *,a\n}\n",
-        "0",
-    ),
-    (
-        "define service{\nservice_description s\nservicegroups v\n}\n",
-        "-",
-    ),
-    (
-        "define service{\nservice_description s\nservicegroups *\n}\n",
-        "0",
-    ),
-    (
-        "define service{\nservice_description s\nservicegroups v,w\n}\n",
-        "0",
-    ),
-    (
-        "define service{\nservice_description s\ncontacts ann\n}\n",
-        "-",
-    ),
-    (
-        "define service{\nservice_description s\ncontacts ann,bob\n}\n",
-        "0",
-    ),
-    (
-        "define service{\nservice_description s\ncontacts null\ncontact_groups team\n}\n",
-        "-",
-    ),
-    (
-        "define service{\nservice_description s\ncontact_groups team,x\n}\n",
-        "0",
-    ),
-    (
-        "define service{\nservice_description s\ncontact_groups x\n}\ndefine service{\nservice_description s\nhost_name x\n}\n",
-        "0",
-    ),
-    // What a template lists counts where it is used.
-    (
-        "define service{\nname t\nregister 0\ncontacts bob\n}\n",
-        "-",
-    ),
-    (
-        "define service{\nname t\nregister 0\ncontacts bob\n}\ndefine service{\nservice_description s\nhost_name a\n}\ndefine service{\nservice_description s\nuse t\n}\n",
-        "1",
-    ),
-];
-
-#[test]
-fn unknown_names_are_found(rt: HostRuntime) -> Result<(), Fail> {
-    for case in &UNKNOWN {
-        let text = case.0;
-        let all = [HOSTS, PEOPLE, text].concat(rt.alloc())?;
-        let found = unknown_text(rt.alloc(), all.as_str())?;
-        assert_eq!(rt; found.as_str(), case.1, "{text}");
     }
     Ok(())
 }

@@ -11,6 +11,8 @@ mod kept;
 #[cfg(test)]
 mod lookups;
 #[cfg(test)]
+mod looped_rules;
+#[cfg(test)]
 mod objects;
 #[cfg(test)]
 mod periods;

@@ -51,7 +51,7 @@ const SERVICES: &str =
     "define host{\nhost_name a\n}\ndefine host{\nhost_name b\nhostgroups g\n}\ndefine hostgroup{\nhostgroup_name g\n}\ndefine service{\nservice_description s\nhost_name b,a\n}\ndefine service{\nservice_description t\nhostgroup_name g\n}\n";
 
 /// Blocks after them, and the members of each group.
-const GROUPS: [(&str, &str); 22] = [
+const GROUPS: [(&str, &str); 24] = [
     ("", ""),
     ("define servicegroup{\nservicegroup_name v\n}\n", "v:\n"),
     // The members stand in the order of the services, each once.
@@ -128,6 +128,15 @@ const GROUPS: [(&str, &str); 22] = [
     (
         "define service{\nname t\nregister 0\nservicegroups v\nhost_name a\n}\ndefine service{\nuse t\nservice_description u\nservicegroups null\n}\ndefine servicegroup{\nservicegroup_name v\n}\n",
         "v:\n",
+    ),
+    // A list that is added to another goes on from the host that is left over of it.
+    (
+        "define servicegroup{\nname t\nregister 0\nmembers b,t,a\n}\ndefine servicegroup{\nuse t\nservicegroup_name v\n}\ndefine servicegroup{\nuse t\nservicegroup_name w\nmembers +s\n}\ndefine servicegroup{\nuse t\nservicegroup_name x\nmembers +s,b\n}\n",
+        "v:\nw:0.2.\nx:\n",
+    ),
+    (
+        "define servicegroup{\nname t\nregister 0\nmembers b,t,a\nservicegroup_members y\n}\ndefine servicegroup{\nname u\nuse t\nregister 0\nmembers +s,b\n}\ndefine servicegroup{\nuse u\nservicegroup_name v\nmembers +s\n}\ndefine servicegroup{\nuse u\nservicegroup_name w\nmembers +t,a,s\n}\ndefine servicegroup{\nservicegroup_name y\n}\n",
+        "v:0.1.2.\nw:0.2.\ny:\n",
     ),
     // Of two groups of one name the first is meant, and so of two services.
     (

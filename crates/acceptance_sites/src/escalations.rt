@@ -79,7 +79,7 @@ members a,T,b,S
 
 /// Escalations after that site: the number of each one's object, its first and last notification, its interval, period
 /// and options, and its contacts.
-const ESCALATIONS: [(&str, &str); 13] = [
+const ESCALATIONS: [(&str, &str); 14] = [
     // What the block lacks is the object's: contacts, interval and period.
     (
         "define hostescalation{\nhost_name a\n}\n",
@@ -129,6 +129,11 @@ const ESCALATIONS: [(&str, &str); 13] = [
     (
         "define hostescalation{\nhost_name nobody\nfirst_notification x\nregister 0\n}\n",
         "",
+    ),
+    // A block that speaks of nothing gives none; what it has as contacts, others take from it.
+    (
+        "define hostgroup{\nhostgroup_name z\n}\ndefine hostescalation{\nname t\nhostgroup_name z\ncontacts ann,cat\n}\ndefine hostescalation{\nuse t\nhostgroup_name null\nhost_name b\n}\n",
+        "1 0-0 30 - [durfs]: 0 2\n",
     ),
     // Block by block.
     (

@@ -153,7 +153,7 @@ hostgroup_members x
 const HOUSE_SHOWN: &str = "a off [d] 5 4 0: 0\nb on [durfs] 30 0 -:\nc on [durfs] 30 0 -:\n";
 
 /// Services after those hosts, and the lines of the services.
-const SERVICES: [(&str, &str); 8] = [
+const SERVICES: [(&str, &str); 9] = [
     // Each host once, in host order.
     (
         "define service{\nservice_description S\nhost_name c,b\nhostgroup_name x,y\n}\n",
@@ -176,6 +176,11 @@ const SERVICES: [(&str, &str); 8] = [
     (
         "define hostgroup{\nhostgroup_name z\n}\ndefine service{\nservice_description S\nhostgroup_name z\n}\n",
         "",
+    ),
+    // What a block without services has as contacts, others take from it.
+    (
+        "define hostgroup{\nhostgroup_name z\n}\ndefine service{\nname t\nservice_description S\nhostgroup_name z\ncontacts cat,ann\n}\ndefine service{\nuse t\nservice_description T\nhostgroup_name x\n}\n",
+        "0/T on [wucrfs] 5 0 0: 0 2\n1/T on [wucrfs] 30 0 -: 0 2\n",
     ),
     (
         "define servicegroup{\nservicegroup_name v\nmembers b,S , a,S\nservicegroup_members w\n}\ndefine servicegroup{\nservicegroup_name w\nservicegroup_members v\n}\ndefine service{\nservice_description S\nhost_name a,b\nservicegroups v,w\n}\n",
