@@ -1,7 +1,7 @@
 //! The zone of a zone file.
 
 ghost use Rattle.std.specs.Prelude.{IfErr, IfOk};
-ghost use Rattle.command_input.specs.Zones.{IsZoneOf, ZoneFails};
+ghost use Rattle.command_input.specs.Zones.{IsFileZone, IsZoneOf, ZoneFails};
 ghost use Rattle.text_lines.specs.LineReader.{to_come};
 
 use due_model::zone::Zone;
@@ -12,6 +12,7 @@ use zone_times::given::{ZoneFault, zone_given};
 /// The zone of the bytes that a reader gives.
 fn read_zone<R: Input + Drop>(alloc: Global, lines: &mut LineReader<R>) -> Result<Zone, ZoneFault>
     ensures zone { IfOk result (λ zone. IsZoneOf zone (to_come lines.old)) }
+    ensures kind { IfOk result IsFileZone }
     ensures fault { IfErr result (λ fault. ZoneFails R.can_fail fault (to_come lines.old)) }
 {
     match lines.read_text(alloc, None) {
@@ -25,6 +26,7 @@ fn read_zone<R: Input + Drop>(alloc: Global, lines: &mut LineReader<R>) -> Resul
 /// `jiff` refuses, is a bad zone. Want of memory says nothing of the file.
 pub fn read_zone_file<R: Input + Drop>(alloc: Global, reader: R) -> Result<Zone, ZoneFault>
     ensures zone { IfOk result (λ zone. IsZoneOf zone (R.remaining reader)) }
+    ensures kind { IfOk result IsFileZone }
     ensures fault { IfErr result (λ fault. ZoneFails R.can_fail fault (R.remaining reader)) }
 {
     match LineReader::new(alloc, reader) {
