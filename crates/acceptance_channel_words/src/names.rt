@@ -1,8 +1,9 @@
 //! The lanes that words name.
 
 use acceptance_inputs::configs::base;
-use channel_words::{ChannelFault, lanes_of, read_words};
-use due_model::config::LaneId;
+use channel_words::{ChannelFault, ChannelWord, lanes_of, read_words};
+use due_model::config::{Config, LaneId};
+use due_model::limits::MAX_LANES;
 use std::alloc::{AllocError, Global};
 use std::process::Abort;
 
@@ -59,22 +60,35 @@ fn are_lanes(lanes: &[LaneId], outcome: Outcome) -> bool {
     outcome == Outcome::Lanes(lanes.len()) && lanes.iter().all(|lane| *lane == LaneId(0))
 }
 
-/// Whether these words have this outcome.
-fn ends_so(alloc: Global, words: &[&str], outcome: Outcome) -> Result<bool, AllocError> {
-    let config = base(alloc)?;
-    let Ok(words) = read_words(alloc, words) else {
-        return Ok(false);
-    };
-    match lanes_of(alloc, &config, &words) {
-        Ok(lanes) => Ok(are_lanes(&lanes, outcome)),
-        Err(fault) => Ok(is_fault(fault, outcome)),
+/// Whether these words have this outcome in a configuration.
+fn end_so_in(alloc: Global, config: &Config, words: &[ChannelWord<'_>], outcome: Outcome) -> bool {
+    if config.lanes.len() > MAX_LANES {
+        return false;
+    }
+    match lanes_of(alloc, config, words) {
+        Ok(lanes) => are_lanes(&lanes, outcome),
+        Err(fault) => is_fault(fault, outcome),
+    }
+}
+
+/// Whether words that are read have this outcome.
+fn ends_so(alloc: Global, config: &Config, words: &[&str], outcome: Outcome) -> bool {
+    match read_words(alloc, words) {
+        Ok(words) => end_so_in(alloc, config, &words, outcome),
+        Err(_) => false,
+    }
+}
+
+/// Compares the outcomes of the rows.
+fn all_end_so(rt: &impl Abort, alloc: Global, config: &Config) {
+    for (what, words, outcome) in ROWS {
+        check(rt, ends_so(alloc, config, words, outcome), what);
     }
 }
 
 #[test]
 fn names(rt: HostRuntime) -> Result<(), AllocError> {
-    for (what, words, outcome) in ROWS {
-        check(&rt, ends_so(rt.alloc(), words, outcome)?, what);
-    }
+    let config = base(rt.alloc())?;
+    all_end_so(&rt, rt.alloc(), &config);
     Ok(())
 }

@@ -7,23 +7,18 @@ ghost use Rattle.escalation.specs.ByObject.{IsByObject};
 
 use acceptance_inputs::accepted::is_accepted;
 use acceptance_inputs::periods::{Row, periods};
-use acceptance_inputs::rows::NO_LETTER;
-use due_model::config::{
-    Config, Contact, ContactId, ContactList, Escalation, Object, ObjectId, Period, PeriodId, Range,
-    Rights,
-};
+use acceptance_inputs::rows::{ContactRow, EscalationRow, NO_LETTER, ObjectRow, Rows, config_of};
+use due_model::config::{Config, ContactId, ObjectId, Period, PeriodId, Range};
 use due_model::limits::LAST_MOMENT;
-use due_model::objects::Objects;
 use due_model::options::{OptionLetter, OptionLetters};
+use due_model::proper::has_object;
 use due_model::sequence::Sequence;
-use due_model::short_list::Text;
 use due_model::zone::Zone;
 use escalation::by_object::ByObject;
 use escalation::contacts::{contacts, own_contacts};
 use escalation::interval::matching_interval;
 use std::alloc::{AllocError, Global};
 use std::process::Abort;
-use std::test::Fail;
 use time_period::compile::compile_all;
 use time_period::compiled::Compiled;
 use zone_times::clock::ZoneClock;
@@ -59,97 +54,96 @@ const LUNCH: Row = Row {
     excludes: &[],
 };
 
-/// A host's own interval and contacts.
-#[derive(Clone, Copy)]
-struct Own {
-    interval: u32,
-    contacts: &'static [ContactId],
-}
-
-const OWN: [Own; 3] = [
-    Own {
+/// A host with its own interval and contacts.
+const OWN: [ObjectRow; 3] = [
+    ObjectRow {
         interval: 10,
         contacts: &[ANN],
+        ..ObjectRow::PLAIN
     },
-    Own {
+    ObjectRow {
         interval: 1,
         contacts: &[DAN, BOB, DAN],
+        ..ObjectRow::PLAIN
     },
-    Own {
+    ObjectRow {
         interval: 0,
         contacts: &[CAT],
+        ..ObjectRow::PLAIN
     },
 ];
 
-/// An escalation.
-#[derive(Clone, Copy)]
-struct Given {
-    object: ObjectId,
-    first: u32,
-    last: u32,
-    interval: u32,
-    period: Option<PeriodId>,
-    options: OptionLetters,
-    contacts: &'static [ContactId],
-}
+/// A contact without restrictions, on no lane.
+const SOMEBODY: ContactRow = ContactRow {
+    lanes: &[],
+    ..ContactRow::FREE
+};
 
-/// Those of web overlap as in the manual. They stand among those of mail and of shop, as a text may have them.
-const GIVEN: [Given; 6] = [
-    Given {
-        object: MAIL,
-        first: 1,
-        last: 0,
-        interval: 30,
-        period: Some(PeriodId(0)),
-        options: OptionLetters::ALL,
-        contacts: &[CAT, ANN, CAT],
-    },
-    Given {
-        object: WEB,
-        first: 3,
-        last: 5,
-        interval: 45,
-        period: None,
-        options: OptionLetters::ALL,
-        contacts: &[BOB],
-    },
-    Given {
-        object: MAIL,
-        first: 2,
-        last: 2,
-        interval: 0,
-        period: None,
-        options: OptionLetters::ALL,
-        contacts: &[ANN],
-    },
-    Given {
-        object: SHOP,
-        first: 5,
-        last: 0,
-        interval: 1_000_000,
-        period: None,
-        options: OptionLetters::ALL,
-        contacts: &[],
-    },
-    Given {
-        object: WEB,
-        first: 4,
-        last: 0,
-        interval: 60,
-        period: None,
-        options: OptionLetters::ALL,
-        contacts: &[CAT],
-    },
-    Given {
-        object: MAIL,
-        first: 0,
-        last: 3,
-        interval: 5,
-        period: None,
-        options: RECOVERY,
-        contacts: &[DAN, ANN],
-    },
-];
+/// Three hosts, four contacts, and escalations. Those of web overlap as in the manual. They stand among those of
+/// mail and of shop, as a text may have them.
+const ROWS: Rows<'static> = Rows {
+    lanes: 0,
+    contacts: &[SOMEBODY; 4],
+    objects: &OWN,
+    periods: &[],
+    escalations: &[
+        EscalationRow {
+            object: MAIL,
+            first: 1,
+            last: 0,
+            interval: 30,
+            period: Some(PeriodId(0)),
+            options: OptionLetters::ALL,
+            contacts: &[CAT, ANN, CAT],
+        },
+        EscalationRow {
+            object: WEB,
+            first: 3,
+            last: 5,
+            interval: 45,
+            period: None,
+            options: OptionLetters::ALL,
+            contacts: &[BOB],
+        },
+        EscalationRow {
+            object: MAIL,
+            first: 2,
+            last: 2,
+            interval: 0,
+            period: None,
+            options: OptionLetters::ALL,
+            contacts: &[ANN],
+        },
+        EscalationRow {
+            object: SHOP,
+            first: 5,
+            last: 0,
+            interval: 1_000_000,
+            period: None,
+            options: OptionLetters::ALL,
+            contacts: &[],
+        },
+        EscalationRow {
+            object: WEB,
+            first: 4,
+            last: 0,
+            interval: 60,
+            period: None,
+            options: OptionLetters::ALL,
+            contacts: &[CAT],
+        },
+        EscalationRow {
+            object: MAIL,
+            first: 0,
+            last: 3,
+            interval: 5,
+            period: None,
+            options: RECOVERY,
+            contacts: &[DAN, ANN],
+        },
+    ],
+    dependencies: &[],
+};
 
 /// A host, the number, letter and moment of a notification, the seconds until the next one, and who is notified.
 type Case = (ObjectId, u64, OptionLetter, u64, u64, &'static [ContactId]);
@@ -158,8 +152,9 @@ const DOWN: OptionLetter = OptionLetter::Down;
 
 const UP: OptionLetter = OptionLetter::Recovery;
 
-/// The numbers of web: none of two, one, both, and the last one without end.
-const OVERLAP: [Case; 9] = [
+/// Cases of each host.
+const CASES: [Case; 20] = [
+    // The numbers of web: none of two, one, both, and the last one without end.
     (WEB, 1, DOWN, 0, 600, &[ANN]),
     (WEB, 2, DOWN, 600, 600, &[ANN]),
     (WEB, 3, DOWN, 1_200, 2_700, &[BOB]),
@@ -169,11 +164,8 @@ const OVERLAP: [Case; 9] = [
     (WEB, 7, DOWN, 12_900, 3_600, &[CAT]),
     (WEB, 4_294_967_300, DOWN, LAST_MOMENT, 3_600, &[CAT]),
     (WEB, 18_446_744_073_709_551_615, UP, 0, 3_600, &[CAT]),
-];
-
-/// A period or options leave an escalation out; an interval of 0 is the least; the own one, though less, is none
-/// of those compared; an escalation may name nobody.
-const MIXED: [Case; 11] = [
+    // A period or options leave an escalation out; an interval of 0 is the least; the own one, though less, is none
+    // of those compared; an escalation may name nobody.
     (MAIL, 1, DOWN, 43_199, 60, &[BOB, DAN]),
     (MAIL, 1, DOWN, 43_200, 1_800, &[ANN, CAT]),
     (MAIL, 1, DOWN, 46_799, 1_800, &[ANN, CAT]),
@@ -187,90 +179,6 @@ const MIXED: [Case; 11] = [
     (SHOP, 5, DOWN, 0, 60_000_000, &[]),
 ];
 
-/// The hosts.
-fn hosts(alloc: Global) -> Result<Objects, AllocError> {
-    let mut made = Vec::new(alloc);
-    for own in OWN.as_slice() {
-        made.push(host(alloc, *own)?)?;
-    }
-    if made.len() > 3 {
-        return Err(AllocError);
-    }
-    Objects::new(alloc, made)
-}
-
-/// A host with these settings.
-fn host(alloc: Global, own: Own) -> Result<Object, AllocError> {
-    Ok(Object {
-        name: Text::new(alloc, &[])?,
-        host: None,
-        enabled: true,
-        options: OptionLetters::ALL,
-        period: None,
-        interval: own.interval,
-        delay: 0,
-        contacts: ContactList::new(alloc, own.contacts)?,
-    })
-}
-
-/// Rights that restrict nothing, on no lane.
-fn rights(alloc: Global) -> Rights {
-    Rights {
-        enabled: true,
-        options: OptionLetters::ALL,
-        period: None,
-        lanes: Sequence::new(Vec::new(alloc)),
-    }
-}
-
-/// Four contacts.
-fn people(alloc: Global) -> Result<Sequence<Contact>, AllocError> {
-    let mut made = Vec::new(alloc);
-    for _contact in 0..4u8 {
-        made.push(Contact {
-            name: Text::new(alloc, &[])?,
-            hosts: rights(alloc),
-            services: rights(alloc),
-        })?;
-    }
-    Ok(Sequence::new(made))
-}
-
-/// The escalations.
-fn escalations(alloc: Global) -> Result<Sequence<Escalation>, AllocError> {
-    let mut made = Vec::new(alloc);
-    for given in GIVEN.as_slice() {
-        made.push(Escalation {
-            object: given.object,
-            first: given.first,
-            last: given.last,
-            interval: given.interval,
-            period: given.period,
-            options: given.options,
-            contacts: ContactList::new(alloc, given.contacts)?,
-        })?;
-    }
-    Ok(Sequence::new(made))
-}
-
-/// One period.
-fn lunch(alloc: Global) -> Result<Sequence<Period>, AllocError> {
-    let Config { periods, .. } = periods(alloc, &[LUNCH])?;
-    Ok(periods)
-}
-
-/// All of them.
-fn config(alloc: Global) -> Result<Config, AllocError> {
-    Ok(Config {
-        objects: hosts(alloc)?,
-        contacts: people(alloc)?,
-        lanes: Sequence::new(Vec::new(alloc)),
-        periods: lunch(alloc)?,
-        escalations: escalations(alloc)?,
-        dependencies: Sequence::new(Vec::new(alloc)),
-    })
-}
-
 /// Compares the interval and the contacts of one notification.
 fn is_as_told(
     rt: &impl Abort,
@@ -280,16 +188,14 @@ fn is_as_told(
     all: &[Compiled],
     zone: &ZoneClock<'_>,
     case: Case,
-) -> Result<(), Fail>
+) -> Result<(), AllocError>
     requires accepted { IsAccepted config.now }
     requires grouped { IsByObject config.now by_object.now }
     requires compiled { AreCompiled config.now all.now }
 {
     let (object, number, letter, moment, wanted, wanted_contacts) = case;
     let t = moment.min(LAST_MOMENT);
-    if usize::from(object.0) >= config.objects.len() {
-        panic!(rt; "no host {object:?}");
-    }
+    assert!(rt; has_object(config, object));
     let seconds = matching_interval(config, by_object, object, number, letter, t, all, zone);
     let mut told = Vec::new(alloc);
     contacts(
@@ -303,50 +209,82 @@ fn is_as_told(
     Ok(())
 }
 
-/// Compares those of several.
-fn are_as_told(rt: &impl Abort, alloc: Global, cases: &[Case]) -> Result<(), Fail> {
-    let config = config(alloc)?;
-    if !is_accepted(&config) {
-        panic!(rt; "not accepted");
-    }
-    let by_object = ByObject::new(alloc, &config)?;
-    let all = compile_all(alloc, &config)?;
-    let zone = ZoneClock::new(&Zone::Utc);
-    for case in cases {
-        is_as_told(rt, alloc, &config, &by_object, all.as_slice(), &zone, *case)?;
+/// Compares those of each case.
+fn are_as_told(
+    rt: &impl Abort,
+    alloc: Global,
+    config: &Config,
+    by_object: &ByObject,
+    all: &[Compiled],
+    zone: &ZoneClock<'_>,
+) -> Result<(), AllocError>
+    requires accepted { IsAccepted config.now }
+    requires grouped { IsByObject config.now by_object.now }
+    requires compiled { AreCompiled config.now all.now }
+{
+    for case in &CASES {
+        is_as_told(rt, alloc, config, by_object, all, zone, *case)?;
     }
     Ok(())
 }
 
-#[test]
-fn overlapping(rt: HostRuntime) -> Result<(), Fail> {
-    are_as_told(&rt, rt.alloc(), &OVERLAP)
+/// The same with the periods worked out.
+fn compiled_as_told(
+    rt: &impl Abort,
+    alloc: Global,
+    config: &Config,
+    by_object: &ByObject,
+) -> Result<(), AllocError>
+    requires accepted { IsAccepted config.now }
+    requires grouped { IsByObject config.now by_object.now }
+{
+    let all = compile_all(alloc, config)?;
+    let zone = ZoneClock::new(&Zone::Utc);
+    are_as_told(rt, alloc, config, by_object, all.as_slice(), &zone)
 }
 
-#[test]
-fn periods_options_and_zero(rt: HostRuntime) -> Result<(), Fail> {
-    are_as_told(&rt, rt.alloc(), &MIXED)
+/// The same with the escalations of each object.
+fn grouped_as_told(rt: &impl Abort, alloc: Global, config: &Config) -> Result<(), AllocError>
+    requires { IsAccepted config.now }
+{
+    let by_object = ByObject::new(alloc, config)?;
+    compiled_as_told(rt, alloc, config, &by_object)
 }
 
-/// The own contacts of each object, one after the other.
-fn own_of_each(alloc: Global, config: &Config) -> Result<Vec<ContactId>, AllocError>
+/// Each host's own contacts are added to those of the host before.
+fn own_alone(rt: &impl Abort, alloc: Global, config: &Config) -> Result<(), AllocError>
     requires { IsAccepted config.now }
 {
     let mut told = Vec::new(alloc);
     for number in 0..config.objects.len() {
         own_contacts(alloc, config, ObjectId(number as u16), &mut told)?;
     }
-    Ok(told)
+    assert_eq!(rt; told.as_slice(), [ANN, BOB, DAN, CAT].as_slice());
+    Ok(())
 }
 
-/// Each host's own contacts are added to those of the host before.
+/// Compares what each case says, and the own contacts.
+fn says(rt: &impl Abort, alloc: Global, config: &Config) -> Result<(), AllocError> {
+    assert!(rt; is_accepted(config));
+    grouped_as_told(rt, alloc, config)?;
+    own_alone(rt, alloc, config)
+}
+
+/// One period.
+fn lunch(alloc: Global) -> Result<Sequence<Period>, AllocError> {
+    let Config { periods, .. } = periods(alloc, &[LUNCH])?;
+    Ok(periods)
+}
+
+/// The rows and the period.
+fn config(alloc: Global) -> Result<Config, AllocError> {
+    let mut config = config_of(alloc, ROWS)?;
+    config.periods = lunch(alloc)?;
+    Ok(config)
+}
+
 #[test]
-fn own_alone(rt: HostRuntime) -> Result<(), Fail> {
+fn intervals_and_contacts(rt: HostRuntime) -> Result<(), AllocError> {
     let config = config(rt.alloc())?;
-    if !is_accepted(&config) {
-        panic!(&rt; "not accepted");
-    }
-    let told = own_of_each(rt.alloc(), &config)?;
-    assert_eq!(&rt; told.as_slice(), [ANN, BOB, DAN, CAT].as_slice());
-    Ok(())
+    says(&rt, rt.alloc(), &config)
 }

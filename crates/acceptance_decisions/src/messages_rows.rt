@@ -19,9 +19,8 @@ use escalation::by_object::ByObject;
 use messages::entries::{Entry, notices_for, suppressions};
 use messages::outcome::add_messages;
 use outcomes::rules::Rules;
-use std::alloc::Global;
+use std::alloc::{AllocError, Global};
 use std::process::Abort;
-use std::test::Fail;
 use time_period::compile::compile_all;
 use zone_times::clock::ZoneClock;
 
@@ -98,7 +97,7 @@ enum Said {
 
 /// A notification about web, the object's filter that stops it, if one does, and what is said of it in this order.
 #[derive(Clone, Copy)]
-struct Row {
+struct Case {
     kind: Kind,
     state: State,
     number: u64,
@@ -106,15 +105,15 @@ struct Row {
     said: &'static [Said],
 }
 
-const ROWS: [Row; 6] = [
-    Row {
+const CASES: [Case; 6] = [
+    Case {
         kind: Kind::Problem,
         state: State::Down,
         number: 1,
         stopped: None,
         said: &[Said::Told(0, 0), Said::Told(0, 1), Said::Told(1, 1)],
     },
-    Row {
+    Case {
         kind: Kind::Problem,
         state: State::Down,
         number: 2,
@@ -125,7 +124,7 @@ const ROWS: [Row; 6] = [
         ],
     },
     // The recovery after two notices goes to those that the second reached.
-    Row {
+    Case {
         kind: Kind::Recovery,
         state: State::Up,
         number: 3,
@@ -136,7 +135,7 @@ const ROWS: [Row; 6] = [
         ],
     },
     // The recovery after one notice goes to the object's own contacts, though the second would reach others.
-    Row {
+    Case {
         kind: Kind::Recovery,
         state: State::Up,
         number: 2,
@@ -147,7 +146,7 @@ const ROWS: [Row; 6] = [
             Said::Stopped(Some(1), Filter::ContactOptions),
         ],
     },
-    Row {
+    Case {
         kind: Kind::FlappingStart,
         state: State::Down,
         number: 2,
@@ -158,7 +157,7 @@ const ROWS: [Row; 6] = [
             Said::Stopped(Some(1), Filter::ContactOptions),
         ],
     },
-    Row {
+    Case {
         kind: Kind::Problem,
         state: State::Down,
         number: 2,
@@ -167,17 +166,17 @@ const ROWS: [Row; 6] = [
     },
 ];
 
-/// The outcome of a row.
-fn outcome(row: Row) -> Outcome
+/// The outcome of a case.
+fn outcome(case: Case) -> Outcome
     ensures { IsInRange result }
 {
-    let Row {
+    let Case {
         kind,
         state,
         number,
         ..
-    } = row;
-    match row.stopped {
+    } = case;
+    match case.stopped {
         None => Outcome::Sent {
             kind,
             state,
@@ -196,15 +195,15 @@ fn outcome(row: Row) -> Outcome
 }
 
 /// What a row says of one message, as an entry.
-fn entry(row: Row, said: Said) -> Entry {
+fn entry(case: Case, said: Said) -> Entry {
     match said {
         Said::Told(contact, lane) => Entry::Sent(Notice {
             event: EVENT,
             moment: MOMENT,
             object: ObjectId(0),
-            kind: row.kind,
-            state: row.state,
-            number: row.number,
+            kind: case.kind,
+            state: case.state,
+            number: case.number,
             contact: ContactId(contact),
             lane: LaneId(lane),
         }),
@@ -212,47 +211,59 @@ fn entry(row: Row, said: Said) -> Entry {
             event: EVENT,
             moment: MOMENT,
             object: ObjectId(0),
-            kind: row.kind,
-            state: row.state,
-            number: row.number,
+            kind: case.kind,
+            state: case.state,
+            number: case.number,
             filter,
             contact: contact.map(ContactId),
         }),
     }
 }
 
-/// Compares entries with what a row says.
-fn are_said(rt: &impl Abort, found: &[Entry], row: Row) {
-    assert_eq!(rt; found.len(), row.said.len());
-    for (found, said) in found.iter().zip(row.said) {
-        assert_eq!(rt; *found, entry(row, *said));
+/// Compares entries with what a case says.
+fn are_said(rt: &impl Abort, found: &[Entry], case: Case) {
+    assert!(rt; found.len() == case.said.len());
+    for (found, said) in found.iter().zip(case.said) {
+        assert!(rt; *found == entry(case, *said), "{found:?}");
     }
 }
 
-/// Compares what the outcome of a row adds to what stands there.
-fn adds(rt: &impl Abort, alloc: Global, rules: &Rules<'_>, row: Row) -> Result<(), Fail>
+/// Compares what the outcome of a case adds to what stands there.
+fn adds(rt: &impl Abort, alloc: Global, rules: &Rules<'_>, case: Case) -> Result<(), AllocError>
     requires rules { AreRules rules.now }
     requires object { 0 < length rules.now.config.now.objects }
 {
     // What the list of receivers held is no matter.
     let mut receivers = Vec::from_slice(alloc, &[ContactId(0)])?;
     let mut entries = Vec::new(alloc);
-    let now = outcome(row);
+    let now = outcome(case);
+    let object = ObjectId(0);
     add_messages(
         alloc,
         rules,
-        ObjectId(0),
+        object,
         EVENT,
         now,
         &mut receivers,
         &mut entries,
     )?;
-    are_said(rt, entries.as_slice(), row);
+    are_said(rt, entries.as_slice(), case);
     Ok(())
 }
 
-/// Compares what the outcome of each row adds in a configuration.
-fn each_adds(rt: &impl Abort, alloc: Global, config: &Config, rows: &[Row]) -> Result<(), Fail> {
+/// Compares what the outcome of each case adds, by these rules.
+fn all_add(rt: &impl Abort, alloc: Global, rules: &Rules<'_>) -> Result<(), AllocError>
+    requires rules { AreRules rules.now }
+    requires object { 0 < length rules.now.config.now.objects }
+{
+    for case in &CASES {
+        adds(rt, alloc, rules, *case)?;
+    }
+    Ok(())
+}
+
+/// The same in a configuration.
+fn each_adds(rt: &impl Abort, alloc: Global, config: &Config) -> Result<(), AllocError> {
     assert!(rt; is_accepted(config) && has_object(config, ObjectId(0)));
     let by_object = ByObject::new(alloc, config)?;
     let all = compile_all(alloc, config)?;
@@ -263,30 +274,23 @@ fn each_adds(rt: &impl Abort, alloc: Global, config: &Config, rows: &[Row]) -> R
         periods: all.as_slice(),
         escalations: &by_object,
     };
-    for row in rows {
-        adds(rt, alloc, &rules, *row)?;
-    }
-    Ok(())
+    all_add(rt, alloc, &rules)
 }
 
 #[test]
-fn messages_of_outcomes(rt: HostRuntime) -> Result<(), Fail> {
+fn messages_of_outcomes(rt: HostRuntime) -> Result<(), AllocError> {
     let config = config_of(rt.alloc(), WEB)?;
-    each_adds(&rt, rt.alloc(), &config, &ROWS)
+    each_adds(&rt, rt.alloc(), &config)
 }
 
 #[test]
 fn counts_of_entries(rt: HostRuntime) {
-    let mut entries = [entry(ROWS[1], Said::Told(1, 1)); 4];
-    entries[1] = entry(ROWS[1], Said::Told(0, 0));
-    entries[2] = entry(ROWS[1], Said::Stopped(Some(2), Filter::ContactPeriod));
-    assert_eq!(&rt;
-        (
-            notices_for(&entries, 0),
-            notices_for(&entries, 1),
-            notices_for(&entries, 2),
-            suppressions(&entries),
-        ),
-        (1, 2, 0, 1)
-    );
+    let mut entries = [entry(CASES[1], Said::Told(1, 1)); 4];
+    entries[1] = entry(CASES[1], Said::Told(0, 0));
+    entries[2] = entry(CASES[1], Said::Stopped(Some(2), Filter::ContactPeriod));
+    let first = notices_for(&entries, 0);
+    let second = notices_for(&entries, 1);
+    let third = notices_for(&entries, 2);
+    let counts = (first, second, third, suppressions(&entries));
+    assert!(&rt; counts == (1, 2, 0, 1), "{counts:?}");
 }

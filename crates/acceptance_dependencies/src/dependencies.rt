@@ -291,7 +291,7 @@ const ENTRIES: [(&str, &str); 26] = [
 ];
 
 /// Dependency blocks after the objects, and the place of the first on a loop.
-const LOOPS: [(&str, &str); 11] = [
+const LOOPS: [(&str, &str); 20] = [
     ("", "-"),
     (
         "define hostdependency{\nhost_name a\ndependent_host_name b\nnotification_failure_criteria d\n}\n",
@@ -338,6 +338,48 @@ const LOOPS: [(&str, &str); 11] = [
     (
         "define servicedependency{\nhost_name a\nservice_description s\ndependent_host_name b\ndependent_service_description s\nnotification_failure_criteria c\n}\ndefine hostdependency{\nhost_name b\ndependent_host_name a\nnotification_failure_criteria d\n}\n",
         "-",
+    ),
+    // Hosts by the members of all groups, of which c is none.
+    (
+        "define hostdependency{\nhostgroup_name *\ndependent_host_name c\nnotification_failure_criteria d\n}\n",
+        "-",
+    ),
+    (
+        "define hostdependency{\nhostgroup_name *\ndependent_host_name b\nnotification_failure_criteria d\n}\n",
+        "11",
+    ),
+    // Host groups that list one another, of which c is a member.
+    (
+        "define hostgroup{\nhostgroup_name q\nhostgroup_members r\n}\ndefine hostgroup{\nhostgroup_name r\nhostgroup_members q\nmembers c\n}\ndefine hostdependency{\nhostgroup_name q\ndependent_hostgroup_name g\nnotification_failure_criteria d\n}\ndefine hostdependency{\nhostgroup_name g\ndependent_hostgroup_name r\nnotification_failure_criteria d\n}\n",
+        "13",
+    ),
+    // Service groups that list one another.
+    (
+        "define servicegroup{\nservicegroup_name x\nservicegroup_members y\n}\ndefine servicegroup{\nservicegroup_name y\nservicegroup_members x\nmembers a,s\n}\ndefine servicedependency{\nservicegroup_name x\ndependent_host_name b\ndependent_service_description s\nnotification_failure_criteria c\n}\ndefine servicedependency{\nhost_name b\nservice_description s\ndependent_servicegroup_name y\nnotification_failure_criteria c\n}\n",
+        "13",
+    ),
+    // Services by host groups and descriptions: t of b on itself, and s of a on t of b, and that on it.
+    (
+        "define servicedependency{\nhostgroup_name g\nservice_description t\ndependent_hostgroup_name *\ndependent_service_description *\nnotification_failure_criteria c\n}\n",
+        "11",
+    ),
+    (
+        "define servicedependency{\nhostgroup_name g\nservice_description t\ndependent_host_name a\ndependent_service_description *\nnotification_failure_criteria c\n}\ndefine servicedependency{\nhost_name a\nservice_description s\ndependent_hostgroup_name g\ndependent_service_description t\nnotification_failure_criteria c\n}\n",
+        "11",
+    ),
+    // Another description of the same host closes none.
+    (
+        "define servicedependency{\nhostgroup_name g\nservice_description t\ndependent_host_name a\ndependent_service_description *\nnotification_failure_criteria c\n}\ndefine servicedependency{\nhost_name a\nservice_description s\ndependent_hostgroup_name g\ndependent_service_description s\nnotification_failure_criteria c\n}\n",
+        "-",
+    ),
+    // Blocks that have their masters from one template, and one of them lies on a loop.
+    (
+        "define servicedependency{\nname u\nregister 0\nhost_name a\nservice_description s\nnotification_failure_criteria c\n}\ndefine servicedependency{\nuse u\ndependent_host_name b\ndependent_service_description s\n}\ndefine servicedependency{\nuse u\ndependent_host_name b\ndependent_service_description t\n}\ndefine servicedependency{\nhost_name b\nservice_description t\ndependent_host_name a\ndependent_service_description s\nnotification_failure_criteria c\n}\n",
+        "13",
+    ),
+    (
+        "define hostdependency{\nname u\nregister 0\nhost_name a\nnotification_failure_criteria d\n}\ndefine hostdependency{\nuse u\ndependent_host_name b\n}\ndefine hostdependency{\nuse u\nhost_name +b\ndependent_host_name c\n}\ndefine hostdependency{\nuse u\nhost_name +c\ndependent_host_name b\n}\n",
+        "13",
     ),
 ];
 
@@ -418,5 +460,33 @@ fn a_block_of_very_many_dependencies_is_refused_at_once(rt: HostRuntime) -> Resu
     assert_eq!(rt; looped.as_str(), "-");
     let over = asked_of_site(rt.alloc(), 5000, 5000, 1, Asked::Entries)?;
     assert_eq!(rt; over.as_str(), "10002 40007 TooMany");
+    Ok(())
+}
+
+/// 250 such blocks list 2,500,000 masters and dependents, and none lies on a loop.
+#[test]
+fn many_blocks_of_many_hosts_are_looked_at(rt: HostRuntime) -> Result<(), Fail> {
+    let looped = asked_of_site(rt.alloc(), 5000, 5000, 250, Asked::Loop)?;
+    assert_eq!(rt; looped.as_str(), "-");
+    Ok(())
+}
+
+/// So many hosts, and so many blocks of all of them on all of them.
+fn starred(alloc: Global, hosts: u32, blocks: u32) -> Result<String, AllocError> {
+    let mut out = site(alloc, hosts, 0, 0)?;
+    for _block in 0..blocks {
+        out.push_str(
+            "define hostdependency{\nhost_name *\ndependent_host_name *\nnotification_failure_criteria d\n}\n",
+        )?;
+    }
+    Ok(out)
+}
+
+/// 5,000 blocks of `*` on `*` among 1,000 hosts list 10,000,000: the first, at place 1,002, lies on a loop.
+#[test]
+fn many_blocks_of_all_hosts_are_looked_at(rt: HostRuntime) -> Result<(), Fail> {
+    let text = starred(rt.alloc(), 1000, 5000)?;
+    let looped = answer_of(rt.alloc(), text.as_str(), &Asked::Loop)?;
+    assert_eq!(rt; looped.as_str(), "1002");
     Ok(())
 }

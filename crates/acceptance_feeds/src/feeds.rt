@@ -1,12 +1,9 @@
 //! The feed against its rules, line by line and in any pieces.
 
-use acceptance_inputs::configs::object;
 use acceptance_inputs::readers::{Exes, Pieces, in_pieces};
+use acceptance_inputs::rows::{ObjectRow, Rows, config_of};
 use due_model::config::{Config, ObjectId};
 use due_model::event::{Event, EventKind};
-use due_model::limits::MAX_OBJECTS;
-use due_model::objects::Objects;
-use due_model::sequence::Sequence;
 use due_model::state::State;
 use event_feed::{FeedFault, Feeder, read_line, stop_fault};
 use std::alloc::{AllocError, Global};
@@ -27,39 +24,41 @@ pub(crate) type Row = (&'static str, Given);
 /// What stands after the stamp of a line, and what happened by it.
 pub(crate) type Said = (&'static str, Result<EventKind, FeedFault>);
 
-/// The objects, by their names, and the host of each that is a service.
-const NAMES: [(&str, Option<ObjectId>); 5] = [
-    ("web", None),
-    ("my host", None),
-    ("disk", Some(ObjectId(0))),
-    ("Größe von /var", Some(ObjectId(1))),
-    ("bücher", None),
+/// The objects.
+const OBJECTS: [ObjectRow; 5] = [
+    ObjectRow {
+        name: "web",
+        ..ObjectRow::PLAIN
+    },
+    ObjectRow {
+        name: "my host",
+        ..ObjectRow::PLAIN
+    },
+    ObjectRow {
+        name: "disk",
+        host: Some(ObjectId(0)),
+        ..ObjectRow::PLAIN
+    },
+    ObjectRow {
+        name: "Größe von /var",
+        host: Some(ObjectId(1)),
+        ..ObjectRow::PLAIN
+    },
+    ObjectRow {
+        name: "bücher",
+        ..ObjectRow::PLAIN
+    },
 ];
-
-/// These objects.
-fn objects(alloc: Global) -> Result<Objects, AllocError> {
-    let mut objects = Vec::new(alloc);
-    for named in &NAMES {
-        let (name, host) = *named;
-        objects.push(object(alloc, name, host)?)?;
-    }
-    if objects.len() > MAX_OBJECTS {
-        return Err(AllocError);
-    }
-    Objects::new(alloc, objects)
-}
 
 /// The configuration of these objects.
 fn config(alloc: Global) -> Result<Config, AllocError> {
-    let objects = objects(alloc)?;
-    Ok(Config {
-        objects,
-        contacts: Sequence::new(Vec::new(alloc)),
-        lanes: Sequence::new(Vec::new(alloc)),
-        periods: Sequence::new(Vec::new(alloc)),
-        escalations: Sequence::new(Vec::new(alloc)),
-        dependencies: Sequence::new(Vec::new(alloc)),
-    })
+    config_of(
+        alloc,
+        Rows {
+            objects: &OBJECTS,
+            ..Rows::NONE
+        },
+    )
 }
 
 /// Compares what one line gives.

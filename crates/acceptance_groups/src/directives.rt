@@ -1,5 +1,7 @@
 //! What the values of directives say: option lists, failure criteria, and the day lines of time periods.
 
+use crate::shown::Case;
+use due_model::config::Range;
 use due_model::options::OptionLetters;
 use due_model::state::StateSet;
 use object_values::options::{CriteriaKind, OptionKind, criteria_in, options_in};
@@ -7,7 +9,19 @@ use object_values::ranges::{are_ranges, is_dated, ranges_in, weekday_of};
 use std::alloc::{AllocError, Global};
 use std::fmt::Write;
 use std::process::Abort;
-use std::test::Fail;
+
+/// What is shown of a value or a name.
+#[derive(Clone, Copy)]
+enum What {
+    /// What it allows as the list of a host, a service, a host escalation and a service escalation.
+    Options,
+    /// What it names as criteria of hosts and of services.
+    Criteria,
+    /// The ranges of a day line in seconds, or `?`.
+    Ranges,
+    /// What a directive of a time period is: a weekday by its number, dated, or neither.
+    Day,
+}
 
 /// Adds a mark, where it is wanted.
 fn push_if(out: &mut String, wanted: bool, mark: &str) -> Result<(), AllocError> {
@@ -38,18 +52,85 @@ fn push_options(out: &mut String, kind: OptionKind, text: &str) -> Result<(), Al
     out.push_str(";")
 }
 
-/// What a list allows as that of a host, a service, a host escalation and a service escalation.
-fn options_text(alloc: Global, text: &str) -> Result<String, AllocError> {
-    let mut out = String::new(alloc);
-    push_options(&mut out, OptionKind::Host, text)?;
-    push_options(&mut out, OptionKind::Service, text)?;
-    push_options(&mut out, OptionKind::HostEscalation, text)?;
-    push_options(&mut out, OptionKind::ServiceEscalation, text)?;
-    Ok(out)
+/// What a list allows as that of each kind.
+fn push_all_options(out: &mut String, text: &str) -> Result<(), AllocError> {
+    push_options(out, OptionKind::Host, text)?;
+    push_options(out, OptionKind::Service, text)?;
+    push_options(out, OptionKind::HostEscalation, text)?;
+    push_options(out, OptionKind::ServiceEscalation, text)
+}
+
+/// The states of a set: `U` is UNKNOWN, `O` is OK.
+fn push_states(out: &mut String, states: StateSet) -> Result<(), AllocError> {
+    push_if(out, states.pending, "p")?;
+    push_if(out, states.up, "o")?;
+    push_if(out, states.down, "d")?;
+    push_if(out, states.unreachable, "u")?;
+    push_if(out, states.fine, "O")?;
+    push_if(out, states.warning, "w")?;
+    push_if(out, states.unknown, "U")?;
+    push_if(out, states.critical, "c")
+}
+
+/// Adds the states that criteria name, or `?` where they are none, and a semicolon.
+fn push_criteria(out: &mut String, kind: CriteriaKind, text: &str) -> Result<(), AllocError> {
+    match criteria_in(kind, text.as_bytes()) {
+        None => out.push_str("?")?,
+        Some(states) => push_states(out, states)?,
+    }
+    out.push_str(";")
+}
+
+/// What criteria name of hosts and of services.
+fn push_both_criteria(out: &mut String, text: &str) -> Result<(), AllocError> {
+    push_criteria(out, CriteriaKind::OfHosts, text)?;
+    push_criteria(out, CriteriaKind::OfServices, text)
+}
+
+fn push_each_range(out: &mut String, ranges: &[Range]) -> Result<(), AllocError> {
+    for range in ranges {
+        let start = range.start;
+        let end = range.end;
+        write!(out, "{start}-{end};")?;
+    }
+    Ok(())
+}
+
+fn push_ranges(alloc: Global, out: &mut String, text: &str) -> Result<(), AllocError> {
+    match ranges_in(alloc, text.as_bytes())? {
+        Some(ranges) => push_each_range(out, ranges.as_slice()),
+        None => out.push_str("?"),
+    }
+}
+
+fn push_day(out: &mut String, name: &str) -> Result<(), AllocError> {
+    if let Some(weekday) = weekday_of(name.as_bytes()) {
+        write!(out, "{weekday}")?;
+    }
+    push_if(out, is_dated(name.as_bytes()), "dated")
+}
+
+fn push_what(alloc: Global, out: &mut String, text: &str, what: What) -> Result<(), AllocError> {
+    match what {
+        What::Options => push_all_options(out, text),
+        What::Criteria => push_both_criteria(out, text),
+        What::Ranges => push_ranges(alloc, out, text),
+        What::Day => push_day(out, text),
+    }
+}
+
+/// Compares what is shown of each case.
+fn all_show(rt: &impl Abort, alloc: Global, cases: &[Case], what: What) -> Result<(), AllocError> {
+    for case in cases {
+        let mut out = String::new(alloc);
+        push_what(alloc, &mut out, case.0, what)?;
+        assert!(rt; out.as_str() == case.1, "{}", case.0);
+    }
+    Ok(())
 }
 
 /// Option lists, and what they allow.
-const OPTIONS: [(&str, &str); 34] = [
+const OPTIONS: [Case; 34] = [
     ("", ";;;;"),
     (",", ";;;;"),
     (" , ,", ";;;;"),
@@ -87,46 +168,12 @@ const OPTIONS: [(&str, &str); 34] = [
 ];
 
 #[test]
-fn option_lists_allow_what_they_give(rt: HostRuntime) -> Result<(), Fail> {
-    for case in &OPTIONS {
-        let text = case.0;
-        let found = options_text(rt.alloc(), text)?;
-        assert_eq!(rt; found.as_str(), case.1, "{text}");
-    }
-    Ok(())
-}
-
-/// The states of a set: `U` is UNKNOWN, `O` is OK.
-fn push_states(out: &mut String, states: StateSet) -> Result<(), AllocError> {
-    push_if(out, states.pending, "p")?;
-    push_if(out, states.up, "o")?;
-    push_if(out, states.down, "d")?;
-    push_if(out, states.unreachable, "u")?;
-    push_if(out, states.fine, "O")?;
-    push_if(out, states.warning, "w")?;
-    push_if(out, states.unknown, "U")?;
-    push_if(out, states.critical, "c")
-}
-
-/// Adds the states that criteria name, or `?` where they are none, and a semicolon.
-fn push_criteria(out: &mut String, kind: CriteriaKind, text: &str) -> Result<(), AllocError> {
-    match criteria_in(kind, text.as_bytes()) {
-        None => out.push_str("?")?,
-        Some(states) => push_states(out, states)?,
-    }
-    out.push_str(";")
-}
-
-/// What criteria name of hosts and of services.
-fn criteria_text(alloc: Global, text: &str) -> Result<String, AllocError> {
-    let mut out = String::new(alloc);
-    push_criteria(&mut out, CriteriaKind::OfHosts, text)?;
-    push_criteria(&mut out, CriteriaKind::OfServices, text)?;
-    Ok(out)
+fn option_lists_allow_what_they_give(rt: HostRuntime) -> Result<(), AllocError> {
+    all_show(&rt, rt.alloc(), &OPTIONS, What::Options)
 }
 
 /// Failure criteria, and the states that they name.
-const CRITERIA: [(&str, &str); 27] = [
+const CRITERIA: [Case; 27] = [
     ("", ";;"),
     (", ,", ";;"),
     ("o", "o;O;"),
@@ -157,32 +204,12 @@ const CRITERIA: [(&str, &str); 27] = [
 ];
 
 #[test]
-fn criteria_name_the_states_that_they_give(rt: HostRuntime) -> Result<(), Fail> {
-    for case in &CRITERIA {
-        let text = case.0;
-        let found = criteria_text(rt.alloc(), text)?;
-        assert_eq!(rt; found.as_str(), case.1, "{text}");
-    }
-    Ok(())
-}
-
-/// The ranges of a day line in seconds, or `?`.
-fn ranges_text(alloc: Global, text: &str) -> Result<String, AllocError> {
-    let mut out = String::new(alloc);
-    let Some(ranges) = ranges_in(alloc, text.as_bytes())? else {
-        out.push_str("?")?;
-        return Ok(out);
-    };
-    for range in ranges.as_slice() {
-        let start = range.start;
-        let end = range.end;
-        write!(out, "{start}-{end};")?;
-    }
-    Ok(out)
+fn criteria_name_the_states_that_they_give(rt: HostRuntime) -> Result<(), AllocError> {
+    all_show(&rt, rt.alloc(), &CRITERIA, What::Criteria)
 }
 
 /// The values of day lines, and their ranges.
-const RANGES: [(&str, &str); 28] = [
+const RANGES: [Case; 28] = [
     ("09:00-17:00", "32400-61200;"),
     ("9:00-17:00", "32400-61200;"),
     ("9:05-17:59", "32700-64740;"),
@@ -214,27 +241,12 @@ const RANGES: [(&str, &str); 28] = [
 ];
 
 #[test]
-fn day_lines_have_their_ranges(rt: HostRuntime) -> Result<(), Fail> {
-    for case in &RANGES {
-        let text = case.0;
-        let found = ranges_text(rt.alloc(), text)?;
-        assert_eq!(rt; found.as_str(), case.1, "{text}");
-    }
-    Ok(())
-}
-
-/// What a directive of a time period is: a weekday by its number, dated, or neither.
-fn day_text(alloc: Global, name: &str) -> Result<String, AllocError> {
-    let mut out = String::new(alloc);
-    if let Some(weekday) = weekday_of(name.as_bytes()) {
-        write!(out, "{weekday}")?;
-    }
-    push_if(&mut out, is_dated(name.as_bytes()), "dated")?;
-    Ok(out)
+fn day_lines_have_their_ranges(rt: HostRuntime) -> Result<(), AllocError> {
+    all_show(&rt, rt.alloc(), &RANGES, What::Ranges)
 }
 
 /// Names of directives of time periods, and what they are.
-const DAYS: [(&str, &str); 24] = [
+const DAYS: [Case; 24] = [
     ("sunday", "0"),
     ("monday", "1"),
     ("tuesday", "2"),
@@ -262,24 +274,18 @@ const DAYS: [(&str, &str); 24] = [
 ];
 
 #[test]
-fn directives_of_periods_are_day_lines_or_not(rt: HostRuntime) -> Result<(), Fail> {
-    for case in &DAYS {
-        let text = case.0;
-        let found = day_text(rt.alloc(), text)?;
-        assert_eq!(rt; found.as_str(), case.1, "{text}");
-    }
-    Ok(())
+fn directives_of_periods_are_day_lines_or_not(rt: HostRuntime) -> Result<(), AllocError> {
+    all_show(&rt, rt.alloc(), &DAYS, What::Day)
 }
 
 /// Whether each text is ranges exactly where there are any.
 #[test]
-fn texts_are_ranges_where_they_have_some(rt: HostRuntime) -> Result<(), Fail> {
-    let mut bad = 0;
+fn texts_are_ranges_where_they_have_some(rt: HostRuntime) {
     for case in &RANGES {
-        if are_ranges(case.0.as_bytes()) == (case.1 == "?") {
-            bad = 1;
-        }
+        assert!(&rt;
+            are_ranges(case.0.as_bytes()) != (case.1 == "?"),
+            "{}",
+            case.0
+        );
     }
-    assert_eq!(rt; bad, 0);
-    Ok(())
 }

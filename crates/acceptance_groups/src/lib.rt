@@ -8,3 +8,5 @@ mod directives;
 mod members;
 #[cfg(test)]
 mod services;
+#[cfg(test)]
+mod shown;

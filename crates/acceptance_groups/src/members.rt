@@ -1,69 +1,21 @@
 //! The members of groups, and the names of objects and groups, as the manual's rules give them.
 
-use acceptance_shown::text_or_mark;
-use object_groups::groups::{GroupKind, Groups};
+use crate::shown::{Case, What, all_show, shows};
+use object_groups::groups::GroupKind;
 use object_groups::laws::loop_adds_nothing;
 use object_groups::names::{Names, has_exclusion, is_all};
-use object_groups::objects::Objects;
-use object_inheritance::templates::Templates;
-use object_reader::block::{Block, BlockKind};
-use object_reader::reading::read;
+use object_reader::block::BlockKind;
 use object_values::values::entries;
 use std::alloc::{AllocError, Global};
 use std::fmt::Write;
 use std::process::Abort;
-use std::test::Fail;
-
-/// A group's members by their names.
-fn show_group(
-    alloc: Global,
-    out: &mut String,
-    groups: &mut Groups,
-    group: usize,
-) -> Result<(), AllocError> {
-    let members = groups.members(alloc, group)?;
-    out.push_str(text_or_mark(groups.groups().names().name(group)))?;
-    out.push_str(":")?;
-    for object in members.as_slice() {
-        out.push_str(text_or_mark(groups.objects().names().name(*object as usize)))?;
-        out.push_str(".")?;
-    }
-    out.push_str("\n")
-}
-
-/// Each group's members, a line each.
-fn show(
-    alloc: Global,
-    out: &mut String,
-    blocks: &[Block],
-    kind: GroupKind,
-) -> Result<(), AllocError> {
-    let Ok(templates) = Templates::new(alloc, blocks) else {
-        return out.push_str("templates");
-    };
-    let mut groups = Groups::new(alloc, &templates, kind)?;
-    for group in 0..groups.groups().names().len() {
-        show_group(alloc, out, &mut groups, group)?;
-    }
-    Ok(())
-}
-
-/// The same of a text.
-fn result_text(alloc: Global, text: &str, kind: GroupKind) -> Result<String, AllocError> {
-    let mut out = String::new(alloc);
-    match read(alloc, text.as_bytes()) {
-        Ok(blocks) => show(alloc, &mut out, blocks.as_slice(), kind)?,
-        Err(_) => out.push_str("unread")?,
-    }
-    Ok(out)
-}
 
 /// Hosts a, b and c, before the groups of each text.
 const HOSTS: &str =
     "define host{\nhost_name a\n}\ndefine host{\nhost_name b\n}\ndefine host{\nhost_name c\n}\n";
 
 /// Groups of hosts, and the members of each.
-const CASES: [(&str, &str); 28] = [
+const CASES: [Case; 28] = [
     ("", ""),
     ("define hostgroup{\nhostgroup_name g\n}\n", "g:\n"),
     (
@@ -180,20 +132,10 @@ const CASES: [(&str, &str); 28] = [
     ),
 ];
 
-/// The groups' members of the hosts and a text.
-fn host_groups(alloc: Global, groups: &str) -> Result<String, AllocError> {
-    let text = [HOSTS, groups].concat(alloc)?;
-    result_text(alloc, text.as_str(), GroupKind::HostGroups)
-}
-
 #[test]
-fn groups_have_the_members_that_the_rules_give(rt: HostRuntime) -> Result<(), Fail> {
-    for case in &CASES {
-        let text = case.0;
-        let found = host_groups(rt.alloc(), text)?;
-        assert_eq!(rt; found.as_str(), case.1, "{text}");
-    }
-    Ok(())
+fn groups_have_the_members_that_the_rules_give(rt: HostRuntime) -> Result<(), AllocError> {
+    let what = What::Groups(GroupKind::HostGroups);
+    all_show(&rt, rt.alloc(), HOSTS, &CASES, what)
 }
 
 /// Contacts in two groups, one of them in the other.
@@ -201,104 +143,87 @@ const CONTACTS: &str =
     "define contact{\ncontact_name ann\ncontactgroups g\n}\ndefine contact{\ncontact_name bob\n}\ndefine contactgroup{\ncontactgroup_name g\ncontactgroup_members h\n}\ndefine contactgroup{\ncontactgroup_name h\nmembers bob,ann\n}\n";
 
 #[test]
-fn groups_of_contacts_have_theirs(rt: HostRuntime) -> Result<(), Fail> {
-    let found = result_text(rt.alloc(), CONTACTS, GroupKind::ContactGroups)?;
-    assert_eq!(rt; found.as_str(), "g:ann.bob.\nh:ann.bob.\n");
-    Ok(())
+fn groups_of_contacts_have_theirs(rt: HostRuntime) -> Result<(), AllocError> {
+    let what = What::Groups(GroupKind::ContactGroups);
+    shows(&rt, rt.alloc(), CONTACTS, what, "g:ann.bob.\nh:ann.bob.\n")
 }
 
-/// A host, and a chain of so many groups, of which the last lists the host and the first group.
-fn chain(alloc: Global, groups: u32) -> Result<String, AllocError> {
-    let mut text = String::new(alloc);
+/// Adds a group that lists another.
+fn add_group(text: &mut String, group: u32, next: u32) -> Result<(), AllocError> {
+    write!(
+        text,
+        "define hostgroup{{\nhostgroup_name g{group}\nhostgroup_members g{next}\n}}\n"
+    )
+}
+
+/// Adds a host, and a chain of so many groups, of which the last lists the host and the first group.
+fn add_chain(text: &mut String, groups: u32) -> Result<(), AllocError> {
     text.push_str("define host{\nhost_name a\n}\n")?;
     for group in 0..groups {
-        let next = group + 1;
-        write!(
-            text,
-            "define hostgroup{{\nhostgroup_name g{group}\nhostgroup_members g{next}\n}}\n"
-        )?;
+        add_group(text, group, group + 1)?;
     }
     write!(
         text,
         "define hostgroup{{\nhostgroup_name g{groups}\nhostgroup_members g0\nmembers a\n}}\n"
-    )?;
-    Ok(text)
+    )
 }
 
-/// A host, and so many rows of two groups, each of which lists both of the next row; the last two list the host.
-fn diamonds(alloc: Global, rows: u32) -> Result<String, AllocError> {
-    let mut text = String::new(alloc);
+/// Adds a group that lists both of the next row.
+fn add_side(text: &mut String, side: &str, row: u32, next: u32) -> Result<(), AllocError> {
+    write!(
+        text,
+        "define hostgroup{{\nhostgroup_name {side}{row}\nhostgroup_members l{next},r{next}\n}}\n"
+    )
+}
+
+/// Adds a host, and so many rows of two groups, each of which lists both of the next row; the last two list the host.
+fn add_diamonds(text: &mut String, rows: u32) -> Result<(), AllocError> {
     text.push_str("define host{\nhost_name a\n}\n")?;
     for row in 0..rows {
-        let next = row + 1;
-        for side in ["l", "r"] {
-            write!(
-                text,
-                "define hostgroup{{\nhostgroup_name {side}{row}\nhostgroup_members l{next},r{next}\n}}\n"
-            )?;
-        }
+        add_side(text, "l", row, row + 1)?;
+        add_side(text, "r", row, row + 1)?;
     }
-    for side in ["l", "r"] {
-        write!(
-            text,
-            "define hostgroup{{\nhostgroup_name {side}{rows}\nmembers a\n}}\n"
-        )?;
-    }
-    Ok(text)
-}
-
-/// The members of the first group of a text.
-fn first_members(alloc: Global, text: &str) -> Result<String, AllocError> {
-    let mut out = String::new(alloc);
-    let Ok(blocks) = read(alloc, text.as_bytes()) else {
-        return Ok(out);
-    };
-    let Ok(templates) = Templates::new(alloc, blocks.as_slice()) else {
-        return Ok(out);
-    };
-    let mut groups = Groups::new(alloc, &templates, GroupKind::HostGroups)?;
-    show_group(alloc, &mut out, &mut groups, 0)?;
-    Ok(out)
+    write!(
+        text,
+        "define hostgroup{{\nhostgroup_name l{rows}\nmembers a\n}}\n"
+    )?;
+    write!(
+        text,
+        "define hostgroup{{\nhostgroup_name r{rows}\nmembers a\n}}\n"
+    )
 }
 
 #[test]
-fn long_chains_have_members(rt: HostRuntime) -> Result<(), Fail> {
-    let text = chain(rt.alloc(), 10_000)?;
-    assert_eq!(rt;
-        first_members(rt.alloc(), text.as_str())?.as_str(),
-        "g0:a.\n"
-    );
-    Ok(())
+fn long_chains_have_members(rt: HostRuntime) -> Result<(), AllocError> {
+    let mut text = String::new(rt.alloc());
+    add_chain(&mut text, 10_000)?;
+    shows(&rt, rt.alloc(), text.as_str(), What::FirstGroup, "g0:a.\n")
 }
 
 #[test]
-fn wide_diamonds_have_members(rt: HostRuntime) -> Result<(), Fail> {
-    let text = diamonds(rt.alloc(), 10_000)?;
-    assert_eq!(rt;
-        first_members(rt.alloc(), text.as_str())?.as_str(),
-        "l0:a.\n"
-    );
-    Ok(())
+fn wide_diamonds_have_members(rt: HostRuntime) -> Result<(), AllocError> {
+    let mut text = String::new(rt.alloc());
+    add_diamonds(&mut text, 10_000)?;
+    shows(&rt, rt.alloc(), text.as_str(), What::FirstGroup, "l0:a.\n")
 }
 
-/// What the entries of a list are, beside the names ann, bob and bob: whether they mean all, leave something
-/// out, or have one that none of the names is.
-fn list_text(alloc: Global, entries: &[&[u8]]) -> Result<String, AllocError> {
-    let mut listed = Vec::new(alloc);
-    for name in ["ann", "bob", "bob"] {
-        listed.push(name.as_bytes())?;
-    }
-    let names = Names::new(alloc, listed)?;
-    let mut out = String::new(alloc);
+/// The names ann, bob and bob.
+fn three_names(alloc: Global) -> Result<Names<'static>, AllocError> {
+    let names: [&[u8]; 3] = [b"ann", b"bob", b"bob"];
+    Names::new(alloc, Vec::from_slice(alloc, &names)?)
+}
+
+/// Adds what the entries of a list are, beside some names: whether they mean all, leave something out, or have one that none
+/// of the names is.
+fn add_list(out: &mut String, names: &Names<'_>, entries: &[&[u8]]) -> Result<(), AllocError> {
     let all = is_all(entries);
     let excludes = has_exclusion(entries);
     let unknown = names.has_unknown(entries);
-    write!(out, "{all} {excludes} {unknown}")?;
-    Ok(out)
+    write!(out, "{all} {excludes} {unknown}")
 }
 
 /// Lists of names, and what they are.
-const LISTS: [(&str, &str); 9] = [
+const LISTS: [Case; 9] = [
     ("", "false false false"),
     ("*", "true false false"),
     ("*,ann", "false false true"),
@@ -310,37 +235,32 @@ const LISTS: [(&str, &str); 9] = [
     ("an", "false false true"),
 ];
 
-#[test]
-fn lists_are_what_the_rules_give(rt: HostRuntime) -> Result<(), Fail> {
+/// Compares what a list is.
+fn list_is(
+    rt: &impl Abort,
+    alloc: Global,
+    names: &Names<'_>,
+    case: Case,
+) -> Result<(), AllocError> {
+    let list = entries(alloc, case.0.as_bytes())?;
+    let mut out = String::new(alloc);
+    add_list(&mut out, names, list.as_slice())?;
+    assert!(rt; out.as_str() == case.1, "{}", case.0);
+    Ok(())
+}
+
+/// Compares what each list is.
+fn lists_are(rt: &impl Abort, alloc: Global, names: &Names<'_>) -> Result<(), AllocError> {
     for case in &LISTS {
-        let text = case.0;
-        let list = entries(rt.alloc(), text.as_bytes())?;
-        let found = list_text(rt.alloc(), list.as_slice())?;
-        assert_eq!(rt; found.as_str(), case.1, "{text}");
+        list_is(rt, alloc, names, *case)?;
     }
     Ok(())
 }
 
-/// The names of the objects of a type, a line each: the place of the block, the number by which the name is
-/// found, and whether it stands before.
-fn objects_text(alloc: Global, text: &str, kind: BlockKind) -> Result<String, AllocError> {
-    let mut out = String::new(alloc);
-    let Ok(blocks) = read(alloc, text.as_bytes()) else {
-        return Ok(out);
-    };
-    let Ok(templates) = Templates::new(alloc, blocks.as_slice()) else {
-        return Ok(out);
-    };
-    let objects = Objects::new(alloc, &templates, kind)?;
-    for (number, place) in objects.places().iter().enumerate() {
-        let name = objects.names().name(number);
-        let found = objects.names().find(name).unwrap_or(99);
-        let doubled = objects.names().is_doubled(number);
-        let shown = text_or_mark(name);
-        let place = *place;
-        write!(out, "{place} {shown} {found} {doubled}\n")?;
-    }
-    Ok(out)
+#[test]
+fn lists_are_what_the_rules_give(rt: HostRuntime) -> Result<(), AllocError> {
+    let names = three_names(rt.alloc())?;
+    lists_are(&rt, rt.alloc(), &names)
 }
 
 /// Objects of several types, some of them doubled, and templates.
@@ -348,12 +268,14 @@ const OBJECTS: &str =
     "define host{\nhost_name a\n}\ndefine contact{\ncontact_name a\n}\ndefine host{\nname t\nregister 0\nhost_name b\n}\ndefine host{\nuse t\n}\ndefine host{\nhost_name a\n}\ndefine host{\nregister x\n}\n";
 
 #[test]
-fn objects_are_numbered_in_file_order(rt: HostRuntime) -> Result<(), Fail> {
+fn objects_are_numbered_in_file_order(rt: HostRuntime) -> Result<(), AllocError> {
     loop_adds_nothing();
-    let found = objects_text(rt.alloc(), OBJECTS, BlockKind::Host)?;
-    assert_eq!(rt;
-        found.as_str(),
-        "0 a 0 false\n3 b 1 false\n4 a 0 true\n5  3 false\n"
-    );
-    Ok(())
+    let wanted = "0 a 0 false\n3 b 1 false\n4 a 0 true\n5  3 false\n";
+    shows(
+        &rt,
+        rt.alloc(),
+        OBJECTS,
+        What::Objects(BlockKind::Host),
+        wanted,
+    )
 }

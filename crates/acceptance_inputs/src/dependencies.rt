@@ -1,11 +1,7 @@
 //! Notification dependencies that tests are run on.
 
-ghost use Rattle.std.specs.Prelude.{◌≡◌, length, IfOk, None};
-ghost use Rattle.due_model.specs.Objects.{object_id};
-
-use crate::configs::object;
+use crate::rows::{ObjectRow, objects_of};
 use due_model::config::{Dependency, ObjectId};
-use due_model::limits::MAX_OBJECTS;
 use due_model::objects::Objects;
 use due_model::state::{State, StateSet};
 use std::alloc::{AllocError, Global};
@@ -46,15 +42,7 @@ pub const WORKED: [State; 4] = [
 ];
 
 /// An entry of object `dependent` on object `master`, valid at every moment.
-pub fn entry(dependent: u16, master: u16, inherits: bool, states: StateSet) -> Dependency
-    ensures { result ≡ record {
-      dependent = object_id dependent;
-      master = object_id master;
-      inherits = inherits;
-      states = states;
-      period = None;
-    } }
-{
+pub fn entry(dependent: u16, master: u16, inherits: bool, states: StateSet) -> Dependency {
     Dependency {
         dependent: ObjectId(dependent),
         master: ObjectId(master),
@@ -65,15 +53,7 @@ pub fn entry(dependent: u16, master: u16, inherits: bool, states: StateSet) -> D
 }
 
 /// So many hosts, of one name.
-pub fn hosts(alloc: Global, count: u16) -> Result<Objects, AllocError>
-    ensures { IfOk result (λ objects. length objects ≡ count) }
-{
-    let mut hosts = Vec::new(alloc);
-    for _host in 0..count {
-        hosts.push(object(alloc, "host", None)?)?;
-    }
-    if hosts.len() > MAX_OBJECTS {
-        return Err(AllocError);
-    }
-    Objects::new(alloc, hosts)
+pub fn hosts(alloc: Global, count: u16) -> Result<Objects, AllocError> {
+    let rows = vec![in alloc; ObjectRow::PLAIN; usize::from(count)]?;
+    objects_of(alloc, rows.as_slice())
 }

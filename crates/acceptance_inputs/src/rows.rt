@@ -1,7 +1,6 @@
 //! Small configurations as tables, for the worked rows and for those that are generated.
 
-ghost use Rattle.std.specs.Prelude.{◌≡◌, length, IfOk};
-
+use crate::periods::Row;
 use due_model::config::{
     Config, Contact, ContactId, ContactList, Dependency, Escalation, Lane, LaneId, Object,
     ObjectId, Period, PeriodId, Range, Rights,
@@ -81,6 +80,20 @@ pub struct ObjectRow {
     pub contacts: &'static [ContactId],
 }
 
+impl ObjectRow {
+    /// A host that nobody is told of.
+    pub const PLAIN: ObjectRow = ObjectRow {
+        name: "host",
+        host: None,
+        enabled: true,
+        options: OptionLetters::ALL,
+        period: None,
+        interval: 60,
+        delay: 0,
+        contacts: &[],
+    };
+}
+
 /// A period with one range, the same on all seven days.
 #[derive(Clone, Copy)]
 pub struct PeriodRow {
@@ -112,6 +125,29 @@ pub struct Rows<'a> {
     pub dependencies: &'a [Dependency],
 }
 
+impl Rows<'static> {
+    /// Nothing.
+    pub const NONE: Rows<'static> = Rows {
+        lanes: 0,
+        contacts: &[],
+        objects: &[],
+        periods: &[],
+        escalations: &[],
+        dependencies: &[],
+    };
+}
+
+/// What a configuration is made of.
+#[derive(Drop)]
+struct Parts {
+    objects: Vec<Object>,
+    contacts: Vec<Contact>,
+    lanes: Vec<Lane>,
+    periods: Vec<Period>,
+    escalations: Vec<Escalation>,
+    dependencies: Vec<Dependency>,
+}
+
 fn rights(alloc: Global, row: RightsRow) -> Result<Rights, AllocError> {
     Ok(Rights {
         enabled: row.enabled,
@@ -121,7 +157,7 @@ fn rights(alloc: Global, row: RightsRow) -> Result<Rights, AllocError> {
     })
 }
 
-fn contact(alloc: Global, row: ContactRow) -> Result<Contact, AllocError> {
+fn contact(alloc: Global, row: &ContactRow) -> Result<Contact, AllocError> {
     let name = Text::new(alloc, row.name.as_bytes())?;
     let hosts = rights(alloc, row.hosts())?;
     let services = rights(alloc, row.services.unwrap_or(row.hosts()))?;
@@ -132,17 +168,18 @@ fn contact(alloc: Global, row: ContactRow) -> Result<Contact, AllocError> {
     })
 }
 
-fn contacts(alloc: Global, rows: &[ContactRow]) -> Result<Sequence<Contact>, AllocError>
-    ensures { IfOk result (λ made. length made ≡ length rows.now) }
-{
-    let mut made = Vec::new(alloc);
+fn add_contacts(
+    alloc: Global,
+    made: &mut Vec<Contact>,
+    rows: &[ContactRow],
+) -> Result<(), AllocError> {
     for row in rows {
-        made.push(contact(alloc, *row)?)?;
+        made.push(contact(alloc, row)?)?;
     }
-    Ok(Sequence::new(made))
+    Ok(())
 }
 
-fn object(alloc: Global, row: ObjectRow) -> Result<Object, AllocError> {
+fn object(alloc: Global, row: &ObjectRow) -> Result<Object, AllocError> {
     let name = Text::new(alloc, row.name.as_bytes())?;
     Ok(Object {
         name,
@@ -156,48 +193,83 @@ fn object(alloc: Global, row: ObjectRow) -> Result<Object, AllocError> {
     })
 }
 
-fn objects(alloc: Global, rows: &[ObjectRow]) -> Result<Objects, AllocError> {
-    let mut made = Vec::new(alloc);
+fn add_objects(
+    alloc: Global,
+    made: &mut Vec<Object>,
+    rows: &[ObjectRow],
+) -> Result<(), AllocError> {
     for row in rows {
-        made.push(object(alloc, *row)?)?;
+        made.push(object(alloc, row)?)?;
     }
-    made.truncate(MAX_OBJECTS);
-    Objects::new(alloc, made)
+    Ok(())
 }
 
-fn ranges(alloc: Global, range: Range) -> Result<Sequence<Range>, AllocError> {
-    Ok(Sequence::new(Vec::from_slice(alloc, &[range])?))
+/// A week without ranges.
+fn no_days(alloc: Global) -> [Sequence<Range>; 7] {
+    [
+        Sequence::new(Vec::new(alloc)),
+        Sequence::new(Vec::new(alloc)),
+        Sequence::new(Vec::new(alloc)),
+        Sequence::new(Vec::new(alloc)),
+        Sequence::new(Vec::new(alloc)),
+        Sequence::new(Vec::new(alloc)),
+        Sequence::new(Vec::new(alloc)),
+    ]
 }
 
-fn period(alloc: Global, row: PeriodRow) -> Result<Period, AllocError> {
-    let days = [
-        ranges(alloc, row.range)?,
-        ranges(alloc, row.range)?,
-        ranges(alloc, row.range)?,
-        ranges(alloc, row.range)?,
-        ranges(alloc, row.range)?,
-        ranges(alloc, row.range)?,
-        ranges(alloc, row.range)?,
-    ];
-    let name = Text::new(alloc, "work".as_bytes())?;
-    Ok(Period {
-        name,
-        days,
-        excludes: Sequence::new(Vec::from_slice(alloc, row.excludes)?),
-    })
+/// Gives the weekdays from one to another their ranges.
+fn set_days(
+    alloc: Global,
+    days: &mut [Sequence<Range>; 7],
+    first: u8,
+    last: u8,
+    ranges: &[Range],
+) -> Result<(), AllocError> {
+    for weekday in 0..7u8 {
+        if first <= weekday && weekday <= last {
+            days[usize::from(weekday)] = Sequence::new(Vec::from_slice(alloc, ranges)?);
+        }
+    }
+    Ok(())
 }
 
-fn periods(alloc: Global, rows: &[PeriodRow]) -> Result<Sequence<Period>, AllocError>
-    ensures { IfOk result (λ made. length made ≡ length rows.now) }
-{
-    let mut made = Vec::new(alloc);
+/// A period with these ranges on the weekdays from one to another.
+fn period(
+    alloc: Global,
+    first: u8,
+    last: u8,
+    ranges: &[Range],
+    excludes: &[PeriodId],
+) -> Result<Period, AllocError> {
+    let mut period = Period {
+        name: Text::new(alloc, b"work")?,
+        days: no_days(alloc),
+        excludes: Sequence::new(Vec::from_slice(alloc, excludes)?),
+    };
+    set_days(alloc, &mut period.days, first, last, ranges)?;
+    Ok(period)
+}
+
+fn add_periods(
+    alloc: Global,
+    made: &mut Vec<Period>,
+    rows: &[PeriodRow],
+) -> Result<(), AllocError> {
     for row in rows {
-        made.push(period(alloc, *row)?)?;
+        made.push(period(alloc, 0, 6, &[row.range], row.excludes)?)?;
     }
-    Ok(Sequence::new(made))
+    Ok(())
 }
 
-fn escalation(alloc: Global, row: EscalationRow) -> Result<Escalation, AllocError> {
+/// The same of rows with weekdays.
+fn add_week_periods(alloc: Global, made: &mut Vec<Period>, rows: &[Row]) -> Result<(), AllocError> {
+    for row in rows {
+        made.push(period(alloc, row.first, row.last, row.ranges, row.excludes)?)?;
+    }
+    Ok(())
+}
+
+fn escalation(alloc: Global, row: &EscalationRow) -> Result<Escalation, AllocError> {
     Ok(Escalation {
         object: row.object,
         first: row.first,
@@ -209,51 +281,79 @@ fn escalation(alloc: Global, row: EscalationRow) -> Result<Escalation, AllocErro
     })
 }
 
-fn escalations(alloc: Global, rows: &[EscalationRow]) -> Result<Sequence<Escalation>, AllocError>
-    ensures { IfOk result (λ made. length made ≡ length rows.now) }
-{
-    let mut made = Vec::new(alloc);
+fn add_escalations(
+    alloc: Global,
+    made: &mut Vec<Escalation>,
+    rows: &[EscalationRow],
+) -> Result<(), AllocError> {
     for row in rows {
-        made.push(escalation(alloc, *row)?)?;
+        made.push(escalation(alloc, row)?)?;
     }
-    Ok(Sequence::new(made))
+    Ok(())
 }
 
-fn lanes(alloc: Global, count: u8) -> Result<Sequence<Lane>, AllocError>
-    ensures { IfOk result (λ made. length made ≡ count) }
-{
-    let mut made = Vec::new(alloc);
+fn add_lanes(alloc: Global, made: &mut Vec<Lane>, count: u8) -> Result<(), AllocError> {
     for _lane in 0..count {
-        let name = Text::new(alloc, "mail".as_bytes())?;
+        let name = Text::new(alloc, b"mail")?;
         made.push(Lane { name })?;
     }
-    Ok(Sequence::new(made))
+    Ok(())
+}
+
+/// Adds what the rows say.
+fn fill(alloc: Global, parts: &mut Parts, rows: &Rows<'_>) -> Result<(), AllocError> {
+    add_objects(alloc, &mut parts.objects, rows.objects)?;
+    add_contacts(alloc, &mut parts.contacts, rows.contacts)?;
+    add_lanes(alloc, &mut parts.lanes, rows.lanes)?;
+    add_periods(alloc, &mut parts.periods, rows.periods)?;
+    add_escalations(alloc, &mut parts.escalations, rows.escalations)?;
+    parts.dependencies.extend_from_slice(rows.dependencies)
+}
+
+/// These objects, the first 65,535 of them, with an index of their names.
+pub fn objects_of(alloc: Global, rows: &[ObjectRow]) -> Result<Objects, AllocError> {
+    let mut made = Vec::new(alloc);
+    add_objects(alloc, &mut made, rows)?;
+    made.truncate(MAX_OBJECTS);
+    Objects::new(alloc, made)
+}
+
+/// The configuration of these parts.
+fn of_parts(alloc: Global, parts: Parts) -> Result<Config, AllocError> {
+    let mut objects = parts.objects;
+    objects.truncate(MAX_OBJECTS);
+    Ok(Config {
+        objects: Objects::new(alloc, objects)?,
+        contacts: Sequence::new(parts.contacts),
+        lanes: Sequence::new(parts.lanes),
+        periods: Sequence::new(parts.periods),
+        escalations: Sequence::new(parts.escalations),
+        dependencies: Sequence::new(parts.dependencies),
+    })
+}
+
+/// No parts.
+fn no_parts(alloc: Global) -> Parts {
+    Parts {
+        objects: Vec::new(alloc),
+        contacts: Vec::new(alloc),
+        lanes: Vec::new(alloc),
+        periods: Vec::new(alloc),
+        escalations: Vec::new(alloc),
+        dependencies: Vec::new(alloc),
+    }
 }
 
 /// The configuration of these rows, of the first 65,535 objects. It need not be accepted: `is_accepted` tells.
-pub fn config_of(alloc: Global, rows: Rows<'_>) -> Result<Config, AllocError>
-    ensures contacts { IfOk result (λ config.
-        length config.contacts ≡ length rows.entry.contacts.now) }
-    ensures lanes { IfOk result (λ config. length config.lanes ≡ rows.entry.lanes) }
-    ensures periods { IfOk result (λ config.
-        length config.periods ≡ length rows.entry.periods.now) }
-    ensures escalations { IfOk result (λ config.
-        length config.escalations ≡ length rows.entry.escalations.now) }
-    ensures dependencies { IfOk result (λ config.
-        config.dependencies ≡ rows.entry.dependencies.now) }
-{
-    let objects = objects(alloc, rows.objects)?;
-    let contacts = contacts(alloc, rows.contacts)?;
-    let lanes = lanes(alloc, rows.lanes)?;
-    let periods = periods(alloc, rows.periods)?;
-    let escalations = escalations(alloc, rows.escalations)?;
-    let dependencies = Sequence::new(Vec::from_slice(alloc, rows.dependencies)?);
-    Ok(Config {
-        objects,
-        contacts,
-        lanes,
-        periods,
-        escalations,
-        dependencies,
-    })
+pub fn config_of(alloc: Global, rows: Rows<'_>) -> Result<Config, AllocError> {
+    let mut parts = no_parts(alloc);
+    fill(alloc, &mut parts, &rows)?;
+    of_parts(alloc, parts)
+}
+
+/// The configuration of these periods alone. It need not be accepted.
+pub(crate) fn config_of_periods(alloc: Global, rows: &[Row]) -> Result<Config, AllocError> {
+    let mut parts = no_parts(alloc);
+    add_week_periods(alloc, &mut parts.periods, rows)?;
+    of_parts(alloc, parts)
 }

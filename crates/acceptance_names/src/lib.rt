@@ -6,3 +6,5 @@
 mod names;
 #[cfg(test)]
 mod pairs;
+#[cfg(test)]
+mod shown;

@@ -1,66 +1,19 @@
 //! Objects of one name and names that nothing has, as the manual's rules give them.
 
-ghost use Rattle.std.specs.Prelude.{◌≡◌};
-
-use object_inheritance::templates::Templates;
-use object_names::doubled::first_doubled;
-use object_names::named::NamedObjects;
-use object_names::unknown::first_unknown;
-use object_reader::block::Block;
-use object_reader::reading::read;
+use crate::shown::{Case, What, all_show, is_shown};
 use std::alloc::{AllocError, Global};
 use std::fmt::Write;
-use std::test::Fail;
-
-/// A place, or `-`.
-fn show_place(out: &mut String, place: Option<usize>) -> Result<(), AllocError> {
-    match place {
-        None => out.push_str("-"),
-        Some(place) => write!(out, "{place}"),
-    }
-}
-
-/// The places of the first doubled block and of the first that names something that isn't there.
-fn show_both<'a>(
-    alloc: Global,
-    out: &mut String,
-    templates: &Templates<'a>,
-    objects: &NamedObjects<'a>,
-) -> Result<(), AllocError>
-    requires { objects.now ≡ templates.now }
-{
-    show_place(out, first_doubled(objects))?;
-    out.push_str(" ")?;
-    show_place(out, first_unknown(alloc, templates, objects)?)
-}
-
-/// The same of these blocks.
-fn show(alloc: Global, out: &mut String, blocks: &[Block]) -> Result<(), AllocError> {
-    let Ok(templates) = Templates::new(alloc, blocks) else {
-        return out.push_str("templates");
-    };
-    let objects = NamedObjects::new(alloc, &templates)?;
-    show_both(alloc, out, &templates, &objects)
-}
+use std::process::Abort;
 
 /// Objects a, b, g, v, ann, team, day and mail, one of each type and two hosts, after the blocks of each text.
 const OBJECTS: &str =
     "define host{\nhost_name a\n}\ndefine host{\nhost_name b\n}\ndefine hostgroup{\nhostgroup_name g\n}\ndefine servicegroup{\nservicegroup_name v\n}\ndefine contact{\ncontact_name ann\n}\ndefine contactgroup{\ncontactgroup_name team\n}\ndefine timeperiod{\ntimeperiod_name day\n}\ndefine command{\ncommand_name mail\n}\n";
 
-/// The places in a text with these objects after it.
-fn places_in(alloc: Global, text: &str) -> Result<String, AllocError> {
-    let all = [text, OBJECTS].concat(alloc)?;
-    let mut out = String::new(alloc);
-    match read(alloc, all.as_str().as_bytes()) {
-        Ok(blocks) => show(alloc, &mut out, blocks.as_slice())?,
-        Err(_) => out.push_str("unread")?,
-    }
-    Ok(out)
-}
+/// A type of block and a directive by which it names objects; a name that is there; and what is found where the value is
+/// `*` alone.
+type Directive = (&'static str, &'static str, &'static str, &'static str);
 
-/// Each type of block and each directive by which it names objects; a name that is there; and what is found where the
-/// value is `*` alone.
-const DIRECTIVES: [(&str, &str, &str, &str); 44] = [
+const DIRECTIVES: [Directive; 44] = [
     ("host", "hostgroups", "g", "- -"),
     ("host", "contacts", "ann", "- -"),
     ("host", "contact_groups", "team", "- -"),
@@ -112,48 +65,76 @@ const DIRECTIVES: [(&str, &str, &str, &str); 44] = [
     ("servicedependency", "dependency_period", "day", "- 0"),
 ];
 
-/// A text with one block, whose directive has the value.
-fn one_block(
-    alloc: Global,
-    kind: &str,
-    directive: &str,
-    value: &str,
-) -> Result<String, AllocError> {
-    let mut text = String::new(alloc);
-    write!(
-        text,
-        "define {kind}{{\nservice_description z\n{directive} {value}\n}}\n"
-    )?;
-    Ok(text)
+/// Whether this is found in a text with these objects after it.
+fn is_found(alloc: Global, text: &mut String, wanted: &str) -> Result<bool, AllocError> {
+    text.push_str(OBJECTS)?;
+    is_shown(alloc, text.as_str(), What::Names, wanted)
 }
 
-/// What is found in a text with one such block.
-fn found_by(alloc: Global, kind: &str, directive: &str, value: &str) -> Result<String, AllocError> {
-    let text = one_block(alloc, kind, directive, value)?;
-    places_in(alloc, text.as_str())
+/// Adds a block, whose directive has the value.
+fn add_block(
+    text: &mut String,
+    kind: &str,
+    directive: &str,
+    plus: &str,
+    value: &str,
+) -> Result<(), AllocError> {
+    write!(
+        text,
+        "define {kind}{{\nservice_description z\n{directive} {plus}{value}\n}}\n"
+    )
+}
+
+/// Whether this is found in a text with one such block.
+fn is_found_by(
+    alloc: Global,
+    row: Directive,
+    plus: &str,
+    value: &str,
+    wanted: &str,
+) -> Result<bool, AllocError> {
+    let mut text = String::new(alloc);
+    add_block(&mut text, row.0, row.1, plus, value)?;
+    is_found(alloc, &mut text, wanted)
 }
 
 /// Whether the name is found, another isn't, and `*` alone is as the row says.
-fn is_as_said(alloc: Global, row: &(&str, &str, &str, &str)) -> Result<bool, AllocError> {
-    let known = found_by(alloc, row.0, row.1, row.2)?;
-    let other = found_by(alloc, row.0, row.1, "x")?;
-    let all = found_by(alloc, row.0, row.1, "*")?;
-    Ok(known.as_str() == "- -" && other.as_str() == "- 0" && all.as_str() == row.3)
+fn is_as_said(alloc: Global, row: Directive) -> Result<bool, AllocError> {
+    let known = is_found_by(alloc, row, "", row.2, "- -")?;
+    let other = is_found_by(alloc, row, "", "x", "- 0")?;
+    let all = is_found_by(alloc, row, "", "*", row.3)?;
+    Ok(known && other && all)
 }
 
-/// What is found in a text with a template, whose directive names what isn't there, and such a block that uses it.
-fn found_beside_template(
-    alloc: Global,
+/// Adds a template, whose directive names what isn't there, and such a block that uses it.
+fn add_beside_template(
+    text: &mut String,
     kind: &str,
     directive: &str,
+    plus: &str,
     value: &str,
-) -> Result<String, AllocError> {
-    let mut text = String::new(alloc);
+) -> Result<(), AllocError> {
     write!(
         text,
-        "define {kind}{{\nname t\nregister 0\n{directive} x\n}}\ndefine {kind}{{\nuse t\n{directive} {value}\n}}\n"
+        "define {kind}{{\nname t\nregister 0\n{directive} x\n}}\n"
     )?;
-    places_in(alloc, text.as_str())
+    write!(
+        text,
+        "define {kind}{{\nuse t\n{directive} {plus}{value}\n}}\n"
+    )
+}
+
+/// Whether this is found in a text with both.
+fn is_found_beside_template(
+    alloc: Global,
+    row: Directive,
+    plus: &str,
+    value: &str,
+    wanted: &str,
+) -> Result<bool, AllocError> {
+    let mut text = String::new(alloc);
+    add_beside_template(&mut text, row.0, row.1, plus, value)?;
+    is_found(alloc, &mut text, wanted)
 }
 
 /// What is found where the value is a name that is there after a `+`: a list may begin so, a period's name may not.
@@ -167,30 +148,26 @@ fn found_after_plus(directive: &str) -> &'static str {
 
 /// Whether `null` names nothing, whatever a template gives, and a `+` begins lists alone, which are added to what the
 /// template gives.
-fn is_added_as_said(alloc: Global, row: &(&str, &str, &str, &str)) -> Result<bool, AllocError> {
-    let added = ["+", row.2].concat(alloc)?;
-    let known = found_by(alloc, row.0, row.1, added.as_str())?;
-    let other = found_by(alloc, row.0, row.1, "+x")?;
-    let none = found_beside_template(alloc, row.0, row.1, "null")?;
-    let both = found_beside_template(alloc, row.0, row.1, added.as_str())?;
-    let named = known.as_str() == found_after_plus(row.1) && other.as_str() == "- 0";
-    Ok(named && none.as_str() == "- -" && both.as_str() == "- 1")
+fn is_added_as_said(alloc: Global, row: Directive) -> Result<bool, AllocError> {
+    let known = is_found_by(alloc, row, "+", row.2, found_after_plus(row.1))?;
+    let other = is_found_by(alloc, row, "+", "x", "- 0")?;
+    let none = is_found_beside_template(alloc, row, "", "null", "- -")?;
+    let both = is_found_beside_template(alloc, row, "+", row.2, "- 1")?;
+    Ok(known && other && none && both)
 }
 
 #[test]
-fn each_directive_names_objects_of_one_type(rt: HostRuntime) -> Result<(), Fail> {
+fn each_directive_names_objects_of_one_type(rt: HostRuntime) -> Result<(), AllocError> {
     for row in &DIRECTIVES {
-        let directive = row.1;
-        let said = is_as_said(rt.alloc(), row)?;
-        assert!(rt; said, "{directive}");
-        let added = is_added_as_said(rt.alloc(), row)?;
-        assert!(rt; added, "null and + of {directive}");
+        let said = is_as_said(rt.alloc(), *row)?;
+        let added = is_added_as_said(rt.alloc(), *row)?;
+        assert!(rt; said && added, "{}; null and +: {added}", row.1);
     }
     Ok(())
 }
 
 /// Blocks, and the places of the first that is doubled and of the first that names something that isn't there.
-const CASES: [(&str, &str); 42] = [
+const CASES: [Case; 42] = [
     ("", "- -"),
     // Two of one name, and of three the second.
     (
@@ -368,11 +345,6 @@ const CASES: [(&str, &str); 42] = [
 ];
 
 #[test]
-fn the_first_of_each_fault_is_found(rt: HostRuntime) -> Result<(), Fail> {
-    for case in &CASES {
-        let text = case.0;
-        let found = places_in(rt.alloc(), text)?;
-        assert_eq!(rt; found.as_str(), case.1, "{text}");
-    }
-    Ok(())
+fn the_first_of_each_fault_is_found(rt: HostRuntime) -> Result<(), AllocError> {
+    all_show(&rt, rt.alloc(), &CASES, OBJECTS, What::Names)
 }

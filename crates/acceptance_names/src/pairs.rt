@@ -1,56 +1,9 @@
 //! The members of service groups, as the manual's rules give them.
 
-ghost use Rattle.std.specs.Prelude.{◌≡◌};
-ghost use Rattle.object_groups.specs.declared.groups.GroupKind.TheVariants.{HostGroups};
-
-use object_groups::groups::{GroupKind, Groups};
-use object_inheritance::templates::Templates;
-use object_pairs::members::services_named;
-use object_pairs::unknown::first_unknown_member;
-use object_reader::block::Block;
-use object_reader::reading::read;
-use object_services::blocks::ServiceBlocks;
-use object_services::numbers::ServiceNumbers;
-use object_services::services::ServiceHosts;
-use object_values::values::entries;
+use crate::shown::{Case, What, all_show, is_shown};
 use std::alloc::{AllocError, Global};
 use std::fmt::Write;
-use std::test::Fail;
-
-/// The place of the first service group with members that aren't pairs, where these are the service blocks.
-fn show_with_services<'a>(
-    alloc: Global,
-    out: &mut String,
-    templates: &Templates<'a>,
-    services: &ServiceBlocks<'a>,
-) -> Result<(), AllocError>
-    requires { services.now ≡ templates.now }
-{
-    let mut hosts = Groups::new(alloc, templates, GroupKind::HostGroups)?;
-    match first_unknown_member(alloc, templates, services, &mut hosts)? {
-        None => out.push_str("-"),
-        Some(place) => write!(out, "{place}"),
-    }
-}
-
-/// The same of blocks.
-fn show(alloc: Global, out: &mut String, blocks: &[Block]) -> Result<(), AllocError> {
-    let Ok(templates) = Templates::new(alloc, blocks) else {
-        return out.push_str("templates");
-    };
-    let services = ServiceBlocks::new(alloc, &templates)?;
-    show_with_services(alloc, out, &templates, &services)
-}
-
-/// The same of a text.
-fn place_in(alloc: Global, text: &str) -> Result<String, AllocError> {
-    let mut out = String::new(alloc);
-    match read(alloc, text.as_bytes()) {
-        Ok(blocks) => show(alloc, &mut out, blocks.as_slice())?,
-        Err(_) => out.push_str("unread")?,
-    }
-    Ok(out)
-}
+use std::process::Abort;
 
 /// Host a has service s, host b, which is in group g, service t; and both have service u by two blocks. Service w is
 /// a template's alone.
@@ -58,7 +11,7 @@ const SERVICES: &str =
     "define host{\nhost_name a\n}\ndefine host{\nhost_name b\nhostgroups g\n}\ndefine hostgroup{\nhostgroup_name g\n}\ndefine service{\nservice_description s\nhost_name a\n}\ndefine service{\nservice_description t\nhostgroup_name g\n}\ndefine service{\nservice_description u\nhost_name b\n}\ndefine service{\nservice_description u\nhost_name a\n}\ndefine service{\nservice_description w\nhost_name *\nregister 0\nname w\n}\n";
 
 /// The members of a service group, and the place of the first that isn't one of services.
-const MEMBERS: [(&str, &str); 22] = [
+const MEMBERS: [Case; 22] = [
     ("a,s", "-"),
     (" a , s ,, b,t,", "-"),
     ("b,u,a,u", "-"),
@@ -88,24 +41,26 @@ const MEMBERS: [(&str, &str); 22] = [
     ("a,null", "0"),
 ];
 
+/// Whether this is found in a text with a service group of these members before those services.
+fn is_found(alloc: Global, case: Case) -> Result<bool, AllocError> {
+    let mut text = String::from_str(alloc, "define servicegroup{\nservicegroup_name v\nmembers ")?;
+    text.push_str(case.0)?;
+    text.push_str("\n}\n")?;
+    text.push_str(SERVICES)?;
+    is_shown(alloc, text.as_str(), What::Members, case.1)
+}
+
 #[test]
-fn members_are_hosts_and_services_by_turns(rt: HostRuntime) -> Result<(), Fail> {
+fn members_are_hosts_and_services_by_turns(rt: HostRuntime) -> Result<(), AllocError> {
     for case in &MEMBERS {
-        let members = case.0;
-        let mut all = String::new(rt.alloc());
-        write!(
-            all,
-            "define servicegroup{{\nservicegroup_name v\nmembers {members}\n}}\n"
-        )?;
-        all.push_str(SERVICES)?;
-        let found = place_in(rt.alloc(), all.as_str())?;
-        assert_eq!(rt; found.as_str(), case.1, "{members}");
+        let found = is_found(rt.alloc(), *case)?;
+        assert!(rt; found, "{}", case.0);
     }
     Ok(())
 }
 
 /// Service groups, before those services.
-const GROUPS: [(&str, &str); 6] = [
+const GROUPS: [Case; 6] = [
     ("define servicegroup{\nservicegroup_name v\n}\n", "-"),
     (
         "define servicegroup{\nservicegroup_name v\nmembers a,s\n}\ndefine servicegroup{\nservicegroup_name w\nmembers a,x\n}\ndefine servicegroup{\nservicegroup_name x\nmembers a\n}\n",
@@ -131,19 +86,12 @@ const GROUPS: [(&str, &str); 6] = [
 ];
 
 #[test]
-fn the_first_service_group_is_found(rt: HostRuntime) -> Result<(), Fail> {
-    for case in &GROUPS {
-        let text = case.0;
-        let all = [text, SERVICES].concat(rt.alloc())?;
-        let found = place_in(rt.alloc(), all.as_str())?;
-        assert_eq!(rt; found.as_str(), case.1, "{text}");
-    }
-    Ok(())
+fn the_first_service_group_is_found(rt: HostRuntime) -> Result<(), AllocError> {
+    all_show(&rt, rt.alloc(), &GROUPS, SERVICES, What::Members)
 }
 
-/// So many hosts, and so many service blocks with all of them, of different descriptions.
-fn site(alloc: Global, hosts: u32, services: u32) -> Result<String, AllocError> {
-    let mut out = String::new(alloc);
+/// Adds so many hosts, and so many service blocks with all of them, of different descriptions.
+fn add_site(out: &mut String, hosts: u32, services: u32) -> Result<(), AllocError> {
     for host in 0..hosts {
         write!(out, "define host{{\nhost_name {host}\n}}\n")?;
     }
@@ -153,84 +101,34 @@ fn site(alloc: Global, hosts: u32, services: u32) -> Result<String, AllocError> 
             "define service{{\nhost_name *\nservice_description {service}\n}}\n"
         )?;
     }
-    Ok(out)
+    Ok(())
 }
+
+/// Whether this is found after 300 hosts with 300 services each.
+fn is_found_after_site(alloc: Global, groups: &str, wanted: &str) -> Result<bool, AllocError> {
+    let mut text = String::new(alloc);
+    add_site(&mut text, 300, 300)?;
+    text.push_str(groups)?;
+    is_shown(alloc, text.as_str(), What::Members, wanted)
+}
+
+const INNER: &str = "define servicegroup{\nservicegroup_name v\nmembers 299,299\n}\n";
+
+const OUTER: &str =
+    "define servicegroup{\nservicegroup_name v\nmembers 299,299\n}\ndefine servicegroup{\nservicegroup_name w\nmembers 0,300\n}\n";
 
 /// With 300 hosts and 300 services each there are more objects than the limit, and members are found all the same.
 #[test]
-fn members_are_found_past_the_limit_of_objects(rt: HostRuntime) -> Result<(), Fail> {
-    let mut text = site(rt.alloc(), 300, 300)?;
-    text.push_str("define servicegroup{\nservicegroup_name v\nmembers 299,299\n}\n")?;
-    let found = place_in(rt.alloc(), text.as_str())?;
-    assert_eq!(rt; found.as_str(), "-");
-    text.push_str("define servicegroup{\nservicegroup_name w\nmembers 0,300\n}\n")?;
-    let found = place_in(rt.alloc(), text.as_str())?;
-    assert_eq!(rt; found.as_str(), "601");
+fn members_are_found_past_the_limit_of_objects(rt: HostRuntime) -> Result<(), AllocError> {
+    let inner = is_found_after_site(rt.alloc(), INNER, "-")?;
+    let outer = is_found_after_site(rt.alloc(), OUTER, "601")?;
+    assert!(rt; inner && outer, "{inner} {outer}");
     Ok(())
-}
-
-/// The places of the services that members name.
-fn show_named<'a>(
-    alloc: Global,
-    out: &mut String,
-    services: &ServiceBlocks<'a>,
-    hosts: &Groups<'a>,
-    lists: &ServiceHosts,
-    members: &'a [u8],
-) -> Result<(), AllocError> {
-    let numbers = ServiceNumbers::new(alloc, services.objects().names(), lists)?;
-    let list = entries(alloc, members)?;
-    let named = services_named(alloc, hosts.objects().names(), &numbers, list.as_slice())?;
-    for place in named.as_slice() {
-        write!(out, "{place}.")?;
-    }
-    Ok(())
-}
-
-/// The same, where these are the service blocks.
-fn show_named_in<'a>(
-    alloc: Global,
-    out: &mut String,
-    templates: &Templates<'a>,
-    services: &ServiceBlocks<'a>,
-    members: &'a [u8],
-) -> Result<(), AllocError>
-    requires { services.now ≡ templates.now }
-{
-    let mut hosts = Groups::new(alloc, templates, GroupKind::HostGroups)?;
-    match ServiceHosts::new(alloc, services, &mut hosts) {
-        Ok(lists) => show_named(alloc, out, services, &hosts, &lists, members),
-        Err(_) => out.push_str("too many"),
-    }
-}
-
-/// The same of blocks.
-fn show_named_of<'a>(
-    alloc: Global,
-    out: &mut String,
-    blocks: &'a [Block],
-    members: &'a [u8],
-) -> Result<(), AllocError> {
-    let Ok(templates) = Templates::new(alloc, blocks) else {
-        return out.push_str("templates");
-    };
-    let services = ServiceBlocks::new(alloc, &templates)?;
-    show_named_in(alloc, out, &templates, &services, members)
-}
-
-/// The same among those services.
-fn named_by(alloc: Global, members: &str) -> Result<String, AllocError> {
-    let mut out = String::new(alloc);
-    match read(alloc, SERVICES.as_bytes()) {
-        Ok(blocks) => { show_named_of(alloc, &mut out, blocks.as_slice(), members.as_bytes())? }
-        Err(_) => out.push_str("unread")?,
-    }
-    Ok(out)
 }
 
 /// Members, and the places of the services that they name: service s is the first, t the second, u of b the third, and u
 /// of a the fourth.
-const NAMED: [(&str, &str); 5] = [
+const NAMED: [Case; 5] = [
     ("", ""),
     ("a,s", "0."),
     ("a,u,b,t,b,u", "3.1.2."),
@@ -239,11 +137,10 @@ const NAMED: [(&str, &str); 5] = [
 ];
 
 #[test]
-fn members_name_services_by_their_places(rt: HostRuntime) -> Result<(), Fail> {
+fn members_name_services_by_their_places(rt: HostRuntime) -> Result<(), AllocError> {
     for case in &NAMED {
-        let members = case.0;
-        let found = named_by(rt.alloc(), members)?;
-        assert_eq!(rt; found.as_str(), case.1, "{members}");
+        let found = is_shown(rt.alloc(), SERVICES, What::Named(case.0), case.1)?;
+        assert!(rt; found, "{}", case.0);
     }
     Ok(())
 }

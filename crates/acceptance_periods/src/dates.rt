@@ -1,12 +1,11 @@
 //! The faults of day lines and lines of dates, as the manual's rules give them.
 
-use crate::faults::{fault_text, have_faults};
+use crate::shown::{Case, What, all_show, shows};
 use std::alloc::{AllocError, Global};
 use std::process::Abort;
-use std::test::Fail;
 
 /// Lines of a period with the name p, and its fault.
-const LINES: [(&str, &str); 34] = [
+const LINES: [Case; 34] = [
     ("monday 09:00-17:00", ""),
     ("monday 9:00-17", "1 BadRange"),
     ("monday 09:00-08:00", "1 BadRange"),
@@ -50,7 +49,7 @@ const LINES: [(&str, &str); 34] = [
 ];
 
 /// Texts, and the first fault of each.
-const DATES: [(&str, &str); 13] = [
+const DATES: [Case; 13] = [
     (
         "define timeperiod{\nday 1 00:00-24:00\n}\n",
         "1 MissingDirective",
@@ -105,28 +104,23 @@ const DATES: [(&str, &str); 13] = [
     ),
 ];
 
-/// A period with the name p and these lines.
-fn period_with(alloc: Global, lines: &str) -> Result<String, AllocError> {
-    format!(in alloc; "define timeperiod{{\ntimeperiod_name p\n{lines}\n}}\n")
+/// Compares the fault of a period with the name p and these lines.
+fn line_has_fault(rt: &impl Abort, alloc: Global, case: Case) -> Result<(), AllocError> {
+    let mut text = String::from_str(alloc, "define timeperiod{\ntimeperiod_name p\n")?;
+    text.push_str(case.0)?;
+    text.push_str("\n}\n")?;
+    shows(rt, alloc, text.as_str(), What::Fault, case.1)
 }
 
-/// Checks that the first fault of a period with each of these lines is the one beside it.
-fn lines_have_faults(rt: &impl Abort, alloc: Global, cases: &[(&str, &str)]) -> Result<(), Fail> {
-    for case in cases {
-        let lines = case.0;
-        let text = period_with(alloc, lines)?;
-        let found = fault_text(alloc, text.as_str())?;
-        assert_eq!(rt; found.as_str(), case.1, "{lines}");
+#[test]
+fn lines_are_refused(rt: HostRuntime) -> Result<(), AllocError> {
+    for case in &LINES {
+        line_has_fault(&rt, rt.alloc(), *case)?;
     }
     Ok(())
 }
 
 #[test]
-fn lines_are_refused(rt: HostRuntime) -> Result<(), Fail> {
-    lines_have_faults(&rt, rt.alloc(), &LINES)
-}
-
-#[test]
-fn lines_of_dates_are_inherited(rt: HostRuntime) -> Result<(), Fail> {
-    have_faults(&rt, rt.alloc(), &DATES)
+fn lines_of_dates_are_inherited(rt: HostRuntime) -> Result<(), AllocError> {
+    all_show(&rt, rt.alloc(), &DATES, What::Fault)
 }

@@ -1,51 +1,10 @@
 //! The first fault of the values of blocks, as the manual's rules give it.
 
-use object_faults::check::check;
-use object_faults::fault::{PassFault, ValueFault};
-use object_inheritance::templates::Templates;
-use object_reader::reading::read;
-use std::alloc::{AllocError, Global};
-use std::fmt::Write;
-use std::process::Abort;
-use std::test::Fail;
-
-/// The name of a fault.
-fn name_of(fault: ValueFault) -> &'static str {
-    match fault {
-        ValueFault::MissingDirective => "MissingDirective",
-        ValueFault::BadNumber => "BadNumber",
-        ValueFault::BadOption => "BadOption",
-        ValueFault::BadRange => "BadRange",
-        ValueFault::Volatile => "Volatile",
-        ValueFault::Exclusion => "Exclusion",
-        ValueFault::DatedException => "DatedException",
-    }
-}
-
-/// The line and the fault of the first block with one; nothing where there is none.
-pub(crate) fn fault_text(alloc: Global, text: &str) -> Result<String, AllocError> {
-    let mut out = String::new(alloc);
-    let Ok(blocks) = read(alloc, text.as_bytes()) else {
-        out.push_str("unread")?;
-        return Ok(out);
-    };
-    let Ok(templates) = Templates::new(alloc, blocks.as_slice()) else {
-        out.push_str("templates")?;
-        return Ok(out);
-    };
-    match check(alloc, &templates) {
-        Ok(()) => {}
-        Err(PassFault::NoMemory) => out.push_str("memory")?,
-        Err(PassFault::AtLine { line, fault }) => {
-            let name = name_of(fault);
-            write!(out, "{line} {name}")?;
-        }
-    }
-    Ok(out)
-}
+use crate::shown::{Case, What, all_show};
+use std::alloc::AllocError;
 
 /// Texts, and the first fault of each.
-const FAULTS: [(&str, &str); 22] = [
+const FAULTS: [Case; 22] = [
     ("", ""),
     (
         "define host{\nhost_name a\nnotification_interval 0\n}\n",
@@ -124,7 +83,7 @@ const FAULTS: [(&str, &str); 22] = [
 ];
 
 /// The same of texts of which a block lacks something.
-const MISSING: [(&str, &str); 33] = [
+const MISSING: [Case; 33] = [
     // Each type has its name.
     (
         "define host{\nnotification_interval x\n}\n",
@@ -237,7 +196,7 @@ const MISSING: [(&str, &str); 33] = [
 ];
 
 /// The same of texts with exclusions.
-const EXCLUSIONS: [(&str, &str); 18] = [
+const EXCLUSIONS: [Case; 18] = [
     // An entry that begins with `!` is refused in each list.
     ("define host{\nhost_name !a\ncontacts a,b\n}\n", ""),
     (
@@ -307,31 +266,17 @@ const EXCLUSIONS: [(&str, &str); 18] = [
     ),
 ];
 
-/// Checks that the first fault of each text is the one beside it.
-pub(crate) fn have_faults(
-    rt: &impl Abort,
-    alloc: Global,
-    cases: &[(&str, &str)],
-) -> Result<(), Fail> {
-    for case in cases {
-        let text = case.0;
-        let found = fault_text(alloc, text)?;
-        assert_eq!(rt; found.as_str(), case.1, "{text}");
-    }
-    Ok(())
+#[test]
+fn the_first_fault_is_found(rt: HostRuntime) -> Result<(), AllocError> {
+    all_show(&rt, rt.alloc(), &FAULTS, What::Fault)
 }
 
 #[test]
-fn the_first_fault_is_found(rt: HostRuntime) -> Result<(), Fail> {
-    have_faults(&rt, rt.alloc(), &FAULTS)
+fn what_a_block_must_have_is_missed(rt: HostRuntime) -> Result<(), AllocError> {
+    all_show(&rt, rt.alloc(), &MISSING, What::Fault)
 }
 
 #[test]
-fn what_a_block_must_have_is_missed(rt: HostRuntime) -> Result<(), Fail> {
-    have_faults(&rt, rt.alloc(), &MISSING)
-}
-
-#[test]
-fn exclusions_are_refused(rt: HostRuntime) -> Result<(), Fail> {
-    have_faults(&rt, rt.alloc(), &EXCLUSIONS)
+fn exclusions_are_refused(rt: HostRuntime) -> Result<(), AllocError> {
+    all_show(&rt, rt.alloc(), &EXCLUSIONS, What::Fault)
 }

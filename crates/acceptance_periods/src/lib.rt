@@ -12,3 +12,5 @@ mod loops;
 mod periods;
 #[cfg(test)]
 mod scale;
+#[cfg(test)]
+mod shown;

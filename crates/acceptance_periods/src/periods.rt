@@ -1,67 +1,11 @@
 //! The periods that blocks give, as the manual's rules give them.
 
-use acceptance_shown::text_or_mark;
-use due_model::config::{Period, Range};
-use object_groups::objects::Objects;
-use object_inheritance::templates::Templates;
+use crate::shown::{Case, What, all_show};
 use object_periods::laws::{no_loop_is_left, periods_fit};
-use object_periods::periods::periods_of;
-use object_reader::block::{Block, BlockKind};
-use object_reader::reading::read;
-use std::alloc::{AllocError, Global};
-use std::fmt::Write;
-use std::process::Abort;
-use std::test::Fail;
-
-/// The ranges of a weekday, where it has any: its number, a colon, and the ranges in seconds.
-fn show_day(out: &mut String, weekday: usize, ranges: &[Range]) -> Result<(), AllocError> {
-    if ranges.is_empty() {
-        return Ok(());
-    }
-    write!(out, " {weekday}:")?;
-    for range in ranges {
-        write!(out, "{}-{},", range.start, range.end)?;
-    }
-    Ok(())
-}
-
-/// A period in one line: its name, its days, and `!` with the number of each period that it excludes.
-fn show_period(out: &mut String, period: &Period) -> Result<(), AllocError> {
-    out.push_str(text_or_mark(period.name.as_slice()))?;
-    for weekday in 0..7 {
-        show_day(out, weekday, period.days[weekday].as_slice())?;
-    }
-    for excluded in period.excludes.as_slice() {
-        write!(out, " !{}", excluded.0)?;
-    }
-    out.push_str("\n")
-}
-
-/// The periods of blocks, a line each.
-fn show_all(alloc: Global, out: &mut String, blocks: &[Block]) -> Result<(), AllocError> {
-    let Ok(templates) = Templates::new(alloc, blocks) else {
-        return out.push_str("templates");
-    };
-    let objects = Objects::new(alloc, &templates, BlockKind::TimePeriod)?;
-    let periods = periods_of(alloc, &templates, &objects)?;
-    for period in periods.as_slice() {
-        show_period(out, period)?;
-    }
-    Ok(())
-}
-
-/// The same of a text.
-fn shown(alloc: Global, text: &str) -> Result<String, AllocError> {
-    let mut out = String::new(alloc);
-    match read(alloc, text.as_bytes()) {
-        Ok(blocks) => show_all(alloc, &mut out, blocks.as_slice())?,
-        Err(_) => out.push_str("unread")?,
-    }
-    Ok(out)
-}
+use std::alloc::AllocError;
 
 /// Texts, and the periods of each.
-const PERIODS: [(&str, &str); 20] = [
+const PERIODS: [Case; 20] = [
     ("", ""),
     ("define host{\nhost_name a\n}\n", ""),
     ("define timeperiod{\ntimeperiod_name p\n}\n", "p\n"),
@@ -152,19 +96,9 @@ const PERIODS: [(&str, &str); 20] = [
     ),
 ];
 
-/// Checks that the periods of each text are those beside it.
-fn have_periods(rt: &impl Abort, alloc: Global, cases: &[(&str, &str)]) -> Result<(), Fail> {
-    for case in cases {
-        let text = case.0;
-        let found = shown(alloc, text)?;
-        assert_eq!(rt; found.as_str(), case.1, "{text}");
-    }
-    Ok(())
-}
-
 #[test]
-fn blocks_give_periods(rt: HostRuntime) -> Result<(), Fail> {
-    have_periods(&rt, rt.alloc(), &PERIODS)
+fn blocks_give_periods(rt: HostRuntime) -> Result<(), AllocError> {
+    all_show(&rt, rt.alloc(), &PERIODS, What::Periods)
 }
 
 #[test]

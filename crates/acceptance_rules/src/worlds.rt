@@ -1,11 +1,11 @@
 //! Runs of worlds: the worked examples, long lists of steps, and a world at its limits.
 
-ghost use Rattle.std.specs.Prelude.{◌≡◌, ◌<◌, All, IfOk, IsTrue, length};
-ghost use Rattle.due_laws.specs.Rows.{base};
+ghost use Rattle.std.specs.Prelude.{◌≡◌, ◌<◌, All, IsTrue, length};
 ghost use Rattle.due_model.specs.Accepted.{IsAccepted};
 ghost use Rattle.world_steps.specs.Steps.{IsProperStep};
 ghost use Rattle.world_steps.specs.Views.{world_setup};
 
+use acceptance_inputs::accepted::is_accepted;
 use acceptance_inputs::configs::{base, wide};
 use acceptance_inputs::events::hard;
 use due_model::config::{Config, LaneId, ObjectId};
@@ -16,8 +16,7 @@ use due_model::state::State;
 use due_model::zone::Zone;
 use std::alloc::{AllocError, Global};
 use std::process::Abort;
-use std::test::Fail;
-use world_steps::{LaneStep, LineParts, Settings, Step, StepFault, World};
+use world_steps::{LaneStep, Settings, Step, StepFault, World};
 
 /// Whether the step posts what may be posted, if it posts.
 fn is_proper_step(config: &Config, step: Step) -> bool
@@ -41,27 +40,20 @@ fn are_proper_steps(config: &Config, steps: &[Step]) -> bool
     true
 }
 
-/// Applies each step, and gives the places of those that aren't enabled, counted from 1.
-fn refused(
-    rt: &impl Abort,
-    alloc: Global,
-    config: &Config,
-    world: &mut World,
-    steps: &[Step],
-) -> Result<Vec<usize>, Fail>
+/// Applies each step. Those at these places, counted from 1, aren't enabled.
+fn refuses(rt: &impl Abort, config: &Config, world: &mut World, steps: &[Step], places: &[usize])
     requires { (world_setup world.old).config ≡ config.now }
     ensures { world_setup world.new ≡ world_setup world.old }
 {
-    let mut places = Vec::new(alloc);
     for (place, step) in steps.iter().enumerate() {
         assert!(rt; is_proper_step(config, *step));
-        match world.apply(*step) {
-            Ok(()) => {}
-            Err(StepFault::NotEnabled) => places.push(place.saturating_add(1))?,
-            Err(StepFault::NoMemory) => return Err(AllocError.into()),
-        }
+        let wanted = if places.contains(&place.saturating_add(1)) {
+            Err(StepFault::NotEnabled)
+        } else {
+            Ok(())
+        };
+        assert!(rt; world.apply(*step) == wanted, "step {place} from 0");
     }
-    Ok(places)
 }
 
 const TWO_TRIES: Settings = Settings {
@@ -93,50 +85,35 @@ fn on_mail(step: LaneStep) -> Step {
     Step::Lane(MAIL, step)
 }
 
-/// These notices are of these events.
-fn are_of(rt: &impl Abort, notices: &[Notice], events: &[u64]) {
-    assert_eq!(rt; notices.len(), events.len());
-    for (notice, event) in notices.iter().zip(events) {
-        assert_eq!(rt; notice.event, *event);
+/// Whether notices are of these events.
+fn are_of(notices: &[Notice], events: &[u64]) -> bool {
+    if notices.len() != events.len() {
+        return false;
     }
+    for (notice, event) in notices.iter().zip(events) {
+        if notice.event != *event {
+            return false;
+        }
+    }
+    true
 }
 
-/// Steps of which those at these places, counted from 1, aren't enabled.
-fn refuses(
-    rt: &impl Abort,
-    alloc: Global,
-    config: &Config,
-    world: &mut World,
-    steps: &[Step],
-    places: &[usize],
-) -> Result<(), Fail>
-    requires { (world_setup world.old).config ≡ config.now }
-    ensures { world_setup world.new ≡ world_setup world.old }
-{
-    let found = refused(rt, alloc, config, world, steps)?;
-    assert_eq!(rt; found.as_slice(), places);
-    Ok(())
-}
-
-/// What the channel took, what is in its hand and what it gave up are of these events.
-fn has_parts(rt: &impl Abort, parts: &LineParts, line: [&[u64]; 3]) {
-    are_of(rt, &parts.taken, line[0]);
-    are_of(rt, &parts.hand, line[1]);
-    are_of(rt, &parts.undelivered, line[2]);
-}
-
-/// The line of a world has these parts.
+/// What the channel of a world's line took, what is in its hand and what it gave up are of these events.
 fn has_line(
     rt: &impl Abort,
     alloc: Global,
     world: &World<'_>,
     line: [&[u64]; 3],
-) -> Result<(), Fail>
+) -> Result<(), AllocError>
     requires lane { 0 < length (world_setup world.now).config.lanes }
     requires object { 0 < length (world_setup world.now).config.objects }
 {
     let parts = world.line(alloc, MAIL, ObjectId(0))?;
-    has_parts(rt, &parts, line);
+    assert!(rt;
+        are_of(&parts.taken, line[0])
+            && are_of(&parts.hand, line[1])
+            && are_of(&parts.undelivered, line[2])
+    );
     Ok(())
 }
 
@@ -148,24 +125,27 @@ fn plays_in(
     steps: &[Step],
     places: &[usize],
     line: [&[u64]; 3],
-) -> Result<(), Fail>
-    requires { config.now ≡ base }
+) -> Result<(), AllocError>
+    requires accepted { IsAccepted config.now }
+    requires lanes { length config.now.lanes ≡ 1 }
+    requires objects { 0 < length config.now.objects }
 {
     let zone = Zone::Utc;
     let mut world = World::new(alloc, config, &zone, TWO_TRIES, &[true])?;
-    refuses(rt, alloc, config, &mut world, steps, places)?;
+    refuses(rt, config, &mut world, steps, places);
     has_line(rt, alloc, &world, line)
 }
 
-/// A world of BASE with one decider refuses these of the steps, and its line is then this, part by part.
+/// A world of one host with one decider refuses these of the steps, and its line is then this, part by part.
 fn plays(
     rt: &impl Abort,
     alloc: Global,
     steps: &[Step],
     places: &[usize],
     line: [&[u64]; 3],
-) -> Result<(), Fail> {
+) -> Result<(), AllocError> {
     let config = base(alloc)?;
+    assert!(rt; is_accepted(&config) && config.lanes.len() == 1 && config.objects.len() > 0);
     plays_in(rt, alloc, &config, steps, places, line)
 }
 
@@ -196,11 +176,6 @@ const ASK_AND_CLOSE: [Step; 12] = [
     Step::Lane(MAIL, LaneStep::Drain),
 ];
 
-#[test]
-fn ask_and_close(rt: HostRuntime) -> Result<(), Fail> {
-    plays(&rt, rt.alloc(), &ASK_AND_CLOSE, &[11], [&[0], &[], &[1]])
-}
-
 const ASK_AND_CLOSE_UNSETTLED: [Step; 11] = [
     GOES_DOWN,
     Step::Decide(0),
@@ -215,17 +190,6 @@ const ASK_AND_CLOSE_UNSETTLED: [Step; 11] = [
     Step::Lane(MAIL, LaneStep::Drain),
 ];
 
-#[test]
-fn ask_and_close_unsettled(rt: HostRuntime) -> Result<(), Fail> {
-    plays(
-        &rt,
-        rt.alloc(),
-        &ASK_AND_CLOSE_UNSETTLED,
-        &[10],
-        [&[], &[], &[0, 1]],
-    )
-}
-
 const TRIED_TWICE: [Step; 9] = [
     GOES_DOWN,
     Step::Decide(0),
@@ -239,7 +203,18 @@ const TRIED_TWICE: [Step; 9] = [
 ];
 
 #[test]
-fn two_tries(rt: HostRuntime) -> Result<(), Fail> {
+fn ask_and_close(rt: HostRuntime) -> Result<(), AllocError> {
+    plays(&rt, rt.alloc(), &ASK_AND_CLOSE, &[11], [&[0], &[], &[1]])
+}
+
+#[test]
+fn ask_and_close_unsettled(rt: HostRuntime) -> Result<(), AllocError> {
+    let steps = &ASK_AND_CLOSE_UNSETTLED;
+    plays(&rt, rt.alloc(), steps, &[10], [&[], &[], &[0, 1]])
+}
+
+#[test]
+fn two_tries(rt: HostRuntime) -> Result<(), AllocError> {
     plays(&rt, rt.alloc(), &TRIED_TWICE, &[5, 8], [&[], &[], &[0]])
 }
 
@@ -269,13 +244,27 @@ fn changes(alloc: Global, count: u64) -> Result<Vec<Step>, AllocError> {
 }
 
 /// The channel of a world has taken so many notices.
-fn has_taken(rt: &impl Abort, alloc: Global, world: &World<'_>, count: u64) -> Result<(), Fail>
+fn has_taken(
+    rt: &impl Abort,
+    alloc: Global,
+    world: &World<'_>,
+    count: usize,
+) -> Result<(), AllocError>
     requires lane { 0 < length (world_setup world.now).config.lanes }
     requires object { 0 < length (world_setup world.now).config.objects }
 {
     let parts = world.line(alloc, MAIL, ObjectId(0))?;
-    assert_eq!(rt; parts.taken.len() as u64, count);
+    assert!(rt; parts.taken.len() == count);
     Ok(())
+}
+
+/// Runs steps that are enabled.
+fn runs(rt: &impl Abort, config: &Config, world: &mut World, steps: &[Step])
+    requires { (world_setup world.old).config ≡ config.now }
+    ensures { world_setup world.new ≡ world_setup world.old }
+{
+    assert!(rt; are_proper_steps(config, steps));
+    assert!(rt; world.run(steps).is_ok());
 }
 
 /// A world of this configuration takes each of so many changes to the channel.
@@ -284,22 +273,34 @@ fn takes_changes(
     alloc: Global,
     config: &Config,
     steps: &[Step],
-    count: u64,
-) -> Result<(), Fail>
-    requires { config.now ≡ base }
+    count: usize,
+) -> Result<(), AllocError>
+    requires accepted { IsAccepted config.now }
+    requires lanes { length config.now.lanes ≡ 1 }
+    requires objects { 0 < length config.now.objects }
 {
     let zone = Zone::Utc;
     let mut world = World::new(alloc, config, &zone, LEAST, &[true])?;
-    assert!(rt; are_proper_steps(config, steps));
-    assert_eq!(rt; world.run(steps), Ok(()));
+    runs(rt, config, &mut world, steps);
     has_taken(rt, alloc, &world, count)
 }
 
+/// The same of a configuration that is seen to be accepted.
+fn all_taken(
+    rt: &impl Abort,
+    alloc: Global,
+    config: &Config,
+    count: u64,
+) -> Result<(), AllocError> {
+    let steps = changes(alloc, count)?;
+    assert!(rt; is_accepted(config) && config.lanes.len() == 1 && config.objects.len() > 0);
+    takes_changes(rt, alloc, config, steps.as_slice(), count as usize)
+}
+
 #[test]
-fn ten_thousand_steps(rt: HostRuntime) -> Result<(), Fail> {
+fn ten_thousand_steps(rt: HostRuntime) -> Result<(), AllocError> {
     let config = base(rt.alloc())?;
-    let steps = changes(rt.alloc(), 2000)?;
-    takes_changes(&rt, rt.alloc(), &config, steps.as_slice(), 2000)
+    all_taken(&rt, rt.alloc(), &config, 2000)
 }
 
 /// Each of eight hosts is down, and each decider has decided it; each queue has a notice of the first decider.
@@ -317,24 +318,6 @@ fn crowd(alloc: Global) -> Result<Vec<Step>, AllocError> {
     Ok(steps)
 }
 
-/// A world of many deciders and lanes, after the crowd of steps.
-fn crowded<'a>(
-    rt: &impl Abort,
-    alloc: Global,
-    config: &'a Config,
-    zone: &'a Zone,
-) -> Result<World<'a>, Fail>
-    requires accepted { IsAccepted config.now }
-    requires lanes { length config.now.lanes ≡ 16 }
-    ensures { IfOk result (λ world. (world_setup world).config ≡ config.now) }
-{
-    let steps = crowd(alloc)?;
-    let mut world = World::new(alloc, config, zone, MOST, &[true; 16])?;
-    assert!(rt; are_proper_steps(config, steps.as_slice()));
-    assert_eq!(rt; world.run(steps.as_slice()), Ok(()));
-    Ok(world)
-}
-
 /// What waits on the last lane of a world about an object, in the queue and in the outbox, is of these events.
 fn has_waiting(
     rt: &impl Abort,
@@ -343,31 +326,44 @@ fn has_waiting(
     object: ObjectId,
     queue: &[u64],
     outbox: &[u64],
-) -> Result<(), Fail>
+) -> Result<(), AllocError>
     requires lane { 15 < length (world_setup world.now).config.lanes }
     requires object { object.0 < length (world_setup world.now).config.objects }
 {
     let parts = world.line(alloc, LAST, object)?;
-    are_of(rt, &parts.queue, queue);
-    are_of(rt, &parts.outbox, outbox);
+    assert!(rt; are_of(&parts.queue, queue) && are_of(&parts.outbox, outbox));
     Ok(())
 }
 
-/// The last lane has a notice of the first decider in its queue, and one of the last in the outbox.
-fn last_lane_is_full(rt: &impl Abort, alloc: Global, config: &Config) -> Result<(), Fail>
+/// A world of many deciders and lanes, after the crowd of steps: the last lane has a notice of the first decider in its
+/// queue, and one of the last in the outbox.
+fn last_lane_is_full(
+    rt: &impl Abort,
+    alloc: Global,
+    config: &Config,
+    steps: &[Step],
+) -> Result<(), AllocError>
     requires accepted { IsAccepted config.now }
     requires lanes { length config.now.lanes ≡ 16 }
     requires objects { length config.now.objects ≡ 8 }
 {
     let zone = Zone::Utc;
-    let mut world = crowded(rt, alloc, config, &zone)?;
-    assert_eq!(rt; world.apply(Step::Put(7, LAST)), Err(StepFault::NotEnabled));
+    let mut world = World::new(alloc, config, &zone, MOST, &[true; 16])?;
+    runs(rt, config, &mut world, steps);
+    refuses(rt, config, &mut world, &[Step::Put(7, LAST)], &[1]);
     has_waiting(rt, alloc, &world, ObjectId(0), &[0], &[])?;
     has_waiting(rt, alloc, &world, ObjectId(7), &[], &[7])
 }
 
+/// The same of a configuration that is seen to be accepted.
+fn is_full(rt: &impl Abort, alloc: Global, config: &Config) -> Result<(), AllocError> {
+    let steps = crowd(alloc)?;
+    assert!(rt; is_accepted(config) && config.lanes.len() == 16 && config.objects.len() == 8);
+    last_lane_is_full(rt, alloc, config, steps.as_slice())
+}
+
 #[test]
-fn at_the_limits(rt: HostRuntime) -> Result<(), Fail> {
+fn at_the_limits(rt: HostRuntime) -> Result<(), AllocError> {
     let config = wide(rt.alloc())?;
-    last_lane_is_full(&rt, rt.alloc(), &config)
+    is_full(&rt, rt.alloc(), &config)
 }

@@ -1,9 +1,9 @@
-//! Worked rows of services, periods, escalations, dependencies, downtimes, flapping and all filters, through the
-//! slow program. A row is a table of the configuration, the events, and what each object says, in short.
+//! Worked rows through the slow program: of one host, and of services, periods, escalations, dependencies, downtimes,
+//! flapping and all filters. A case is a table of the configuration, the events, and what an object says, in short.
 
 use acceptance_inputs::accepted::is_accepted;
 use acceptance_inputs::dependencies::ON_CRITICAL;
-use acceptance_inputs::events::{are_proper, at, clock, hard};
+use acceptance_inputs::events::are_proper;
 use acceptance_inputs::rows::{
     ContactRow, EscalationRow, NO_LETTER, ObjectRow, PeriodRow, Rows, config_of,
 };
@@ -15,9 +15,8 @@ use due_model::proper::has_object;
 use due_model::state::State;
 use due_model::zone::Zone;
 use slow_rules::slow::{slow_due, slow_sup};
-use std::alloc::Global;
+use std::alloc::{AllocError, Global};
 use std::process::Abort;
-use std::test::Fail;
 use zone_times::given::zone_given;
 
 /// A notice in short: event, moment, kind, state, number, contact.
@@ -26,75 +25,19 @@ type Told = (u64, u64, Kind, State, u64, u16);
 /// A suppression in short: event, moment, kind, state, number, filter, contact.
 type Stopped = (u64, u64, Kind, State, u64, Filter, Option<u16>);
 
-fn told(notice: Notice) -> Told {
-    (
-        notice.event,
-        notice.moment,
-        notice.kind,
-        notice.state,
-        notice.number,
-        notice.contact.0,
-    )
-}
-
-fn stopped(suppression: Suppression) -> Stopped {
-    (
-        suppression.event,
-        suppression.moment,
-        suppression.kind,
-        suppression.state,
-        suppression.number,
-        suppression.filter,
-        suppression.contact.map(|contact| contact.0),
-    )
-}
-
-/// The slow program says this of an object in a zone, by the one lane.
-fn says(
-    rt: &impl Abort,
-    alloc: Global,
-    config: &Config,
-    zone: &Zone,
-    events: &[Event],
-    object: ObjectId,
-    notices: &[Told],
-    suppressions: &[Stopped],
-) -> Result<(), Fail> {
-    assert!(rt; is_accepted(config) && has_object(config, object) && are_proper(config, events));
-    let mut due = Vec::new(alloc);
-    for notice in slow_due(alloc, config, zone, events, object, LaneId(0))?.as_slice() {
-        due.push(told(*notice))?;
-    }
-    assert_eq!(rt; due.as_slice(), notices);
-    let mut sup = Vec::new(alloc);
-    for suppression in slow_sup(alloc, config, zone, events, object)?.as_slice() {
-        sup.push(stopped(*suppression))?;
-    }
-    assert_eq!(rt; sup.as_slice(), suppressions);
-    Ok(())
-}
-
-/// The configuration of these rows says this of an object after these events.
-fn gives(
-    rt: &impl Abort,
-    alloc: Global,
-    rows: Rows<'_>,
-    events: &[Event],
+/// What is tried.
+#[derive(Clone, Copy)]
+struct Case {
+    what: &'static str,
+    rows: Rows<'static>,
+    /// The zone; without one it is UTC.
+    zone: Option<&'static str>,
+    /// The events, each with its moment.
+    events: &'static [(u64, EventKind)],
+    /// The object that is asked of.
     object: u16,
-    notices: &[Told],
-    suppressions: &[Stopped],
-) -> Result<(), Fail> {
-    let config = config_of(alloc, rows)?;
-    says(
-        rt,
-        alloc,
-        &config,
-        &Zone::Utc,
-        events,
-        ObjectId(object),
-        notices,
-        suppressions,
-    )
+    notices: &'static [Told],
+    suppressions: &'static [Stopped],
 }
 
 const ANN: &[ContactId] = &[ContactId(0)];
@@ -152,59 +95,14 @@ const WARNING: State = State::Warning;
 
 const CRITICAL: State = State::Critical;
 
-fn downtime_events() -> [Event; 3] {
-    [
-        at(
-            1000,
-            EventKind::Downtime(ObjectId(0), DowntimeChange::Start),
-        ),
-        hard(1010, 0, DOWN),
-        hard(1020, 0, UP),
-    ]
-}
-
-#[test]
-fn downtime(rt: HostRuntime) -> Result<(), Fail> {
-    gives(
-        &rt,
-        rt.alloc(),
-        BASE,
-        &downtime_events(),
-        0,
-        &[(0, 1000, Kind::DowntimeStart, PENDING, 0, 0)],
-        &[
-            (1, 1010, PROBLEM, DOWN, 1, Filter::Downtime, None),
-            (2, 1020, RECOVERY, UP, 1, Filter::Downtime, None),
-        ],
-    )
-}
-
-fn flapping_events() -> [Event; 5] {
-    [
-        at(1000, EventKind::Flapping(ObjectId(0), true)),
-        hard(1010, 0, DOWN),
-        at(1020, EventKind::Flapping(ObjectId(0), false)),
-        clock(1069),
-        clock(1070),
-    ]
-}
-
-#[test]
-fn flapping(rt: HostRuntime) -> Result<(), Fail> {
-    gives(
-        &rt,
-        rt.alloc(),
-        BASE,
-        &flapping_events(),
-        0,
-        &[
-            (0, 1000, Kind::FlappingStart, PENDING, 0, 0),
-            (2, 1020, Kind::FlappingStop, DOWN, 0, 0),
-            (4, 1070, PROBLEM, DOWN, 1, 0),
-        ],
-        &[(1, 1010, PROBLEM, DOWN, 1, Filter::Flapping, None)],
-    )
-}
+/// Web with ann alone.
+const ALONE: Rows<'static> = Rows {
+    contacts: &[ContactRow {
+        name: "ann",
+        ..ContactRow::FREE
+    }],
+    ..BASE
+};
 
 const THIRD_TO_BOB: Rows<'static> = Rows {
     escalations: &[EscalationRow {
@@ -218,33 +116,6 @@ const THIRD_TO_BOB: Rows<'static> = Rows {
     }],
     ..BASE
 };
-
-fn three_and_up_events() -> [Event; 4] {
-    [
-        hard(1000, 0, DOWN),
-        clock(1060),
-        clock(1120),
-        hard(1130, 0, UP),
-    ]
-}
-
-#[test]
-fn escalation_recovery(rt: HostRuntime) -> Result<(), Fail> {
-    gives(
-        &rt,
-        rt.alloc(),
-        THIRD_TO_BOB,
-        &three_and_up_events(),
-        0,
-        &[
-            (0, 1000, PROBLEM, DOWN, 1, 0),
-            (1, 1060, PROBLEM, DOWN, 2, 0),
-            (2, 1120, PROBLEM, DOWN, 3, 1),
-            (3, 1130, RECOVERY, UP, 4, 1),
-        ],
-        &[],
-    )
-}
 
 const OVERLAP: Rows<'static> = Rows {
     objects: &[ObjectRow {
@@ -274,44 +145,6 @@ const OVERLAP: Rows<'static> = Rows {
     ..BASE
 };
 
-fn overlap_events() -> [Event; 10] {
-    [
-        hard(0, 0, DOWN),
-        clock(600),
-        clock(1200),
-        clock(1800),
-        clock(3899),
-        clock(3900),
-        clock(6600),
-        clock(9300),
-        clock(12_899),
-        clock(12_900),
-    ]
-}
-
-#[test]
-fn manual_overlap(rt: HostRuntime) -> Result<(), Fail> {
-    gives(
-        &rt,
-        rt.alloc(),
-        OVERLAP,
-        &overlap_events(),
-        0,
-        &[
-            (0, 0, PROBLEM, DOWN, 1, 0),
-            (1, 600, PROBLEM, DOWN, 2, 0),
-            (2, 1200, PROBLEM, DOWN, 3, 1),
-            (5, 3900, PROBLEM, DOWN, 4, 1),
-            (5, 3900, PROBLEM, DOWN, 4, 2),
-            (6, 6600, PROBLEM, DOWN, 5, 1),
-            (6, 6600, PROBLEM, DOWN, 5, 2),
-            (7, 9300, PROBLEM, DOWN, 6, 2),
-            (9, 12_900, PROBLEM, DOWN, 7, 2),
-        ],
-        &[],
-    )
-}
-
 const PING: ObjectRow = ObjectRow {
     name: "PING",
     host: Some(ObjectId(0)),
@@ -337,38 +170,6 @@ const NEVER_AFTER_FOUR: Rows<'static> = Rows {
     ..BASE
 };
 
-fn never_events() -> [Event; 8] {
-    [
-        hard(1000, 1, WARNING),
-        clock(1060),
-        clock(1120),
-        clock(1180),
-        clock(1240),
-        clock(9999),
-        hard(10_000, 1, CRITICAL),
-        clock(20_000),
-    ]
-}
-
-#[test]
-fn interval_zero(rt: HostRuntime) -> Result<(), Fail> {
-    gives(
-        &rt,
-        rt.alloc(),
-        NEVER_AFTER_FOUR,
-        &never_events(),
-        1,
-        &[
-            (0, 1000, PROBLEM, WARNING, 1, 0),
-            (1, 1060, PROBLEM, WARNING, 2, 0),
-            (2, 1120, PROBLEM, WARNING, 3, 0),
-            (3, 1180, PROBLEM, WARNING, 4, 1),
-            (6, 10_000, PROBLEM, CRITICAL, 5, 1),
-        ],
-        &[],
-    )
-}
-
 const AT_WORK: Rows<'static> = Rows {
     objects: &[ObjectRow {
         period: Some(PeriodId(0)),
@@ -383,55 +184,6 @@ const AT_WORK: Rows<'static> = Rows {
     }],
     ..BASE
 };
-
-fn work_events() -> [Event; 3] {
-    [hard(61_200, 0, DOWN), clock(118_799), clock(118_800)]
-}
-
-#[test]
-fn work_hours(rt: HostRuntime) -> Result<(), Fail> {
-    gives(
-        &rt,
-        rt.alloc(),
-        AT_WORK,
-        &work_events(),
-        0,
-        &[(2, 118_800, PROBLEM, DOWN, 1, 0)],
-        &[(0, 61_200, PROBLEM, DOWN, 1, Filter::Period, None)],
-    )
-}
-
-/// The night of 10 March 2024, on which the clocks of New York go on by an hour: work begins at 13:00 UTC.
-fn spring_events() -> [Event; 3] {
-    [
-        hard(1_710_046_800, 0, DOWN),
-        clock(1_710_075_599),
-        clock(1_710_075_600),
-    ]
-}
-
-/// The object's period is read in a zone.
-fn wakes_in_spring(rt: &impl Abort, alloc: Global, config: &Config) -> Result<(), Fail> {
-    let Ok(zone) = zone_given(alloc, Some("EST5EDT,M3.2.0,M11.1.0"), None) else {
-        panic!(rt; "no zone");
-    };
-    says(
-        rt,
-        alloc,
-        config,
-        &zone,
-        &spring_events(),
-        ObjectId(0),
-        &[(2, 1_710_075_600, PROBLEM, DOWN, 1, 0)],
-        &[(0, 1_710_046_800, PROBLEM, DOWN, 1, Filter::Period, None)],
-    )
-}
-
-#[test]
-fn work_hours_in_a_zone(rt: HostRuntime) -> Result<(), Fail> {
-    let config = config_of(rt.alloc(), AT_WORK)?;
-    wakes_in_spring(&rt, rt.alloc(), &config)
-}
 
 /// Service 3 depends on 2, which depends on 1, and inherits its dependency.
 const CHAIN: Rows<'static> = Rows {
@@ -455,40 +207,10 @@ const CHAIN: Rows<'static> = Rows {
     ..BASE
 };
 
-fn chain_events() -> [Event; 2] {
-    [hard(1000, 1, CRITICAL), hard(1000, 3, CRITICAL)]
-}
-
-#[test]
-fn dependency_chain(rt: HostRuntime) -> Result<(), Fail> {
-    let alloc = rt.alloc();
-    let sent = [(0, 1000, PROBLEM, CRITICAL, 1, 0)];
-    let held = [(1, 1000, PROBLEM, CRITICAL, 1, Filter::Dependency, None)];
-    gives(&rt, alloc, CHAIN, &chain_events(), 1, &sent, &[])?;
-    gives(&rt, alloc, CHAIN, &chain_events(), 3, &[], &held)
-}
-
 const DELAYED: Rows<'static> = Rows {
     objects: &[ObjectRow { delay: 2, ..WEB }],
     ..BASE
 };
-
-fn delayed_events() -> [Event; 3] {
-    [hard(1000, 0, DOWN), clock(1119), clock(1120)]
-}
-
-#[test]
-fn first_delay(rt: HostRuntime) -> Result<(), Fail> {
-    gives(
-        &rt,
-        rt.alloc(),
-        DELAYED,
-        &delayed_events(),
-        0,
-        &[(2, 1120, PROBLEM, DOWN, 1, 0)],
-        &[(0, 1000, PROBLEM, DOWN, 1, Filter::FirstDelay, None)],
-    )
-}
 
 const DOWN_ALONE: Rows<'static> = Rows {
     contacts: &[ContactRow {
@@ -501,67 +223,6 @@ const DOWN_ALONE: Rows<'static> = Rows {
     }],
     ..BASE
 };
-
-fn down_and_up_events() -> [Event; 2] {
-    [hard(1000, 0, DOWN), hard(1010, 0, UP)]
-}
-
-#[test]
-fn contact_options(rt: HostRuntime) -> Result<(), Fail> {
-    gives(
-        &rt,
-        rt.alloc(),
-        DOWN_ALONE,
-        &down_and_up_events(),
-        0,
-        &[(0, 1000, PROBLEM, DOWN, 1, 0)],
-        &[(1, 1010, RECOVERY, UP, 2, Filter::ContactOptions, Some(0))],
-    )
-}
-
-fn change(moment: u64, change: DowntimeChange) -> Event {
-    at(moment, EventKind::Downtime(ObjectId(0), change))
-}
-
-/// Downtimes of a host nest, and stop its services' notices.
-fn nested_events() -> [Event; 6] {
-    [
-        change(1000, DowntimeChange::Start),
-        hard(1010, 1, CRITICAL),
-        change(1020, DowntimeChange::Start),
-        change(1030, DowntimeChange::End),
-        change(1040, DowntimeChange::Cancelled),
-        change(1050, DowntimeChange::End),
-    ]
-}
-
-#[test]
-fn nested_downtimes(rt: HostRuntime) -> Result<(), Fail> {
-    let alloc = rt.alloc();
-    let told = [
-        (0, 1000, Kind::DowntimeStart, PENDING, 0, 0),
-        (4, 1040, Kind::DowntimeCancelled, PENDING, 0, 0),
-    ];
-    let held = [(1, 1010, PROBLEM, CRITICAL, 1, Filter::Downtime, None)];
-    gives(
-        &rt,
-        alloc,
-        NEVER_AFTER_FOUR,
-        &nested_events(),
-        0,
-        &told,
-        &[],
-    )?;
-    gives(
-        &rt,
-        alloc,
-        NEVER_AFTER_FOUR,
-        &nested_events(),
-        1,
-        &[],
-        &held,
-    )
-}
 
 /// An escalation outside its period reaches nobody.
 const AT_NIGHT: Rows<'static> = Rows {
@@ -584,20 +245,440 @@ const AT_NIGHT: Rows<'static> = Rows {
     ..BASE
 };
 
-#[test]
-fn escalation_period(rt: HostRuntime) -> Result<(), Fail> {
-    gives(
-        &rt,
-        rt.alloc(),
-        AT_NIGHT,
-        &three_and_up_events(),
-        0,
-        &[
+const HOST_DOWN: EventKind = EventKind::Hard(ObjectId(0), State::Down);
+
+const HOST_UP: EventKind = EventKind::Hard(ObjectId(0), State::Up);
+
+const CLOCK: EventKind = EventKind::Clock;
+
+const STARTS: EventKind = EventKind::Downtime(ObjectId(0), DowntimeChange::Start);
+
+const ENDS: EventKind = EventKind::Downtime(ObjectId(0), DowntimeChange::End);
+
+const CANCELLED: EventKind = EventKind::Downtime(ObjectId(0), DowntimeChange::Cancelled);
+
+/// By UTC, of object 0, with nothing that happens.
+const NOTHING: Case = Case {
+    what: "nothing",
+    rows: BASE,
+    zone: None,
+    events: &[],
+    object: 0,
+    notices: &[],
+    suppressions: &[],
+};
+
+/// Three notices and the recovery.
+const THREE_AND_UP: &[(u64, EventKind)] = &[
+    (1000, HOST_DOWN),
+    (1060, CLOCK),
+    (1120, CLOCK),
+    (1130, HOST_UP),
+];
+
+const CHAIN_EVENTS: &[(u64, EventKind)] = &[
+    (1000, EventKind::Hard(ObjectId(1), State::Critical)),
+    (1000, EventKind::Hard(ObjectId(3), State::Critical)),
+];
+
+/// Downtimes of a host nest, and stop its services' notices.
+const NESTED: &[(u64, EventKind)] = &[
+    (1000, STARTS),
+    (1010, EventKind::Hard(ObjectId(1), State::Critical)),
+    (1020, STARTS),
+    (1030, ENDS),
+    (1040, CANCELLED),
+    (1050, ENDS),
+];
+
+/// Of one host with one contact.
+static ONE_HOST: [Case; 5] = [
+    Case {
+        what: "one host is down",
+        rows: ALONE,
+        events: &[(1000, HOST_DOWN)],
+        notices: &[(0, 1000, PROBLEM, DOWN, 1, 0)],
+        ..NOTHING
+    },
+    Case {
+        what: "an empty feed",
+        rows: ALONE,
+        ..NOTHING
+    },
+    Case {
+        what: "a problem is told of again",
+        rows: ALONE,
+        events: &[(1000, HOST_DOWN), (1059, CLOCK), (1060, CLOCK)],
+        notices: &[
+            (0, 1000, PROBLEM, DOWN, 1, 0),
+            (2, 1060, PROBLEM, DOWN, 2, 0),
+        ],
+        ..NOTHING
+    },
+    Case {
+        what: "the same state too soon",
+        rows: ALONE,
+        events: &[
+            (1000, HOST_DOWN),
+            (1030, HOST_DOWN),
+            (1059, CLOCK),
+            (1060, CLOCK),
+        ],
+        notices: &[
+            (0, 1000, PROBLEM, DOWN, 1, 0),
+            (3, 1060, PROBLEM, DOWN, 2, 0),
+        ],
+        suppressions: &[(1, 1030, PROBLEM, DOWN, 2, Filter::Interval, None)],
+        ..NOTHING
+    },
+    Case {
+        what: "the program's switch",
+        rows: ALONE,
+        events: &[
+            (1000, EventKind::Program(false)),
+            (1000, HOST_DOWN),
+            (1005, EventKind::Program(true)),
+            (1010, HOST_UP),
+        ],
+        suppressions: &[
+            (1, 1000, PROBLEM, DOWN, 1, Filter::Program, None),
+            (3, 1010, RECOVERY, UP, 1, Filter::NoProblem, None),
+        ],
+        ..NOTHING
+    },
+];
+
+/// Downtimes, flapping, a first delay and a contact's options.
+static STOPPED: [Case; 4] = [
+    Case {
+        what: "a downtime",
+        events: &[(1000, STARTS), (1010, HOST_DOWN), (1020, HOST_UP)],
+        notices: &[(0, 1000, Kind::DowntimeStart, PENDING, 0, 0)],
+        suppressions: &[
+            (1, 1010, PROBLEM, DOWN, 1, Filter::Downtime, None),
+            (2, 1020, RECOVERY, UP, 1, Filter::Downtime, None),
+        ],
+        ..NOTHING
+    },
+    Case {
+        what: "flapping",
+        events: &[
+            (1000, EventKind::Flapping(ObjectId(0), true)),
+            (1010, HOST_DOWN),
+            (1020, EventKind::Flapping(ObjectId(0), false)),
+            (1069, CLOCK),
+            (1070, CLOCK),
+        ],
+        notices: &[
+            (0, 1000, Kind::FlappingStart, PENDING, 0, 0),
+            (2, 1020, Kind::FlappingStop, DOWN, 0, 0),
+            (4, 1070, PROBLEM, DOWN, 1, 0),
+        ],
+        suppressions: &[(1, 1010, PROBLEM, DOWN, 1, Filter::Flapping, None)],
+        ..NOTHING
+    },
+    Case {
+        what: "a first delay",
+        rows: DELAYED,
+        events: &[(1000, HOST_DOWN), (1119, CLOCK), (1120, CLOCK)],
+        notices: &[(2, 1120, PROBLEM, DOWN, 1, 0)],
+        suppressions: &[(0, 1000, PROBLEM, DOWN, 1, Filter::FirstDelay, None)],
+        ..NOTHING
+    },
+    Case {
+        what: "a contact's options",
+        rows: DOWN_ALONE,
+        events: &[(1000, HOST_DOWN), (1010, HOST_UP)],
+        notices: &[(0, 1000, PROBLEM, DOWN, 1, 0)],
+        suppressions: &[(1, 1010, RECOVERY, UP, 2, Filter::ContactOptions, Some(0))],
+        ..NOTHING
+    },
+];
+
+/// Escalations.
+static ESCALATED: [Case; 3] = [
+    Case {
+        what: "the recovery after an escalation",
+        rows: THIRD_TO_BOB,
+        events: THREE_AND_UP,
+        notices: &[
+            (0, 1000, PROBLEM, DOWN, 1, 0),
+            (1, 1060, PROBLEM, DOWN, 2, 0),
+            (2, 1120, PROBLEM, DOWN, 3, 1),
+            (3, 1130, RECOVERY, UP, 4, 1),
+        ],
+        ..NOTHING
+    },
+    Case {
+        what: "the manual's escalations that overlap",
+        rows: OVERLAP,
+        events: &[
+            (0, HOST_DOWN),
+            (600, CLOCK),
+            (1200, CLOCK),
+            (1800, CLOCK),
+            (3899, CLOCK),
+            (3900, CLOCK),
+            (6600, CLOCK),
+            (9300, CLOCK),
+            (12_899, CLOCK),
+            (12_900, CLOCK),
+        ],
+        notices: &[
+            (0, 0, PROBLEM, DOWN, 1, 0),
+            (1, 600, PROBLEM, DOWN, 2, 0),
+            (2, 1200, PROBLEM, DOWN, 3, 1),
+            (5, 3900, PROBLEM, DOWN, 4, 1),
+            (5, 3900, PROBLEM, DOWN, 4, 2),
+            (6, 6600, PROBLEM, DOWN, 5, 1),
+            (6, 6600, PROBLEM, DOWN, 5, 2),
+            (7, 9300, PROBLEM, DOWN, 6, 2),
+            (9, 12_900, PROBLEM, DOWN, 7, 2),
+        ],
+        ..NOTHING
+    },
+    Case {
+        what: "an escalation's period",
+        rows: AT_NIGHT,
+        events: THREE_AND_UP,
+        notices: &[
             (0, 1000, PROBLEM, DOWN, 1, 0),
             (1, 1060, PROBLEM, DOWN, 2, 1),
             (2, 1120, PROBLEM, DOWN, 3, 0),
             (3, 1130, RECOVERY, UP, 4, 0),
         ],
-        &[],
-    )
+        ..NOTHING
+    },
+];
+
+/// Services: an interval of 0, dependencies, and their host's downtimes.
+static SERVICES: [Case; 5] = [
+    Case {
+        what: "an interval of 0",
+        rows: NEVER_AFTER_FOUR,
+        events: &[
+            (1000, EventKind::Hard(ObjectId(1), State::Warning)),
+            (1060, CLOCK),
+            (1120, CLOCK),
+            (1180, CLOCK),
+            (1240, CLOCK),
+            (9999, CLOCK),
+            (10_000, EventKind::Hard(ObjectId(1), State::Critical)),
+            (20_000, CLOCK),
+        ],
+        object: 1,
+        notices: &[
+            (0, 1000, PROBLEM, WARNING, 1, 0),
+            (1, 1060, PROBLEM, WARNING, 2, 0),
+            (2, 1120, PROBLEM, WARNING, 3, 0),
+            (3, 1180, PROBLEM, WARNING, 4, 1),
+            (6, 10_000, PROBLEM, CRITICAL, 5, 1),
+        ],
+        ..NOTHING
+    },
+    Case {
+        what: "a chain's first service",
+        rows: CHAIN,
+        events: CHAIN_EVENTS,
+        object: 1,
+        notices: &[(0, 1000, PROBLEM, CRITICAL, 1, 0)],
+        ..NOTHING
+    },
+    Case {
+        what: "a chain's last service",
+        rows: CHAIN,
+        events: CHAIN_EVENTS,
+        object: 3,
+        suppressions: &[(1, 1000, PROBLEM, CRITICAL, 1, Filter::Dependency, None)],
+        ..NOTHING
+    },
+    Case {
+        what: "downtimes within one another",
+        rows: NEVER_AFTER_FOUR,
+        events: NESTED,
+        notices: &[
+            (0, 1000, Kind::DowntimeStart, PENDING, 0, 0),
+            (4, 1040, Kind::DowntimeCancelled, PENDING, 0, 0),
+        ],
+        ..NOTHING
+    },
+    Case {
+        what: "a service of a host in downtime",
+        rows: NEVER_AFTER_FOUR,
+        events: NESTED,
+        object: 1,
+        suppressions: &[(1, 1010, PROBLEM, CRITICAL, 1, Filter::Downtime, None)],
+        ..NOTHING
+    },
+];
+
+/// A period, by UTC and in a zone.
+static IN_PERIODS: [Case; 2] = [
+    Case {
+        what: "hours of work",
+        rows: AT_WORK,
+        events: &[(61_200, HOST_DOWN), (118_799, CLOCK), (118_800, CLOCK)],
+        notices: &[(2, 118_800, PROBLEM, DOWN, 1, 0)],
+        suppressions: &[(0, 61_200, PROBLEM, DOWN, 1, Filter::Period, None)],
+        ..NOTHING
+    },
+    Case {
+        what: "the night of 10 March 2024, on which New York's clocks go on by an hour: work begins at 13:00 UTC",
+        rows: AT_WORK,
+        zone: Some("EST5EDT,M3.2.0,M11.1.0"),
+        events: &[
+            (1_710_046_800, HOST_DOWN),
+            (1_710_075_599, CLOCK),
+            (1_710_075_600, CLOCK),
+        ],
+        notices: &[(2, 1_710_075_600, PROBLEM, DOWN, 1, 0)],
+        suppressions: &[(0, 1_710_046_800, PROBLEM, DOWN, 1, Filter::Period, None)],
+        ..NOTHING
+    },
+];
+
+/// Whether notices are those that are told of an object, by the one lane.
+fn are_told(found: &[Notice], case: &Case) -> bool {
+    if found.len() != case.notices.len() {
+        return false;
+    }
+    for (found, told) in found.iter().zip(case.notices) {
+        let (event, moment, kind, state, number, contact) = *told;
+        let wanted = Notice {
+            event,
+            moment,
+            object: ObjectId(case.object),
+            kind,
+            state,
+            number,
+            contact: ContactId(contact),
+            lane: LaneId(0),
+        };
+        if *found != wanted {
+            return false;
+        }
+    }
+    true
+}
+
+/// Whether suppressions are those of an object.
+fn are_stopped(found: &[Suppression], case: &Case) -> bool {
+    if found.len() != case.suppressions.len() {
+        return false;
+    }
+    for (found, stopped) in found.iter().zip(case.suppressions) {
+        let (event, moment, kind, state, number, filter, contact) = *stopped;
+        let wanted = Suppression {
+            event,
+            moment,
+            object: ObjectId(case.object),
+            kind,
+            state,
+            number,
+            filter,
+            contact: contact.map(ContactId),
+        };
+        if *found != wanted {
+            return false;
+        }
+    }
+    true
+}
+
+/// The slow program says what the case tells, in a zone.
+fn says(
+    rt: &impl Abort,
+    alloc: Global,
+    config: &Config,
+    zone: &Zone,
+    events: &[Event],
+    case: &Case,
+) -> Result<(), AllocError> {
+    let object = ObjectId(case.object);
+    assert!(rt; is_accepted(config) && has_object(config, object) && are_proper(config, events));
+    let due = slow_due(alloc, config, zone, events, object, LaneId(0))?;
+    assert!(rt; are_told(due.as_slice(), case), "{}: notices", case.what);
+    let stopped = slow_sup(alloc, config, zone, events, object)?;
+    assert!(rt;
+        are_stopped(stopped.as_slice(), case),
+        "{}: suppressions",
+        case.what
+    );
+    Ok(())
+}
+
+/// The same in the zone of the case.
+fn says_in_zone(
+    rt: &impl Abort,
+    alloc: Global,
+    config: &Config,
+    events: &[Event],
+    case: &Case,
+) -> Result<(), AllocError> {
+    match zone_given(alloc, case.zone, None) {
+        Ok(zone) => says(rt, alloc, config, &zone, events, case),
+        Err(_) => panic!(rt; "no zone"),
+    }
+}
+
+/// The events of a case.
+fn events_of(alloc: Global, case: &Case) -> Result<Vec<Event>, AllocError> {
+    let mut made = Vec::new(alloc);
+    for (moment, kind) in case.events {
+        made.push(Event {
+            moment: *moment,
+            kind: *kind,
+        })?;
+    }
+    Ok(made)
+}
+
+/// The same in the configuration of the case.
+fn says_of_rows(
+    rt: &impl Abort,
+    alloc: Global,
+    events: &[Event],
+    case: &Case,
+) -> Result<(), AllocError> {
+    let config = config_of(alloc, case.rows)?;
+    says_in_zone(rt, alloc, &config, events, case)
+}
+
+/// What is tried says what is told.
+fn gives(rt: &impl Abort, alloc: Global, case: &Case) -> Result<(), AllocError> {
+    let events = events_of(alloc, case)?;
+    says_of_rows(rt, alloc, events.as_slice(), case)
+}
+
+/// The same of each case.
+fn all_give(rt: &impl Abort, alloc: Global, cases: &[Case]) -> Result<(), AllocError> {
+    for case in cases {
+        gives(rt, alloc, case)?;
+    }
+    Ok(())
+}
+
+#[test]
+fn one_host(rt: HostRuntime) -> Result<(), AllocError> {
+    all_give(&rt, rt.alloc(), &ONE_HOST)
+}
+
+#[test]
+fn stopped(rt: HostRuntime) -> Result<(), AllocError> {
+    all_give(&rt, rt.alloc(), &STOPPED)
+}
+
+#[test]
+fn escalated(rt: HostRuntime) -> Result<(), AllocError> {
+    all_give(&rt, rt.alloc(), &ESCALATED)
+}
+
+#[test]
+fn services(rt: HostRuntime) -> Result<(), AllocError> {
+    all_give(&rt, rt.alloc(), &SERVICES)
+}
+
+#[test]
+fn in_periods(rt: HostRuntime) -> Result<(), AllocError> {
+    all_give(&rt, rt.alloc(), &IN_PERIODS)
 }

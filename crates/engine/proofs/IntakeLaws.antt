@@ -1,10 +1,10 @@
 -- What the answers of a feeder say of the lines of its feed, and what was taken of them.
 use Rattle.std.proofs.Common.{◌≡◌, ◌≢◌, ℕ, ◌+◌, ◌<◌, true, false, cond, ◌||◌, All, List, [], ◌∷◌, ◌++◌, length, Option, None, Some, Bool, IsSome, IfSome, IsTrue, Ok, Err, refl, sym, ap, subst, ◌∙◌, arith, append_assoc, length-append}
-use Rattle.std.specs.List.{list_any}
 use Rattle.std.proofs.lemmas.Bool.{eq-eqb, ne_eqb}
 use Rattle.std.proofs.lemmas.Grind.{flat_map-append}
 use Rattle.std.proofs.lemmas.List.{append-nil}
 use Rattle.std.proofs.lemmas.List.Elements.{All-push}
+use Rattle.std.proofs.lemmas.List.Folds.{list_any-append, list_any_none}
 use Rattle.std.proofs.lemmas.Option.{IfSome_then}
 use Rattle.due_model.specs.declared.config.Config.{Config}
 use Rattle.due_model.specs.declared.event.Event.{Event}
@@ -27,19 +27,15 @@ use Rattle.event_feed.specs.FeedLaws.{known_then, Passed, passed_more, event_pas
 -- what was given, and what is given of the feed after it
 given_then : (can_fail : Bool) (c : Config) (start : Feed) (given : List Answer) (now : Feed) (events : List Event) (refused : List RefusedLine) (others : List Answer)
     → CameFirst c start given now events refused → AreGivenBy can_fail c.objects now others → AreGivenBy can_fail c.objects start (given ++ others)
-given_then can_fail c start given now events refused others f h = then_by can_fail c start now given others start.bytes now.bytes f.line f.earlier f.answers f.lines h
+given_then can_fail c start given now events refused others f h = then_by can_fail c start now given others start.bytes now.bytes f.line f.earlier f.read_on f.answers f.lines h
 
 -- ---- from answer to answer
 
--- the first doesn't pass where none does
-any_later : (v : Bool) (xs more b : Bool) → (v || xs) ≡ false → (xs ≡ false → more ≡ b) → (v || more) ≡ b
-any_later true xs more b h f = absurd (cc)
-any_later false xs more b h f = f h
-
-any_push : (p : Answer → Bool) (xs : List Answer) (x : Answer) (b : Bool) → list_any p xs ≡ false → p x ≡ b → list_any p (xs ++ x ∷ []) ≡ b
-any_push p [] x true h e = ap (λ b. b || false) e
-any_push p [] x false h e = ap (λ b. b || false) e
-any_push p (y ∷ xs) x b h e = any_later (p y) (list_any p xs) (list_any p (xs ++ x ∷ [])) b h (λ k. any_push p xs x b k e)
+-- answers of which none ends the feed, and then some
+cut_after : (given more : List Answer) → All (λ (a : Answer). ends_feed a.given ≡ false) given → is_cut (given ++ more) ≡ is_cut more
+cut_after given more on =
+    let ends : Answer → Bool = λ a. ends_feed a.given in
+    list_any-append ends given more ∙ ap (λ b. b || is_cut more) (list_any_none ends given on)
 
 -- an answer more, of this number of events
 taken_one : (given : List Answer) (answer : Answer) (n n' : ℕ) → is_unnumbered n answer.given ≡ false → n' ≡ count_after n answer.given
@@ -73,6 +69,7 @@ came_more c start given now events refused answer new events' refused' f next le
       (λ xs ys zs p q. p ∙ ap (λ more. given ++ more) q ∙ sym (append_assoc given (answer ∷ []) (answers_from c.objects new zs)));
   line = omega (arith, f.line, less);
   earlier = earlier_more given answer now.line new.line (omega (arith, less)) (omega (arith, at)) f.earlier;
+  read_on = All-push (λ (a : Answer). ends_feed a.given ≡ false) given answer f.read_on runs;
   lines = known_then start.bytes now.bytes new.bytes
       (λ bytes rest. Passed start.line (pieces bytes) now.line (pieces rest))
       (λ bytes rest. Passed now.line (pieces bytes) new.line (pieces rest))
@@ -81,7 +78,6 @@ came_more c start given now events refused answer new events' refused' f next le
   events_are = e ∙ ap (λ (xs : List Event). xs ++ event_in answer.given) f.events_are ∙ sym (events_push given answer);
   refused_are = r ∙ ap (λ (xs : List RefusedLine). xs ++ refused_in answer.line answer.given) f.refused_are ∙ sym (refusals_push given answer);
   taken = taken_one given answer (length events) (length events') numbered count f.taken;
-  not_cut = any_push (λ (a : Answer). ends_feed a.given) given answer false f.not_cut runs;
 }
 
 -- ---- what a line makes of what was read
@@ -150,7 +146,7 @@ over_whole can_fail c start said old new h gives events refused = record {
   given = said ++ [];
   said_is = sym (h.first.taken [] ∙ append-nil said);
   of_feed = given_then can_fail c start said old.feed old.events old.refused [] h.first (none_given can_fail c.objects old.feed new.feed gives.answers);
-  taken = taken_last can_fail c start said old.feed old.events old.refused [] [] false new.events new.refused h.first refl (ap is_cut (append-nil said) ∙ h.first.not_cut)
+  taken = taken_last can_fail c start said old.feed old.events old.refused [] [] false new.events new.refused h.first refl (cut_after said [] h.first.read_on)
       (events ∙ h.first.events_are ∙ ap events_in (sym (append-nil said))) (refused ∙ h.first.refused_are ∙ ap refusals_in (sym (append-nil said)));
   proper = subst (λ (xs : List Event). All (IsProper c) xs) (sym events) h.proper;
   named = subst (λ (xs : List RefusedLine). All (λ r. r.fault ≢ NoMemory) xs) (sym refused) h.named;
@@ -165,7 +161,7 @@ cut_by can_fail c start said old new last fault h of taken short other events re
   said_is = sym (h.first.taken last ∙ ap (λ more. said ++ more) taken);
   of_feed = given_then can_fail c start said old.feed old.events old.refused last h.first of;
   taken = taken_last can_fail c start said old.feed old.events old.refused last (refusal fault ∷ []) true new.events new.refused h.first taken
-      (any_push (λ (a : Answer). ends_feed a.given) said (refusal fault) true h.first.not_cut short)
+      (cut_after said (refusal fault ∷ []) h.first.read_on ∙ ap (λ b. b || false) short)
       (events ∙ sym (append-nil old.events) ∙ ap (λ (xs : List Event). xs ++ []) h.first.events_are ∙ sym (events_push said (refusal fault)))
       (refused ∙ ap (λ (xs : List RefusedLine). xs ++ fault ∷ []) h.first.refused_are ∙ sym (refusals_push said (refusal fault)));
   proper = subst (λ (xs : List Event). All (IsProper c) xs) (sym events) h.proper;

@@ -1,5 +1,5 @@
 -- What the next line of the feed, and then all of them, make of a run.
-use Rattle.std.proofs.Common.{◌≡◌, ◌≢◌, ℕ, ◌+◌, ◌<◌, ◌≤◌, All, Bool, List, [], ◌++◌, length, reverse, refl, sym, ap, subst, ◌∙◌, ◌⊎◌, inl, inr, arith, Option, None, Some, Result, Ok, Err, IfOk, IsErr}
+use Rattle.std.proofs.Common.{◌≡◌, ◌≢◌, ℕ, ◌+◌, ◌<◌, ◌≤◌, All, Bool, false, List, [], ◌++◌, length, reverse, refl, sym, ap, subst, ◌∙◌, ◌⊎◌, inl, inr, arith, Option, None, Some, Result, Ok, Err, IfOk, IsErr}
 use Rattle.std.specs.declared.alloc.AllocError.{AllocError}
 use Rattle.std.proofs.lemmas.Iterator.Adapters.{option_map_id}
 use Rattle.std.proofs.lemmas.List.Elements.{All-nil}
@@ -10,7 +10,7 @@ use Rattle.due_model.specs.Accepted.{IsAccepted}
 use Rattle.due_model.specs.Proper.{IsProper}
 use Rattle.event_feed.specs.declared.fault.FeedFault.TheVariants.{NoMemory}
 use Rattle.event_feed.specs.declared.fault.RefusedLine.{RefusedLine}
-use Rattle.event_feed.specs.Feed.{Answer, Feed, answers_from, feed_limit, feed_of, refusal}
+use Rattle.event_feed.specs.Feed.{Answer, Feed, answers_from, ends_feed, feed_limit, feed_of, refusal}
 use Rattle.text_lines.specs.LineReader.{Reading, to_come}
 use Rattle.text_lines.specs.Lines.{pieces}
 use Rattle.engine.specs.declared.intake.Next.{Next}
@@ -73,11 +73,11 @@ nothing_first c start = record {
   answers = known_same start.bytes (λ bytes rest. answers_from c.objects start bytes ≡ [] ++ answers_from c.objects start rest) (λ xs. refl);
   line = omega arith;
   earlier = All-nil (λ (answer : Answer). answer.line ≤ start.line);
+  read_on = All-nil (λ (answer : Answer). ends_feed answer.given ≡ false);
   lines = known_same start.bytes (λ bytes rest. (before : List (List ℕ)) × (pieces bytes ≡ before ++ pieces rest) × (start.line ≡ start.line + length before)) (λ xs. ([], refl, omega arith));
   events_are = refl;
   refused_are = refl;
   taken = λ others. refl;
-  not_cut = refl;
 }
 
 -- nothing was read, and nothing is decided

@@ -102,20 +102,20 @@ pub record Kept : Type 0 where
   pub events_room : ℕ
   pub refused_room : ℕ
 
--- These came first of a feed's answers, and the feed goes on after them; what was taken of them, and of any that come after
--- them, is these events and refused lines first.
+-- These came first of a feed's answers, none of them ends the feed, and it goes on after them; what was taken of them, and of
+-- any that come after them, is these events and refused lines first.
 pub record CameFirst (c : Config) (start : Feed) (given : List Answer) (now : Feed)
     (events : List Event) (refused : List RefusedLine) : Type 0 where
   pub answers : Known start.bytes now.bytes
       (λ bytes rest. answers_from c.objects start bytes ≡ given ++ answers_from c.objects now rest)
   pub line : start.line ≤ now.line
   pub earlier : All (λ answer. answer.line ≤ now.line) given
+  pub read_on : All (λ answer. ends_feed answer.given ≡ false) given
   pub lines : PassesLines start now
   pub events_are : events ≡ events_in given
   pub refused_are : refused ≡ refusals_in given
   pub taken : (others : List Answer)
       → taken_after 0 (given ++ others) ≡ given ++ taken_after (length events) others
-  pub not_cut : is_cut given ≡ false
 
 -- these answers, and one more, if there is one
 abbrev pub with_one : List Answer → Option Answer → List Answer

@@ -1,5 +1,5 @@
 -- What the reading of lines makes of the answers to come.
-use Rattle.std.proofs.Common.{◌≡◌, ◌≢◌, inl, inr, Bool, IfSome, ℕ, suc, ◌+◌, ◌-◌, ◌*◌, ◌<◌, ◌≤◌, max, true, false, cond, ltb, leb, eqb, List, [], ◌∷◌, ◌++◌, append_assoc, length, take, drop, replicate, Option, Some, None, Result, Ok, Err, refl, sym, ap, subst, ◌∙◌, arith, one-add}
+use Rattle.std.proofs.Common.{◌≡◌, ◌≢◌, inl, inr, Bool, IfSome, OnSome, ℕ, suc, ◌+◌, ◌-◌, ◌*◌, ◌<◌, ◌≤◌, max, true, false, cond, ltb, leb, eqb, List, [], ◌∷◌, ◌++◌, append_assoc, length, take, drop, replicate, Option, Some, None, Result, Ok, Err, refl, sym, ap, subst, ◌∙◌, arith, one-add}
 use Rattle.std.specs.Prelude.{is_some, IfNone, IsTrue, take_while}
 use Rattle.std.specs.List.{list_any}
 use Rattle.std.proofs.lemmas.List.Folds.{list_any-append}
@@ -24,7 +24,7 @@ use Rattle.event_feed.specs.Line.{line_reading}
 use Rattle.text_lines.specs.Lines.{is_newline, IsUnbroken, BeginsWithLine, pieces, Known, has_newline, has_line}
 use Rattle.text_lines.specs.CountedReader.{calls_after}
 use Rattle.text_lines.specs.LineReader.{Reading, to_come, line_limit, byte_limit, call_limit, CallsFit, ReadsFrom, ReadsLine, ReadsHeld}
-use Rattle.event_feed.specs.Feed.{Answer, AreGiven, AreGivenBy, HasLong, least_at_read, refusal, answers, feed_limit, is_stopped, text_reading, moment_after, AreFromLine, ComesNext, ComesLong, ComesWithin, ComesTo, GivesEvent, GivesFault, feed_of, lines_asked, raised}
+use Rattle.event_feed.specs.Feed.{Answer, AreGiven, AreGivenBy, HasLong, ends_feed, least_at_read, refusal, answers, feed_limit, is_stopped, text_reading, moment_after, AreFromLine, ComesNext, ComesLong, ComesWithin, ComesTo, GivesEvent, GivesFault, feed_of, lines_asked, raised}
 use Rattle.event_feed.specs.Feeder.{LineAnswers, GoesToLine, CountsLine, begun_lines}
 use Rattle.lemmas.proofs.Lists.{HasFirst, slice_split-first}
 use Rattle.event_feed.proofs.ProperLines.{line_reading-fault}
@@ -356,6 +356,10 @@ GivesFault-long objects before after line last line' None goes_on goes counts =
 
 -- ---- where a feed is over
 
+pub on_some : {A : Type 0} (found : Option A) (P : Type 0) → P → OnSome found P
+on_some None P h = tt
+on_some (Some x) P h = h
+
 -- the line that comes is one of the feed
 has_long : (from : ℕ) (texts : List (List ℕ)) (line count least : ℕ) → least ≤ count → ComesLong from texts line count → HasLong from texts line least
 has_long from texts line count least few comes = record {
@@ -386,6 +390,7 @@ breaks_off can_fail all from texts line fault is place later = inr (record {
   begins = refl;
   place = place;
   earlier = All-nil (λ (answer : Answer). answer.line < line);
+  read_on = All-nil (λ (answer : Answer). ends_feed answer.given ≡ false);
   later = later;
   whole = let e : Read ≡ fault = cc in ap (λ (x : FeedFault). record { line = line; given = Err x } ∷ []) (sym e);
 })

@@ -203,8 +203,14 @@ pub record HasLong (from : ℕ) (texts : List (List ℕ)) (line count : ℕ) : T
   pub number : line ≡ from + length before + 1
   pub long : count ≤ length text
 
--- The reading broke off at a line of the feed: the first of its answers were given, and then the refusal of that line. It
--- is after the lines of those answers, and not after the line of the next. Where the reader can't fail, the line is long.
+-- whether a fault ends the feed before its input ends: Cut, Read or Ended
+abbrev pub ends_feed : Result Event FeedFault → Bool
+ends_feed (Ok e) = false
+ends_feed (Err fault) = not (is_line_fault fault)
+
+-- The reading broke off at a line of the feed: the first of its answers were given, of which none ends the feed, and then
+-- the refusal of that line. It is after the lines of those answers, and not after the line of the next. Where the reader
+-- can't fail, the line is long.
 pub record BreaksOff (can_fail : Bool) (given all : List Answer) (from : ℕ)
     (texts : List (List ℕ)) : Type 0 where
   pub front : List Answer
@@ -213,6 +219,7 @@ pub record BreaksOff (can_fail : Bool) (given all : List Answer) (from : ℕ)
   pub begins : all ≡ front ++ others
   pub place : HasLong from texts line (least_at_read can_fail)
   pub earlier : All (λ answer. answer.line < line) front
+  pub read_on : All (λ answer. ends_feed answer.given ≡ false) front
   pub later : AreFromLine line others
   pub whole : given ≡ front ++ record { line = line; given = Err Read } ∷ []
 
@@ -282,11 +289,6 @@ lines_asked (Some InputEnded) passed = passed + 1
 lines_asked stop passed = passed
 
 -- ---- for those who read a feed
-
--- whether a fault ends the feed before its input ends: Cut, Read or Ended
-abbrev pub ends_feed : Result Event FeedFault → Bool
-ends_feed (Ok e) = false
-ends_feed (Err fault) = not (is_line_fault fault)
 
 -- the bytes left are the lines after those that were read
 abbrev pub PassesLines : Feed → Feed → Type 0

@@ -193,6 +193,7 @@ earlier_below given front line later below h k =
 
 pub then_by : (can_fail : Bool) (c : Config) (start now : Feed) (given others : List Answer)
     (bytes rest : Option (List ℕ)) → start.line ≤ now.line → All (λ a. a.line ≤ now.line) given
+    → All (λ a. ends_feed a.given ≡ false) given
     → Known bytes rest (λ before after. answers_from c.objects start before
     ≡ given ++ answers_from c.objects now after)
     → Known bytes rest (λ before after. Passed start.line (pieces before) now.line (pieces after))
@@ -200,11 +201,11 @@ pub then_by : (can_fail : Bool) (c : Config) (start now : Feed) (given others : 
     (pieces after))
     → IfSome bytes (λ before. AreGiven can_fail (given ++ others)
     (answers_from c.objects start before) start.line (pieces before))
-then_by can_fail c start now given others None rest line earlier f l h = tt
-then_by can_fail c start now given others (Some before) None line earlier f l h = absurd f
-then_by can_fail c start now given others (Some before) (Some after) line earlier f l (inl same) =
+then_by can_fail c start now given others None rest line earlier on f l h = tt
+then_by can_fail c start now given others (Some before) None line earlier on f l h = absurd f
+then_by can_fail c start now given others (Some before) (Some after) line earlier on f l (inl same) =
     inl (ap (λ more. given ++ more) same ∙ sym f)
-then_by can_fail c start now given others (Some before) (Some after) line earlier f l (inr fails) =
+then_by can_fail c start now given others (Some before) (Some after) line earlier on f l (inr fails) =
     let first : now.line < fails.line = omega (arith, fails.place.number) in
     inr (record {
       front = given ++ fails.front;
@@ -215,6 +216,7 @@ then_by can_fail c start now given others (Some before) (Some after) line earlie
       place = place_more start.line now.line (pieces before) (pieces after) fails.line
           (least_at_read can_fail) l fails.place;
       earlier = earlier_below given fails.front now.line fails.line first earlier fails.earlier;
+      read_on = All-append (λ a. ends_feed a.given ≡ false) given fails.front on fails.read_on;
       later = fails.later;
       whole = ap (λ more. given ++ more) fails.whole
           ∙ sym (append_assoc given fails.front

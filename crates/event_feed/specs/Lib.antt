@@ -3,3 +3,4 @@ pub mod Line
 pub mod Feed
 pub mod Feeder
 pub mod FeedLaws
+pub mod Laws

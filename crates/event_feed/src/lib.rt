@@ -4,6 +4,7 @@
 
 pub mod fault;
 pub mod feeder;
+pub mod laws;
 pub mod line;
 
 pub use fault::{FeedFault, RefusedLine, stop_fault};

@@ -4,6 +4,7 @@ ghost use Rattle.std.specs.Prelude.{◌≡◌, ◌+◌, ◌<◌, ◌^◌, length
 ghost use Rattle.object_dependencies.specs.Pairs.{ArePairs, kept_states};
 ghost use Rattle.object_groups.specs.declared.groups.GroupKind.TheVariants.{HostGroups};
 ghost use Rattle.object_groups.specs.Objects.{names_in, objects_in};
+ghost use Rattle.object_reached.specs.declared.roles.Role.TheVariants.{Dependent, Master};
 ghost use Rattle.object_reader.specs.declared.block.BlockKind.TheVariants.{Host, Service};
 ghost use Rattle.object_services.specs.Limits.{AreHostLists};
 ghost use Rattle.object_services.specs.Numbers.{pairs_of};
@@ -82,6 +83,30 @@ impl<'a, 'l> DependencyBlocks<'a, 'l> {
         ensures { result.now ≡ self.now.blocks }
     {
         self.blocks
+    }
+
+    /// The objects of which they speak as masters, and as dependents.
+    pub fn masters(&self) -> &Reached<'a>
+        ensures { result.now ≡ record { blocks = self.now.blocks; role = Master } }
+    {
+        &self.masters
+    }
+
+    pub fn dependents(&self) -> &Reached<'a>
+        ensures { result.now ≡ record { blocks = self.now.blocks; role = Dependent } }
+    {
+        &self.dependents
+    }
+
+    /// The services.
+    pub fn services(&self) -> &'l HostServices<'a>
+        ensures lists { AreHostLists self.now.blocks (objects_in self.now.blocks Service)
+            self.now.lists }
+        ensures services { result.now
+            ≡ pairs_of (names_in self.now.blocks Service) self.now.lists }
+        ensures few { length (names_in self.now.blocks Host) + length result.now < 2 ^ 32 }
+    {
+        self.services
     }
 
     /// How many services there are.

@@ -1,3 +1,1 @@
-mod ChainLemmas
-mod LinkLemmas
 mod LoopLemmas

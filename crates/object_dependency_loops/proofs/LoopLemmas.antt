@@ -1,33 +1,44 @@
--- The first block on a loop is the least node on one.
-use Rattle.std.proofs.Common.{ℕ, ◌<◌, List, length}
+-- The blocks on loops are the rules on loops.
+use Rattle.std.proofs.Common.{ℕ, ◌<◌, ◌≡◌, List, [], length, subst}
 use Rattle.std.specs.Prelude.{Contains, ◌↔◌}
 use Rattle.graph.specs.declared.edges.Edge.{Edge}
-use Rattle.graph.specs.Chains.{HasNoLoop}
-use Rattle.graph.specs.Edges.{Leads}
-use Rattle.graph_order.specs.Loops.{IsFirstOnLoop}
-use Rattle.object_dependencies.specs.Loops.{HasNoDependencyLoop, IsFirstLooped}
+use Rattle.graph.specs.Chains.{Reaches}
+use Rattle.graph_rules.specs.declared.rules.Rules.{Rules}
+use Rattle.graph_rules.specs.Rules as rules
+use Rattle.lemmas.proofs.Chains.{Chain-map}
+use Rattle.lemmas.proofs.Elements.{Contains-none}
+use Rattle.object_dependencies.specs.Loops.{Depends, HasNoDependencyLoop, IsFirstLooped, IsLoopedAt}
 use Rattle.object_dependencies.specs.Pairs.{BlocksOf, DependsAt}
-use Rattle.object_dependency_loops.specs.Links.{AreLinksBelow, edge, IsLink}
-use Rattle.object_dependency_loops.proofs.ChainLemmas.{least-is-block, looped-from, looped-to}
-use Rattle.object_dependency_loops.proofs.LinkLemmas.{kept-within}
+use Rattle.object_dependency_rules.specs.Places.{AreRulesOf}
 
-module _ (b : BlocksOf) (graph : List (List ℕ)) (edges : List Edge) (links : AreLinksBelow b (length b.blocks) edges) (leads : (p q : ℕ) → Leads graph p q ↔ Contains edges (edge p q)) where
-  mixed : (place p q r s : ℕ) → DependsAt b.blocks b.lists place p q → DependsAt b.blocks b.lists place r s → DependsAt b.blocks b.lists place p s
-  mixed place p q r s one other = (one.0, one.1, other.2)
+module _ (b : BlocksOf) (r : Rules) (are : AreRulesOf b r) where
+  by-rule : (place d m : ℕ) → DependsAt b.blocks b.lists place d m → rules.DependsBy r place d m
+  by-rule place d m (kept, one, other) = ((are.dependents place d).1 (kept, one), (are.masters place m).1 (kept, other))
 
-  low : (place p q : ℕ) → DependsAt b.blocks b.lists place p q → place < length b.blocks
-  low place p q at = kept-within b.blocks place at.0
+  by-block : (place d m : ℕ) → rules.DependsBy r place d m → DependsAt b.blocks b.lists place d m
+  by-block place d m (one, other) =
+      let dependent = (are.dependents place d).0 one in
+      (dependent.0, dependent.1, ((are.masters place m).0 other).1)
 
-  through : (from to : ℕ) → Leads graph from to ↔ ((at : ℕ) × (at < length b.blocks) × IsLink b at from to)
-  through from to = ((λ led. (links from to).0 ((leads from to).0 led)), (λ some. (leads from to).1 ((links from to).1 some)))
+  looped-rule : (place : ℕ) → IsLoopedAt b.blocks b.lists place → rules.IsLooped r place
+  looped-rule place (d, m, at, (steps, chain)) =
+      (d, m, by-rule place d m at, (steps, Chain-map (Depends b.blocks b.lists) (rules.Depends r) (λ p q some. (some.0, by-rule some.0 p q some.1)) steps m d chain))
 
-  pub none-looped : HasNoLoop (Leads graph) → HasNoDependencyLoop b.blocks b.lists
-  none-looped none place looped =
-      let loop = looped-to (length b.blocks) (DependsAt b.blocks b.lists) mixed low (Leads graph) through place looped in none loop.0 place loop.1
+  looped-block : (place : ℕ) → rules.IsLooped r place → IsLoopedAt b.blocks b.lists place
+  looped-block place (d, m, at, (steps, chain)) =
+      (d, m, by-block place d m at, (steps, Chain-map (rules.Depends r) (Depends b.blocks b.lists) (λ p q some. (some.0, by-block some.0 p q some.1)) steps m d chain))
 
-  pub first-looped : (p : ℕ) → IsFirstOnLoop graph p → IsFirstLooped b.blocks b.lists p
-  first-looped p is = record {
-    looped = looped-from (length b.blocks) (DependsAt b.blocks b.lists) mixed low (Leads graph) through p
-        (least-is-block (length b.blocks) (DependsAt b.blocks b.lists) mixed low (Leads graph) through p is.on_loop is.first) is.on_loop;
-    first = λ earlier before looped. is.first earlier before (looped-to (length b.blocks) (DependsAt b.blocks b.lists) mixed low (Leads graph) through earlier looped);
+  pub first-looped : (place : ℕ) → rules.IsFirstLooped r place → IsFirstLooped b.blocks b.lists place
+  first-looped place is = record {
+    looped = looped-block place is.looped;
+    first = λ earlier before looped. is.first earlier before (looped-rule earlier looped);
   }
+
+  pub none-looped : rules.HasNoLoop r → HasNoDependencyLoop b.blocks b.lists
+  none-looped none place looped = none place (looped-rule place looped)
+
+  -- without dependents
+  pub none-depends : r.dependents.items ≡ [] → HasNoDependencyLoop b.blocks b.lists
+  none-depends empty place (d, m, at, chain) =
+      let dependent = (by-rule place d m at).0 in
+      Contains-none (rules.edge place dependent.0) (subst (λ (es : List Edge). Contains es (rules.edge place dependent.0)) empty dependent.1)

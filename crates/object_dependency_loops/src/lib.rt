@@ -2,5 +2,4 @@
 //! that lies on one.
 #![tactic(auto)]
 
-mod edges;
 pub mod loops;

@@ -1,6 +1,6 @@
 -- The graph in which members are found: what its edges are, and that a chain in it leads from a group to an
 -- object exactly where the object is a member.
-use Rattle.std.proofs.Common.{◌≡◌, ℕ, zero, suc, ◌+◌, ◌<◌, ◌≤◌, Bool, true, false, cond, List, [], ◌∷◌, ◌++◌, length, map, get_or, Some, None, refl, sym, subst, ◌∙◌, ◌⊎◌, inl, inr, ⊎_elim, arith}
+use Rattle.std.proofs.Common.{◌≡◌, ℕ, zero, suc, ◌+◌, ◌<◌, ◌≤◌, true, List, [], ◌∷◌, ◌++◌, length, map, get_or, Some, refl, sym, subst, ◌∙◌, ◌⊎◌, inl, inr, ⊎_elim, arith}
 use Rattle.std.specs.Prelude.{All, Contains}
 use Rattle.std.specs.List.{flat_map, range_with_len}
 use Rattle.std.proofs.lemmas.Bool.{cases_lt, false≢true}
@@ -8,52 +8,17 @@ use Rattle.std.proofs.lemmas.List.{get_or_past}
 use Rattle.std.proofs.lemmas.List.Elements.{All-from_get_or, Contains-append_left, Contains-append_right, Contains-append_cases, Contains-get_or}
 use Rattle.graph.specs.declared.edges.Edge.{Edge}
 use Rattle.graph.specs.Chains.{Chain, Reaches}
-use Rattle.graph.specs.Edges.{IsWithin}
+use Rattle.graph.specs.Edges.{IsWithin, Leads}
 use Rattle.object_groups.specs.declared.lists.Direction.TheVariants.{FromNames, ToNames}
 use Rattle.object_groups.specs.ListEdges.{edge, IsEdge, named, nodes_of}
 use Rattle.object_groups.specs.Members.{Grouping, Holds, Includes, IsMember}
 use Rattle.object_groups.specs.Names.{is_all, Lists, numbers_of}
-use Rattle.object_groups.specs.Nodes.{all_groups, all_objects, edges_in, end_edges, group_ends, group_node, member_edges, node_count, of_all_groups, own_edges, subgroup_edges}
+use Rattle.object_groups.specs.Nodes.{all_groups, all_objects, edges_in, end_edges, group_ends, group_node, IsGraphOf, LeadsToMembers, member_edges, node_count, of_all_groups, own_edges, subgroup_edges}
 use Rattle.object_groups.specs.ObjectLaws.{listed-within, numbers-within}
-use Rattle.object_groups.specs.NodeLaws.{edge-from, edge-to}
+use Rattle.object_groups.specs.NodeLaws.{edge-from, edge-to, from-node, FromNode, to-node}
 use Rattle.object_groups.specs.ReachLaws.{list-edge, of-list}
 use Rattle.lemmas.proofs.Elements.{Contains-cases, Contains-flat_map, Contains-from_flat_map, Contains-from_map, Contains-from_range, Contains-here, Contains-later, Contains-map, Contains-none, Contains-range}
 use Rattle.lemmas.proofs.Chains.{Reaches-join}
-
--- ---- the nodes that a list names
-
--- a list names one: by the node of all, or by its own
-abbrev ToNode : (names entries : List (List ℕ)) (first all k : ℕ) → Type 0
-ToNode names entries first all k =
-    Contains (nodes_of names entries first (Some all)) all ⊎ Contains (nodes_of names entries first (Some all)) (first + k)
-
-to_node : (names entries : List (List ℕ)) (first all k : ℕ) → Lists names entries k → ToNode names entries first all k
-to_node names entries first all k lists = by_all (is_all entries) refl lists
-  where
-    by_all : (b : Bool) → is_all entries ≡ b → Lists names entries k → ToNode names entries first all k
-    by_all true is lists = inl (rw is (Contains-here all []))
-    by_all false is (inl every) = absurd (false≢true (sym is ∙ every.0))
-    by_all false is (inr named) = inr (rw is (Contains-map (λ number. first + number) (numbers_of names entries) k named))
-
--- a node is that of all, or that of one that the list names
-abbrev FromNode : (names entries : List (List ℕ)) (first all node : ℕ) → Type 0
-FromNode names entries first all node = ((node ≡ all) × (is_all entries ≡ true))
-    ⊎ ((k : ℕ) × (k < length names) × (node ≡ first + k) × Contains (numbers_of names entries) k)
-
-from_node : (names entries : List (List ℕ)) (first all node : ℕ) → Contains (nodes_of names entries first (Some all)) node → FromNode names entries first all node
-from_node names entries first all node at = by_all (is_all entries) refl
-  where
-    given : (b : Bool) → is_all entries ≡ b → Contains (named names entries first (cond b (Some all) None)) node
-    given b is = subst (λ c. Contains (named names entries first (cond c (Some all) None)) node) is at
-
-    by_all : (b : Bool) → is_all entries ≡ b → FromNode names entries first all node
-    by_all true is = ⊎_elim
-        (λ (here : all ≡ node). inl (sym here, is))
-        (λ (later : Contains [] node). absurd (Contains-none node later))
-        (Contains-cases all node [] (given true is))
-    by_all false is =
-        let on = Contains-from_map (λ number. first + number) (numbers_of names entries) node (given false is) in
-        inr (on.0, numbers-within names entries on.0 on.1, sym on.2, on.1)
 
 -- ---- edges
 
@@ -116,17 +81,17 @@ link_own : (g : Grouping) (from to : ℕ) → IsEdge (own_edges g) from to → L
 link_own g from to at =
     let on = list-edge FromNames 0 (length g.objects) (own_nodes g) from to at in
     let is = on.2 in
-    inr (inr (on.0, on.1, omega (arith, is), inl (from_node g.groups (get_or g.own_groups on.0 []) (length g.objects) (of_all_groups g.objects g.groups) from on.3)))
+    inr (inr (on.0, on.1, omega (arith, is), inl (from-node g.groups (get_or g.own_groups on.0 []) (length g.objects) (of_all_groups g.objects g.groups) from on.3)))
 
 link_member : (g : Grouping) (from to : ℕ) → IsEdge (member_edges g) from to → Link g from to
 link_member g from to at =
     let on = list-edge ToNames (length g.objects) (length g.groups) (member_nodes g) from to at in
-    inl (on.0, on.1, on.2, inl (from_node g.objects (get_or g.members on.0 []) 0 (all_objects g.objects g.groups) to on.3))
+    inl (on.0, on.1, on.2, inl (from-node g.objects (get_or g.members on.0 []) 0 (all_objects g.objects g.groups) to on.3))
 
 link_subgroup : (g : Grouping) (from to : ℕ) → IsEdge (subgroup_edges g) from to → Link g from to
 link_subgroup g from to at =
     let on = list-edge ToNames (length g.objects) (length g.groups) (subgroup_nodes g) from to at in
-    inl (on.0, on.1, on.2, inr (inl (from_node g.groups (get_or g.subgroups on.0 []) (length g.objects) (all_groups g.objects g.groups) to on.3)))
+    inl (on.0, on.1, on.2, inr (inl (from-node g.groups (get_or g.subgroups on.0 []) (length g.objects) (all_groups g.objects g.groups) to on.3)))
 
 link : (g : Grouping) (from to : ℕ) → IsEdge (edges_in g) from to → Link g from to
 unfolding edges_in
@@ -275,6 +240,12 @@ module _ (g : Grouping) (object : ℕ) (there : object < length g.objects) where
   means_chain zero node chain = subst Means (sym chain) means_itself
   means_chain (suc steps) node (middle, leads, chain) = means_step node middle (link g node middle leads) (means_chain steps middle chain)
 
+  pub object-from_reached : (p : ℕ) → p < length g.objects → Reaches (IsEdge (edges_in g)) p object → p ≡ object
+  object-from_reached p low reaches = (means_chain reaches.0 p reaches.1).at_object low
+
+  pub some-from_reached : Reaches (IsEdge (edges_in g)) (all_groups g.objects g.groups) object → (p : ℕ) × (p < length g.groups) × IsMember g p object
+  some-from_reached reaches = (means_chain reaches.0 (all_groups g.objects g.groups) reaches.1).at_all_groups refl
+
   pub member-from_reached : (p : ℕ) → p < length g.groups → Reaches (IsEdge (edges_in g)) (group_node g.objects p) object → IsMember g p object
   member-from_reached p low reaches = (means_chain reaches.0 (group_node g.objects p) reaches.1).at_group p low refl
 
@@ -322,7 +293,7 @@ module _ (g : Grouping) where
       Reaches-join (IsEdge (edges_in g)) _ (all_groups g.objects g.groups) _ (from_subgroups p _ low every) (to_each q (listed-within g.groups (get_or g.subgroups p []) q includes)))
       (λ (named : Contains (subgroup_nodes g p) (length g.objects + q)).
       from_subgroups p (group_node g.objects q) low named)
-      (to_node g.groups (get_or g.subgroups p []) (length g.objects) (all_groups g.objects g.groups) q includes)
+      (to-node g.groups (get_or g.subgroups p []) (length g.objects) (all_groups g.objects g.groups) q includes)
 
   reached_last : (steps p q : ℕ) → p < length g.groups → Chain (Includes g) steps p q → (q < length g.groups) × Reaches (IsEdge (edges_in g)) (group_node g.objects p) (group_node g.objects q)
   reached_last zero p q low chain = (omega (arith, low, chain), subst (λ r. Reaches (IsEdge (edges_in g)) (group_node g.objects p) (group_node g.objects r)) chain (0, refl))
@@ -350,16 +321,35 @@ module _ (g : Grouping) where
         (λ (every : Contains (member_nodes g q) (all_objects g.objects g.groups)).
         Reaches-join (IsEdge (edges_in g)) _ (all_objects g.objects g.groups) _ (from_members q _ low every) (to_each_object k (listed-within g.objects (get_or g.members q []) k listed)))
         (λ (named : Contains (member_nodes g q) (0 + k)). from_members q k low (let same : 0 + k ≡ k = omega arith in subst (λ (x : ℕ). Contains (member_nodes g q) x) same named))
-        (to_node g.objects (get_or g.members q []) 0 (all_objects g.objects g.groups) k listed)
+        (to-node g.objects (get_or g.members q []) 0 (all_objects g.objects g.groups) k listed)
     reached_object q k low (inr own) =
         let there = own-within k q own in
         ⊎_elim
         (λ (every : Contains (own_nodes g k) (of_all_groups g.objects g.groups)).
         Reaches-join (IsEdge (edges_in g)) _ (of_all_groups g.objects g.groups) _ (from_each q low) (from_own k _ there every))
         (λ (named : Contains (own_nodes g k) (length g.objects + q)). from_own k (group_node g.objects q) there named)
-        (to_node g.groups (get_or g.own_groups k []) (length g.objects) (of_all_groups g.objects g.groups) q own)
+        (to-node g.groups (get_or g.own_groups k []) (length g.objects) (of_all_groups g.objects g.groups) q own)
 
     pub reached-from_member : (p k : ℕ) → p < length g.groups → IsMember g p k → (k < length g.objects) × Reaches (IsEdge (edges_in g)) (group_node g.objects p) k
     reached-from_member p k low (last, (steps, chain), holds) =
         let on = reached_last steps p last low chain in
         (held-within last k holds, Reaches-join (IsEdge (edges_in g)) _ (group_node g.objects last) _ on.1 (reached_object last k on.0 holds))
+
+    -- the same in the graph as it is kept
+    pub leads-to_members : (graph : List (List ℕ)) → IsGraphOf g graph → LeadsToMembers g graph
+    leads-to_members graph has = record {
+      count = has.count;
+      objects = λ p object low there reaches. object-from_reached g object there p low ((has.same p object (omega (arith, low)) (omega (arith, there))).0 reaches);
+      groups = λ p object low there. (
+        (λ (reaches : Reaches (Leads graph) (group_node g.objects p) object).
+            member-from_reached g object there p low ((has.same (group_node g.objects p) object (omega (arith, low)) (omega (arith, there))).0 reaches)),
+        (λ (member : IsMember g p object). (has.same (group_node g.objects p) object (omega (arith, low)) (omega (arith, there))).1 (reached-from_member p object low member).1),
+      );
+      every = λ object there. (has.same (all_objects g.objects g.groups) object (omega arith) (omega (arith, there))).1 (to_each_object object there);
+      some = λ object there. (
+        (λ (reaches : Reaches (Leads graph) (all_groups g.objects g.groups) object).
+            some-from_reached g object there ((has.same (all_groups g.objects g.groups) object (omega arith) (omega (arith, there))).0 reaches)),
+        (λ (one : (p : ℕ) × (p < length g.groups) × IsMember g p object). (has.same (all_groups g.objects g.groups) object (omega arith) (omega (arith, there))).1
+            (Reaches-join (IsEdge (edges_in g)) (all_groups g.objects g.groups) (group_node g.objects one.0) object (to_each one.0 one.1) (reached-from_member one.0 object one.1 one.2).1)),
+      );
+    }

@@ -2,7 +2,7 @@
 -- leads to all objects, one that leads to all groups, and one to which all groups lead and that leads to the
 -- objects that name all groups. So a list that is `*` alone is one edge. After them come those of lists that several
 -- of them have: these lead to what a list names, or what it names leads to them.
-use Rattle.std.specs.Prelude.{ℕ, ◌+◌, ◌<◌, ◌≤◌, ◌↔◌, List, [], ◌∷◌, ◌++◌, length, map, Contains, Some, slice_index_or}
+use Rattle.std.specs.Prelude.{◌≡◌, ℕ, ◌+◌, ◌<◌, ◌≤◌, ◌↔◌, List, [], ◌∷◌, ◌++◌, length, map, Contains, Some, slice_index_or}
 use Rattle.std.specs.List.{flat_map, range_with_len}
 use Rattle.std.specs.List.Sorted.{IsStrictlyIncreasing}
 use Rattle.graph.specs.declared.edges.Edge.{Edge}
@@ -10,7 +10,7 @@ use Rattle.graph.specs.Chains.{Reaches}
 use Rattle.graph.specs.Edges.{Leads}
 use Rattle.object_groups.specs.declared.lists.Direction.TheVariants.{FromNames, ToNames}
 use Rattle.object_groups.specs.ListEdges.{edge, IsEdge, list_edges, nodes_of}
-use Rattle.object_groups.specs.Members.{Grouping}
+use Rattle.object_groups.specs.Members.{Grouping, IsMember}
 
 -- the numbers of the nodes, where these are the names of the objects and of the groups
 abbrev pub group_node : (objects : List (List ℕ)) → ℕ → ℕ
@@ -68,6 +68,20 @@ pub record IsGraphOf (g : Grouping) (graph : List (List ℕ)) : Type 0 where
   pub same : (from to : ℕ) → from < node_count g.objects g.groups
       → to < node_count g.objects g.groups
       → Reaches (Leads graph) from to ↔ Reaches (IsEdge (edges_in g)) from to
+
+-- A chain leads from the node of an object to that of no other, from the node of a group to those of its members, from
+-- that of all objects to each, and from that of all groups to those of the members of any.
+pub record LeadsToMembers (g : Grouping) (graph : List (List ℕ)) : Type 0 where
+  pub count : node_count g.objects g.groups ≤ length graph
+  pub objects : (p object : ℕ) → p < length g.objects → object < length g.objects
+      → Reaches (Leads graph) p object → p ≡ object
+  pub groups : (p object : ℕ) → p < length g.groups → object < length g.objects
+      → Reaches (Leads graph) (group_node g.objects p) object ↔ IsMember g p object
+  pub every : (object : ℕ) → object < length g.objects
+      → Reaches (Leads graph) (all_objects g.objects g.groups) object
+  pub some : (object : ℕ) → object < length g.objects
+      → Reaches (Leads graph) (all_groups g.objects g.groups) object
+      ↔ ((p : ℕ) × (p < length g.groups) × IsMember g p object)
 
 -- those of the nodes that are below the first group's, each once and in order
 pub record AreBelow (objects : ℕ) (nodes found : List ℕ) : Type 0 where

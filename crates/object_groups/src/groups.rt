@@ -10,8 +10,8 @@ ghost use Rattle.object_groups.specs.Groups.{own_groups_directive, subgroups_dir
 ghost use Rattle.object_groups.specs.ListEdges.{edge, LeadOver};
 ghost use Rattle.object_groups.specs.Members.{AreMembers};
 ghost use Rattle.object_groups.specs.Nodes.{all_objects, AreBelow, edges_in, group_ends};
-ghost use Rattle.object_groups.specs.Nodes.{IsGraphOf, member_edges, node_count, own_edges};
-ghost use Rattle.object_groups.specs.Nodes.{subgroup_edges};
+ghost use Rattle.object_groups.specs.Nodes.{IsGraphOf, LeadsToMembers, member_edges, node_count};
+ghost use Rattle.object_groups.specs.Nodes.{own_edges, subgroup_edges};
 ghost use Rattle.object_groups.specs.Objects.{names_in};
 
 use crate::lists::{Direction, ListNodes, push_lists};
@@ -383,6 +383,14 @@ impl<'a> Groups<'a> {
             ≡ record { blocks = self.now.blocks; kind = group_kind self.now.kind } }
     {
         &self.groups
+    }
+
+    /// The graph in which members are found: its nodes are the objects, then the groups, then one for all objects, one for
+    /// all groups, and others.
+    pub fn graph(&self) -> &Graph
+        ensures { LeadsToMembers (grouping self.now.blocks self.now.kind) result.now }
+    {
+        &self.graph
     }
 
     /// The members of the group of that number, by their numbers, each once and in order: the objects to which

@@ -76,6 +76,22 @@ impl<'a> Listing<'a> {
         })
     }
 
+    /// What the blocks have for the directive of objects.
+    pub fn objects(&self) -> &Values<'a>
+        ensures { result.now
+            ≡ record { blocks = self.now.blocks; directive = self.now.directives.objects } }
+    {
+        &self.objects
+    }
+
+    /// What they have for the directive of groups.
+    pub fn groups(&self) -> &Values<'a>
+        ensures { result.now
+            ≡ record { blocks = self.now.blocks; directive = self.now.directives.groups } }
+    {
+        &self.groups
+    }
+
     /// Whether the block at the place has neither directive, by itself or by its templates: it lists nothing, and
     /// an empty list isn't nothing.
     pub fn gives_neither(&self, place: usize) -> bool

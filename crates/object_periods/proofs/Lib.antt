@@ -1,6 +1,6 @@
 mod ExcludeLemmas
 mod DayLemmas
 mod PeriodLemmas
-mod EdgeLemmas
+mod RuleLemmas
 mod LoopLemmas
 mod LawLemmas

@@ -1,8 +1,10 @@
 -- Loops of exclusions (chapter "Time Periods").
-use Rattle.std.specs.Prelude.{◌≡◌, ℕ, ◌<◌, List, map, Contains, Some, slice_get}
+use Rattle.std.specs.Prelude.{◌≡◌, ℕ, ◌+◌, ◌<◌, ◌↔◌, List, length, Contains, Some, slice_get}
+use Rattle.graph.specs.declared.edges.Edge.{Edge}
 use Rattle.graph.specs.Chains.{IsOnLoop}
+use Rattle.graph_rules.specs.declared.rules.Rules.{Rules}
+use Rattle.graph_rules.specs.Rules.{AreWithin, DependsBy, edge}
 use Rattle.object_groups.specs.Objects.{objects_in}
-pub use Rattle.object_inheritance.specs.Templates.{edge_from}
 use Rattle.object_periods.specs.Periods.{excluded_at}
 use Rattle.object_reader.specs.declared.block.Block.{Block}
 use Rattle.object_reader.specs.declared.block.BlockKind.TheVariants.{TimePeriod}
@@ -32,6 +34,13 @@ HasNoPeriodLoop blocks = (place : ℕ) → IsLoopedAt blocks place → ⊥
 
 -- ---- how they are found
 
--- The graph of exclusions: each period leads to those that it excludes.
-unfoldable pub exclusion_graph : List Block → List (List ℕ)
-exclusion_graph blocks = map (excluded_at blocks) (objects_in blocks TimePeriod)
+-- the edge from a rule to a node, where the node of the rule of number 0 is the first
+abbrev pub rule_edge : (first rule : ℕ) → Edge
+rule_edge first rule = edge rule (first + rule)
+
+-- Rules, one for each period and by its number: by its rule the period alone depends on each that it excludes.
+pub record AreExclusions (blocks : List Block) (rules : Rules) : Type 0 where
+  pub within : AreWithin rules
+  pub count : rules.count ≡ length (objects_in blocks TimePeriod)
+  pub excludes : (rule dependent master : ℕ) → DependsBy rules rule dependent master
+      ↔ ((rule ≡ dependent) × ExcludesNumber blocks dependent master)

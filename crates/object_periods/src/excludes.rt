@@ -1,6 +1,6 @@
 //! The periods that periods exclude (chapter "Time Periods").
 
-ghost use Rattle.std.specs.Prelude.{◌≡◌, ◌<◌, length, All, IfOk};
+ghost use Rattle.std.specs.Prelude.{◌≡◌, IfOk};
 ghost use Rattle.object_groups.specs.Names.{numbers_of};
 ghost use Rattle.object_groups.specs.Objects.{list_at};
 
@@ -17,9 +17,8 @@ pub(crate) fn listed_at<'a>(
     values: &Values<'a>,
     place: usize,
 ) -> Result<Vec<usize>, AllocError>
-    ensures numbers { IfOk result (λ numbers. numbers.items
+    ensures { IfOk result (λ numbers. numbers.items
         ≡ numbers_of names.now (list_at values.now.blocks values.now.directive place)) }
-    ensures within { IfOk result (λ numbers. All (λ k. k < length names.now) numbers.items) }
 {
     let entries = list_at(alloc, values, place)?;
     numbers_of(alloc, names, entries.as_slice())

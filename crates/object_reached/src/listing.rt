@@ -1,9 +1,9 @@
 //! The services that blocks list by four directives.
 
-ghost use Rattle.std.specs.Prelude.{◌≡◌, IfOk};
-ghost use Rattle.object_reached.specs.Listed.{AreServicesListed, of_hosts};
+ghost use Rattle.std.specs.Prelude.{◌≡◌, [], IfOk};
+ghost use Rattle.object_reached.specs.Listed.{AreServicesListed, IsDescribed, of_hosts};
 ghost use Rattle.object_groups.specs.declared.groups.GroupKind.TheVariants.{HostGroups};
-ghost use Rattle.object_listing.specs.Listing.{AreThose, IsListed};
+ghost use Rattle.object_listing.specs.Listing.{Adds, AreThose, IsListed};
 
 use crate::numbers::{Descriptions, push_groups, push_hosts};
 use crate::services::HostServices;
@@ -100,6 +100,60 @@ impl<'a> ServiceListing<'a> {
         Ok(found)
     }
 
+    /// What the blocks list by the directives of hosts and host groups.
+    pub fn hosts(&self) -> &Listing<'a>
+        ensures { result.now ≡ record {
+          blocks = self.now.blocks;
+          directives = of_hosts self.now.directives;
+        } }
+    {
+        &self.hosts
+    }
+
+    /// What they have for the directive of descriptions.
+    pub fn descriptions(&self) -> &Values<'a>
+        ensures { result.now ≡ record {
+          blocks = self.now.blocks;
+          directive = self.now.directives.descriptions;
+        } }
+    {
+        &self.descriptions
+    }
+
+    /// What they have for the directive of service groups.
+    pub fn groups(&self) -> &Values<'a>
+        ensures { result.now ≡ record {
+          blocks = self.now.blocks;
+          directive = self.now.directives.groups;
+        } }
+    {
+        &self.groups
+    }
+
+    /// Those of the services that the block at the place lists by their hosts and descriptions, by their places among the
+    /// services, in no order. `hosts` are the host groups of the same blocks. The time grows with the entries of the three
+    /// lists, with what each of the host groups reaches, and with the services of the hosts. A refused growth changes
+    /// nothing.
+    pub fn described_at(
+        &self,
+        alloc: Global,
+        hosts: &mut Groups<'a>,
+        services: &HostServices<'a>,
+        place: usize,
+    ) -> Result<Vec<usize>, AllocError>
+        requires { hosts.old ≡ record { blocks = self.now.blocks; kind = HostGroups } }
+        ensures same { hosts.new ≡ hosts.old }
+        ensures described { IfOk result (λ found. Adds (IsDescribed self.now.blocks services.now
+            self.now.directives place) [] found.items) }
+    {
+        let listed = self.hosts.objects_at(alloc, hosts, place)?;
+        let entries = list_at(alloc, &self.descriptions, place)?;
+        let descriptions = Descriptions::new(alloc, entries)?;
+        let mut found = Vec::new(alloc);
+        push_hosts(&mut found, services, &descriptions, listed.as_slice())?;
+        Ok(found)
+    }
+
     /// The services that the block at the place lists, by their places among the services, each once and in order: those
     /// on a host that it lists, by itself or by a group, whose description it lists too; and the members of the
     /// service groups that it lists. `*` alone as the list of descriptions is every service of these hosts;
@@ -122,11 +176,7 @@ impl<'a> ServiceListing<'a> {
         ensures services { IfOk result (λ found. AreServicesListed self.now.blocks services.now
             self.now.directives place found.items) }
     {
-        let listed = self.hosts.objects_at(alloc, hosts, place)?;
-        let entries = list_at(alloc, &self.descriptions, place)?;
-        let descriptions = Descriptions::new(alloc, entries)?;
-        let mut found = Vec::new(alloc);
-        push_hosts(&mut found, services, &descriptions, listed.as_slice())?;
+        let mut found = self.described_at(alloc, hosts, services, place)?;
         let named = list_at(alloc, &self.groups, place)?;
         let grouped = numbers_of(alloc, groups.groups().names(), named.as_slice())?;
         push_groups(

@@ -169,6 +169,14 @@ impl<'a> Reached<'a> {
         })
     }
 
+    /// What they have.
+    pub fn listing(&self) -> &ServiceListing<'a>
+        ensures { result.now
+            ≡ record { blocks = self.now.blocks; directives = directives_of self.now.role } }
+    {
+        &self.listing
+    }
+
     /// The blocks.
     fn blocks(&self) -> &'a [Block]
         ensures { result.now ≡ self.now.blocks }

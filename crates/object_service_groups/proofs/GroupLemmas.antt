@@ -27,12 +27,12 @@ use Rattle.object_services.specs.Hosts.{AreHosts}
 use Rattle.object_services.specs.Limits.{AreHostLists}
 use Rattle.object_services.specs.Numbers.{Pair, pairs_of}
 use Rattle.object_services.specs.HostLaws.{hosts-one}
-use Rattle.object_service_groups.specs.Groups.{AreNodes, AreServiceGroups, grouping, groups_in, listed_in, named_in, owners_of}
+use Rattle.object_service_groups.specs.Groups.{AreNodes, AreServiceGroups, grouping, groups_in, LeadsToMembers, listed_in, named_in, owners_of}
 use Rattle.object_service_groups.specs.Members.{Grouping, IsMember}
 use Rattle.object_service_groups.specs.Nodes.{edges_in, first_group, IsGraphOf, named_edges, node_count, own_edges, owner_edges, subgroup_edges}
 use Rattle.object_service_groups.specs.Pairs.{services_at}
 use Rattle.object_service_groups.proofs.ElementLemmas.{mapped-within, owners-long, owners-within, place-there, places-within}
-use Rattle.object_service_groups.proofs.NodeLemmas.{IsWell, named-inside, owners-inside, subgroups-inside}
+use Rattle.object_service_groups.proofs.NodeLemmas.{IsWell, member-from_reached, named-inside, owners-inside, reached-from_member, subgroups-inside}
 
 -- ---- lists by numbers
 
@@ -274,4 +274,24 @@ kept-are templates blocks groups lists owners services first searched graph same
       services_are = omega (arith, services_are, count);
       first_is = omega (arith, first_is, count, blocks_long);
       graph_is = has;
+    }
+
+-- ---- the graph as it is kept
+
+pub leads-to_members : (blocks : List Block) (lists : List (List ℕ)) (graph : List (List ℕ)) → AreHostLists blocks (objects_in blocks Service) lists → IsGraphOf (grouping blocks lists) graph
+    → LeadsToMembers blocks lists graph
+leads-to_members blocks lists graph are has =
+    let g = grouping blocks lists in
+    let well = grouping-well blocks lists are in
+    let long : length (names_in blocks ServiceGroup) ≡ length g.named = names-long blocks ServiceGroup ∙ sym (named-long blocks (pairs_of (names_in blocks Service) lists)) in
+    let owned : length g.owners ≡ length (pairs_of (names_in blocks Service) lists) = owners-long (names_in blocks Service) lists in
+    record {
+      count = (let all = has.count in omega (arith, all, long));
+      services = (let all = has.count in omega (arith, all, owned));
+      groups = λ group service low there. (
+        (λ reaches. member-from_reached g well service (omega (arith, there, owned)) group (omega (arith, low, long))
+            ((has.same (first_group g + group) service (omega (arith, low, long)) (omega (arith, there, owned))).0 reaches)),
+        (λ member. (has.same (first_group g + group) service (omega (arith, low, long)) (omega (arith, there, owned))).1
+            (reached-from_member g well group service (omega (arith, low, long)) member).1),
+      );
     }

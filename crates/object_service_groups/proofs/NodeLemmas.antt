@@ -199,7 +199,7 @@ module _ (g : Grouping) (well : IsWell g) (service : ℕ) (there : service < len
   means_chain zero node chain = subst Means (sym chain) means_itself
   means_chain (suc steps) node (middle, leads, chain) = means_step node middle (link g node middle leads) (means_chain steps middle chain)
 
-  member-from_reached : (p : ℕ) → p < length g.named → Reaches (IsEdge (edges_in g)) (group_node g p) service → IsMember g p service
+  pub member-from_reached : (p : ℕ) → p < length g.named → Reaches (IsEdge (edges_in g)) (group_node g p) service → IsMember g p service
   member-from_reached p low reaches = (means_chain reaches.0 (group_node g p) reaches.1).at_group p low refl
 
 -- ---- from members to chains

@@ -1,6 +1,8 @@
 -- The service groups that blocks define (chapter "Object Definitions").
-use Rattle.std.specs.Prelude.{◌≡◌, ℕ, ◌+◌, ◌^◌, ◌<◌, ◌≤◌, List, [], codes, length, map, replicate, slice_index_or}
+use Rattle.std.specs.Prelude.{◌≡◌, ℕ, ◌+◌, ◌^◌, ◌<◌, ◌≤◌, ◌↔◌, List, [], codes, length, map, replicate, slice_index_or}
 use Rattle.std.specs.List.{flat_map, range_with_len}
+use Rattle.graph.specs.Chains.{Reaches}
+use Rattle.graph.specs.Edges.{Leads}
 use Rattle.object_groups.specs.Names.{numbers_of}
 use Rattle.object_groups.specs.Objects.{list_at, names_in, objects_in, ObjectsOf}
 use Rattle.object_listing.specs.Listing.{AreThose}
@@ -51,6 +53,18 @@ abbrev pub AreMembersOf : List Block → (group : ℕ) → (services : List ℕ)
 AreMembersOf blocks group services = (lists : List (List ℕ))
     → AreHostLists blocks (objects_in blocks Service) lists
     → AreThose (IsMember (grouping blocks lists) group) services
+
+-- A chain leads from the node of a group to those of its members, where these are the hosts of each service block; the
+-- nodes of services are their places.
+pub record LeadsToMembers (blocks : List Block) (lists : List (List ℕ)) (graph : List (List ℕ))
+    : Type 0 where
+  pub count : first_group (grouping blocks lists) + length (names_in blocks ServiceGroup)
+      ≤ length graph
+  pub services : length (pairs_of (names_in blocks Service) lists) ≤ length graph
+  pub groups : (group service : ℕ) → group < length (names_in blocks ServiceGroup)
+      → service < length (pairs_of (names_in blocks Service) lists)
+      → Reaches (Leads graph) (first_group (grouping blocks lists) + group) service
+      ↔ IsMember (grouping blocks lists) group service
 
 -- ---- how they are kept
 

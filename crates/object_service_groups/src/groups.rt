@@ -1,6 +1,6 @@
 //! The service groups of blocks, and their members.
 
-ghost use Rattle.std.specs.Prelude.{◌≡◌, ◌+◌, ◌<◌, ◌≤◌, ◌^◌, ◌++◌, [], codes, length};
+ghost use Rattle.std.specs.Prelude.{◌≡◌, ◌+◌, ◌<◌, ◌≤◌, ◌^◌, ◌++◌, ℕ, List, [], codes, length};
 ghost use Rattle.std.specs.Prelude.{slice_index_or, All, IfOk};
 ghost use Rattle.graph.specs.Edges.{IsWithin};
 ghost use Rattle.object_groups.specs.declared.lists.Direction.TheVariants.{FromNames, ToNames};
@@ -9,8 +9,8 @@ ghost use Rattle.object_groups.specs.Objects.{names_in, objects_in};
 ghost use Rattle.object_reader.specs.declared.block.BlockKind.TheVariants.{Host, Service};
 ghost use Rattle.object_reader.specs.declared.block.BlockKind.TheVariants.{ServiceGroup};
 ghost use Rattle.object_service_groups.specs.Groups.{AreMembersOf, AreTables, grouping, listed_in};
-ghost use Rattle.object_service_groups.specs.Groups.{named_in};
-ghost use Rattle.object_service_groups.specs.Nodes.{AreBelow, edges_in, IsGraphOf};
+ghost use Rattle.object_service_groups.specs.Groups.{LeadsToMembers, named_in};
+ghost use Rattle.object_service_groups.specs.Nodes.{AreBelow, edges_in, first_group, IsGraphOf};
 ghost use Rattle.object_services.specs.Limits.{AreHostLists};
 ghost use Rattle.object_services.specs.Numbers.{pairs_of};
 
@@ -304,6 +304,24 @@ impl<'a> ServiceGroups<'a> {
         ensures { result.now ≡ record { blocks = self.now; kind = ServiceGroup } }
     {
         &self.groups
+    }
+
+    /// The graph in which members are found: its nodes are the services, the service blocks, the groups, and others.
+    pub fn graph(&self) -> &Graph
+        ensures { (lists : List (List ℕ))
+            → AreHostLists self.now (objects_in self.now Service) lists
+            → LeadsToMembers self.now lists result.now }
+    {
+        &self.graph
+    }
+
+    /// The node of the first group in that graph.
+    pub fn first_node(&self) -> usize
+        ensures { (lists : List (List ℕ))
+            → AreHostLists self.now (objects_in self.now Service) lists
+            → result ≡ first_group (grouping self.now lists) }
+    {
+        self.first
     }
 
     /// The members of the group of that number, by their places among the services, each once and in order: the

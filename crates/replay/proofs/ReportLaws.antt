@@ -1,7 +1,7 @@
 -- What the answers of a feeder say of the lines of its feed.
 use Rattle.std.proofs.Common.{◌≡◌, ℕ, ◌≤◌, true, false, cond, ◌||◌, List, [], ◌∷◌, ◌++◌, Option, None, Some, Bool, IfNone, IfSome, Ok, Err, refl, sym, ap, subst, ◌∙◌, inl, arith, append_assoc}
 use Rattle.std.proofs.lemmas.List.{append-nil}
-use Rattle.std.proofs.lemmas.List.Elements.{All-nil}
+use Rattle.std.proofs.lemmas.List.Elements.{All-nil, All-push}
 use Rattle.due_model.specs.declared.config.Config.{Config}
 use Rattle.due_model.specs.declared.config.Object.{Object}
 use Rattle.due_model.specs.declared.event.Event.{Event}
@@ -83,6 +83,7 @@ follows_start c zone start runs = record {
   answers = known_same start.bytes (λ bytes rest. answers_from c.objects start bytes ≡ [] ++ answers_from c.objects start rest) (λ bytes. refl);
   line = omega arith;
   earlier = All-nil (λ answer. answer.line ≤ start.line);
+  read_on = All-nil (λ (answer : Answer). ends_feed answer.given ≡ false);
   lines = known_same start.bytes _ (λ bytes. ([], refl, omega arith));
   report = λ others. refl;
   ending = λ others. refl;
@@ -102,6 +103,7 @@ follows_more c zone start given text past now answer new f takes = record {
       (λ xs ys zs p q. p ∙ ap (λ more. given ++ more) q ∙ sym (append_assoc given (answer ∷ []) (answers_from c.objects new zs)));
   line = omega (arith, f.line, takes.line);
   earlier = earlier_more given answer now.line new.line (omega (arith, takes.line)) (omega (arith, takes.number)) f.earlier;
+  read_on = All-push (λ (a : Answer). ends_feed a.given ≡ false) given answer f.read_on takes.read_on;
   lines = known_then start.bytes now.bytes new.bytes
       (λ bytes rest. Passed start.line (pieces bytes) now.line (pieces rest))
       (λ bytes rest. Passed now.line (pieces bytes) new.line (pieces rest))
@@ -121,7 +123,7 @@ follows_more c zone start given text past now answer new f takes = record {
 -- what was given, and what is given of the feed after it
 pub given_then : (can_fail : Bool) (c : Config) (zone : Zone) (start : Feed) (given : List Answer) (text : List ℕ) (past : List Event) (now : Feed) (others : List Answer)
     → Follows c zone start given text past now → AreGivenBy can_fail c.objects now others → AreGivenBy can_fail c.objects start (given ++ others)
-given_then can_fail c zone start given text past now others f h = then_by can_fail c start now given others start.bytes now.bytes f.line f.earlier f.answers f.lines h
+given_then can_fail c zone start given text past now others f h = then_by can_fail c start now given others start.bytes now.bytes f.line f.earlier f.read_on f.answers f.lines h
 
 -- some answers are given of a feed
 some_by : (can_fail : Bool) (objects : List Object) (feed : Feed) (bytes : Option (List ℕ)) → (given : List Answer) × IfSome bytes (λ before. AreGiven can_fail given (answers_from objects feed before) feed.line (pieces before))

@@ -90,14 +90,15 @@ pub record TakesAnswer (objects : List Object) (past : List Event) (old : Feed) 
   pub read_on : ends_feed answer.given ≡ false
   pub goes_on : new.stop ≡ None
 
--- Of a feed's answers these came first; the past is theirs, the text is what they add to a report, and the feed goes on
--- after them.
+-- Of a feed's answers these came first, and none of them ends the feed; the past is theirs, the text is what they add to a
+-- report, and the feed goes on after them.
 pub record Follows (c : Config) (zone : Zone) (start : Feed) (given : List Answer) (text : List ℕ)
     (past : List Event) (now : Feed) : Type 0 where
   pub answers : Known start.bytes now.bytes
       (λ bytes rest. answers_from c.objects start bytes ≡ given ++ answers_from c.objects now rest)
   pub line : start.line ≤ now.line
   pub earlier : All (λ answer. answer.line ≤ now.line) given
+  pub read_on : All (λ answer. ends_feed answer.given ≡ false) given
   pub lines : PassesLines start now
   pub report : (others : List Answer)
       → report_text c zone (given ++ others) ≡ text ++ report_from c zone past others

@@ -182,7 +182,7 @@ ends_more can_fail c feed feed' bytes mid rest Unread given more h k = (
   k.4,
   comes_more bytes mid h.before k.0 (k.1 ∷ k.2) h.lines k.5,
   omega (arith, h.number, k.6, length-append h.before k.0),
-  then_by can_fail c feed feed' given more (Some bytes) (Some mid) (omega (arith, h.number)) h.earlier h.answers (h.before, h.lines.lines, h.number) k.7,
+  then_by can_fail c feed feed' given more (Some bytes) (Some mid) (omega (arith, h.number)) h.earlier h.read_on h.answers (h.before, h.lines.lines, h.number) k.7,
   ap (λ (all : List Answer). given ++ all) k.8 ∙ sym (append_assoc given k.3 _),
 )
 

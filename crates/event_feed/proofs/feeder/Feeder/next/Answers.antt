@@ -1,10 +1,19 @@
-use Rattle.std.proofs.Common.{◌∙◌, ◌-◌, ◌≤◌, arith, sym}
+use Rattle.std.proofs.Common.{◌∙◌, ◌-◌, ◌≤◌, arith, refl, sym}
 use Rattle.text_lines.specs.CountedReader.{calls_after}
 use Rattle.text_lines.specs.LineReader.{call_limit}
 use Rattle.text_lines.specs.declared.line_reader.Stop.TheVariants.{ReaderFailed, TooManyCalls}
-use Rattle.event_feed.proofs.Answering.{AreGiven-stop, GivesEvent-line, GivesFault-line, GivesFault-long, few-going, not_over, over_so}
+use Rattle.event_feed.proofs.Answering.{AreGiven-stop, GivesEvent-line, GivesFault-line, GivesFault-long, few-going, not_over, on_some, over_so}
 use Rattle.event_feed.proofs.feeder.Feeder.next.Goals as goal
 use Rattle.event_feed.proofs.feeder.Feeder.next.Goals.{in-None, in-Some}
+
+pub returns-then-is_some-clause-over : goal.returns-then-is_some-clause-over
+returns-then-is_some-clause-over g c = on_some c.args.self.now.stop _ (refl, refl)
+
+pub returns-then-is_some-clause-fault : goal.returns-then-is_some-clause-fault
+returns-then-is_some-clause-fault g c = tt
+
+pub returns-then-is_some-clause-last : goal.returns-then-is_some-clause-last
+returns-then-is_some-clause-last g c = tt
 
 pub returns-in-Ok-clause-event : goal.returns-in-Ok-clause-event
 returns-in-Ok-clause-event g c =

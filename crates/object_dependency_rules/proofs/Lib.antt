@@ -1,0 +1,6 @@
+mod ReachLemmas
+mod SpeechLemmas
+mod BaseLemmas
+mod RoleLemmas
+mod DescribedLemmas
+mod RuleLemmas
