@@ -5,7 +5,7 @@ use command_input::read_zone_file;
 use command_output::{CommandFault, Ending};
 use due_model::zone::Zone;
 use object_reader::fault::LineFault;
-use object_resolve::LoadFault;
+use object_load_faults::fault::LoadFault;
 use progress::Unwatched;
 use replay::{replay_files, replay_in};
 use std::alloc::Global;

@@ -7,7 +7,7 @@ use acceptance_inputs::texts::input;
 use acceptance_writers::{Counting, Stubborn};
 use command_output::{CommandFault, Ending};
 use object_reader::fault::LineFault;
-use object_resolve::{BlockFault, LoadFault};
+use object_load_faults::fault::{BlockFault, LoadFault};
 use replay::replay;
 use std::alloc::Global;
 use std::cell::Cell;

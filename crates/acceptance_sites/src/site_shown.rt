@@ -8,7 +8,8 @@ use due_model::config::{
 };
 use due_model::options::OptionLetters;
 use due_model::state::StateSet;
-use object_resolve::{LoadFault, load};
+use object_load_faults::fault::LoadFault;
+use object_resolve::load;
 use std::alloc::{AllocError, Global};
 use std::fmt::Write;
 use std::process::Abort;

@@ -2,7 +2,7 @@
 use Rattle.std.specs.Prelude.{◌≡◌, ℕ, Bool, true, List, codes, IfSome, ◌⊎◌, Option, None, Some, ⊤}
 use Rattle.std.specs.Io.KnownBytes.{Keeps}
 use Rattle.due_model.specs.declared.config.Config.{Config}
-use Rattle.object_resolve.specs.Text.{IsTextFault, IsTextOf}
+pub use Rattle.object_resolve.specs.Text.{IsTextFault, IsTextOf}
 use Rattle.text_lines.specs.Lines.{Known}
 use Rattle.text_lines.specs.Text.{rest_after, text_before}
 use Rattle.command_output.specs.declared.outcome.CommandFault.{CommandFault}

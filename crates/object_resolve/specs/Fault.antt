@@ -1,24 +1,9 @@
--- The faults of object text: which block has the first, and how a program prints them.
-use Rattle.std.specs.Prelude.{◌≡◌, ℕ, List, ◌++◌, codes, Some, slice_get}
-use Rattle.std.specs.Fmt.{decimal}
-use Rattle.object_faults.specs.declared.fault.PassFault.{PassFault}
-use Rattle.object_faults.specs.declared.fault.PassFault.TheVariants as pass
-use Rattle.object_faults.specs.declared.fault.ValueFault.{ValueFault}
-use Rattle.object_faults.specs.declared.fault.ValueFault.TheVariants as values
-use Rattle.object_inheritance.specs.declared.templates.InheritanceFault.{InheritanceFault}
-use Rattle.object_inheritance.specs.declared.templates.InheritanceFault.TheVariants as inherit
-use Rattle.object_inheritance.specs.declared.templates.TemplateFault.{TemplateFault}
-use Rattle.object_inheritance.specs.declared.templates.TemplateFault.TheVariants as templates
+-- Where a fault is: which block has it.
+use Rattle.std.specs.Prelude.{◌≡◌, ℕ, List, Some, slice_get}
+use Rattle.object_load_faults.specs.declared.fault.BlockFault.{BlockFault}
+use Rattle.object_load_faults.specs.declared.fault.LoadFault.{LoadFault}
+use Rattle.object_load_faults.specs.declared.fault.LoadFault.TheVariants as load
 use Rattle.object_reader.specs.declared.block.Block.{Block}
-use Rattle.object_reader.specs.Fault as reader
-use Rattle.object_reader.specs.declared.fault.ReadFault.{ReadFault}
-use Rattle.object_reader.specs.declared.fault.ReadFault.TheVariants as read
-use Rattle.object_resolve.specs.declared.fault.BlockFault.{BlockFault}
-use Rattle.object_resolve.specs.declared.fault.BlockFault.TheVariants.{UnknownTemplate, TemplateLoop, Doubled, MissingDirective, BadNumber, BadOption, BadRange, Volatile, Exclusion, DatedException, UnknownName, PeriodLoop, DependencyLoop, TooMany}
-use Rattle.object_resolve.specs.declared.fault.LoadFault.{LoadFault}
-use Rattle.object_resolve.specs.declared.fault.LoadFault.TheVariants as load
-
--- ---- where a fault is
 
 -- the fault of the block that stands at the place, with its line
 pub record IsOfPlace (blocks : List Block) (place : ℕ) (fault : BlockFault)
@@ -32,66 +17,3 @@ abbrev pub IsAmong : (ℕ → BlockFault → Type 0) → LoadFault → Type 0
 IsAmong Refuses (load.Block line fault) = Refuses line fault
 IsAmong Refuses load.NoMemory = Unit {0}
 IsAmong Refuses _ = ⊥
-
--- ---- texts
-
--- the fault of a block
-abbrev pub fault_name : BlockFault → List ℕ
-fault_name UnknownTemplate = codes "UnknownTemplate"
-fault_name TemplateLoop = codes "TemplateLoop"
-fault_name Doubled = codes "Doubled"
-fault_name MissingDirective = codes "MissingDirective"
-fault_name BadNumber = codes "BadNumber"
-fault_name BadOption = codes "BadOption"
-fault_name BadRange = codes "BadRange"
-fault_name Volatile = codes "Volatile"
-fault_name Exclusion = codes "Exclusion"
-fault_name DatedException = codes "DatedException"
-fault_name UnknownName = codes "UnknownName"
-fault_name PeriodLoop = codes "PeriodLoop"
-fault_name DependencyLoop = codes "DependencyLoop"
-fault_name TooMany = codes "TooMany"
-
--- a fault after its line
-abbrev pub at_line : ℕ → List ℕ → List ℕ
-at_line line name = codes "line " ++ decimal line ++ codes ": " ++ name
-
--- the fault with its line, where it has one
-abbrev pub fault_text : LoadFault → List ℕ
-fault_text (load.Line line fault) = at_line line (reader.fault_name fault)
-fault_text (load.Block line fault) = at_line line (fault_name fault)
-fault_text load.TooLarge = codes "TooLarge"
-fault_text load.NoMemory = codes "NoMemory"
-
--- ---- the faults of the passes
-
--- of a text that isn't blocks
-abbrev pub of_read : ReadFault → LoadFault
-of_read (read.AtLine line fault) = load.Line line fault
-of_read read.TooLarge = load.TooLarge
-of_read read.NoMemory = load.NoMemory
-
--- of a block's templates
-abbrev pub of_template : TemplateFault → BlockFault
-of_template templates.UnknownTemplate = UnknownTemplate
-of_template templates.TemplateLoop = TemplateLoop
-of_template templates.Doubled = Doubled
-
--- of its values
-abbrev pub of_value : ValueFault → BlockFault
-of_value values.MissingDirective = MissingDirective
-of_value values.BadNumber = BadNumber
-of_value values.BadOption = BadOption
-of_value values.BadRange = BadRange
-of_value values.Volatile = Volatile
-of_value values.Exclusion = Exclusion
-of_value values.DatedException = DatedException
-
--- each with its line
-abbrev pub of_inherited : InheritanceFault → LoadFault
-of_inherited (inherit.AtLine line fault) = load.Block line (of_template fault)
-of_inherited inherit.NoMemory = load.NoMemory
-
-abbrev pub of_values : PassFault → LoadFault
-of_values (pass.AtLine line fault) = load.Block line (of_value fault)
-of_values pass.NoMemory = load.NoMemory

@@ -14,7 +14,8 @@ ghost use Rattle.object_resolve.specs.Resolve.{IsDependencyLooped, IsFirstDepend
 ghost use Rattle.object_resolve.specs.Tables.{AreServices, AreTables};
 ghost use Rattle.object_services.specs.Limits.{AreHostLists, AreWithinLimit};
 
-use crate::fault::{BlockFault, LoadFault, of_place};
+use crate::fault::of_place;
+use object_load_faults::fault::{BlockFault, LoadFault};
 use crate::tables::Tables;
 use object_dependencies::blocks::DependencyBlocks;
 use object_dependencies::pairs::DependencyPairs;

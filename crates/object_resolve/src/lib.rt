@@ -13,5 +13,4 @@ mod resolve;
 mod tables;
 mod text;
 
-pub use fault::{BlockFault, LoadFault};
 pub use text::load;

@@ -21,7 +21,8 @@ ghost use Rattle.object_services.specs.Limits as counted;
 ghost use Rattle.object_services.specs.Limits.{AreHostLists};
 
 use crate::dependencies::{check_dependency_loops, pairs_in};
-use crate::fault::{BlockFault, LoadFault, of_place};
+use crate::fault::of_place;
+use object_load_faults::fault::{BlockFault, LoadFault};
 use crate::tables::{Tables, groups_in, place_of};
 use due_model::limits::{MAX_CONTACTS, MAX_LANES, MAX_PERIODS};
 use object_contacts::lanes::lanes_of;

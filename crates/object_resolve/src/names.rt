@@ -9,7 +9,8 @@ ghost use Rattle.object_resolve.specs.Names.{IsMisnamed};
 ghost use Rattle.object_resolve.specs.Names.{HasUnknownPair, IsUnknownAt};
 ghost use Rattle.object_resolve.specs.Tables.{AreTables};
 
-use crate::fault::{BlockFault, LoadFault, of_place};
+use crate::fault::of_place;
+use object_load_faults::fault::{BlockFault, LoadFault};
 use crate::tables::{Tables, place_of};
 use object_groups::first::lower;
 use object_inheritance::templates::Templates;

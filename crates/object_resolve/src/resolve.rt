@@ -15,7 +15,8 @@ ghost use Rattle.object_resolve.specs.Resolve.{IsFitting, IsRefusal, IsResolved,
 ghost use Rattle.object_resolve.specs.Tables.{AreTables};
 
 use crate::config::config_of;
-use crate::fault::{BlockFault, LoadFault, of_place};
+use crate::fault::of_place;
+use object_load_faults::fault::{BlockFault, LoadFault};
 use crate::limits::{Counts, check_limits};
 use crate::names::check_names;
 use crate::tables::Tables;

@@ -3,12 +3,11 @@ use Rattle.std.specs.Prelude.{◌≡◌, ℕ, Bool, List, [], Option}
 use Rattle.due_model.specs.declared.config.Config.{Config}
 use Rattle.due_model.specs.declared.zone.Zone.{Zone}
 use Rattle.event_feed.specs.Feed.{Answer, AreGiven, answers}
-use Rattle.object_resolve.specs.Text.{IsTextOf}
 use Rattle.text_lines.specs.Lines.{pieces}
 use Rattle.command_output.specs.declared.outcome.CommandFault.{CommandFault}
 use Rattle.command_output.specs.declared.outcome.Ending.{Ending}
 use Rattle.written.specs.Written.{Writes, WritesFront}
-use Rattle.command_input.specs.Objects.{CommandFails, feed_in, objects_in}
+use Rattle.command_input.specs.Objects.{CommandFails, IsTextOf, feed_in, objects_in}
 use Rattle.replay.specs.Report.{ending_after, report_text}
 
 -- the answers are those of a feed from its first line on

@@ -4,7 +4,6 @@ use Rattle.due_model.specs.declared.config.Config.{Config}
 use Rattle.due_model.specs.declared.zone.Zone.{Zone}
 use Rattle.due_model.specs.declared.zone.Zone.TheVariants.{Utc}
 use Rattle.event_feed.specs.Feed.{Answer, answers}
-use Rattle.object_resolve.specs.Text.{IsTextOf}
 use Rattle.text_lines.specs.Lines.{pieces}
 use Rattle.steps.specs.declared.settings.Settings.{Settings}
 use Rattle.world_steps.specs.Runs.{new_world}
@@ -17,7 +16,7 @@ use Rattle.trace.specs.declared.feed.AfterFeed.{AfterFeed}
 use Rattle.trace.specs.declared.feed.AfterFeed.TheVariants as feed
 use Rattle.trace.specs.Feed.{FeedBegins, FeedEnds, FeedState, after_answers}
 use Rattle.trace.specs.LaneLines.{world_text}
-use Rattle.command_input.specs.Objects.{CommandFails, feed_in, objects_in}
+use Rattle.command_input.specs.Objects.{CommandFails, IsTextOf, feed_in, objects_in}
 use Rattle.trace.specs.Run.{RunState}
 use Rattle.trace.specs.StepLines.{DoesFirst, DoesSteps}
 
