@@ -15,12 +15,12 @@ ghost use Rattle.object_resolve.specs.Tables.{AreServices, AreTables};
 ghost use Rattle.object_services.specs.Limits.{AreHostLists, AreWithinLimit};
 
 use crate::fault::of_place;
-use object_load_faults::fault::{BlockFault, LoadFault};
 use crate::tables::Tables;
 use object_dependencies::blocks::DependencyBlocks;
 use object_dependencies::pairs::DependencyPairs;
 use object_dependency_loops::loops::loop_of;
 use object_inheritance::templates::Templates;
+use object_load_faults::fault::{BlockFault, LoadFault};
 use object_reached::services::HostServices;
 use object_service_groups::groups::ServiceGroups;
 use object_services::services::{LimitFault, ServiceHosts};

@@ -22,7 +22,6 @@ ghost use Rattle.object_services.specs.Limits.{AreHostLists};
 
 use crate::dependencies::{check_dependency_loops, pairs_in};
 use crate::fault::of_place;
-use object_load_faults::fault::{BlockFault, LoadFault};
 use crate::tables::{Tables, groups_in, place_of};
 use due_model::limits::{MAX_CONTACTS, MAX_LANES, MAX_PERIODS};
 use object_contacts::lanes::lanes_of;
@@ -32,6 +31,7 @@ use object_escalations::laws::one_block_passes;
 use object_groups::first::lower;
 use object_groups::objects::Objects;
 use object_inheritance::templates::Templates;
+use object_load_faults::fault::{BlockFault, LoadFault};
 use object_names::named::{NamedKind, NamedObjects};
 use object_reached::reached::services_of;
 use object_reached::services::HostServices;

@@ -16,13 +16,13 @@ ghost use Rattle.object_resolve.specs.Tables.{AreTables};
 
 use crate::config::config_of;
 use crate::fault::of_place;
-use object_load_faults::fault::{BlockFault, LoadFault};
 use crate::limits::{Counts, check_limits};
 use crate::names::check_names;
 use crate::tables::Tables;
 use due_model::config::Config;
 use object_faults::check::check;
 use object_inheritance::templates::Templates;
+use object_load_faults::fault::{BlockFault, LoadFault};
 use object_names::named::NamedKind;
 use object_periods::loops::loop_of;
 use object_reader::block::Block;

@@ -11,11 +11,11 @@ ghost use Rattle.object_resolve.specs.Text.{IsTextFault, IsTextOf};
 ghost use Rattle.object_load_faults.specs.declared.fault.LoadFault.{LoadFault};
 ghost use Rattle.object_load_faults.specs.declared.fault.LoadFault.TheVariants.{NoMemory};
 
-use object_load_faults::fault::LoadFault;
 use crate::laws::{accept_resolved, resolve_no_refused};
 use crate::resolve::resolve;
 use due_model::config::Config;
 use due_model::sequence::Sequence;
+use object_load_faults::fault::LoadFault;
 use object_reader::block::Block;
 use object_reader::fault::ReadFault;
 use object_reader::reading::read;
