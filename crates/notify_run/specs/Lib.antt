@@ -1,5 +1,2 @@
-pub mod Channels
-pub mod CommandLine
 pub mod Refusal
-pub mod RunFault
 pub mod Zones

@@ -5,34 +5,27 @@ ghost use Rattle.std.specs.Prelude.{◌≡◌};
 ghost use Rattle.std.specs.Process.{exit_status};
 ghost use Rattle.clap.specs.Values.{kind_of};
 ghost use Rattle.command_output.specs.Outcome.{outcome_status};
-ghost use Rattle.notify_run.specs.CommandLine.{AreSettingsFit, AreTwo, request_zone};
+ghost use Rattle.command_line.specs.Words.{AreSettingsFit, AreTwo, request_zone};
 ghost use Rattle.notify_run.specs.Refusal.{refusal_status};
-ghost use Rattle.notify_run.specs.RunFault.{run_status};
 ghost use Rattle.notify_run.specs.Zones.{zone_fault_status};
-
-mod channels;
-mod command_line;
-mod run_fault;
-mod sending;
-mod zone;
+ghost use Rattle.sending.specs.Fault.{run_status};
 
 use clap::error::ErrorKind;
+use command_input::zone_of;
 use command_line::{Request, command, request_of};
 use command_output::{AnyWriter, CommandFault, Ending, exit_status};
 use due_model::zone::Zone;
 use progress::{ProgressLine, Watcher};
 use replay::{replay_files, replay_in};
-use run_fault::RunFault;
-use sending::do_run;
+use sending::{RunFault, do_run};
 use std::alloc::AllocError;
 use std::env;
 use std::fs::File;
 use std::io::IsTerminal;
 use std::process::ExitCode;
 use text_lines::AnyReader;
+use steps::Settings;
 use trace::trace_in;
-use world_steps::Settings;
-use zone::zone_of;
 use zone_times::given::ZoneFault;
 
 /// Says on standard error what a command failed with, if it did, and gives its exit status.
@@ -138,7 +131,8 @@ fn status_of_request(rt: &HostRuntime, request: Request<'_, '_>) -> ExitCode
     requires { AreSettingsFit request }
     ensures { AreTwo (request_zone request.entry) → exit_status result ≡ 2 }
 {
-    let zone = match zone_of(rt, request.zone()) {
+    let words = request.zone();
+    let zone = match zone_of(rt, words.rule, words.file) {
         Ok(zone) => zone,
         Err(fault) => return status_of_zone(rt, fault),
     };

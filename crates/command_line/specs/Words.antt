@@ -1,0 +1,158 @@
+-- What the words of a command line ask, and which words there are.
+use Rattle.std.specs.Prelude.{◌≡◌, ℕ, List, [], ◌∷◌, map, Some, pos, true, false, codes, is_some}
+use Rattle.std.specs.Option.{option_copied, option_map}
+use Rattle.std.specs.Str.Parse.{digits_value, IsNumeral, without_leading_plus}
+use Rattle.clap.specs.Lexer.{usize_max}
+use Rattle.clap.specs.Matches.{first_value, matched_of, one_text, raw_values}
+use Rattle.clap.specs.declared.parser.matches.ArgMatches.{ArgMatches}
+use Rattle.clap.specs.declared.parser.matches.Found.{Found}
+use Rattle.clap.specs.Words.{App, Rule, new_app, new_rule, rows_of, subcommand_rows_of}
+use Rattle.clap.specs.Words.{with_rule}
+use Rattle.steps.specs.declared.settings.Settings.{Settings}
+use Rattle.steps.specs.Settings.{AreSettings}
+use Rattle.clap.specs.declared.builder.value_parser.ValueParser.TheVariants.{Signed}
+use Rattle.command_line.specs.declared.words.Request.{Request}
+use Rattle.command_line.specs.declared.words.ZoneWords.{ZoneWords}
+use Rattle.command_line.specs.declared.words.Request.TheVariants.{Replay, Trace, Run}
+
+-- the name of the command that is asked for
+abbrev pub request_name : Request → List ℕ
+request_name (Replay objects zone) = codes "replay"
+request_name (Trace settings zone) = codes "trace"
+request_name (Run objects settings zone channels) = codes "run"
+
+-- a run has one decider
+abbrev pub AreSettingsFit : Request → Type 0
+AreSettingsFit (Replay objects zone) = Unit {0}
+AreSettingsFit (Trace settings zone) = Unit {0}
+AreSettingsFit (Run objects settings zone channels) = settings.deciders ≡ 1
+
+-- the texts that the options of a command hold of the zone
+pub record IsZoneOf (options : Found) (words : ZoneWords) : Type 0 where
+  pub rule : option_copied words.rule ≡ first_value options (codes "zone")
+  pub file : option_copied words.file ≡ first_value options (codes "zone-file")
+
+-- An option holds the number: what is read of it is the number in decimal digits.
+abbrev pub HoldsNumber : Found → (name : List ℕ) → (number : ℕ) → Type 0
+HoldsNumber options name number = (text : List ℕ) × (one_text options name ≡ Some text)
+    × IsNumeral 10 (without_leading_plus text)
+    × (number ≡ digits_value 10 (without_leading_plus text))
+
+-- the numbers that the options of a command hold of a lane
+pub record HoldSettings (options : Found) (settings : Settings) : Type 0 where
+  pub queue : HoldsNumber options (codes "queue") settings.queue
+  pub tries : HoldsNumber options (codes "tries") settings.tries
+
+-- The numbers that they hold are settings, with so many deciders.
+abbrev pub HoldFitting : Found → (deciders : ℕ) → Type 0
+HoldFitting options deciders = (queue : ℕ) × (tries : ℕ)
+    × HoldsNumber options (codes "queue") queue × HoldsNumber options (codes "tries") tries
+    × AreSettings deciders queue tries
+
+-- The options of `trace` make no request: the numbers that they hold are no settings.
+abbrev pub TraceLacks : Found → Type 0
+TraceLacks options = (deciders : ℕ) → HoldsNumber options (codes "deciders") deciders
+    → HoldFitting options deciders → ⊥
+
+-- The options of `run` make no request: they name no file, or the numbers that they hold are no settings.
+abbrev pub RunLacks : Found → Type 0
+RunLacks options = is_some (first_value options (codes "objects")) ≡ true
+    → HoldFitting options 1 → ⊥
+
+-- What the options of a command hold: of `replay` the file of the object text, if it is given; of `trace` the settings; of
+-- `run` the file, the settings but the number of deciders, which is 1, and the channel words; and of each the zone.
+abbrev pub IsRequestOf : Found → Request → Type 0
+IsRequestOf options (Replay objects zone) =
+    (option_copied objects ≡ first_value options (codes "objects")) × IsZoneOf options zone
+IsRequestOf options (Trace settings zone) =
+    HoldsNumber options (codes "deciders") settings.deciders × HoldSettings options settings
+    × IsZoneOf options zone
+IsRequestOf options (Run objects settings zone channels) =
+    (Some objects.now ≡ first_value options (codes "objects")) × (settings.deciders ≡ 1)
+    × HoldSettings options settings × IsZoneOf options zone
+    × (option_map (λ words. map (λ word. word.now) words.now) channels
+    ≡ option_map raw_values (matched_of options (codes "channel")))
+
+-- it is what the command that was met asks, with its options
+abbrev pub IsAskedBy : ArgMatches → Request → Type 0
+IsAskedBy matches request = (options : Found)
+    × (subcommand_rows_of matches ≡ Some (request_name request, rows_of options))
+    × IsRequestOf options request
+
+-- The command of that name was met, and of its options this is so.
+abbrev pub IsMetWith : ArgMatches → (name : List ℕ) → (Found → Type 0) → Type 0
+IsMetWith matches name so = (options : Found)
+    × (subcommand_rows_of matches ≡ Some (name, rows_of options)) × so options
+
+-- what it says of the zone
+abbrev pub request_zone : Request → ZoneWords
+request_zone (Replay objects zone) = zone
+request_zone (Trace settings zone) = zone
+request_zone (Run objects settings zone channels) = zone
+
+-- it gives a rule and a file
+abbrev pub AreTwo : ZoneWords → Type 0
+AreTwo words = (is_some words.rule ≡ true) × (is_some words.file ≡ true)
+
+-- `--NAME NUMBER`, with a number from 1 to `most`, or with `default` where it is left out
+abbrev pub number_option : List ℕ → List ℕ → ℕ → Rule
+number_option name default most = record (new_rule name) {
+  long = Some name;
+  value_names = 1;
+  defaults = default ∷ [];
+  parser = Some (Signed (pos 1) (pos most));
+}
+
+-- `--NAME TEXT`, which may be left out
+abbrev pub text_option : List ℕ → Rule
+text_option name = record (new_rule name) {
+  long = Some name;
+  value_names = 1;
+}
+
+-- words without an option, of which there may be any number
+abbrev pub word_list : List ℕ → Rule
+word_list name = record (new_rule name) {
+  range = Some (record { start_inclusive = 1; end_inclusive = usize_max });
+  value_names = 1;
+}
+
+-- beside its other options a command has two by which a zone is given
+abbrev pub with_zone : App → App
+with_zone app =
+    with_rule (with_rule app (text_option (codes "zone"))) (text_option (codes "zone-file"))
+
+-- `replay` has these, and the file of the object text
+abbrev pub replay_words : App
+replay_words = with_zone (with_rule (new_app (codes "replay")) (text_option (codes "objects")))
+
+-- two say how many notices a lane's queue holds, and how many tries a message has
+abbrev pub with_lane_options : App → App
+with_lane_options app =
+    with_rule (with_rule app (number_option (codes "queue") (codes "64") 1024))
+    (number_option (codes "tries") (codes "3") 10)
+
+-- `trace` has these, and how many deciders there are
+abbrev pub trace_words : App
+trace_words =
+    with_zone (with_lane_options (with_rule (new_app (codes "trace"))
+    (number_option (codes "deciders") (codes "1") 8)))
+
+-- `run` has the file of the object text, which must be given, the same options, and the channel words
+abbrev pub run_words : App
+run_words =
+    with_rule (with_zone (with_lane_options (with_rule (new_app (codes "run"))
+    (record (text_option (codes "objects")) { required = true })))) (word_list (codes "channel"))
+
+-- `notify-run` has these three commands, `--version`, no command `help`, and asks for one of the three
+abbrev pub program_words : App
+program_words = record {
+  top = record (new_app (codes "notify-run")).top {
+    is_leaf = false;
+    has_version = true;
+    disable_help_subcommand = true;
+    subcommand_required = true;
+    arg_required_else_help = true;
+  };
+  subs = replay_words.top ∷ trace_words.top ∷ run_words.top ∷ [];
+}

@@ -1,0 +1,6 @@
+//! The command line: what `notify-run` can be asked, and what its words ask.
+#![tactic(auto)]
+
+pub mod words;
+
+pub use words::{Request, ZoneWords, command, request_of};

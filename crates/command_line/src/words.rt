@@ -1,0 +1,388 @@
+//! The words of a command line, and what they ask.
+
+ghost use Rattle.std.specs.Prelude.{◌≡◌, codes, false, IfNone, IfOk, IfSome, is_some, Some, true};
+ghost use Rattle.clap.specs.Matches.{found_of};
+ghost use Rattle.clap.specs.Words.{app_of, rule_of, subcommand_name_of};
+ghost use Rattle.command_line.specs.Words.{AreSettingsFit, IsAskedBy, IsRequestOf, IsZoneOf};
+ghost use Rattle.command_line.specs.Words.{HoldFitting, HoldSettings, IsMetWith, RunLacks};
+ghost use Rattle.command_line.specs.Words.{TraceLacks};
+ghost use Rattle.command_line.specs.Words.{number_option, program_words, replay_words};
+ghost use Rattle.command_line.specs.Words.{request_name, request_zone, run_words, text_option};
+ghost use Rattle.command_line.specs.Words.{trace_words, with_lane_options, with_zone, word_list};
+
+use clap::{Arg, ArgMatches, Command, value_parser};
+use std::alloc::{AllocError, Global};
+use steps::Settings;
+
+
+/// What `notify-run --version` says after the name.
+const VERSION: &str = "0.2.0";
+
+/// What `notify-run --help` says after its commands.
+const STATUSES: &str = "\
+Exit status:
+  0  done
+  1  the object text was refused, the input or the output failed, a channel wasn't opened,
+     or the feed ended early
+  2  the command line is wrong, or its zone can't be read
+  3  something wasn't delivered
+  4  memory ran out
+
+Faults are named on standard error, those of the object text with their line.";
+
+/// What `notify-run replay --help` says.
+const REPLAY: &str = "\
+Reads object text, a line `%events` and a feed of events from standard input (with
+`--objects`, object text from that file, and from standard input the feed alone), and
+writes to standard output what would have been sent, line by line of the feed:
+
+  N;event;moment;object;kind;state;number;contact;lane     a notice
+  S;event;moment;object;kind;state;filter                  what a filter of the object stopped
+  C;event;moment;object;kind;state;number;contact;filter   a contact that was refused
+  R;line;fault                                             a refused line of the feed
+
+Time periods are of local times: UTC, unless a zone is given. The feed is read as it
+comes, and what an event adds is written before more input is waited for, so that
+`tail -f feed | notify-run replay --objects FILE` follows a feed.";
+
+/// What `notify-run trace --help` says.
+const TRACE: &str = "\
+Shows the design of the notification engine at work: deciders, queues and channels as
+one state, in which you choose which part acts next. Whatever the order, each channel
+takes what `replay` reports for its lane, of each host or service in the order of the
+events; use it to see how a notice gets there, or where it stands when a lane fails or
+closes.
+
+Reads object text, a line `%events`, a feed of events, a line `%steps` and steps
+from standard input, one step a line, and does them one by one:
+
+  post            the next event of the feed is posted
+  decide D        decider D, counted from 0, decides the next posted event
+  put D LANE      the front of decider D's outbox goes to the lane's queue
+  pick LANE       the queue's front goes into the lane's hand
+  settle LANE     the lane's channel takes the message in hand
+  fail LANE       the lane's channel doesn't take it
+  ask LANE        the lane is asked to close
+  close LANE      the lane is shut
+  drain LANE      the front of a shut lane's queue is given up
+
+A lane is named by its command: one that a contact lists. Standard output gets
+
+  R;line;fault                                             a refused line of the feed
+  E;line;BadStep                                           a line after `%steps` that is no step
+  E;line;NotEnabled                                        a step that can't be done
+  L;lane;object;taken;hand;undelivered;queue;outbox        at the end, what the lane holds of the object
+
+where each list is `event:contact`, separated by commas, or `-`.";
+
+/// What `notify-run run --help` says.
+const RUN: &str = "\
+Reads a feed of events from standard input, and sends what they make due: the messages of
+each notification command go to the channel that a word names for it.
+
+  NAME=mailbox:PATH               appended to the file, which is made if it isn't there
+  NAME=pager:HOST:PORT            to the peer at that address, which answers each with OK
+  NAME=command:PROGRAM ARGUMENT.. to the input of the program, started for each message
+
+NAME is a command that a contact lists. The program and its arguments are separated by
+spaces; nothing quotes a space. What an event makes due is tried before the next line of
+the feed is waited for. A message that fails is tried again, up to --tries; then its
+command's channel is closed, and that and all later messages of the command stay
+undelivered. Standard output gets, as the feed comes,
+
+  R;line;fault                                             a refused line of the feed
+  S;event;moment;object;kind;state;filter                  what a filter of the object stopped
+  C;event;moment;object;kind;state;number;contact;filter   a contact that was refused
+
+and once it is over, for each command that contacts list,
+
+  T;command;event;object;contact                           a message that its channel took
+  U;command;event;object;contact                           a message that is undelivered
+  Z;command;why                                            why it was closed: FeedOver, Failed,
+                                                           NoChannel or NoMemory";
+
+/// What a command line says of the zone of local times: neither, for UTC, or one of the two; both are one too many.
+#[derive(Clone, Copy, Debug, PartialEq, Eq)]
+pub struct ZoneWords<'a> {
+    /// The text of a POSIX rule.
+    pub rule: Option<&'a str>,
+    /// The path of a zone file (TZif).
+    pub file: Option<&'a str>,
+}
+
+/// What the program is asked to do.
+#[derive(Clone, Copy, Debug, PartialEq, Eq)]
+pub enum Request<'m, 'a> {
+    /// A report, of the object text in the file, or of what stands before the feed on standard input.
+    Replay {
+        objects: Option<&'a str>,
+        zone: ZoneWords<'a>,
+    },
+    /// A trace.
+    Trace {
+        settings: Settings,
+        zone: ZoneWords<'a>,
+    },
+    /// A run, of the object text in the file and the feed on standard input, with one decider.
+    Run {
+        objects: &'a str,
+        settings: Settings,
+        zone: ZoneWords<'a>,
+        /// The channel words, in order, if there are some.
+        channels: Option<&'m [&'a str]>,
+    },
+}
+
+impl<'a> Request<'_, 'a> {
+    /// What it says of the zone.
+    pub fn zone(self) -> ZoneWords<'a>
+        ensures { result ≡ request_zone self.entry }
+    {
+        match self {
+            Request::Replay { zone, .. } => zone,
+            Request::Trace { zone, .. } => zone,
+            Request::Run { zone, .. } => zone,
+        }
+    }
+}
+
+/// The option `--NAME` with a text.
+fn text_option<'a>(alloc: Global, name: &'a str, value: &'a str, help: &'a str) -> Arg<'a>
+    ensures rule { rule_of result ≡ text_option name.entry.now }
+    ensures local { result.global ≡ false }
+{
+    Arg::new(alloc, name)
+        .long(name)
+        .value_name(value)
+        .help(help)
+}
+
+/// Adds the options that say what zone local times are of.
+fn with_zone<'a>(alloc: Global, command: Command<'a>) -> Result<Command<'a>, AllocError>
+    ensures words { IfOk result (λ command_with.
+        app_of command_with ≡ with_zone (app_of command.entry)) }
+{
+    let rule = text_option(
+        alloc,
+        "zone",
+        "RULE",
+        "The zone of local times, by a POSIX rule, as EST5EDT,M3.2.0,M11.1.0",
+    );
+    let file = text_option(
+        alloc,
+        "zone-file",
+        "FILE",
+        "The zone of local times, by a zone file (TZif)",
+    );
+    command.arg(rule)?.arg(file)
+}
+
+/// The command `replay` and its options.
+fn replay_command<'a>(alloc: Global) -> Result<Command<'a>, AllocError>
+    ensures words { IfOk result (λ command. app_of command ≡ replay_words) }
+{
+    let objects = text_option(
+        alloc,
+        "objects",
+        "FILE",
+        "A file of object text; standard input is then the feed alone",
+    );
+    let command = Command::new(alloc, "replay")
+        .about("What would have been sent, from object text and a feed of events")
+        .long_about(REPLAY)
+        .arg(objects)?;
+    with_zone(alloc, command)
+}
+
+/// The option that says how many deciders there are.
+fn deciders_option<'a>(alloc: Global) -> Arg<'a>
+    ensures rule { rule_of result ≡ number_option (codes "deciders") (codes "1") 8 }
+    ensures local { result.global ≡ false }
+{
+    Arg::new(alloc, "deciders")
+        .long("deciders")
+        .value_name("NUMBER")
+        .value_parser(value_parser!(u8).range(1..=8))
+        .default_value("1")
+        .help("How many deciders share the objects, 1 to 8")
+}
+
+/// The option that says how many notices a lane's queue holds.
+fn queue_option<'a>(alloc: Global, help: &'a str) -> Arg<'a>
+    ensures rule { rule_of result ≡ number_option (codes "queue") (codes "64") 1024 }
+    ensures local { result.global ≡ false }
+{
+    Arg::new(alloc, "queue")
+        .long("queue")
+        .value_name("NUMBER")
+        .value_parser(value_parser!(u16).range(1..=1024))
+        .default_value("64")
+        .help(help)
+}
+
+/// The option that says how often a message is tried.
+fn tries_option<'a>(alloc: Global) -> Arg<'a>
+    ensures rule { rule_of result ≡ number_option (codes "tries") (codes "3") 10 }
+    ensures local { result.global ≡ false }
+{
+    Arg::new(alloc, "tries")
+        .long("tries")
+        .value_name("NUMBER")
+        .value_parser(value_parser!(u8).range(1..=10))
+        .default_value("3")
+        .help("How often a message is tried, 1 to 10")
+}
+
+/// The command `trace` and its options.
+fn trace_command<'a>(alloc: Global) -> Result<Command<'a>, AllocError>
+    ensures words { IfOk result (λ command. app_of command ≡ trace_words) }
+{
+    let command = Command::new(alloc, "trace")
+        .about("The engine's design at work, step by step, in an order that you choose")
+        .long_about(TRACE)
+        .arg(deciders_option(alloc))?;
+    let queue = "How many notices the queue of a lane holds, 1 to 1024";
+    let with_lanes = with_lane_options(alloc, command, queue)?;
+    with_zone(alloc, with_lanes)
+}
+
+/// Adds the options of a lane: how long its queue is, of which the help is given, and how often it tries a message.
+fn with_lane_options<'a>(
+    alloc: Global,
+    command: Command<'a>,
+    queue_help: &'a str,
+) -> Result<Command<'a>, AllocError>
+    ensures words { IfOk result (λ command_with. app_of command_with
+        ≡ with_lane_options (app_of command.entry)) }
+{
+    command
+        .arg(queue_option(alloc, queue_help))?
+        .arg(tries_option(alloc))
+}
+
+/// The words of channels, of which there may be any number.
+fn channel_words<'a>(alloc: Global) -> Arg<'a>
+    ensures rule { rule_of result ≡ word_list (codes "channel") }
+    ensures local { result.global ≡ false }
+{
+    Arg::new(alloc, "channel")
+        .value_name("CHANNEL")
+        .num_args(1..)
+        .help("Where the messages of a command go: NAME=KIND:..")
+}
+
+/// The command `run`, its options and its words.
+fn run_command<'a>(alloc: Global) -> Result<Command<'a>, AllocError>
+    ensures words { IfOk result (λ command. app_of command ≡ run_words) }
+{
+    let objects = text_option(alloc, "objects", "FILE", "The file of object text").required(true);
+    let command = Command::new(alloc, "run")
+        .about("Sends what is due, from an object file and a feed of events")
+        .long_about(RUN)
+        .arg(objects)?;
+    let queue = "Without effect yet: a run hands each notice to its channel at once; 1 to 1024";
+    let with_lanes = with_lane_options(alloc, command, queue)?;
+    let with_options = with_zone(alloc, with_lanes)?;
+    with_options.arg(channel_words(alloc))
+}
+
+/// The commands of `notify-run`. A refused growth is the only error.
+pub fn command<'a>(alloc: Global) -> Result<Command<'a>, AllocError>
+    ensures words { IfOk result (λ command. app_of command ≡ program_words) }
+{
+    Command::new(alloc, "notify-run")
+        .bin_name("notify-run")?
+        .about("The notification logic of Nagios Core 4")
+        .version(VERSION)
+        .after_help(STATUSES)
+        .disable_help_subcommand(true)
+        .subcommand_required(true)
+        .arg_required_else_help(true)
+        .subcommand(replay_command(alloc)?)?
+        .subcommand(trace_command(alloc)?)?
+        .subcommand(run_command(alloc)?)
+}
+
+/// The settings of so many deciders and of the options of a lane. Each option has a default, and its range is that of the
+/// settings, so that there are some for each command line that was read.
+fn settings_of(options: &ArgMatches<'_>, deciders: u8) -> Option<Settings>
+    ensures deciders { IfSome result (λ settings. settings.deciders ≡ deciders) }
+    ensures held { IfSome result (HoldSettings (found_of options.now)) }
+    ensures lacking { IfNone result (HoldFitting (found_of options.now) deciders → ⊥) }
+{
+    let queue = options.get_one::<u16>("queue")?;
+    let tries = options.get_one::<u8>("tries")?;
+    Settings::new(deciders, queue, tries)
+}
+
+/// What the options of a command say of the zone.
+fn zone_words<'a>(options: &ArgMatches<'a>) -> ZoneWords<'a>
+    ensures { IsZoneOf (found_of options.now) result }
+{
+    ZoneWords {
+        rule: options.get_str("zone"),
+        file: options.get_str("zone-file"),
+    }
+}
+
+/// What the options of `replay` ask.
+fn replay_request<'m, 'a>(options: &'m ArgMatches<'a>) -> Request<'m, 'a>
+    ensures named { request_name result ≡ codes "replay" }
+    ensures options { IsRequestOf (found_of options.now) result }
+{
+    Request::Replay {
+        objects: options.get_str("objects"),
+        zone: zone_words(options),
+    }
+}
+
+/// What the options of `trace` ask.
+fn trace_request<'m, 'a>(options: &'m ArgMatches<'a>) -> Option<Request<'m, 'a>>
+    ensures named { IfSome result (λ request. request_name request ≡ codes "trace") }
+    ensures options { IfSome result (IsRequestOf (found_of options.now)) }
+    ensures lacking { IfNone result (TraceLacks (found_of options.now)) }
+{
+    let deciders = options.get_one::<u8>("deciders")?;
+    Some(Request::Trace {
+        settings: settings_of(options, deciders)?,
+        zone: zone_words(options),
+    })
+}
+
+/// What the options of `run` ask.
+fn run_request<'m, 'a>(options: &'m ArgMatches<'a>) -> Option<Request<'m, 'a>>
+    ensures named { IfSome result (λ request. request_name request ≡ codes "run") }
+    ensures options { IfSome result (IsRequestOf (found_of options.now)) }
+    ensures settings { IfSome result AreSettingsFit }
+    ensures lacking { IfNone result (RunLacks (found_of options.now)) }
+{
+    let objects = options.get_str("objects")?;
+    let settings = settings_of(options, 1)?;
+    Some(Request::Run {
+        objects,
+        settings,
+        zone: zone_words(options),
+        channels: options.get_strs("channel"),
+    })
+}
+
+/// What a command line that was read asks.
+pub fn request_of<'m, 'a>(matches: &'m ArgMatches<'a>) -> Option<Request<'m, 'a>>
+    ensures settings { IfSome result AreSettingsFit }
+    ensures named { IfSome result (λ request.
+        subcommand_name_of matches.now ≡ Some (request_name request)) }
+    ensures asked { IfSome result (IsAskedBy matches.now) }
+    ensures replay { subcommand_name_of matches.now ≡ Some (codes "replay")
+        → is_some result ≡ true }
+    ensures trace { IfNone result (subcommand_name_of matches.now ≡ Some (codes "trace")
+        → IsMetWith matches.now (codes "trace") TraceLacks) }
+    ensures run { IfNone result (subcommand_name_of matches.now ≡ Some (codes "run")
+        → IsMetWith matches.now (codes "run") RunLacks) }
+{
+    match matches.subcommand() {
+        Some(("replay", options)) => Some(replay_request(options)),
+        Some(("trace", options)) => trace_request(options),
+        Some(("run", options)) => run_request(options),
+        _ => None,
+    }
+}
