@@ -38,11 +38,7 @@ pub fn read_zone_file<R: Input + Drop>(alloc: Global, reader: R) -> Result<Zone,
 
 /// The zone of the text of a rule, or of the file at a path; UTC where neither is given. Both are two zones. A file that
 /// can't be opened is a bad zone.
-pub fn zone_of(
-    rt: &HostRuntime,
-    rule: Option<&str>,
-    file: Option<&str>,
-) -> Result<Zone, ZoneFault>
+pub fn zone_of(rt: &HostRuntime, rule: Option<&str>, file: Option<&str>) -> Result<Zone, ZoneFault>
     ensures { ZoneComesOf (option_map (λ text. text.now) rule.entry)
         (option_map (λ path. path.now) file.entry) result }
 {

@@ -14,7 +14,6 @@ use clap::{Arg, ArgMatches, Command, value_parser};
 use std::alloc::{AllocError, Global};
 use steps::Settings;
 
-
 /// What `notify-run --version` says after the name.
 const VERSION: &str = "0.2.0";
 

@@ -23,8 +23,8 @@ use std::env;
 use std::fs::File;
 use std::io::IsTerminal;
 use std::process::ExitCode;
-use text_lines::AnyReader;
 use steps::Settings;
+use text_lines::AnyReader;
 use trace::trace_in;
 use zone_times::given::ZoneFault;
 
