@@ -1,1 +1,7 @@
+mod ReachLemmas
+mod SpeechLemmas
+mod BaseLemmas
+mod RoleLemmas
+mod DescribedLemmas
+mod RuleLemmas
 mod LoopLemmas

@@ -9,7 +9,7 @@ use Rattle.lemmas.proofs.Chains.{Chain-map}
 use Rattle.lemmas.proofs.Elements.{Contains-none}
 use Rattle.object_dependencies.specs.Loops.{Depends, HasNoDependencyLoop, IsFirstLooped, IsLoopedAt}
 use Rattle.object_dependencies.specs.Pairs.{BlocksOf, DependsAt}
-use Rattle.object_dependency_rules.specs.Places.{AreRulesOf}
+use Rattle.object_dependency_loops.specs.Places.{AreRulesOf}
 
 module _ (b : BlocksOf) (r : Rules) (are : AreRulesOf b r) where
   by-rule : (place d m : ℕ) → DependsAt b.blocks b.lists place d m → rules.DependsBy r place d m

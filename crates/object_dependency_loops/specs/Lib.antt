@@ -1,0 +1,4 @@
+pub mod Speech
+pub mod Base
+pub mod Described
+pub mod Places

@@ -4,8 +4,8 @@ ghost use Rattle.std.specs.Prelude.{◌≡◌, IfNone, IfOk, IfSome};
 ghost use Rattle.object_dependencies.specs.Loops.{HasNoDependencyLoop, IsFirstLooped};
 ghost use Rattle.object_groups.specs.declared.groups.GroupKind.TheVariants.{HostGroups};
 
+use crate::rules::rules_of;
 use object_dependencies::blocks::DependencyBlocks;
-use object_dependency_rules::rules::rules_of;
 use object_groups::groups::Groups;
 use object_service_groups::groups::ServiceGroups;
 use std::alloc::{AllocError, Global};

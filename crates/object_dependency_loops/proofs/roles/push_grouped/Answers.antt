@@ -1,0 +1,22 @@
+use Rattle.std.proofs.Common.{◌≡◌, ◌∙◌, List, ap, ℕ}
+use Rattle.std.proofs.lemmas.Result.{IfOk-weaker}
+use Rattle.object_groups.specs.Objects.{names_in, ObjectsOf}
+use Rattle.object_reached.specs.Listed.{ServiceListingOf}
+use Rattle.object_reached.specs.Roles.{directives_of}
+use Rattle.object_reader.specs.declared.block.Block.{Block}
+use Rattle.object_reader.specs.declared.block.BlockKind.TheVariants.{ServiceGroup}
+use Rattle.object_dependency_loops.proofs.RoleLemmas.{grouped-pushed}
+use Rattle.object_dependency_loops.proofs.roles.push_grouped.Goals as goal
+
+pub returns : goal.returns
+returns c =
+    let role = c.args.reached.now.role in
+    let names : c.names.result.now ≡ names_in c.args.blocks.now.blocks ServiceGroup =
+    c.names.ensures.names ∙ ap (λ (o : ObjectsOf). names_in o.blocks o.kind) c.groups-2.ensures ∙ ap (λ (bs : List Block). names_in bs ServiceGroup) c.requires.groups in
+    let column : c.groups.result.now ≡ record { blocks = c.args.blocks.now.blocks; directive = (directives_of role).groups } =
+    c.groups.ensures ∙ ap (λ (v : ServiceListingOf). record { blocks = v.blocks; directive = v.directives.groups }) c.listing.ensures
+    ∙ ap (λ (bs : List Block). record { blocks = bs; directive = (directives_of role).groups }) c.requires.reached in
+    IfOk-weaker c.push_listed.result _ _
+    (λ next listed. grouped-pushed c.members_are_services.ensures c.args.blocks.now c.args.firsts c.args.node next c.args.edges.now.items c.push_listed.new.edges.items c.args.links.now.items
+    c.push_listed.new.links.items c.args.places.now (directives_of role) c.names.result.now c.groups.result.now c.requires.base c.requires.linked c.requires.places names column listed)
+    c.push_listed.ensures

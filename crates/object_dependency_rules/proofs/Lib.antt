@@ -1,6 +1,0 @@
-mod ReachLemmas
-mod SpeechLemmas
-mod BaseLemmas
-mod RoleLemmas
-mod DescribedLemmas
-mod RuleLemmas

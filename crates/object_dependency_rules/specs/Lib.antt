@@ -1,4 +1,0 @@
-pub mod Speech
-pub mod Base
-pub mod Described
-pub mod Places
