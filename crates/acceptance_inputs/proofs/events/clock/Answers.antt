@@ -1,0 +1,5 @@
+use Rattle.std.proofs.Common.{rules}
+use Rattle.acceptance_inputs.proofs.events.clock.Goals as goal
+
+pub returns : goal.returns
+returns c = search rules
