@@ -1,5 +1,4 @@
-use Rattle.std.proofs.Common.{rules}
 use Rattle.acceptance_inputs.proofs.events.hard.Goals as goal
 
 pub returns : goal.returns
-returns c = search rules
+returns c = c.at.ensures
