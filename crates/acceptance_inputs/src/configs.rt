@@ -1,5 +1,9 @@
 //! Configurations that tests are run on.
 
+ghost use Rattle.std.specs.Prelude.{◌≡◌, IfOk, length};
+ghost use Rattle.due_laws.specs.Rows.{base};
+ghost use Rattle.due_model.specs.Accepted.{IsAccepted};
+
 use crate::rows::{ContactRow, ObjectRow, Rows, config_of};
 use due_model::config::{Config, ContactId, ContactList, LaneId, Object, ObjectId};
 use due_model::options::OptionLetters;
@@ -59,21 +63,30 @@ const WIDE: Rows<'static> = Rows {
         ..ANN
     }],
     objects: &[WEB; 8],
-    ..BASE
+    ..Rows::NONE
 };
 
 /// One host, its contact and a command.
-pub fn base(alloc: Global) -> Result<Config, AllocError> {
+pub fn base(alloc: Global) -> Result<Config, AllocError>
+    ensures { IfOk result (λ c. c ≡ base) }
+{
     config_of(alloc, BASE)
 }
 
 /// Eight hosts, and a contact who is notified of them on each of sixteen lanes.
-pub fn wide(alloc: Global) -> Result<Config, AllocError> {
+pub fn wide(alloc: Global) -> Result<Config, AllocError>
+    ensures accepted { IfOk result (λ config. IsAccepted config) }
+    ensures lanes { IfOk result (λ config. length config.lanes ≡ 16) }
+    ensures objects { IfOk result (λ config. length config.objects ≡ 8) }
+{
     config_of(alloc, WIDE)
 }
 
 /// An object of this name, with no contacts: a host, or a service of that host.
-pub fn object(alloc: Global, name: &str, host: Option<ObjectId>) -> Result<Object, AllocError> {
+pub fn object(alloc: Global, name: &str, host: Option<ObjectId>) -> Result<Object, AllocError>
+    ensures name { IfOk result (λ object. object.name ≡ name.now) }
+    ensures host { IfOk result (λ object. object.host ≡ host) }
+{
     Ok(Object {
         name: Text::new(alloc, name.as_bytes())?,
         host,

@@ -1,5 +1,8 @@
 //! Notification dependencies that tests are run on.
 
+ghost use Rattle.std.specs.Prelude.{◌≡◌, length, IfOk, None};
+ghost use Rattle.due_model.specs.Objects.{object_id};
+
 use crate::rows::{ObjectRow, objects_of};
 use due_model::config::{Dependency, ObjectId};
 use due_model::objects::Objects;
@@ -42,7 +45,15 @@ pub const WORKED: [State; 4] = [
 ];
 
 /// An entry of object `dependent` on object `master`, valid at every moment.
-pub fn entry(dependent: u16, master: u16, inherits: bool, states: StateSet) -> Dependency {
+pub fn entry(dependent: u16, master: u16, inherits: bool, states: StateSet) -> Dependency
+    ensures { result ≡ record {
+      dependent = object_id dependent;
+      master = object_id master;
+      inherits = inherits;
+      states = states;
+      period = None;
+    } }
+{
     Dependency {
         dependent: ObjectId(dependent),
         master: ObjectId(master),
@@ -53,7 +64,9 @@ pub fn entry(dependent: u16, master: u16, inherits: bool, states: StateSet) -> D
 }
 
 /// So many hosts, of one name.
-pub fn hosts(alloc: Global, count: u16) -> Result<Objects, AllocError> {
+pub fn hosts(alloc: Global, count: u16) -> Result<Objects, AllocError>
+    ensures { IfOk result (λ objects. length objects ≡ count) }
+{
     let rows = vec![in alloc; ObjectRow::PLAIN; usize::from(count)]?;
     objects_of(alloc, rows.as_slice())
 }

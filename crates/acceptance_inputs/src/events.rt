@@ -1,7 +1,9 @@
 //! Events in short, and whether events may be given to the bodies.
 
-ghost use Rattle.std.specs.Prelude.{All, IsTrue};
+ghost use Rattle.std.specs.Prelude.{◌≡◌, All, IsTrue};
+ghost use Rattle.due_model.specs.Objects.{object_id};
 ghost use Rattle.due_model.specs.Proper.{IsProper};
+ghost use Rattle.due_model.specs.declared.event.EventKind.TheVariants.{Clock, Hard};
 
 use due_model::config::{Config, ObjectId};
 use due_model::event::{Event, EventKind};
@@ -9,17 +11,23 @@ use due_model::proper::is_proper;
 use due_model::state::State;
 
 /// An event of this kind.
-pub fn at(moment: u64, kind: EventKind) -> Event {
+pub fn at(moment: u64, kind: EventKind) -> Event
+    ensures { result ≡ record { moment = moment; kind = kind } }
+{
     Event { moment, kind }
 }
 
 /// A clock event.
-pub fn clock(moment: u64) -> Event {
+pub fn clock(moment: u64) -> Event
+    ensures { result ≡ record { moment = moment; kind = Clock } }
+{
     at(moment, EventKind::Clock)
 }
 
 /// A hard state of an object.
-pub fn hard(moment: u64, object: u16, state: State) -> Event {
+pub fn hard(moment: u64, object: u16, state: State) -> Event
+    ensures { result ≡ record { moment = moment; kind = Hard (object_id object) state } }
+{
     at(moment, EventKind::Hard(ObjectId(object), state))
 }
 

@@ -1,6 +1,6 @@
 //! Time periods as tables.
 
-ghost use Rattle.std.specs.Prelude.{IfOk, IsOk};
+ghost use Rattle.std.specs.Prelude.{◌≡◌, IfOk, IsOk, length};
 ghost use Rattle.due_model.specs.Accepted.{IsAccepted};
 
 use crate::accepted::is_accepted;
@@ -60,7 +60,8 @@ fn refuse(config: &Config) -> Result<(), AllocError>
 
 /// The configuration of these periods, which has nothing else. Rows that can't be accepted are refused as memory is.
 pub fn periods(alloc: Global, rows: &[Row]) -> Result<Config, AllocError>
-    ensures { IfOk result (λ config. IsAccepted config) }
+    ensures accepted { IfOk result (λ config. IsAccepted config) }
+    ensures periods { IfOk result (λ config. length config.periods ≡ length rows.now) }
 {
     let config = config_of_periods(alloc, rows)?;
     refuse(&config)?;

@@ -1,5 +1,7 @@
 //! Readers that give their bytes in pieces, and that fail.
 
+ghost use Rattle.std.specs.Prelude.{◌≡◌, ◌+◌, ◌^◌};
+
 use std::cell::Cell;
 use std::io::{self, ErrorKind, Read};
 
@@ -29,7 +31,11 @@ impl Read for Pieces<'_> {
 }
 
 /// Some bytes in pieces of a size, without a fault.
-pub fn in_pieces(bytes: &[u8], size: usize) -> Pieces<'_> {
+pub fn in_pieces(bytes: &[u8], size: usize) -> Pieces<'_>
+    ensures bytes { result.bytes.now ≡ bytes.now }
+    ensures size { result.size ≡ size }
+    ensures calls { result.calls + 1 ≡ 2 ^ 64 }
+{
     Pieces {
         bytes,
         size,

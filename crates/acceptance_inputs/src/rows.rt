@@ -1,5 +1,9 @@
 //! Small configurations as tables, for the worked rows and for those that are generated.
 
+ghost use Rattle.std.specs.Prelude.{◌≡◌, ◌+◌, ◌++◌, [], length, map, replicate, take, IfOk, IsOk};
+ghost use Rattle.due_model.specs.Limits.{max_objects};
+ghost use Rattle.acceptance_inputs.specs.Tables.{contact_of, escalation_of, host_rights, mail, object_of, rights_of};
+
 use crate::periods::Row;
 use due_model::config::{
     Config, Contact, ContactId, ContactList, Dependency, Escalation, Lane, LaneId, Object,
@@ -57,12 +61,24 @@ impl ContactRow {
     };
 
     /// What holds for hosts.
-    fn hosts(&self) -> RightsRow {
+    fn hosts(&self) -> RightsRow
+        ensures { rights_of result ≡ host_rights self.now }
+    {
         RightsRow {
             enabled: self.enabled,
             options: self.options,
             period: self.period,
             lanes: self.lanes,
+        }
+    }
+
+    /// What holds for services.
+    fn services(&self) -> RightsRow
+        ensures { rights_of result ≡ (contact_of self.now).services }
+    {
+        match self.services {
+            None => self.hosts(),
+            Some(services) => services,
         }
     }
 }
@@ -148,7 +164,9 @@ struct Parts {
     dependencies: Vec<Dependency>,
 }
 
-fn rights(alloc: Global, row: RightsRow) -> Result<Rights, AllocError> {
+fn rights(alloc: Global, row: RightsRow) -> Result<Rights, AllocError>
+    ensures { IfOk result (λ made. made ≡ rights_of row) }
+{
     Ok(Rights {
         enabled: row.enabled,
         options: row.options,
@@ -157,10 +175,12 @@ fn rights(alloc: Global, row: RightsRow) -> Result<Rights, AllocError> {
     })
 }
 
-fn contact(alloc: Global, row: &ContactRow) -> Result<Contact, AllocError> {
+fn contact(alloc: Global, row: &ContactRow) -> Result<Contact, AllocError>
+    ensures { IfOk result (λ made. made ≡ contact_of row.now) }
+{
     let name = Text::new(alloc, row.name.as_bytes())?;
     let hosts = rights(alloc, row.hosts())?;
-    let services = rights(alloc, row.services.unwrap_or(row.hosts()))?;
+    let services = rights(alloc, row.services())?;
     Ok(Contact {
         name,
         hosts,
@@ -172,14 +192,18 @@ fn add_contacts(
     alloc: Global,
     made: &mut Vec<Contact>,
     rows: &[ContactRow],
-) -> Result<(), AllocError> {
+) -> Result<(), AllocError>
+    ensures { IsOk result → made.new.items ≡ made.old.items ++ map contact_of rows.now }
+{
     for row in rows {
         made.push(contact(alloc, row)?)?;
     }
     Ok(())
 }
 
-fn object(alloc: Global, row: &ObjectRow) -> Result<Object, AllocError> {
+fn object(alloc: Global, row: &ObjectRow) -> Result<Object, AllocError>
+    ensures { IfOk result (λ made. made ≡ object_of row.now) }
+{
     let name = Text::new(alloc, row.name.as_bytes())?;
     Ok(Object {
         name,
@@ -193,11 +217,9 @@ fn object(alloc: Global, row: &ObjectRow) -> Result<Object, AllocError> {
     })
 }
 
-fn add_objects(
-    alloc: Global,
-    made: &mut Vec<Object>,
-    rows: &[ObjectRow],
-) -> Result<(), AllocError> {
+fn add_objects(alloc: Global, made: &mut Vec<Object>, rows: &[ObjectRow]) -> Result<(), AllocError>
+    ensures { IsOk result → made.new.items ≡ made.old.items ++ map object_of rows.now }
+{
     for row in rows {
         made.push(object(alloc, row)?)?;
     }
@@ -250,11 +272,9 @@ fn period(
     Ok(period)
 }
 
-fn add_periods(
-    alloc: Global,
-    made: &mut Vec<Period>,
-    rows: &[PeriodRow],
-) -> Result<(), AllocError> {
+fn add_periods(alloc: Global, made: &mut Vec<Period>, rows: &[PeriodRow]) -> Result<(), AllocError>
+    ensures { IsOk result → length made.new.items ≡ length made.old.items + length rows.now }
+{
     for row in rows {
         made.push(period(alloc, 0, 6, &[row.range], row.excludes)?)?;
     }
@@ -262,14 +282,18 @@ fn add_periods(
 }
 
 /// The same of rows with weekdays.
-fn add_week_periods(alloc: Global, made: &mut Vec<Period>, rows: &[Row]) -> Result<(), AllocError> {
+fn add_week_periods(alloc: Global, made: &mut Vec<Period>, rows: &[Row]) -> Result<(), AllocError>
+    ensures { IsOk result → length made.new.items ≡ length made.old.items + length rows.now }
+{
     for row in rows {
         made.push(period(alloc, row.first, row.last, row.ranges, row.excludes)?)?;
     }
     Ok(())
 }
 
-fn escalation(alloc: Global, row: &EscalationRow) -> Result<Escalation, AllocError> {
+fn escalation(alloc: Global, row: &EscalationRow) -> Result<Escalation, AllocError>
+    ensures { IfOk result (λ made. made ≡ escalation_of row.now) }
+{
     Ok(Escalation {
         object: row.object,
         first: row.first,
@@ -285,14 +309,18 @@ fn add_escalations(
     alloc: Global,
     made: &mut Vec<Escalation>,
     rows: &[EscalationRow],
-) -> Result<(), AllocError> {
+) -> Result<(), AllocError>
+    ensures { IsOk result → made.new.items ≡ made.old.items ++ map escalation_of rows.now }
+{
     for row in rows {
         made.push(escalation(alloc, row)?)?;
     }
     Ok(())
 }
 
-fn add_lanes(alloc: Global, made: &mut Vec<Lane>, count: u8) -> Result<(), AllocError> {
+fn add_lanes(alloc: Global, made: &mut Vec<Lane>, count: u8) -> Result<(), AllocError>
+    ensures { IsOk result → made.new.items ≡ made.old.items ++ replicate count mail }
+{
     for _lane in 0..count {
         let name = Text::new(alloc, b"mail")?;
         made.push(Lane { name })?;
@@ -301,7 +329,20 @@ fn add_lanes(alloc: Global, made: &mut Vec<Lane>, count: u8) -> Result<(), Alloc
 }
 
 /// Adds what the rows say.
-fn fill(alloc: Global, parts: &mut Parts, rows: &Rows<'_>) -> Result<(), AllocError> {
+fn fill(alloc: Global, parts: &mut Parts, rows: &Rows<'_>) -> Result<(), AllocError>
+    ensures objects { IsOk result → parts.new.objects.items
+        ≡ parts.old.objects.items ++ map object_of rows.now.objects.now }
+    ensures contacts { IsOk result → parts.new.contacts.items
+        ≡ parts.old.contacts.items ++ map contact_of rows.now.contacts.now }
+    ensures lanes { IsOk result → parts.new.lanes.items
+        ≡ parts.old.lanes.items ++ replicate rows.now.lanes mail }
+    ensures periods { IsOk result → length parts.new.periods.items
+        ≡ length parts.old.periods.items + length rows.now.periods.now }
+    ensures escalations { IsOk result → parts.new.escalations.items
+        ≡ parts.old.escalations.items ++ map escalation_of rows.now.escalations.now }
+    ensures dependencies { IsOk result → parts.new.dependencies.items
+        ≡ parts.old.dependencies.items ++ rows.now.dependencies.now }
+{
     add_objects(alloc, &mut parts.objects, rows.objects)?;
     add_contacts(alloc, &mut parts.contacts, rows.contacts)?;
     add_lanes(alloc, &mut parts.lanes, rows.lanes)?;
@@ -311,7 +352,9 @@ fn fill(alloc: Global, parts: &mut Parts, rows: &Rows<'_>) -> Result<(), AllocEr
 }
 
 /// These objects, the first 65,535 of them, with an index of their names.
-pub fn objects_of(alloc: Global, rows: &[ObjectRow]) -> Result<Objects, AllocError> {
+pub fn objects_of(alloc: Global, rows: &[ObjectRow]) -> Result<Objects, AllocError>
+    ensures { IfOk result (λ objects. objects ≡ take max_objects (map object_of rows.now)) }
+{
     let mut made = Vec::new(alloc);
     add_objects(alloc, &mut made, rows)?;
     made.truncate(MAX_OBJECTS);
@@ -319,7 +362,16 @@ pub fn objects_of(alloc: Global, rows: &[ObjectRow]) -> Result<Objects, AllocErr
 }
 
 /// The configuration of these parts.
-fn of_parts(alloc: Global, parts: Parts) -> Result<Config, AllocError> {
+fn of_parts(alloc: Global, parts: Parts) -> Result<Config, AllocError>
+    ensures { IfOk result (λ config. config ≡ record {
+      objects = take max_objects parts.objects.items;
+      contacts = parts.contacts.items;
+      lanes = parts.lanes.items;
+      periods = parts.periods.items;
+      escalations = parts.escalations.items;
+      dependencies = parts.dependencies.items;
+    }) }
+{
     let mut objects = parts.objects;
     objects.truncate(MAX_OBJECTS);
     Ok(Config {
@@ -333,7 +385,14 @@ fn of_parts(alloc: Global, parts: Parts) -> Result<Config, AllocError> {
 }
 
 /// No parts.
-fn no_parts(alloc: Global) -> Parts {
+fn no_parts(alloc: Global) -> Parts
+    ensures objects { result.objects.items ≡ [] }
+    ensures contacts { result.contacts.items ≡ [] }
+    ensures lanes { result.lanes.items ≡ [] }
+    ensures periods { result.periods.items ≡ [] }
+    ensures escalations { result.escalations.items ≡ [] }
+    ensures dependencies { result.dependencies.items ≡ [] }
+{
     Parts {
         objects: Vec::new(alloc),
         contacts: Vec::new(alloc),
@@ -345,14 +404,28 @@ fn no_parts(alloc: Global) -> Parts {
 }
 
 /// The configuration of these rows, of the first 65,535 objects. It need not be accepted: `is_accepted` tells.
-pub fn config_of(alloc: Global, rows: Rows<'_>) -> Result<Config, AllocError> {
+pub fn config_of(alloc: Global, rows: Rows<'_>) -> Result<Config, AllocError>
+    ensures objects { IfOk result (λ config.
+        config.objects ≡ take max_objects (map object_of rows.entry.objects.now)) }
+    ensures contacts { IfOk result (λ config.
+        config.contacts ≡ map contact_of rows.entry.contacts.now) }
+    ensures lanes { IfOk result (λ config. config.lanes ≡ replicate rows.entry.lanes mail) }
+    ensures periods { IfOk result (λ config.
+        length config.periods ≡ length rows.entry.periods.now) }
+    ensures escalations { IfOk result (λ config.
+        config.escalations ≡ map escalation_of rows.entry.escalations.now) }
+    ensures dependencies { IfOk result (λ config.
+        config.dependencies ≡ rows.entry.dependencies.now) }
+{
     let mut parts = no_parts(alloc);
     fill(alloc, &mut parts, &rows)?;
     of_parts(alloc, parts)
 }
 
 /// The configuration of these periods alone. It need not be accepted.
-pub(crate) fn config_of_periods(alloc: Global, rows: &[Row]) -> Result<Config, AllocError> {
+pub(crate) fn config_of_periods(alloc: Global, rows: &[Row]) -> Result<Config, AllocError>
+    ensures { IfOk result (λ config. length config.periods ≡ length rows.now) }
+{
     let mut parts = no_parts(alloc);
     add_week_periods(alloc, &mut parts.periods, rows)?;
     of_parts(alloc, parts)

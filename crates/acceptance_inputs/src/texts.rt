@@ -1,5 +1,7 @@
 //! The object text of the worked examples.
 
+ghost use Rattle.std.specs.Prelude.{◌≡◌, ◌++◌, IfOk, codes, string_bytes};
+
 use std::alloc::{AllocError, Global};
 
 /// One host, its contact and a command.
@@ -21,7 +23,9 @@ define host{
 ";
 
 /// The input of BASE and this feed.
-pub fn input(alloc: Global, feed: &str) -> Result<String, AllocError> {
+pub fn input(alloc: Global, feed: &str) -> Result<String, AllocError>
+    ensures { IfOk result (λ text. string_bytes text ≡ BASE.now ++ codes "%events\n" ++ feed.now) }
+{
     let mut text = String::from_str(alloc, BASE)?;
     text.push_str("%events\n")?;
     text.push_str(feed)?;
