@@ -5,9 +5,11 @@ use Rattle.std.specs.List.{AllZip, range_with_len, sum_by}
 use Rattle.due_model.specs.Limits.{max_escalations}
 use Rattle.lemmas.proofs.Numbers.{below_more, sum-more}
 use Rattle.lemmas.proofs.Zips.{zip-more}
-use Rattle.object_escalations.specs.Escalated.{IsFirstOver, IsSoFar, SpeaksOf}
+use Rattle.object_escalations.specs.Escalated.{IsFirstOver, IsKept, IsRefusal, IsSoFar, IsTooMany, SpeaksOf}
 use Rattle.object_listing.specs.Listing.{AreThose}
 use Rattle.object_reader.specs.declared.block.Block.{Block}
+use Rattle.object_services.specs.declared.services.LimitFault.{LimitFault}
+use Rattle.object_services.specs.declared.services.LimitFault.TheVariants.{TooMany, NoMemory}
 
 -- ---- all blocks
 
@@ -38,3 +40,16 @@ module _ (blocks : List Block) (lists : List (List ℕ)) where
           over = (count + length found, (old ++ found ∷ [], after.listed, after.counted), over);
         };
       }
+
+  pub kept-block : (place : ℕ) (old new : List (List ℕ)) (found : List ℕ) (count total : ℕ) → IsSoFar blocks lists place old count → AreThose (SpeaksOf blocks lists place) found
+      → IsKept old new found count total → IsSoFar blocks lists (place + 1) new total
+  kept-block place old new found count total before those kept = next-block place old new found count total before those kept.are kept.sum
+
+  pub refused-block : (place : ℕ) (x : Block) (old : List (List ℕ)) (found : List ℕ) (count : ℕ) → place < length blocks → slice_get blocks place ≡ Some x
+      → IsSoFar blocks lists place old count → count ≤ max_escalations → AreThose (SpeaksOf blocks lists place) found
+      → (fault : LimitFault) → IsTooMany (count + length found) place x.line fault → IsRefusal blocks lists fault
+  refused-block place x old found count within here before low those (TooMany at line) refused =
+      subst (λ (k : ℕ). IsFirstOver blocks lists k line) (sym refused.0)
+      (subst (λ (k : ℕ). IsFirstOver blocks lists place k) (sym refused.1)
+      (first-over place x old found count within here before low those refused.2))
+  refused-block place x old found count within here before low those NoMemory refused = tt

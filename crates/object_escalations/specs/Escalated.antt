@@ -1,5 +1,5 @@
 -- What the escalation blocks speak of, and the limit of that (chapter "Notification Escalations").
-use Rattle.std.specs.Prelude.{◌≡◌, ℕ, ◌+◌, ◌<◌, ◌≤◌, List, length, sum_by, Some, slice_get}
+use Rattle.std.specs.Prelude.{◌≡◌, ℕ, ◌+◌, ◌<◌, ◌≤◌, List, [], ◌∷◌, ◌++◌, length, sum_by, Some, slice_get}
 use Rattle.std.specs.List.{AllZip, range_with_len}
 use Rattle.due_model.specs.Limits.{max_escalations}
 use Rattle.object_listing.specs.Listing.{AreThose}
@@ -53,3 +53,15 @@ pub record IsSoFar (blocks : List Block) (lists : List (List ℕ)) (place : ℕ)
     (objects : List (List ℕ)) (count : ℕ) : Type 0 where
   pub listed : AreEscalated blocks lists place objects
   pub counted : count ≡ sum_by length objects
+
+-- the objects of one block more came to the lists, and with them there are so many, within the limit
+pub record IsKept (old new : List (List ℕ)) (found : List ℕ) (count total : ℕ) : Type 0 where
+  pub are : new ≡ old ++ found ∷ []
+  pub sum : total ≡ count + length found
+  pub low : total ≤ max_escalations
+
+-- so many are refused with the block of that place and line: they are over the limit, or memory ran out
+abbrev pub IsTooMany : (count place line : ℕ) → LimitFault → Type 0
+IsTooMany count place line (TooMany at its) =
+    (at ≡ place) × (its ≡ line) × (max_escalations < count)
+IsTooMany count place line NoMemory = Unit {0}

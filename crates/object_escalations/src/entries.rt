@@ -110,6 +110,41 @@ fn push_block_at<'a>(
     Ok(())
 }
 
+/// The escalations of the blocks, by these tables of theirs. As `escalations_of`.
+fn entries_of<'a>(
+    alloc: Global,
+    templates: &Templates<'a>,
+    escalated: &EscalatedObjects,
+    objects: &[Object],
+    tables: &Tables<'a>,
+    periods: &Names<'a>,
+) -> Result<Vec<Escalation>, AllocError>
+    requires within { All (All (λ number. number < length objects.now)) escalated.now }
+    requires long { length escalated.now ≡ length templates.now }
+    requires few { length objects.now ≤ max_objects }
+    requires tables { tables.now.blocks ≡ templates.now }
+    requires asked { AskForAll escalated.now tables.now.asked }
+    requires periods { ArePeriods templates.now periods.now }
+    ensures { IfOk result (λ escalations.
+        AreEntriesOf templates.now objects.now escalated.now escalations.items) }
+{
+    let mut escalations = Vec::new(alloc);
+    for (place, block) in templates.blocks().iter().enumerate() {
+        let numbers = escalated.objects(place);
+        push_block_at(
+            alloc,
+            &mut escalations,
+            tables,
+            periods,
+            objects,
+            numbers,
+            block,
+            place,
+        )?;
+    }
+    Ok(escalations)
+}
+
 /// The escalations of the blocks: one for each object of which a block speaks, block by block in file order, and within
 /// a block in number order. An escalation takes from its object what its block lacks: contacts, where it gives neither
 /// contacts nor contact groups, interval and period; other directives that are lacking are by default.
@@ -135,19 +170,5 @@ pub fn escalations_of<'a>(
         AreEntriesOf templates.now objects.now escalated.now escalations.items) }
 {
     let tables = Tables::new(alloc, templates, contacts)?;
-    let mut escalations = Vec::new(alloc);
-    for (place, block) in templates.blocks().iter().enumerate() {
-        let numbers = escalated.objects(place);
-        push_block_at(
-            alloc,
-            &mut escalations,
-            &tables,
-            &*periods,
-            objects,
-            numbers,
-            block,
-            place,
-        )?;
-    }
-    Ok(escalations)
+    entries_of(alloc, templates, escalated, objects, &tables, periods)
 }

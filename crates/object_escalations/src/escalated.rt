@@ -1,13 +1,13 @@
 //! The objects of which escalation blocks speak, within the limit of escalations.
 
-ghost use Rattle.std.specs.Prelude.{◌≡◌, ◌+◌, ◌<◌, ◌≤◌, ◌^◌, ◌++◌, ◌∷◌, []};
-ghost use Rattle.std.specs.Prelude.{length, map};
+ghost use Rattle.std.specs.Prelude.{◌≡◌, ◌+◌, ◌<◌, ◌≤◌, ◌^◌, ◌++◌, ◌∷◌, [], length, map};
 ghost use Rattle.std.specs.Prelude.{slice_index_or, sum_by};
 ghost use Rattle.std.specs.Prelude.{IfErr, IfOk, OnOk};
 ghost use Rattle.due_model.specs.Limits.{max_escalations};
-ghost use Rattle.object_escalations.specs.Escalated.{AreEscalated, IsRefusal};
+ghost use Rattle.object_escalations.specs.Escalated.{AreEscalated, IsKept, IsRefusal, IsTooMany};
 ghost use Rattle.object_groups.specs.declared.groups.GroupKind.TheVariants.{HostGroups};
 ghost use Rattle.object_groups.specs.Objects.{names_in, objects_in};
+ghost use Rattle.object_reached.specs.declared.roles.Role.TheVariants.{Escalated};
 ghost use Rattle.object_reader.specs.declared.block.BlockKind.TheVariants.{Host, Service};
 ghost use Rattle.object_services.specs.Limits.{AreHostLists};
 ghost use Rattle.object_services.specs.Numbers.{pairs_of};
@@ -24,12 +24,33 @@ use std::alloc::{AllocError, Global};
 use std::marker::Model;
 
 /// Adds the objects of one block.
-fn keep(lists: &mut Vec<Vec<usize>>, objects: Vec<usize>) -> Result<(), AllocError>
+fn push_objects(lists: &mut Vec<Vec<usize>>, objects: Vec<usize>) -> Result<(), AllocError>
     ensures { OnOk result (map (λ list. list.items) lists.new.items
         ≡ map (λ list. list.items) lists.old.items ++ objects.items ∷ []) }
 {
     lists.push(objects)?;
     Ok(())
+}
+
+/// Adds the objects of the block at the place, whose `define` is at the line, and says how many there are with them,
+/// where there were so many before. A block with which there are too many is refused.
+fn keep(
+    lists: &mut Vec<Vec<usize>>,
+    objects: Vec<usize>,
+    count: usize,
+    place: usize,
+    line: u64,
+) -> Result<usize, LimitFault>
+    ensures kept { IfOk result (IsKept (map (λ list. list.items) lists.old.items)
+        (map (λ list. list.items) lists.new.items) objects.items count) }
+    ensures fault { IfErr result (IsTooMany (count + length objects.items) place line) }
+{
+    let total = objects.len().saturating_add(count);
+    if total > MAX_ESCALATIONS {
+        return Err(LimitFault::TooMany { place, line });
+    }
+    push_objects(lists, objects)?;
+    Ok(total)
 }
 
 /// The objects of which each block speaks, by their numbers: an escalation is a block and one of its objects, and
@@ -46,6 +67,37 @@ impl Model for EscalatedObjects {
     ghost Value = { List (List ℕ) };
 
     ghost view = { λ s. map (λ list. list.items) s.lists.items };
+}
+
+/// The objects of all blocks, where `reached` finds those of each. As `EscalatedObjects::new`.
+fn objects_of<'a>(
+    alloc: Global,
+    templates: &Templates<'a>,
+    reached: &Reached<'a>,
+    services: &HostServices<'a>,
+    lists: &ServiceHosts,
+    hosts: &mut Groups<'a>,
+    groups: &mut ServiceGroups<'a>,
+) -> Result<EscalatedObjects, LimitFault>
+    requires reached { reached.now ≡ record { blocks = templates.now; role = Escalated } }
+    requires services { services.now ≡ pairs_of (names_in templates.now Service) lists.now }
+    requires few { length (names_in templates.now Host) + length services.now < 2 ^ 32 }
+    requires lists { AreHostLists templates.now (objects_in templates.now Service) lists.now }
+    requires hosts { hosts.old ≡ record { blocks = templates.now; kind = HostGroups } }
+    requires groups { groups.old ≡ templates.now }
+    ensures same_hosts { hosts.new ≡ hosts.old }
+    ensures same_groups { groups.new ≡ groups.old }
+    ensures objects { IfOk result (AreEscalated templates.now lists.now (length templates.now)) }
+    ensures few { IfOk result (λ made. sum_by length made ≤ max_escalations) }
+    ensures fault { IfErr result (IsRefusal templates.now lists.now) }
+{
+    let mut found = Vec::new(alloc);
+    let mut count = 0;
+    for (place, block) in templates.blocks().iter().enumerate() {
+        let objects = reached.objects_at(alloc, hosts, groups, services, place)?;
+        count = keep(&mut found, objects, count, place, block.line)?;
+    }
+    Ok(EscalatedObjects { lists: found })
 }
 
 impl EscalatedObjects {
@@ -78,21 +130,7 @@ impl EscalatedObjects {
         ensures fault { IfErr result (IsRefusal templates.now lists.now) }
     {
         let reached = Reached::new(alloc, templates, Role::Escalated)?;
-        let mut found = Vec::new(alloc);
-        let mut count = 0;
-        for (place, block) in templates.blocks().iter().enumerate() {
-            let objects = reached.objects_at(alloc, hosts, groups, services, place)?;
-            let total = objects.len().saturating_add(count);
-            if total > MAX_ESCALATIONS {
-                return Err(LimitFault::TooMany {
-                    place,
-                    line: block.line,
-                });
-            }
-            keep(&mut found, objects)?;
-            count = total;
-        }
-        Ok(EscalatedObjects { lists: found })
+        objects_of(alloc, templates, &reached, services, lists, hosts, groups)
     }
 
     /// How many blocks there are.

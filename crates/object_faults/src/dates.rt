@@ -348,19 +348,47 @@ fn date_fault<'a>(
     Ok(date_by(dates.untimed(), dates.timed()))
 }
 
-/// The first registered period that has a line of dates, by itself or by a template.
-pub(crate) fn first_dated(alloc: Global, templates: &Templates) -> Result<Option<Found>, AllocError>
+/// The first registered period that has a line of dates, where none is noted and no block is done yet.
+fn first_noted<'a>(
+    alloc: Global,
+    templates: &Templates<'a>,
+    names: &Names<'a>,
+    dates: &mut Dates<'a>,
+    done: &mut Vec<bool>,
+) -> Result<Option<Found>, AllocError>
+    requires names { names.now ≡ map period_template templates.now }
+    requires fresh { dates.old ≡ [] }
+    requires done { done.old.items ≡ replicate (length templates.now) false }
     ensures { IfOk result (IsFirst (length templates.now) (date_at templates.now)) }
 {
     let blocks = templates.blocks();
-    let names = period_templates(alloc, blocks)?;
-    let mut dates = Dates::new(alloc);
-    let mut done = none_done(alloc, blocks.len())?;
     for place in 0..blocks.len() {
-        match date_fault(alloc, &names, blocks, place, &mut dates, &mut done)? {
+        match date_fault(alloc, names, blocks, place, dates, done)? {
             None => {}
             Some(fault) => return Ok(Some(Found { place, fault })),
         }
     }
     Ok(None)
+}
+
+/// The same, where these are the names that blocks have as templates of periods.
+fn first_by_names<'a>(
+    alloc: Global,
+    templates: &Templates<'a>,
+    names: &Names<'a>,
+) -> Result<Option<Found>, AllocError>
+    requires { names.now ≡ map period_template templates.now }
+    ensures { IfOk result (IsFirst (length templates.now) (date_at templates.now)) }
+{
+    let mut done = none_done(alloc, templates.blocks().len())?;
+    let mut dates = Dates::new(alloc);
+    first_noted(alloc, templates, names, &mut dates, &mut done)
+}
+
+/// The first registered period that has a line of dates, by itself or by a template.
+pub(crate) fn first_dated(alloc: Global, templates: &Templates) -> Result<Option<Found>, AllocError>
+    ensures { IfOk result (IsFirst (length templates.now) (date_at templates.now)) }
+{
+    let names = period_templates(alloc, templates.blocks())?;
+    first_by_names(alloc, templates, &names)
 }

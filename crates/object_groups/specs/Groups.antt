@@ -5,6 +5,8 @@ use Rattle.object_reader.specs.declared.block.BlockKind.{BlockKind}
 use Rattle.object_reader.specs.declared.block.BlockKind.TheVariants.{Host, HostGroup, Contact, ContactGroup}
 use Rattle.object_groups.specs.declared.groups.GroupKind.{GroupKind}
 use Rattle.object_groups.specs.declared.groups.GroupKind.TheVariants.{HostGroups, ContactGroups}
+use Rattle.object_groups.specs.declared.groups.Search.{Search}
+use Rattle.object_groups.specs.declared.groups.Tables.{Tables}
 use Rattle.object_groups.specs.Members.{Grouping}
 use Rattle.object_groups.specs.Nodes.{IsGraphOf, node_count}
 use Rattle.object_groups.specs.Objects.{lists_in, names_in, ObjectsOf}
@@ -52,11 +54,19 @@ pub record AreNumbered (blocks : List Block) (kind : GroupKind) (objects groups 
   pub few : node_count (names_in blocks (object_kind kind)) (names_in blocks (group_kind kind))
       < 2 ^ 32
 
--- what is kept: the objects and the groups, and a graph in which members are found, with a search for it
-pub record AreGroups (blocks : List Block) (kind : GroupKind) (objects groups : ObjectsOf)
-    (graph : List (List ℕ)) (searched : ℕ) : Type 0 where
-  pub object_table : objects ≡ record { blocks = blocks; kind = object_kind kind }
-  pub group_table : groups ≡ record { blocks = blocks; kind = group_kind kind }
-  pub has_graph : IsGraphOf (grouping blocks kind) graph
-  pub few : length graph < 2 ^ 32
-  pub has_search : searched ≡ length graph
+-- a graph in which the members are found, and a search in it
+pub record IsSearchOf (grouped : Grouping) (search : Search) : Type 0 where
+  pub has_graph : IsGraphOf grouped search.graph
+  pub few : length search.graph < 2 ^ 32
+  pub has_reach : search.reach.nodes ≡ length search.graph
+
+-- these are the objects and the groups
+pub record AreTables (blocks : List Block) (kind : GroupKind) (tables : Tables) : Type 0 where
+  pub object_table : tables.objects ≡ record { blocks = blocks; kind = object_kind kind }
+  pub group_table : tables.groups ≡ record { blocks = blocks; kind = group_kind kind }
+
+-- what is kept: the objects and the groups, and the search for members
+pub record AreGroups (blocks : List Block) (kind : GroupKind) (tables : Tables)
+    (search : Search) : Type 0 where
+  pub are : AreTables blocks kind tables
+  pub searched : IsSearchOf (grouping blocks kind) search

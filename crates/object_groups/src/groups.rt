@@ -5,7 +5,8 @@ ghost use Rattle.std.specs.Prelude.{nat_lt, All, IfOk, OnOk};
 ghost use Rattle.std.specs.List.{flat_map, range_with_len};
 ghost use Rattle.std.specs.List.Sorted.{IsStrictlyIncreasing};
 ghost use Rattle.graph.specs.Edges.{IsWithin};
-ghost use Rattle.object_groups.specs.Groups.{AreNumbered, group_kind, grouping, object_kind};
+ghost use Rattle.object_groups.specs.Groups.{AreNumbered, AreTables, group_kind, grouping};
+ghost use Rattle.object_groups.specs.Groups.{IsSearchOf, object_kind};
 ghost use Rattle.object_groups.specs.Groups.{own_groups_directive, subgroups_directive};
 ghost use Rattle.object_groups.specs.ListEdges.{edge, LeadOver};
 ghost use Rattle.object_groups.specs.Members.{AreMembers};
@@ -313,16 +314,61 @@ fn objects_among(alloc: Global, nodes: &[u32], objects: usize) -> Result<Vec<u32
     Ok(found)
 }
 
+/// The objects of one type, and its groups.
+#[derive(Drop)]
+struct Tables<'a> {
+    objects: Objects<'a>,
+    groups: Objects<'a>,
+}
+
+/// The objects of the type, and its groups.
+fn tables_of<'a>(
+    alloc: Global,
+    templates: &Templates<'a>,
+    kind: GroupKind,
+) -> Result<Tables<'a>, AllocError>
+    ensures { IfOk result (AreTables templates.now kind) }
+{
+    let objects = Objects::new(alloc, templates, kind.object_kind())?;
+    let groups = Objects::new(alloc, templates, kind.group_kind())?;
+    Ok(Tables { objects, groups })
+}
+
+/// The graph in which the members are found, and a search in it.
+#[derive(Drop)]
+struct Search {
+    graph: Graph,
+    reach: Reach,
+}
+
+/// The graph of these objects and groups, and a search in it. More of them than a graph has nodes are want of memory.
+fn search_of<'a>(
+    alloc: Global,
+    templates: &Templates<'a>,
+    kind: GroupKind,
+    tables: &Tables<'a>,
+) -> Result<Search, AllocError>
+    requires { AreTables templates.now kind tables.now }
+    ensures { IfOk result (IsSearchOf (grouping templates.now kind)) }
+{
+    let objects = &tables.objects;
+    let groups = &tables.groups;
+    if objects.names().len().saturating_add(groups.names().len()) > (u32::MAX - 3) as usize {
+        return Err(AllocError);
+    }
+    let graph = graph_of(alloc, templates, kind, objects, groups)?;
+    let reach = Reach::new(alloc, graph.node_count())?;
+    Ok(Search { graph, reach })
+}
+
 /// The objects and groups of one type, and which objects are members of which group. Contracts see the blocks and
 /// the type.
 #[derive(Drop)]
 pub struct Groups<'a> {
     blocks: &'a [Block],
     kind: GroupKind,
-    objects: Objects<'a>,
-    groups: Objects<'a>,
-    graph: Graph,
-    search: Reach,
+    tables: Tables<'a>,
+    search: Search,
 }
 
 impl<'a> Model for Groups<'a> {
@@ -335,8 +381,7 @@ impl<'a> Model for Groups<'a> {
       kind = s.kind;
     } };
 
-    ghost invariant = { λ s.
-        AreGroups s.blocks.now s.kind s.objects s.groups s.graph s.search.nodes };
+    ghost invariant = { λ s. AreGroups s.blocks.now s.kind s.tables s.search };
 }
 
 impl<'a> Groups<'a> {
@@ -352,19 +397,12 @@ impl<'a> Groups<'a> {
         ensures { IfOk result (λ groups. groups
             ≡ record { blocks = templates.now; kind = kind }) }
     {
-        let objects = Objects::new(alloc, templates, kind.object_kind())?;
-        let groups = Objects::new(alloc, templates, kind.group_kind())?;
-        if objects.names().len().saturating_add(groups.names().len()) > (u32::MAX - 3) as usize {
-            return Err(AllocError);
-        }
-        let graph = graph_of(alloc, templates, kind, &objects, &groups)?;
-        let search = Reach::new(alloc, graph.node_count())?;
+        let tables = tables_of(alloc, templates, kind)?;
+        let search = search_of(alloc, templates, kind, &tables)?;
         Ok(Groups {
             blocks: templates.blocks(),
             kind,
-            objects,
-            groups,
-            graph,
+            tables,
             search,
         })
     }
@@ -374,7 +412,7 @@ impl<'a> Groups<'a> {
         ensures { result.now
             ≡ record { blocks = self.now.blocks; kind = object_kind self.now.kind } }
     {
-        &self.objects
+        &self.tables.objects
     }
 
     /// The groups.
@@ -382,7 +420,7 @@ impl<'a> Groups<'a> {
         ensures { result.now
             ≡ record { blocks = self.now.blocks; kind = group_kind self.now.kind } }
     {
-        &self.groups
+        &self.tables.groups
     }
 
     /// The graph in which members are found: its nodes are the objects, then the groups, then one for all objects, one for
@@ -390,7 +428,7 @@ impl<'a> Groups<'a> {
     pub fn graph(&self) -> &Graph
         ensures { LeadsToMembers (grouping self.now.blocks self.now.kind) result.now }
     {
-        &self.graph
+        &self.search.graph
     }
 
     /// The members of the group of that number, by their numbers, each once and in order: the objects to which
@@ -401,11 +439,12 @@ impl<'a> Groups<'a> {
         ensures members { IfOk result (λ members.
             AreMembers (grouping self.old.blocks self.old.kind) group members.items) }
     {
-        let objects = self.objects.names().len();
-        if group >= self.groups.names().len() {
+        let objects = self.tables.objects.names().len();
+        if group >= self.tables.groups.names().len() {
             return Ok(Vec::new(alloc));
         }
-        self.search.reach(&self.graph, (objects + group) as u32);
-        objects_among(alloc, self.search.found(), objects)
+        let search = &mut self.search;
+        search.reach.reach(&search.graph, (objects + group) as u32);
+        objects_among(alloc, search.reach.found(), objects)
     }
 }

@@ -10,6 +10,7 @@ use Rattle.object_inheritance.specs.declared.templates.TemplateFault.{TemplateFa
 use Rattle.object_inheritance.specs.declared.templates.TemplateFault.TheVariants.{UnknownTemplate, TemplateLoop, Doubled}
 use Rattle.object_inheritance.specs.declared.templates.InheritanceFault.{InheritanceFault}
 use Rattle.object_inheritance.specs.declared.templates.InheritanceFault.TheVariants.{AtLine, NoMemory}
+use Rattle.object_inheritance.specs.declared.templates.Uses.{Uses}
 use Rattle.object_inheritance.specs.Templates.{template_graph, template_name, template_place, used_names}
 
 -- whether a block uses a name that no template of its type has
@@ -66,10 +67,12 @@ abbrev pub IsRefusal : List Block → InheritanceFault → Type 0
 IsRefusal blocks (AtLine line fault) = IsFirstFault blocks line fault
 IsRefusal blocks NoMemory = Unit {0}
 
--- the graph of the templates, an order in which each block stands before the templates that it uses, and the
--- blocks of which it is kept what each gives itself
-pub record AreTemplates (blocks : List Block) (graph : List (List ℕ)) (order : List ℕ)
-    (givers : List Block) : Type 0 where
-  pub same : graph ≡ template_graph blocks
-  pub ordered : IsOrder graph order
+-- which templates each block uses, and an order in which each block stands before those that it uses
+pub record AreUses (blocks : List Block) (uses : Uses) : Type 0 where
+  pub same : uses.graph ≡ template_graph blocks
+  pub ordered : IsOrder uses.graph uses.order.items
+
+-- the same, and the blocks of which it is kept what each gives itself
+pub record AreTemplates (blocks : List Block) (uses : Uses) (givers : List Block) : Type 0 where
+  pub using : AreUses blocks uses
   pub giving : givers ≡ blocks

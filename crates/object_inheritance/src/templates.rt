@@ -1,14 +1,14 @@
 //! Templates, and their faults (chapter "Object Inheritance").
 
-ghost use Rattle.std.specs.Prelude.{◌≡◌, ◌<◌, ◌==◌, false, length, All, None, IfErr, IfNone};
+ghost use Rattle.std.specs.Prelude.{◌≡◌, ◌<◌, ◌==◌, ◌^◌, false, length, All, None, IfErr, IfNone};
 ghost use Rattle.std.specs.Prelude.{IfOk, IfSome, OnOk};
 ghost use Rattle.std.specs.Option.{option_map_or};
 ghost use Rattle.graph.specs.Chains.{HasNoLoop};
 ghost use Rattle.graph.specs.Edges.{Leads};
 ghost use Rattle.graph_order.specs.Loops.{IsFirstOnLoop};
 ghost use Rattle.graph_order.specs.Order.{HasLoop, IsOrder};
-ghost use Rattle.object_inheritance.specs.Faults.{AreFree, fault_by, is_doubled, IsRefusal};
-ghost use Rattle.object_inheritance.specs.Faults.{uses_unknown};
+ghost use Rattle.object_inheritance.specs.Faults.{AreFree, AreUses, fault_by, is_doubled};
+ghost use Rattle.object_inheritance.specs.Faults.{IsRefusal, uses_unknown};
 ghost use Rattle.object_inheritance.specs.Inherited.{AreInherited, AreShort};
 ghost use Rattle.object_inheritance.specs.Templates.{template_graph};
 ghost use Rattle.object_inheritance.specs.declared.templates.InheritanceFault.TheVariants.{NoMemory};
@@ -138,14 +138,60 @@ fn loop_fault(alloc: Global, names: &TemplateNames, graph: &Graph) -> Inheritanc
     }
 }
 
+/// An order of the blocks in which each stands before the templates that it uses; or the first fault.
+fn order_of(
+    alloc: Global,
+    names: &TemplateNames,
+    graph: &Graph,
+) -> Result<Vec<u32>, InheritanceFault>
+    requires { graph.now ≡ template_graph names.now }
+    ensures order { IfOk result (λ places. IsOrder graph.now places.items) }
+    ensures free { OnOk result (AreFree names.now) }
+    ensures fault { IfErr result (IsRefusal names.now) }
+{
+    let Some(places) = order(alloc, graph)? else {
+        return Err(loop_fault(alloc, names, graph));
+    };
+    check_templates(alloc, names, None)?;
+    Ok(places)
+}
+
+/// Which templates each block uses.
+#[derive(Drop)]
+struct Uses {
+    graph: Graph,
+    /// Each block stands before the templates that it uses.
+    order: Vec<u32>,
+}
+
+/// Which templates each block uses, where none has a fault; or the first fault.
+fn uses_of(alloc: Global, names: &TemplateNames) -> Result<Uses, InheritanceFault>
+    ensures uses { IfOk result (AreUses names.now) }
+    ensures free { OnOk result (AreFree names.now) }
+    ensures fault { IfErr result (IsRefusal names.now) }
+{
+    let graph = template_graph(alloc, names)?;
+    let order = order_of(alloc, names, &graph)?;
+    Ok(Uses { graph, order })
+}
+
+/// The same of blocks, of which there are few enough.
+fn checked_uses(alloc: Global, blocks: &[Block]) -> Result<Uses, InheritanceFault>
+    requires { length blocks.now < 2 ^ 32 }
+    ensures uses { IfOk result (AreUses blocks.now) }
+    ensures free { OnOk result (AreFree blocks.now) }
+    ensures fault { IfErr result (IsRefusal blocks.now) }
+{
+    let names = TemplateNames::new(alloc, blocks)?;
+    uses_of(alloc, &names)
+}
+
 /// Blocks whose templates have no fault. It takes 16 bytes a block, 4 a template that a block uses and some 8 to
 /// 16 a directive. Contracts see the blocks.
 #[derive(Drop)]
 pub struct Templates<'a> {
     blocks: &'a [Block],
-    graph: Graph,
-    /// Each block stands before the templates that it uses.
-    order: Vec<u32>,
+    uses: Uses,
     givers: Givers<'a>,
 }
 
@@ -158,7 +204,7 @@ impl<'a> Model for Templates<'a> {
 
     ghost view = { λ s. s.blocks.now };
 
-    ghost invariant = { λ s. AreTemplates s.blocks.now s.graph s.order.items s.givers };
+    ghost invariant = { λ s. AreTemplates s.blocks.now s.uses s.givers };
 }
 
 impl<'a> Templates<'a> {
@@ -172,17 +218,11 @@ impl<'a> Templates<'a> {
         if blocks.len() > u32::MAX as usize {
             return Err(InheritanceFault::NoMemory);
         }
-        let names = TemplateNames::new(alloc, blocks)?;
-        let graph = template_graph(alloc, &names)?;
-        let Some(order) = order(alloc, &graph)? else {
-            return Err(loop_fault(alloc, &names, &graph));
-        };
-        check_templates(alloc, &names, None)?;
+        let uses = checked_uses(alloc, blocks)?;
         let givers = Givers::new(alloc, blocks)?;
         Ok(Templates {
             blocks,
-            graph,
-            order,
+            uses,
             givers,
         })
     }
@@ -205,7 +245,7 @@ impl<'a> Templates<'a> {
         ensures value { result.now ≡ template_graph self.now }
         ensures long { length result.now ≡ length self.now }
     {
-        &self.graph
+        &self.uses.graph
     }
 
     /// An order of the blocks, in which each stands before the templates that it uses.
@@ -213,8 +253,9 @@ impl<'a> Templates<'a> {
         ensures order { IsOrder (template_graph self.now) result.now }
         ensures within { All (λ place. place < length self.now) result.now }
     {
-        self.order.as_slice()
+        self.uses.order.as_slice()
     }
+
     /// What each block gives itself.
     pub(crate) fn givers(&self) -> &Givers<'a>
         ensures { result.now ≡ self.now }

@@ -1,45 +1,4 @@
-use Rattle.std.proofs.Common.{◌≡◌, ◌+◌, ◌<◌, ◌∙◌, List, ap, arith, get_or, length, map, refl, subst}
-use Rattle.std.proofs.lemmas.Option.{slice_get_read}
-use Rattle.due_model.specs.Limits.{max_escalations}
-use Rattle.object_escalations.specs.Escalated.{SpeaksOf}
-use Rattle.object_listing.specs.Listing.{AreThose}
-use Rattle.object_reached.specs.Reached.{AreSpokenOf, ReachedOf}
-use Rattle.object_reader.specs.declared.block.Block.{Block}
-use Rattle.object_escalations.proofs.EscalatedLemmas.{first-over, next-block}
 use Rattle.object_escalations.proofs.escalated.EscalatedObjects.new.Goals as goal
 
-pub returns-then-total-gt-MAX_ESCALATIONS-clause-fault : goal.returns-then-total-gt-MAX_ESCALATIONS-clause-fault
-returns-then-total-gt-MAX_ESCALATIONS-clause-fault c =
-    let blocks = c.args.templates.now in
-    let lists = c.args.lists.now in
-    let i = c.loop-place.place in
-    let x = c.block-item.result in
-    let items = c.in_ok-objects.objects.items in
-    let long = ap (λ (list : List Block). length list) c.blocks-block-items.ensures.value in
-    let within : i < length blocks = omega (arith, long, c.loop-place-test.true) in
-    let is : x ≡ get_or blocks i x = c.block-item.is ∙ ap (λ (list : List Block). get_or list i x) c.blocks-block-items.ensures.value in
-    let spoken : AreThose (SpeaksOf blocks lists i) items =
-    (subst (λ (r : ReachedOf). AreSpokenOf r.blocks c.args.services.now r.role i items) c.in_ok-reached.ensures c.in_ok-objects.ensures.objects) lists c.requires.lists
-    c.requires.services in
-    let over : max_escalations < c.loop-place.count + length items = omega (arith, c.saturating_add-total.ensures, c.len.ensures, c.if-total-gt-MAX_ESCALATIONS.true, c.in_ok-objects.objects.ok) in
-    first-over blocks lists i x (map (λ list. list.items) c.loop-place.found.items) items c.loop-place.count within (slice_get_read blocks (length blocks) i x refl within is)
-    c.loop-place.invariant.far c.loop-place.invariant.low spoken over
-
-pub loop-place-preserved : goal.loop-place-preserved
-loop-place-preserved c =
-    let blocks = c.args.templates.now in
-    let lists = c.args.lists.now in
-    let i = c.loop-place.place in
-    let items = c.in_ok-objects.objects.items in
-    let spoken : AreThose (SpeaksOf blocks lists i) items =
-    (subst (λ (r : ReachedOf). AreSpokenOf r.blocks c.args.services.now r.role i items) c.in_ok-reached.ensures c.in_ok-objects.ensures.objects) lists c.requires.lists
-    c.requires.services in
-    let total : c.saturating_add-total.result ≡ c.loop-place.count + length items =
-    omega (arith, c.saturating_add-total.ensures, c.len.ensures, c.if-total-gt-MAX_ESCALATIONS.false, c.in_ok-objects.objects.ok) in
-    record {
-      same_hosts = c.objects_at.ensures.same_hosts ∙ c.loop-place.invariant.same_hosts;
-      same_groups = c.objects_at.ensures.same_groups ∙ c.loop-place.invariant.same_groups;
-      far = next-block blocks lists i (map (λ list. list.items) c.loop-place.found.items) (map (λ list. list.items) c.keep.new.lists.items) items c.loop-place.count c.saturating_add-total.result
-          c.loop-place.invariant.far spoken c.in_ok-keep.ensures total;
-      low = omega (arith, c.if-total-gt-MAX_ESCALATIONS.false);
-    }
+pub objects_of-requires-clause-reached : goal.objects_of-requires-clause-reached
+objects_of-requires-clause-reached c = c.in_ok-reached.ensures

@@ -9,5 +9,5 @@ pub returns : goal.returns
 returns c =
     let blocks = c.args.self.now.blocks in
     let kind = c.args.self.now.kind in
-    leads-to_members (grouping blocks kind) (lists-long blocks (object_kind kind) (own_groups_directive kind)) c.self.inside.graph
-    (subst (λ (o : GroupsOf). IsGraphOf (grouping o.blocks o.kind) c.self.inside.graph) c.self.view_is c.self.invariant.has_graph)
+    leads-to_members (grouping blocks kind) (lists-long blocks (object_kind kind) (own_groups_directive kind)) c.self.inside.search.graph
+    (subst (λ (o : GroupsOf). IsGraphOf (grouping o.blocks o.kind) c.self.inside.search.graph) c.self.view_is c.self.invariant.searched.has_graph)

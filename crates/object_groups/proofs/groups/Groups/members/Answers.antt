@@ -15,7 +15,7 @@ returns-then-group-len-clause-members c =
     let kind = c.args.self.now.kind in
     let g = grouping blocks kind in
     let groups : c.len.result ≡ length g.groups = c.len.ensures ∙ ap (λ (names : List (List ℕ)). length names) c.names-2.ensures.names
-    ∙ ap (λ (o : ObjectsOf). length (names_in o.blocks o.kind)) c.self.invariant.group_table ∙ ap (λ (o : GroupsOf). length (names_in o.blocks (group_kind o.kind))) c.self.view_is in
+    ∙ ap (λ (o : ObjectsOf). length (names_in o.blocks o.kind)) c.self.invariant.are.group_table ∙ ap (λ (o : GroupsOf). length (names_in o.blocks (group_kind o.kind))) c.self.view_is in
     let past : length g.groups ≤ c.args.group = omega (arith, groups, c.if-group-len.true) in
     subst (λ (items : List ℕ). AreMembers g c.args.group items) (sym c.new.ensures.items)
     (none-are g c.args.group (lists-long blocks (group_kind kind) _) (lists-long blocks (group_kind kind) (subgroups_directive kind)) past)
@@ -25,13 +25,13 @@ returns-clause-members c =
     let blocks = c.args.self.now.blocks in
     let kind = c.args.self.now.kind in
     let g = grouping blocks kind in
-    let graph = c.self.inside.graph in
+    let graph = c.self.inside.search.graph in
     let objects : c.len-objects.result ≡ length g.objects = c.len-objects.ensures ∙ ap (λ (names : List (List ℕ)). length names) c.names.ensures.names
-    ∙ ap (λ (o : ObjectsOf). length (names_in o.blocks o.kind)) c.self.invariant.object_table ∙ ap (λ (o : GroupsOf). length (names_in o.blocks (object_kind o.kind))) c.self.view_is in
+    ∙ ap (λ (o : ObjectsOf). length (names_in o.blocks o.kind)) c.self.invariant.are.object_table ∙ ap (λ (o : GroupsOf). length (names_in o.blocks (object_kind o.kind))) c.self.view_is in
     let groups : c.len.result ≡ length g.groups = c.len.ensures ∙ ap (λ (names : List (List ℕ)). length names) c.names-2.ensures.names
-    ∙ ap (λ (o : ObjectsOf). length (names_in o.blocks o.kind)) c.self.invariant.group_table ∙ ap (λ (o : GroupsOf). length (names_in o.blocks (group_kind o.kind))) c.self.view_is in
+    ∙ ap (λ (o : ObjectsOf). length (names_in o.blocks o.kind)) c.self.invariant.are.group_table ∙ ap (λ (o : GroupsOf). length (names_in o.blocks (group_kind o.kind))) c.self.view_is in
     let low : c.args.group < length g.groups = omega (arith, groups, c.if-group-len.false) in
-    let has : IsGraphOf g graph = subst (λ (o : GroupsOf). IsGraphOf (grouping o.blocks o.kind) graph) c.self.view_is c.self.invariant.has_graph in
+    let has : IsGraphOf g graph = subst (λ (o : GroupsOf). IsGraphOf (grouping o.blocks o.kind) graph) c.self.view_is c.self.invariant.searched.has_graph in
     let reached : IsReached graph (group_node g.objects c.args.group) c.found.result.now =
     subst (λ (found : List ℕ). IsReached graph (group_node g.objects c.args.group) found) (sym c.found.ensures.value)
     (subst (λ (n : ℕ). IsReached graph (n + c.args.group) c.reach.new.self.found) objects c.reach.ensures.found) in

@@ -6,10 +6,10 @@ use Rattle.object_inheritance.proofs.templates.Templates.blocks.Goals as goal
 
 pub returns-clause-inherited : goal.returns-clause-inherited
 returns-clause-inherited c =
-    subst AreInherited c.self.view_is (are-inherited c.self.inside.blocks.now c.self.inside.order.items
-    (subst (λ graph. IsOrder graph c.self.inside.order.items) c.self.invariant.same c.self.invariant.ordered))
+    subst AreInherited c.self.view_is (are-inherited c.self.inside.blocks.now c.self.inside.uses.order.items
+    (subst (λ graph. IsOrder graph c.self.inside.uses.order.items) c.self.invariant.using.same c.self.invariant.using.ordered))
 
 pub returns-clause-short : goal.returns-clause-short
 returns-clause-short c =
-    subst AreShort c.self.view_is (are-short c.self.inside.blocks.now c.self.inside.order.items
-    (subst (λ graph. IsOrder graph c.self.inside.order.items) c.self.invariant.same c.self.invariant.ordered))
+    subst AreShort c.self.view_is (are-short c.self.inside.blocks.now c.self.inside.uses.order.items
+    (subst (λ graph. IsOrder graph c.self.inside.uses.order.items) c.self.invariant.using.same c.self.invariant.using.ordered))

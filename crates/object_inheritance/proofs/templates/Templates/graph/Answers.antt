@@ -5,5 +5,5 @@ use Rattle.object_inheritance.proofs.templates.Templates.graph.Goals as goal
 
 pub returns-clause-long : goal.returns-clause-long
 returns-clause-long c =
-    ap (λ (graph : List (List ℕ)). length graph) c.self.invariant.same ∙ graph-long c.self.inside.blocks.now
+    ap (λ (graph : List (List ℕ)). length graph) c.self.invariant.using.same ∙ graph-long c.self.inside.blocks.now
     ∙ ap (λ (blocks : List Block). length blocks) c.self.view_is

@@ -1,6 +1,6 @@
 use Rattle.std.specs.List.{AllZip}
 use Rattle.object_escalations.specs.Entries.{ComesFrom, origins_below}
-use Rattle.object_escalations.proofs.entries.escalations_of.Given as goal
+use Rattle.object_escalations.proofs.entries.entries_of.Given as goal
 
 -- The escalations of the blocks so far.
 abbrev pub invariant-loop-place : goal.invariant-loop-place

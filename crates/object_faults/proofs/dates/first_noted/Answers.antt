@@ -5,16 +5,16 @@ use Rattle.lemmas.proofs.Lists.{none-marked}
 use Rattle.object_faults.specs.Columns.{date_at, IsFirst}
 use Rattle.object_faults.specs.Search.{Entries, noted}
 use Rattle.object_faults.proofs.FirstLemmas.{none-more}
-use Rattle.object_faults.proofs.dates.first_dated.Goals as goal
+use Rattle.object_faults.proofs.dates.first_noted.Goals as goal
 use Rattle.object_inheritance.specs.Inherited.{AreInherited}
 use Rattle.object_reader.specs.declared.block.Block.{Block}
 
 pub loop-place-init : goal.loop-place-init
 loop-place-init c = record {
   free = λ k low. absurd (omega (arith, low));
-  fresh = λ name. ap (λ (entries : Entries). noted entries name) c.new-dates.ensures;
-  marks = λ place name marked free. absurd (false≢true (sym (ap (λ (done : List Bool). get_or done place false) c.in_ok-done.ensures ∙ none-marked _ place) ∙ marked));
-  long = ap (λ (done : List Bool). length done) c.in_ok-done.ensures ∙ length-replicate _ false;
+  fresh = λ name. ap (λ (entries : Entries). noted entries name) c.requires.fresh;
+  marks = λ place name marked free. absurd (false≢true (sym (ap (λ (done : List Bool). get_or done place false) c.requires.done ∙ none-marked _ place) ∙ marked));
+  long = ap (λ (done : List Bool). length done) c.requires.done ∙ length-replicate _ false ∙ sym (ap (λ (blocks : List Block). length blocks) c.blocks-blocks.ensures.value);
 }
 
 pub date_fault-requires-clause-inherited : goal.date_fault-requires-clause-inherited

@@ -1,7 +1,7 @@
 use Rattle.std.proofs.Common.{◌≡◌, ◌≤◌, map}
 use Rattle.due_model.specs.Limits.{max_escalations}
 use Rattle.object_escalations.specs.Escalated.{IsSoFar}
-use Rattle.object_escalations.proofs.escalated.EscalatedObjects.new.Given as goal
+use Rattle.object_escalations.proofs.escalated.objects_of.Given as goal
 
 -- The groups stay; the objects of the blocks so far, so many, within the limit.
 abbrev pub invariant-loop-place : goal.invariant-loop-place

@@ -1,7 +1,7 @@
 use Rattle.std.proofs.Common.{◌≡◌, ℕ, ◌<◌, List, None, length}
 use Rattle.object_faults.specs.Columns.{date_at}
 use Rattle.object_faults.specs.Search.{AreDone, noted}
-use Rattle.object_faults.proofs.dates.first_dated.Given as goal
+use Rattle.object_faults.proofs.dates.first_noted.Given as goal
 
 -- None of the blocks so far has such a fault, and nothing is noted.
 abbrev pub invariant-loop-place : goal.invariant-loop-place
