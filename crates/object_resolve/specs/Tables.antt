@@ -8,8 +8,8 @@ use Rattle.object_resolve.specs.declared.tables.Tables.{Tables}
 use Rattle.object_services.specs.Numbers.{Pair, pairs_of}
 
 pub record AreTables (blocks : List Block) (tables : Tables) : Type 0 where
-  pub objects_are : tables.objects ≡ blocks
-  pub services_are : tables.services ≡ blocks
+  pub objects_are : tables.objects.now ≡ blocks
+  pub services_are : tables.services.now ≡ blocks
   pub hosts_are : tables.hosts ≡ record { blocks = blocks; kind = HostGroups }
 
 -- these are the services, where these are the hosts of each service block, and their numbers fit in 32 bits

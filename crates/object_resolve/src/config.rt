@@ -78,7 +78,7 @@ fn listed_contacts<'a>(
 fn objects_in<'a>(
     alloc: Global,
     templates: &Templates<'a>,
-    tables: &Tables<'a>,
+    tables: &Tables<'a, '_>,
     counts: &Counts,
     contacts: &ContactListing<'a>,
 ) -> Result<ObjectTable, AllocError>
@@ -91,7 +91,7 @@ fn objects_in<'a>(
 {
     let hosts = tables.objects.objects(NamedKind::Host);
     let periods = tables.objects.objects(NamedKind::TimePeriod);
-    let services = &tables.services;
+    let services = tables.services;
     objects_of(
         alloc,
         templates,
@@ -107,7 +107,7 @@ fn objects_in<'a>(
 fn escalations_in<'a>(
     alloc: Global,
     templates: &Templates<'a>,
-    tables: &Tables<'a>,
+    tables: &Tables<'a, '_>,
     counts: &Counts,
     objects: &ObjectTable,
     contacts: &ContactListing<'a>,
@@ -137,7 +137,7 @@ fn escalations_in<'a>(
 fn dependencies_in<'a>(
     alloc: Global,
     templates: &Templates<'a>,
-    tables: &Tables<'a>,
+    tables: &Tables<'a, '_>,
     counts: &Counts<'a>,
 ) -> Result<Vec<Dependency>, AllocError>
     requires tables { AreTables templates.now tables.now }
@@ -156,7 +156,7 @@ fn dependencies_in<'a>(
 pub(crate) fn config_of<'a>(
     alloc: Global,
     templates: &Templates<'a>,
-    tables: &Tables<'a>,
+    tables: &Tables<'a, '_>,
     counts: &Counts<'a>,
 ) -> Result<Config, AllocError>
     requires tables { AreTables templates.now tables.now }
@@ -165,8 +165,8 @@ pub(crate) fn config_of<'a>(
     ensures { IfOk result (IsConfigOf templates.now) }
 {
     let lanes = counts.lanes.as_slice();
-    let contacts = contacts_in(alloc, templates, &tables.objects, lanes)?;
-    let named = lanes_in(alloc, &tables.objects, lanes)?;
+    let contacts = contacts_in(alloc, templates, tables.objects, lanes)?;
+    let named = lanes_in(alloc, tables.objects, lanes)?;
     let periods = periods_of(
         alloc,
         templates,

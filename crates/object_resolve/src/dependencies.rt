@@ -31,7 +31,7 @@ use std::alloc::{AllocError, Global};
 pub(crate) fn pairs_in<'a>(
     alloc: Global,
     templates: &Templates<'a>,
-    tables: &mut Tables<'a>,
+    tables: &mut Tables<'a, '_>,
     groups: &mut ServiceGroups<'a>,
     hosts: &ServiceHosts,
     services: &HostServices<'a>,
@@ -56,7 +56,7 @@ pub(crate) fn pairs_in<'a>(
 fn looped_in<'a>(
     alloc: Global,
     templates: &Templates<'a>,
-    tables: &mut Tables<'a>,
+    tables: &mut Tables<'a, '_>,
     groups: &mut ServiceGroups<'a>,
     hosts: &ServiceHosts,
     services: &HostServices<'a>,
@@ -80,7 +80,7 @@ fn looped_in<'a>(
 pub(crate) fn check_dependency_loops<'a>(
     alloc: Global,
     templates: &Templates<'a>,
-    tables: &mut Tables<'a>,
+    tables: &mut Tables<'a, '_>,
     groups: &mut ServiceGroups<'a>,
     hosts: &ServiceHosts,
     services: &HostServices<'a>,

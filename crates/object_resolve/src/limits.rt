@@ -125,7 +125,7 @@ fn over(blocks: &[Block], fault: LimitFault, other: Option<usize>) -> LoadFault
 fn escalated_in<'a>(
     alloc: Global,
     templates: &Templates<'a>,
-    tables: &mut Tables<'a>,
+    tables: &mut Tables<'a, '_>,
     groups: &mut ServiceGroups<'a>,
     hosts: &ServiceHosts,
     services: &HostServices<'a>,
@@ -171,7 +171,7 @@ fn over_escalations(
 fn over_rest<'a>(
     alloc: Global,
     templates: &Templates<'a>,
-    tables: &mut Tables<'a>,
+    tables: &mut Tables<'a, '_>,
     groups: &mut ServiceGroups<'a>,
     hosts: &ServiceHosts,
     services: &HostServices<'a>,
@@ -202,7 +202,7 @@ fn over_rest<'a>(
 fn counts_with<'a>(
     alloc: Global,
     templates: &Templates<'a>,
-    tables: &mut Tables<'a>,
+    tables: &mut Tables<'a, '_>,
     groups: &mut ServiceGroups<'a>,
     hosts: ServiceHosts,
     services: HostServices<'a>,
@@ -243,7 +243,7 @@ fn counts_with<'a>(
 fn counts_of<'a>(
     alloc: Global,
     templates: &Templates<'a>,
-    tables: &mut Tables<'a>,
+    tables: &mut Tables<'a, '_>,
     groups: &mut ServiceGroups<'a>,
     hosts: ServiceHosts,
     services: HostServices<'a>,
@@ -285,7 +285,7 @@ fn counts_of<'a>(
 fn check_counted<'a>(
     alloc: Global,
     templates: &Templates<'a>,
-    tables: &mut Tables<'a>,
+    tables: &mut Tables<'a, '_>,
     hosts: ServiceHosts,
     lanes: Vec<usize>,
     other: Option<usize>,
@@ -301,7 +301,7 @@ fn check_counted<'a>(
     ensures counts { IfOk result (AreCounts templates.now) }
     ensures fault { IfErr result (IsAmong (IsLoopedOrOver templates.now)) }
 {
-    let services = services_of(alloc, &tables.services, &hosts, &tables.hosts)?;
+    let services = services_of(alloc, tables.services, &hosts, &tables.hosts)?;
     let mut groups = groups_in(alloc, templates, tables, &hosts)?;
     check_dependency_loops(alloc, templates, tables, &mut groups, &hosts, &services)?;
     counts_of(
@@ -321,7 +321,7 @@ fn check_counted<'a>(
 pub(crate) fn check_limits<'a>(
     alloc: Global,
     templates: &Templates<'a>,
-    tables: &mut Tables<'a>,
+    tables: &mut Tables<'a, '_>,
 ) -> Result<Counts<'a>, LoadFault>
     requires { AreTables templates.now tables.old }
     ensures same { tables.new ≡ tables.old }
@@ -330,9 +330,9 @@ pub(crate) fn check_limits<'a>(
     ensures counts { IfOk result (AreCounts templates.now) }
     ensures fault { IfErr result (IsAmong (IsLoopedOrOver templates.now)) }
 {
-    let lanes = lanes_in(alloc, templates, &tables.objects)?;
-    let other = first_other(&tables.objects, lanes.as_slice());
-    let hosts = ServiceHosts::new(alloc, &tables.services, &mut tables.hosts);
+    let lanes = lanes_in(alloc, templates, tables.objects)?;
+    let other = first_other(tables.objects, lanes.as_slice());
+    let hosts = ServiceHosts::new(alloc, tables.services, &mut tables.hosts);
     match hosts {
         Err(fault) => Err(over(templates.blocks(), fault, other)),
         Ok(hosts) => check_counted(alloc, templates, tables, hosts, lanes, other),

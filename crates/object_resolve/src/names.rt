@@ -23,11 +23,11 @@ use std::alloc::{AllocError, Global};
 
 /// The place of the first service block that gives a service which one before it gives.
 fn first_doubled_service(alloc: Global, tables: &mut Tables) -> Result<Option<usize>, AllocError>
-    requires { AreTables tables.old.objects tables.old }
+    requires { AreTables tables.old.objects.now tables.old }
     ensures same { tables.new ≡ tables.old }
-    ensures first { IfOk result (IsFirst (GivesDoubledService tables.old.objects)) }
+    ensures first { IfOk result (IsFirst (GivesDoubledService tables.old.objects.now)) }
 {
-    let number = first_doubled_number(alloc, &tables.services, &mut tables.hosts)?;
+    let number = first_doubled_number(alloc, tables.services, &mut tables.hosts)?;
     let Some(number) = number else {
         return Ok(None);
     };
@@ -36,26 +36,26 @@ fn first_doubled_service(alloc: Global, tables: &mut Tables) -> Result<Option<us
 
 /// The place of the first block that gives an object which one before it gives.
 fn first_doubled(alloc: Global, tables: &mut Tables) -> Result<Option<usize>, AllocError>
-    requires { AreTables tables.old.objects tables.old }
+    requires { AreTables tables.old.objects.now tables.old }
     ensures same { tables.new ≡ tables.old }
-    ensures first { IfOk result (IsFirst (IsDoubledAt tables.old.objects)) }
+    ensures first { IfOk result (IsFirst (IsDoubledAt tables.old.objects.now)) }
 {
     let service = first_doubled_service(alloc, tables)?;
-    Ok(lower(first_doubled_object(&tables.objects), service))
+    Ok(lower(first_doubled_object(tables.objects), service))
 }
 
 /// The place of the first block that names a host and a service that isn't there.
 fn first_unknown_pair<'a>(
     alloc: Global,
     templates: &Templates<'a>,
-    tables: &mut Tables<'a>,
+    tables: &mut Tables<'a, '_>,
 ) -> Result<Option<usize>, AllocError>
     requires { AreTables templates.now tables.old }
     ensures same { tables.new ≡ tables.old }
     ensures first { IfOk result (IsFirst (HasUnknownPair templates.now)) }
 {
-    let member = first_unknown_member(alloc, templates, &tables.services, &mut tables.hosts)?;
-    let named = first_unknown_service(alloc, templates, &tables.services, &mut tables.hosts)?;
+    let member = first_unknown_member(alloc, templates, tables.services, &mut tables.hosts)?;
+    let named = first_unknown_service(alloc, templates, tables.services, &mut tables.hosts)?;
     Ok(lower(member, named))
 }
 
@@ -63,13 +63,13 @@ fn first_unknown_pair<'a>(
 fn first_unknown<'a>(
     alloc: Global,
     templates: &Templates<'a>,
-    tables: &mut Tables<'a>,
+    tables: &mut Tables<'a, '_>,
 ) -> Result<Option<usize>, AllocError>
     requires { AreTables templates.now tables.old }
     ensures same { tables.new ≡ tables.old }
     ensures first { IfOk result (IsFirst (IsUnknownAt templates.now)) }
 {
-    let name = first_unknown_name(alloc, templates, &tables.objects)?;
+    let name = first_unknown_name(alloc, templates, tables.objects)?;
     let pair = first_unknown_pair(alloc, templates, tables)?;
     Ok(lower(name, pair))
 }
@@ -78,7 +78,7 @@ fn first_unknown<'a>(
 pub(crate) fn check_names<'a>(
     alloc: Global,
     templates: &Templates<'a>,
-    tables: &mut Tables<'a>,
+    tables: &mut Tables<'a, '_>,
 ) -> Result<(), LoadFault>
     requires { AreTables templates.now tables.old }
     ensures same { tables.new ≡ tables.old }

@@ -23,9 +23,10 @@ use due_model::config::Config;
 use object_faults::check::check;
 use object_inheritance::templates::Templates;
 use object_load_faults::fault::{BlockFault, LoadFault};
-use object_names::named::NamedKind;
+use object_names::named::{NamedKind, NamedObjects};
 use object_periods::loops::loop_of;
 use object_reader::block::Block;
+use object_services::blocks::ServiceBlocks;
 use std::alloc::Global;
 
 /// The templates of the blocks, where neither their templates nor their values have a fault.
@@ -45,7 +46,7 @@ fn check_values(alloc: Global, blocks: &[Block]) -> Result<Templates, LoadFault>
 fn check_loops<'a>(
     alloc: Global,
     templates: &Templates<'a>,
-    tables: &Tables<'a>,
+    tables: &Tables<'a, '_>,
 ) -> Result<(), LoadFault>
     requires { AreTables templates.now tables.now }
     ensures none { OnOk result (IsNowhere (IsLoopedAt templates.now)) }
@@ -62,7 +63,7 @@ fn check_loops<'a>(
 fn check_all<'a>(
     alloc: Global,
     templates: &Templates<'a>,
-    tables: &mut Tables<'a>,
+    tables: &mut Tables<'a, '_>,
 ) -> Result<Counts<'a>, LoadFault>
     requires { AreTables templates.now tables.old }
     ensures same { tables.new ≡ tables.old }
@@ -83,7 +84,7 @@ fn check_all<'a>(
 fn resolve_tables<'a>(
     alloc: Global,
     templates: &Templates<'a>,
-    tables: &mut Tables<'a>,
+    tables: &mut Tables<'a, '_>,
 ) -> Result<Config, LoadFault>
     requires { AreTables templates.now tables.old }
     ensures config { IfOk result (IsFitting templates.now) }
@@ -93,13 +94,30 @@ fn resolve_tables<'a>(
     Ok(config_of(alloc, templates, tables, &counts)?)
 }
 
-/// The same, where the tables are yet to be made.
+/// The same, where the objects and the service blocks are theirs.
+fn resolve_objects<'a>(
+    alloc: Global,
+    templates: &Templates<'a>,
+    objects: &NamedObjects<'a>,
+    services: &ServiceBlocks<'a>,
+) -> Result<Config, LoadFault>
+    requires objects { objects.now ≡ templates.now }
+    requires services { services.now ≡ templates.now }
+    ensures config { IfOk result (IsFitting templates.now) }
+    ensures fault { IfErr result (IsAmong (IsUnfit templates.now)) }
+{
+    let mut tables = Tables::new(alloc, templates, objects, services)?;
+    resolve_tables(alloc, templates, &mut tables)
+}
+
+/// The same, where they are yet to be found.
 fn resolve_all(alloc: Global, templates: &Templates) -> Result<Config, LoadFault>
     ensures config { IfOk result (IsFitting templates.now) }
     ensures fault { IfErr result (IsAmong (IsUnfit templates.now)) }
 {
-    let mut tables = Tables::new(alloc, templates)?;
-    resolve_tables(alloc, templates, &mut tables)
+    let objects = NamedObjects::new(alloc, templates)?;
+    let services = ServiceBlocks::new(alloc, templates)?;
+    resolve_objects(alloc, templates, &objects, &services)
 }
 
 /// The configuration that the blocks give, or the first fault: first of templates, then of the values of each

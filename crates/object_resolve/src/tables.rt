@@ -15,23 +15,31 @@ use object_services::blocks::ServiceBlocks;
 use object_services::services::ServiceHosts;
 use std::alloc::{AllocError, Global};
 
-/// The objects of all types: those with a name of their own, and the service blocks with the groups of their hosts.
+/// The objects of all types: those with a name of their own, and the service blocks; and the groups of hosts.
 #[derive(Drop)]
-pub(crate) struct Tables<'a> {
-    pub(crate) objects: NamedObjects<'a>,
-    pub(crate) services: ServiceBlocks<'a>,
+pub(crate) struct Tables<'a, 'b> {
+    pub(crate) objects: &'b NamedObjects<'a>,
+    pub(crate) services: &'b ServiceBlocks<'a>,
     pub(crate) hosts: Groups<'a>,
 }
 
-impl<'a> Tables<'a> {
-    /// Those of the blocks. A refused growth leaves nothing.
-    pub(crate) fn new(alloc: Global, templates: &Templates<'a>) -> Result<Tables<'a>, AllocError>
+impl<'a, 'b> Tables<'a, 'b> {
+    /// Those of the blocks, where the objects and the service blocks are theirs. A refused growth leaves nothing.
+    pub(crate) fn new(
+        alloc: Global,
+        templates: &Templates<'a>,
+        objects: &'b NamedObjects<'a>,
+        services: &'b ServiceBlocks<'a>,
+    ) -> Result<Tables<'a, 'b>, AllocError>
+        requires objects { objects.now ≡ templates.now }
+        requires services { services.now ≡ templates.now }
         ensures { IfOk result (AreTables templates.now) }
     {
+        let hosts = Groups::new(alloc, templates, GroupKind::HostGroups)?;
         Ok(Tables {
-            objects: NamedObjects::new(alloc, templates)?,
-            services: ServiceBlocks::new(alloc, templates)?,
-            hosts: Groups::new(alloc, templates, GroupKind::HostGroups)?,
+            objects,
+            services,
+            hosts,
         })
     }
 }
@@ -50,14 +58,14 @@ pub(crate) fn place_of(objects: &Objects, number: usize) -> Option<usize>
 pub(crate) fn groups_in<'a>(
     alloc: Global,
     templates: &Templates<'a>,
-    tables: &Tables<'a>,
+    tables: &Tables<'a, '_>,
     hosts: &ServiceHosts,
 ) -> Result<ServiceGroups<'a>, AllocError>
     requires tables { AreTables templates.now tables.now }
     requires hosts { AreHostLists templates.now (objects_in templates.now Service) hosts.now }
     ensures { IfOk result (λ made. made ≡ templates.now) }
 {
-    let services = &tables.services;
+    let services = tables.services;
     let names = tables.objects.objects(NamedKind::Host).names();
     ServiceGroups::new(alloc, templates, services, hosts, names)
 }

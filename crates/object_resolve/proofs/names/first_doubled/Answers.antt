@@ -9,7 +9,7 @@ use Rattle.object_resolve.proofs.names.first_doubled.Goals as goal
 
 pub returns-clause-first : goal.returns-clause-first
 returns-clause-first c =
-    subst (λ (f : Option ℕ). IsFirst (IsDoubledAt c.args.tables.now.objects) f) (sym c.lower.ensures)
-    (either-first (names.IsDoubled c.args.tables.now.objects) (GivesDoubledService c.args.tables.now.objects) c.first_doubled.result c.in_ok-service.service
-    (subst (λ (t : Tables). IsFirst (names.IsDoubled t.objects) c.first_doubled.result) c.in_ok-service.ensures.same c.first_doubled.ensures)
+    subst (λ (f : Option ℕ). IsFirst (IsDoubledAt c.args.tables.now.objects.now) f) (sym c.lower.ensures)
+    (either-first (names.IsDoubled c.args.tables.now.objects.now) (GivesDoubledService c.args.tables.now.objects.now) c.first_doubled.result c.in_ok-service.service
+    (subst (λ (t : Tables). IsFirst (names.IsDoubled t.objects.now) c.first_doubled.result) c.in_ok-service.ensures.same c.first_doubled.ensures)
     c.in_ok-service.ensures.first)
