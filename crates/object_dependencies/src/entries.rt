@@ -151,7 +151,7 @@ pub fn dependencies_of<'a>(
     ensures count { IfOk result (λ made. length made.items ≡ sum_by length pairs.now) }
 {
     let columns = columns_of(alloc, templates)?;
-    let mut dependencies = Vec::new(alloc);
+    let mut dependencies = Vec::with_capacity(alloc, pairs.count())?;
     for place in 0..pairs.len() {
         let terms = terms_at(blocks, &columns, periods, place);
         let (dependents, masters) = pairs.both(place);

@@ -31,15 +31,19 @@ fn keep(sides: &mut Vec<Sides>, pairs: Sides) -> Result<(), AllocError>
 #[derive(Drop)]
 pub struct DependencyPairs {
     sides: Vec<Sides>,
+    /// How many pairs they make in all.
+    count: usize,
 }
 
 impl Model for DependencyPairs {
-    ghost use Rattle.std.specs.Prelude.{List};
+    ghost use Rattle.std.specs.Prelude.{◌≡◌, List, length, sum_by};
     ghost use Rattle.object_dependencies.specs.Pairs.{Pair};
 
     ghost Value = { List (List Pair) };
 
     ghost view = { λ s. s.sides.items };
+
+    ghost invariant = { λ s. s.count ≡ sum_by length s.sides.items };
 }
 
 impl DependencyPairs {
@@ -76,7 +80,7 @@ impl DependencyPairs {
             keep(&mut sides, pairs)?;
             count = total;
         }
-        Ok(DependencyPairs { sides })
+        Ok(DependencyPairs { sides, count })
     }
 
     /// How many blocks there are.
@@ -84,6 +88,13 @@ impl DependencyPairs {
         ensures { result ≡ length self.now }
     {
         self.sides.len()
+    }
+
+    /// How many pairs there are.
+    pub fn count(&self) -> usize
+        ensures { result ≡ sum_by length self.now }
+    {
+        self.count
     }
 
     /// The dependents and the masters of the block at the place.

@@ -128,7 +128,7 @@ fn entries_of<'a>(
     ensures { IfOk result (λ escalations.
         AreEntriesOf templates.now objects.now escalated.now escalations.items) }
 {
-    let mut escalations = Vec::new(alloc);
+    let mut escalations = Vec::with_capacity(alloc, escalated.count())?;
     for (place, block) in templates.blocks().iter().enumerate() {
         let numbers = escalated.objects(place);
         push_block_at(

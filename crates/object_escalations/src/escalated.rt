@@ -59,14 +59,18 @@ fn keep(
 #[derive(Drop)]
 pub struct EscalatedObjects {
     lists: Vec<Vec<usize>>,
+    /// How many objects there are in all.
+    count: usize,
 }
 
 impl Model for EscalatedObjects {
-    ghost use Rattle.std.specs.Prelude.{ℕ, List, map};
+    ghost use Rattle.std.specs.Prelude.{◌≡◌, ℕ, List, length, map, sum_by};
 
     ghost Value = { List (List ℕ) };
 
     ghost view = { λ s. map (λ list. list.items) s.lists.items };
+
+    ghost invariant = { λ s. s.count ≡ sum_by length (map (λ list. list.items) s.lists.items) };
 }
 
 /// The objects of all blocks, where `reached` finds those of each. As `EscalatedObjects::new`.
@@ -97,7 +101,10 @@ fn objects_of<'a>(
         let objects = reached.objects_at(alloc, hosts, groups, services, place)?;
         count = keep(&mut found, objects, count, place, block.line)?;
     }
-    Ok(EscalatedObjects { lists: found })
+    Ok(EscalatedObjects {
+        lists: found,
+        count,
+    })
 }
 
 impl EscalatedObjects {
@@ -138,6 +145,13 @@ impl EscalatedObjects {
         ensures { result ≡ length self.now }
     {
         self.lists.len()
+    }
+
+    /// How many escalations there are.
+    pub fn count(&self) -> usize
+        ensures { result ≡ sum_by length self.now }
+    {
+        self.count
     }
 
     /// The objects of which the block at the place speaks, in order; none where there are fewer blocks.
