@@ -1,5 +1,5 @@
 -- What is known at the path's last node, and what stands when the walk is over.
-use Rattle.std.proofs.Common.{◌≡◌, ℕ, ◌+◌, ◌-◌, ◌<◌, ◌≤◌, List, [], length, get_or, min, replicate, true, false, Option, None, Some, refl, sym, ap, subst, ◌∙◌, ⊎_elim, arith}
+use Rattle.std.proofs.Common.{◌≡◌, ℕ, ◌+◌, ◌-◌, ◌^◌, ◌<◌, ◌≤◌, List, [], length, get_or, min, replicate, true, false, Option, None, Some, refl, sym, ap, subst, ◌∙◌, ⊎_elim, arith}
 use Rattle.std.specs.Prelude.{Contains, IfNone, is_some, slice_get, reverse}
 use Rattle.std.proofs.lemmas.Bool.{cases_lt}
 use Rattle.std.proofs.lemmas.Option.{slice_get_within, slice_get_cases, slice_get-get_or, get_or_from_slice_get}
@@ -130,10 +130,10 @@ at_none (Some x) P none fact = cc
 
 -- ---- no node is entered yet
 
-pub Fits-new : (graph : List (List ℕ)) (walk : Walk) (count : ℕ) → count ≡ length graph → ((p q : ℕ) → Leads graph p q → q < length graph)
+pub Fits-new : (graph : List (List ℕ)) (walk : Walk) (count : ℕ) → count < 2 ^ 32 → count ≡ length graph → ((p q : ℕ) → Leads graph p q → q < length graph)
     → walk.marks.items ≡ replicate count Unseen → walk.turns.items ≡ replicate count 0 → walk.live.items ≡ [] → walk.path.items ≡ [] → walk.roots.items ≡ [] → walk.done.items ≡ []
     → walk.next ≡ 0 → walk.least ≡ None → Fits graph walk
-Fits-new graph walk count is closed marks turns live path roots done next least =
+Fits-new graph walk count low is closed marks turns live path roots done next least =
     let unseen : (k : ℕ) (mark : Mark) → slice_get (replicate count Unseen) k ≡ Some mark → mark ≡ Unseen =
     λ k mark at. let within : k < length (replicate count Unseen) = slice_get_within (replicate count Unseen) k mark at in
     let low : k < count = omega (arith, within, length-replicate count Unseen) in
@@ -173,10 +173,11 @@ Fits-new graph walk count is closed marks turns live path roots done next least 
         backward = λ i j p q at other leads. absurd (nothing p i at);
       });
       begun = rw (marks, next) (record {
+        few = omega (arith, low, is);
         as_many = length-replicate count Unseen ∙ is;
         within = omega arith;
         closed = closed;
-        seen = λ k low mark. omega (arith, low);
+        seen = λ k before mark. omega (arith, before);
       });
     }
 

@@ -1,5 +1,5 @@
 -- A walk along every edge that is reached from the nodes below a number, depth first: the least node on a loop and, if there is none, an order.
-use Rattle.std.specs.Prelude.{◌≡◌, ℕ, zero, suc, ◌+◌, ◌-◌, ◌<◌, ◌≤◌, ◌≢◌, ◌⊎◌, List, [], ◌∷◌, ◌++◌, length, take, drop, reverse, min, AllPairs, Contains, IfNone, Option, Some, None, slice_get, slice_index, slice_index_or, slice_set}
+use Rattle.std.specs.Prelude.{◌≡◌, ℕ, zero, suc, ◌+◌, ◌-◌, ◌^◌, ◌<◌, ◌≤◌, ◌≢◌, ◌⊎◌, List, [], ◌∷◌, ◌++◌, length, take, drop, reverse, min, AllPairs, Contains, IfNone, Option, Some, None, slice_get, slice_index, slice_index_or, slice_set}
 use Rattle.graph.specs.Chains.{IsOnLoop, Reaches}
 use Rattle.graph.specs.Edges.{Leads}
 use Rattle.graph_order.specs.Order.{IsOrder}
@@ -74,6 +74,7 @@ pub record IsDone (graph : List (List ℕ)) (marks : List Mark) (done : List ℕ
 
 -- every node below the next one was seen
 pub record IsBegun (graph : List (List ℕ)) (marks : List Mark) (next : ℕ) : Type 0 where
+  pub few : length graph < 2 ^ 32
   pub as_many : length marks ≡ length graph
   pub within : next ≤ length graph
   pub closed : (p q : ℕ) → Leads graph p q → q < length graph

@@ -14,12 +14,12 @@ ghost use Rattle.graph_order.specs.Walk.{Merges, Passes, least_of};
 use graph::edges::Graph;
 use std::alloc::{AllocError, Global};
 
-/// How far a node's turn has come.
+/// How far a node's turn has come. No more nodes are live than there are, so a place is a `u32`, and a mark takes 8 bytes.
 #[derive(Clone, Copy)]
 pub(crate) enum Mark {
     Unseen,
     /// It is live, at this place.
-    Live(usize),
+    Live(u32),
     /// All that it reaches is done.
     Done,
 }
@@ -150,7 +150,7 @@ impl Walk {
         match self.marks[end as usize] {
             Mark::Unseen => self.enter(end)?,
             Mark::Live(to) => {
-                if to < root {
+                if (to as usize) < root {
                     self.merge(root)
                 } else {
                     self.pass(node, Some(least_with(self.least, node)))
@@ -163,14 +163,15 @@ impl Walk {
 
     /// Puts a node at the end of the live nodes, the path and the roots.
     fn enter(&mut self, node: u32) -> Result<(), AllocError>
-        requires { node < length self.old.marks.items }
+        requires within { node < length self.old.marks.items }
+        requires room { length self.old.live.items < 2 ^ 32 }
         ensures { OnOk result (Enters node self.old self.new) }
     {
         let place = self.live.len();
         self.live.push(node)?;
         self.path.push(place)?;
         self.roots.push(place)?;
-        self.marks[node as usize] = Mark::Live(place);
+        self.marks[node as usize] = Mark::Live(place as u32);
         Ok(())
     }
 

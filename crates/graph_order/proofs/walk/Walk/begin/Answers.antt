@@ -1,9 +1,12 @@
 use Rattle.std.proofs.Common.{◌≡◌, ◌<◌, refl, length, Some, arith, sym, ◌∙◌}
 use Rattle.graph_order.specs.declared.walk.Mark.TheVariants.{Unseen}
-use Rattle.graph_order.proofs.TopLemmas.{mark-is}
+use Rattle.graph_order.proofs.TopLemmas.{live-few, mark-is}
 use Rattle.graph_order.proofs.OverLemmas.{none_live, Goes-next}
 use Rattle.graph_order.proofs.MoveLemmas.{Goes-enter}
 use Rattle.graph_order.proofs.walk.Walk.begin.Goals as goal
+
+pub enter-requires-clause-room : goal.enter-requires-clause-room
+enter-requires-clause-room c = live-few c.args.graph.now c.args.self.now c.requires.fits
 
 pub returns-in_ok-enter-in-Unseen : goal.returns-in_ok-enter-in-Unseen
 returns-in_ok-enter-in-Unseen c =
