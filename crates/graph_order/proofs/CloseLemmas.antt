@@ -230,6 +230,7 @@ module _ (graph : List (List ℕ)) (marks marks' : List Mark) (turns front segme
 
   pub IsBegun-close : (next : ℕ) → IsBegun graph marks next → IsBegun graph marks' next
   IsBegun-close next is = record {
+    few = is.few;
     as_many = written.as_many ∙ is.as_many;
     within = is.within;
     closed = is.closed;

@@ -1,5 +1,5 @@
 -- What is known at the path's last node, and what stands when the walk is over.
-use Rattle.std.proofs.Common.{◌≡◌, ℕ, ◌+◌, ◌-◌, ◌<◌, ◌≤◌, List, [], length, get_or, replicate, true, false, Option, None, Some, IfSome, refl, sym, ap, subst, ◌∙◌, ⊎_elim, arith}
+use Rattle.std.proofs.Common.{◌≡◌, ℕ, ◌+◌, ◌-◌, ◌^◌, ◌<◌, ◌≤◌, List, [], length, get_or, min, replicate, true, false, Option, None, Some, refl, sym, ap, subst, ◌∙◌, ⊎_elim, arith}
 use Rattle.std.specs.Prelude.{Contains, IfNone, is_some, slice_get, reverse}
 use Rattle.std.proofs.lemmas.Bool.{cases_lt}
 use Rattle.std.proofs.lemmas.Option.{slice_get_within, slice_get_cases, slice_get-get_or, get_or_from_slice_get}
@@ -11,7 +11,7 @@ use Rattle.graph_order.specs.declared.walk.Mark.TheVariants.{Unseen, Live, Done}
 use Rattle.graph_order.specs.declared.walk.Walk.{Walk}
 use Rattle.graph.specs.Chains.{HasNoLoop, IsOnLoop, Reaches}
 use Rattle.graph.specs.Edges.{Leads}
-use Rattle.graph_order.specs.Loops.{IsFirstOnLoop}
+use Rattle.graph_order.specs.Loops.{HasNoLoopBelow, IsFirstOnLoop}
 use Rattle.graph_order.specs.Order.{HasLoop, IsOrder}
 use Rattle.graph_order.specs.Walk.{AtMost, Fits, Goes, IsOver, end_at}
 use Rattle.graph_order.proofs.WalkLemmas.{IsBegun-next}
@@ -33,39 +33,28 @@ none_live graph walk fits empty t k at =
     let on : Contains walk.path.items 0 = fits.nodes.roots_on_path 0 (fits.nodes.first_root some) in
     omega (arith, on.1, ap (λ (xs : List ℕ). length xs) empty)
 
-all_done-of : (graph : List (List ℕ)) (walk : Walk) (p : ℕ) (mark : Mark) → Fits graph walk → walk.path.items ≡ [] → walk.next ≡ length graph → p < length graph
+all_done-of : (graph : List (List ℕ)) (walk : Walk) (p : ℕ) (mark : Mark) → Fits graph walk → walk.path.items ≡ [] → p < walk.next
     → slice_get walk.marks.items p ≡ Some mark → slice_get walk.marks.items p ≡ Some Done
-all_done-of graph walk p Unseen fits empty all within at = absurd (fits.begun.seen p (omega (arith, all, within)) at)
-all_done-of graph walk p Done fits empty all within at = at
-all_done-of graph walk p (Live t) fits empty all within at = absurd (none_live graph walk fits empty t p (fits.nodes.place p t at))
+all_done-of graph walk p Unseen fits empty begun at = absurd (fits.begun.seen p begun at)
+all_done-of graph walk p Done fits empty begun at = at
+all_done-of graph walk p (Live t) fits empty begun at = absurd (none_live graph walk fits empty t p (fits.nodes.place p t at))
 
-pub all_done : (graph : List (List ℕ)) (walk : Walk) → Fits graph walk → walk.path.items ≡ [] → walk.next ≡ length graph → (p : ℕ) → p < length graph → slice_get walk.marks.items p ≡ Some Done
-all_done graph walk fits empty all p within = ⊎_elim
-    (λ (found : (mark : Mark) × (p < length walk.marks.items) × (slice_get walk.marks.items p ≡ Some mark) × (get_or walk.marks.items p mark ≡ mark)). all_done-of graph walk p found.0 fits empty all within found.2)
-    (λ (past : (length walk.marks.items ≤ p) × (slice_get walk.marks.items p ≡ None)). absurd (omega (arith, past.0, fits.begun.as_many)))
+all_done : (graph : List (List ℕ)) (walk : Walk) → Fits graph walk → walk.path.items ≡ [] → (p : ℕ) → p < walk.next → slice_get walk.marks.items p ≡ Some Done
+all_done graph walk fits empty p begun = ⊎_elim
+    (λ (found : (mark : Mark) × (p < length walk.marks.items) × (slice_get walk.marks.items p ≡ Some mark) × (get_or walk.marks.items p mark ≡ mark)). all_done-of graph walk p found.0 fits empty begun found.2)
+    (λ (past : (length walk.marks.items ≤ p) × (slice_get walk.marks.items p ≡ None)). absurd (omega (arith, past.0, fits.begun.as_many, fits.begun.within, begun)))
     (slice_get_cases walk.marks.items p).1
 
--- each node on a loop was told
-on_loop-told : (graph : List (List ℕ)) (walk : Walk) → Fits graph walk → ((p : ℕ) → p < length graph → slice_get walk.marks.items p ≡ Some Done)
-    → (p q : ℕ) → Leads graph p q → Reaches (Leads graph) q p → AtMost walk.least p
-on_loop-told graph walk fits all p q leads back =
-    let over : get_or walk.turns.items p 0 ≡ length (get_or graph p []) = fits.turns.over p (all p (begins-within graph p q leads)) in
+-- a node on a loop that is done was told
+on_loop-told : (graph : List (List ℕ)) (walk : Walk) → Fits graph walk → (p : ℕ) → slice_get walk.marks.items p ≡ Some Done
+    → (q : ℕ) → Leads graph p q → Reaches (Leads graph) q p → AtMost walk.least p
+on_loop-told graph walk fits p done q leads back =
+    let over : get_or walk.turns.items p 0 ≡ length (get_or graph p []) = fits.turns.over p done in
     let end : end_at graph p leads.0 ≡ q = get_or_default (get_or graph p []) leads.0 0 q leads.1 ∙ leads.2 in
     ⊎_elim
     (λ (most : AtMost walk.least p). most)
     (λ (never : Reaches (Leads graph) (end_at graph p leads.0) p → ⊥). absurd (never (subst (λ (x : ℕ). Reaches (Leads graph) x p) (sym end) back)))
     (fits.told.told p leads.0 (omega (arith, over, leads.1)))
-
-first_of : (graph : List (List ℕ)) (least : Option ℕ) → ((p : ℕ) → least ≡ Some p → IsOnLoop (Leads graph) p) → ((p : ℕ) → IsOnLoop (Leads graph) p → AtMost least p) → IfSome least (IsFirstOnLoop graph)
-first_of graph None on_loop told = tt
-first_of graph (Some least) on_loop told = record {
-  on_loop = on_loop least refl;
-  first = λ q before loop. let most : least ≤ q = told q loop in omega (arith, most, before);
-}
-
-no_loop_of : (graph : List (List ℕ)) (least : Option ℕ) → ((p : ℕ) → IsOnLoop (Leads graph) p → AtMost least p) → IfNone least (HasNoLoop (Leads graph))
-no_loop_of graph None told = λ steps p chain. told p (steps, chain)
-no_loop_of graph (Some least) told = tt
 
 IsOrder-reverse : (graph : List (List ℕ)) (walk : Walk) → Fits graph walk → ((p : ℕ) → p < length graph → slice_get walk.marks.items p ≡ Some Done)
     → ((p q : ℕ) → Leads graph p q → Reaches (Leads graph) q p → ⊥) → IsOrder graph (reverse walk.done.items)
@@ -94,23 +83,46 @@ IsOrder-reverse graph walk fits all no_loop =
 order_of : (graph : List (List ℕ)) (walk : Walk) (least : Option ℕ) → walk.least ≡ least → Fits graph walk → ((p : ℕ) → p < length graph → slice_get walk.marks.items p ≡ Some Done)
     → IfNone least (IsOrder graph (reverse walk.done.items))
 order_of graph walk None is fits all =
-    IsOrder-reverse graph walk fits all (λ p q leads back. subst (λ (least : Option ℕ). AtMost least p) is (on_loop-told graph walk fits all p q leads back))
+    IsOrder-reverse graph walk fits all (λ p q leads back. subst (λ (least : Option ℕ). AtMost least p) is (on_loop-told graph walk fits p (all p (begins-within graph p q leads)) q leads back))
 order_of graph walk (Some least) is fits all = tt
 
-pub Fits-over : (graph : List (List ℕ)) (walk : Walk) → Fits graph walk → walk.path.items ≡ [] → walk.next ≡ length graph → IsOver graph walk.done.items walk.least
-Fits-over graph walk fits empty next =
-    let all : (p : ℕ) → p < length graph → slice_get walk.marks.items p ≡ Some Done = all_done graph walk fits empty next in
-    let told : (p : ℕ) → IsOnLoop (Leads graph) p → AtMost walk.least p = λ p loop. on_loop-told graph walk fits all p loop.1.0 loop.1.1 (loop.0, loop.1.2) in
-    record {
-      first = first_of graph walk.least fits.told.on_loop told;
-      no_loop = no_loop_of graph walk.least told;
-      order = order_of graph walk walk.least refl fits all;
-    }
+pub Fits-over : (graph : List (List ℕ)) (walk : Walk) (count : ℕ) → Fits graph walk → walk.path.items ≡ [] → min count (length graph) ≤ walk.next → IsOver graph count walk.done.items walk.least
+Fits-over graph walk count fits empty next = record {
+  on_loop = fits.told.on_loop;
+  told = λ p low loop.
+      let within = begins-within graph p loop.1.0 loop.1.1 in
+      on_loop-told graph walk fits p (all_done graph walk fits empty p (omega (arith, next, low, within))) loop.1.0 loop.1.1 (loop.0, loop.1.2);
+  order = λ all. order_of graph walk walk.least refl fits (λ p within. all_done graph walk fits empty p (omega (arith, next, all, within)));
+}
+
+-- ---- what is told of the walk
+
+-- the least node on a loop, where it is below the number
+pub first-of : (graph : List (List ℕ)) (count : ℕ) (done : List ℕ) (least : Option ℕ) (node : ℕ) → IsOver graph count done least → least ≡ Some node → node < count → IsFirstOnLoop graph node
+first-of graph count done least node over is low = record {
+  on_loop = over.on_loop node is;
+  first = λ q before loop. let most : node ≤ q = rw is at over.told q (omega (arith, before, low)) loop in omega (arith, most, before);
+}
+
+-- where there is none, or one that isn't below the number, no node below the number lies on a loop
+pub no_loop-none : (graph : List (List ℕ)) (count : ℕ) (done : List ℕ) (least : Option ℕ) → IsOver graph count done least → IfNone least (HasNoLoopBelow graph count)
+no_loop-none graph count done None over = over.told
+no_loop-none graph count done (Some node) over = tt
+
+pub no_loop-past : (graph : List (List ℕ)) (count : ℕ) (done : List ℕ) (least : Option ℕ) (node : ℕ) → IsOver graph count done least → least ≡ Some node → count ≤ node → HasNoLoopBelow graph count
+no_loop-past graph count done least node over is past p low loop = let most : node ≤ p = rw is at over.told p low loop in omega (arith, most, past, low)
+
+pub no_loop-whole : (graph : List (List ℕ)) (count : ℕ) → count ≡ length graph → HasNoLoopBelow graph count → HasNoLoop (Leads graph)
+no_loop-whole graph count is none steps p chain = none p (omega (arith, is, begins-within graph p chain.0 chain.1)) (steps, chain)
+
+pub IfNone-weaker : {X : Type 0} (o : Option X) (P Q : Type 0) → (P → Q) → IfNone o P → IfNone o Q
+IfNone-weaker None P Q f p = f p
+IfNone-weaker (Some x) P Q f p = tt
 
 -- the least node on a loop is a node
-pub first-HasLoop : (graph : List (List ℕ)) (least : Option ℕ) → is_some least ≡ true → IfSome least (IsFirstOnLoop graph) → HasLoop graph
-first-HasLoop graph None some is = cc
-first-HasLoop graph (Some p) some is = (p, begins-within graph p is.on_loop.1.0 is.on_loop.1.1, is.on_loop)
+pub some-HasLoop : (graph : List (List ℕ)) (least : Option ℕ) → is_some least ≡ true → ((p : ℕ) → least ≡ Some p → IsOnLoop (Leads graph) p) → HasLoop graph
+some-HasLoop graph None some is = cc
+some-HasLoop graph (Some p) some is = let loop = is p refl in (p, begins-within graph p loop.1.0 loop.1.1, loop)
 
 pub at_none : {X : Type 0} (o : Option X) (P : Type 0) → is_some o ≡ false → IfNone o P → P
 at_none None P none fact = fact
@@ -118,10 +130,10 @@ at_none (Some x) P none fact = cc
 
 -- ---- no node is entered yet
 
-pub Fits-new : (graph : List (List ℕ)) (walk : Walk) (count : ℕ) → count ≡ length graph → ((p q : ℕ) → Leads graph p q → q < length graph)
+pub Fits-new : (graph : List (List ℕ)) (walk : Walk) (count : ℕ) → count < 2 ^ 32 → count ≡ length graph → ((p q : ℕ) → Leads graph p q → q < length graph)
     → walk.marks.items ≡ replicate count Unseen → walk.turns.items ≡ replicate count 0 → walk.live.items ≡ [] → walk.path.items ≡ [] → walk.roots.items ≡ [] → walk.done.items ≡ []
     → walk.next ≡ 0 → walk.least ≡ None → Fits graph walk
-Fits-new graph walk count is closed marks turns live path roots done next least =
+Fits-new graph walk count low is closed marks turns live path roots done next least =
     let unseen : (k : ℕ) (mark : Mark) → slice_get (replicate count Unseen) k ≡ Some mark → mark ≡ Unseen =
     λ k mark at. let within : k < length (replicate count Unseen) = slice_get_within (replicate count Unseen) k mark at in
     let low : k < count = omega (arith, within, length-replicate count Unseen) in
@@ -161,10 +173,11 @@ Fits-new graph walk count is closed marks turns live path roots done next least 
         backward = λ i j p q at other leads. absurd (nothing p i at);
       });
       begun = rw (marks, next) (record {
+        few = omega (arith, low, is);
         as_many = length-replicate count Unseen ∙ is;
         within = omega arith;
         closed = closed;
-        seen = λ k low mark. omega (arith, low);
+        seen = λ k before mark. omega (arith, before);
       });
     }
 

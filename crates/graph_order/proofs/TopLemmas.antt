@@ -1,7 +1,11 @@
 -- What is known at the path's last node, and what each of its moves leaves.
-use Rattle.std.proofs.Common.{◌≡◌, ℕ, zero, suc, ◌-◌, ◌<◌, ◌≤◌, List, [], length, get_or, min, Option, None, Some, refl, sym, ap, subst, ◌∙◌, inl, inr, ⊎_elim, arith}
+use Rattle.std.proofs.Common.{◌≡◌, ◌≢◌, ℕ, zero, suc, ◌-◌, ◌^◌, ◌<◌, ◌≤◌, List, [], length, get_or, min, Option, None, Some, refl, sym, ap, subst, ◌∙◌, inl, inr, ⊎_elim, arith}
 use Rattle.std.specs.Prelude.{AllPairs, Contains, slice_get}
-use Rattle.std.proofs.lemmas.Bool.{cases_lt}
+use Rattle.std.proofs.lemmas.Bool.{cases_lt, eqb-true}
+use Rattle.std.proofs.lemmas.Bool.Decides.{Decides-eqb}
+use Rattle.std.proofs.lemmas.Map.Made.{IsDistinct-from_AllPairs}
+use Rattle.std.proofs.lemmas.Map.Steps.{length-le_from_distinct_below}
+use Rattle.std.proofs.lemmas.Map.Views.{Contains-from_any}
 use Rattle.std.proofs.lemmas.Option.{slice_get_within, slice_get-get_or, slice_get_read, get_or_from_slice_get}
 use Rattle.std.proofs.lemmas.List.{get_or_default}
 use Rattle.std.proofs.lemmas.List.Elements.{Contains-get_or}
@@ -13,7 +17,8 @@ use Rattle.graph_order.specs.declared.walk.Walk.{Walk}
 use Rattle.graph.specs.Chains.{Chain, IsOnLoop, Reaches}
 use Rattle.graph.specs.Edges.{Leads}
 use Rattle.graph_order.specs.Walk.{AtMost, Closes, Enters, Fits, Goes, Leaves, Merges, Passes, end_at, least_of}
-use Rattle.graph_order.proofs.WalkLemmas.{differ, Reaches-step}
+use Rattle.graph_order.proofs.ListLemmas.{Contains-at}
+use Rattle.graph_order.proofs.WalkLemmas.{differ, same_place, Reaches-step}
 use Rattle.graph_order.proofs.MoveLemmas.{Goes-enter, Goes-leave, Goes-merge, Goes-pass, Goes-close}
 
 -- what a done node reaches is done
@@ -33,6 +38,22 @@ last_greatest xs x k rises last on =
 
 pub mark-is : (marks : List Mark) (i : ℕ) (x mark : Mark) → i < length marks → x ≡ get_or marks i x → x ≡ mark → slice_get marks i ≡ Some mark
 mark-is marks i x mark low at is = slice_get_read marks (length marks) i x refl low at ∙ ap (λ (m : Mark). Some m) is
+
+-- each live node has one place, so no more are live than there are nodes
+pub live-few : (graph : List (List ℕ)) (walk : Walk) → Fits graph walk → length walk.live.items < 2 ^ 32
+live-few graph walk fits =
+    let marks = walk.marks.items in
+    let live = walk.live.items in
+    let once : AllPairs (λ p q. p ≢ q) live =
+    λ i j d before low same. omega (
+      arith,
+      before,
+      same_place marks (get_or live i d) i j (fits.nodes.placed (get_or live i d) i (slice_get-get_or live i d (omega (arith, before, low))))
+          (fits.nodes.placed (get_or live i d) j (slice_get-get_or live j d low ∙ ap (λ (k : ℕ). Some k) (sym same))),
+    ) in
+    let few : length live ≤ length marks = length-le_from_distinct_below live (length marks) (IsDistinct-from_AllPairs Decides-eqb live once)
+    (λ q any. let at = Contains-at live q (Contains-from_any eqb-true q live any) in slice_get_within marks q (Live at.0) (fits.nodes.placed q at.0 at.1)) in
+    omega (arith, few, fits.begun.as_many, fits.begun.few)
 
 least_of-node : (least : Option ℕ) (node : ℕ) → least_of least node ≤ node
 least_of-node None node = omega arith

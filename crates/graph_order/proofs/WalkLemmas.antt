@@ -132,6 +132,7 @@ module _ (graph : List (List ℕ)) (marks : List Mark) (turns live path roots : 
 
   pub IsBegun-enter : (next : ℕ) → IsBegun graph marks next → IsBegun graph (set marks node (Live (length live))) next
   IsBegun-enter next is = record {
+    few = is.few;
     as_many = length-set marks node (Live (length live)) ∙ is.as_many;
     within = is.within;
     closed = is.closed;
@@ -142,6 +143,7 @@ module _ (graph : List (List ℕ)) (marks : List Mark) (turns live path roots : 
 
 pub IsBegun-next : (graph : List (List ℕ)) (marks : List Mark) (next : ℕ) → IsBegun graph marks next → next < length graph → (slice_get marks next ≡ Some Unseen → ⊥) → IsBegun graph marks (next + 1)
 IsBegun-next graph marks next is low seen = record {
+  few = is.few;
   as_many = is.as_many;
   within = omega arith;
   closed = is.closed;

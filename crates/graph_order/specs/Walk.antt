@@ -1,8 +1,7 @@
--- A walk along every edge, depth first, which finds the least node on a loop and, if there is none, an order.
-use Rattle.std.specs.Prelude.{◌≡◌, ℕ, zero, suc, ◌+◌, ◌-◌, ◌<◌, ◌≤◌, ◌≢◌, ◌⊎◌, List, [], ◌∷◌, ◌++◌, length, take, drop, reverse, min, AllPairs, Contains, IfNone, IfSome, Option, Some, None, slice_get, slice_index, slice_index_or, slice_set}
-use Rattle.graph.specs.Chains.{HasNoLoop, IsOnLoop, Reaches}
+-- A walk along every edge that is reached from the nodes below a number, depth first: the least node on a loop and, if there is none, an order.
+use Rattle.std.specs.Prelude.{◌≡◌, ℕ, zero, suc, ◌+◌, ◌-◌, ◌^◌, ◌<◌, ◌≤◌, ◌≢◌, ◌⊎◌, List, [], ◌∷◌, ◌++◌, length, take, drop, reverse, min, AllPairs, Contains, IfNone, Option, Some, None, slice_get, slice_index, slice_index_or, slice_set}
+use Rattle.graph.specs.Chains.{IsOnLoop, Reaches}
 use Rattle.graph.specs.Edges.{Leads}
-use Rattle.graph_order.specs.Loops.{IsFirstOnLoop}
 use Rattle.graph_order.specs.Order.{IsOrder}
 use Rattle.graph_order.specs.declared.walk.Mark.{Mark}
 use Rattle.graph_order.specs.declared.walk.Mark.TheVariants.{Unseen, Live, Done}
@@ -75,6 +74,7 @@ pub record IsDone (graph : List (List ℕ)) (marks : List Mark) (done : List ℕ
 
 -- every node below the next one was seen
 pub record IsBegun (graph : List (List ℕ)) (marks : List Mark) (next : ℕ) : Type 0 where
+  pub few : length graph < 2 ^ 32
   pub as_many : length marks ≡ length graph
   pub within : next ≤ length graph
   pub closed : (p q : ℕ) → Leads graph p q → q < length graph
@@ -88,11 +88,12 @@ pub record Fits (graph : List (List ℕ)) (walk : Walk) : Type 0 where
   pub done : IsDone graph walk.marks.items walk.done.items
   pub begun : IsBegun graph walk.marks.items walk.next
 
--- the walk is over: the least node on a loop or, if there is none, an order
-pub record IsOver (graph : List (List ℕ)) (done : List ℕ) (least : Option ℕ) : Type 0 where
-  pub first : IfSome least (IsFirstOnLoop graph)
-  pub no_loop : IfNone least (HasNoLoop (Leads graph))
-  pub order : IfNone least (IsOrder graph (reverse done))
+-- the walk from the nodes below the number is over: each of them that lies on a loop was told and, if these were all
+-- nodes and there is no loop, here is an order
+pub record IsOver (graph : List (List ℕ)) (count : ℕ) (done : List ℕ) (least : Option ℕ) : Type 0 where
+  pub on_loop : (p : ℕ) → least ≡ Some p → IsOnLoop (Leads graph) p
+  pub told : (p : ℕ) → p < count → IsOnLoop (Leads graph) p → AtMost least p
+  pub order : length graph ≤ count → IfNone least (IsOrder graph (reverse done))
 
 -- ---- how many steps are left, at most
 
@@ -123,10 +124,10 @@ steps_left graph walk =
 abbrev pub Goes : List (List ℕ) → Walk → Walk → Type 0
 Goes graph before after = Fits graph after × (steps_left graph after < steps_left graph before)
 
-abbrev pub MatchStep : List (List ℕ) → Walk → Walk → Step → Type 0
-MatchStep graph before after On = Goes graph before after
-MatchStep graph before after Over =
-    Fits graph after × (after.path.items ≡ []) × (after.next ≡ length graph)
+abbrev pub MatchStep : List (List ℕ) → (starts : ℕ) → Walk → Walk → Step → Type 0
+MatchStep graph starts before after On = Goes graph before after
+MatchStep graph starts before after Over =
+    Fits graph after × (after.path.items ≡ []) × (starts ≤ after.next)
 
 pub record Enters (node : ℕ) (before after : Walk) : Type 0 where
   pub marks : after.marks.items

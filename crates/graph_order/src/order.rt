@@ -18,7 +18,7 @@ pub fn order(alloc: Global, graph: &Graph) -> Result<Option<Vec<u32>>, AllocErro
     ensures no_loop { IfOk result (λ found. IfSome found (λ _. HasNoLoop (Leads graph.now))) }
     ensures a_loop { IfOk result (λ found. IfNone found (HasLoop graph.now)) }
 {
-    let mut walked = Walk::along(alloc, graph)?;
+    let mut walked = Walk::along(alloc, graph, graph.node_count())?;
     if walked.least.is_some() {
         return Ok(None);
     }

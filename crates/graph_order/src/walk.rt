@@ -1,4 +1,5 @@
-//! A walk along every edge of a graph, depth first: what lies on a loop, and else an order.
+//! A walk along every edge that is reached from the nodes below a number, depth first: what lies on a loop, and else
+//! an order.
 //!
 //! A node is live from when it is entered until all that it reaches is done. The live nodes stand in the order
 //! in which they were entered, and some of their places are roots: nodes from one root up to the next reach one
@@ -13,12 +14,12 @@ ghost use Rattle.graph_order.specs.Walk.{Merges, Passes, least_of};
 use graph::edges::Graph;
 use std::alloc::{AllocError, Global};
 
-/// How far a node's turn has come.
+/// How far a node's turn has come. No more nodes are live than there are, so a place is a `u32`, and a mark takes 8 bytes.
 #[derive(Clone, Copy)]
 pub(crate) enum Mark {
     Unseen,
     /// It is live, at this place.
-    Live(usize),
+    Live(u32),
     /// All that it reaches is done.
     Done,
 }
@@ -27,7 +28,7 @@ pub(crate) enum Mark {
 pub(crate) enum Step {
     /// Another step is to come.
     On,
-    /// All nodes are done.
+    /// All that is to be reached is done.
     Over,
 }
 
@@ -53,20 +54,22 @@ pub(crate) struct Walk {
 /// What a whole walk found.
 #[derive(Drop)]
 pub(crate) struct Walked {
-    /// All nodes, in the order in which they were done.
+    /// The nodes that were reached, in the order in which they were done.
     pub(crate) done: Vec<u32>,
     /// The least node that lies on a loop.
     pub(crate) least: Option<u32>,
 }
 
 impl Walk {
-    /// The whole walk. The time grows with the nodes and edges.
-    pub(crate) fn along(alloc: Global, graph: &Graph) -> Result<Walked, AllocError>
-        ensures { IfOk result (λ walked. IsOver graph.now walked.done.items walked.least) }
+    /// The whole walk, from the nodes below this number. The time grows with them, and with the nodes and edges that
+    /// they reach; all nodes are gone over once, to make the marks.
+    pub(crate) fn along(alloc: Global, graph: &Graph, count: u32) -> Result<Walked, AllocError>
+        ensures { IfOk result (λ walked. IsOver graph.now count walked.done.items walked.least) }
     {
+        let starts = count.min(graph.node_count());
         let mut walk = Walk::new(alloc, graph)?;
         loop {
-            match walk.step(graph)? {
+            match walk.step(graph, starts)? {
                 Step::On => {}
                 Step::Over => break,
             }
@@ -93,13 +96,14 @@ impl Walk {
         })
     }
 
-    /// One step.
-    fn step(&mut self, graph: &Graph) -> Result<Step, AllocError>
-        requires { Fits graph.now self.old }
-        ensures { IfOk result (MatchStep graph.now self.old self.new) }
+    /// One step. Paths begin at the nodes below this number.
+    fn step(&mut self, graph: &Graph, starts: u32) -> Result<Step, AllocError>
+        requires within { starts ≤ length graph.now }
+        requires fits { Fits graph.now self.old }
+        ensures { IfOk result (MatchStep graph.now starts self.old self.new) }
     {
         match self.path.last().copied() {
-            None => self.begin(graph),
+            None => self.begin(graph, starts),
             Some(place) => {
                 self.go_on(graph, place)?;
                 Ok(Step::On)
@@ -108,12 +112,13 @@ impl Walk {
     }
 
     /// A step where the path is empty: the next node is entered or, if it is done, passed over.
-    fn begin(&mut self, graph: &Graph) -> Result<Step, AllocError>
+    fn begin(&mut self, graph: &Graph, starts: u32) -> Result<Step, AllocError>
+        requires within { starts ≤ length graph.now }
         requires fits { Fits graph.now self.old }
         requires empty { self.old.path.items ≡ [] }
-        ensures { IfOk result (MatchStep graph.now self.old self.new) }
+        ensures { IfOk result (MatchStep graph.now starts self.old self.new) }
     {
-        if self.next == graph.node_count() {
+        if self.next >= starts {
             return Ok(Step::Over);
         }
         match self.marks[self.next as usize] {
@@ -145,7 +150,7 @@ impl Walk {
         match self.marks[end as usize] {
             Mark::Unseen => self.enter(end)?,
             Mark::Live(to) => {
-                if to < root {
+                if (to as usize) < root {
                     self.merge(root)
                 } else {
                     self.pass(node, Some(least_with(self.least, node)))
@@ -158,14 +163,15 @@ impl Walk {
 
     /// Puts a node at the end of the live nodes, the path and the roots.
     fn enter(&mut self, node: u32) -> Result<(), AllocError>
-        requires { node < length self.old.marks.items }
+        requires within { node < length self.old.marks.items }
+        requires room { length self.old.live.items < 2 ^ 32 }
         ensures { OnOk result (Enters node self.old self.new) }
     {
         let place = self.live.len();
         self.live.push(node)?;
         self.path.push(place)?;
         self.roots.push(place)?;
-        self.marks[node as usize] = Mark::Live(place);
+        self.marks[node as usize] = Mark::Live(place as u32);
         Ok(())
     }
 

@@ -1,10 +1,10 @@
--- The first looped rule is the least node on a loop, where that is a rule.
-use Rattle.std.proofs.Common.{ℕ, ◌<◌, ◌≤◌, List, arith}
-use Rattle.std.specs.Prelude.{Contains, ◌↔◌}
+-- The first looped rule is the least node on a loop that is a rule.
+use Rattle.std.proofs.Common.{ℕ, ◌<◌, List, Option, None, Some, Result, Ok, Err}
+use Rattle.std.specs.Prelude.{Contains, IfNone, IfOk, IfSome, ◌↔◌}
+use Rattle.std.specs.declared.alloc.AllocError.{AllocError}
 use Rattle.std.proofs.lemmas.List.Elements.{All-contains}
-use Rattle.graph.specs.Chains.{HasNoLoop}
 use Rattle.graph.specs.Edges.{Leads}
-use Rattle.graph_order.specs.Loops.{IsFirstOnLoop}
+use Rattle.graph_order.specs.Loops.{HasNoLoopBelow, IsFirstOnLoop}
 use Rattle.graph_rules.specs.declared.rules.Rules.{Rules}
 use Rattle.graph_rules.specs.Loops.{edges_in, IsLink}
 use Rattle.graph_rules.specs.Rules as rules
@@ -19,17 +19,18 @@ module _ (r : Rules) (within : AreWithin r) (graph : List (List ℕ)) (leads : (
   rule-below : (rule : ℕ) → IsLooped r rule → rule < r.count
   rule-below rule (d, m, ((node, at, stands), has), chain) = (All-contains (IsOfRule r.count r.nodes) r.dependents.items (edge rule node) within.dependents at).rule
 
-  pub none-looped : HasNoLoop (Leads graph) → rules.HasNoLoop r
-  none-looped none rule looped = let loop = looped-to r within (Leads graph) through rule looped in none loop.0 rule loop.1
-
-  pub first-looped : (p : ℕ) → p < r.count → IsFirstOnLoop graph p → IsFirstLooped r p
+  first-looped : (p : ℕ) → p < r.count → IsFirstOnLoop graph p → IsFirstLooped r p
   first-looped p low is = record {
     looped = looped-from r within (Leads graph) through p low is.on_loop;
     first = λ earlier before looped. is.first earlier before (looped-to r within (Leads graph) through earlier looped);
   }
 
-  -- Rules have the lowest numbers: where the least node on a loop isn't one, none is.
-  pub none-before : (p : ℕ) → r.count ≤ p → IsFirstOnLoop graph p → rules.HasNoLoop r
-  none-before p past is rule looped =
-      let low = rule-below rule looped in
-      is.first rule (omega (arith, low, past)) (looped-to r within (Leads graph) through rule looped)
+  pub first-found : (found : Result (Option ℕ) AllocError) → IfOk found (λ f. IfSome f (IsFirstOnLoop graph)) → IfOk found (λ f. IfSome f (λ p. p < r.count)) → IfOk found (λ f. IfSome f (IsFirstLooped r))
+  first-found (Ok (Some p)) is low = first-looped p low is
+  first-found (Ok None) is low = tt
+  first-found (Err e) is low = tt
+
+  pub none-found : (found : Result (Option ℕ) AllocError) → IfOk found (λ f. IfNone f (HasNoLoopBelow graph r.count)) → IfOk found (λ f. IfNone f (rules.HasNoLoop r))
+  none-found (Ok None) none = λ rule looped. none rule (rule-below rule looped) (looped-to r within (Leads graph) through rule looped)
+  none-found (Ok (Some p)) none = tt
+  none-found (Err e) none = tt

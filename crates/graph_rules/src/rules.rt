@@ -5,7 +5,7 @@ ghost use Rattle.graph_rules.specs.Rules.{AreWithin, HasNoLoop, IsFirstLooped};
 
 use crate::edges::edges_of;
 use graph::edges::{Edge, Graph};
-use graph_order::loops::first_on_loop;
+use graph_order::loops::first_on_loop_below;
 use std::alloc::{AllocError, Global};
 
 /// Rules over the nodes of a graph. A node stands for the objects to whose nodes chains of edges lead from it, an object's
@@ -42,15 +42,6 @@ impl Rules {
         }
         let edges = edges_of(alloc, self)?;
         let graph = Graph::new(alloc, nodes as u32, edges.as_slice())?;
-        match first_on_loop(alloc, &graph)? {
-            None => Ok(None),
-            Some(node) => {
-                if node < self.count {
-                    Ok(Some(node))
-                } else {
-                    Ok(None)
-                }
-            }
-        }
+        first_on_loop_below(alloc, &graph, self.count)
     }
 }

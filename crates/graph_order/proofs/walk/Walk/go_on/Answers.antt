@@ -5,7 +5,7 @@ use Rattle.std.proofs.lemmas.Option.{slice_get-get_or, slice_get_within, unwrap_
 use Rattle.std.proofs.lemmas.Result.{IfOk-weaker}
 use Rattle.graph_order.specs.declared.walk.Mark.TheVariants.{Unseen, Live, Done}
 use Rattle.graph_order.specs.Walk.{Closes, Goes, Passes}
-use Rattle.graph_order.proofs.TopLemmas.{mark-is, place_low, node_low, turn_is, turn_low, end_low, root_last, top-leave, top-close, top-enter, top-merge, top-pass, top-pass_back}
+use Rattle.graph_order.proofs.TopLemmas.{live-few, mark-is, place_low, node_low, turn_is, turn_low, end_low, root_last, top-leave, top-close, top-enter, top-merge, top-pass, top-pass_back}
 use Rattle.graph_order.proofs.walk.Walk.go_on.Goals as goal
 
 pub index-node-requires : goal.index-node-requires
@@ -66,8 +66,11 @@ index-requires c =
     let more : c.index-turn.result.now < length (get_or c.args.graph.now c.index-node.result.now []) = subst (λ (ends : List ℕ). c.index-turn.result.now < length ends) c.ends-ends.ensures.value low in
     omega (arith, c.args.self.now.marks.ok.0, end_low c.args.graph.now c.args.self.now c.args.place c.index-node.result.now c.requires.fits c.requires.last c.index-node.ensures c.index-turn.result.now end turn more (ap (λ (ends : List ℕ). get_or ends c.index-turn.result.now 0) c.ends-ends.ensures.value))
 
-pub enter-requires : goal.enter-requires
-enter-requires c =
+pub enter-requires-clause-room : goal.enter-requires-clause-room
+enter-requires-clause-room c = live-few c.args.graph.now c.args.self.now c.requires.fits
+
+pub enter-requires-clause-within : goal.enter-requires-clause-within
+enter-requires-clause-within c =
     let turn : c.index-turn.result.now ≡ get_or c.args.self.now.turns.items c.index-node.result.now 0 = turn_is c.args.graph.now c.args.self.now c.args.place c.index-node.result.now c.requires.fits c.requires.last c.index-node.ensures c.index-turn.result.now c.index-turn.ensures in
     let low : c.index-turn.result.now < length c.ends-ends.result.now = turn_low c.args.graph.now c.args.self.now c.args.place c.index-node.result.now c.requires.fits c.requires.last c.index-node.ensures c.index-turn.result.now c.index-turn.ensures c.ends-ends.result.now c.ends-ends.ensures.value c.if-turn-ends.false in
     let end = get_or c.ends-ends.result.now c.index-turn.result.now 0 in

@@ -4,7 +4,7 @@ use Rattle.graph.specs.declared.edges.Edge.{Edge}
 use Rattle.graph.specs.Edges.{IsWithin, Leads}
 use Rattle.graph_rules.specs.Rules.{edge}
 use Rattle.graph_rules.proofs.LinkLemmas.{all-within}
-use Rattle.graph_rules.proofs.LoopLemmas.{first-looped, none-before, none-looped}
+use Rattle.graph_rules.proofs.LoopLemmas.{first-found, none-found}
 use Rattle.graph_rules.proofs.rules.Rules.first_looped.Goals as goal
 
 pub new-requires : goal.new-requires
@@ -13,20 +13,14 @@ new-requires c =
     subst (λ (es : List Edge). All (IsWithin (r.count + r.nodes + r.nodes)) es) (sym (c.as_slice.ensures.value ∙ c.in_ok-edges.ensures))
     (all-within r c.requires (r.count + r.nodes + r.nodes) refl)
 
-pub returns-in-None-clause-no_loop : goal.returns-in-None-clause-no_loop
-returns-in-None-clause-no_loop c =
-    none-looped c.args.self.now c.requires c.in_ok-graph.graph
+pub returns-clause-first : goal.returns-clause-first
+returns-clause-first c =
+    first-found c.args.self.now c.requires c.in_ok-graph.graph
     (subst (λ (es : List Edge). (p q : ℕ) → Leads c.in_ok-graph.graph p q ↔ Contains es (edge p q)) (c.as_slice.ensures.value ∙ c.in_ok-edges.ensures) c.in_ok-graph.ensures.leads)
-    (rw c.in-None.is at c.in_ok-first_on_loop.ensures.no_loop)
-
-pub returns-then-node-self-clause-first : goal.returns-then-node-self-clause-first
-returns-then-node-self-clause-first c =
-    first-looped c.args.self.now c.requires c.in_ok-graph.graph
-    (subst (λ (es : List Edge). (p q : ℕ) → Leads c.in_ok-graph.graph p q ↔ Contains es (edge p q)) (c.as_slice.ensures.value ∙ c.in_ok-edges.ensures) c.in_ok-graph.ensures.leads)
-    c.in-Some.node c.if-node-self.true (rw c.in-Some.is at c.in_ok-first_on_loop.ensures.first)
+    c.first_on_loop_below.result c.first_on_loop_below.ensures.first c.first_on_loop_below.ensures.below
 
 pub returns-clause-no_loop : goal.returns-clause-no_loop
 returns-clause-no_loop c =
-    none-before c.args.self.now c.requires c.in_ok-graph.graph
+    none-found c.args.self.now c.requires c.in_ok-graph.graph
     (subst (λ (es : List Edge). (p q : ℕ) → Leads c.in_ok-graph.graph p q ↔ Contains es (edge p q)) (c.as_slice.ensures.value ∙ c.in_ok-edges.ensures) c.in_ok-graph.ensures.leads)
-    c.in-Some.node c.if-node-self.false (rw c.in-Some.is at c.in_ok-first_on_loop.ensures.first)
+    c.first_on_loop_below.result c.first_on_loop_below.ensures.no_loop
