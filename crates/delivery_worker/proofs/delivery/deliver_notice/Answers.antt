@@ -35,3 +35,15 @@ returns-in-Asked-clause-tries_asked g c = λ _.
 pub returns-clause-tries_failed : goal.returns-clause-tries_failed
 returns-clause-tries_failed g c = λ _.
     tried_of_letter _ _ _ _ _ _ _ _ _ _ _ c.keep_room.ensures.limit c.in-Ok.ensures.text c.keep_room.ensures.failures c.in-Failed.ensures.tries
+
+pub returns-clause-tries_asked : goal.returns-clause-tries_asked
+returns-clause-tries_asked g c = search rules
+
+pub returns-clause-asked : goal.returns-clause-asked
+returns-clause-asked g c = search rules
+
+pub returns-clause-no_tries : goal.returns-clause-no_tries
+returns-clause-no_tries g c = search rules
+
+pub returns-clause-memory : goal.returns-clause-memory
+returns-clause-memory g c = search rules
