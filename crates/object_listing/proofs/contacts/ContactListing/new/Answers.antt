@@ -1,4 +1,4 @@
-use Rattle.std.proofs.Common.{◌≡◌, ◌∙◌, arith, ap, Bool, false, get_or, length, List, subst, sym}
+use Rattle.std.proofs.Common.{rules, ◌≡◌, ◌∙◌, arith, ap, Bool, false, get_or, length, List, subst, sym}
 use Rattle.std.specs.Prelude.{slice_index_or}
 use Rattle.object_listing.specs.Contacts.{AddsList, HasLists, lists_in}
 use Rattle.object_listing.specs.Listing.{ListingOf}
@@ -32,3 +32,6 @@ invariant_of-result c =
     let end : c.loop-place.place ≡ length asked = omega (arith, long, c.loop-place.auto.place-end, c.loop-place-test.false) in
     subst (λ (bs : List Block). HasLists bs asked lists c.loop-place.numbers.items) (sym c.blocks-2.ensures.value)
     (lists-all c.args.templates.now asked c.loop-place.place lists c.loop-place.numbers.items end c.loop-place.invariant.below)
+
+pub list_number-requires-clause-sources : goal.list_number-requires-clause-sources
+list_number-requires-clause-sources c = search rules
