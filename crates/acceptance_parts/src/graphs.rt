@@ -4,7 +4,7 @@ ghost use Rattle.std.specs.Prelude.{◌≡◌, length, IfOk};
 
 use graph::edges::{Edge, Graph};
 use graph::reach::Reach;
-use graph_order::loops::first_on_loop;
+use graph_order::loops::{first_on_loop, first_on_loop_below};
 use graph_order::order::order;
 use std::alloc::{AllocError, Global};
 use std::process::Abort;
@@ -12,6 +12,69 @@ use std::test::Fail;
 
 /// How many nodes the long chain has.
 const LONG: u32 = 100_000;
+
+/// Edges between five nodes, a number, and the first node on a loop, if it is below that number.
+struct Below {
+    edges: &'static [(u32, u32)],
+    count: u32,
+    first: Option<u32>,
+}
+
+const BELOW: [Below; 9] = [
+    // a loop that no node below the number leads to
+    Below {
+        edges: &[(0, 1), (3, 4), (4, 3)],
+        count: 3,
+        first: None,
+    },
+    // node 0 leads to a loop of 3 and 4
+    Below {
+        edges: &[(0, 3), (3, 4), (4, 3)],
+        count: 3,
+        first: None,
+    },
+    // a loop of 1 and 3
+    Below {
+        edges: &[(1, 3), (3, 1)],
+        count: 2,
+        first: Some(1),
+    },
+    // of two loops the one of 1, though 0 leads to the other
+    Below {
+        edges: &[(0, 2), (2, 2), (1, 4), (4, 1)],
+        count: 3,
+        first: Some(1),
+    },
+    // 0 leads to a loop of 4, and 1 is on another
+    Below {
+        edges: &[(0, 4), (4, 4), (1, 1)],
+        count: 2,
+        first: Some(1),
+    },
+    // the number itself is not below it, and the one before is
+    Below {
+        edges: &[(2, 2)],
+        count: 2,
+        first: None,
+    },
+    Below {
+        edges: &[(2, 2)],
+        count: 3,
+        first: Some(2),
+    },
+    // no node is below 0
+    Below {
+        edges: &[(0, 0)],
+        count: 0,
+        first: None,
+    },
+    // more than there are nodes
+    Below {
+        edges: &[(4, 4)],
+        count: u32::MAX,
+        first: Some(4),
+    },
+];
 
 /// The graph of these edges.
 fn graph_of(
@@ -43,6 +106,12 @@ fn gives(
     let found = order(alloc, graph)?;
     assert_eq!(rt; found.as_deref(), nodes);
     assert_eq!(rt; first_on_loop(alloc, graph)?, on_loop);
+    Ok(())
+}
+
+/// Compares the first node on a loop, if it is below the row's number.
+fn gives_below(rt: &impl Abort, alloc: Global, graph: &Graph, row: &Below) -> Result<(), Fail> {
+    assert_eq!(rt; first_on_loop_below(alloc, graph, row.count)?, row.first);
     Ok(())
 }
 
@@ -118,6 +187,15 @@ fn long_chain_in_order(rt: HostRuntime) -> Result<(), Fail> {
     let mut reach = Reach::new(rt.alloc(), LONG)?;
     reaches(&rt, &mut reach, &graph, 0, nodes.as_slice());
     reaches(&rt, &mut reach, &graph, LONG - 1, &[LONG - 1]);
+    Ok(())
+}
+
+#[test]
+fn first_on_a_loop_below_a_number(rt: HostRuntime) -> Result<(), Fail> {
+    for row in &BELOW {
+        let graph = graph_of(&rt, rt.alloc(), 5, row.edges)?;
+        gives_below(&rt, rt.alloc(), &graph, row)?;
+    }
     Ok(())
 }
 
