@@ -2,7 +2,8 @@
 
 ghost use Rattle.std.specs.Prelude.{◌≡◌, ◌+◌, ◌++◌, [], length, map, replicate, take, IfOk, IsOk};
 ghost use Rattle.due_model.specs.Limits.{max_objects};
-ghost use Rattle.acceptance_inputs.specs.Tables.{contact_of, escalation_of, host_rights, mail, object_of, rights_of};
+ghost use Rattle.acceptance_inputs.specs.Tables.{contact_of, escalation_of, host_rights, mail};
+ghost use Rattle.acceptance_inputs.specs.Tables.{object_of, rights_of};
 
 use crate::periods::Row;
 use due_model::config::{
