@@ -7,7 +7,7 @@ ghost use Rattle.clap.specs.Values.{kind_of};
 ghost use Rattle.command_output.specs.Outcome.{outcome_status};
 ghost use Rattle.command_line.specs.Words.{AreSettingsFit, AreTwo, request_zone};
 ghost use Rattle.notify_run.specs.Refusal.{refusal_status};
-ghost use Rattle.notify_run.specs.Zones.{zone_fault_status};
+ghost use Rattle.notify_run.specs.Zones.{IsBadRule, zone_fault_status};
 ghost use Rattle.sending.specs.Fault.{run_status};
 
 use clap::error::ErrorKind;
@@ -129,7 +129,8 @@ fn status_of_run<R: Eprint>(rt: &R, outcome: Result<Ending, RunFault<'_>>) -> Ex
 /// Does what is asked, and gives the exit status. The zone is read before anything else.
 fn status_of_request(rt: &HostRuntime, request: Request<'_, '_>) -> ExitCode
     requires { AreSettingsFit request }
-    ensures { AreTwo (request_zone request.entry) → exit_status result ≡ 2 }
+    ensures two { AreTwo (request_zone request.entry) → exit_status result ≡ 2 }
+    ensures rule { IsBadRule (request_zone request.entry) → exit_status result ≡ 2 }
 {
     let words = request.zone();
     let zone = match zone_of(rt, words.rule, words.file) {

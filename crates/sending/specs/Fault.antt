@@ -45,6 +45,16 @@ pub record AreChecked (known : Option (List ℕ)) (names : List (List ℕ)) (con
   pub text : IsFileOf config known
   pub lanes_are : AreLanesOf config names lanes
 
+-- What was right before the channels were opened: the shape of the texts of all words, the object text, and by its
+-- configuration the names of the words.
+pub record AreRight (texts : List (List ℕ)) : Type 0 where
+  pub words : List ChannelWord
+  pub read : AreRead texts words
+  pub config : Config
+  pub accepted : IsAccepted config
+  pub lanes : List LaneId
+  pub lanes_are : AreLanesOf config (names_of words) lanes
+
 -- First the shape of the texts of all words; the rest is only looked at where that is right.
 abbrev pub RunFails : (texts : List (List ℕ)) → RunFault → Type 0
 RunFails texts (Channel fault) =

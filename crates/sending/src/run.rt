@@ -1,10 +1,10 @@
 //! A run: its checks in their order, its channels, and the feed.
 
-ghost use Rattle.std.specs.Prelude.{◌≡◌, [], map, unwrap_or, IfErr, IfOk};
+ghost use Rattle.std.specs.Prelude.{◌≡◌, [], map, unwrap_or, IfErr, IfOk, MatchResult};
 ghost use Rattle.std.specs.Option.{option_map};
 ghost use Rattle.channel_words.specs.Lanes.{names_of};
 ghost use Rattle.due_model.specs.Accepted.{IsAccepted};
-ghost use Rattle.sending.specs.Fault.{AreChecked, ChecksFail, IsCommandFault, RunFails};
+ghost use Rattle.sending.specs.Fault.{AreChecked, AreRight, ChecksFail, IsCommandFault, RunFails};
 
 use crate::channels::{OpenedChannel, open_channels};
 use crate::fault::RunFault;
@@ -32,10 +32,10 @@ pub fn do_run<'a>(
     settings: Settings,
     channels: Option<&[&'a str]>,
 ) -> Result<Ending, RunFault<'a>>
-    // What it fails with, and that the earlier checks went well.
-    ensures fault { let texts = map (λ text. text.now)
+    // It is done only where all checks of the words went well. What it fails with, and that the earlier checks went well.
+    ensures { let texts = map (λ text. text.now)
         (unwrap_or (option_map (λ given. given.now) channels.entry) [])
-        in IfErr result (RunFails texts) }
+        in MatchResult result (λ _. AreRight texts) (RunFails texts) }
 {
     let alloc = rt.alloc();
     let words = read_words(alloc, texts_of(channels))?;
