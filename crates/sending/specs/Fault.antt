@@ -45,8 +45,8 @@ pub record AreChecked (known : Option (List ℕ)) (names : List (List ℕ)) (con
   pub text : IsFileOf config known
   pub lanes_are : AreLanesOf config names lanes
 
--- What was right before the channels were opened: the shape of the texts of all words, the object text, and by its
--- configuration the names of the words.
+-- What was right before the channels were opened: the shape of the texts of all words and, by an accepted configuration,
+-- their names.
 pub record AreRight (texts : List (List ℕ)) : Type 0 where
   pub words : List ChannelWord
   pub read : AreRead texts words
