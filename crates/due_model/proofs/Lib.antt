@@ -1,2 +1,3 @@
 pub mod ObjectIndex
 pub mod SameBytes
+pub mod ByObjectLemmas

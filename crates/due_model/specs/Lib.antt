@@ -11,3 +11,4 @@ pub mod Due
 pub mod Accepted
 pub mod Proper
 pub mod Objects
+pub mod ByObject

@@ -4,6 +4,8 @@ ghost use Rattle.std.specs.Prelude.{◌≡◌};
 ghost use Rattle.due_model.specs.Due.{uses_lane};
 ghost use Rattle.due_model.specs.Escalations.{has_contact};
 
+use crate::dependencies::Dependencies;
+use crate::escalations::Escalations;
 use crate::objects::Objects;
 use crate::options::OptionLetters;
 use crate::sequence::Sequence;
@@ -155,6 +157,6 @@ pub struct Config {
     pub contacts: Sequence<Contact>,
     pub lanes: Sequence<Lane>,
     pub periods: Sequence<Period>,
-    pub escalations: Sequence<Escalation>,
-    pub dependencies: Sequence<Dependency>,
+    pub escalations: Escalations,
+    pub dependencies: Dependencies,
 }

@@ -3,6 +3,8 @@
 #![tactic(auto)]
 
 pub mod config;
+pub mod dependencies;
+pub mod escalations;
 pub mod event;
 pub mod limits;
 pub mod notice;

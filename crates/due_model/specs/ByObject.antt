@@ -1,0 +1,46 @@
+-- The escalations and the dependencies of one object, and how they are kept by their objects.
+use Rattle.std.specs.Prelude.{◌≡◌, ℕ, ◌==◌, Bool, false, List, [], length, filter, slice_get, slice_index_or, Some, None}
+use Rattle.std.specs.List.{range_with_len}
+use Rattle.due_model.specs.declared.config.Dependency.{Dependency}
+use Rattle.due_model.specs.declared.config.Escalation.{Escalation}
+
+-- whether the escalation at a place is one of object o
+abbrev pub is_of : List Escalation → (o place : ℕ) → Bool
+is_of es o place = elim (slice_get es place) as (λ _. Bool) [
+  | None ↦ false
+  | Some e ↦ e.object.0 == o
+]
+
+-- the places of the escalations of object o, among the first `count`
+abbrev pub places_below : List Escalation → (count o : ℕ) → List ℕ
+places_below es count o = filter (is_of es o) (range_with_len 0 count)
+
+-- the places of all escalations of object o, in their order
+abbrev pub places_of : List Escalation → ℕ → List ℕ
+places_of es o = places_below es (length es) o
+
+-- the entries whose dependent is object o, in their order
+abbrev pub entries_of : List Dependency → ℕ → List Dependency
+entries_of dependencies o = filter (λ entry. entry.dependent.0 == o) dependencies
+
+-- ---- how they are kept: a list for each object, and objects beyond the lists have none
+
+-- the lists have the places of all escalations
+abbrev pub ArePlaces : List Escalation → List (List ℕ) → Type 0
+ArePlaces es lists = (o : ℕ) → slice_index_or lists o [] ≡ places_of es o
+
+-- there are so many lists, and they have the places below `count`
+pub record HasPlaces (objects : ℕ) (es : List Escalation) (count : ℕ)
+    (lists : List (List ℕ)) : Type 0 where
+  pub as_many : length lists ≡ objects
+  pub places : (o : ℕ) → slice_index_or lists o [] ≡ places_below es count o
+
+-- the lists have all entries
+abbrev pub AreEntries : List Dependency → List (List Dependency) → Type 0
+AreEntries dependencies lists = (o : ℕ) → slice_index_or lists o [] ≡ entries_of dependencies o
+
+-- there are so many lists, and they have these entries
+pub record HasEntries (objects : ℕ) (dependencies : List Dependency)
+    (lists : List (List Dependency)) : Type 0 where
+  pub as_many : length lists ≡ objects
+  pub entries : AreEntries dependencies lists

@@ -1,0 +1,89 @@
+//! The escalations of a configuration, found by their objects.
+
+ghost use Rattle.std.specs.Prelude.{◌≡◌, ◌<◌, ◌≤◌, length, All, IfOk, vec_len};
+ghost use Rattle.due_model.specs.ByObject.{ArePlaces, HasPlaces, places_of};
+ghost use Rattle.due_model.specs.Limits.{max_escalations};
+
+use crate::config::{Escalation, ObjectId};
+use graph::lists::{Lists, ListsBuilder};
+use std::alloc::{AllocError, Global};
+use std::marker::Model;
+
+/// The escalations of a configuration, in their order, with an index of them by their objects (chapter "Notification
+/// Escalations"). The index takes 8 bytes an object and 4 an escalation. Contracts see the list of the escalations
+/// alone.
+#[derive(Drop)]
+pub struct Escalations {
+    items: Vec<Escalation>,
+    /// For each object the places of its escalations in `items`.
+    places: Lists<u32>,
+}
+
+impl Model for Escalations {
+    ghost use Rattle.std.specs.Prelude.{List};
+    ghost use Rattle.due_model.specs.declared.config.Escalation.{Escalation};
+    ghost use Rattle.due_model.specs.ByObject.{ArePlaces};
+
+    ghost Value = { List Escalation };
+
+    ghost view = { λ s. s.items.items };
+
+    ghost invariant = { λ s. ArePlaces s.items.items s.places };
+}
+
+impl Escalations {
+    /// The collection of these escalations, whose objects are among so many. The work grows with the objects and the
+    /// escalations. A refused growth drops the escalations.
+    pub fn new(alloc: Global, objects: usize, items: Vec<Escalation>) -> Result<Self, AllocError>
+        requires few { vec_len items ≤ max_escalations }
+        requires within { All (λ e. e.object.0 < objects) items.items }
+        ensures { IfOk result (λ escalations. escalations ≡ items.items) }
+    {
+        let places = places_by_object(alloc, objects, items.as_slice())?.build(alloc)?;
+        Ok(Escalations { items, places })
+    }
+
+    /// The escalations, in their order.
+    pub fn as_slice(&self) -> &[Escalation]
+        ensures { result.now ≡ self.now }
+    {
+        &self.items
+    }
+
+    /// How many escalations there are.
+    pub fn len(&self) -> usize
+        ensures { result ≡ length self.now }
+    {
+        self.items.len()
+    }
+
+    /// The places of the object's escalations, in their order. It reads those of no other object and takes no memory.
+    /// An object that has no escalation has no places, whether the configuration has it or not.
+    pub fn of(&self, object: ObjectId) -> &[u32]
+        ensures { result.now ≡ places_of self.now object.0 }
+    {
+        let number = usize::from(object.0);
+        if number < self.places.len() {
+            self.places.get(number)
+        } else {
+            &[]
+        }
+    }
+}
+
+/// The places of each object's escalations.
+fn places_by_object(
+    alloc: Global,
+    objects: usize,
+    escalations: &[Escalation],
+) -> Result<ListsBuilder<u32>, AllocError>
+    requires few { length escalations.now ≤ max_escalations }
+    requires within { All (λ e. e.object.0 < objects) escalations.now }
+    ensures { IfOk result (ArePlaces escalations.now) }
+{
+    let mut lists = ListsBuilder::with_room(alloc, objects, escalations.len())?;
+    for (place, escalation) in escalations.iter().enumerate() {
+        lists.push(usize::from(escalation.object.0), place as u32)?;
+    }
+    Ok(lists)
+}
