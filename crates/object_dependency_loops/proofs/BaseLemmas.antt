@@ -1,5 +1,5 @@
 -- The graph with which all begins: what its nodes lead to.
-use Rattle.std.proofs.Common.{◌≡◌, ℕ, zero, suc, ◌+◌, ◌<◌, ◌≤◌, ◌^◌, List, [], ◌∷◌, ◌++◌, length, map, get_or, refl, sym, ap, subst, ◌∙◌, ◌⊎◌, inl, inr, ⊎_elim, arith}
+use Rattle.std.proofs.Common.{◌≡◌, ℕ, Bool, true, false, zero, suc, ◌+◌, ◌<◌, ◌≤◌, ◌^◌, List, [], ◌∷◌, ◌++◌, length, map, get_or, refl, sym, ap, subst, ◌∙◌, ◌⊎◌, inl, inr, ⊎_elim, arith}
 use Rattle.std.specs.Prelude.{All, Contains, ◌↔◌}
 use Rattle.std.proofs.lemmas.Bool.{cases_lt}
 use Rattle.std.proofs.lemmas.List.{get_or_past}
@@ -24,7 +24,6 @@ use Rattle.object_groups.specs.ReachLaws.{list-edge, of-list}
 use Rattle.object_reader.specs.declared.block.BlockKind.TheVariants.{HostGroup, Service, ServiceGroup}
 use Rattle.object_service_groups.specs.Groups.{grouping as service_grouping, LeadsToMembers as LeadsToServices}
 use Rattle.object_service_groups.specs.Nodes.{first_group}
-use Rattle.object_service_groups.specs.Laws.{MembersAreServices}
 use Rattle.object_service_groups.specs.Members.{IsMember as IsServiceMember}
 
 -- ---- the edges of a graph whose nodes are moved
@@ -53,9 +52,13 @@ turn-edge start end count from to at =
 edge-turn : (start end count k : ℕ) → k < count → IsEdge (turn_edges start end count) (start + k) (end + k)
 edge-turn start end count k few = of-list ToNames start count (λ j. (end + j) ∷ []) k (end + k) few (Contains-here (end + k) [])
 
+-- a graph without nodes
+pub none-closed : (p q : ℕ) → Leads [] p q → q < 0
+none-closed p q led = absurd (Contains-none q led)
+
 -- ---- all edges
 
-module _ (hosts services : ℕ) (hg sg : List (List ℕ)) (host_few : hosts ≤ length hg) (service_few : services ≤ length sg)
+module _ (hosts services turned : ℕ) (hg sg : List (List ℕ)) (host_few : hosts ≤ length hg) (turned_few : turned ≤ services) (service_few : turned ≤ length sg)
     (host_closed : (p q : ℕ) → Leads hg p q → q < length hg) (service_closed : (p q : ℕ) → Leads sg p q → q < length sg) where
   abbrev first : ℕ
   first = hosts + services
@@ -67,7 +70,7 @@ module _ (hosts services : ℕ) (hg sg : List (List ℕ)) (host_few : hosts ≤ 
   last = hosts + services + length hg + length sg
 
   abbrev edges : List Edge
-  edges = base_edges hosts services hg sg
+  edges = base_edges hosts services turned hg sg
 
   abbrev one : List Edge
   one = graph_edges first hg
@@ -79,14 +82,14 @@ module _ (hosts services : ℕ) (hg sg : List (List ℕ)) (host_few : hosts ≤ 
   three = graph_edges second sg
 
   abbrev four : List Edge
-  four = turn_edges second hosts services
+  four = turn_edges second hosts turned
 
   -- what an edge is
   abbrev Link : ℕ → ℕ → Type 0
   Link from to = ((p : ℕ) × (q : ℕ) × Leads hg p q × (p < length hg) × (from ≡ first + p) × (to ≡ first + q))
       ⊎ (((k : ℕ) × (k < hosts) × (from ≡ first + k) × (to ≡ 0 + k))
       ⊎ (((p : ℕ) × (q : ℕ) × Leads sg p q × (p < length sg) × (from ≡ second + p) × (to ≡ second + q))
-      ⊎ ((k : ℕ) × (k < services) × (from ≡ second + k) × (to ≡ hosts + k))))
+      ⊎ ((k : ℕ) × (k < turned) × (from ≡ second + k) × (to ≡ hosts + k))))
 
   link : (from to : ℕ) → IsEdge edges from to → Link from to
   link from to at = ⊎_elim
@@ -97,7 +100,7 @@ module _ (hosts services : ℕ) (hg sg : List (List ℕ)) (host_few : hosts ≤ 
       (Contains-append_cases one two (edge from to) start))
       (λ (on : IsEdge three from to). inr (inr (inl (graph-edge second sg from to on))))
       (Contains-append_cases (one ++ two) three (edge from to) before))
-      (λ (on : IsEdge four from to). inr (inr (inr (turn-edge second hosts services from to on))))
+      (λ (on : IsEdge four from to). inr (inr (inr (turn-edge second hosts turned from to on))))
       (Contains-append_cases ((one ++ two) ++ three) four (edge from to) at)
 
   of-one : (from to : ℕ) → IsEdge one from to → IsEdge edges from to
@@ -119,7 +122,7 @@ module _ (hosts services : ℕ) (hg sg : List (List ℕ)) (host_few : hosts ≤ 
       by_link (inl (p, q, led, low, from, to)) = let end = host_closed p q led in record { from = omega (arith, low, from); to = omega (arith, end, to) }
       by_link (inr (inl (k, low, from, to))) = record { from = omega (arith, low, from, host_few); to = omega (arith, low, to) }
       by_link (inr (inr (inl (p, q, led, low, from, to)))) = let end = service_closed p q led in record { from = omega (arith, low, from); to = omega (arith, end, to) }
-      by_link (inr (inr (inr (k, low, from, to)))) = record { from = omega (arith, low, from, service_few); to = omega (arith, low, to) }
+      by_link (inr (inr (inr (k, low, from, to)))) = record { from = omega (arith, low, from, service_few); to = omega (arith, low, to, turned_few) }
 
   pub base-within : All (IsWithin last) edges
   base-within = All-from_get_or (IsWithin last) edges (edge 0 0) (λ i low. edge-within (get_or edges i (edge 0 0)) (Contains-get_or edges i (edge 0 0) low))
@@ -129,7 +132,7 @@ module _ (hosts services : ℕ) (hg sg : List (List ℕ)) (host_few : hosts ≤ 
     AtHost p = (object < hosts) × Reaches (Leads hg) p object
 
     abbrev AtService : ℕ → Type 0
-    AtService p = (s : ℕ) × (s < services) × (object ≡ hosts + s) × Reaches (Leads sg) p s
+    AtService p = (s : ℕ) × (s < turned) × (object ≡ hosts + s) × Reaches (Leads sg) p s
 
     -- what it means that a node leads to the object
     record Means (node : ℕ) : Type 0 where
@@ -170,7 +173,7 @@ module _ (hosts services : ℕ) (hg sg : List (List ℕ)) (host_few : hosts ≤ 
         let end = means.at_service q (service_closed p q led) at in
         means_service from p low is (end.0, end.1, end.2, reaches-step (Leads sg) p q end.0 led end.3)
     means_step from to (inr (inr (inr (k, low, is, at)))) means =
-        let same : to ≡ object = means.at_object (omega (arith, low, at)) in
+        let same : to ≡ object = means.at_object (omega (arith, low, at, turned_few)) in
         means_service from k (omega (arith, low, service_few)) is (k, low, omega (arith, same, at), (0, refl))
 
     means_chain : (steps node : ℕ) → Chain (IsEdge edges) steps node object → Means node
@@ -201,13 +204,15 @@ module _ (hosts services : ℕ) (hg sg : List (List ℕ)) (host_few : hosts ≤ 
     service-reach p low = (
       (λ reaches. (means_chain reaches.0 (second + p) reaches.1).at_service p low refl),
       (λ at. Reaches-join (IsEdge edges) (second + p) (second + at.0) object (lift_service at.3.0 p at.0 at.3.1)
-          (1, (object, subst (λ (n : ℕ). IsEdge edges (second + at.0) n) (sym at.2) (of-four (second + at.0) (hosts + at.0) (edge-turn second hosts services at.0 at.1)), refl))),
+          (1, (object, subst (λ (n : ℕ). IsEdge edges (second + at.0) n) (sym at.2) (of-four (second + at.0) (hosts + at.0) (edge-turn second hosts turned at.0 at.1)), refl))),
     )
 
 -- ---- the base
 
-module _ (members : MembersAreServices) (b : BlocksOf) (hg sg : List (List ℕ)) (host_closed : (p q : ℕ) → Leads hg p q → q < length hg) (service_closed : (p q : ℕ) → Leads sg p q → q < length sg)
-    (host_leads : LeadsToMembers (grouping b.blocks HostGroups) hg) (service_leads : LeadsToServices b.blocks b.lists sg) where
+-- `has` says whether there are nodes of service groups, and so many services have a node there
+module _ (b : BlocksOf) (has : Bool) (turned : ℕ) (hg sg : List (List ℕ)) (host_closed : (p q : ℕ) → Leads hg p q → q < length hg) (service_closed : (p q : ℕ) → Leads sg p q → q < length sg)
+    (host_leads : LeadsToMembers (grouping b.blocks HostGroups) hg) (turned_few : turned ≤ service_count b) (service_less : turned ≤ length sg)
+    (service_leads : has ≡ true → (turned ≡ service_count b) × LeadsToServices b.blocks b.lists sg) where
   abbrev h : ℕ
   h = host_count b
 
@@ -221,7 +226,7 @@ module _ (members : MembersAreServices) (b : BlocksOf) (hg sg : List (List ℕ))
   f = first_group (service_grouping b.blocks b.lists)
 
   abbrev es : List Edge
-  es = base_edges h s hg sg
+  es = base_edges h s turned hg sg
 
   host_all : h + g + 3 ≤ length hg
   host_all = host_leads.count
@@ -229,28 +234,24 @@ module _ (members : MembersAreServices) (b : BlocksOf) (hg sg : List (List ℕ))
   host_less : h ≤ length hg
   host_less = let all = host_all in omega (arith, all)
 
-  service_all : f + length (names_in b.blocks ServiceGroup) ≤ length sg
-  service_all = service_leads.count
-
-  service_less : s ≤ length sg
-  service_less = service_leads.services
+  service_all : has ≡ true → f + length (names_in b.blocks ServiceGroup) ≤ length sg
+  service_all is = (service_leads is).1.count
 
   from_first : (object p : ℕ) → object < h + s → p < length hg → (node : ℕ) → node ≡ h + s + p → Reaches (IsEdge es) node object ↔ ((object < h) × Reaches (Leads hg) p object)
   from_first object p there low node is =
       subst (λ (n : ℕ). Reaches (IsEdge es) n object ↔ ((object < h) × Reaches (Leads hg) p object)) (sym is)
-      (host-reach h s hg sg host_less service_less host_closed service_closed object there p low)
+      (host-reach h s turned hg sg host_less turned_few service_less host_closed service_closed object there p low)
 
   from_second : (object p : ℕ) → object < h + s → p < length sg → (node : ℕ) → node ≡ h + s + length hg + p
-      → Reaches (IsEdge es) node object ↔ ((k : ℕ) × (k < s) × (object ≡ h + k) × Reaches (Leads sg) p k)
+      → Reaches (IsEdge es) node object ↔ ((k : ℕ) × (k < turned) × (object ≡ h + k) × Reaches (Leads sg) p k)
   from_second object p there low node is =
-      subst (λ (n : ℕ). Reaches (IsEdge es) n object ↔ ((k : ℕ) × (k < s) × (object ≡ h + k) × Reaches (Leads sg) p k)) (sym is)
-      (service-reach h s hg sg host_less service_less host_closed service_closed object there p low)
+      subst (λ (n : ℕ). Reaches (IsEdge es) n object ↔ ((k : ℕ) × (k < turned) × (object ≡ h + k) × Reaches (Leads sg) p k)) (sym is)
+      (service-reach h s turned hg sg host_less turned_few service_less host_closed service_closed object there p low)
 
   pub base-is : (firsts : Firsts) (count : ℕ) (made : List Edge) → firsts.objects ≡ h + s → firsts.hosts ≡ h + s → firsts.all_hosts ≡ h + s + h + g → firsts.host_groups ≡ h + s + h
-      → firsts.all_groups ≡ h + s + h + g + 1 → firsts.service_groups ≡ h + s + length hg + f → count ≡ h + s + length hg + length sg → made ≡ es → IsBase b firsts count made
-  base-is firsts count made objects_is hosts_is all_hosts_is groups_is all_groups_is service_groups_is count_is made_is =
+      → firsts.all_groups ≡ h + s + h + g + 1 → firsts.has_groups ≡ has → (has ≡ true → firsts.service_groups ≡ h + s + length hg + f) → count ≡ h + s + length hg + length sg → made ≡ es → IsBase b firsts count made
+  base-is firsts count made objects_is hosts_is all_hosts_is groups_is all_groups_is has_is service_groups_is count_is made_is =
       let all_hosts = host_all in
-      let all_services = service_all in
       let less = host_less in
       subst (λ (edges : List Edge). IsBase b firsts count edges) (sym made_is) (record {
         objects_are = objects_is;
@@ -259,9 +260,9 @@ module _ (members : MembersAreServices) (b : BlocksOf) (hg sg : List (List ℕ))
         all_hosts_few = omega (arith, all_hosts_is, count_is, all_hosts);
         groups_few = omega (arith, groups_is, count_is, all_hosts);
         all_groups_few = omega (arith, all_groups_is, count_is, all_hosts);
-        service_groups_few = omega (arith, service_groups_is, count_is, all_services);
-        within = subst (λ (n : ℕ). All (IsWithin n) es) (sym count_is) (base-within h s hg sg host_less service_less host_closed service_closed);
-        object = λ p object low there reaches. object-reach h s hg sg host_less service_less host_closed service_closed object (omega (arith, there, objects_is)) p (omega (arith, low, objects_is)) reaches;
+        service_groups_few = λ given. let here = sym has_is ∙ given in let at = service_groups_is here in let all_services = service_all here in omega (arith, at, count_is, all_services);
+        within = subst (λ (n : ℕ). All (IsWithin n) es) (sym count_is) (base-within h s turned hg sg host_less turned_few service_less host_closed service_closed);
+        object = λ p object low there reaches. object-reach h s turned hg sg host_less turned_few service_less host_closed service_closed object (omega (arith, there, objects_is)) p (omega (arith, low, objects_is)) reaches;
         host = λ k object low there.
             let at = from_first object k (omega (arith, there, objects_is)) (omega (arith, low, less)) (firsts.hosts + k) (omega (arith, hosts_is)) in (
               (λ (reaches : Reaches (IsEdge es) (firsts.hosts + k) object). let on = at.0 reaches in host_leads.objects k object low on.0 on.1),
@@ -282,11 +283,17 @@ module _ (members : MembersAreServices) (b : BlocksOf) (hg sg : List (List ℕ))
               (λ (reaches : Reaches (IsEdge es) firsts.all_groups object). let on = at.0 reaches in (on.0, (host_leads.some object on.0).0 on.1)),
               (λ (both : (object < h) × ((group : ℕ) × (group < g) × IsMember (grouping b.blocks HostGroups) group object)). at.1 (both.0, (host_leads.some object both.0).1 both.1)),
             );
-        service_group = λ group object low there.
-            let at = from_second object (f + group) (omega (arith, there, objects_is)) (omega (arith, low, all_services)) (firsts.service_groups + group) (omega (arith, service_groups_is)) in (
-              (λ (reaches : Reaches (IsEdge es) (firsts.service_groups + group) object). let on = at.0 reaches in (on.0, on.1, on.2, (service_leads.groups group on.0 low on.1).0 on.3)),
+        service_group = λ given group object low there.
+            let here = sym has_is ∙ given in
+            let begins = service_groups_is here in
+            let all_services = service_all here in
+            let leads = service_leads here in
+            let turns = leads.0 in
+            let at = from_second object (f + group) (omega (arith, there, objects_is)) (omega (arith, low, all_services)) (firsts.service_groups + group) (omega (arith, begins)) in (
+              (λ (reaches : Reaches (IsEdge es) (firsts.service_groups + group) object). let on = at.0 reaches in let few = on.1 in let less : on.0 < s = omega (arith, few, turns) in (on.0, less, on.2, (leads.1.groups group on.0 low less).0 on.3)),
               (λ (some : (service : ℕ) × (service < s) × (object ≡ h + service) × IsServiceMember (service_grouping b.blocks b.lists) group service).
-                  at.1 (some.0, some.1, some.2, (service_leads.groups group some.0 low some.1).1 some.3)),
+                  let few = some.1 in
+                  at.1 (some.0, omega (arith, few, turns), some.2, (leads.1.groups group some.0 low some.1).1 some.3)),
             );
       })
 
@@ -299,7 +306,6 @@ base-over b firsts count next old new base over =
     let all_hosts_few = base.all_hosts_few in
     let groups_few = base.groups_few in
     let all_groups_few = base.all_groups_few in
-    let service_groups_few = base.service_groups_few in
     record {
       objects_are = base.objects_are;
       few = omega (arith, more, few);
@@ -307,14 +313,16 @@ base-over b firsts count next old new base over =
       all_hosts_few = omega (arith, more, all_hosts_few);
       groups_few = omega (arith, more, groups_few);
       all_groups_few = omega (arith, more, all_groups_few);
-      service_groups_few = omega (arith, more, service_groups_few);
+      service_groups_few = λ has. let service_groups_few = base.service_groups_few has in omega (arith, more, service_groups_few);
       within = over.within;
       object = λ p object low there reaches. base.object p object low there ((over.same p object (omega (arith, low, few)) (omega (arith, there, few))).0 reaches);
       host = λ k object low there. through (firsts.hosts + k) object (k ≡ object) (omega (arith, low, hosts_few)) (omega (arith, there, few)) (base.host k object low there);
       all_hosts = λ object there. through firsts.all_hosts object _ all_hosts_few (omega (arith, there, few)) (base.all_hosts object there);
       host_group = λ group object low there. through (firsts.host_groups + group) object _ (omega (arith, low, groups_few)) (omega (arith, there, few)) (base.host_group group object low there);
       all_groups = λ object there. through firsts.all_groups object _ all_groups_few (omega (arith, there, few)) (base.all_groups object there);
-      service_group = λ group object low there. through (firsts.service_groups + group) object _ (omega (arith, low, service_groups_few)) (omega (arith, there, few)) (base.service_group group object low there);
+      service_group = λ has group object low there.
+          let service_groups_few = base.service_groups_few has in
+          through (firsts.service_groups + group) object _ (omega (arith, low, service_groups_few)) (omega (arith, there, few)) (base.service_group has group object low there);
     }
   where
     through : (node object : ℕ) (Says : Type 0) → node < count → object < count → Reaches (IsEdge old) node object ↔ Says → Reaches (IsEdge new) node object ↔ Says

@@ -22,6 +22,7 @@ use Rattle.object_groups.specs.Names.{is_all, Lists, numbers_of}
 use Rattle.object_groups.specs.NodeLaws.{from-node, FromNode, to-node}
 use Rattle.object_groups.specs.ObjectLaws.{listed-within, numbers-within, object-at}
 use Rattle.object_groups.specs.Objects.{is_object, is_object_at, list_at, names_in}
+use Rattle.object_groups.specs.ReachLaws.{lead-none}
 use Rattle.object_inheritance.specs.Columns.{Column}
 use Rattle.object_listing.specs.Laws.{ListedAreObjects}
 use Rattle.object_listing.specs.Listing.{IsListed}
@@ -39,7 +40,7 @@ use Rattle.object_service_groups.specs.Members.{IsMember as IsServiceMember}
 use Rattle.object_values.specs.declared.options.CriteriaKind.TheVariants.{OfHosts, OfServices}
 use Rattle.object_dependency_loops.specs.declared.base.Firsts.{Firsts}
 use Rattle.object_dependency_loops.specs.Base.{host_count, IsBase, service_count}
-use Rattle.object_dependency_loops.specs.Described.{Describes, Gathers}
+use Rattle.object_dependency_loops.specs.Described.{Describes, Gathers, ListsNoGroup}
 use Rattle.object_dependency_loops.specs.Places.{kept_in, SpeakAs}
 use Rattle.object_dependency_loops.specs.Speech.{AddsSpeech, AreLinked, ByList, Speaks}
 use Rattle.object_dependency_loops.proofs.BaseLemmas.{base-over}
@@ -110,19 +111,19 @@ module _ (b : BlocksOf) (firsts : Firsts) (count : ℕ) (edges : List Edge) (bas
   abbrev service_entries : List (List ℕ)
   service_entries = list_at b.blocks directives.groups place
 
-  pub gathers-say : MembersAreServices → ByList service_groups b.blocks directives.groups firsts.service_groups None edges place object ↔ Gathers b directives place object
-  gathers-say members = (
+  pub gathers-say : MembersAreServices → firsts.has_groups ≡ true → ByList service_groups b.blocks directives.groups firsts.service_groups None edges place object ↔ Gathers b directives place object
+  gathers-say members has = (
     (λ by.
         let at = Contains-from_map (λ number. firsts.service_groups + number) (numbers_of service_groups service_entries) by.0 by.1 in
         let low = numbers-within service_groups service_entries at.0 at.1 in
-        let on = (base.service_group at.0 object low there).0 (subst (λ (n : ℕ). Reaches (IsEdge edges) n object) (sym at.2) by.2) in
+        let on = (base.service_group has at.0 object low there).0 (subst (λ (n : ℕ). Reaches (IsEdge edges) n object) (sym at.2) by.2) in
         (on.0, on.2, (at.0, at.1, on.3))),
     (λ gathers.
         let group = gathers.2.0 in
         let low = numbers-within service_groups service_entries group gathers.2.1 in (
           firsts.service_groups + group,
           Contains-map (λ number. firsts.service_groups + number) (numbers_of service_groups service_entries) group gathers.2.1,
-          (base.service_group group object low there).1 (gathers.0, members b.blocks b.lists group gathers.0 gathers.2.2, gathers.1, gathers.2.2),
+          (base.service_group has group object low there).1 (gathers.0, members b.blocks b.lists group gathers.0 gathers.2.2, gathers.1, gathers.2.2),
         )),
   )
 
@@ -159,13 +160,13 @@ adds-hosts objects b firsts count middle next old between new links some more pl
     back place object low by_hosts by_groups (inl lists) = inl (by_hosts.1 lists)
     back place object low by_hosts by_groups (inr some_group) = inr (by_groups.1 (low, some_group))
 
-pub adds-grouped : MembersAreServices → (b : BlocksOf) (firsts : Firsts) (count next : ℕ) (old new links more : List Edge) (places : List ℕ) (directives : ServiceDirectives) → IsBase b firsts count old
+pub adds-grouped : MembersAreServices → (b : BlocksOf) (firsts : Firsts) (count next : ℕ) (old new links more : List Edge) (places : List ℕ) (directives : ServiceDirectives) → IsBase b firsts count old → firsts.has_groups ≡ true
     → AddsSpeech (length b.blocks) firsts.objects count next old new links more places
     (ByList (names_in b.blocks ServiceGroup) b.blocks directives.groups firsts.service_groups None old)
     → AddsSpeech (length b.blocks) firsts.objects count next old new links more places (Gathers b directives)
-adds-grouped members b firsts count next old new links more places directives base one =
+adds-grouped members b firsts count next old new links more places directives base has one =
     adds-same (length b.blocks) firsts.objects count next old new links more places (ByList (names_in b.blocks ServiceGroup) b.blocks directives.groups firsts.service_groups None old) (Gathers b directives) one
-    (λ place object there. gathers-say b firsts count old base directives place object there members)
+    (λ place object there. gathers-say b firsts count old base directives place object there members has)
 
 -- what one list more says, whichever blocks and objects there are
 abbrev Listed : (count next : ℕ) → (old new links more : List Edge) → (places : List ℕ) → (names : List (List ℕ)) → Column → (first : ℕ) → Option ℕ → Type 0
@@ -204,12 +205,29 @@ step-within b objects count next bound old new links more places names column fi
     (over.within, omega (arith, few, less))
 
 pub grouped-pushed : MembersAreServices → (b : BlocksOf) (firsts : Firsts) (count next : ℕ) (old new links more : List Edge) (places : List ℕ) (directives : ServiceDirectives) (groups : List (List ℕ)) (by_groups : Column)
-    → IsBase b firsts count old → AreLinked (length b.blocks) firsts.objects count old links → All (λ place. place < length b.blocks) places → groups ≡ names_in b.blocks ServiceGroup
+    → IsBase b firsts count old → firsts.has_groups ≡ true → AreLinked (length b.blocks) firsts.objects count old links → All (λ place. place < length b.blocks) places → groups ≡ names_in b.blocks ServiceGroup
     → by_groups ≡ record { blocks = b.blocks; directive = directives.groups } → Listed count next old new links more places groups by_groups firsts.service_groups None
     → AddsSpeech (length b.blocks) firsts.objects count next old new links more places (Gathers b directives)
-grouped-pushed members b firsts count next old new links more places directives groups by_groups base are within groups_are groups_by one =
-    adds-grouped members b firsts count next old new links more places directives base
+grouped-pushed members b firsts count next old new links more places directives groups by_groups base has are within groups_are groups_by one =
+    adds-grouped members b firsts count next old new links more places directives base has
     (listed-by b firsts.objects count next old new links more places groups (names_in b.blocks ServiceGroup) by_groups directives.groups firsts.service_groups None groups_are groups_by are within one)
+
+-- where none of the blocks lists a service group
+pub none-grouped : (b : BlocksOf) (objects count : ℕ) (edges links : List Edge) (places : List ℕ) (directives : ServiceDirectives) → AreLinked (length b.blocks) objects count edges links
+    → All (ListsNoGroup b.blocks directives) places → AddsSpeech (length b.blocks) objects count count edges edges links links places (Gathers b directives)
+none-grouped b objects count edges links places directives are none = record {
+  over = lead-none count edges are.within;
+  linked = are.linked;
+  exactly = λ place object low. (
+    (λ speaks. inl speaks),
+    (λ either. ⊎_elim (λ (before : Speaks links edges place object). before) (λ (at : Contains places place × Gathers b directives place object). absurd (nothing place object at.0 at.1)) either),
+  );
+}
+  where
+    nothing : (place object : ℕ) → Contains places place → Gathers b directives place object → ⊥
+    nothing place object at gathers =
+        Contains-none gathers.2.0 (subst (λ (entries : List (List ℕ)). Contains (numbers_of (names_in b.blocks ServiceGroup) entries) gathers.2.0)
+        (All-contains (ListsNoGroup b.blocks directives) places place none at) gathers.2.1)
 
 pub few-places : (blocks limit : ℕ) (places : List ℕ) → All (λ place. place < blocks) places → blocks < limit → All (λ place. place < limit) places
 few-places blocks limit places within few = All-from_get_or (λ place. place < limit) places 0

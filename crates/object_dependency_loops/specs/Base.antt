@@ -1,6 +1,6 @@
 -- The graph with which all begins. Its nodes are the objects, by their numbers; then those of the graph of host groups,
 -- where each host leads to its object; and those of the graph of service groups, where each service does.
-use Rattle.std.specs.Prelude.{◌≡◌, ℕ, ◌+◌, ◌<◌, ◌≤◌, ◌↔◌, List, [], ◌∷◌, ◌++◌, length, map, All, slice_index_or}
+use Rattle.std.specs.Prelude.{◌≡◌, ℕ, ◌+◌, ◌<◌, ◌≤◌, ◌↔◌, true, List, [], ◌∷◌, ◌++◌, length, map, All, slice_index_or}
 use Rattle.graph.specs.declared.edges.Edge.{Edge}
 use Rattle.graph.specs.Chains.{Reaches}
 use Rattle.graph.specs.Edges.{IsWithin}
@@ -36,16 +36,18 @@ graph_edges by graph = list_edges ToNames by (length graph) (moved_ends by graph
 abbrev pub turn_edges : (from to count : ℕ) → List Edge
 turn_edges from to count = list_edges ToNames from count (λ k. (to + k) ∷ [])
 
--- all edges, where these are the graphs of host groups and of service groups
-abbrev pub base_edges : (hosts services : ℕ) → (host_graph service_graph : List (List ℕ)) → List Edge
-base_edges hosts services host_graph service_graph =
+-- all edges, where these are the graphs of host groups and of service groups, and so many services have a node in the
+-- second of them
+abbrev pub base_edges : (hosts services turned : ℕ) → (host_graph service_graph : List (List ℕ))
+    → List Edge
+base_edges hosts services turned host_graph service_graph =
     ((graph_edges (hosts + services) host_graph ++ turn_edges (hosts + services) 0 hosts)
     ++ graph_edges (hosts + services + length host_graph) service_graph)
-    ++ turn_edges (hosts + services + length host_graph) hosts services
+    ++ turn_edges (hosts + services + length host_graph) hosts turned
 
 -- Among so many nodes there are those of the objects, of which none leads to another; those of the hosts, each of which
--- leads to its object; those of all hosts, of the host groups, of all host groups and of the service groups, each of which
--- leads to the objects that it stands for; where services are numbered after the hosts.
+-- leads to its object; those of all hosts, of the host groups, of all host groups and, where there are some, of the service
+-- groups, each of which leads to the objects that it stands for; where services are numbered after the hosts.
 pub record IsBase (b : BlocksOf) (firsts : Firsts) (count : ℕ) (edges : List Edge) : Type 0 where
   pub objects_are : firsts.objects ≡ host_count b + service_count b
   pub few : firsts.objects ≤ count
@@ -53,7 +55,8 @@ pub record IsBase (b : BlocksOf) (firsts : Firsts) (count : ℕ) (edges : List E
   pub all_hosts_few : firsts.all_hosts < count
   pub groups_few : firsts.host_groups + length (names_in b.blocks HostGroup) ≤ count
   pub all_groups_few : firsts.all_groups < count
-  pub service_groups_few : firsts.service_groups + length (names_in b.blocks ServiceGroup) ≤ count
+  pub service_groups_few : firsts.has_groups ≡ true
+      → firsts.service_groups + length (names_in b.blocks ServiceGroup) ≤ count
   pub within : All (IsWithin count) edges
   pub object : (p object : ℕ) → p < firsts.objects → object < firsts.objects
       → Reaches (IsEdge edges) p object → p ≡ object
@@ -70,8 +73,8 @@ pub record IsBase (b : BlocksOf) (firsts : Firsts) (count : ℕ) (edges : List E
       ↔ ((object < host_count b) × ((group : ℕ)
       × (group < length (names_in b.blocks HostGroup))
       × IsMember (grouping b.blocks HostGroups) group object))
-  pub service_group : (group object : ℕ) → group < length (names_in b.blocks ServiceGroup)
-      → object < firsts.objects
+  pub service_group : firsts.has_groups ≡ true → (group object : ℕ)
+      → group < length (names_in b.blocks ServiceGroup) → object < firsts.objects
       → Reaches (IsEdge edges) (firsts.service_groups + group) object
       ↔ ((service : ℕ) × (service < service_count b) × (object ≡ host_count b + service)
       × IsServiceMember (service_grouping b.blocks b.lists) group service)

@@ -1,6 +1,6 @@
 -- The services that blocks list by hosts and descriptions, and those of service groups, as objects; and the nodes of
 -- those that blocks with the same lists describe.
-use Rattle.std.specs.Prelude.{◌≡◌, ℕ, ◌+◌, ◌<◌, ◌↔◌, ◌==◌, ◌&&◌, Bool, List, IfSome}
+use Rattle.std.specs.Prelude.{◌≡◌, ℕ, ◌+◌, ◌<◌, ◌↔◌, ◌==◌, ◌&&◌, Bool, List, [], IfSome}
 use Rattle.std.proofs.Common.{Bor, eqb}
 use Rattle.std.specs.Map.{lookup}
 use Rattle.graph.specs.declared.edges.Edge.{Edge}
@@ -27,6 +27,10 @@ Describes b directives place object = (service : ℕ) × (object ≡ host_count 
 abbrev pub Gathers : BlocksOf → ServiceDirectives → (place object : ℕ) → Type 0
 Gathers b directives place object = (service : ℕ) × (object ≡ host_count b + service)
     × IsGrouped b.blocks b.lists directives place service
+
+-- it lists no service group
+abbrev pub ListsNoGroup : List Block → ServiceDirectives → (place : ℕ) → Type 0
+ListsNoGroup blocks directives place = list_at blocks directives.groups place ≡ []
 
 -- The blocks at these places have the same lists of hosts, of host groups and of descriptions as the one at the place.
 abbrev pub ListPlaces : Type 0

@@ -1,6 +1,7 @@
 //! The graph with which all begins: objects, hosts and the graphs of host groups and of service groups.
 
-ghost use Rattle.std.specs.Prelude.{◌≡◌, ◌+◌, ◌<◌, ◌≤◌, ◌^◌, ◌++◌, length, map, All, IfOk, OnOk};
+ghost use Rattle.std.specs.Prelude.{◌≡◌, ◌+◌, ◌<◌, ◌≤◌, ◌^◌, ◌++◌, [], true, false};
+ghost use Rattle.std.specs.Prelude.{length, map, All, IfOk, OnOk};
 ghost use Rattle.object_dependency_loops.specs.Base.{base_edges, graph_edges, IsBase, turn_edges};
 ghost use Rattle.object_groups.specs.declared.groups.GroupKind.TheVariants.{HostGroups};
 ghost use Rattle.object_groups.specs.declared.lists.Direction.TheVariants.{ToNames};
@@ -26,6 +27,8 @@ pub(crate) struct Firsts {
     pub host_groups: u32,
     /// The node of all host groups.
     pub all_groups: u32,
+    /// Whether there are nodes of service groups.
+    pub has_groups: bool,
     /// The node of the first service group.
     pub service_groups: u32,
 }
@@ -80,7 +83,26 @@ fn push_turns(edges: &mut Vec<Edge>, from: u32, to: u32, count: u32) -> Result<(
     Ok(())
 }
 
-/// The edges of the graph with which all begins, where there are so many hosts and services.
+/// The edges of hosts and host groups, where there are so many hosts and services.
+fn host_edges(
+    alloc: Global,
+    hosts: u32,
+    services: u32,
+    host_graph: &Graph,
+) -> Result<Vec<Edge>, AllocError>
+    requires few { hosts + services + length host_graph.now < 2 ^ 32 }
+    requires hosts { hosts ≤ length host_graph.now }
+    ensures { IfOk result (λ edges. edges.items
+        ≡ base_edges hosts services 0 host_graph.now []) }
+{
+    let first = hosts + services;
+    let mut edges = Vec::new(alloc);
+    push_graph(&mut edges, host_graph, first)?;
+    push_turns(&mut edges, first, 0, hosts)?;
+    Ok(edges)
+}
+
+/// Those and the edges of services and service groups.
 fn edges_of(
     alloc: Global,
     hosts: u32,
@@ -92,7 +114,7 @@ fn edges_of(
     requires hosts { hosts ≤ length host_graph.now }
     requires services { services ≤ length service_graph.now }
     ensures { IfOk result (λ edges. edges.items
-        ≡ base_edges hosts services host_graph.now service_graph.now) }
+        ≡ base_edges hosts services services host_graph.now service_graph.now) }
 {
     let first = hosts + services;
     let second = first + host_graph.node_count();
@@ -104,9 +126,47 @@ fn edges_of(
     Ok(edges)
 }
 
+/// The graph with which all begins, without nodes of service groups; `hosts` are the host groups of the same blocks. It
+/// takes what theirs takes, and an edge for each host. Over 4,294,967,295 nodes are want of memory.
+fn base_of_hosts<'a>(
+    alloc: Global,
+    blocks: &DependencyBlocks<'a, '_>,
+    hosts: &Groups<'a>,
+) -> Result<Base, AllocError>
+    requires hosts { hosts.now ≡ record { blocks = blocks.now.blocks; kind = HostGroups } }
+    ensures base { IfOk result (λ base.
+        IsBase blocks.now base.firsts base.count base.edges.items) }
+    ensures has_groups { IfOk result (λ base. base.firsts.has_groups ≡ false) }
+{
+    let host_count = hosts.objects().names().len();
+    let group_count = hosts.groups().names().len();
+    let services = blocks.services().len();
+    let host_graph = hosts.graph();
+    let first = host_count.saturating_add(services);
+    let count = first.saturating_add(host_graph.node_count() as usize);
+    if count > u32::MAX as usize {
+        return Err(AllocError);
+    }
+    let edges = host_edges(alloc, host_count as u32, services as u32, host_graph)?;
+    let all_hosts = first + host_count + group_count;
+    Ok(Base {
+        firsts: Firsts {
+            objects: first as u32,
+            hosts: first as u32,
+            all_hosts: all_hosts as u32,
+            host_groups: (first + host_count) as u32,
+            all_groups: (all_hosts + 1) as u32,
+            has_groups: false,
+            service_groups: 0,
+        },
+        count: count as u32,
+        edges,
+    })
+}
+
 /// The graph with which all begins; `hosts` are the host groups and `groups` the service groups of the same blocks. It
 /// takes what theirs take, and an edge for each object. Over 4,294,967,295 nodes are want of memory.
-pub(crate) fn base_of<'a>(
+fn base_of_all<'a>(
     alloc: Global,
     blocks: &DependencyBlocks<'a, '_>,
     hosts: &Groups<'a>,
@@ -114,8 +174,9 @@ pub(crate) fn base_of<'a>(
 ) -> Result<Base, AllocError>
     requires hosts { hosts.now ≡ record { blocks = blocks.now.blocks; kind = HostGroups } }
     requires groups { groups.now ≡ blocks.now.blocks }
-    ensures { IfOk result (λ base.
+    ensures base { IfOk result (λ base.
         IsBase blocks.now base.firsts base.count base.edges.items) }
+    ensures has_groups { IfOk result (λ base. base.firsts.has_groups ≡ true) }
 {
     members_are_services();
     let host_count = hosts.objects().names().len();
@@ -144,9 +205,31 @@ pub(crate) fn base_of<'a>(
             all_hosts: all_hosts as u32,
             host_groups: (first + host_count) as u32,
             all_groups: (all_hosts + 1) as u32,
+            has_groups: true,
             service_groups: (second + groups.first_node()) as u32,
         },
         count: count as u32,
         edges,
     })
+}
+
+/// The graph with which all begins: with nodes of the service groups where these are asked for.
+pub(crate) fn base_of<'a>(
+    alloc: Global,
+    blocks: &DependencyBlocks<'a, '_>,
+    hosts: &Groups<'a>,
+    groups: &ServiceGroups<'a>,
+    has_groups: bool,
+) -> Result<Base, AllocError>
+    requires hosts { hosts.now ≡ record { blocks = blocks.now.blocks; kind = HostGroups } }
+    requires groups { groups.now ≡ blocks.now.blocks }
+    ensures base { IfOk result (λ base.
+        IsBase blocks.now base.firsts base.count base.edges.items) }
+    ensures has_groups { IfOk result (λ base. base.firsts.has_groups ≡ has_groups) }
+{
+    if has_groups {
+        base_of_all(alloc, blocks, hosts, groups)
+    } else {
+        base_of_hosts(alloc, blocks, hosts)
+    }
 }

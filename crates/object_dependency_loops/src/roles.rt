@@ -1,10 +1,10 @@
 //! The links from blocks to what stands for the objects of which they speak in a role.
 
-ghost use Rattle.std.specs.Prelude.{◌≡◌, ◌<◌, ◌^◌, length, All, IfOk};
+ghost use Rattle.std.specs.Prelude.{◌≡◌, ◌<◌, ◌^◌, false, length, All, IfOk};
 ghost use Rattle.graph.specs.Edges.{IsWithin};
 ghost use Rattle.graph_rules.specs.Rules.{IsOfRule};
 ghost use Rattle.object_dependency_loops.specs.Base.{host_count, IsBase, service_count};
-ghost use Rattle.object_dependency_loops.specs.Described.{Gathers};
+ghost use Rattle.object_dependency_loops.specs.Described.{Gathers, ListsNoGroup};
 ghost use Rattle.object_dependency_loops.specs.Places.{kept_in, SpeakAs};
 ghost use Rattle.object_dependency_loops.specs.Speech.{AddsSpeech, AreLinked};
 ghost use Rattle.object_groups.specs.declared.groups.GroupKind.TheVariants.{HostGroups};
@@ -74,7 +74,8 @@ fn push_hosts<'a>(
     )
 }
 
-/// Adds what stands for the services of the service groups that the blocks at the places list.
+/// Adds what stands for the services of the service groups that the blocks at the places list; nothing where there are no
+/// nodes of service groups, since no block lists one.
 fn push_grouped<'a>(
     alloc: Global,
     edges: &mut Vec<Edge>,
@@ -93,10 +94,15 @@ fn push_grouped<'a>(
     requires base { IsBase blocks.now firsts node edges.old.items }
     requires linked { AreLinked (length blocks.now.blocks) firsts.objects node edges.old.items
         links.old.items }
+    requires none { firsts.has_groups ≡ false
+        → All (ListsNoGroup blocks.now.blocks (directives_of reached.now.role)) places.now }
     ensures { IfOk result (λ next. AddsSpeech (length blocks.now.blocks) firsts.objects node next
         edges.old.items edges.new.items links.old.items links.new.items places.now
         (Gathers blocks.now (directives_of reached.now.role))) }
 {
+    if !firsts.has_groups {
+        return Ok(node);
+    }
     members_are_services();
     push_listed(
         alloc,
@@ -141,6 +147,9 @@ pub(crate) fn push_role<'a>(
         ≡ kept_in blocks.now.blocks (service_kind reached.now.role) (length blocks.now.blocks) }
     requires few { length blocks.now.blocks < 2 ^ 32 }
     requires base { IsBase blocks.now firsts node edges.old.items }
+    requires none { firsts.has_groups ≡ false
+        → All (ListsNoGroup blocks.now.blocks (directives_of reached.now.role))
+        service_places.now }
     ensures same { hosts.new ≡ hosts.old }
     ensures over { IfOk result (λ made.
         LeadOver node edges.old.items made.next edges.new.items) }

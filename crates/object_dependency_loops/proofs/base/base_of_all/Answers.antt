@@ -1,4 +1,4 @@
-use Rattle.std.proofs.Common.{◌≡◌, ◌+◌, ◌≤◌, ◌∙◌, List, ap, arith, length, subst, sym, ℕ}
+use Rattle.std.proofs.Common.{◌≡◌, ◌+◌, ◌≤◌, ◌∙◌, List, ap, arith, length, refl, subst, sym, true, ℕ}
 use Rattle.object_groups.specs.Groups.{group_kind, grouping, GroupsOf, object_kind}
 use Rattle.object_groups.specs.Nodes.{LeadsToMembers}
 use Rattle.object_groups.specs.Objects.{names_in, objects_in, ObjectsOf}
@@ -11,10 +11,10 @@ use Rattle.object_services.specs.Limits.{AreHostLists}
 use Rattle.object_services.specs.Numbers.{Pair}
 use Rattle.object_dependency_loops.specs.Base.{base_edges, host_count, service_count}
 use Rattle.object_dependency_loops.proofs.BaseLemmas.{base-is}
-use Rattle.object_dependency_loops.proofs.base.base_of.Goals as goal
+use Rattle.object_dependency_loops.proofs.base.base_of_all.Goals as goal
 
-pub returns : goal.returns
-returns c =
+pub returns-clause-base : goal.returns-clause-base
+returns-clause-base c =
     let b = c.args.blocks.now in
     let hg = c.graph-host_graph.result.now in
     let sg = c.graph-service_graph.result.now in
@@ -37,9 +37,9 @@ returns c =
     omega (arith, c.saturating_add-first.ensures, c.saturating_add-second.ensures, c.saturating_add-count.ensures, c.if-count.false, c.node_count.ensures.count, c.node_count-2.ensures.count, hosts, services) in
     let first : c.saturating_add-first.result ≡ host_count b + service_count b =
     omega (arith, c.saturating_add-first.ensures, c.saturating_add-second.ensures, c.saturating_add-count.ensures, c.if-count.false, c.node_count.ensures.count, c.node_count-2.ensures.count, hosts, services) in
-    base-is c.members_are_services.ensures b hg sg c.node_count.ensures.closed c.node_count-2.ensures.closed host_leads service_leads _ _ _ first first
-    (omega (arith, first, hosts, groups)) (omega (arith, first, hosts)) (omega (arith, first, hosts, groups)) (omega (arith, second, first_is)) end
-    (c.in_ok-edges.ensures ∙ ap (λ (n : ℕ). base_edges n c.len-services.result hg sg) hosts ∙ ap (λ (n : ℕ). base_edges (host_count b) n hg sg) services)
+    base-is b true (service_count b) hg sg c.node_count.ensures.closed c.node_count-2.ensures.closed host_leads (omega arith) service_leads.services (λ has. (refl, service_leads)) _ _ _ first first
+    (omega (arith, first, hosts, groups)) (omega (arith, first, hosts)) (omega (arith, first, hosts, groups)) refl (λ has. omega (arith, second, first_is)) end
+    (c.in_ok-edges.ensures ∙ ap (λ (n : ℕ). base_edges n c.len-services.result c.len-services.result hg sg) hosts ∙ ap (λ (n : ℕ). base_edges (host_count b) n n hg sg) services)
 
 pub edges_of-requires-clause-few : goal.edges_of-requires-clause-few
 edges_of-requires-clause-few c =
