@@ -31,13 +31,12 @@ impl Model for Dependencies {
 }
 
 impl Dependencies {
-    /// The collection of these entries, whose dependents are among so many. The work grows with the objects and the
-    /// entries. A refused growth drops the entries.
-    pub fn new(alloc: Global, objects: usize, items: Vec<Dependency>) -> Result<Self, AllocError>
-        requires { All (λ entry. entry.dependent.0 < objects) items.items }
+    /// The collection of these entries. The work grows with the greatest number of a dependent and with the entries. A
+    /// refused growth drops the entries.
+    pub fn new(alloc: Global, items: Vec<Dependency>) -> Result<Self, AllocError>
         ensures { IfOk result (λ dependencies. dependencies ≡ items.items) }
     {
-        let entries = entries_by_dependent(alloc, objects, items.as_slice())?.build(alloc)?;
+        let entries = entries_by_dependent(alloc, items.as_slice())?.build(alloc)?;
         Ok(Dependencies { items, entries })
     }
 
@@ -72,15 +71,28 @@ impl Dependencies {
 /// The entries of each object, in their order.
 fn entries_by_dependent(
     alloc: Global,
-    objects: usize,
     dependencies: &[Dependency],
 ) -> Result<ListsBuilder<Dependency>, AllocError>
-    requires { All (λ entry. entry.dependent.0 < objects) dependencies.now }
     ensures { IfOk result (AreEntries dependencies.now) }
 {
+    let objects = objects_of(dependencies);
     let mut lists = ListsBuilder::with_room(alloc, objects, dependencies.len())?;
     for entry in dependencies {
         lists.push(usize::from(entry.dependent.0), *entry)?;
     }
     Ok(lists)
+}
+
+/// Among how many objects the dependents are.
+fn objects_of(dependencies: &[Dependency]) -> usize
+    ensures { All (λ entry. entry.dependent.0 < result) dependencies.now }
+{
+    let mut objects = 0;
+    for entry in dependencies {
+        let number = usize::from(entry.dependent.0);
+        if objects <= number {
+            objects = number + 1;
+        }
+    }
+    objects
 }

@@ -1,8 +1,7 @@
 //! The escalations of a configuration, found by their objects.
 
-ghost use Rattle.std.specs.Prelude.{◌≡◌, ◌<◌, ◌≤◌, length, All, IfOk, vec_len};
-ghost use Rattle.due_model.specs.ByObject.{ArePlaces, HasPlaces, places_of};
-ghost use Rattle.due_model.specs.Limits.{max_escalations};
+ghost use Rattle.std.specs.Prelude.{◌≡◌, ◌<◌, length, All, IfOk};
+ghost use Rattle.due_model.specs.ByObject.{ArePlaces, places_of};
 
 use crate::config::{Escalation, ObjectId};
 use graph::lists::{Lists, ListsBuilder};
@@ -10,13 +9,13 @@ use std::alloc::{AllocError, Global};
 use std::marker::Model;
 
 /// The escalations of a configuration, in their order, with an index of them by their objects (chapter "Notification
-/// Escalations"). The index takes 8 bytes an object and 4 an escalation. Contracts see the list of the escalations
+/// Escalations"). The index takes 8 bytes an object and 8 an escalation. Contracts see the list of the escalations
 /// alone.
 #[derive(Drop)]
 pub struct Escalations {
     items: Vec<Escalation>,
     /// For each object the places of its escalations in `items`.
-    places: Lists<u32>,
+    places: Lists<usize>,
 }
 
 impl Model for Escalations {
@@ -32,14 +31,12 @@ impl Model for Escalations {
 }
 
 impl Escalations {
-    /// The collection of these escalations, whose objects are among so many. The work grows with the objects and the
-    /// escalations. A refused growth drops the escalations.
-    pub fn new(alloc: Global, objects: usize, items: Vec<Escalation>) -> Result<Self, AllocError>
-        requires few { vec_len items ≤ max_escalations }
-        requires within { All (λ e. e.object.0 < objects) items.items }
+    /// The collection of these escalations. The work grows with the greatest number of an object among theirs and with
+    /// the escalations. A refused growth drops the escalations.
+    pub fn new(alloc: Global, items: Vec<Escalation>) -> Result<Self, AllocError>
         ensures { IfOk result (λ escalations. escalations ≡ items.items) }
     {
-        let places = places_by_object(alloc, objects, items.as_slice())?.build(alloc)?;
+        let places = places_by_object(alloc, items.as_slice())?.build(alloc)?;
         Ok(Escalations { items, places })
     }
 
@@ -59,7 +56,7 @@ impl Escalations {
 
     /// The places of the object's escalations, in their order. It reads those of no other object and takes no memory.
     /// An object that has no escalation has no places, whether the configuration has it or not.
-    pub fn of(&self, object: ObjectId) -> &[u32]
+    pub fn of(&self, object: ObjectId) -> &[usize]
         ensures { result.now ≡ places_of self.now object.0 }
     {
         let number = usize::from(object.0);
@@ -74,16 +71,28 @@ impl Escalations {
 /// The places of each object's escalations.
 fn places_by_object(
     alloc: Global,
-    objects: usize,
     escalations: &[Escalation],
-) -> Result<ListsBuilder<u32>, AllocError>
-    requires few { length escalations.now ≤ max_escalations }
-    requires within { All (λ e. e.object.0 < objects) escalations.now }
+) -> Result<ListsBuilder<usize>, AllocError>
     ensures { IfOk result (ArePlaces escalations.now) }
 {
+    let objects = objects_of(escalations);
     let mut lists = ListsBuilder::with_room(alloc, objects, escalations.len())?;
     for (place, escalation) in escalations.iter().enumerate() {
-        lists.push(usize::from(escalation.object.0), place as u32)?;
+        lists.push(usize::from(escalation.object.0), place)?;
     }
     Ok(lists)
+}
+
+/// Among how many objects those of the escalations are.
+fn objects_of(escalations: &[Escalation]) -> usize
+    ensures { All (λ e. e.object.0 < result) escalations.now }
+{
+    let mut objects = 0;
+    for escalation in escalations {
+        let number = usize::from(escalation.object.0);
+        if objects <= number {
+            objects = number + 1;
+        }
+    }
+    objects
 }

@@ -9,5 +9,5 @@ loop-place-preserved c =
     let place = c.loop-place.place in
     let lists = c.loop-place.lists in
     let e = c.index-escalations-place.result in
-    subst (HasPlaces c.args.objects es (place + 1)) (sym (c.in_ok-push.ensures.pushed ∙ ap (λ o. set lists o (get_or lists o [] ++ place ∷ [])) c.from.ensures))
-    (HasPlaces-more c.args.objects es place e lists c.loop-place-test.true c.index-escalations-place.is c.requires.within c.loop-place.invariant)
+    subst (HasPlaces c.objects_of-objects.result es (place + 1)) (sym (c.in_ok-push.ensures.pushed ∙ ap (λ o. set lists o (get_or lists o [] ++ place ∷ [])) c.from.ensures))
+    (HasPlaces-more c.objects_of-objects.result es place e lists c.loop-place-test.true c.index-escalations-place.is c.objects_of-objects.ensures c.loop-place.invariant)
