@@ -1,4 +1,4 @@
-//! Notification dependencies: which of them fail, by the order that is kept and by the plain look-up. Values are those of
+//! Notification dependencies: which of them fail, by the search and by the plain look-up. Values are those of
 //! worked examples, or reckoned by hand.
 
 use acceptance_inputs::accepted::is_accepted;
@@ -6,10 +6,10 @@ use acceptance_inputs::dependencies::{
     ON_CRITICAL, ON_NONE, ON_PENDING, Question, WORKED, entry, hosts,
 };
 use acceptance_inputs::periods::{Row, periods};
-use dependency::order::Order;
+use dependency::search::Search;
 use due_model::config::{Config, Dependency, ObjectId, PeriodId, Range};
+use due_model::dependencies::Dependencies;
 use due_model::limits::LAST_MOMENT;
-use due_model::sequence::Sequence;
 use due_model::state::{State, StateSet};
 use due_model::zone::Zone;
 use slow_lookups::dependencies::dependency_fails;
@@ -70,12 +70,12 @@ enum On {
 /// An entry: the dependent, the master, whether it inherits, the criteria, and its period.
 type Given = (u16, u16, bool, On, Option<PeriodId>);
 
-/// So many hosts with these entries, and what is answered of them: by the order, by the plain look-up, or by both.
+/// So many hosts with these entries, and what is answered of them: by the search, by the plain look-up, or by both.
 #[derive(Clone, Copy)]
 struct Case {
     hosts: u16,
     entries: &'static [Given],
-    order: bool,
+    search: bool,
     plain: bool,
     questions: &'static [Question<'static>],
 }
@@ -105,7 +105,7 @@ static CHAINS: [Case; 4] = [
             (3, 2, true, On::Critical, None),
             (2, 1, false, On::Critical, None),
         ],
-        order: true,
+        search: true,
         plain: true,
         questions: &[
             (&WORKED, 1000, 3, true),
@@ -122,18 +122,18 @@ static CHAINS: [Case; 4] = [
             (3, 2, false, On::Critical, None),
             (2, 1, true, On::Critical, None),
         ],
-        order: true,
+        search: true,
         plain: true,
         questions: &[(&WORKED, 1000, 3, false), (&WORKED, 1000, 2, true)],
     },
-    // States change between the questions to one order.
+    // States change between the questions to one search.
     Case {
         hosts: 3,
         entries: &[
             (2, 1, true, On::Critical, None),
             (1, 0, true, On::Critical, None),
         ],
-        order: true,
+        search: true,
         plain: true,
         questions: &[
             (&[State::Fine; 3], 0, 2, false),
@@ -149,7 +149,7 @@ static CHAINS: [Case; 4] = [
     Case {
         hosts: 1,
         entries: &[],
-        order: true,
+        search: true,
         plain: true,
         questions: &[(&[State::Critical], 0, 0, false)],
     },
@@ -168,7 +168,7 @@ static CRITERIA: [Case; 3] = [
             (5, 0, false, On::None, None),
             (5, 0, false, On::All, None),
         ],
-        order: true,
+        search: true,
         plain: true,
         questions: &[
             (&[State::Pending; 6], 0, 1, false),
@@ -186,7 +186,7 @@ static CRITERIA: [Case; 3] = [
     Case {
         hosts: 5,
         entries: PENDING,
-        order: true,
+        search: true,
         plain: true,
         questions: &[
             (&[State::Pending; 5], 0, 1, false),
@@ -201,7 +201,7 @@ static CRITERIA: [Case; 3] = [
     Case {
         hosts: 5,
         entries: PENDING,
-        order: false,
+        search: false,
         plain: true,
         questions: &[(&[], 0, 2, true)],
     },
@@ -219,7 +219,7 @@ static IN_PERIODS: [Case; 2] = [
             (4, 3, true, On::Critical, NINE),
             (5, 0, true, On::Critical, Some(PeriodId(1))),
         ],
-        order: true,
+        search: true,
         plain: true,
         questions: &[
             (FIRST_OF_SIX, 32_399, 2, false),
@@ -242,7 +242,7 @@ static IN_PERIODS: [Case; 2] = [
             (1, 0, true, On::Critical, LUNCH),
             (2, 1, true, On::Critical, None),
         ],
-        order: true,
+        search: true,
         plain: true,
         questions: &[
             (FIRST_OF_THREE, 43_199, 2, false),
@@ -284,7 +284,7 @@ enum Many {
 /// Many entries among so many hosts, the states of the first one and of the others, and which objects fail then.
 type Long = (Many, u16, State, State, [(u16, bool); 3]);
 
-/// By the order.
+/// By the search.
 const LONG: [Long; 4] = [
     (
         Many::Chain(10_000),
@@ -328,13 +328,13 @@ const LONG_PLAIN: [Long; 1] = [(
 /// So many hosts, the periods and these entries.
 fn config_of(alloc: Global, count: u16, entries: Vec<Dependency>) -> Result<Config, AllocError> {
     let mut config = periods(alloc, &PERIODS)?;
-    config.dependencies = Sequence::new(entries);
+    config.dependencies = Dependencies::new(alloc, entries)?;
     config.objects = hosts(alloc, count)?;
     Ok(config)
 }
 
-/// Compares what one order answers, one question after another.
-fn order_answers(
+/// Compares what one search answers, one question after another.
+fn search_answers(
     rt: &impl Abort,
     alloc: Global,
     config: &Config,
@@ -342,13 +342,20 @@ fn order_answers(
 ) -> Result<(), AllocError> {
     assert!(rt; is_accepted(config));
     let periods = compile_all(alloc, config)?;
-    let mut order = Order::new(alloc, config)?;
+    let mut search = Search::new(alloc, config)?;
     let zone = ZoneClock::new(&Zone::Utc);
     for question in questions {
         let (states, moment, object, wanted) = *question;
         assert_eq!(rt; states.len(), config.objects.len());
         let t = moment.min(LAST_MOMENT);
-        let found = order.fails(states, periods.as_slice(), &zone, t, ObjectId(object));
+        let found = search.fails(
+            config,
+            states,
+            periods.as_slice(),
+            &zone,
+            t,
+            ObjectId(object),
+        );
         assert!(rt; found == wanted, "object {object} at {moment}");
     }
     Ok(())
@@ -401,8 +408,8 @@ fn case_answers(
     config: &Config,
     case: Case,
 ) -> Result<(), AllocError> {
-    if case.order {
-        order_answers(rt, alloc, config, case.questions)?;
+    if case.search {
+        search_answers(rt, alloc, config, case.questions)?;
     }
     if case.plain {
         plain_answers(rt, alloc, config, case.questions)?;
@@ -511,7 +518,7 @@ fn long_answers(
     if plain {
         plain_answers(rt, alloc, config, &questions)
     } else {
-        order_answers(rt, alloc, config, &questions)
+        search_answers(rt, alloc, config, &questions)
     }
 }
 

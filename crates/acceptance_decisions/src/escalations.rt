@@ -3,7 +3,6 @@
 
 ghost use Rattle.due_model.specs.Accepted.{IsAccepted};
 ghost use Rattle.time_period.specs.Days.{AreCompiled};
-ghost use Rattle.escalation.specs.ByObject.{IsByObject};
 
 use acceptance_inputs::accepted::is_accepted;
 use acceptance_inputs::periods::{Row, periods};
@@ -14,7 +13,6 @@ use due_model::options::{OptionLetter, OptionLetters};
 use due_model::proper::has_object;
 use due_model::sequence::Sequence;
 use due_model::zone::Zone;
-use escalation::by_object::ByObject;
 use escalation::contacts::{contacts, own_contacts};
 use escalation::interval::matching_interval;
 use std::alloc::{AllocError, Global};
@@ -184,22 +182,20 @@ fn is_as_told(
     rt: &impl Abort,
     alloc: Global,
     config: &Config,
-    by_object: &ByObject,
     all: &[Compiled],
     zone: &ZoneClock<'_>,
     case: Case,
 ) -> Result<(), AllocError>
     requires accepted { IsAccepted config.now }
-    requires grouped { IsByObject config.now by_object.now }
     requires compiled { AreCompiled config.now all.now }
 {
     let (object, number, letter, moment, wanted, wanted_contacts) = case;
     let t = moment.min(LAST_MOMENT);
     assert!(rt; has_object(config, object));
-    let seconds = matching_interval(config, by_object, object, number, letter, t, all, zone);
+    let seconds = matching_interval(config, object, number, letter, t, all, zone);
     let mut told = Vec::new(alloc);
     contacts(
-        alloc, config, by_object, object, number, letter, t, all, zone, &mut told,
+        alloc, config, object, number, letter, t, all, zone, &mut told,
     )?;
     assert_eq!(rt;
         (seconds, told.as_slice()),
@@ -214,41 +210,25 @@ fn are_as_told(
     rt: &impl Abort,
     alloc: Global,
     config: &Config,
-    by_object: &ByObject,
     all: &[Compiled],
     zone: &ZoneClock<'_>,
 ) -> Result<(), AllocError>
     requires accepted { IsAccepted config.now }
-    requires grouped { IsByObject config.now by_object.now }
     requires compiled { AreCompiled config.now all.now }
 {
     for case in &CASES {
-        is_as_told(rt, alloc, config, by_object, all, zone, *case)?;
+        is_as_told(rt, alloc, config, all, zone, *case)?;
     }
     Ok(())
 }
 
 /// The same with the periods worked out.
-fn compiled_as_told(
-    rt: &impl Abort,
-    alloc: Global,
-    config: &Config,
-    by_object: &ByObject,
-) -> Result<(), AllocError>
-    requires accepted { IsAccepted config.now }
-    requires grouped { IsByObject config.now by_object.now }
+fn compiled_as_told(rt: &impl Abort, alloc: Global, config: &Config) -> Result<(), AllocError>
+    requires { IsAccepted config.now }
 {
     let all = compile_all(alloc, config)?;
     let zone = ZoneClock::new(&Zone::Utc);
-    are_as_told(rt, alloc, config, by_object, all.as_slice(), &zone)
-}
-
-/// The same with the escalations of each object.
-fn grouped_as_told(rt: &impl Abort, alloc: Global, config: &Config) -> Result<(), AllocError>
-    requires { IsAccepted config.now }
-{
-    let by_object = ByObject::new(alloc, config)?;
-    compiled_as_told(rt, alloc, config, &by_object)
+    are_as_told(rt, alloc, config, all.as_slice(), &zone)
 }
 
 /// Each host's own contacts are added to those of the host before.
@@ -266,7 +246,7 @@ fn own_alone(rt: &impl Abort, alloc: Global, config: &Config) -> Result<(), Allo
 /// Compares what each case says, and the own contacts.
 fn says(rt: &impl Abort, alloc: Global, config: &Config) -> Result<(), AllocError> {
     assert!(rt; is_accepted(config));
-    grouped_as_told(rt, alloc, config)?;
+    compiled_as_told(rt, alloc, config)?;
     own_alone(rt, alloc, config)
 }
 

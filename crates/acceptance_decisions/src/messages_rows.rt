@@ -15,7 +15,6 @@ use due_model::options::OptionLetters;
 use due_model::proper::has_object;
 use due_model::state::State;
 use due_model::zone::Zone;
-use escalation::by_object::ByObject;
 use messages::entries::{Entry, notices_for, suppressions};
 use messages::outcome::add_messages;
 use outcomes::rules::Rules;
@@ -265,14 +264,12 @@ fn all_add(rt: &impl Abort, alloc: Global, rules: &Rules<'_>) -> Result<(), Allo
 /// The same in a configuration.
 fn each_adds(rt: &impl Abort, alloc: Global, config: &Config) -> Result<(), AllocError> {
     assert!(rt; is_accepted(config) && has_object(config, ObjectId(0)));
-    let by_object = ByObject::new(alloc, config)?;
     let all = compile_all(alloc, config)?;
     let zone = ZoneClock::new(&Zone::Utc);
     let rules = Rules {
         config,
         zone: &zone,
         periods: all.as_slice(),
-        escalations: &by_object,
     };
     all_add(rt, alloc, &rules)
 }

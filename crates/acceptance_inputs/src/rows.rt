@@ -10,6 +10,8 @@ use due_model::config::{
     Config, Contact, ContactId, ContactList, Dependency, Escalation, Lane, LaneId, Object,
     ObjectId, Period, PeriodId, Range, Rights,
 };
+use due_model::dependencies::Dependencies;
+use due_model::escalations::Escalations;
 use due_model::limits::MAX_OBJECTS;
 use due_model::objects::Objects;
 use due_model::options::OptionLetters;
@@ -380,8 +382,8 @@ fn of_parts(alloc: Global, parts: Parts) -> Result<Config, AllocError>
         contacts: Sequence::new(parts.contacts),
         lanes: Sequence::new(parts.lanes),
         periods: Sequence::new(parts.periods),
-        escalations: Sequence::new(parts.escalations),
-        dependencies: Sequence::new(parts.dependencies),
+        escalations: Escalations::new(alloc, parts.escalations)?,
+        dependencies: Dependencies::new(alloc, parts.dependencies)?,
     })
 }
 

@@ -8,8 +8,8 @@ use acceptance_inputs::dependencies::{
 };
 use acceptance_inputs::periods::{Row, periods};
 use due_model::config::{Config, Dependency, ObjectId, PeriodId};
+use due_model::dependencies::Dependencies;
 use due_model::limits::LAST_MOMENT;
-use due_model::sequence::Sequence;
 use due_model::state::State;
 use due_model::zone::Zone;
 use slow_lookups::dependencies::dependency_fails;
@@ -130,7 +130,7 @@ fn answers(
 ) -> Result<(), Fail> {
     let mut config = periods(alloc, &noon())?;
     config.objects = hosts(alloc, count)?;
-    config.dependencies = Sequence::new(Vec::from_slice(alloc, entries)?);
+    config.dependencies = Dependencies::new(alloc, Vec::from_slice(alloc, entries)?)?;
     assert!(rt; is_accepted(&config));
     for question in questions {
         let (states, moment, object, wanted) = *question;

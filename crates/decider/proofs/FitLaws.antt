@@ -92,7 +92,7 @@ values_with k zone periods context books = record {
   config = k.config;
   zone = zone;
   share = k.share;
-  tables = record { periods = periods; escalations = k.tables.escalations; dependencies = k.tables.dependencies };
+  tables = record { periods = periods; searched = k.tables.searched };
   context = context;
   statuses = k.statuses;
   books = books;

@@ -11,7 +11,6 @@ use Rattle.due_model.specs.declared.notice.Outcome.{Outcome}
 use Rattle.due_model.specs.declared.rules.ObjectStatus.{ObjectStatus}
 use Rattle.due_model.specs.Limits.{last_moment}
 use Rattle.due_model.specs.Readings.{moment}
-use Rattle.dependency.specs.Order.{Kept as Dependencies}
 use Rattle.lemmas.proofs.Numbers.{flat_below, flat_more, flat_none, flat_one}
 use Rattle.messages.specs.declared.entries.Entry.{Entry}
 use Rattle.messages.specs.Entries.{object_entries, outcome_entries}
@@ -111,9 +110,9 @@ module _ (laws : UntouchedFit) (v : Values) (e : Event) (past : List Event) (is 
 -- ---- one object after the other
 
 -- the same, read with statuses and dependencies that are the same
-pub at_same : (r : Reading) (d d' : Dependencies) (s s' : StatusLists) (e : Event) (past : List Event) → d' ≡ d → s' ≡ s → IsAt (values r d s) e past → IsAt (values r d' s') e past
+pub at_same : (r : Reading) (d d' : ℕ) (s s' : StatusLists) (e : Event) (past : List Event) → d' ≡ d → s' ≡ s → IsAt (values r d s) e past → IsAt (values r d' s') e past
 at_same r d d' s s' e past same_d same_s is =
-    subst (λ (x : Dependencies). IsAt (values r x s') e past) (sym same_d) (subst (λ (x : StatusLists). IsAt (values r d x) e past) (sym same_s) is)
+    subst (λ (x : ℕ). IsAt (values r x s') e past) (sym same_d) (subst (λ (x : StatusLists). IsAt (values r d x) e past) (sym same_s) is)
 
 -- what is added to what was added
 pub adds_more : (xs ys : List Entry) (bs cs : List NewBook) (first mid last : Staged) → Adds xs bs first mid → Adds ys cs mid last → Adds (xs ++ ys) (bs ++ cs) first last

@@ -1,5 +1,5 @@
 -- Laws of what is due after one event more.
-use Rattle.std.proofs.Common.{[], List, None, Option, refl, slice_get, Some, ℕ, ◌++◌, ◌+◌, ◌∷◌, ◌≡◌}
+use Rattle.std.proofs.Common.{[], List, None, Option, refl, slice_get, Some, ℕ, ◌++◌, ◌∷◌, ◌≡◌}
 use Rattle.std.specs.Option.{option_map_or}
 use Rattle.due_model.specs.declared.config.Config.{Config}
 use Rattle.due_model.specs.declared.config.Object.{Object}

@@ -9,8 +9,6 @@ use Rattle.due_model.specs.Limits.{last_moment, max_events}
 use Rattle.due_model.specs.Proper.{IsProper}
 use Rattle.due_model.specs.Readings.{moment as moment_of, program_on}
 use Rattle.due_times.specs.Index.{Due}
-use Rattle.dependency.specs.Order.{IsOrderOf, Kept as Dependencies}
-use Rattle.escalation.specs.ByObject.{IsByObject}
 use Rattle.problem_count.specs.Book.{BookValues}
 use Rattle.time_period.specs.Days.{AreCompiled}
 use Rattle.decider.specs.declared.reading.EventContext.{EventContext}
@@ -23,14 +21,13 @@ use Rattle.decider.specs.Statuses.{StatusLists, StatusesFit}
 -- what is worked out of a configuration once
 pub record TableValues : Type 0 where
   pub periods : List (List (List Range))
-  pub escalations : List (List ℕ)
-  pub dependencies : Dependencies
+  -- among so many objects the search of dependencies goes
+  pub searched : ℕ
 
 -- it is worked out of this one
 pub record AreTables (c : Config) (tables : TableValues) : Type 0 where
   pub compiled : AreCompiled c tables.periods
-  pub grouped : IsByObject c tables.escalations
-  pub ordered : IsOrderOf c tables.dependencies
+  pub searched : tables.searched ≡ length c.objects
 
 -- all that is read
 pub record Values : Type 0 where
@@ -43,15 +40,14 @@ pub record Values : Type 0 where
   pub books : List BookValues
   pub index : Due
 
-abbrev pub values : Reading → Dependencies → StatusLists → Values
-values reading dependencies statuses = record {
+abbrev pub values : Reading → (searched : ℕ) → StatusLists → Values
+values reading searched statuses = record {
   config = reading.rules.config.now;
   zone = reading.rules.zone.now;
   share = reading.share;
   tables = record {
     periods = reading.rules.periods.now;
-    escalations = reading.rules.escalations.now;
-    dependencies = dependencies;
+    searched = searched;
   };
   context = reading.context;
   statuses = statuses;

@@ -47,8 +47,7 @@ core_kept d = record {
   share = d.share;
   tables = record {
     periods = d.periods.items;
-    escalations = d.escalations;
-    dependencies = d.dependencies;
+    searched = d.dependencies;
   };
   count = d.count;
   moment = d.moment;

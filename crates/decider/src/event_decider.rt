@@ -14,13 +14,12 @@ use crate::ready::{mark, new_index, take_judged};
 use crate::share::Share;
 use crate::staging::{Staged, settle, stage_event};
 use crate::statuses::Statuses;
-use dependency::order::Order;
+use dependency::search::Search;
 use due_model::config::Config;
 use due_model::event::Event;
 use due_model::limits::MAX_EVENTS;
 use due_model::zone::Zone;
 use due_times::Index;
-use escalation::by_object::ByObject;
 use messages::entries::Entry;
 use outcomes::rules::Rules;
 use problem_count::Book;
@@ -54,10 +53,8 @@ pub struct EventDecider<'a> {
     share: Share,
     /// The periods of the configuration as they are worked out, in the order of their numbers.
     periods: Vec<Compiled>,
-    /// The escalations of the configuration, by their objects.
-    escalations: ByObject,
-    /// The dependencies of the configuration, by their dependents.
-    dependencies: Order,
+    /// The search through the dependencies of the configuration.
+    dependencies: Search,
     /// How many events were decided.
     count: u64,
     /// The greatest stamp so far.
@@ -86,8 +83,8 @@ impl<'a> EventDecider<'a> {
     ghost use Rattle.decider.specs.Ready.{HasRoom, IsIndexAfter, judged};
     ghost use Rattle.decider.specs.Share.{IsShare};
 
-    /// A decider of the objects of this share, which has decided no event. It works out the periods, the
-    /// escalations and the dependencies of the configuration. A refused growth is the only error.
+    /// A decider of the objects of this share, which has decided no event. It works out the periods of the
+    /// configuration. A refused growth is the only error.
     pub fn new(
         alloc: Global,
         config: &'a Config,
@@ -107,8 +104,7 @@ impl<'a> EventDecider<'a> {
             zone: ZoneClock::new(zone),
             share,
             periods: compile_all(alloc, config)?,
-            escalations: ByObject::new(alloc, config)?,
-            dependencies: Order::new(alloc, config)?,
+            dependencies: Search::new(alloc, config)?,
             count: 0,
             moment: 0,
             program: true,
@@ -214,7 +210,6 @@ impl<'a> EventDecider<'a> {
                 config: self.config,
                 zone: &self.zone,
                 periods: &self.periods,
-                escalations: &self.escalations,
             },
             share: self.share,
             context,

@@ -9,7 +9,6 @@ ghost use Rattle.due_model.specs.Dependencies.{dependency_fails};
 ghost use Rattle.due_model.specs.Limits.{last_moment, max_events};
 ghost use Rattle.due_model.specs.Readings.{hard, moment};
 ghost use Rattle.dependency.specs.Entry.{state_of};
-ghost use Rattle.dependency.specs.Order.{IsOrderOf};
 ghost use Rattle.outcomes.specs.Found.{IsFound, is_host_down};
 ghost use Rattle.time_period.specs.Days.{AreCompiled};
 ghost use Rattle.decider.specs.Events.{IsAt, values};
@@ -17,14 +16,14 @@ ghost use Rattle.decider.specs.Statuses.{StatusesFit};
 
 use crate::reading::Reading;
 use crate::statuses::{Statuses, hard_by, status_by};
-use dependency::order::Order;
+use dependency::search::Search;
 use due_model::config::ObjectId;
 use outcomes::found::Found;
 
 /// What the event finds of an object. It takes no memory.
 pub(crate) fn find(
     reading: &Reading<'_>,
-    dependencies: &mut Order,
+    dependencies: &mut Search,
     statuses: &mut Statuses,
     object: ObjectId,
 ) -> Found
@@ -77,7 +76,7 @@ fn is_host_down(reading: &Reading<'_>, statuses: &Statuses, object: ObjectId) ->
 /// Dependencies").
 fn depends(
     reading: &Reading<'_>,
-    dependencies: &mut Order,
+    dependencies: &mut Search,
     statuses: &mut Statuses,
     object: ObjectId,
 ) -> bool
@@ -104,20 +103,22 @@ fn depends(
 /// Whether a notification dependency of the object fails by these statuses.
 fn depends_now(
     reading: &Reading<'_>,
-    dependencies: &mut Order,
+    dependencies: &mut Search,
     statuses: &Statuses,
     object: ObjectId,
 ) -> bool
-    requires states { length statuses.now.states ≡ length dependencies.old.entries }
-    requires periods { length reading.now.rules.periods.now ≡ dependencies.old.periods }
+    requires accepted { IsAccepted reading.now.rules.config.now }
+    requires compiled { AreCompiled reading.now.rules.config.now reading.now.rules.periods.now }
+    requires objects { dependencies.old ≡ length reading.now.rules.config.now.objects }
+    requires states { length statuses.now.states ≡ dependencies.old }
     requires moment { reading.now.context.moment ≤ last_moment }
     ensures unchanged { dependencies.new ≡ dependencies.old }
-    ensures fails { (c : Config) → IsOrderOf c dependencies.old
-        → AreCompiled c reading.now.rules.periods.now
-        → result ≡ dependency_fails c reading.now.rules.zone.now (state_of statuses.now.states)
-        reading.now.context.moment object.0 }
+    ensures fails { result
+        ≡ dependency_fails reading.now.rules.config.now reading.now.rules.zone.now
+        (state_of statuses.now.states) reading.now.context.moment object.0 }
 {
     dependencies.fails(
+        reading.rules.config,
         statuses.states(),
         reading.rules.periods,
         reading.rules.zone,

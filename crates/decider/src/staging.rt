@@ -15,7 +15,7 @@ ghost use Rattle.decider.specs.Statuses.{named_by};
 use crate::find::find;
 use crate::reading::Reading;
 use crate::statuses::Statuses;
-use dependency::order::Order;
+use dependency::search::Search;
 use due_model::config::{ContactId, ObjectId};
 use due_model::event::EventKind;
 use messages::entries::Entry;
@@ -71,7 +71,7 @@ impl Staged {
 pub(crate) fn stage_event(
     alloc: Global,
     reading: &Reading<'_>,
-    dependencies: &mut Order,
+    dependencies: &mut Search,
     statuses: &mut Statuses,
     staged: &mut Staged,
 ) -> Result<(), AllocError>
@@ -125,7 +125,7 @@ pub(crate) fn stage_event(
 fn stage_due(
     alloc: Global,
     reading: &Reading<'_>,
-    dependencies: &mut Order,
+    dependencies: &mut Search,
     statuses: &mut Statuses,
     staged: &mut Staged,
 ) -> Result<(), AllocError>
@@ -154,7 +154,7 @@ fn stage_due(
 fn stage_owned(
     alloc: Global,
     reading: &Reading<'_>,
-    dependencies: &mut Order,
+    dependencies: &mut Search,
     statuses: &mut Statuses,
     object: ObjectId,
     staged: &mut Staged,
@@ -184,7 +184,7 @@ fn stage_owned(
 fn stage_touched(
     alloc: Global,
     reading: &Reading<'_>,
-    dependencies: &mut Order,
+    dependencies: &mut Search,
     statuses: &mut Statuses,
     object: ObjectId,
     staged: &mut Staged,

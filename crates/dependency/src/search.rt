@@ -1,107 +1,131 @@
 //! The walk through the entries that an object's chains reach.
 
-ghost use Rattle.std.specs.Prelude.{◌≡◌, ◌≤◌, ◌<◌, [], ◌∷◌, false, length, All};
-ghost use Rattle.std.specs.Prelude.{slice_index_or};
+ghost use Rattle.std.specs.Prelude.{◌≡◌, ◌≤◌, ◌<◌, [], ◌∷◌, cond, false, length, IfOk};
 ghost use Rattle.std.specs.List.{list_any};
 ghost use Rattle.graph.specs.Reach.{Gains};
-ghost use Rattle.due_model.specs.declared.config.Config.{Config};
-ghost use Rattle.due_model.specs.Dependencies.{dependency_fails};
+ghost use Rattle.due_model.specs.Accepted.{IsAccepted};
+ghost use Rattle.due_model.specs.ByObject.{entries_of};
+ghost use Rattle.due_model.specs.Dependencies.{dependency_fails, has_state};
 ghost use Rattle.due_model.specs.Limits.{last_moment};
-ghost use Rattle.dependency.specs.Entry.{EntryFits, HasEntries, fails_by, masters_of, state_of};
+ghost use Rattle.dependency.specs.Entry.{fails_by, masters_of, state_of};
 ghost use Rattle.time_period.specs.Days.{AreCompiled};
 
-use crate::entry::is_valid;
-use due_model::config::Dependency;
+use due_model::config::{Config, Dependency, ObjectId};
 use due_model::state::State;
-use graph::lists::Lists;
 use graph::reach::Reach;
-use time_period::compiled::Compiled;
+use std::alloc::{AllocError, Global};
+use std::marker::Model;
+use time_period::compiled::{Compiled, is_in_period};
 use zone_times::clock::ZoneClock;
 
-/// Whether an entry fails along a chain from the object. The walk goes breadth first, and the list of what it
-/// found is its queue.
-pub(crate) fn fails(
-    search: &mut Reach,
-    entries: &Lists<Dependency>,
-    states: &[State],
-    periods: &[Compiled],
-    zone: &ZoneClock<'_>,
-    t: u64,
-    object: u16,
-) -> bool
-    requires same { length entries.now ≡ search.old.nodes }
-    requires fit { All (All (EntryFits search.old.nodes (length periods.now))) entries.now }
-    requires states { length states.now ≡ search.old.nodes }
-    requires moment { t ≤ last_moment }
-    requires within { object < search.old.nodes }
-    ensures nodes { search.new.nodes ≡ search.old.nodes }
-    ensures fails { (c : Config) → HasEntries c entries.now → AreCompiled c periods.now
-        → result ≡ dependency_fails c zone.now (state_of states.now) t object }
-{
-    search.begin();
-    search.find(u32::from(object));
-    let mut turn = 0;
-    while turn < search.found().len() {
-        let found = search.found()[turn];
-        let own = entries.get(found as usize);
-        if follow(search, own, states, periods, zone, t) {
-            return true;
-        }
-        turn += 1;
-    }
-    false
+/// What is found on the way along the chains of one object's dependencies, for one question after another. It takes 8
+/// bytes an object. Contracts see for how many objects it is.
+#[derive(Drop)]
+pub struct Search {
+    reach: Reach,
 }
 
-/// Finds the masters to which these entries lead on, up to the first entry that fails by its own master's
-/// state. Whether there is one.
+impl Model for Search {
+    ghost use Rattle.std.specs.Prelude.{ℕ};
+
+    ghost Value = { ℕ };
+
+    ghost view = { λ s. s.reach.nodes };
+}
+
+impl Search {
+    /// A search for the objects of a configuration. Want of memory is the only error and leaves nothing.
+    pub fn new(alloc: Global, config: &Config) -> Result<Self, AllocError>
+        requires { IsAccepted config.now }
+        ensures { IfOk result (λ search. search ≡ length config.now.objects) }
+    {
+        Ok(Search {
+            reach: Reach::new(alloc, config.objects.len() as u32)?,
+        })
+    }
+
+    /// Whether a dependency of the object fails at a moment, in seconds since the epoch (chapter "Host and Service
+    /// Dependencies"): `states` has each object's last hard state, and `periods` each period of the configuration as it
+    /// is worked out. It looks only at entries that the object's chains reach, at each at most once, and takes no
+    /// memory. An object that depends on nothing is answered at once; so is one that the configuration doesn't have.
+    pub fn fails(
+        &mut self,
+        config: &Config,
+        states: &[State],
+        periods: &[Compiled],
+        zone: &ZoneClock<'_>,
+        t: u64,
+        object: ObjectId,
+    ) -> bool
+        requires accepted { IsAccepted config.now }
+        requires objects { self.old ≡ length config.now.objects }
+        requires states { length states.now ≡ self.old }
+        requires compiled { AreCompiled config.now periods.now }
+        requires moment { t ≤ last_moment }
+        ensures unchanged { self.new ≡ self.old }
+        ensures fails { result
+            ≡ dependency_fails config.now zone.now (state_of states.now) t object.0 }
+    {
+        if config.dependencies.of(object).is_empty() {
+            return false;
+        }
+        self.reach.begin();
+        self.reach.find(u32::from(object.0));
+        let mut turn = 0;
+        while turn < self.reach.found().len() {
+            let next = ObjectId(self.reach.found()[turn] as u16);
+            if follow(&mut self.reach, config, states, periods, zone, t, next) {
+                return true;
+            }
+            turn += 1;
+        }
+        false
+    }
+}
+
+/// Finds the masters to which the object's entries lead on, up to the first entry that fails by its own master's state.
+/// Whether there is one.
 fn follow(
-    search: &mut Reach,
-    entries: &[Dependency],
+    reach: &mut Reach,
+    config: &Config,
     states: &[State],
     periods: &[Compiled],
     zone: &ZoneClock<'_>,
     t: u64,
+    object: ObjectId,
 ) -> bool
-    requires fit { All (EntryFits search.old.nodes (length periods.now)) entries.now }
-    requires states { length states.now ≡ search.old.nodes }
+    requires accepted { IsAccepted config.now }
+    requires objects { reach.old.nodes ≡ length config.now.objects }
+    requires states { length states.now ≡ reach.old.nodes }
+    requires compiled { AreCompiled config.now periods.now }
     requires moment { t ≤ last_moment }
-    ensures nodes { search.new.nodes ≡ search.old.nodes }
-    ensures gains { (c : Config) → AreCompiled c periods.now → result ≡ false
-        → Gains search.old.found (masters_of c zone.now t entries.now) search.new.found }
-    ensures fails { (c : Config) → AreCompiled c periods.now
-        → result ≡ list_any (fails_by c zone.now (state_of states.now) t) entries.now }
+    ensures nodes { reach.new.nodes ≡ reach.old.nodes }
+    ensures gains { result ≡ false → Gains reach.old.found
+        (masters_of config.now zone.now t (entries_of config.now.dependencies object.0))
+        reach.new.found }
+    ensures fails { result ≡ list_any (fails_by config.now zone.now (state_of states.now) t)
+        (entries_of config.now.dependencies object.0) }
 {
-    for entry in entries {
-        if look(search, entry, states, periods, zone, t) {
+    for entry in config.dependencies.of(object) {
+        if is_in_period(periods, entry.period, zone, t) && look(reach, entry, states) {
             return true;
         }
     }
     false
 }
 
-/// Finds the entry's master, if it leads on. Whether it fails by the master's own state.
-fn look(
-    search: &mut Reach,
-    entry: &Dependency,
-    states: &[State],
-    periods: &[Compiled],
-    zone: &ZoneClock<'_>,
-    t: u64,
-) -> bool
-    requires fits { EntryFits search.old.nodes (length periods.now) entry.now }
-    requires states { length states.now ≡ search.old.nodes }
-    requires moment { t ≤ last_moment }
-    ensures nodes { search.new.nodes ≡ search.old.nodes }
-    ensures gains { (c : Config) → AreCompiled c periods.now
-        → Gains search.old.found (masters_of c zone.now t (entry.now ∷ [])) search.new.found }
-    ensures fails { (c : Config) → AreCompiled c periods.now
-        → result ≡ fails_by c zone.now (state_of states.now) t entry.now }
+/// Finds the master of a valid entry, if it leads on. Whether the entry fails by the master's own state.
+fn look(reach: &mut Reach, entry: &Dependency, states: &[State]) -> bool
+    requires within { entry.now.master.0 < reach.old.nodes }
+    requires states { length states.now ≡ reach.old.nodes }
+    ensures nodes { reach.new.nodes ≡ reach.old.nodes }
+    ensures gains { Gains reach.old.found
+        (cond entry.now.inherits (entry.now.master.0 ∷ []) []) reach.new.found }
+    ensures fails { result
+        ≡ has_state entry.now.states (state_of states.now entry.now.master.0) }
 {
-    if !is_valid(entry.period, periods, zone, t) {
-        return false;
-    }
     if entry.inherits {
-        search.find(u32::from(entry.master.0));
+        reach.find(u32::from(entry.master.0));
     }
-    entry.states.contains(states[entry.master.0 as usize])
+    entry.states.contains(states[usize::from(entry.master.0)])
 }

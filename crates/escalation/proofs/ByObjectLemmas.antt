@@ -1,45 +1,18 @@
--- The places of each object's escalations, one more escalation at a time, and the escalations that stand there.
-use Rattle.std.proofs.Common.{◌≡◌, ℕ, zero, suc, ◌+◌, ◌<◌, ◌≤◌, Bool, true, false, cond, eqb, List, [], ◌∷◌, ◌++◌, length, filter, get_or, set, take, replicate, Some, slice_get, refl, sym, ap, subst, ◌∙◌, arith}
+-- The escalations that stand at the places of an object.
+use Rattle.std.proofs.Common.{◌≡◌, ℕ, zero, suc, ◌+◌, ◌<◌, ◌≤◌, Bool, true, false, cond, eqb, List, [], ◌∷◌, ◌++◌, length, filter, take, Some, slice_get, refl, sym, ap, subst, ◌∙◌, arith}
 use Rattle.std.specs.Prelude.{All}
 use Rattle.std.specs.List.{filter_map, range_with_len}
-use Rattle.std.proofs.lemmas.Bool.{eq-eqb, eqb-true}
-use Rattle.std.proofs.lemmas.List.{append-nil, get_or-replicate, get_or-set_other, get_or-set_same, length-replicate, length-set, take_all, take_more}
+use Rattle.std.proofs.lemmas.List.{take_all, take_more}
 use Rattle.std.proofs.lemmas.List.Elements.{All-filter, filter-append, filter_map-append}
 use Rattle.std.proofs.lemmas.List.FromFn.{get_or-range_with_len, length-range_with_len}
 use Rattle.std.proofs.lemmas.Option.{get_or_from_slice_get, slice_get_within}
 use Rattle.lemmas.proofs.Lists.{filter_range_more, some_at}
-use Rattle.due_model.specs.declared.config.Config.{Config}
 use Rattle.due_model.specs.declared.config.Escalation.{Escalation}
-use Rattle.escalation.specs.ByObject.{HasPlaces, is_of, places_below}
-
-pub none_yet : (c : Config) → HasPlaces c 0 (replicate (length c.objects) [])
-none_yet c = record {
-  as_many = length-replicate {A = List ℕ} (length c.objects) [];
-  places = λ o low. get_or-replicate {A = List ℕ} (length c.objects) o [] [] low;
-}
+use Rattle.due_model.specs.ByObject.{is_of, places_below, places_of}
 
 -- whether the escalation at a place is one of object o, where it is known
 of_at : (es : List Escalation) (o i : ℕ) (e : Escalation) → slice_get es i ≡ Some e → is_of es o i ≡ eqb e.object.0 o
 of_at es o i e at = rw (is_of, at) refl
-
--- one escalation more
-pub one_more : (c : Config) (i : ℕ) (e : Escalation) (lists : List (List ℕ)) → slice_get c.escalations i ≡ Some e → e.object.0 < length c.objects → HasPlaces c i lists
-    → HasPlaces c (i + 1) (set lists e.object.0 (get_or lists e.object.0 [] ++ i ∷ []))
-one_more c i e lists at within has =
-    let es : List Escalation = c.escalations in
-    let more : List ℕ = get_or lists e.object.0 [] ++ i ∷ [] in
-    record {
-      as_many = length-set lists e.object.0 more ∙ has.as_many;
-      places = λ o low. elim (eqb e.object.0 o) as (λ b. eqb e.object.0 o ≡ b → get_or (set lists e.object.0 more) o [] ≡ places_below es i o ++ cond b (i ∷ []) []) [
-        | true ↦ λ same. subst (λ (q : ℕ). get_or (set lists e.object.0 more) q [] ≡ places_below es i q ++ i ∷ []) (eqb-true e.object.0 o same)
-            (get_or-set_same lists e.object.0 more [] (omega (arith, within, has.as_many)) ∙ ap (λ (some : List ℕ). some ++ i ∷ []) (has.places e.object.0 within))
-        | false ↦ λ other. get_or-set_other lists e.object.0 o more [] (λ is. let same : eqb e.object.0 o ≡ true = eq-eqb e.object.0 o (sym is) in cc) ∙ has.places o low ∙ sym (append-nil (places_below es i o))
-      ] refl
-          ∙ ap (λ (b : Bool). places_below es i o ++ cond b (i ∷ []) []) (sym (of_at es o i e at))
-          ∙ sym (filter_range_more (is_of es o) i);
-    }
-
--- ---- the escalations at these places
 
 pub take_one : {X : Type 0} (xs : List X) (i : ℕ) (x : X) → slice_get xs i ≡ Some x → take (i + 1) xs ≡ take i xs ++ x ∷ []
 take_one {X} xs i x at = take_more xs i x (slice_get_within xs i x at) ∙ ap (λ (y : X). take i xs ++ y ∷ []) (get_or_from_slice_get xs i x x at)
@@ -65,10 +38,10 @@ at_places_below es o (suc n) few =
     ∙ sym (ap (filter (λ (x : Escalation). eqb x.object.0 o)) (take_one es n e found.1) ∙ filter-append (λ (x : Escalation). eqb x.object.0 o) (take n es) (e ∷ [])))
 
 -- the escalations at the places of object o are its own
-pub own_at : (es : List Escalation) (o : ℕ) → filter_map (slice_get es) (places_below es (length es) o) ≡ filter (λ e. eqb e.object.0 o) es
+pub own_at : (es : List Escalation) (o : ℕ) → filter_map (slice_get es) (places_of es o) ≡ filter (λ e. eqb e.object.0 o) es
 own_at es o = at_places_below es o (length es) (omega arith) ∙ ap (filter (λ (e : Escalation). eqb e.object.0 o)) (take_all (length es) es (omega arith))
 
-pub places_within : (es : List Escalation) (count o : ℕ) → All (λ place. place < count) (places_below es count o)
-places_within es count o = All-filter (is_of es o) (λ place. place < count) (range_with_len 0 count) (λ k d low.
-    let few : k < count = omega (arith, low, length-range_with_len 0 count) in
-    omega (arith, few, get_or-range_with_len 0 count k d few))
+pub places_within : (es : List Escalation) (o : ℕ) → All (λ place. place < length es) (places_of es o)
+places_within es o = All-filter (is_of es o) (λ place. place < length es) (range_with_len 0 (length es)) (λ k d low.
+    let few : k < length es = omega (arith, low, length-range_with_len 0 (length es)) in
+    omega (arith, few, get_or-range_with_len 0 (length es) k d few))

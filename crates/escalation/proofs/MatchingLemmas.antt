@@ -1,5 +1,5 @@
 -- The escalations that apply, one place more; their least interval, and whom they name.
-use Rattle.std.proofs.Common.{◌≡◌, ℕ, ◌+◌, ◌*◌, ◌<◌, ◌≤◌, Bool, true, false, ◌&&◌, ◌||◌, cond, eqb, List, [], ◌∷◌, ◌++◌, length, filter, fold, min, option_map, unwrap_or, get_or, take, Option, Some, slice_get, slice_index_or, refl, sym, ap, subst, ◌∙◌, le_trans, arith}
+use Rattle.std.proofs.Common.{◌≡◌, ℕ, ◌+◌, ◌*◌, ◌<◌, ◌≤◌, Bool, true, false, ◌&&◌, ◌||◌, cond, eqb, List, [], ◌∷◌, ◌++◌, length, filter, fold, min, option_map, unwrap_or, get_or, take, Option, Some, slice_get, refl, sym, ap, ◌∙◌, le_trans, arith}
 use Rattle.std.specs.Prelude.{All}
 use Rattle.std.specs.List.{filter_map, list_any, range_with_len}
 use Rattle.std.proofs.lemmas.Grind.{flat_map-append}
@@ -7,7 +7,6 @@ use Rattle.std.proofs.lemmas.List.{append-nil, take_all, take_more}
 use Rattle.std.proofs.lemmas.List.Elements.{All-filter, All-head, All-tail, All-weaker, filter-append, filter_agree, filter_map-append}
 use Rattle.std.proofs.lemmas.List.Folds.{list_any-append}
 use Rattle.std.proofs.lemmas.List.Sums.{fold-append}
-use Rattle.std.proofs.lemmas.Option.{get_or_from_slice_get}
 use Rattle.std.proofs.Math.Nat.{min-le_left}
 use Rattle.lemmas.proofs.Lists.{All-flat_map, All-slice_get, slice_get_read}
 use Rattle.due_model.specs.declared.config.Config.{Config}
@@ -17,12 +16,12 @@ use Rattle.due_model.specs.declared.config.Object.{Object}
 use Rattle.due_model.specs.declared.options.OptionLetter.{OptionLetter}
 use Rattle.due_model.specs.declared.zone.Zone.{Zone}
 use Rattle.due_model.specs.Accepted.{EscalationFits, IsAccepted, ObjectFits}
+use Rattle.due_model.specs.ByObject.{places_of}
 use Rattle.due_model.specs.Limits.{max_number}
 use Rattle.due_model.specs.Escalations.{contacts_with, has_contact, interval_of, matches, matching, reaches}
-use Rattle.escalation.specs.ByObject.{IsByObject}
 use Rattle.escalation.specs.Matching.{applies, applying, least_of}
 use Rattle.escalation.specs.Named.{has_some, named_by}
-use Rattle.escalation.proofs.ByObjectLemmas.{own_at, places_within}
+use Rattle.escalation.proofs.ByObjectLemmas.{own_at}
 
 -- ---- one escalation more at the end
 
@@ -84,14 +83,8 @@ module _ (c : Config) (zone : Zone) (n : ℕ) (letter : OptionLetter) (t : ℕ) 
   both : (es : List Escalation) (o : ℕ) → filter (applies c zone n letter t) (filter (λ e. eqb e.object.0 o) es) ≡ filter (matches c zone o n letter t) es
   both es o = filter_both (λ e. eqb e.object.0 o) (applies c zone n letter t) (matches c zone o n letter t) (λ e. five (eqb e.object.0 o) _ _ _ _) es
 
-  pub are_matching : (by_object : List (List ℕ)) (o : ℕ) → IsByObject c by_object → o < length c.objects
-      → applying c zone n letter t (slice_index_or by_object o []) ≡ matching c zone o n letter t
-  are_matching by_object o is low =
-      ap (applying c zone n letter t) (is.places o low) ∙ ap (filter (applies c zone n letter t)) (own_at c.escalations o) ∙ both c.escalations o
-
-pub are_within : (c : Config) (by_object : List (List ℕ)) (o : ℕ) → IsByObject c by_object → o < length c.objects
-    → All (λ place. place < length c.escalations) (slice_index_or by_object o [])
-are_within c by_object o is low = subst (All (λ place. place < length c.escalations)) (sym (is.places o low)) (places_within c.escalations (length c.escalations) o)
+  pub are_matching : (o : ℕ) → applying c zone n letter t (places_of c.escalations o) ≡ matching c zone o n letter t
+  are_matching o = ap (filter (applies c zone n letter t)) (own_at c.escalations o) ∙ both c.escalations o
 
 pub interval_is : (object : Object) (es : List Escalation) (least : Option ℕ) (own : ℕ) → least ≡ least_of es → own ≡ object.interval
     → unwrap_or least own ≡ interval_of object es

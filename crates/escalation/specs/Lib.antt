@@ -1,3 +1,2 @@
-pub mod ByObject
 pub mod Matching
 pub mod Named

@@ -7,11 +7,9 @@ ghost use Rattle.due_model.specs.Escalations.{contacts_with, has_contact, reach}
 ghost use Rattle.due_model.specs.Limits.{last_moment};
 ghost use Rattle.due_model.specs.declared.config.Object.{Object};
 ghost use Rattle.time_period.specs.Days.{AreCompiled};
-ghost use Rattle.escalation.specs.ByObject.{IsByObject};
 ghost use Rattle.escalation.specs.Matching.{applying};
 ghost use Rattle.escalation.specs.Named.{contact_ids, has_some, named_by};
 
-use crate::by_object::ByObject;
 use crate::in_order::{append_in_order, is_in_order};
 use crate::matching::applies;
 use due_model::config::{Config, ContactId, ObjectId};
@@ -26,7 +24,6 @@ use zone_times::clock::ZoneClock;
 pub fn contacts(
     alloc: Global,
     config: &Config,
-    by_object: &ByObject,
     object: ObjectId,
     number: u64,
     letter: OptionLetter,
@@ -36,7 +33,6 @@ pub fn contacts(
     out: &mut Vec<ContactId>,
 ) -> Result<(), AllocError>
     requires accepted { IsAccepted config.now }
-    requires grouped { IsByObject config.now by_object.now }
     requires object { object.0 < length config.now.objects }
     requires moment { t ≤ last_moment }
     requires compiled { AreCompiled config.now periods.now }
@@ -47,7 +43,7 @@ pub fn contacts(
     ensures refused { OnErr result (out.new.items ≡ out.old.items) }
 {
     let mut named = Vec::new(alloc);
-    let places = by_object.of(object);
+    let places = config.escalations.of(object);
     if name_applying(config, places, number, letter, t, periods, zone, &mut named)? {
         append_in_order(named, out)
     } else {
@@ -85,7 +81,7 @@ pub fn own_contacts(
 /// there is such an escalation.
 fn name_applying(
     config: &Config,
-    places: &[u32],
+    places: &[usize],
     number: u64,
     letter: OptionLetter,
     t: u64,
@@ -104,7 +100,7 @@ fn name_applying(
 {
     let mut some = false;
     for place in places {
-        let escalation = &config.escalations.as_slice()[*place as usize];
+        let escalation = &config.escalations.as_slice()[*place];
         if applies(escalation, number, letter, t, periods, zone) {
             named.extend_from_slice(escalation.contacts.as_slice())?;
             some = true;

@@ -8,10 +8,8 @@ ghost use Rattle.due_model.specs.Escalations.{gap};
 ghost use Rattle.due_model.specs.Limits.{last_moment, max_number};
 ghost use Rattle.due_model.specs.declared.config.Object.{Object};
 ghost use Rattle.time_period.specs.Days.{AreCompiled};
-ghost use Rattle.escalation.specs.ByObject.{IsByObject};
 ghost use Rattle.escalation.specs.Matching.{applying, least_of};
 
-use crate::by_object::ByObject;
 use crate::matching::applies;
 use due_model::config::{Config, ObjectId};
 use due_model::options::OptionLetter;
@@ -23,7 +21,6 @@ use zone_times::clock::ZoneClock;
 /// escalations that match, and the object's own where none does. It takes no memory.
 pub fn matching_interval(
     config: &Config,
-    by_object: &ByObject,
     object: ObjectId,
     number: u64,
     letter: OptionLetter,
@@ -32,7 +29,6 @@ pub fn matching_interval(
     zone: &ZoneClock<'_>,
 ) -> u64
     requires accepted { IsAccepted config.now }
-    requires grouped { IsByObject config.now by_object.now }
     requires object { object.0 < length config.now.objects }
     requires moment { t ≤ last_moment }
     requires compiled { AreCompiled config.now periods.now }
@@ -41,7 +37,7 @@ pub fn matching_interval(
     ensures range { result ≤ 60 * max_number }
 {
     let own = config.objects.as_slice()[usize::from(object.0)].interval;
-    let places = by_object.of(object);
+    let places = config.escalations.of(object);
     let least = least_interval(config, places, number, letter, t, periods, zone);
     60 * u64::from(least.unwrap_or(own))
 }
@@ -49,7 +45,7 @@ pub fn matching_interval(
 /// The least interval of the escalations at these places that apply, if one does.
 fn least_interval(
     config: &Config,
-    places: &[u32],
+    places: &[usize],
     number: u64,
     letter: OptionLetter,
     t: u64,
@@ -64,7 +60,7 @@ fn least_interval(
 {
     let mut least = None;
     for place in places {
-        let escalation = &config.escalations.as_slice()[*place as usize];
+        let escalation = &config.escalations.as_slice()[*place];
         if applies(escalation, number, letter, t, periods, zone) {
             least = Some(lesser(least, escalation.interval));
         }

@@ -2,7 +2,6 @@
 //! one is due. The calls read the escalations of one object, and cost what those are and the contacts that they name.
 #![tactic(auto)]
 
-pub mod by_object;
 pub mod contacts;
 mod in_order;
 pub mod interval;

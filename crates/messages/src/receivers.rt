@@ -75,7 +75,6 @@ fn add_reached(
     contacts(
         alloc,
         rules.config,
-        rules.escalations,
         message.object,
         number,
         letter,

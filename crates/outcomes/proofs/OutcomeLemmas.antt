@@ -1,5 +1,5 @@
 -- What an event finds is what the definitions read, and what becomes of it is told to the book.
-use Rattle.std.proofs.Common.{◌≡◌, ℕ, ◌≤◌, get_or, slice_get, Bool, true, false, List, ◌∷◌, Option, Some, None, if◌then◌else◌, refl, sym, ap, subst, ◌∙◌, arith}
+use Rattle.std.proofs.Common.{◌≡◌, ℕ, ◌≤◌, Bool, true, false, List, ◌∷◌, Option, Some, None, if◌then◌else◌, refl, sym, ap, subst, ◌∙◌, arith}
 use Rattle.due_model.specs.declared.config.Config.{Config}
 use Rattle.due_model.specs.declared.config.Object.{Object}
 use Rattle.due_model.specs.declared.event.Event.{Event}
@@ -11,7 +11,6 @@ use Rattle.due_model.specs.declared.notice.Outcome.TheVariants.{Nothing, Sent, S
 use Rattle.due_model.specs.declared.state.State.{State}
 use Rattle.due_model.specs.declared.zone.Zone.{Zone}
 use Rattle.due_model.specs.Histories.{judged, outcome_of, status_after, view}
-use Rattle.std.proofs.lemmas.Option.{get_or_from_slice_get}
 use Rattle.due_model.specs.Periods.{first_passing, next_in}
 use Rattle.due_model.specs.Readings.{hard, moment}
 use Rattle.due_model.specs.Rules.{attempted, is_problem}

@@ -1,6 +1,5 @@
 -- What is worked out of a configuration.
 use Rattle.due_model.specs.Accepted.{IsAccepted}
-use Rattle.escalation.specs.ByObject.{IsByObject}
 use Rattle.outcomes.specs.declared.rules.Rules.{Rules}
 use Rattle.time_period.specs.Days.{AreCompiled}
 
@@ -8,4 +7,3 @@ use Rattle.time_period.specs.Days.{AreCompiled}
 pub record AreRules (r : Rules) : Type 0 where
   pub accepted : IsAccepted r.config.now
   pub compiled : AreCompiled r.config.now r.periods.now
-  pub grouped : IsByObject r.config.now r.escalations.now

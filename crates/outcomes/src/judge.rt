@@ -118,7 +118,6 @@ fn gap_of(rules: &Rules<'_>, object: ObjectId, attempt: &Attempt<'_>, number: u6
     if attempt.kind.is_problem() {
         matching_interval(
             rules.config,
-            rules.escalations,
             object,
             number,
             attempt.letter,

@@ -1,7 +1,6 @@
 //! What is read at every event and stays as it is.
 
 use due_model::config::Config;
-use escalation::by_object::ByObject;
 use time_period::compiled::Compiled;
 use zone_times::clock::ZoneClock;
 
@@ -13,6 +12,4 @@ pub struct Rules<'a> {
     pub zone: &'a ZoneClock<'a>,
     /// The periods of the configuration as they are worked out, in the order of their numbers.
     pub periods: &'a [Compiled],
-    /// The escalations of the configuration, by their objects.
-    pub escalations: &'a ByObject,
 }

@@ -23,7 +23,7 @@ returns-in-Some-clause-fails c = λ e past is.
     let t = c.args.reading.now.context.moment in
     let o = c.args.object.0 in
     let given = sym (ap hard_by is.says) ∙ sym c.hard_by.ensures ∙ c.in-Some.is in
-    c.depends_now-fails.ensures.fails config is.worked_out.ordered is.worked_out.compiled
+    c.depends_now-fails.ensures.fails
     ∙ ap (λ (x : StatusLists). dependency_fails config zone (state_of x.states) t o) c.replace_state-before.ensures.after
     ∙ depends_with config zone e past c.args.statuses.now is.known o t is.at c.in-Some.named c.in-Some.state given
     (named_within config e.kind is.proper.kind c.in-Some.named (hard_named e.kind c.in-Some.named c.in-Some.state given))
@@ -31,6 +31,6 @@ returns-in-Some-clause-fails c = λ e past is.
 pub returns-in-None-clause-fails : goal.returns-in-None-clause-fails
 returns-in-None-clause-fails c = λ e past is.
     let config = c.args.reading.now.rules.config.now in
-    c.depends_now.ensures.fails config is.worked_out.ordered is.worked_out.compiled
+    c.depends_now.ensures.fails
     ∙ depends_without config c.args.reading.now.rules.zone.now e past c.args.statuses.now is.known c.args.object.0 c.args.reading.now.context.moment is.at
     (sym (ap hard_by is.says) ∙ sym c.hard_by.ensures ∙ c.in-None.is)

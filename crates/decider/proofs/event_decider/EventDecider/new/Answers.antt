@@ -15,13 +15,13 @@ returns-clause-decided c =
       fits = record {
         accepted = c.requires.accepted;
         share = c.requires.share;
-        worked_out = record { compiled = c.in_ok-compile_all.ensures; grouped = c.in_ok-new.ensures; ordered = c.in_ok-new-2.ensures };
+        worked_out = record { compiled = c.in_ok-compile_all.ensures; searched = c.in_ok-new.ensures };
         proper = All-nil (IsProper config);
         short = omega arith;
         count = refl;
         moment = refl;
         program = refl;
-        statuses = subst (λ (s : StatusLists). StatusesFit (length config.objects) [] s) (sym (c.in_ok-new-3.ensures ∙ ap no_statuses c.len-count.ensures)) (none_fit (length config.objects));
+        statuses = subst (λ (s : StatusLists). StatusesFit (length config.objects) [] s) (sym (c.in_ok-new-2.ensures ∙ ap no_statuses c.len-count.ensures)) (none_fit (length config.objects));
         index = new_index_fits config c.new.result c.args.share c.in_ok-new_index.field-0 c.len-count.result c.len-count.ensures c.in_ok-new_index.ensures.room c.in_ok-new_index.ensures.entries c.in_ok-new_index.ensures.examined;
         books = new_fit config c.new.result c.args.share c.in_ok-new_books.field-0.items c.len-count.result c.in_ok-new_books.ensures c.len-count.ensures;
       };
