@@ -17,6 +17,8 @@ use crate::asked::asked_of;
 use crate::limits::Counts;
 use crate::tables::Tables;
 use due_model::config::{Config, Contact, Dependency, Escalation, Lane};
+use due_model::dependencies::Dependencies;
+use due_model::escalations::Escalations;
 use due_model::objects::Objects as ObjectTable;
 use due_model::sequence::Sequence;
 use object_contacts::contacts::contacts_of;
@@ -181,7 +183,7 @@ pub(crate) fn config_of<'a>(
         contacts: Sequence::new(contacts),
         lanes: Sequence::new(named),
         periods: Sequence::new(periods),
-        escalations: Sequence::new(escalations),
-        dependencies: Sequence::new(dependencies),
+        escalations: Escalations::new(alloc, escalations)?,
+        dependencies: Dependencies::new(alloc, dependencies)?,
     })
 }
