@@ -66,7 +66,7 @@ impl DependencyPairs {
         ensures few { IfOk result (λ made. sum_by length made ≤ max_dependencies) }
         ensures fault { IfErr result (IsRefusal blocks.now.blocks blocks.now.lists) }
     {
-        let mut sides = Vec::new(alloc);
+        let mut sides = Vec::with_capacity(alloc, blocks.blocks().len())?;
         let mut count = 0;
         for (place, block) in blocks.blocks().iter().enumerate() {
             let pairs = blocks.pairs_at(alloc, hosts, groups, place)?;

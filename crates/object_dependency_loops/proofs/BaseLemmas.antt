@@ -1,5 +1,5 @@
 -- The graph with which all begins: what its nodes lead to.
-use Rattle.std.proofs.Common.{◌≡◌, ℕ, Bool, true, false, zero, suc, ◌+◌, ◌<◌, ◌≤◌, ◌^◌, List, [], ◌∷◌, ◌++◌, length, map, get_or, refl, sym, ap, subst, ◌∙◌, ◌⊎◌, inl, inr, ⊎_elim, arith}
+use Rattle.std.proofs.Common.{◌≡◌, ℕ, Bool, true, zero, suc, ◌+◌, ◌<◌, ◌≤◌, List, [], ◌∷◌, ◌++◌, length, get_or, refl, sym, ap, subst, ◌∙◌, ◌⊎◌, inl, inr, ⊎_elim, arith}
 use Rattle.std.specs.Prelude.{All, Contains, ◌↔◌}
 use Rattle.std.proofs.lemmas.Bool.{cases_lt}
 use Rattle.std.proofs.lemmas.List.{get_or_past}
@@ -16,12 +16,12 @@ use Rattle.object_dependency_loops.proofs.ReachLemmas.{reaches-step}
 use Rattle.object_groups.specs.declared.groups.GroupKind.TheVariants.{HostGroups}
 use Rattle.object_groups.specs.declared.lists.Direction.TheVariants.{ToNames}
 use Rattle.object_groups.specs.Groups.{grouping}
-use Rattle.object_groups.specs.ListEdges.{edge, IsEdge, LeadOver, list_edges}
+use Rattle.object_groups.specs.ListEdges.{edge, IsEdge, LeadOver}
 use Rattle.object_groups.specs.Members.{IsMember}
 use Rattle.object_groups.specs.Nodes.{LeadsToMembers}
 use Rattle.object_groups.specs.Objects.{names_in}
 use Rattle.object_groups.specs.ReachLaws.{list-edge, of-list}
-use Rattle.object_reader.specs.declared.block.BlockKind.TheVariants.{HostGroup, Service, ServiceGroup}
+use Rattle.object_reader.specs.declared.block.BlockKind.TheVariants.{HostGroup, ServiceGroup}
 use Rattle.object_service_groups.specs.Groups.{grouping as service_grouping, LeadsToMembers as LeadsToServices}
 use Rattle.object_service_groups.specs.Nodes.{first_group}
 use Rattle.object_service_groups.specs.Members.{IsMember as IsServiceMember}

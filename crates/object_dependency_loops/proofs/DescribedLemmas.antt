@@ -1,9 +1,8 @@
 -- Nodes for the services that blocks list by hosts and descriptions.
-use Rattle.std.proofs.Common.{◌≡◌, ℕ, Bor, zero, suc, ◌+◌, ◌<◌, ◌≤◌, ◌^◌, Bool, true, false, cond, ◌&&◌, List, [], ◌∷◌, ◌++◌, length, map, take, get_or, Option, Some, None, is_some, refl, sym, ap, subst, eqb, eqb-true, ◌∙◌, ◌⊎◌, inl, inr, ⊎_elim, arith}
+use Rattle.std.proofs.Common.{◌≡◌, ℕ, Bor, zero, suc, ◌+◌, ◌<◌, ◌≤◌, ◌^◌, Bool, true, false, cond, ◌&&◌, List, [], ◌∷◌, ◌++◌, length, map, get_or, Option, Some, None, is_some, refl, sym, ap, subst, eqb, eqb-true, ◌∙◌, ◌⊎◌, inl, inr, ⊎_elim, arith}
 use Rattle.std.specs.Prelude.{All, Contains, IfSome, slice_get, unwrap_or, ◌↔◌}
-use Rattle.std.specs.List.{range_with_len}
 use Rattle.std.specs.Map.{lookup}
-use Rattle.std.proofs.lemmas.Bool.{and_parts, cases_lt, false≢true}
+use Rattle.std.proofs.lemmas.Bool.{and_parts, false≢true}
 use Rattle.std.proofs.lemmas.Slice.Eq.{bytes_eq-Decides}
 use Rattle.std.proofs.lemmas.List.Elements.{All-contains, All-from_get_or, Contains-append_cases, Contains-append_left, Contains-append_right, Contains-get_or}
 use Rattle.graph.specs.declared.edges.Edge.{Edge}
@@ -15,9 +14,8 @@ use Rattle.lemmas.proofs.Elements.{Contains-cases, Contains-from_map, Contains-h
 use Rattle.object_dependencies.specs.Pairs.{BlocksOf}
 use Rattle.object_groups.specs.declared.groups.GroupKind.TheVariants.{HostGroups}
 use Rattle.object_groups.specs.declared.lists.Direction.TheVariants.{ToNames}
-use Rattle.object_groups.specs.Groups.{group_kind, grouping, object_kind}
+use Rattle.object_groups.specs.Groups.{group_kind, object_kind}
 use Rattle.object_groups.specs.ListEdges.{between, edge, IsEdge, LeadOver, list_edges}
-use Rattle.object_groups.specs.Members.{IsMember}
 use Rattle.object_groups.specs.Names.{Lists, name_eq}
 use Rattle.object_groups.specs.NodeLaws.{edge-from, edge-to}
 use Rattle.object_groups.specs.Objects.{list_at, names_in}
@@ -26,14 +24,13 @@ use Rattle.object_inheritance.specs.Inherited.{beside, given, is_additive, joine
 use Rattle.object_inheritance.specs.Columns.{Column, given_from}
 use Rattle.object_listing.specs.Listing.{Adds, IsListed, ListingOf}
 use Rattle.object_reached.specs.Listed.{IsDescribed, is_named, of_hosts, ServiceDirectives, ServiceListingOf}
-use Rattle.object_reached.specs.Services.{IsServiceOf}
 use Rattle.object_reader.specs.declared.block.Block.{Block}
 use Rattle.object_reader.specs.declared.block.BlockKind.TheVariants.{Host, Service}
 use Rattle.object_services.specs.Numbers.{Pair, pairs_of}
 use Rattle.object_dependency_loops.specs.Base.{host_count, service_count}
 use Rattle.object_dependency_loops.specs.Described.{AreAlike, AreFound, Describes, HaveLists, IsNodeOf, ListPlaces, places_eq}
 use Rattle.object_dependency_loops.specs.Speech.{AddsSpeech, AreLinked, Speaks}
-use Rattle.object_dependency_loops.proofs.ReachLemmas.{nodes-over, nodes-reach, over-on}
+use Rattle.object_dependency_loops.proofs.ReachLemmas.{nodes-over, nodes-reach}
 
 -- ---- blocks with the same lists
 

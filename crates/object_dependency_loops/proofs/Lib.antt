@@ -5,3 +5,4 @@ mod RoleLemmas
 mod DescribedLemmas
 mod RuleLemmas
 mod LoopLemmas
+mod ApartLemmas

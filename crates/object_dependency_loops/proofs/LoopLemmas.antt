@@ -1,8 +1,7 @@
 -- The blocks on loops are the rules on loops.
-use Rattle.std.proofs.Common.{ℕ, ◌<◌, ◌≡◌, List, [], length, subst}
-use Rattle.std.specs.Prelude.{Contains, ◌↔◌}
+use Rattle.std.proofs.Common.{ℕ, ◌≡◌, List, [], subst}
+use Rattle.std.specs.Prelude.{Contains}
 use Rattle.graph.specs.declared.edges.Edge.{Edge}
-use Rattle.graph.specs.Chains.{Reaches}
 use Rattle.graph_rules.specs.declared.rules.Rules.{Rules}
 use Rattle.graph_rules.specs.Rules as rules
 use Rattle.lemmas.proofs.Chains.{Chain-map}

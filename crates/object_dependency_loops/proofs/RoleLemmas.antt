@@ -12,13 +12,13 @@ use Rattle.graph.specs.Chains.{Reaches}
 use Rattle.graph_rules.specs.Rules.{IsOfRule}
 use Rattle.graph.specs.Edges.{IsWithin}
 use Rattle.lemmas.proofs.Numbers.{below_more}
-use Rattle.lemmas.proofs.Elements.{Contains-filter, Contains-from_filter, Contains-from_map, Contains-from_range, Contains-map, Contains-none, Contains-range}
+use Rattle.lemmas.proofs.Elements.{Contains-filter, Contains-from_filter, Contains-from_map, Contains-map, Contains-none, Contains-range}
 use Rattle.object_dependencies.specs.Pairs.{BlocksOf, IsKept, kept_states}
 use Rattle.object_groups.specs.declared.groups.GroupKind.TheVariants.{HostGroups}
 use Rattle.object_groups.specs.Groups.{grouping}
 use Rattle.object_groups.specs.ListEdges.{edge, IsEdge, LeadOver, nodes_of}
 use Rattle.object_groups.specs.Members.{IsMember}
-use Rattle.object_groups.specs.Names.{is_all, Lists, numbers_of}
+use Rattle.object_groups.specs.Names.{Lists, numbers_of}
 use Rattle.object_groups.specs.NodeLaws.{from-node, FromNode, to-node}
 use Rattle.object_groups.specs.ObjectLaws.{listed-within, numbers-within, object-at}
 use Rattle.object_groups.specs.Objects.{is_object, is_object_at, list_at, names_in}
@@ -32,14 +32,12 @@ use Rattle.object_reached.specs.Reached.{SpeaksOf}
 use Rattle.object_reached.specs.Roles.{directives_of, host_kind, service_kind}
 use Rattle.object_reader.specs.declared.block.Block.{Block}
 use Rattle.object_reader.specs.declared.block.BlockKind.{BlockKind}
-use Rattle.object_reader.specs.declared.block.BlockKind.TheVariants.{Host, HostDependency, HostGroup, Service, ServiceDependency, ServiceGroup}
+use Rattle.object_reader.specs.declared.block.BlockKind.TheVariants.{Host, HostDependency, HostGroup, ServiceDependency, ServiceGroup}
 use Rattle.object_readings.specs.Readings.{own_states}
-use Rattle.object_service_groups.specs.Groups.{grouping as service_grouping}
 use Rattle.object_service_groups.specs.Laws.{MembersAreServices}
-use Rattle.object_service_groups.specs.Members.{IsMember as IsServiceMember}
 use Rattle.object_values.specs.declared.options.CriteriaKind.TheVariants.{OfHosts, OfServices}
 use Rattle.object_dependency_loops.specs.declared.base.Firsts.{Firsts}
-use Rattle.object_dependency_loops.specs.Base.{host_count, IsBase, service_count}
+use Rattle.object_dependency_loops.specs.Base.{host_count, IsBase}
 use Rattle.object_dependency_loops.specs.Described.{Describes, Gathers, ListsNoGroup}
 use Rattle.object_dependency_loops.specs.Places.{kept_in, SpeakAs}
 use Rattle.object_dependency_loops.specs.Speech.{AddsSpeech, AreLinked, ByList, Speaks}

@@ -1,5 +1,5 @@
 -- The rules of notification dependencies.
-use Rattle.std.proofs.Common.{◌≡◌, ℕ, zero, suc, ◌+◌, ◌<◌, ◌≤◌, true, List, [], ◌∷◌, length, get_or, Some, refl, sym, ap, subst, ◌∙◌, ◌⊎◌, inl, inr, arith}
+use Rattle.std.proofs.Common.{◌≡◌, ℕ, zero, suc, ◌+◌, ◌<◌, ◌≤◌, true, List, [], ◌∷◌, length, get_or, Some, sym, ap, subst, ◌∙◌, ◌⊎◌, inl, inr, arith}
 use Rattle.std.specs.Prelude.{All, Contains, slice_get, ◌↔◌}
 use Rattle.std.specs.List.{range_with_len}
 use Rattle.std.proofs.lemmas.List.Elements.{All-from_get_or, Contains-get_or}
@@ -9,11 +9,11 @@ use Rattle.graph.specs.declared.edges.Edge.{Edge}
 use Rattle.graph.specs.Chains.{Reaches}
 use Rattle.graph.specs.Edges.{IsWithin}
 use Rattle.graph_rules.specs.declared.rules.Rules.{Rules}
-use Rattle.graph_rules.specs.Rules.{AreWithin, edge, HasDependent, HasMaster, IsOfRule}
-use Rattle.lemmas.proofs.Elements.{at-Contains, Contains-from_range, Contains-none, Contains-range}
+use Rattle.graph_rules.specs.Rules.{edge, HasDependent, HasMaster, IsOfRule}
+use Rattle.lemmas.proofs.Elements.{Contains-from_range, Contains-none}
 use Rattle.object_dependencies.specs.Pairs.{BlocksOf, IsKept}
 use Rattle.object_groups.specs.ListEdges.{IsEdge}
-use Rattle.object_groups.specs.Objects.{is_object_at, names_in}
+use Rattle.object_groups.specs.Objects.{is_object_at}
 use Rattle.object_reached.specs.declared.roles.Role.{Role}
 use Rattle.object_reached.specs.declared.roles.Role.TheVariants.{Dependent, Master}
 use Rattle.object_reached.specs.Laws.{SpokenAreObjects}
@@ -21,7 +21,6 @@ use Rattle.object_reached.specs.Reached.{SpeaksOf}
 use Rattle.object_reached.specs.Roles.{host_kind, service_kind}
 use Rattle.object_dependency_loops.specs.Base.{host_count, service_count}
 use Rattle.object_dependency_loops.specs.Places.{AreRulesOf, kept_in, SpeakAs}
-use Rattle.object_dependency_loops.specs.Speech.{Speaks}
 use Rattle.object_dependency_loops.proofs.RoleLemmas.{place-kept}
 
 -- an object's node is its number

@@ -1,17 +1,16 @@
 -- Links to nodes, and more of them.
-use Rattle.std.proofs.Common.{◌≡◌, ℕ, ◌+◌, ◌<◌, ◌≤◌, true, List, [], ◌∷◌, ◌++◌, length, map, take, get_or, Option, Some, None, refl, sym, ap, subst, ◌∙◌, ◌⊎◌, inl, inr, ⊎_elim, arith}
+use Rattle.std.proofs.Common.{◌≡◌, ℕ, ◌+◌, ◌<◌, ◌≤◌, true, List, [], ◌∷◌, ◌++◌, length, take, get_or, Option, Some, None, sym, subst, ◌∙◌, ◌⊎◌, inl, inr, ⊎_elim, arith}
 use Rattle.std.specs.Prelude.{All, Contains, IfSome, slice_index_or, ◌↔◌}
 use Rattle.std.specs.List.{range_with_len}
 use Rattle.std.proofs.lemmas.List.{get_or_default, take_more}
 use Rattle.std.proofs.lemmas.List.Elements.{All-contains, All-from_get_or, Contains-append_cases, Contains-append_left, Contains-append_right, Contains-get_or}
 use Rattle.graph.specs.declared.edges.Edge.{Edge}
 use Rattle.graph.specs.Chains.{Reaches}
-use Rattle.graph.specs.Edges.{IsWithin}
 use Rattle.graph_rules.specs.Rules.{IsOfRule}
 use Rattle.lemmas.proofs.Elements.{Contains-from_map, Contains-from_range, Contains-map, Contains-none, Contains-range}
 use Rattle.object_groups.specs.declared.lists.Direction.TheVariants.{ToNames}
 use Rattle.object_groups.specs.declared.lists.ListNodes.{ListNodes}
-use Rattle.object_groups.specs.ListEdges.{edge, edges_at, IsEdge, LeadOver, list_edges, named, nodes_at, nodes_of}
+use Rattle.object_groups.specs.ListEdges.{edge, edges_at, IsEdge, LeadOver, list_edges, nodes_of}
 use Rattle.object_groups.specs.Names.{is_all, numbers_of}
 use Rattle.object_groups.specs.NodeLaws.{edge-from, edge-to, from-node}
 use Rattle.object_groups.specs.ObjectLaws.{numbers-within}

@@ -1,5 +1,5 @@
 -- The places of the blocks that are notification dependencies.
-use Rattle.std.specs.Prelude.{◌≡◌, ℕ, ◌<◌, true, ◌&&◌, List, length, filter, is_some, Contains, ◌↔◌}
+use Rattle.std.specs.Prelude.{ℕ, ◌<◌, ◌&&◌, List, filter, is_some, ◌↔◌}
 use Rattle.std.specs.List.{range_with_len}
 use Rattle.graph.specs.declared.edges.Edge.{Edge}
 use Rattle.graph_rules.specs.declared.rules.Rules.{Rules}

@@ -4,6 +4,7 @@
 #![tactic(auto)]
 
 mod alike;
+mod apart;
 mod base;
 mod described;
 mod lists;

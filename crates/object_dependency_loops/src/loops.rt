@@ -4,6 +4,7 @@ ghost use Rattle.std.specs.Prelude.{◌≡◌, IfNone, IfOk, IfSome};
 ghost use Rattle.object_dependencies.specs.Loops.{HasNoDependencyLoop, IsFirstLooped};
 ghost use Rattle.object_groups.specs.declared.groups.GroupKind.TheVariants.{HostGroups};
 
+use crate::apart::are_apart;
 use crate::rules::rules_of;
 use object_dependencies::blocks::DependencyBlocks;
 use object_groups::groups::Groups;
@@ -32,6 +33,10 @@ pub fn loop_of<'a>(
 {
     let rules = rules_of(alloc, blocks, hosts, groups)?;
     if rules.dependents.is_empty() {
+        return Ok(None);
+    }
+    let apart = are_apart(alloc, &rules)?;
+    if apart {
         return Ok(None);
     }
     match rules.first_looped(alloc)? {

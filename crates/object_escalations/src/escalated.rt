@@ -95,7 +95,7 @@ fn objects_of<'a>(
     ensures few { IfOk result (λ made. sum_by length made ≤ max_escalations) }
     ensures fault { IfErr result (IsRefusal templates.now lists.now) }
 {
-    let mut found = Vec::new(alloc);
+    let mut found = Vec::with_capacity(alloc, templates.blocks().len())?;
     let mut count = 0;
     for (place, block) in templates.blocks().iter().enumerate() {
         let objects = reached.objects_at(alloc, hosts, groups, services, place)?;

@@ -2,5 +2,6 @@ pub mod PairLemmas
 pub mod WantedLemmas
 pub mod WithLemmas
 pub mod FoundLemmas
+pub mod HostLemmas
 pub mod UnknownLemmas
 pub mod MemberLemmas

@@ -1,11 +1,11 @@
 -- Numbers that come to numbers: those of one thing, and of one thing more.
-use Rattle.std.proofs.Common.{◌≡◌, ℕ, zero, suc, ◌<◌, ◌≤◌, Bool, List, [], ◌∷◌, ◌++◌, length, filter, get_or, Option, None, Some, refl, sym, ap, subst, ◌∙◌, ◌⊎◌, inl, inr, ⊎_elim, arith}
+use Rattle.std.proofs.Common.{◌≡◌, ℕ, zero, suc, ◌<◌, ◌≤◌, ◌+◌, Bool, true, false, cond, List, [], ◌∷◌, ◌++◌, length, filter, take, get_or, Option, None, Some, refl, sym, ap, subst, ◌∙◌, ◌⊎◌, inl, inr, ⊎_elim, arith}
 use Rattle.std.specs.Prelude.{All, Contains, slice_get, ◌↔◌}
 use Rattle.std.specs.List.{range_with_len}
 use Rattle.std.specs.Option.{option_to_list}
-use Rattle.std.proofs.lemmas.List.{get_or-map, length-map}
-use Rattle.std.proofs.lemmas.List.Elements.{All-contains, Contains-append_left, Contains-append_right, Contains-append_cases}
-use Rattle.std.proofs.lemmas.Option.{get_or_from_slice_get, slice_get-get_or}
+use Rattle.std.proofs.lemmas.List.{append_assoc, append-nil, get_or-map, length-map, take_more}
+use Rattle.std.proofs.lemmas.List.Elements.{All-contains, Contains-append_left, Contains-append_right, Contains-append_cases, filter-append}
+use Rattle.std.proofs.lemmas.Option.{get_or_from_slice_get, slice_get_past, slice_get-get_or}
 use Rattle.lemmas.proofs.Elements.{at-Contains, Contains-cases, Contains-filter, Contains-from_filter, Contains-here, Contains-none, Contains-range}
 use Rattle.object_reached.specs.Listed.{is_named, IsNthOn, IsOn, OfSome}
 use Rattle.object_reached.specs.Services.{hosts_in, services_on}
@@ -54,6 +54,30 @@ adds-of_one {X} member x old new added k = (
   (λ at. ⊎_elim (λ (before : Contains old k). inl before) (λ (some : (z : X) × (z ≡ x) × member z k). inr (subst (λ w. member w k) some.1 some.2)) ((added k).0 at)),
   (λ either. (added k).1 (⊎_elim (λ (before : Contains old k). inl before) (λ (here : member x k). inr (x, refl, here)) either)),
 )
+
+-- ---- of one that passes
+
+pub passes : (p : ℕ → Bool) (old new : List ℕ) (x : ℕ) → p x ≡ true → new ≡ old ++ x ∷ [] → new ≡ old ++ filter p (x ∷ [])
+passes p old new x is more = more ∙ ap (λ (b : Bool). old ++ cond b (x ∷ []) []) (sym is)
+
+pub stays-out : (p : ℕ → Bool) (old : List ℕ) (x : ℕ) → p x ≡ false → old ≡ old ++ filter p (x ∷ [])
+stays-out p old x is = sym (append-nil old) ∙ ap (λ (b : Bool). old ++ cond b (x ∷ []) []) (sym is)
+
+pub passed-more : (p : ℕ → Bool) (first old new xs : List ℕ) (i d : ℕ) → i < length xs → old ≡ first ++ filter p (take i xs) → new ≡ old ++ filter p (get_or xs i d ∷ [])
+    → new ≡ first ++ filter p (take (i + 1) xs)
+passed-more p first old new xs i d low before more =
+    let x = get_or xs i d in
+    more ∙ ap (λ (ns : List ℕ). ns ++ filter p (x ∷ [])) before ∙ append_assoc first (filter p (take i xs)) (filter p (x ∷ []))
+    ∙ ap (λ (ns : List ℕ). first ++ ns) (sym (ap (filter p) (take_more xs i d low) ∙ filter-append p (take i xs) (x ∷ [])))
+
+pub passed-at : (p : ℕ → Bool) (old new xs on : List ℕ) (i d : ℕ) → i < length on → on ≡ xs → new ≡ old ++ filter p (get_or on i d ∷ [])
+    → new ≡ old ++ filter p (option_to_list (slice_get xs i))
+passed-at p old new xs on i d low same more =
+    more ∙ ap (λ (found : Option ℕ). old ++ filter p (option_to_list found)) (sym (ap (λ (l : List ℕ). slice_get l i) (sym same) ∙ slice_get-get_or on i d low))
+
+pub passed-none : (p : ℕ → Bool) (old xs on : List ℕ) (i : ℕ) → length on ≤ i → on ≡ xs → old ≡ old ++ filter p (option_to_list (slice_get xs i))
+passed-none p old xs on i past same =
+    sym (append-nil old) ∙ ap (λ (found : Option ℕ). old ++ filter p (option_to_list found)) (sym (ap (λ (l : List ℕ). slice_get l i) (sym same) ∙ slice_get_past on i past))
 
 -- ---- of one list more
 

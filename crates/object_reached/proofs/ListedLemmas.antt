@@ -8,10 +8,10 @@ use Rattle.object_groups.specs.Names.{numbers_of}
 use Rattle.object_groups.specs.Objects.{list_at, names_in}
 use Rattle.object_listing.specs.Listing.{Adds, AreThose, IsListed}
 use Rattle.object_reader.specs.declared.block.Block.{Block}
-use Rattle.object_reader.specs.declared.block.BlockKind.TheVariants.{Service, ServiceGroup}
+use Rattle.object_reader.specs.declared.block.BlockKind.TheVariants.{ServiceGroup}
 use Rattle.object_service_groups.specs.Groups.{grouping}
 use Rattle.object_service_groups.specs.Members.{IsMember}
-use Rattle.object_services.specs.Numbers.{Pair, pairs_of}
+use Rattle.object_services.specs.Numbers.{Pair}
 
 -- what is on the hosts that a block lists, of descriptions that it lists
 pub described-are : (blocks : List Block) (services : List Pair) (directives : ServiceDirectives) (place : ℕ) (listed : List ℕ) (entries : List (List ℕ)) (none found : List ℕ)

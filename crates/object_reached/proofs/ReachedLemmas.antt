@@ -1,9 +1,10 @@
 -- The objects of which a block speaks.
-use Rattle.std.proofs.Common.{◌≡◌, ℕ, zero, suc, ◌+◌, ◌<◌, ◌^◌, true, false, List, [], ◌∷◌, ◌++◌, length, map, take, get_or, Some, refl, sym, ap, subst, eqb, eqb-true, ◌∙◌, inl, inr, arith}
+use Rattle.std.proofs.Common.{◌≡◌, ℕ, zero, suc, ◌+◌, ◌<◌, ◌^◌, true, false, List, [], ◌∷◌, ◌++◌, ◌-◌, length, map, take, take_all, drop, get_or, min, set, Some, refl, sym, ap, subst, eqb, eqb-true, ◌∙◌, inl, inr, arith}
 use Rattle.std.specs.Prelude.{All, Contains, slice_get}
 use Rattle.std.specs.List.{AllZip}
 use Rattle.std.proofs.lemmas.Bool.{and_parts, false≢true}
-use Rattle.std.proofs.lemmas.List.{get_or-map, length-map, map-append, take_more}
+use Rattle.std.proofs.lemmas.List.{append-nil, drop_all, drop_more, get_or_at, get_or-map, length-map, length-take}
+use Rattle.std.proofs.lemmas.List.Edits.{map_over_more}
 use Rattle.std.proofs.lemmas.List.Elements.{All-from_get_or, Contains-get_or}
 use Rattle.lemmas.proofs.Elements.{Contains-from_map, Contains-map, Contains-none}
 use Rattle.object_reached.specs.declared.roles.Role.{Role}
@@ -27,11 +28,22 @@ use Rattle.object_reached.proofs.AddsLemmas.{place-there}
 
 -- ---- services after the hosts
 
-pub after-more : (f : ℕ → ℕ) (old new xs : List ℕ) (i d one : ℕ) → i < length xs → old ≡ map f (take i xs) → new ≡ old ++ one ∷ [] → one ≡ f (get_or xs i d)
-    → new ≡ map f (take (i + 1) xs)
-after-more f old new xs i d one within before more is =
-    more ∙ ap (λ (ns : List ℕ). ns ++ one ∷ []) before ∙ ap (λ (n : ℕ). map f (take i xs) ++ n ∷ []) is
-    ∙ sym (ap (map f) (take_more xs i d within) ∙ map-append f (take i xs) (get_or xs i d ∷ []))
+-- what a list is over which as many numbers were written
+pub written-over : (old new : List ℕ) (count : ℕ) → count ≡ length old → length new ≡ length old → take count (new ++ drop (length new) old) ≡ new
+written-over old new count count_is long =
+    ap (λ (rest : List ℕ). take count (new ++ rest)) (drop_all (length new) old (omega (arith, long))) ∙ ap (take count) (append-nil new) ∙ take_all count new (omega (arith, count_is, long))
+
+-- one more number, written over its place
+pub after-more : (hosts : ℕ) (xs ys : List ℕ) (i one : ℕ) → i < length xs → hosts + get_or xs i 0 < 2 ^ 32 → ys ≡ map (λ s. hosts + s) (take i xs) ++ drop i xs
+    → one ≡ min (hosts + get_or ys i 0) (2 ^ 64 - 1) → set ys i one ≡ map (λ s. hosts + s) (take (i + 1) xs) ++ drop (i + 1) xs
+after-more hosts xs ys i one low few before is =
+    let front = map (λ s. hosts + s) (take i xs) in
+    let long : length front ≡ i = length-map (take i xs) (λ s. hosts + s) ∙ omega (arith, length-take i xs, low) in
+    let parts = before ∙ ap (λ (l : List ℕ). front ++ l) (drop_more xs i 0 low) in
+    let read : (d : ℕ) → get_or ys i d ≡ get_or xs i 0 = λ d. ap (λ (l : List ℕ). get_or l i d) parts ∙ get_or_at front _ _ d i long in
+    let here = read 0 in
+    let one_is : one ≡ hosts + get_or xs i 0 = omega (arith, is, here, few) in
+    ap (λ (n : ℕ). set ys i n) one_is ∙ map_over_more (λ s. hosts + s) xs ys i (get_or xs i 0) low before (sym (read (get_or xs i 0)))
 
 shift-those : (P : ℕ → Type 0) (n : ℕ) (xs : List ℕ) → AreThose P xs → AreThose (λ k. (s : ℕ) × (k ≡ n + s) × P s) (map (λ s. n + s) xs)
 shift-those P n xs those = record {

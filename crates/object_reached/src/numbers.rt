@@ -1,6 +1,6 @@
 //! The places of the services that lists of hosts, of descriptions and of groups reach.
 
-ghost use Rattle.std.specs.Prelude.{◌≡◌, ◌≤◌, ℕ, List, [], ◌++◌, ◌||◌, All, Contains, IfOk, IfSome};
+ghost use Rattle.std.specs.Prelude.{◌≡◌, ◌≤◌, ℕ, List, [], ◌∷◌, ◌++◌, ◌||◌, All, Contains, IfOk, IfSome};
 ghost use Rattle.std.specs.Prelude.{OnOk, filter, is_some, length, slice_get, slice_index_or};
 ghost use Rattle.std.specs.Option.{option_to_list};
 ghost use Rattle.object_reached.specs.Listed.{AddsMembers, is_named, IsNthOn, IsOn, OfSome};
@@ -43,12 +43,29 @@ impl<'a> Descriptions<'a> {
         Ok(Descriptions { all, names })
     }
 
-    /// Whether it names the description.
-    fn has(&self, description: &'a [u8]) -> bool
-        ensures { result ≡ is_named self.now description.now }
+    /// Whether it names the description of the service at that place.
+    fn has(&self, services: &HostServices<'a>, service: usize) -> bool
+        ensures { result ≡ is_named self.now (slice_index_or services.now service (0, [])).1 }
     {
-        self.all || self.names.find(description).is_some()
+        self.all || self.names.find(services.description(service)).is_some()
     }
+}
+
+/// Adds the service at that place, where the list names its description.
+fn push_named<'a>(
+    found: &mut Vec<usize>,
+    services: &HostServices<'a>,
+    descriptions: &Descriptions<'a>,
+    service: usize,
+) -> Result<(), AllocError>
+    ensures { OnOk result (found.new.items ≡ found.old.items
+        ++ filter (λ service. is_named descriptions.now (slice_index_or services.now service (0, [])).1)
+        (service ∷ [])) }
+{
+    if descriptions.has(services, service) {
+        found.push(service)?;
+    }
+    Ok(())
 }
 
 /// Adds the services of a host whose descriptions the list names.
@@ -62,9 +79,7 @@ fn push_host<'a>(
         found.old.items found.new.items) }
 {
     for service in services.of_host(host) {
-        if descriptions.has(services.description(*service as usize)) {
-            found.push(*service as usize)?;
-        }
+        push_named(found, services, descriptions, *service as usize)?;
     }
     Ok(())
 }
@@ -99,10 +114,7 @@ fn push_nth<'a>(
 {
     let on = services.of_host(host);
     if turn < on.len() {
-        let service = on[turn] as usize;
-        if descriptions.has(services.description(service)) {
-            found.push(service)?;
-        }
+        push_named(found, services, descriptions, on[turn] as usize)?;
     }
     Ok(())
 }
@@ -124,6 +136,20 @@ fn push_turn<'a>(
     Ok(())
 }
 
+/// Takes room for so many numbers more, where the list names every description.
+fn reserve_all(
+    found: &mut Vec<usize>,
+    descriptions: &Descriptions,
+    more: usize,
+) -> Result<(), AllocError>
+    ensures { OnOk result (found.new.items ≡ found.old.items) }
+{
+    if descriptions.all {
+        found.reserve(more)?;
+    }
+    Ok(())
+}
+
 /// Adds those of all these hosts, of which none has more services than there are turns: the first of each host, then the
 /// second of each, and so on. Where the hosts have their services from the same blocks, they come so in order.
 fn push_by_turns<'a>(
@@ -137,6 +163,7 @@ fn push_by_turns<'a>(
     ensures { OnOk result (Adds (OfSome (IsOn services.now descriptions.now) hosts.now)
         found.old.items found.new.items) }
 {
+    reserve_all(found, descriptions, hosts.len().saturating_mul(turns))?;
     for turn in 0..turns {
         push_turn(found, services, descriptions, hosts, turn)?;
     }

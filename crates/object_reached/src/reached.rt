@@ -45,15 +45,14 @@ pub fn services_of<'a>(
     Ok(made)
 }
 
-/// The numbers of the services at these places, after so many hosts. There are few enough of both.
-fn numbers_after(alloc: Global, hosts: usize, services: &[usize]) -> Result<Vec<usize>, AllocError>
-    ensures { IfOk result (λ numbers. AreAfter hosts services.now numbers.items) }
+/// Writes over the places of services their numbers, after so many hosts. There are few enough of both.
+fn number_after(hosts: usize, services: &mut [usize])
+    ensures long { length services.new ≡ length services.old }
+    ensures numbers { AreAfter hosts services.old services.new }
 {
-    let mut numbers = Vec::new(alloc);
-    for service in services {
-        numbers.push(hosts.saturating_add(*service))?;
+    for service in services.iter_mut() {
+        *service = hosts.saturating_add(*service);
     }
-    Ok(numbers)
 }
 
 /// The services that the block at the place lists, by their numbers among all objects.
@@ -74,9 +73,9 @@ fn services_at<'a>(
         listing.now.directives place found.items) }
 {
     members_are_services();
-    let found = listing.services_at(alloc, hosts, groups, services, place)?;
-    let numbers = numbers_after(alloc, hosts.objects().names().len(), found.as_slice())?;
-    Ok(numbers)
+    let mut found = listing.services_at(alloc, hosts, groups, services, place)?;
+    number_after(hosts.objects().names().len(), found.as_mut_slice());
+    Ok(found)
 }
 
 /// What the blocks list by the directives of escalations, and of the masters of dependencies.

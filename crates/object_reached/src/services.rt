@@ -20,7 +20,7 @@ fn edges_of(alloc: Global, pairs: &[(usize, &[u8])]) -> Result<Vec<Edge>, AllocE
     ensures { IfOk result (λ edges. edges.items
         ≡ host_edges (hosts_in (pairs_in pairs.now)) (length pairs.now)) }
 {
-    let mut edges = Vec::new(alloc);
+    let mut edges = Vec::with_capacity(alloc, pairs.len())?;
     for (service, pair) in pairs.iter().enumerate() {
         edges.push(Edge {
             from: pair.0 as u32,

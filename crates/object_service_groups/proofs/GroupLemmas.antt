@@ -29,7 +29,7 @@ use Rattle.object_services.specs.Numbers.{Pair, pairs_of}
 use Rattle.object_services.specs.HostLaws.{hosts-one}
 use Rattle.object_service_groups.specs.Groups.{AreNodes, AreServiceGroups, grouping, groups_in, LeadsToMembers, listed_in, named_in, owners_of}
 use Rattle.object_service_groups.specs.Members.{Grouping, IsMember}
-use Rattle.object_service_groups.specs.Nodes.{edges_in, first_group, IsGraphOf, named_edges, node_count, own_edges, owner_edges, subgroup_edges}
+use Rattle.object_service_groups.specs.Nodes.{edges_in, first_group, IsGraphOf, IsKeptOf, named_edges, node_count, own_edges, owner_edges, subgroup_edges}
 use Rattle.object_service_groups.specs.Pairs.{services_at}
 use Rattle.object_service_groups.proofs.ElementLemmas.{mapped-within, owners-long, owners-within, place-there, places-within}
 use Rattle.object_service_groups.proofs.NodeLemmas.{IsWell, member-from_reached, named-inside, owners-inside, reached-from_member, subgroups-inside}
@@ -133,6 +133,13 @@ graph-is g edges given count next graph count_is over are has leads = record {
 
     back : (from to : ℕ) → Reaches (IsEdge edges) from to → Reaches (Leads graph) from to
     back from to (steps, chain) = (steps, Chain-map (IsEdge edges) (Leads graph) (λ p q at. (leads p q).1 (subst (λ (es : List Edge). Contains es (edge p q)) (sym are) at)) steps from to chain)
+
+pub kept-is : (g : Grouping) (graph : List (List ℕ)) → IsGraphOf g graph → IsKeptOf g graph
+kept-is g graph is = record { count = is.count; graph_is = λ some. is }
+
+-- without a group the nodes are enough
+pub nodes-are : (g : Grouping) (count : ℕ) (graph : List (List ℕ)) → count ≡ node_count g → length g.named ≡ 0 → length graph ≡ count → IsKeptOf g graph
+nodes-are g count graph count_is none long = record { count = omega (arith, count_is, long); graph_is = λ some. absurd (omega (arith, some, none)) }
 
 -- ---- what is below what
 
@@ -250,7 +257,7 @@ count-is blocks lists owners are =
 pub kept-are : (templates blocks : List Block) (groups : ObjectsOf) (lists : List (List ℕ)) (owners : List ℕ) (services first searched : ℕ) (graph : List (List ℕ))
     → blocks ≡ templates → groups ≡ record { blocks = templates; kind = ServiceGroup } → AreHostLists templates (objects_in templates Service) lists
     → owners ≡ owners_of lists → services ≡ length owners → first ≡ length owners + length (objects_in templates Service)
-    → IsGraphOf (grouping templates lists) graph → length graph < 2 ^ 32 → searched ≡ length graph → AreServiceGroups blocks groups services first graph searched
+    → IsKeptOf (grouping templates lists) graph → length graph < 2 ^ 32 → searched ≡ length graph → AreServiceGroups blocks groups services first graph searched
 kept-are templates blocks groups lists owners services first searched graph same groups_are are owners_are services_are first_is has few searched_is =
     subst (λ (bs : List Block). AreServiceGroups bs groups services first graph searched) (sym same) (record {
       group_table = groups_are;
@@ -278,7 +285,7 @@ kept-are templates blocks groups lists owners services first searched graph same
 
 -- ---- the graph as it is kept
 
-pub leads-to_members : (blocks : List Block) (lists : List (List ℕ)) (graph : List (List ℕ)) → AreHostLists blocks (objects_in blocks Service) lists → IsGraphOf (grouping blocks lists) graph
+pub leads-to_members : (blocks : List Block) (lists : List (List ℕ)) (graph : List (List ℕ)) → AreHostLists blocks (objects_in blocks Service) lists → IsKeptOf (grouping blocks lists) graph
     → LeadsToMembers blocks lists graph
 leads-to_members blocks lists graph are has =
     let g = grouping blocks lists in
@@ -288,10 +295,9 @@ leads-to_members blocks lists graph are has =
     record {
       count = (let all = has.count in omega (arith, all, long));
       services = (let all = has.count in omega (arith, all, owned));
-      groups = λ group service low there. (
-        (λ reaches. member-from_reached g well service (omega (arith, there, owned)) group (omega (arith, low, long))
-            ((has.same (first_group g + group) service (omega (arith, low, long)) (omega (arith, there, owned))).0 reaches)),
-        (λ member. (has.same (first_group g + group) service (omega (arith, low, long)) (omega (arith, there, owned))).1
-            (reached-from_member g well group service (omega (arith, low, long)) member).1),
-      );
+      groups = λ group service low there.
+          let same = (has.graph_is (omega (arith, low, long))).same (first_group g + group) service (omega (arith, low, long)) (omega (arith, there, owned)) in (
+            (λ reaches. member-from_reached g well service (omega (arith, there, owned)) group (omega (arith, low, long)) (same.0 reaches)),
+            (λ member. same.1 (reached-from_member g well group service (omega (arith, low, long)) member).1),
+          );
     }

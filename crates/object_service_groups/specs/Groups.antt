@@ -13,7 +13,7 @@ use Rattle.object_reader.specs.declared.block.BlockKind.TheVariants.{Host, Servi
 use Rattle.object_services.specs.Limits.{AreHostLists}
 use Rattle.object_services.specs.Numbers.{Pair, pairs_of}
 use Rattle.object_service_groups.specs.Members.{Grouping, IsMember}
-use Rattle.object_service_groups.specs.Nodes.{first_group, IsGraphOf}
+use Rattle.object_service_groups.specs.Nodes.{first_group, IsKeptOf}
 
 -- the services that the `members` of each group name, where these are the services
 unfoldable pub named_in : List Block → (services : List Pair) → List (List ℕ)
@@ -72,7 +72,7 @@ pub record LeadsToMembers (blocks : List Block) (lists : List (List ℕ)) (graph
 pub record AreNodes (g : Grouping) (services first : ℕ) (graph : List (List ℕ)) : Type 0 where
   pub services_are : services ≡ length g.owners
   pub first_is : first ≡ first_group g
-  pub graph_is : IsGraphOf g graph
+  pub graph_is : IsKeptOf g graph
 
 -- these are the service blocks, their hosts, the blocks of the services, the names of the hosts, and the groups
 pub record AreTables (blocks : List Block) (services : ObjectsOf) (lists : List (List ℕ))

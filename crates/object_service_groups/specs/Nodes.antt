@@ -52,3 +52,8 @@ pub record IsGraphOf (g : Grouping) (graph : List (List ℕ)) : Type 0 where
   pub count : node_count g ≤ length graph
   pub same : (from to : ℕ) → from < node_count g → to < node_count g
       → Reaches (Leads graph) from to ↔ Reaches (IsEdge (edges_in g)) from to
+
+-- It has these nodes, and is such a graph if there is a group.
+pub record IsKeptOf (g : Grouping) (graph : List (List ℕ)) : Type 0 where
+  pub count : node_count g ≤ length graph
+  pub graph_is : 0 < length g.named → IsGraphOf g graph

@@ -10,7 +10,7 @@ ghost use Rattle.object_reader.specs.declared.block.BlockKind.TheVariants.{Host,
 ghost use Rattle.object_reader.specs.declared.block.BlockKind.TheVariants.{ServiceGroup};
 ghost use Rattle.object_service_groups.specs.Groups.{AreMembersOf, AreTables, grouping, listed_in};
 ghost use Rattle.object_service_groups.specs.Groups.{LeadsToMembers, named_in};
-ghost use Rattle.object_service_groups.specs.Nodes.{AreBelow, edges_in, first_group, IsGraphOf};
+ghost use Rattle.object_service_groups.specs.Nodes.{AreBelow, edges_in, first_group, IsKeptOf};
 ghost use Rattle.object_services.specs.Limits.{AreHostLists};
 ghost use Rattle.object_services.specs.Numbers.{pairs_of};
 
@@ -182,7 +182,8 @@ fn push_all<'a>(
     )
 }
 
-/// The graph in which the members are found, where `owners` are the blocks of the services.
+/// The graph in which the members are found, where `owners` are the blocks of the services; its nodes alone where there is
+/// no group.
 fn graph_of<'a>(
     alloc: Global,
     templates: &Templates<'a>,
@@ -196,11 +197,14 @@ fn graph_of<'a>(
         groups.now }
     requires few { length owners.now + length (objects_in templates.now Service)
         + length (objects_in templates.now ServiceGroup) < 2 ^ 32 }
-    ensures { IfOk result (IsGraphOf (grouping templates.now lists.now)) }
+    ensures { IfOk result (IsKeptOf (grouping templates.now lists.now)) }
 {
     let middle = owners.len() as u32;
     let first = middle + blocks.places().len() as u32;
     let count = first + groups.places().len() as u32;
+    if groups.places().is_empty() {
+        return Graph::new(alloc, count, &[]);
+    }
     let mut edges = Vec::new(alloc);
     let next = push_all(
         alloc, &mut edges, templates, blocks, lists, owners, hosts, groups, middle, first, count,
@@ -306,7 +310,8 @@ impl<'a> ServiceGroups<'a> {
         &self.groups
     }
 
-    /// The graph in which members are found: its nodes are the services, the service blocks, the groups, and others.
+    /// The graph in which members are found: its nodes are the services, the service blocks, the groups, and others. Where
+    /// there is no group, none leads to another.
     pub fn graph(&self) -> &Graph
         ensures { (lists : List (List ℕ))
             → AreHostLists self.now (objects_in self.now Service) lists

@@ -47,7 +47,7 @@ fn owns_of<'a>(
         AllZip (IsOwnOfHost tables.now.blocks) (objects_in tables.now.blocks Host) owns.items) }
 {
     let mut read = tables.none_read(alloc)?;
-    let mut owns = Vec::new(alloc);
+    let mut owns = Vec::with_capacity(alloc, hosts.places().len())?;
     for (number, place) in hosts.places().iter().enumerate() {
         let name = hosts.names().name(number);
         let own = tables.own_at(periods, OptionKind::Host, &mut read, name, *place);
@@ -56,11 +56,20 @@ fn owns_of<'a>(
     Ok(owns)
 }
 
-/// The hosts.
-fn hosts_of<'a>(alloc: Global, owns: &[Own<'a>]) -> Result<Vec<Object>, AllocError>
+/// How many services there are, for the room that they take.
+fn service_count(lists: &ServiceHosts) -> usize {
+    let mut count: usize = 0;
+    for number in 0..lists.len() {
+        count = count.saturating_add(lists.hosts(number).len());
+    }
+    count
+}
+
+/// The hosts, with room for so many services.
+fn hosts_of<'a>(alloc: Global, owns: &[Own<'a>], services: usize) -> Result<Vec<Object>, AllocError>
     ensures { IfOk result (λ objects. AllZip IsHostTaken owns.now objects.items) }
 {
-    let mut objects = Vec::new(alloc);
+    let mut objects = Vec::with_capacity(alloc, owns.len().saturating_add(services))?;
     for own in owns {
         let object = object_of(alloc, own, own, None)?;
         objects.push(object)?;
@@ -178,7 +187,7 @@ fn all_objects<'a>(
 {
     let owns = owns_of(alloc, tables, periods, hosts)?;
     let own = owns.as_slice();
-    let mut objects = hosts_of(alloc, own)?;
+    let mut objects = hosts_of(alloc, own, service_count(lists))?;
     push_services(alloc, &mut objects, tables, periods, own, services, lists)?;
     Ok(objects)
 }

@@ -1,4 +1,4 @@
-use Rattle.std.proofs.Common.{◌≡◌, ◌+◌, ◌++◌, ◌∙◌, List, [], ap, length, sym}
+use Rattle.std.proofs.Common.{◌+◌, ◌++◌, ◌∙◌, List, [], ap, sym}
 use Rattle.std.proofs.lemmas.List.{append-nil}
 use Rattle.graph.specs.declared.edges.Edge.{Edge}
 use Rattle.object_dependency_loops.specs.Base.{graph_edges, turn_edges}

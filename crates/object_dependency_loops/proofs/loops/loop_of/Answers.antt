@@ -12,6 +12,13 @@ returns-then-is_empty-clause-no_loop c =
     none-depends c.args.blocks.now c.in_ok-rules.rules c.in_ok-rules.ensures.rules
     (nil_from_length c.in_ok-rules.rules.dependents.items (omega (arith, zero, c.in_ok-rules.rules.dependents.ok)))
 
+pub returns-then-apart-clause-no_loop : goal.returns-then-apart-clause-no_loop
+returns-then-apart-clause-no_loop c =
+    none-looped c.args.blocks.now c.in_ok-rules.rules c.in_ok-rules.ensures.rules (c.in_ok-apart.ensures c.if-apart.true)
+
+pub are_apart-requires : goal.are_apart-requires
+are_apart-requires c = c.in_ok-rules.ensures.rules.within
+
 pub returns-in-None-clause-no_loop : goal.returns-in-None-clause-no_loop
 returns-in-None-clause-no_loop c =
     none-looped c.args.blocks.now c.in_ok-rules.rules c.in_ok-rules.ensures.rules (rw c.in-None.is at c.in_ok-first_looped.ensures.no_loop)

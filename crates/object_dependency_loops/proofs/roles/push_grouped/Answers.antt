@@ -1,4 +1,4 @@
-use Rattle.std.proofs.Common.{◌≡◌, ◌∙◌, Bool, List, ap, false, not, refl, sym, true, ℕ}
+use Rattle.std.proofs.Common.{◌≡◌, ◌∙◌, Bool, List, ap, false, not, refl, sym, true}
 use Rattle.std.proofs.lemmas.Result.{IfOk-weaker}
 use Rattle.object_groups.specs.Objects.{names_in, ObjectsOf}
 use Rattle.object_reached.specs.Listed.{ServiceListingOf}

@@ -1,4 +1,4 @@
-use Rattle.std.proofs.Common.{◌≡◌, ◌+◌, ◌∙◌, List, Some, ap, arith, length, ℕ}
+use Rattle.std.proofs.Common.{◌≡◌, ◌∙◌, List, Some, ap, arith, length, ℕ}
 use Rattle.std.proofs.lemmas.Result.{IfOk-weaker}
 use Rattle.object_groups.specs.Groups.{group_kind, GroupsOf, object_kind}
 use Rattle.object_groups.specs.Objects.{names_in, ObjectsOf}

@@ -1,4 +1,4 @@
-use Rattle.std.proofs.Common.{◌≡◌, arith, subst, ℕ}
+use Rattle.std.proofs.Common.{◌≡◌, [], List, arith, subst, sym, ℕ}
 use Rattle.std.specs.List.{range_with_len}
 use Rattle.lemmas.proofs.Numbers.{below_more}
 use Rattle.object_reached.specs.Listed.{IsNthOn, OfSome}
@@ -7,7 +7,9 @@ use Rattle.object_reached.proofs.AddsLemmas.{adds-by_turns, adds-next, adds-none
 use Rattle.object_reached.proofs.numbers.push_by_turns.Goals as goal
 
 pub loop-turn-init : goal.loop-turn-init
-loop-turn-init c = adds-none (λ turn. OfSome (IsNthOn c.args.services.now c.args.descriptions.now turn) c.args.hosts.now) c.args.found.now.items
+loop-turn-init c =
+    subst (λ (now : List ℕ). Adds (OfSome (λ turn. OfSome (IsNthOn c.args.services.now c.args.descriptions.now turn) c.args.hosts.now) []) c.args.found.now.items now)
+    (sym c.in_ok-reserve_all.ensures) (adds-none (λ turn. OfSome (IsNthOn c.args.services.now c.args.descriptions.now turn) c.args.hosts.now) c.args.found.now.items)
 
 pub loop-turn-preserved : goal.loop-turn-preserved
 loop-turn-preserved c =

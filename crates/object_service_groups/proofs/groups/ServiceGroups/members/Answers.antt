@@ -53,5 +53,5 @@ returns-clause-members c = λ lists are.
     let reached : IsReached graph (group_node g c.args.group) c.found.result.now =
     subst (λ (found : List ℕ). IsReached graph (group_node g c.args.group) found) (sym c.found.ensures.value)
     (subst (λ (n : ℕ). IsReached graph (n + c.args.group) c.reach.new.self.found) nodes.first_is c.reach.ensures.found) in
-    members-are g (grouping-well blocks lists are) graph c.args.group c.found.result.now c.in_ok-found.found.items nodes.graph_is low reached
+    members-are g (grouping-well blocks lists are) graph c.args.group c.found.result.now c.in_ok-found.found.items (nodes.graph_is.graph_is (omega (arith, low))) low reached
     (subst (λ (n : ℕ). AreBelow n c.found.result.now c.in_ok-found.found.items) nodes.services_are c.in_ok-found.ensures)
