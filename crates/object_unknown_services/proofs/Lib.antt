@@ -1,2 +1,4 @@
+pub mod KeyLemmas
 pub mod NamedLemmas
+pub mod StampLemmas
 pub mod UnknownLemmas

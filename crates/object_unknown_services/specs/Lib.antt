@@ -1,2 +1,4 @@
+pub mod Keys
 pub mod Named
+pub mod Stamps
 pub mod Unknown

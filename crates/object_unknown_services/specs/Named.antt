@@ -1,6 +1,6 @@
 -- Services that escalations and dependencies name by hosts and descriptions (chapters "Notification Escalations" and
 -- "Host and Service Dependencies").
-use Rattle.std.specs.Prelude.{◌≡◌, ℕ, ◌↔◌, true, List, [], Contains, if◌then◌else◌}
+use Rattle.std.specs.Prelude.{◌≡◌, ℕ, true, List, [], Contains, if◌then◌else◌}
 use Rattle.object_groups.specs.Names.{is_all}
 use Rattle.object_groups.specs.Objects.{is_object_at, list_at}
 use Rattle.object_inheritance.specs.Columns.{Column}
@@ -36,10 +36,3 @@ pub record IsNaming (blocks : List Block) (role : Role) (hosts : ListingOf) (des
 abbrev pub descriptions_at : List Block → Role → (place : ℕ) → List (List ℕ)
 descriptions_at blocks role place = if is_object_at blocks (service_kind role) place
     then descriptions_in (list_at blocks (directives_of role).descriptions place) else []
-
--- what the block at the place names in that role is exactly each of these hosts with each of these descriptions
-abbrev pub AreNamed : List Block → Role → (place : ℕ) → (hosts : List ℕ)
-    → (descriptions : List (List ℕ)) → Type 0
-AreNamed blocks role place hosts descriptions = (host : ℕ) (description : List ℕ)
-    → (Contains hosts host × Contains descriptions description)
-    ↔ NamesService blocks role place host description

@@ -1,14 +1,17 @@
 -- Services that escalations and dependencies name and that no block gives (chapters "Notification Escalations" and
 -- "Host and Service Dependencies").
-use Rattle.std.specs.Prelude.{◌≡◌, ℕ, ◌<◌, true, false, List, Contains}
+use Rattle.std.specs.Prelude.{◌≡◌, ℕ, ◌<◌, Bool, true, false, nat_lt, List, Option, Some, None}
+use Rattle.object_groups.specs.Objects.{names_in}
+use Rattle.object_listing.specs.Listing.{IsListed}
 use Rattle.object_pairs.specs.Members.{HasService}
-use Rattle.object_pairs.specs.Wanted.{has}
 use Rattle.object_reached.specs.declared.roles.Role.{Role}
-use Rattle.object_reached.specs.declared.roles.Role.TheVariants.{Escalated, Master, Dependent}
-use Rattle.object_reached.specs.Reached.{ReachedOf}
+use Rattle.object_reached.specs.Listed.{of_hosts}
+use Rattle.object_reached.specs.Roles.{directives_of}
 use Rattle.object_reader.specs.declared.block.Block.{Block}
-use Rattle.object_services.specs.Numbers.{Key}
+use Rattle.object_reader.specs.declared.block.BlockKind.TheVariants.{Service}
+use Rattle.object_unknown_services.specs.Keys.{key_of}
 use Rattle.object_unknown_services.specs.Named.{NamesService}
+use Rattle.object_unknown_services.specs.Stamps.{is_stamped}
 
 -- The block at the place names, in one of its roles, a host with a description, and the host has no service of that
 -- description.
@@ -16,42 +19,38 @@ abbrev pub HasUnknownService : List Block → (place : ℕ) → Type 0
 HasUnknownService blocks place = (role : Role) × (host : ℕ) × (description : List ℕ)
     × NamesService blocks role place host description × (HasService blocks host description → ⊥)
 
--- ---- how it is found: first all that blocks name, and then those of them that service blocks give
+-- ---- how it is found: role by role, and in each description by description
 
--- what the block at the place names in that role is there
-abbrev pub IsWantedIn : List Block → List Key → Role → (place : ℕ) → Type 0
-IsWantedIn blocks keys role place = (host : ℕ) (description : List ℕ)
-    → NamesService blocks role place host description → has keys (host, description) ≡ true
+-- the same of one role
+abbrev pub HasUnknownIn : List Block → Role → (place : ℕ) → Type 0
+HasUnknownIn blocks role place = (host : ℕ) × (description : List ℕ)
+    × NamesService blocks role place host description × (HasService blocks host description → ⊥)
 
--- and in all roles
-abbrev pub IsWantedAt : List Block → List Key → (place : ℕ) → Type 0
-IsWantedAt blocks keys place = (role : Role) → IsWantedIn blocks keys role place
+-- and of the descriptions whose keys are below a bound
+abbrev pub HasUnknownBelow : List Block → Role → (bound place : ℕ) → Type 0
+HasUnknownBelow blocks role bound place = (host : ℕ) × (description : List ℕ)
+    × NamesService blocks role place host description × (HasService blocks host description → ⊥)
+    × (key_of (names_in blocks Service) description < bound)
 
--- what all blocks below the place name is there
-abbrev pub AreWantedBelow : List Block → List Key → (bound : ℕ) → Type 0
-AreWantedBelow blocks keys bound = (place : ℕ) → place < bound → IsWantedAt blocks keys place
+-- and of one key
+abbrev pub HasUnknownOf : List Block → Role → (key place : ℕ) → Type 0
+HasUnknownOf blocks role key place = (host : ℕ) × (description : List ℕ)
+    × NamesService blocks role place host description × (HasService blocks host description → ⊥)
+    × (key_of (names_in blocks Service) description ≡ key)
 
--- one of these hosts with one of these descriptions isn't found
-abbrev pub LacksAny : (found : List Key) → (hosts : List ℕ) → (descriptions : List (List ℕ))
-    → Type 0
-LacksAny found hosts descriptions = (host : ℕ) × (description : List ℕ)
-    × Contains hosts host × Contains descriptions description
-    × (has found (host, description) ≡ false)
+-- the block at the place lists a host without the stamp
+abbrev pub ListsUnstamped : List Block → Role → (stamps : List ℕ) → (stamp place : ℕ) → Type 0
+ListsUnstamped blocks role stamps stamp place = (host : ℕ)
+    × IsListed blocks (of_hosts (directives_of role)) place host
+    × (is_stamped stamps stamp host ≡ false)
 
--- something that the block at the place names in that role isn't found
-abbrev pub LacksIn : List Block → (found : List Key) → Role → (place : ℕ) → Type 0
-LacksIn blocks found role place = (host : ℕ) × (description : List ℕ)
-    × NamesService blocks role place host description × (has found (host, description) ≡ false)
+-- whether a place stands before the first that was found, if any was
+abbrev pub is_before : (first : Option ℕ) → (place : ℕ) → Bool
+is_before None place = true
+is_before (Some found) place = nat_lt place found
 
--- and in some role
-abbrev pub LacksAt : List Block → (found : List Key) → (place : ℕ) → Type 0
-LacksAt blocks found place = (role : Role) × LacksIn blocks found role place
-
--- ---- what is kept
-
--- what the blocks name in each of the roles
-pub record AreNamings (blocks : List Block) (escalated masters dependents : ReachedOf)
-    : Type 0 where
-  pub escalated_are : escalated ≡ record { blocks = blocks; role = Escalated }
-  pub masters_are : masters ≡ record { blocks = blocks; role = Master }
-  pub dependents_are : dependents ≡ record { blocks = blocks; role = Dependent }
+-- the block at the place does, and stands before the first that was found
+abbrev pub LacksBefore : List Block → Role → (stamps : List ℕ) → (stamp : ℕ)
+    → (first : Option ℕ) → (place : ℕ) → Type 0
+LacksBefore blocks role stamps stamp first place =
+    (is_before first place ≡ true) × ListsUnstamped blocks role stamps stamp place

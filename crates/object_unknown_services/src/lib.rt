@@ -2,5 +2,7 @@
 //! "Host and Service Dependencies"), and the first block that names one which no service block gives.
 #![tactic(auto)]
 
+mod keys;
 mod named;
+mod stamps;
 pub mod unknown;

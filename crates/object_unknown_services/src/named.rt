@@ -6,7 +6,7 @@ ghost use Rattle.object_groups.specs.Objects.{list_at};
 ghost use Rattle.object_listing.specs.Listing.{AreThose, IsListed};
 ghost use Rattle.object_reached.specs.Listed.{of_hosts};
 ghost use Rattle.object_reached.specs.Roles.{dependent_directives, directives_of, plain_directives};
-ghost use Rattle.object_unknown_services.specs.Named.{AreNamed, descriptions_at, descriptions_in};
+ghost use Rattle.object_unknown_services.specs.Named.{descriptions_at, descriptions_in};
 ghost use Rattle.object_values.specs.Values.{texts};
 
 use object_groups::groups::{GroupKind, Groups};
@@ -19,13 +19,6 @@ use object_reached::roles::Role;
 use object_reader::block::Block;
 use std::alloc::{AllocError, Global};
 use std::marker::Model;
-
-/// Hosts, by their numbers, and descriptions: each of the ones with each of the others.
-#[derive(Drop)]
-pub(crate) struct Named<'a> {
-    pub(crate) hosts: Vec<usize>,
-    pub(crate) descriptions: Vec<&'a [u8]>,
-}
 
 /// The hosts that the blocks list in a role.
 fn hosts_of<'a>(
@@ -116,14 +109,18 @@ impl<'a> Naming<'a> {
     }
 
     /// The blocks.
-    fn blocks(&self) -> &'a [Block]
+    pub(crate) fn blocks(&self) -> &'a [Block]
         ensures { result.now ≡ self.now.blocks }
     {
         self.blocks
     }
 
     /// The descriptions that the block at the place names; none where it doesn't speak of services in the role.
-    fn descriptions_at(&self, alloc: Global, place: usize) -> Result<Vec<&'a [u8]>, AllocError>
+    pub(crate) fn descriptions_at(
+        &self,
+        alloc: Global,
+        place: usize,
+    ) -> Result<Vec<&'a [u8]>, AllocError>
         requires { place < length self.now.blocks }
         ensures { IfOk result (λ found. texts found.items
             ≡ descriptions_at self.now.blocks self.now.role place) }
@@ -136,8 +133,8 @@ impl<'a> Naming<'a> {
         Ok(Vec::new(alloc))
     }
 
-    /// The hosts that the block at the place lists.
-    fn hosts_at(
+    /// The hosts that the block at the place lists. `hosts` are the host groups of the same blocks.
+    pub(crate) fn hosts_at(
         &self,
         alloc: Global,
         hosts: &mut Groups<'a>,
@@ -150,33 +147,5 @@ impl<'a> Naming<'a> {
     {
         let found = self.hosts.objects_at(alloc, hosts, place)?;
         Ok(found)
-    }
-
-    /// The hosts and descriptions by which the block at the place names services in the role. `hosts` are the host
-    /// groups of the same blocks. Without descriptions no host is looked for. A refused growth changes nothing.
-    pub(crate) fn named_at(
-        &self,
-        alloc: Global,
-        hosts: &mut Groups<'a>,
-        place: usize,
-    ) -> Result<Named<'a>, AllocError>
-        requires within { place < length self.now.blocks }
-        requires hosts { hosts.old ≡ record { blocks = self.now.blocks; kind = HostGroups } }
-        ensures same { hosts.new ≡ hosts.old }
-        ensures named { IfOk result (λ named. AreNamed self.now.blocks self.now.role place
-            named.hosts.items (texts named.descriptions.items)) }
-    {
-        let descriptions = self.descriptions_at(alloc, place)?;
-        if descriptions.is_empty() {
-            return Ok(Named {
-                hosts: Vec::new(alloc),
-                descriptions,
-            });
-        }
-        let reached = self.hosts_at(alloc, hosts, place)?;
-        Ok(Named {
-            hosts: reached,
-            descriptions,
-        })
     }
 }

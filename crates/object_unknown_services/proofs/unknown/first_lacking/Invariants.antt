@@ -1,10 +1,12 @@
-use Rattle.std.proofs.Common.{◌≡◌}
-use Rattle.object_unknown_services.proofs.UnknownLemmas.{NoneBelow}
+use Rattle.std.proofs.Common.{◌≡◌, take}
+use Rattle.std.specs.Prelude.{Contains}
+use Rattle.object_groups.specs.First.{IsFirst}
+use Rattle.object_unknown_services.specs.Unknown.{LacksBefore}
 use Rattle.object_unknown_services.proofs.unknown.first_lacking.Given as goal
 
--- The groups stay, and none of the blocks so far names what isn't found.
+-- The groups stay, and the lowest of the places so far.
 abbrev pub invariant-loop-place : goal.invariant-loop-place
 invariant-loop-place l = record {
   same : l.hosts ≡ l.initial.hosts;
-  below : NoneBelow l.namings l.found.keys l.place;
+  lowest : IsFirst (λ at. Contains (take l.place-index l.places) at × LacksBefore l.naming.blocks l.naming.role l.stamps l.stamp l.first at) l.lowest;
 }

@@ -1,0 +1,275 @@
+-- Lists of places by the keys of descriptions.
+use Rattle.std.proofs.Common.{◌≡◌, ℕ, zero, suc, ◌+◌, ◌<◌, ◌≤◌, Bool, true, false, cond, List, [], ◌∷◌, ◌++◌, length, take, set, get_or, replicate, length-set, Option, Some, None, refl, sym, ap, subst, eqb, eqb-true, eq-eqb, ⊎_elim, ◌∙◌, ◌⊎◌, inl, inr, arith, lt-ltb, Bor}
+use Rattle.std.specs.Prelude.{Contains, unwrap_or}
+use Rattle.std.specs.List.{position_or_len}
+use Rattle.std.specs.Option.{IfSome}
+use Rattle.std.specs.Str.{bytes_eq}
+use Rattle.std.proofs.lemmas.Bool.{cases_lt}
+use Rattle.std.proofs.lemmas.Cmp.{nat_list_eq_equiv}
+use Rattle.std.proofs.lemmas.List.Elements.{Contains-append_cases, Contains-append_left, Contains-append_right}
+use Rattle.std.proofs.lemmas.List.Quantifiers.{position-Some}
+use Rattle.std.proofs.lemmas.Slice.Eq.{bytes_eq-Decides}
+use Rattle.lemmas.proofs.Elements.{Contains-cases, Contains-here, Contains-none}
+use Rattle.lemmas.proofs.Searches.{place-le, position-within, texts-more}
+use Rattle.lemmas.proofs.Writes.{at_longer}
+use Rattle.object_groups.specs.Names.{number_of}
+use Rattle.object_groups.specs.Objects.{names_in}
+use Rattle.object_reached.specs.declared.roles.Role.{Role}
+use Rattle.object_reader.specs.declared.block.Block.{Block}
+use Rattle.object_reader.specs.declared.block.BlockKind.TheVariants.{Service}
+use Rattle.object_services.specs.Doubled.{description_of, place_of}
+use Rattle.object_unknown_services.specs.Keys.{Adds, AreByKey, GivesBelow, HasKey, key_of, NamesBelow, NamesKey}
+use Rattle.object_unknown_services.specs.Named.{descriptions_at}
+use Rattle.object_unknown_services.proofs.NamedLemmas.{named-low}
+use Rattle.object_values.specs.Values.{texts}
+
+-- ---- keys
+
+pub key-within : (names : List (List ℕ)) (description : List ℕ) → key_of names description ≤ length names
+key-within names description = by_number (number_of names description) (position-within (bytes_eq description) names)
+  where
+    by_number : (found : Option ℕ) → IfSome found (λ k. k < length names) → unwrap_or found (length names) ≤ length names
+    by_number None low = omega arith
+    by_number (Some k) low = omega (arith, low)
+
+-- each name has a number
+numbered : (names : List (List ℕ)) (n : ℕ) → n < length names → (first : ℕ) × (first < length names) × (number_of names (get_or names n []) ≡ Some first)
+numbered names n within =
+    let name = get_or names n [] in
+    let place = position_or_len (bytes_eq name) names in
+    let early : place ≤ n = place-le (bytes_eq name) names n [] within (nat_list_eq_equiv.refl name) in
+    let low : place < length names = omega (arith, early, within) in
+    (place, low, ap (λ (b : Bool). cond b (Some place) None) (lt-ltb place (length names) low))
+
+-- names of one number are the same
+same-name : (names : List (List ℕ)) (one other : List ℕ) (first : ℕ) → number_of names one ≡ Some first → number_of names other ≡ Some first → one ≡ other
+same-name names one other first is also =
+    (bytes_eq-Decides one (get_or names first [])).0 (position-Some (bytes_eq one) names first [] is).1
+    ∙ sym ((bytes_eq-Decides other (get_or names first [])).0 (position-Some (bytes_eq other) names first [] also).1)
+
+-- a name and a description of one key are the same
+pub same-key : (names : List (List ℕ)) (n : ℕ) (description : List ℕ) → n < length names → key_of names (get_or names n []) ≡ key_of names description → get_or names n [] ≡ description
+same-key names n description within same = by_number (number_of names description) refl
+  where
+    first : (f : ℕ) × (f < length names) × (number_of names (get_or names n []) ≡ Some f)
+    first = numbered names n within
+
+    key : first.0 ≡ key_of names description
+    key = sym (ap (λ (found : Option ℕ). unwrap_or found (length names)) first.2) ∙ same
+
+    by_number : (found : Option ℕ) → number_of names description ≡ found → get_or names n [] ≡ description
+    by_number None none =
+        let is : first.0 ≡ length names = key ∙ ap (λ (found : Option ℕ). unwrap_or found (length names)) none in
+        let low = first.1 in
+        absurd (omega (arith, is, low))
+    by_number (Some k) some =
+        let is : first.0 ≡ k = key ∙ ap (λ (found : Option ℕ). unwrap_or found (length names)) some in
+        same-name names (get_or names n []) description k (first.2 ∙ ap (λ (j : ℕ). Some j) is) some
+
+-- ---- one list of lists more
+
+abbrev pub Keyed : Type 1
+Keyed = (key place : ℕ) → Type 0
+
+abbrev no_lists : (count : ℕ) → List (List ℕ)
+no_lists count = replicate count []
+
+abbrev no_places : List ℕ
+no_places = []
+
+nothing-there : (count key : ℕ) → get_or (no_lists count) key [] ≡ no_places
+nothing-there zero key = refl
+nothing-there (suc count) zero = refl
+nothing-there (suc count) (suc key) = nothing-there count key
+
+long-none : (count : ℕ) → length (no_lists count) ≡ count
+long-none zero = refl
+long-none (suc count) = ap (λ (n : ℕ). suc n) (long-none count)
+
+pub keys-none : (names : List (List ℕ)) (count : ℕ) (lists : List (List ℕ)) → count ≡ length names + 1 → lists ≡ replicate count [] → AreByKey names (λ key place. ⊥) lists
+keys-none names count lists is are = record {
+  long = ap (λ (ls : List (List ℕ)). length ls) are ∙ long-none count ∙ is;
+  each = λ key place. (
+    (λ at. Contains-none place (subst (λ (ps : List ℕ). Contains ps place) (ap (λ (ls : List (List ℕ)). get_or ls key []) are ∙ nothing-there count key) at)),
+    (λ no. absurd no),
+  );
+}
+
+pub adds-none : (P : Keyed) (lists : List (List ℕ)) → ((key place : ℕ) → P key place → ⊥) → Adds P lists lists
+adds-none P lists none = record {
+  long = refl;
+  each = λ key place. ((λ at. inl at), (λ either. ⊎_elim (λ (at : Contains (get_or lists key []) place). at) (λ (p : P key place). absurd (none key place p)) either));
+}
+
+pub adds-one : (old new : List (List ℕ)) (i x : ℕ) → i < length old → new ≡ set old i (get_or old i [] ++ x ∷ []) → Adds (λ key at. (at ≡ x) × (key ≡ i)) old new
+adds-one old new i x within is = record {
+  long = ap (λ (ls : List (List ℕ)). length ls) is ∙ length-set old i (get_or old i [] ++ x ∷ []);
+  each = λ key at. (
+    (λ there. ⊎_elim
+        (λ (before : Contains (get_or old key []) at). inl before)
+        (λ (now : Contains (cond (eqb i key) (x ∷ []) []) at). inr (by_key key at (eqb i key) refl now))
+        (Contains-append_cases (get_or old key []) (cond (eqb i key) (x ∷ []) []) at (subst (λ (ps : List ℕ). Contains ps at) (list key) there))),
+    (λ either. subst (λ (ps : List ℕ). Contains ps at) (sym (list key)) (⊎_elim
+        (λ (before : Contains (get_or old key []) at). Contains-append_left (get_or old key []) (cond (eqb i key) (x ∷ []) []) at before)
+        (λ (now : (at ≡ x) × (key ≡ i)). Contains-append_right (get_or old key []) (cond (eqb i key) (x ∷ []) []) at (of_key key at now))
+        either)),
+  );
+}
+  where
+    list : (key : ℕ) → get_or new key [] ≡ get_or old key [] ++ cond (eqb i key) (x ∷ []) []
+    list key = ap (λ (ls : List (List ℕ)). get_or ls key []) is ∙ at_longer old i key (x ∷ []) within
+
+    by_key : (key at : ℕ) (b : Bool) → eqb i key ≡ b → Contains (cond b (x ∷ []) []) at → (at ≡ x) × (key ≡ i)
+    by_key key at true same there = ⊎_elim (λ (here : x ≡ at). (sym here, sym (eqb-true i key same))) (λ (none : Contains [] at). absurd (Contains-none at none)) (Contains-cases x at [] there)
+    by_key key at false other there = absurd (Contains-none at there)
+
+    of_key : (key at : ℕ) → (at ≡ x) × (key ≡ i) → Contains (cond (eqb i key) (x ∷ []) []) at
+    of_key key at now =
+        subst (λ (b : Bool). Contains (cond b (x ∷ []) []) at) (sym (eq-eqb i key (sym now.1)))
+        (subst (λ (y : ℕ). Contains (x ∷ []) y) (sym now.0) (Contains-here x []))
+
+pub adds-both : (P Q R : Keyed) (a b c : List (List ℕ)) → ((key place : ℕ) → P key place ⊎ Q key place → R key place) → ((key place : ℕ) → R key place → P key place ⊎ Q key place)
+    → Adds P a b → Adds Q b c → Adds R a c
+adds-both P Q R a b c to from p q = record {
+  long = q.long ∙ p.long;
+  each = λ key place. (
+    (λ there. ⊎_elim
+        (λ (before : Contains (get_or b key []) place). ⊎_elim
+        (λ (first : Contains (get_or a key []) place). inl first)
+        (λ (is : P key place). inr (to key place (inl is)))
+        ((p.each key place).0 before))
+        (λ (is : Q key place). inr (to key place (inr is)))
+        ((q.each key place).0 there)),
+    (λ either. (q.each key place).1 (⊎_elim
+        (λ (first : Contains (get_or a key []) place). inl ((p.each key place).1 (inl first)))
+        (λ (is : R key place). ⊎_elim
+        (λ (by_p : P key place). inl ((p.each key place).1 (inr by_p)))
+        (λ (by_q : Q key place). inr by_q)
+        (from key place is))
+        either)),
+  );
+}
+
+pub keys-adds : (names : List (List ℕ)) (P Q R : Keyed) (old new : List (List ℕ)) → ((key place : ℕ) → P key place ⊎ Q key place → R key place)
+    → ((key place : ℕ) → R key place → P key place ⊎ Q key place) → AreByKey names P old → Adds Q old new → AreByKey names R new
+keys-adds names P Q R old new to from are adds = record {
+  long = adds.long ∙ are.long;
+  each = λ key place. (
+    (λ there. ⊎_elim
+        (λ (before : Contains (get_or old key []) place). to key place (inl ((are.each key place).0 before)))
+        (λ (is : Q key place). to key place (inr is))
+        ((adds.each key place).0 there)),
+    (λ is. (adds.each key place).1 (⊎_elim (λ (p : P key place). inl ((are.each key place).1 p)) (λ (q : Q key place). inr q) (from key place is))),
+  );
+}
+
+pub keys-same : (names : List (List ℕ)) (P Q : Keyed) (lists : List (List ℕ)) → ((key place : ℕ) → P key place → Q key place) → ((key place : ℕ) → Q key place → P key place)
+    → AreByKey names P lists → AreByKey names Q lists
+keys-same names P Q lists to from are = record {
+  long = are.long;
+  each = λ key place. ((λ at. to key place ((are.each key place).0 at)), (λ q. (are.each key place).1 (from key place q)));
+}
+
+-- ---- one description more
+
+abbrev pub Pushed : (names descriptions : List (List ℕ)) → (place : ℕ) → Keyed
+Pushed names descriptions place = λ key at. (at ≡ place) × HasKey names descriptions key
+
+pub pushed-none : (names : List (List ℕ)) (place : ℕ) (lists : List (List ℕ)) → Adds (Pushed names [] place) lists lists
+pushed-none names place lists = adds-none (Pushed names [] place) lists (λ key at is. Contains-none is.1.0 is.1.1)
+
+pub pushed-more : (names : List (List ℕ)) (place key : ℕ) (xs : List (Bor (List ℕ))) (i : ℕ) (d : Bor (List ℕ)) (old now new : List (List ℕ)) → i < length xs
+    → key ≡ key_of names (get_or xs i d).now → length now ≡ length names + 1 → new ≡ set now key (get_or now key [] ++ place ∷ [])
+    → Adds (Pushed names (texts (take i xs)) place) old now → Adds (Pushed names (texts (take (i + 1) xs)) place) old new
+pushed-more names place key xs i d old now new within is long pushed before =
+    let inside = key-within names (get_or xs i d).now in
+    let low : key < length now = omega (arith, inside, is, long) in
+    adds-both (Pushed names (texts (take i xs)) place) (λ k at. (at ≡ place) × (k ≡ key)) (Pushed names (texts (take (i + 1) xs)) place) old now new to from before
+    (adds-one now new key place low pushed)
+  where
+    last : List ℕ
+    last = (get_or xs i d).now
+
+    more : texts (take (i + 1) xs) ≡ texts (take i xs) ++ last ∷ []
+    more = texts-more xs i d within
+
+    to : (k at : ℕ) → Pushed names (texts (take i xs)) place k at ⊎ ((at ≡ place) × (k ≡ key)) → Pushed names (texts (take (i + 1) xs)) place k at
+    to k at (inl p) = (p.0, (p.1.0, subst (λ (ts : List (List ℕ)). Contains ts p.1.0) (sym more) (Contains-append_left (texts (take i xs)) (last ∷ []) p.1.0 p.1.1), p.1.2))
+    to k at (inr q) = (
+      q.0,
+      (
+        last,
+        subst (λ (ts : List (List ℕ)). Contains ts last) (sym more) (Contains-append_right (texts (take i xs)) (last ∷ []) last (Contains-here last [])),
+        sym is ∙ sym q.1,
+      ),
+    )
+
+    from : (k at : ℕ) → Pushed names (texts (take (i + 1) xs)) place k at → Pushed names (texts (take i xs)) place k at ⊎ ((at ≡ place) × (k ≡ key))
+    from k at r = ⊎_elim
+        (λ (before_it : Contains (texts (take i xs)) r.1.0). inl (r.0, (r.1.0, before_it, r.1.2)))
+        (λ (it : Contains (last ∷ []) r.1.0). ⊎_elim
+        (λ (here : last ≡ r.1.0). inr (r.0, sym r.1.2 ∙ ap (λ (t : List ℕ). key_of names t) (sym here) ∙ sym is))
+        (λ (none : Contains [] r.1.0). absurd (Contains-none r.1.0 none))
+        (Contains-cases last r.1.0 [] it))
+        (Contains-append_cases (texts (take i xs)) (last ∷ []) r.1.0 (subst (λ (ts : List (List ℕ)). Contains ts r.1.0) more r.1.1))
+
+-- ---- one service block more
+
+pub gives-none : (names : List (List ℕ)) (blocks : List Block) (lists : List (List ℕ)) → AreByKey names (λ key place. ⊥) lists → AreByKey names (GivesBelow blocks 0) lists
+gives-none names blocks lists are =
+    keys-same names (λ key place. ⊥) (GivesBelow blocks 0) lists (λ key place no. absurd no) (λ key place some. let low = some.1 in omega (arith, low)) are
+
+pub gives-more : (blocks : List Block) (i place key : ℕ) (old new : List (List ℕ)) → place_of blocks i ≡ place
+    → key ≡ key_of (names_in blocks Service) (description_of blocks i) → new ≡ set old key (get_or old key [] ++ place ∷ [])
+    → AreByKey (names_in blocks Service) (GivesBelow blocks i) old → AreByKey (names_in blocks Service) (GivesBelow blocks (i + 1)) new
+gives-more blocks i place key old new place_is is pushed before =
+    let inside = key-within (names_in blocks Service) (description_of blocks i) in
+    let long = before.long in
+    let low : key < length old = omega (arith, inside, is, long) in
+    keys-adds (names_in blocks Service) (GivesBelow blocks i) (λ k at. (at ≡ place) × (k ≡ key)) (GivesBelow blocks (i + 1)) old new to from before
+    (adds-one old new key place low pushed)
+  where
+    to : (k at : ℕ) → GivesBelow blocks i k at ⊎ ((at ≡ place) × (k ≡ key)) → GivesBelow blocks (i + 1) k at
+    to k at (inl p) = (p.0, (let low = p.1 in omega (arith, low)), p.2, p.3)
+    to k at (inr q) = (i, omega arith, place_is ∙ sym q.0, sym is ∙ sym q.1)
+
+    from : (k at : ℕ) → GivesBelow blocks (i + 1) k at → GivesBelow blocks i k at ⊎ ((at ≡ place) × (k ≡ key))
+    from k at r = ⊎_elim
+        (λ (early : r.0 < i). inl (r.0, early, r.2, r.3))
+        (λ (late : i ≤ r.0).
+        let low = r.1 in
+        let same : i ≡ r.0 = omega (arith, late, low) in
+        inr (
+          sym r.2 ∙ ap (λ (n : ℕ). place_of blocks n) (sym same) ∙ place_is,
+          sym r.3 ∙ ap (λ (n : ℕ). key_of (names_in blocks Service) (description_of blocks n)) (sym same) ∙ sym is,
+        ))
+        (cases_lt r.0 i)
+
+-- ---- one block more that may name services
+
+pub names-none : (names : List (List ℕ)) (blocks : List Block) (role : Role) (lists : List (List ℕ)) → AreByKey names (λ key place. ⊥) lists → AreByKey names (NamesBelow blocks role 0) lists
+names-none names blocks role lists are =
+    keys-same names (λ key place. ⊥) (NamesBelow blocks role 0) lists (λ key place no. absurd no) (λ key place some. let low = some.0 in omega (arith, low)) are
+
+pub names-more : (blocks : List Block) (role : Role) (i : ℕ) (old new : List (List ℕ))
+    → Adds (Pushed (names_in blocks Service) (descriptions_at blocks role i) i) old new
+    → AreByKey (names_in blocks Service) (NamesBelow blocks role i) old → AreByKey (names_in blocks Service) (NamesBelow blocks role (i + 1)) new
+names-more blocks role i old new adds before =
+    keys-adds (names_in blocks Service) (NamesBelow blocks role i) (Pushed (names_in blocks Service) (descriptions_at blocks role i) i) (NamesBelow blocks role (i + 1)) old new to from before adds
+  where
+    to : (k at : ℕ) → NamesBelow blocks role i k at ⊎ Pushed (names_in blocks Service) (descriptions_at blocks role i) i k at → NamesBelow blocks role (i + 1) k at
+    to k at (inl p) = ((let low = p.0 in omega (arith, low)), p.1)
+    to k at (inr q) = ((let is = q.0 in omega (arith, is)), subst (λ (p : ℕ). NamesKey blocks role k p) (sym q.0) q.1)
+
+    from : (k at : ℕ) → NamesBelow blocks role (i + 1) k at → NamesBelow blocks role i k at ⊎ Pushed (names_in blocks Service) (descriptions_at blocks role i) i k at
+    from k at r = ⊎_elim
+        (λ (early : at < i). inl (early, r.1))
+        (λ (late : i ≤ at). let low = r.0 in let same : at ≡ i = omega (arith, late, low) in inr (same, subst (λ (p : ℕ). NamesKey blocks role k p) same r.1))
+        (cases_lt at i)
+
+pub names-all : (blocks : List Block) (role : Role) (bound : ℕ) (lists : List (List ℕ)) → length blocks ≤ bound
+    → AreByKey (names_in blocks Service) (NamesBelow blocks role bound) lists → AreByKey (names_in blocks Service) (NamesKey blocks role) lists
+names-all blocks role bound lists all are = keys-same (names_in blocks Service) (NamesBelow blocks role bound) (NamesKey blocks role) lists
+    (λ key place some. some.1)
+    (λ key place some. let low = named-low blocks role place some.0 some.1 in (omega (arith, low, all), some))
+    are
