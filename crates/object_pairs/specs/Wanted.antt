@@ -43,11 +43,6 @@ AreWantedAt hosts keys values place =
 abbrev pub AreAllWanted : (hosts : List (List ℕ)) → List Key → Column → (places : List ℕ) → Type 0
 AreAllWanted hosts keys values places = All (AreWantedAt hosts keys values) places
 
--- a host with each of these descriptions is there
-abbrev pub AreWith : List Key → (descriptions : List (List ℕ)) → (host : ℕ) → Type 0
-AreWith keys descriptions host =
-    All (λ description. has keys (host, description) ≡ true) descriptions
-
 -- ---- what is found
 
 -- A host that isn't marked, by its number, is named by none of the pairs that are wanted.

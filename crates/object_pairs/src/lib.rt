@@ -6,4 +6,4 @@ mod marks;
 pub mod members;
 pub mod pairs;
 pub mod unknown;
-pub mod wanted;
+mod wanted;

@@ -4,10 +4,9 @@ ghost use Rattle.std.specs.Prelude.{◌≡◌, ◌∷◌, [], ℕ, All, IfOk, On
 ghost use Rattle.object_groups.specs.declared.groups.GroupKind.TheVariants.{HostGroups};
 ghost use Rattle.object_pairs.specs.Pairs.{pairs_in};
 ghost use Rattle.object_pairs.specs.Wanted.{AddsFound, AreAllWanted, AreFound, AreMarked};
-ghost use Rattle.object_pairs.specs.Wanted.{AreHostsOf, AreWantedAt, AreWith};
+ghost use Rattle.object_pairs.specs.Wanted.{AreHostsOf, AreWantedAt};
 ghost use Rattle.object_pairs.specs.Wanted.{has, IsWanted};
 ghost use Rattle.object_pairs.specs.Wanted.{Keeps};
-ghost use Rattle.object_values.specs.Values.{texts};
 
 use crate::marks::{hosts_of, is_marked, is_named};
 use crate::pairs::by_two;
@@ -115,38 +114,6 @@ pub(crate) fn wanted_in<'a>(
     Ok(wanted)
 }
 
-/// Adds the host with each of the descriptions.
-fn want_each<'a>(
-    wanted: &mut IndexSet<(usize, &'a [u8])>,
-    host: usize,
-    descriptions: &[&'a [u8]],
-) -> Result<(), AllocError>
-    ensures keeps { OnOk result (Keeps wanted.old.keys wanted.new.keys) }
-    ensures all { OnOk result (AreWith wanted.new.keys (texts descriptions.now) host) }
-{
-    for description in descriptions {
-        want(wanted, Some(host), *description)?;
-    }
-    Ok(())
-}
-
-/// Adds each of the hosts, by its number, with each of the descriptions: the time grows with the hosts times the
-/// descriptions, and the memory with those of these pairs that weren't there. After a refused growth some of them
-/// may be missing.
-pub fn want_all<'a>(
-    wanted: &mut IndexSet<(usize, &'a [u8])>,
-    hosts: &[usize],
-    descriptions: &[&'a [u8]],
-) -> Result<(), AllocError>
-    ensures keeps { OnOk result (Keeps wanted.old.keys wanted.new.keys) }
-    ensures all { OnOk result (All (AreWith wanted.new.keys (texts descriptions.now)) hosts.now) }
-{
-    for host in hosts {
-        want_each(wanted, *host, descriptions)?;
-    }
-    Ok(())
-}
-
 /// Whether the host with the description is wanted, where `marks` are those of the hosts that wanted pairs name.
 fn is_wanted<'a>(
     wanted: &IndexSet<(usize, &'a [u8])>,
@@ -201,7 +168,7 @@ fn add_found<'a>(
 /// the same blocks. Where any pair is wanted the time grows with that of `hosts_at` for each service block, and a service
 /// is looked up only where a wanted pair names its host; the memory grows with the hosts and what is wanted, however many
 /// services there are. A refused growth leaves the groups as they were.
-pub fn found_among<'a>(
+pub(crate) fn found_among<'a>(
     alloc: Global,
     services: &ServiceBlocks<'a>,
     hosts: &mut Groups<'a>,
