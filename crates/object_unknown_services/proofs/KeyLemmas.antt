@@ -32,39 +32,36 @@ key-within names description = by_number (number_of names description) (position
     by_number None low = omega arith
     by_number (Some k) low = omega (arith, low)
 
--- each name has a number
-numbered : (names : List (List ℕ)) (n : ℕ) → n < length names → (first : ℕ) × (first < length names) × (number_of names (get_or names n []) ≡ Some first)
-numbered names n within =
-    let name = get_or names n [] in
-    let place = position_or_len (bytes_eq name) names in
-    let early : place ≤ n = place-le (bytes_eq name) names n [] within (nat_list_eq_equiv.refl name) in
-    let low : place < length names = omega (arith, early, within) in
-    (place, low, ap (λ (b : Bool). cond b (Some place) None) (lt-ltb place (length names) low))
-
--- names of one number are the same
-same-name : (names : List (List ℕ)) (one other : List ℕ) (first : ℕ) → number_of names one ≡ Some first → number_of names other ≡ Some first → one ≡ other
-same-name names one other first is also =
-    (bytes_eq-Decides one (get_or names first [])).0 (position-Some (bytes_eq one) names first [] is).1
-    ∙ sym ((bytes_eq-Decides other (get_or names first [])).0 (position-Some (bytes_eq other) names first [] also).1)
+-- a text of that number is the name there
+named-at : (names : List (List ℕ)) (text : List ℕ) (k : ℕ) → number_of names text ≡ Some k → text ≡ get_or names k []
+named-at names text k is = (bytes_eq-Decides text (get_or names k [])).0 (position-Some (bytes_eq text) names k [] is).1
 
 -- a name and a description of one key are the same
 pub same-key : (names : List (List ℕ)) (n : ℕ) (description : List ℕ) → n < length names → key_of names (get_or names n []) ≡ key_of names description → get_or names n [] ≡ description
 same-key names n description within same = by_number (number_of names description) refl
   where
-    first : (f : ℕ) × (f < length names) × (number_of names (get_or names n []) ≡ Some f)
-    first = numbered names n within
+    name : List ℕ
+    name = get_or names n []
 
-    key : first.0 ≡ key_of names description
-    key = sym (ap (λ (found : Option ℕ). unwrap_or found (length names)) first.2) ∙ same
+    first : ℕ
+    first = position_or_len (bytes_eq name) names
 
-    by_number : (found : Option ℕ) → number_of names description ≡ found → get_or names n [] ≡ description
+    low : first < length names
+    low = let early = place-le (bytes_eq name) names n [] within (nat_list_eq_equiv.refl name) in omega (arith, early, within)
+
+    there : number_of names name ≡ Some first
+    there = ap (λ (b : Bool). cond b (Some first) None) (lt-ltb first (length names) low)
+
+    key : first ≡ key_of names description
+    key = sym (ap (λ (found : Option ℕ). unwrap_or found (length names)) there) ∙ same
+
+    by_number : (found : Option ℕ) → number_of names description ≡ found → name ≡ description
     by_number None none =
-        let is : first.0 ≡ length names = key ∙ ap (λ (found : Option ℕ). unwrap_or found (length names)) none in
-        let low = first.1 in
+        let is : first ≡ length names = key ∙ ap (λ (found : Option ℕ). unwrap_or found (length names)) none in
         absurd (omega (arith, is, low))
     by_number (Some k) some =
-        let is : first.0 ≡ k = key ∙ ap (λ (found : Option ℕ). unwrap_or found (length names)) some in
-        same-name names (get_or names n []) description k (first.2 ∙ ap (λ (j : ℕ). Some j) is) some
+        let is : first ≡ k = key ∙ ap (λ (found : Option ℕ). unwrap_or found (length names)) some in
+        named-at names name k (there ∙ ap (λ (j : ℕ). Some j) is) ∙ sym (named-at names description k some)
 
 -- ---- one list of lists more
 

@@ -1,11 +1,12 @@
 -- Stamps of hosts.
-use Rattle.std.proofs.Common.{◌≡◌, ℕ, ◌+◌, ◌<◌, ◌≤◌, Bool, true, false, ◌||◌, List, [], ◌∷◌, length, take, set, get_or, length-set, get_or-set_same, get_or-set_other, refl, sym, ap, subst, ⊎_elim, ◌∙◌, ◌⊎◌, inl, inr, arith}
+use Rattle.std.proofs.Common.{◌≡◌, ℕ, ◌+◌, ◌<◌, ◌≤◌, Bool, true, false, List, [], ◌∷◌, length, take, set, get_or, length-set, get_or-set_same, get_or-set_other, refl, sym, ap, subst, ⊎_elim, ◌∙◌, ◌⊎◌, inl, inr, arith}
 use Rattle.std.specs.Prelude.{Contains, not, ◌↔◌}
 use Rattle.std.specs.List.{list_any}
-use Rattle.std.proofs.lemmas.Bool.{cases_eq, false≢true, or_right}
+use Rattle.std.proofs.lemmas.Bool.{cases_eq, false≢true}
 use Rattle.std.proofs.lemmas.List.{take_more}
+use Rattle.std.proofs.lemmas.List.Folds.{Any-from_list_any, list_any-from_Any}
 use Rattle.std.proofs.lemmas.List.Elements.{Contains-append_cases, Contains-append_left, Contains-append_right}
-use Rattle.lemmas.proofs.Elements.{Contains-cases, Contains-here, Contains-later, Contains-none}
+use Rattle.lemmas.proofs.Elements.{Contains-cases, Contains-here, Contains-none}
 use Rattle.object_listing.specs.Listing.{AreThose, IsListed}
 use Rattle.object_reached.specs.declared.roles.Role.{Role}
 use Rattle.object_reached.specs.Listed.{of_hosts}
@@ -102,21 +103,6 @@ all-more blocks stamp places i old now new hosts within are before here =
 
 -- ---- hosts without a stamp
 
-any-found : (p : ℕ → Bool) (xs : List ℕ) → list_any p xs ≡ true → (x : ℕ) × Contains xs x × (p x ≡ true)
-any-found p [] any = absurd (false≢true any)
-any-found p (x ∷ xs) any = by_head (any-found p xs) (p x) refl any
-  where
-    by_head : (list_any p xs ≡ true → (y : ℕ) × Contains xs y × (p y ≡ true)) → (b : Bool) → p x ≡ b → (b || list_any p xs) ≡ true → (y : ℕ) × Contains (x ∷ xs) y × (p y ≡ true)
-    by_head rest true is here = (x, Contains-here x xs, is)
-    by_head rest false is later = let more = rest later in (more.0, Contains-later x more.0 xs more.1, more.2)
-
-any-from : (p : ℕ → Bool) (xs : List ℕ) (x : ℕ) → Contains xs x → p x ≡ true → list_any p xs ≡ true
-any-from p [] x at is = absurd (Contains-none x at)
-any-from p (y ∷ ys) x at is = ⊎_elim
-    (λ (here : y ≡ x). ap (λ (b : Bool). b || list_any p ys) (ap p here ∙ is))
-    (λ (later : Contains ys x). or_right (p y) (list_any p ys) (any-from p ys x later is))
-    (Contains-cases y x ys at)
-
 not-true : (b : Bool) → not b ≡ true → b ≡ false
 not-true true is = absurd (false≢true is)
 not-true false is = refl
@@ -124,7 +110,8 @@ not-true false is = refl
 pub unstamped : (blocks : List Block) (role : Role) (stamps : List ℕ) (stamp place : ℕ) (hosts : List ℕ) (lacks : Bool)
     → AreThose (IsListed blocks (of_hosts (directives_of role)) place) hosts → lacks ≡ list_any (λ host. not (is_stamped stamps stamp host)) hosts
     → (lacks ≡ true) ↔ ListsUnstamped blocks role stamps stamp place
-unstamped blocks role stamps stamp place hosts lacks are is = (
-  (λ yes. let host = any-found (λ h. not (is_stamped stamps stamp h)) hosts (sym is ∙ yes) in (host.0, (are.exactly host.0).0 host.1, not-true (is_stamped stamps stamp host.0) host.2)),
-  (λ some. is ∙ any-from (λ h. not (is_stamped stamps stamp h)) hosts some.0 ((are.exactly some.0).1 some.1) (ap (λ (b : Bool). not b) some.2)),
-)
+unstamped blocks role stamps stamp place hosts lacks are is =
+    let test : ℕ → Bool = λ host. not (is_stamped stamps stamp host) in (
+      (λ yes. let found = Any-from_list_any test hosts (sym is ∙ yes) in (found.1, (are.exactly found.1).0 (found.0, found.2, found.3), not-true (is_stamped stamps stamp found.1) found.4)),
+      (λ some. let at = (are.exactly some.0).1 some.1 in is ∙ list_any-from_Any test hosts (at.0, some.0, at.1, at.2, ap (λ (b : Bool). not b) some.2)),
+    )
