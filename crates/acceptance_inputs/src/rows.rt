@@ -1,6 +1,7 @@
 //! Small configurations as tables, for the worked rows and for those that are generated.
 
-ghost use Rattle.std.specs.Prelude.{◌≡◌, ◌+◌, ◌++◌, [], length, map, replicate, take, IfOk, IsOk};
+ghost use Rattle.std.specs.Prelude.{◌≡◌, ◌+◌, ◌++◌, []};
+ghost use Rattle.std.specs.Prelude.{length, map, replicate, take, IfOk, IsOk};
 ghost use Rattle.due_model.specs.Limits.{max_objects};
 ghost use Rattle.acceptance_inputs.specs.Tables.{contact_of, escalation_of, host_rights, mail};
 ghost use Rattle.acceptance_inputs.specs.Tables.{object_of, rights_of};

@@ -1,6 +1,7 @@
 //! The delivery of one notice of a lane.
 
-ghost use Rattle.std.specs.Prelude.{◌≡◌, ◌↔◌, ◌⊎◌, ◌+◌, ◌<◌, ◌≤◌, [], ◌∷◌};
+ghost use Rattle.std.specs.Prelude.{◌≡◌, ◌↔◌, ◌⊎◌, ◌+◌};
+ghost use Rattle.std.specs.Prelude.{◌<◌, ◌≤◌, [], ◌∷◌};
 ghost use Rattle.std.specs.Prelude.{◌++◌, List, None, length};
 ghost use Rattle.std.specs.Prelude.{IfErr, IsErrOf, OnErr, OnOk};
 ghost use Rattle.channel.specs.Channels.{receipt_of};

@@ -1,6 +1,7 @@
 //! The events of a feed, in order, from a reader of lines.
 
-ghost use Rattle.std.specs.Prelude.{◌≡◌, ◌≢◌, ◌+◌, ◌-◌, ◌*◌, ◌≤◌, ◌∷◌, [], false, IsSome};
+ghost use Rattle.std.specs.Prelude.{◌≡◌, ◌≢◌, ◌+◌, ◌-◌, ◌*◌};
+ghost use Rattle.std.specs.Prelude.{◌≤◌, ◌∷◌, [], false, IsSome};
 ghost use Rattle.std.specs.Prelude.{None, Some, Ok, IfOk, IfErr, IfSome, IfNone, OnSome, IsTrue};
 ghost use Rattle.event_feed.specs.Feed.{AreGivenBy, ComesToEnd, GivesEvent, GivesFault, GivesNone};
 ghost use Rattle.event_feed.specs.Feed.{feed_limit, feed_of, lines_asked, raised, refusal};

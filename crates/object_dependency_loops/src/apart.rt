@@ -1,6 +1,7 @@
 //! Whether no object is both a dependent and a master of rules, so that no rule lies on a loop.
 
-ghost use Rattle.std.specs.Prelude.{◌≡◌, ◌+◌, ◌<◌, ◌^◌, ◌++◌, false, true, length, map, All, IfOk, OnOk};
+ghost use Rattle.std.specs.Prelude.{◌≡◌, ◌+◌, ◌<◌, ◌^◌, ◌++◌};
+ghost use Rattle.std.specs.Prelude.{false, true, length, map, All, IfOk, OnOk};
 ghost use Rattle.object_dependency_loops.specs.Apart.{AreMarked, HasSides, NoneIsMarked};
 ghost use Rattle.graph_rules.specs.Rules.{AreWithin, edge, HasNoLoop};
 

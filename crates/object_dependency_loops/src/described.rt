@@ -1,6 +1,7 @@
 //! Nodes for the services that blocks list by hosts and descriptions.
 
-ghost use Rattle.std.specs.Prelude.{◌≡◌, ◌+◌, ◌<◌, ◌^◌, ◌++◌, ◌∷◌, [], length, map, All, IfOk, OnOk};
+ghost use Rattle.std.specs.Prelude.{◌≡◌, ◌+◌, ◌<◌, ◌^◌, ◌++◌, ◌∷◌, []};
+ghost use Rattle.std.specs.Prelude.{length, map, All, IfOk, OnOk};
 ghost use Rattle.object_dependency_loops.specs.Base.{host_count, service_count};
 ghost use Rattle.object_dependency_loops.specs.Described.{AreFound, AreListsAlike, Describes};
 ghost use Rattle.object_dependency_loops.specs.Speech.{AddsSpeech, AreLinked};

@@ -1,6 +1,7 @@
 //! A node for the list of each of some blocks, and a link from the block to it.
 
-ghost use Rattle.std.specs.Prelude.{◌≡◌, ℕ, ◌+◌, ◌<◌, ◌≤◌, ◌^◌, ◌++◌, length, All, IfOk, IfSome, OnOk};
+ghost use Rattle.std.specs.Prelude.{◌≡◌, ◌+◌, ◌<◌, ◌≤◌, ◌^◌, ◌++◌};
+ghost use Rattle.std.specs.Prelude.{ℕ, length, All, IfOk, IfSome, OnOk};
 ghost use Rattle.graph.specs.Edges.{IsWithin};
 ghost use Rattle.object_dependency_loops.specs.Speech.{AddsSpeech, AreLinked, ByList, links_to};
 

@@ -1,6 +1,7 @@
 //! The places of the blocks that are notification dependencies.
 
-ghost use Rattle.std.specs.Prelude.{◌≡◌, ◌&&◌, ◌++◌, ◌∷◌, [], length, if◌then◌else◌, IfOk, OnOk};
+ghost use Rattle.std.specs.Prelude.{◌≡◌, ◌&&◌, ◌++◌, ◌∷◌, [], if◌then◌else◌};
+ghost use Rattle.std.specs.Prelude.{length, IfOk, OnOk};
 ghost use Rattle.object_dependency_loops.specs.Places.{kept_in};
 
 use object_dependencies::blocks::DependencyBlocks;

@@ -1,6 +1,7 @@
 //! The groups of hosts and of contacts, and their members (chapter "Object Definitions").
 
-ghost use Rattle.std.specs.Prelude.{◌≡◌, ◌+◌, ◌<◌, ◌≤◌, ◌++◌, ◌^◌, ◌↔◌, [], true, length, map};
+ghost use Rattle.std.specs.Prelude.{◌≡◌, ◌+◌, ◌<◌, ◌≤◌, ◌++◌, ◌^◌, ◌↔◌, []};
+ghost use Rattle.std.specs.Prelude.{true, length, map};
 ghost use Rattle.std.specs.Prelude.{nat_lt, All, IfOk, OnOk};
 ghost use Rattle.std.specs.List.{flat_map, range_with_len};
 ghost use Rattle.std.specs.List.Sorted.{IsStrictlyIncreasing};

@@ -1,6 +1,7 @@
 //! Templates, and their faults (chapter "Object Inheritance").
 
-ghost use Rattle.std.specs.Prelude.{◌≡◌, ◌<◌, ◌==◌, ◌^◌, false, length, All, None, IfErr, IfNone};
+ghost use Rattle.std.specs.Prelude.{◌≡◌, ◌<◌, ◌==◌, ◌^◌};
+ghost use Rattle.std.specs.Prelude.{false, length, All, None, IfErr, IfNone};
 ghost use Rattle.std.specs.Prelude.{IfOk, IfSome, OnOk};
 ghost use Rattle.std.specs.Option.{option_map_or};
 ghost use Rattle.graph.specs.Chains.{HasNoLoop};

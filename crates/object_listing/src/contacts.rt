@@ -1,6 +1,7 @@
 //! The contacts that blocks list, by themselves and by contact groups.
 
-ghost use Rattle.std.specs.Prelude.{◌≡◌, ◌<◌, ◌≤◌, length, map, slice_index_or, None, All, IfOk};
+ghost use Rattle.std.specs.Prelude.{◌≡◌, ◌<◌, ◌≤◌};
+ghost use Rattle.std.specs.Prelude.{length, map, slice_index_or, None, All, IfOk};
 ghost use Rattle.due_model.specs.Limits.{max_contacts};
 ghost use Rattle.object_groups.specs.declared.groups.GroupKind.TheVariants.{ContactGroups};
 ghost use Rattle.object_groups.specs.Objects.{names_in};

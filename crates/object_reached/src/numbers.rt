@@ -1,6 +1,7 @@
 //! The places of the services that lists of hosts, of descriptions and of groups reach.
 
-ghost use Rattle.std.specs.Prelude.{◌≡◌, ◌≤◌, ℕ, List, [], ◌∷◌, ◌++◌, ◌||◌, All, Contains, IfOk, IfSome};
+ghost use Rattle.std.specs.Prelude.{◌≡◌, ◌≤◌, [], ◌∷◌, ◌++◌, ◌||◌};
+ghost use Rattle.std.specs.Prelude.{ℕ, List, All, Contains, IfOk, IfSome};
 ghost use Rattle.std.specs.Prelude.{OnOk, filter, is_some, length, slice_get, slice_index_or};
 ghost use Rattle.std.specs.Option.{option_to_list};
 ghost use Rattle.object_reached.specs.Listed.{AddsMembers, is_named, IsNthOn, IsOn, OfSome};

@@ -1,6 +1,7 @@
 //! The service groups of blocks, and their members.
 
-ghost use Rattle.std.specs.Prelude.{◌≡◌, ◌+◌, ◌<◌, ◌≤◌, ◌^◌, ◌++◌, ℕ, List, [], codes, length};
+ghost use Rattle.std.specs.Prelude.{◌≡◌, ◌+◌, ◌<◌, ◌≤◌, ◌^◌, ◌++◌, []};
+ghost use Rattle.std.specs.Prelude.{ℕ, List, codes, length};
 ghost use Rattle.std.specs.Prelude.{slice_index_or, All, IfOk};
 ghost use Rattle.graph.specs.Edges.{IsWithin};
 ghost use Rattle.object_groups.specs.declared.lists.Direction.TheVariants.{FromNames, ToNames};

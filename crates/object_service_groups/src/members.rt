@@ -2,7 +2,8 @@
 //! its edges once. Members are hosts and services by turns, so a list that is added to another goes on from the entry
 //! that is left over of that one.
 
-ghost use Rattle.std.specs.Prelude.{◌≡◌, ◌+◌, ◌<◌, ◌≤◌, ◌^◌, ◌++◌, List, ℕ, [], length, map};
+ghost use Rattle.std.specs.Prelude.{◌≡◌, ◌+◌, ◌<◌, ◌≤◌, ◌^◌, ◌++◌, []};
+ghost use Rattle.std.specs.Prelude.{List, ℕ, length, map};
 ghost use Rattle.std.specs.Prelude.{All, IfOk, IfSome, OnOk};
 ghost use Rattle.std.specs.Option.{option_map, option_to_list};
 ghost use Rattle.graph.specs.Edges.{IsWithin};
