@@ -45,10 +45,6 @@ AreAllWanted hosts keys values places = All (AreWantedAt hosts keys values) plac
 
 -- ---- what is found
 
--- A host that isn't marked, by its number, is named by none of the pairs that are wanted.
-pub record AreHostsOf (wanted : List Key) (marks : List Bool) : Type 0 where
-  pub none : (pair : Pair) → slice_index_or marks pair.0 true ≡ false → has wanted pair ≡ false
-
 -- what came to a set: those of the hosts, with the description, that are wanted
 abbrev pub adds : (wanted : List Key) → (description : List ℕ) → (hosts : List ℕ) → Pair → Bool
 adds wanted description hosts pair = has wanted pair

@@ -4,11 +4,9 @@ ghost use Rattle.std.specs.Prelude.{◌≡◌, ◌∷◌, [], ℕ, All, IfOk, On
 ghost use Rattle.object_groups.specs.declared.groups.GroupKind.TheVariants.{HostGroups};
 ghost use Rattle.object_pairs.specs.Pairs.{pairs_in};
 ghost use Rattle.object_pairs.specs.Wanted.{AddsFound, AreAllWanted, AreFound, AreMarked};
-ghost use Rattle.object_pairs.specs.Wanted.{AreHostsOf, AreWantedAt};
-ghost use Rattle.object_pairs.specs.Wanted.{has, IsWanted};
-ghost use Rattle.object_pairs.specs.Wanted.{Keeps};
+ghost use Rattle.object_pairs.specs.Wanted.{AreWantedAt, has, IsWanted, Keeps};
 
-use crate::marks::{hosts_of, is_marked, is_named};
+use crate::marks::is_marked;
 use crate::pairs::by_two;
 use indexmap::IndexSet;
 use object_groups::groups::Groups;
@@ -114,33 +112,19 @@ pub(crate) fn wanted_in<'a>(
     Ok(wanted)
 }
 
-/// Whether the host with the description is wanted, where `marks` are those of the hosts that wanted pairs name.
-fn is_wanted<'a>(
-    wanted: &IndexSet<(usize, &'a [u8])>,
-    marks: &[bool],
-    description: &'a [u8],
-    host: usize,
-) -> bool
-    requires { AreHostsOf wanted.now.keys marks.now }
-    ensures { result ≡ has wanted.now.keys (host, description.now) }
-{
-    is_named(marks, host) && wanted.contains(&(host, description))
-}
-
 /// Adds the host, with the description, if that is wanted.
 fn add_if_wanted<'a>(
     found: &mut IndexSet<(usize, &'a [u8])>,
     wanted: &IndexSet<(usize, &'a [u8])>,
-    marks: &[bool],
     description: &'a [u8],
     host: usize,
 ) -> Result<(), AllocError>
-    requires { AreHostsOf wanted.now.keys marks.now }
     ensures { OnOk result (AddsFound wanted.now.keys description.now (host ∷ [])
         found.old.keys found.new.keys) }
 {
-    if is_wanted(wanted, marks, description, host) {
-        found.insert((host, description))?;
+    let key = (host, description);
+    if wanted.contains(&key) {
+        found.insert(key)?;
     }
     Ok(())
 }
@@ -149,25 +133,22 @@ fn add_if_wanted<'a>(
 fn add_found<'a>(
     found: &mut IndexSet<(usize, &'a [u8])>,
     wanted: &IndexSet<(usize, &'a [u8])>,
-    marks: &[bool],
     description: &'a [u8],
     hosts: &[usize],
 ) -> Result<(), AllocError>
-    requires { AreHostsOf wanted.now.keys marks.now }
     ensures { OnOk result (AddsFound wanted.now.keys description.now hosts.now
         found.old.keys found.new.keys) }
 {
     for host in hosts {
-        add_if_wanted(found, wanted, marks, description, *host)?;
+        add_if_wanted(found, wanted, description, *host)?;
     }
     Ok(())
 }
 
 /// The services among the pairs that are wanted, each the number of a host and a description: those of which a
 /// service block with the description has the host. `services` are the service blocks and `hosts` the host groups of
-/// the same blocks. Where any pair is wanted the time grows with that of `hosts_at` for each service block, and a service
-/// is looked up only where a wanted pair names its host; the memory grows with the hosts and what is wanted, however many
-/// services there are. A refused growth leaves the groups as they were.
+/// the same blocks. Where any pair is wanted the time grows with that of `hosts_at` for each service block; the memory
+/// grows with what is wanted, however many services there are. A refused growth leaves the groups as they were.
 pub(crate) fn found_among<'a>(
     alloc: Global,
     services: &ServiceBlocks<'a>,
@@ -182,17 +163,10 @@ pub(crate) fn found_among<'a>(
     if wanted.is_empty() {
         return Ok(found);
     }
-    let marks = hosts_of(alloc, wanted.as_slice(), hosts.objects().names().len())?;
     let names = services.objects().names();
     for (number, place) in services.objects().places().iter().enumerate() {
         let list = services.hosts_at(alloc, hosts, *place)?;
-        add_found(
-            &mut found,
-            wanted,
-            marks.as_slice(),
-            names.name(number),
-            list.as_slice(),
-        )?;
+        add_found(&mut found, wanted, names.name(number), list.as_slice())?;
     }
     Ok(found)
 }
