@@ -1,5 +1,5 @@
 -- Where the dependents and the masters reach nothing in common, there is no loop.
-use Rattle.std.proofs.Common.{◌≡◌, ℕ, zero, suc, ◌+◌, ◌<◌, Bool, true, false, List, ◌++◌, map, Some, refl, sym, subst, get_or, arith, ◌∙◌}
+use Rattle.std.proofs.Common.{◌≡◌, ℕ, zero, suc, ◌+◌, ◌<◌, Bool, true, false, List, ◌++◌, Some, refl, sym, subst, get_or, arith, ◌∙◌}
 use Rattle.std.specs.Prelude.{All, Contains, not, slice_get, ◌↔◌}
 use Rattle.std.proofs.lemmas.Bool.{false≢true}
 use Rattle.std.proofs.lemmas.List.Elements.{All-append, All-contains, All-from_get_or, Contains-append_left, Contains-append_right, Contains-get_or}
@@ -12,17 +12,9 @@ use Rattle.graph.specs.Edges.{HasEdges, IsWithin, Leads}
 use Rattle.graph.specs.Reach.{IsReached}
 use Rattle.graph_rules.specs.declared.rules.Rules.{Rules}
 use Rattle.graph_rules.specs.Rules.{AreWithin, Depends, edge, HasDependent, HasNoLoop, IsOfRule, LeadsTo}
-use Rattle.object_dependency_loops.specs.Apart.{AreMarked, HasSides, NoneIsMarked}
+use Rattle.object_dependency_loops.specs.Apart.{AreMarked, ends_from, HasSides, NoneIsMarked, side_edges}
 
 -- ---- the graph
-
--- the edges from a node to the ends of some
-abbrev pub ends_from : (node : ℕ) → List Edge → List Edge
-ends_from node sides = map (λ side. edge node side.to) sides
-
--- all edges
-abbrev pub side_edges : Rules → List Edge
-side_edges rules = (rules.members.items ++ ends_from rules.nodes rules.dependents.items) ++ ends_from (rules.nodes + 1) rules.masters.items
 
 ends-within : (count nodes node bound : ℕ) (sides : List Edge) → All (IsOfRule count nodes) sides → node < bound → nodes < bound + 1 → All (IsWithin bound) (ends_from node sides)
 ends-within count nodes node bound sides within low less = All-from_get_or (IsWithin bound) (ends_from node sides) (edge 0 0) (λ i small.

@@ -11,7 +11,7 @@ use Rattle.lemmas.proofs.Chains.{Reaches-join}
 use Rattle.lemmas.proofs.Elements.{Contains-cases, Contains-from_map, Contains-here, Contains-map, Contains-none}
 use Rattle.object_dependencies.specs.Pairs.{BlocksOf}
 use Rattle.object_dependency_loops.specs.declared.base.Firsts.{Firsts}
-use Rattle.object_dependency_loops.specs.Base.{base_edges, graph_edges, host_count, IsBase, moved_ends, service_count, turn_edges}
+use Rattle.object_dependency_loops.specs.Base.{AreServiceNodes, base_edges, graph_edges, host_count, IsBase, moved_ends, service_count, turn_edges}
 use Rattle.object_dependency_loops.proofs.ReachLemmas.{reaches-step}
 use Rattle.object_groups.specs.declared.groups.GroupKind.TheVariants.{HostGroups}
 use Rattle.object_groups.specs.declared.lists.Direction.TheVariants.{ToNames}
@@ -51,10 +51,6 @@ turn-edge start end count from to at =
 
 edge-turn : (start end count k : ℕ) → k < count → IsEdge (turn_edges start end count) (start + k) (end + k)
 edge-turn start end count k few = of-list ToNames start count (λ j. (end + j) ∷ []) k (end + k) few (Contains-here (end + k) [])
-
--- a graph without nodes
-pub none-closed : (p q : ℕ) → Leads [] p q → q < 0
-none-closed p q led = absurd (Contains-none q led)
 
 -- ---- all edges
 
@@ -209,10 +205,8 @@ module _ (hosts services turned : ℕ) (hg sg : List (List ℕ)) (host_few : hos
 
 -- ---- the base
 
--- `has` says whether there are nodes of service groups, and so many services have a node there
-module _ (b : BlocksOf) (has : Bool) (turned : ℕ) (hg sg : List (List ℕ)) (host_closed : (p q : ℕ) → Leads hg p q → q < length hg) (service_closed : (p q : ℕ) → Leads sg p q → q < length sg)
-    (host_leads : LeadsToMembers (grouping b.blocks HostGroups) hg) (turned_few : turned ≤ service_count b) (service_less : turned ≤ length sg)
-    (service_leads : has ≡ true → (turned ≡ service_count b) × LeadsToServices b.blocks b.lists sg) where
+module _ (b : BlocksOf) (has : Bool) (turned begin : ℕ) (hg sg : List (List ℕ)) (host_closed : (p q : ℕ) → Leads hg p q → q < length hg) (service_closed : (p q : ℕ) → Leads sg p q → q < length sg)
+    (host_leads : LeadsToMembers (grouping b.blocks HostGroups) hg) (service_nodes : AreServiceNodes b has sg turned begin) where
   abbrev h : ℕ
   h = host_count b
 
@@ -222,8 +216,11 @@ module _ (b : BlocksOf) (has : Bool) (turned : ℕ) (hg sg : List (List ℕ)) (h
   abbrev g : ℕ
   g = length (names_in b.blocks HostGroup)
 
-  abbrev f : ℕ
-  f = first_group (service_grouping b.blocks b.lists)
+  turned_few : turned ≤ s
+  turned_few = service_nodes.few
+
+  service_less : turned ≤ length sg
+  service_less = service_nodes.services_within
 
   abbrev es : List Edge
   es = base_edges h s turned hg sg
@@ -234,8 +231,8 @@ module _ (b : BlocksOf) (has : Bool) (turned : ℕ) (hg sg : List (List ℕ)) (h
   host_less : h ≤ length hg
   host_less = let all = host_all in omega (arith, all)
 
-  service_all : has ≡ true → f + length (names_in b.blocks ServiceGroup) ≤ length sg
-  service_all is = (service_leads is).1.count
+  service_all : has ≡ true → begin + length (names_in b.blocks ServiceGroup) ≤ length sg
+  service_all is = let all = (service_nodes.leads is).count in let begins = service_nodes.first_is is in omega (arith, all, begins)
 
   from_first : (object p : ℕ) → object < h + s → p < length hg → (node : ℕ) → node ≡ h + s + p → Reaches (IsEdge es) node object ↔ ((object < h) × Reaches (Leads hg) p object)
   from_first object p there low node is =
@@ -249,7 +246,7 @@ module _ (b : BlocksOf) (has : Bool) (turned : ℕ) (hg sg : List (List ℕ)) (h
       (service-reach h s turned hg sg host_less turned_few service_less host_closed service_closed object there p low)
 
   pub base-is : (firsts : Firsts) (count : ℕ) (made : List Edge) → firsts.objects ≡ h + s → firsts.hosts ≡ h + s → firsts.all_hosts ≡ h + s + h + g → firsts.host_groups ≡ h + s + h
-      → firsts.all_groups ≡ h + s + h + g + 1 → firsts.has_groups ≡ has → (has ≡ true → firsts.service_groups ≡ h + s + length hg + f) → count ≡ h + s + length hg + length sg → made ≡ es → IsBase b firsts count made
+      → firsts.all_groups ≡ h + s + h + g + 1 → firsts.has_groups ≡ has → firsts.service_groups ≡ h + s + length hg + begin → count ≡ h + s + length hg + length sg → made ≡ es → IsBase b firsts count made
   base-is firsts count made objects_is hosts_is all_hosts_is groups_is all_groups_is has_is service_groups_is count_is made_is =
       let all_hosts = host_all in
       let less = host_less in
@@ -260,7 +257,7 @@ module _ (b : BlocksOf) (has : Bool) (turned : ℕ) (hg sg : List (List ℕ)) (h
         all_hosts_few = omega (arith, all_hosts_is, count_is, all_hosts);
         groups_few = omega (arith, groups_is, count_is, all_hosts);
         all_groups_few = omega (arith, all_groups_is, count_is, all_hosts);
-        service_groups_few = λ given. let here = sym has_is ∙ given in let at = service_groups_is here in let all_services = service_all here in omega (arith, at, count_is, all_services);
+        service_groups_few = λ given. let here = sym has_is ∙ given in let all_services = service_all here in omega (arith, service_groups_is, count_is, all_services);
         within = subst (λ (n : ℕ). All (IsWithin n) es) (sym count_is) (base-within h s turned hg sg host_less turned_few service_less host_closed service_closed);
         object = λ p object low there reaches. object-reach h s turned hg sg host_less turned_few service_less host_closed service_closed object (omega (arith, there, objects_is)) p (omega (arith, low, objects_is)) reaches;
         host = λ k object low there.
@@ -285,15 +282,15 @@ module _ (b : BlocksOf) (has : Bool) (turned : ℕ) (hg sg : List (List ℕ)) (h
             );
         service_group = λ given group object low there.
             let here = sym has_is ∙ given in
-            let begins = service_groups_is here in
             let all_services = service_all here in
-            let leads = service_leads here in
-            let turns = leads.0 in
-            let at = from_second object (f + group) (omega (arith, there, objects_is)) (omega (arith, low, all_services)) (firsts.service_groups + group) (omega (arith, begins)) in (
-              (λ (reaches : Reaches (IsEdge es) (firsts.service_groups + group) object). let on = at.0 reaches in let few = on.1 in let less : on.0 < s = omega (arith, few, turns) in (on.0, less, on.2, (leads.1.groups group on.0 low less).0 on.3)),
+            let turns : turned ≡ s = service_nodes.all here in
+            let begins : begin ≡ first_group (service_grouping b.blocks b.lists) = service_nodes.first_is here in
+            let leads : LeadsToServices b.blocks b.lists sg = service_nodes.leads here in
+            let at = from_second object (first_group (service_grouping b.blocks b.lists) + group) (omega (arith, there, objects_is)) (omega (arith, low, all_services, begins)) (firsts.service_groups + group) (omega (arith, service_groups_is, begins)) in (
+              (λ (reaches : Reaches (IsEdge es) (firsts.service_groups + group) object). let on = at.0 reaches in let few = on.1 in let less : on.0 < s = omega (arith, few, turns) in (on.0, less, on.2, (leads.groups group on.0 low less).0 on.3)),
               (λ (some : (service : ℕ) × (service < s) × (object ≡ h + service) × IsServiceMember (service_grouping b.blocks b.lists) group service).
                   let few = some.1 in
-                  at.1 (some.0, omega (arith, few, turns), some.2, (leads.1.groups group some.0 low some.1).1 some.3)),
+                  at.1 (some.0, omega (arith, few, turns), some.2, (leads.groups group some.0 low some.1).1 some.3)),
             );
       })
 

@@ -1,9 +1,8 @@
 -- Nodes for the services that blocks list by hosts and descriptions.
-use Rattle.std.proofs.Common.{◌≡◌, ℕ, Bor, zero, suc, ◌+◌, ◌<◌, ◌≤◌, ◌^◌, Bool, true, false, cond, ◌&&◌, List, [], ◌∷◌, ◌++◌, length, map, get_or, Option, Some, None, is_some, refl, sym, ap, subst, eqb, eqb-true, ◌∙◌, ◌⊎◌, inl, inr, ⊎_elim, arith}
-use Rattle.std.specs.Prelude.{All, Contains, IfSome, slice_get, unwrap_or, ◌↔◌}
+use Rattle.std.proofs.Common.{◌≡◌, ℕ, zero, suc, ◌+◌, ◌<◌, ◌≤◌, ◌^◌, Bool, true, false, cond, ◌&&◌, List, [], ◌∷◌, ◌++◌, length, map, get_or, Option, Some, None, refl, sym, ap, subst, eqb, eqb-true, ◌∙◌, ◌⊎◌, inl, inr, ⊎_elim, arith}
+use Rattle.std.specs.Prelude.{All, Contains, IfSome, slice_get, ◌↔◌}
 use Rattle.std.specs.Map.{lookup}
-use Rattle.std.proofs.lemmas.Bool.{and_parts, false≢true}
-use Rattle.std.proofs.lemmas.Slice.Eq.{bytes_eq-Decides}
+use Rattle.std.proofs.lemmas.Bool.{and_parts}
 use Rattle.std.proofs.lemmas.List.Elements.{All-contains, All-from_get_or, Contains-append_cases, Contains-append_left, Contains-append_right, Contains-get_or}
 use Rattle.graph.specs.declared.edges.Edge.{Edge}
 use Rattle.graph.specs.Chains.{Reaches}
@@ -12,37 +11,27 @@ use Rattle.graph_rules.specs.Rules.{IsOfRule}
 use Rattle.lemmas.proofs.Edges.{edges-more}
 use Rattle.lemmas.proofs.Elements.{Contains-cases, Contains-from_map, Contains-here, Contains-map, Contains-none}
 use Rattle.object_dependencies.specs.Pairs.{BlocksOf}
-use Rattle.object_groups.specs.declared.groups.GroupKind.TheVariants.{HostGroups}
 use Rattle.object_groups.specs.declared.lists.Direction.TheVariants.{ToNames}
-use Rattle.object_groups.specs.Groups.{group_kind, object_kind}
 use Rattle.object_groups.specs.ListEdges.{between, edge, IsEdge, LeadOver, list_edges}
-use Rattle.object_groups.specs.Names.{Lists, name_eq}
 use Rattle.object_groups.specs.NodeLaws.{edge-from, edge-to}
-use Rattle.object_groups.specs.Objects.{list_at, names_in}
+use Rattle.object_groups.specs.Objects.{names_in}
 use Rattle.object_groups.specs.ReachLaws.{lead-none, list-edge}
-use Rattle.object_inheritance.specs.Inherited.{beside, given, is_additive, joined_entries, list_given, own_entries, value}
-use Rattle.object_inheritance.specs.Columns.{Column, given_from}
-use Rattle.object_listing.specs.Listing.{Adds, IsListed, ListingOf}
-use Rattle.object_reached.specs.Listed.{IsDescribed, is_named, of_hosts, ServiceDirectives, ServiceListingOf}
+use Rattle.object_listing.specs.Listing.{Adds}
+use Rattle.object_reached.specs.Alike.{HaveLists, ListPlaces, places_eq}
+use Rattle.object_reached.specs.AlikeLaws.{listed-alike}
+use Rattle.object_reached.specs.Listed.{IsDescribed, is_named, ServiceDirectives}
 use Rattle.object_reader.specs.declared.block.Block.{Block}
 use Rattle.object_reader.specs.declared.block.BlockKind.TheVariants.{Host, Service}
 use Rattle.object_services.specs.Numbers.{Pair, pairs_of}
 use Rattle.object_dependency_loops.specs.Base.{host_count, service_count}
-use Rattle.object_dependency_loops.specs.Described.{AreAlike, AreFound, Describes, HaveLists, IsNodeOf, ListPlaces, places_eq}
+use Rattle.object_dependency_loops.specs.Described.{AreFound, Describes, IsNodeOf}
 use Rattle.object_dependency_loops.specs.Speech.{AddsSpeech, AreLinked, Speaks}
 use Rattle.object_dependency_loops.proofs.ReachLemmas.{nodes-over, nodes-reach}
 
 -- ---- blocks with the same lists
 
 module _ (b : BlocksOf) (directives : ServiceDirectives) where
-  listed-same : (one other k : ℕ) → list_at b.blocks directives.hosts one ≡ list_at b.blocks directives.hosts other → list_at b.blocks directives.host_groups one ≡ list_at b.blocks directives.host_groups other
-      → IsListed b.blocks (of_hosts directives) one k → IsListed b.blocks (of_hosts directives) other k
-  listed-same one other k objects groups (inl has) =
-      inl (subst (λ (entries : List (List ℕ)). Lists (names_in b.blocks (object_kind HostGroups)) entries k) objects has)
-  listed-same one other k objects groups (inr some) =
-      inr (some.0, subst (λ (entries : List (List ℕ)). Lists (names_in b.blocks (group_kind HostGroups)) entries some.0) groups some.1, some.2)
-
-  pub describes-same : (one other : ℕ) (others : ListPlaces) → HaveLists b directives one others → HaveLists b directives other others → (object : ℕ)
+  pub describes-same : (one other : ℕ) (others : ListPlaces) → HaveLists b.blocks directives one others → HaveLists b.blocks directives other others → (object : ℕ)
       → Describes b directives one object → Describes b directives other object
   describes-same one other others of_one of_other object (service, is, (host, description, there, listed, has)) = (
     service,
@@ -51,93 +40,10 @@ module _ (b : BlocksOf) (directives : ServiceDirectives) where
       host,
       description,
       there,
-      listed-same one other host (sym of_one.hosts ∙ of_other.hosts) (sym of_one.groups ∙ of_other.groups) listed,
+      listed-alike b.blocks directives one other others of_one of_other host listed,
       subst (λ (entries : List (List ℕ)). is_named entries description ≡ true) (sym of_one.descriptions ∙ of_other.descriptions) has,
     ),
   )
-
--- the lists of three columns
-pub lists-are : (b : BlocksOf) (v : ServiceListingOf) (hosts : ListingOf) (one two three : Column) (place first second third : ℕ) → v.blocks ≡ b.blocks
-    → hosts ≡ record { blocks = v.blocks; directives = of_hosts v.directives }
-    → one ≡ record { blocks = hosts.blocks; directive = hosts.directives.objects } → two ≡ record { blocks = hosts.blocks; directive = hosts.directives.groups }
-    → three ≡ record { blocks = v.blocks; directive = v.directives.descriptions }
-    → list_at one.blocks one.directive first ≡ list_at one.blocks one.directive place → list_at two.blocks two.directive second ≡ list_at two.blocks two.directive place
-    → list_at three.blocks three.directive third ≡ list_at three.blocks three.directive place
-    → HaveLists b v.directives place ((first, second), third)
-lists-are b v hosts one two three place first second third same hosts_are one_is two_is three_is one_same two_same three_same =
-    let first_is : one ≡ record { blocks = b.blocks; directive = v.directives.hosts } =
-    one_is ∙ ap (λ (l : ListingOf). record { blocks = l.blocks; directive = l.directives.objects }) hosts_are ∙ ap (λ (bs : List Block). record { blocks = bs; directive = v.directives.hosts }) same in
-    let second_is : two ≡ record { blocks = b.blocks; directive = v.directives.host_groups } =
-    two_is ∙ ap (λ (l : ListingOf). record { blocks = l.blocks; directive = l.directives.groups }) hosts_are ∙ ap (λ (bs : List Block). record { blocks = bs; directive = v.directives.host_groups }) same in
-    let third_is : three ≡ record { blocks = b.blocks; directive = v.directives.descriptions } = three_is ∙ ap (λ (bs : List Block). record { blocks = bs; directive = v.directives.descriptions }) same in
-    record {
-      hosts = subst (λ (c : Column). list_at c.blocks c.directive first ≡ list_at c.blocks c.directive place) first_is one_same;
-      groups = subst (λ (c : Column). list_at c.blocks c.directive second ≡ list_at c.blocks c.directive place) second_is two_same;
-      descriptions = subst (λ (c : Column). list_at c.blocks c.directive third ≡ list_at c.blocks c.directive place) third_is three_same;
-    }
-
--- ---- blocks with the same list
-
-alone : (texts : List (List ℕ)) (text : List ℕ) → [] ≡ beside texts → slice_get texts 0 ≡ Some text → unwrap_or (list_given texts) [] ≡ own_entries text
-alone [] text none is = cc
-alone (first ∷ texts) text none is = by_kind (is_additive first) refl ∙ ap (λ (found : Option (List ℕ)). own_entries (unwrap_or found [])) is
-  where
-    by_kind : (additive : Bool) → is_additive first ≡ additive → unwrap_or (list_given (first ∷ texts)) [] ≡ own_entries first
-    by_kind true is_so =
-        ap (λ (c : Bool). cond c (joined_entries texts) [] ++ own_entries first) is_so
-        ∙ ap (λ (ts : List (List ℕ)). joined_entries ts ++ own_entries first) (sym (none ∙ ap (λ (c : Bool). cond c texts []) is_so))
-    by_kind false is_so = ap (λ (c : Bool). cond c (joined_entries texts) [] ++ own_entries first) is_so
-
-module _ (blocks : List Block) (directive : List ℕ) where
-  -- a list that isn't added to another is its text's
-  pub text-alone : (place : ℕ) (text : List ℕ) → [] ≡ beside (given blocks directive place) → value blocks directive place ≡ Some text → list_at blocks directive place ≡ own_entries text
-  text-alone place text none is = alone (given blocks directive place) text none is
-
-  pub none-beside : (place : ℕ) (other : Option ℕ) → is_some other ≡ false → given_from blocks directive other ≡ beside (given blocks directive place) → [] ≡ beside (given blocks directive place)
-  none-beside place None none is = is
-  none-beside place (Some other) none is = absurd (false≢true (sym none))
-
-  pub given-same : (one other : ℕ) → given blocks directive one ≡ given blocks directive other → list_at blocks directive one ≡ list_at blocks directive other
-  given-same one other same = ap (λ (texts : List (List ℕ)). unwrap_or (list_given texts) []) same
-
-  pub alike-place : (by_place more : List (ℕ × ℕ)) (by_text : List (Bor (List ℕ) × ℕ)) (origin other : ℕ) → AreAlike blocks directive by_place by_text
-      → list_at blocks directive other ≡ list_at blocks directive origin
-      → ((k : ℕ) → lookup (eqb k) more ≡ cond (eqb origin k) (Some other) (lookup (eqb k) by_place)) → AreAlike blocks directive more by_text
-  alike-place by_place more by_text origin other are same updates = record {
-    places = λ k. subst (λ (found : Option ℕ). IfSome found (λ one. list_at blocks directive one ≡ list_at blocks directive k)) (sym (updates k)) (by_key k (eqb origin k) refl);
-    texts = are.texts;
-  }
-    where
-      by_key : (k : ℕ) (b : Bool) → eqb origin k ≡ b → IfSome (cond b (Some other) (lookup (eqb k) by_place)) (λ one. list_at blocks directive one ≡ list_at blocks directive k)
-      by_key k true is = same ∙ ap (list_at blocks directive) (eqb-true origin k is)
-      by_key k false is = are.places k
-
-  pub alike-text : (by_place : List (ℕ × ℕ)) (by_text more : List (Bor (List ℕ) × ℕ)) (text : Bor (List ℕ)) (place : ℕ) → AreAlike blocks directive by_place by_text
-      → list_at blocks directive place ≡ own_entries text.now
-      → ((t : Bor (List ℕ)) → lookup (name_eq t) more ≡ cond (name_eq text t) (Some place) (lookup (name_eq t) by_text)) → AreAlike blocks directive by_place more
-  alike-text by_place by_text more text place are same updates = record {
-    places = are.places;
-    texts = λ t. subst (λ (found : Option ℕ). IfSome found (λ one. list_at blocks directive one ≡ own_entries t.now)) (sym (updates t)) (by_key t (name_eq text t) refl);
-  }
-    where
-      by_key : (t : Bor (List ℕ)) (b : Bool) → name_eq text t ≡ b → IfSome (cond b (Some place) (lookup (name_eq t) by_text)) (λ one. list_at blocks directive one ≡ own_entries t.now)
-      by_key t true is = same ∙ ap own_entries ((bytes_eq-Decides text.now t.now).0 is)
-      by_key t false is = are.texts t
-
-  -- what was found
-  pub found-place : (by_place : List (ℕ × ℕ)) (by_text : List (Bor (List ℕ) × ℕ)) (origin other : ℕ) → AreAlike blocks directive by_place by_text → lookup (eqb origin) by_place ≡ Some other
-      → list_at blocks directive other ≡ list_at blocks directive origin
-  found-place by_place by_text origin other are is = subst (λ (found : Option ℕ). IfSome found (λ one. list_at blocks directive one ≡ list_at blocks directive origin)) is (are.places origin)
-
-  pub found-text : (by_place : List (ℕ × ℕ)) (by_text : List (Bor (List ℕ) × ℕ)) (text : Bor (List ℕ)) (other : ℕ) → AreAlike blocks directive by_place by_text → lookup (name_eq text) by_text ≡ Some other
-      → list_at blocks directive other ≡ own_entries text.now
-  found-text by_place by_text text other are is = subst (λ (found : Option ℕ). IfSome found (λ one. list_at blocks directive one ≡ own_entries text.now)) is (are.texts text)
-
-  pub none-alike : (by_place : List (ℕ × ℕ)) (by_text : List (Bor (List ℕ) × ℕ)) → by_place ≡ [] → by_text ≡ [] → AreAlike blocks directive by_place by_text
-  none-alike by_place by_text no_places no_texts = record {
-    places = λ k. subst (λ (entries : List (ℕ × ℕ)). IfSome (lookup (eqb k) entries) (λ one. list_at blocks directive one ≡ list_at blocks directive k)) (sym no_places) tt;
-    texts = λ t. subst (λ (entries : List (Bor (List ℕ) × ℕ)). IfSome (lookup (name_eq t) entries) (λ one. list_at blocks directive one ≡ own_entries t.now)) (sym no_texts) tt;
-  }
 
 -- a service that is described is there
 service-there : (services : List Pair) (service : ℕ) (pair : Pair) → slice_get services service ≡ Some pair → service < length services
@@ -256,7 +162,7 @@ module _ (b : BlocksOf) (directives : ServiceDirectives) (objects : ℕ) where
 -- ---- one block
 
 module _ (b : BlocksOf) (directives : ServiceDirectives) (place bound : ℕ) (old links : List Edge) (others : ListPlaces) (are : AreLinked (length b.blocks) (host_count b + service_count b) bound old links)
-    (low : place < length b.blocks) (of : HaveLists b directives place others) (entries : List (ListPlaces × ℕ))
+    (low : place < length b.blocks) (of : HaveLists b.blocks directives place others) (entries : List (ListPlaces × ℕ))
     (found : AreFound b directives (host_count b + service_count b) bound old entries) where
   abbrev objects : ℕ
   objects = host_count b + service_count b

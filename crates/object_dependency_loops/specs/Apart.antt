@@ -1,8 +1,18 @@
 -- Rules of which no object is both a dependent and a master. Their nodes stand in a graph with two more.
-use Rattle.std.specs.Prelude.{◌≡◌, ℕ, ◌+◌, true, Bool, List, length, Contains, slice_index_or, false}
+use Rattle.std.specs.Prelude.{◌≡◌, ℕ, ◌+◌, true, Bool, List, ◌++◌, length, map, Contains, slice_index_or, false}
+use Rattle.graph.specs.declared.edges.Edge.{Edge}
 use Rattle.graph.specs.Edges.{Leads}
 use Rattle.graph_rules.specs.declared.rules.Rules.{Rules}
 use Rattle.graph_rules.specs.Rules.{edge, LeadsTo}
+
+-- the edges from a node to the ends of some
+abbrev pub ends_from : (node : ℕ) → List Edge → List Edge
+ends_from node sides = map (λ side. edge node side.to) sides
+
+-- the rules' edges, those of a node after theirs, to all dependents, and those of the next, to all masters
+abbrev pub side_edges : Rules → List Edge
+side_edges rules = (rules.members.items ++ ends_from rules.nodes rules.dependents.items)
+    ++ ends_from (rules.nodes + 1) rules.masters.items
 
 -- The graph has the nodes of the rules, with their edges; after them one that leads to all dependents, and one that leads
 -- to all masters.

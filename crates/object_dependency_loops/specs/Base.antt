@@ -1,6 +1,6 @@
 -- The graph with which all begins. Its nodes are the objects, by their numbers; then those of the graph of host groups,
 -- where each host leads to its object; and those of the graph of service groups, where each service does.
-use Rattle.std.specs.Prelude.{◌≡◌, ℕ, ◌+◌, ◌<◌, ◌≤◌, ◌↔◌, true, List, [], ◌∷◌, ◌++◌, length, map, All, slice_index_or}
+use Rattle.std.specs.Prelude.{◌≡◌, ℕ, Bool, ◌+◌, ◌<◌, ◌≤◌, ◌↔◌, true, List, [], ◌∷◌, ◌++◌, length, map, All, slice_index_or}
 use Rattle.graph.specs.declared.edges.Edge.{Edge}
 use Rattle.graph.specs.Chains.{Reaches}
 use Rattle.graph.specs.Edges.{IsWithin}
@@ -13,8 +13,9 @@ use Rattle.object_groups.specs.ListEdges.{IsEdge, list_edges}
 use Rattle.object_groups.specs.Members.{IsMember}
 use Rattle.object_groups.specs.Objects.{names_in}
 use Rattle.object_reader.specs.declared.block.BlockKind.TheVariants.{Host, HostGroup, Service, ServiceGroup}
-use Rattle.object_service_groups.specs.Groups.{grouping as service_grouping}
+use Rattle.object_service_groups.specs.Groups.{grouping as service_grouping, LeadsToMembers as LeadsToServices}
 use Rattle.object_service_groups.specs.Members.{IsMember as IsServiceMember}
+use Rattle.object_service_groups.specs.Nodes.{first_group}
 use Rattle.object_services.specs.Numbers.{pairs_of}
 
 -- how many hosts and services there are
@@ -44,6 +45,17 @@ base_edges hosts services turned host_graph service_graph =
     ((graph_edges (hosts + services) host_graph ++ turn_edges (hosts + services) 0 hosts)
     ++ graph_edges (hosts + services + length host_graph) service_graph)
     ++ turn_edges (hosts + services + length host_graph) hosts turned
+
+-- A graph with the nodes of so many services, at their places, and with the node of the first service group. Where nodes of
+-- service groups are asked for these are all services, and it leads from the groups to their members.
+pub record AreServiceNodes (b : BlocksOf) (has_groups : Bool) (graph : List (List ℕ)) (services first : ℕ)
+    : Type 0 where
+  pub few : services ≤ service_count b
+  pub services_within : services ≤ length graph
+  pub first_within : first ≤ length graph
+  pub all : has_groups ≡ true → services ≡ service_count b
+  pub first_is : has_groups ≡ true → first ≡ first_group (service_grouping b.blocks b.lists)
+  pub leads : has_groups ≡ true → LeadsToServices b.blocks b.lists graph
 
 -- Among so many nodes there are those of the objects, of which none leads to another; those of the hosts, each of which
 -- leads to its object; those of all hosts, of the host groups, of all host groups and, where there are some, of the service

@@ -1,9 +1,10 @@
 //! Whether no object is both a dependent and a master of rules, so that no rule lies on a loop.
 
 ghost use Rattle.std.specs.Prelude.{◌≡◌, ◌+◌, ◌<◌, ◌^◌, ◌++◌};
-ghost use Rattle.std.specs.Prelude.{false, true, length, map, All, IfOk, OnOk};
-ghost use Rattle.object_dependency_loops.specs.Apart.{AreMarked, HasSides, NoneIsMarked};
-ghost use Rattle.graph_rules.specs.Rules.{AreWithin, edge, HasNoLoop};
+ghost use Rattle.std.specs.Prelude.{false, true, length, All, IfOk, OnOk};
+ghost use Rattle.object_dependency_loops.specs.Apart.{AreMarked, ends_from, HasSides};
+ghost use Rattle.object_dependency_loops.specs.Apart.{NoneIsMarked, side_edges};
+ghost use Rattle.graph_rules.specs.Rules.{AreWithin, HasNoLoop};
 
 use graph::edges::{Edge, Graph};
 use graph::reach::Reach;
@@ -12,8 +13,7 @@ use std::alloc::{AllocError, Global};
 
 /// Adds an edge from the node to the end of each of these.
 fn push_ends(edges: &mut Vec<Edge>, node: u32, sides: &[Edge]) -> Result<(), AllocError>
-    ensures { OnOk result (edges.new.items
-        ≡ edges.old.items ++ map (λ side. edge node side.to) sides.now) }
+    ensures { OnOk result (edges.new.items ≡ edges.old.items ++ ends_from node sides.now) }
 {
     for side in sides {
         edges.push(Edge {
@@ -24,12 +24,10 @@ fn push_ends(edges: &mut Vec<Edge>, node: u32, sides: &[Edge]) -> Result<(), All
     Ok(())
 }
 
-/// The graph of the rules' nodes, with two more: one that leads to all dependents, and after it one that leads to all
-/// masters.
-fn graph_of(alloc: Global, rules: &Rules) -> Result<Graph, AllocError>
-    requires within { AreWithin rules.now }
-    requires few { rules.now.nodes + 2 < 2 ^ 32 }
-    ensures { IfOk result (HasSides rules.now) }
+/// The edges of the rules, those of a node after theirs to all dependents, and those of the next to all masters.
+fn edges_of(alloc: Global, rules: &Rules) -> Result<Vec<Edge>, AllocError>
+    requires { rules.now.nodes + 1 < 2 ^ 32 }
+    ensures { IfOk result (λ edges. edges.items ≡ side_edges rules.now) }
 {
     let room = rules
         .members
@@ -40,6 +38,17 @@ fn graph_of(alloc: Global, rules: &Rules) -> Result<Graph, AllocError>
     edges.extend_from_slice(rules.members.as_slice())?;
     push_ends(&mut edges, rules.nodes, rules.dependents.as_slice())?;
     push_ends(&mut edges, rules.nodes + 1, rules.masters.as_slice())?;
+    Ok(edges)
+}
+
+/// The graph of the rules' nodes, with two more: one that leads to all dependents, and after it one that leads to all
+/// masters.
+fn graph_of(alloc: Global, rules: &Rules) -> Result<Graph, AllocError>
+    requires within { AreWithin rules.now }
+    requires few { rules.now.nodes + 2 < 2 ^ 32 }
+    ensures { IfOk result (HasSides rules.now) }
+{
+    let edges = edges_of(alloc, rules)?;
     let graph = Graph::new(alloc, rules.nodes + 2, edges.as_slice())?;
     Ok(graph)
 }
@@ -71,8 +80,7 @@ fn any_marked(marks: &[bool], nodes: &[u32]) -> bool
 }
 
 /// Whether no node is reached both from a dependent and from a master of the rules: then no object is both, and no rule
-/// lies on a loop. The time grows with the nodes and edges, and takes less than to seek a loop. Too many nodes aren't looked
-/// at.
+/// lies on a loop. The time grows with the nodes and edges. Of over 4,294,967,293 nodes the answer is no.
 pub(crate) fn are_apart(alloc: Global, rules: &Rules) -> Result<bool, AllocError>
     requires { AreWithin rules.now }
     ensures { IfOk result (λ apart. apart ≡ true → HasNoLoop rules.now) }

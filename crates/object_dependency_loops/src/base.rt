@@ -1,9 +1,8 @@
 //! The graph with which all begins: objects, hosts and the graphs of host groups and of service groups.
 
-ghost use Rattle.std.specs.Prelude.{◌≡◌, ◌+◌, ◌<◌, ◌≤◌, ◌^◌, ◌++◌, []};
-ghost use Rattle.std.specs.Prelude.{true, false};
+ghost use Rattle.std.specs.Prelude.{◌≡◌, ◌+◌, ◌<◌, ◌≤◌, ◌^◌, ◌++◌};
 ghost use Rattle.std.specs.Prelude.{length, map, All, IfOk, OnOk};
-ghost use Rattle.object_dependency_loops.specs.Base.{base_edges, graph_edges, IsBase, turn_edges};
+ghost use Rattle.object_dependency_loops.specs.Base.{AreServiceNodes, base_edges, graph_edges, IsBase, turn_edges};
 ghost use Rattle.object_groups.specs.declared.groups.GroupKind.TheVariants.{HostGroups};
 ghost use Rattle.object_groups.specs.declared.lists.Direction.TheVariants.{ToNames};
 ghost use Rattle.object_groups.specs.ListEdges.{between};
@@ -12,7 +11,6 @@ use graph::edges::{Edge, Graph};
 use object_dependencies::blocks::DependencyBlocks;
 use object_groups::groups::Groups;
 use object_service_groups::groups::ServiceGroups;
-use object_service_groups::laws::members_are_services;
 use std::alloc::{AllocError, Global};
 
 /// Where nodes stand in the graph with which all begins.
@@ -84,38 +82,20 @@ fn push_turns(edges: &mut Vec<Edge>, from: u32, to: u32, count: u32) -> Result<(
     Ok(())
 }
 
-/// The edges of hosts and host groups, where there are so many hosts and services.
-fn host_edges(
-    alloc: Global,
-    hosts: u32,
-    services: u32,
-    host_graph: &Graph,
-) -> Result<Vec<Edge>, AllocError>
-    requires few { hosts + services + length host_graph.now < 2 ^ 32 }
-    requires hosts { hosts ≤ length host_graph.now }
-    ensures { IfOk result (λ edges. edges.items
-        ≡ base_edges hosts services 0 host_graph.now []) }
-{
-    let first = hosts + services;
-    let mut edges = Vec::new(alloc);
-    push_graph(&mut edges, host_graph, first)?;
-    push_turns(&mut edges, first, 0, hosts)?;
-    Ok(edges)
-}
-
-/// Those and the edges of services and service groups.
+/// The edges of hosts, host groups and, where so many services have a node in the graph of service groups, of these.
 fn edges_of(
     alloc: Global,
     hosts: u32,
     services: u32,
+    grouped: u32,
     host_graph: &Graph,
     service_graph: &Graph,
 ) -> Result<Vec<Edge>, AllocError>
     requires few { hosts + services + length host_graph.now + length service_graph.now < 2 ^ 32 }
     requires hosts { hosts ≤ length host_graph.now }
-    requires services { services ≤ length service_graph.now }
+    requires services { grouped ≤ length service_graph.now }
     ensures { IfOk result (λ edges. edges.items
-        ≡ base_edges hosts services services host_graph.now service_graph.now) }
+        ≡ base_edges hosts services grouped host_graph.now service_graph.now) }
 {
     let first = hosts + services;
     let second = first + host_graph.node_count();
@@ -123,68 +103,31 @@ fn edges_of(
     push_graph(&mut edges, host_graph, first)?;
     push_turns(&mut edges, first, 0, hosts)?;
     push_graph(&mut edges, service_graph, second)?;
-    push_turns(&mut edges, second, hosts, services)?;
+    push_turns(&mut edges, second, hosts, grouped)?;
     Ok(edges)
 }
 
-/// The graph with which all begins, without nodes of service groups; `hosts` are the host groups of the same blocks. It
-/// takes what theirs takes, and an edge for each host. Over 4,294,967,295 nodes are want of memory.
-fn base_of_hosts<'a>(
+/// The graph with which all begins, with the nodes of `service_graph` after those of the host groups: so many services
+/// have a node there, and the first service group has the node `first_group`.
+fn base_with<'a>(
     alloc: Global,
     blocks: &DependencyBlocks<'a, '_>,
     hosts: &Groups<'a>,
+    has_groups: bool,
+    service_graph: &Graph,
+    grouped: usize,
+    first_group: usize,
 ) -> Result<Base, AllocError>
     requires hosts { hosts.now ≡ record { blocks = blocks.now.blocks; kind = HostGroups } }
+    requires services { AreServiceNodes blocks.now has_groups service_graph.now grouped first_group }
     ensures base { IfOk result (λ base.
         IsBase blocks.now base.firsts base.count base.edges.items) }
-    ensures has_groups { IfOk result (λ base. base.firsts.has_groups ≡ false) }
+    ensures has_groups { IfOk result (λ base. base.firsts.has_groups ≡ has_groups) }
 {
     let host_count = hosts.objects().names().len();
     let group_count = hosts.groups().names().len();
     let services = blocks.services().len();
     let host_graph = hosts.graph();
-    let first = host_count.saturating_add(services);
-    let count = first.saturating_add(host_graph.node_count() as usize);
-    if count > u32::MAX as usize {
-        return Err(AllocError);
-    }
-    let edges = host_edges(alloc, host_count as u32, services as u32, host_graph)?;
-    let all_hosts = first + host_count + group_count;
-    Ok(Base {
-        firsts: Firsts {
-            objects: first as u32,
-            hosts: first as u32,
-            all_hosts: all_hosts as u32,
-            host_groups: (first + host_count) as u32,
-            all_groups: (all_hosts + 1) as u32,
-            has_groups: false,
-            service_groups: 0,
-        },
-        count: count as u32,
-        edges,
-    })
-}
-
-/// The graph with which all begins; `hosts` are the host groups and `groups` the service groups of the same blocks. It
-/// takes what theirs take, and an edge for each object. Over 4,294,967,295 nodes are want of memory.
-fn base_of_all<'a>(
-    alloc: Global,
-    blocks: &DependencyBlocks<'a, '_>,
-    hosts: &Groups<'a>,
-    groups: &ServiceGroups<'a>,
-) -> Result<Base, AllocError>
-    requires hosts { hosts.now ≡ record { blocks = blocks.now.blocks; kind = HostGroups } }
-    requires groups { groups.now ≡ blocks.now.blocks }
-    ensures base { IfOk result (λ base.
-        IsBase blocks.now base.firsts base.count base.edges.items) }
-    ensures has_groups { IfOk result (λ base. base.firsts.has_groups ≡ true) }
-{
-    members_are_services();
-    let host_count = hosts.objects().names().len();
-    let group_count = hosts.groups().names().len();
-    let services = blocks.services().len();
-    let host_graph = hosts.graph();
-    let service_graph = groups.graph();
     let first = host_count.saturating_add(services);
     let second = first.saturating_add(host_graph.node_count() as usize);
     let count = second.saturating_add(service_graph.node_count() as usize);
@@ -195,6 +138,7 @@ fn base_of_all<'a>(
         alloc,
         host_count as u32,
         services as u32,
+        grouped as u32,
         host_graph,
         service_graph,
     )?;
@@ -206,15 +150,17 @@ fn base_of_all<'a>(
             all_hosts: all_hosts as u32,
             host_groups: (first + host_count) as u32,
             all_groups: (all_hosts + 1) as u32,
-            has_groups: true,
-            service_groups: (second + groups.first_node()) as u32,
+            has_groups,
+            service_groups: (second + first_group) as u32,
         },
         count: count as u32,
         edges,
     })
 }
 
-/// The graph with which all begins: with nodes of the service groups where these are asked for.
+/// The graph with which all begins, with nodes of the service groups where these are asked for; `hosts` are the host groups
+/// and `groups` the service groups of the same blocks. It takes what theirs take, and an edge for each host and, where there
+/// are nodes of service groups, for each service. Over 4,294,967,295 nodes are want of memory.
 pub(crate) fn base_of<'a>(
     alloc: Global,
     blocks: &DependencyBlocks<'a, '_>,
@@ -229,8 +175,11 @@ pub(crate) fn base_of<'a>(
     ensures has_groups { IfOk result (λ base. base.firsts.has_groups ≡ has_groups) }
 {
     if has_groups {
-        base_of_all(alloc, blocks, hosts, groups)
+        let services = blocks.services().len();
+        let first = groups.first_node();
+        base_with(alloc, blocks, hosts, true, groups.graph(), services, first)
     } else {
-        base_of_hosts(alloc, blocks, hosts)
+        let none = Graph::new(alloc, 0, &[])?;
+        base_with(alloc, blocks, hosts, false, &none, 0, 0)
     }
 }

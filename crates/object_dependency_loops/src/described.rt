@@ -3,17 +3,18 @@
 ghost use Rattle.std.specs.Prelude.{◌≡◌, ◌+◌, ◌<◌, ◌^◌, ◌++◌, ◌∷◌, []};
 ghost use Rattle.std.specs.Prelude.{length, map, All, IfOk, OnOk};
 ghost use Rattle.object_dependency_loops.specs.Base.{host_count, service_count};
-ghost use Rattle.object_dependency_loops.specs.Described.{AreFound, AreListsAlike, Describes};
+ghost use Rattle.object_dependency_loops.specs.Described.{AreFound, Describes};
+ghost use Rattle.object_reached.specs.Alike.{AreListsAlike};
 ghost use Rattle.object_dependency_loops.specs.Speech.{AddsSpeech, AreLinked};
 ghost use Rattle.object_groups.specs.declared.groups.GroupKind.TheVariants.{HostGroups};
 ghost use Rattle.object_groups.specs.declared.lists.Direction.TheVariants.{ToNames};
 ghost use Rattle.object_groups.specs.ListEdges.{between};
 
-use crate::alike::{Alikes, lists_like, none_found};
 use graph::edges::Edge;
 use indexmap::IndexMap;
 use object_dependencies::blocks::DependencyBlocks;
 use object_groups::groups::Groups;
+use object_reached::alike::{Alikes, lists_like, none_found};
 use object_reached::listing::ServiceListing;
 use std::alloc::{AllocError, Global};
 

@@ -14,8 +14,8 @@ use std::alloc::{AllocError, Global};
 /// The place of the first block, in file order, that lies on a loop of dependencies, if there is one: by it one object
 /// depends on another, from which a chain of dependencies leads back to the first. `hosts` are the host groups and
 /// `groups` the service groups of the same blocks. The time and the memory grow with those of `rules_of`, and not with
-/// the dependencies; there is no limit of these. Over 4,294,967,295 blocks and nodes, each node counted twice, are want of
-/// memory. A refused growth changes nothing.
+/// the dependencies; there is no limit of these. Over 4,294,967,295 blocks or nodes are want of memory, and where a loop is
+/// sought so are as many of both, each node counted twice. A refused growth changes nothing.
 pub fn loop_of<'a>(
     alloc: Global,
     blocks: &DependencyBlocks<'a, '_>,

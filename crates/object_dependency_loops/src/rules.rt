@@ -77,10 +77,11 @@ fn no_rules(alloc: Global, count: u32) -> Rules
 }
 
 /// The rules that the notification dependencies give, each by the place of its block; `hosts` are the host groups and
-/// `groups` the service groups of the same blocks. They take what the graph of host groups takes, and that of service groups
-/// where a block lists any of these, and grow with the entries of the blocks' lists, where a list that many blocks have counts once; and, for services that blocks list by hosts and
-/// descriptions, with these services, where they count once for all blocks that have the same lists.
-/// Over 4,294,967,295 blocks or nodes are want of memory. A refused growth changes nothing.
+/// `groups` the service groups of the same blocks. They take what the graph of host groups takes, and that of service
+/// groups where a block lists any of these, and grow with the entries of the blocks' lists, where a list that many
+/// blocks have counts once; and, for services that blocks list by hosts and descriptions, with these services, where
+/// they count once for all blocks that have the same lists. Over 4,294,967,295 blocks or nodes are want of memory. A
+/// refused growth changes nothing.
 pub(crate) fn rules_of<'a>(
     alloc: Global,
     blocks: &DependencyBlocks<'a, '_>,

@@ -7,7 +7,7 @@ use Rattle.std.proofs.lemmas.List.{append_assoc, append-nil, get_or-map, length-
 use Rattle.std.proofs.lemmas.List.Elements.{All-contains, Contains-append_left, Contains-append_right, Contains-append_cases, filter-append}
 use Rattle.std.proofs.lemmas.Option.{get_or_from_slice_get, slice_get_past, slice_get-get_or}
 use Rattle.lemmas.proofs.Elements.{at-Contains, Contains-cases, Contains-filter, Contains-from_filter, Contains-here, Contains-none, Contains-range}
-use Rattle.object_reached.specs.Listed.{is_named, IsNthOn, IsOn, OfSome}
+use Rattle.object_reached.specs.Listed.{is_named, is_named_at, IsNthOn, IsOn, OfSome}
 use Rattle.object_reached.specs.Services.{hosts_in, services_on}
 use Rattle.object_reached.proofs.ServiceLemmas.{on-exactly}
 use Rattle.object_listing.specs.Listing.{Adds}
@@ -105,7 +105,7 @@ host-read services k low = get_or-map (λ service. service.0) services k (0, [])
 
 pub adds-host : (services : List Pair) (entries : List (List ℕ)) (host : ℕ) (ends old new : List ℕ)
     → ((service : ℕ) → Contains ends service ↔ ((service < length (hosts_in services)) × (get_or (hosts_in services) service 0 ≡ host)))
-    → new ≡ old ++ filter (λ service. is_named entries ((get_or services service (0, [])).1)) ends → Adds (IsOn services entries host) old new
+    → new ≡ old ++ filter (is_named_at services entries) ends → Adds (IsOn services entries host) old new
 adds-host services entries host ends old new are is k = (
   (λ at. ⊎_elim (λ (before : Contains old k). inl before) (λ (here : Contains (filter test ends) k). inr (to here))
       (Contains-append_cases old (filter test ends) k (subst (λ ns. Contains ns k) is at))),
@@ -113,7 +113,7 @@ adds-host services entries host ends old new are is k = (
 )
   where
     test : ℕ → Bool
-    test service = is_named entries ((get_or services service (0, [])).1)
+    test = is_named_at services entries
 
     long : length (hosts_in services) ≡ length services
     long = length-map services (λ service. service.0)
@@ -140,7 +140,7 @@ adds-host services entries host ends old new are is k = (
 
 -- that at one place of a host
 pub adds-nth : (services : List Pair) (entries : List (List ℕ)) (turn host : ℕ) (old new : List ℕ)
-    → new ≡ old ++ filter (λ service. is_named entries ((get_or services service (0, [])).1)) (option_to_list (slice_get (services_on services host) turn))
+    → new ≡ old ++ filter (is_named_at services entries) (option_to_list (slice_get (services_on services host) turn))
     → Adds (IsNthOn services entries turn host) old new
 adds-nth services entries turn host old new is k = (
   (λ at. ⊎_elim (λ (before : Contains old k). inl before) (λ (here : Contains (filter test (option_to_list nth)) k). inr (to here))
@@ -152,7 +152,7 @@ adds-nth services entries turn host old new is k = (
     nth = slice_get (services_on services host) turn
 
     test : ℕ → Bool
-    test service = is_named entries ((get_or services service (0, [])).1)
+    test = is_named_at services entries
 
     only : (found : Option ℕ) → Contains (option_to_list found) k → found ≡ Some k
     only None at = absurd (Contains-none k at)

@@ -2,3 +2,4 @@ mod ServiceLemmas
 mod AddsLemmas
 mod ListedLemmas
 mod ReachedLemmas
+mod AlikeLemmas

@@ -3,3 +3,5 @@ pub mod Listed
 pub mod Roles
 pub mod Reached
 pub mod Laws
+pub mod Alike
+pub mod AlikeLaws

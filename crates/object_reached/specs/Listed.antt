@@ -33,6 +33,10 @@ of_hosts directives = record {
 abbrev pub is_named : (entries : List (List ℕ)) → (description : List ℕ) → Bool
 is_named entries description = is_all entries || is_some (number_of entries description)
 
+-- whether it names the description of the service at the place
+abbrev pub is_named_at : (services : List Pair) → (entries : List (List ℕ)) → (service : ℕ) → Bool
+is_named_at services entries service = is_named entries ((slice_index_or services service (0, [])).1)
+
 -- The block at the place lists the service: its host, by the lists of hosts and host groups, and its description, by
 -- the list of descriptions; where these are the services.
 abbrev pub IsDescribed : List Block → (services : List Pair) → ServiceDirectives
@@ -91,7 +95,7 @@ IsOn services entries host service = (description : List ℕ)
 abbrev pub IsNthOn : (services : List Pair) → (entries : List (List ℕ)) → (turn host service : ℕ)
     → Type 0
 IsNthOn services entries turn host service = (slice_get (services_on services host) turn ≡ Some service)
-    × (is_named entries ((slice_index_or services service (0, [])).1) ≡ true)
+    × (is_named_at services entries service ≡ true)
 
 -- what is so of one of these, as a member of one of these groups
 abbrev pub OfSome : {X : Type 0} → (member : X → ℕ → Type 0) → List X → ℕ → Type 0

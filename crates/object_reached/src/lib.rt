@@ -3,6 +3,7 @@
 //! by hosts and descriptions or by service groups.
 #![tactic(auto)]
 
+pub mod alike;
 pub mod laws;
 pub mod listing;
 mod numbers;

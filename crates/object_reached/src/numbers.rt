@@ -2,9 +2,9 @@
 
 ghost use Rattle.std.specs.Prelude.{◌≡◌, ◌≤◌, [], ◌∷◌, ◌++◌, ◌||◌};
 ghost use Rattle.std.specs.Prelude.{ℕ, List, All, Contains, IfOk, IfSome};
-ghost use Rattle.std.specs.Prelude.{OnOk, filter, is_some, length, slice_get, slice_index_or};
+ghost use Rattle.std.specs.Prelude.{OnOk, filter, is_some, length, slice_get};
 ghost use Rattle.std.specs.Option.{option_to_list};
-ghost use Rattle.object_reached.specs.Listed.{AddsMembers, is_named, IsNthOn, IsOn, OfSome};
+ghost use Rattle.object_reached.specs.Listed.{AddsMembers, is_named_at, IsNthOn, IsOn, OfSome};
 ghost use Rattle.object_reached.specs.Services.{services_on};
 ghost use Rattle.object_listing.specs.Listing.{Adds};
 ghost use Rattle.object_values.specs.Values.{texts};
@@ -46,7 +46,7 @@ impl<'a> Descriptions<'a> {
 
     /// Whether it names the description of the service at that place.
     fn has(&self, services: &HostServices<'a>, service: usize) -> bool
-        ensures { result ≡ is_named self.now (slice_index_or services.now service (0, [])).1 }
+        ensures { result ≡ is_named_at services.now self.now service }
     {
         self.all || self.names.find(services.description(service)).is_some()
     }
@@ -60,8 +60,7 @@ fn push_named<'a>(
     service: usize,
 ) -> Result<(), AllocError>
     ensures { OnOk result (found.new.items ≡ found.old.items
-        ++ filter (λ service. is_named descriptions.now (slice_index_or services.now service (0, [])).1)
-        (service ∷ [])) }
+        ++ filter (is_named_at services.now descriptions.now) (service ∷ [])) }
 {
     if descriptions.has(services, service) {
         found.push(service)?;
@@ -110,7 +109,7 @@ fn push_nth<'a>(
     host: usize,
 ) -> Result<(), AllocError>
     ensures { OnOk result (found.new.items ≡ found.old.items
-        ++ filter (λ service. is_named descriptions.now (slice_index_or services.now service (0, [])).1)
+        ++ filter (is_named_at services.now descriptions.now)
         (option_to_list (slice_get (services_on services.now host) turn))) }
 {
     let on = services.of_host(host);

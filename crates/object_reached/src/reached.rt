@@ -116,8 +116,8 @@ fn dependent_listing<'a>(
     Ok(listing)
 }
 
-/// And by those of a role.
-fn listing_of<'a>(
+/// What the blocks list by the directives of a role. A refused growth leaves nothing.
+pub fn listing_of<'a>(
     alloc: Global,
     templates: &Templates<'a>,
     role: Role,

@@ -2,6 +2,7 @@ use Rattle.std.proofs.Common.{◌≡◌, ◌+◌, ◌∙◌, [], List, ap, lengt
 use Rattle.object_groups.specs.declared.groups.GroupKind.TheVariants.{HostGroups}
 use Rattle.object_groups.specs.Groups.{GroupsOf, object_kind}
 use Rattle.object_groups.specs.Objects.{names_in, ObjectsOf}
+use Rattle.object_reached.specs.Alike.{HaveLists}
 use Rattle.object_reached.specs.Listed.{IsDescribed}
 use Rattle.object_listing.specs.Listing.{Adds}
 use Rattle.object_reader.specs.declared.block.Block.{Block}
@@ -12,7 +13,7 @@ use Rattle.object_dependency_loops.proofs.described.push_block.Goals as goal
 pub returns-in-Some-clause-added : goal.returns-in-Some-clause-added
 returns-in-Some-clause-added c =
     block-found c.args.blocks.now c.args.listing.now.directives c.args.place c.args.node c.args.edges.now.items c.args.links.now.items c.in_ok-others.others c.requires.linked c.requires.place
-    (c.in_ok-others.ensures.lists c.args.blocks.now c.requires.listing) c.args.nodes.now.entries c.requires.found c.in-Some.old.now c.push.new.self.items (sym c.in-Some.ensures.value) c.in_ok-push.ensures.items
+    (subst (λ (bs : List Block). HaveLists bs c.args.listing.now.directives c.args.place c.in_ok-others.others) c.requires.listing c.in_ok-others.ensures.lists) c.args.nodes.now.entries c.requires.found c.in-Some.old.now c.push.new.self.items (sym c.in-Some.ensures.value) c.in_ok-push.ensures.items
 
 pub described_at-requires : goal.described_at-requires
 described_at-requires c = c.requires.hosts ∙ ap (λ (bs : List Block). record { blocks = bs; kind = HostGroups }) (sym c.requires.listing)
@@ -32,7 +33,7 @@ returns-clause-found c =
     c.len-first.ensures ∙ ap (λ (names : List (List ℕ)). length names) c.names.ensures.names ∙ ap (λ (o : ObjectsOf). length (names_in o.blocks o.kind)) c.objects.ensures
     ∙ ap (λ (g : GroupsOf). length (names_in g.blocks (object_kind g.kind))) (c.in_ok-services.ensures.same ∙ c.requires.hosts) in
     block-is_found c.args.blocks.now c.args.listing.now.directives c.args.place c.args.node c.args.edges.now.items c.args.links.now.items c.in_ok-others.others c.requires.linked c.requires.place
-    (c.in_ok-others.ensures.lists c.args.blocks.now c.requires.listing) c.args.nodes.now.entries c.requires.found (c.args.node + 1) c.len-first.result c.push_services.new.edges.items c.push-2.new.self.items
+    (subst (λ (bs : List Block). HaveLists bs c.args.listing.now.directives c.args.place c.in_ok-others.others) c.requires.listing c.in_ok-others.ensures.lists) c.args.nodes.now.entries c.requires.found (c.args.node + 1) c.len-first.result c.push_services.new.edges.items c.push-2.new.self.items
     c.in_ok-services.services.items c.as_slice.result.now c.services.result.now refl hosts c.services.ensures.services
     (subst (λ (bs : List Block). Adds (IsDescribed bs c.services.result.now c.args.listing.now.directives c.args.place) [] c.in_ok-services.services.items) c.requires.listing c.in_ok-services.ensures.described)
     c.as_slice.ensures.value c.in_ok-push_services.ensures c.in_ok-push-2.ensures.items c.insert.new.self.entries c.in_ok-insert.ensures.updates.0
@@ -43,7 +44,7 @@ returns-clause-added c =
     c.len-first.ensures ∙ ap (λ (names : List (List ℕ)). length names) c.names.ensures.names ∙ ap (λ (o : ObjectsOf). length (names_in o.blocks o.kind)) c.objects.ensures
     ∙ ap (λ (g : GroupsOf). length (names_in g.blocks (object_kind g.kind))) (c.in_ok-services.ensures.same ∙ c.requires.hosts) in
     block-added c.args.blocks.now c.args.listing.now.directives c.args.place c.args.node c.args.edges.now.items c.args.links.now.items c.in_ok-others.others c.requires.linked c.requires.place
-    (c.in_ok-others.ensures.lists c.args.blocks.now c.requires.listing) c.args.nodes.now.entries c.requires.found (c.args.node + 1) c.len-first.result c.push_services.new.edges.items c.push-2.new.self.items
+    (subst (λ (bs : List Block). HaveLists bs c.args.listing.now.directives c.args.place c.in_ok-others.others) c.requires.listing c.in_ok-others.ensures.lists) c.args.nodes.now.entries c.requires.found (c.args.node + 1) c.len-first.result c.push_services.new.edges.items c.push-2.new.self.items
     c.in_ok-services.services.items c.as_slice.result.now c.services.result.now refl hosts c.services.ensures.services
     (subst (λ (bs : List Block). Adds (IsDescribed bs c.services.result.now c.args.listing.now.directives c.args.place) [] c.in_ok-services.services.items) c.requires.listing c.in_ok-services.ensures.described)
     c.as_slice.ensures.value c.in_ok-push_services.ensures c.in_ok-push-2.ensures.items

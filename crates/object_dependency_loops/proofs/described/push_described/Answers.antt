@@ -3,7 +3,8 @@ use Rattle.std.specs.Prelude.{IfSome}
 use Rattle.std.specs.Map.{lookup}
 use Rattle.std.proofs.Common.{List, ℕ}
 use Rattle.object_dependency_loops.specs.Base.{host_count, service_count}
-use Rattle.object_dependency_loops.specs.Described.{Describes, IsNodeOf, ListPlaces, places_eq}
+use Rattle.object_dependency_loops.specs.Described.{Describes, IsNodeOf}
+use Rattle.object_reached.specs.Alike.{ListPlaces, places_eq}
 use Rattle.object_dependency_loops.proofs.SpeechLemmas.{adds-more, adds-none, still-linked}
 use Rattle.object_dependency_loops.proofs.described.push_described.Goals as goal
 

@@ -1,6 +1,7 @@
 use Rattle.std.proofs.Common.{◌≡◌, ◌+◌, length, take}
 use Rattle.object_dependency_loops.specs.Base.{host_count, service_count}
-use Rattle.object_dependency_loops.specs.Described.{AreFound, AreListsAlike, Describes}
+use Rattle.object_reached.specs.Alike.{AreListsAlike}
+use Rattle.object_dependency_loops.specs.Described.{AreFound, Describes}
 use Rattle.object_dependency_loops.specs.Speech.{AddsSpeech}
 use Rattle.object_dependency_loops.proofs.described.push_described.Given as goal
 

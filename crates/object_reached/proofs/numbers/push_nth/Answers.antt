@@ -1,13 +1,11 @@
-use Rattle.std.proofs.Common.{[]}
-use Rattle.std.specs.Prelude.{slice_index_or}
-use Rattle.object_reached.specs.Listed.{is_named}
+use Rattle.object_reached.specs.Listed.{is_named_at}
 use Rattle.object_reached.proofs.AddsLemmas.{passed-at, passed-none}
 use Rattle.object_reached.proofs.numbers.push_nth.Goals as goal
 
 pub returns-in_ok-push_named : goal.returns-in_ok-push_named
 returns-in_ok-push_named c =
-    passed-at (λ service. is_named c.args.descriptions.now ((slice_index_or c.args.services.now service (0, [])).1)) c.args.found.now.items c.push_named.new.found.items _ c.of_host-on.result.now c.args.turn 0 c.if-turn-on.true c.of_host-on.ensures.are c.in_ok-push_named.ensures
+    passed-at (is_named_at c.args.services.now c.args.descriptions.now) c.args.found.now.items c.push_named.new.found.items _ c.of_host-on.result.now c.args.turn 0 c.if-turn-on.true c.of_host-on.ensures.are c.in_ok-push_named.ensures
 
 pub returns-else-turn-on : goal.returns-else-turn-on
 returns-else-turn-on c =
-    passed-none (λ service. is_named c.args.descriptions.now ((slice_index_or c.args.services.now service (0, [])).1)) c.args.found.now.items _ c.of_host-on.result.now c.args.turn c.if-turn-on.false c.of_host-on.ensures.are
+    passed-none (is_named_at c.args.services.now c.args.descriptions.now) c.args.found.now.items _ c.of_host-on.result.now c.args.turn c.if-turn-on.false c.of_host-on.ensures.are

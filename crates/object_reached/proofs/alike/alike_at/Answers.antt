@@ -1,6 +1,6 @@
 use Rattle.std.proofs.Common.{◌∙◌, sym}
-use Rattle.object_dependency_loops.proofs.DescribedLemmas.{alike-place, found-place, given-same}
-use Rattle.object_dependency_loops.proofs.alike.alike_at.Goals as goal
+use Rattle.object_reached.proofs.AlikeLemmas.{alike-place, found-place, given-same}
+use Rattle.object_reached.proofs.alike.alike_at.Goals as goal
 
 pub returns-in-Some-clause-same : goal.returns-in-Some-clause-same
 returns-in-Some-clause-same c =

@@ -1,6 +1,6 @@
 use Rattle.std.proofs.Common.{◌∙◌, sym}
-use Rattle.object_dependency_loops.proofs.DescribedLemmas.{alike-text, found-text, none-beside, text-alone}
-use Rattle.object_dependency_loops.proofs.alike.by_text.Goals as goal
+use Rattle.object_reached.proofs.AlikeLemmas.{alike-text, found-text, none-beside, text-alone}
+use Rattle.object_reached.proofs.alike.by_text.Goals as goal
 
 pub returns-in-Some-get-clause-same : goal.returns-in-Some-get-clause-same
 returns-in-Some-get-clause-same c =

@@ -1,26 +1,27 @@
-//! Blocks that have the same list for a directive.
+//! Blocks that have the same lists.
 
 ghost use Rattle.std.specs.Prelude.{◌≡◌, [], IfOk, OnOk};
-ghost use Rattle.object_dependencies.specs.Pairs.{BlocksOf};
-ghost use Rattle.object_dependency_loops.specs.Described.{AreAlike, AreListsAlike, HaveLists};
 ghost use Rattle.object_groups.specs.Objects.{list_at};
+ghost use Rattle.object_reached.specs.Alike.{AreAlike, AreListsAlike, HaveLists};
 ghost use Rattle.object_reached.specs.Listed.{ServiceListingOf};
 
+use crate::listing::ServiceListing;
 use indexmap::IndexMap;
 use object_inheritance::inherited::Values;
-use object_reached::listing::ServiceListing;
 use std::alloc::{AllocError, Global};
 
 /// Blocks of which lists were asked for: by the block that gives a list, and by a text that isn't added to another list,
-/// the place of the first that has the same. It takes some 24 bytes for each of them.
+/// the place of the first that has the same. Its memory grows with them.
 #[derive(Drop)]
-pub(crate) struct Alike<'a> {
+pub struct Alike<'a> {
+    /// By the place of the block that gives a list, the place of one that has the same.
     pub by_place: IndexMap<usize, usize>,
+    /// By the text of a list, the place of one that has it.
     pub by_text: IndexMap<&'a [u8], usize>,
 }
 
 /// None of them.
-pub(crate) fn none_alike<'a>(alloc: Global) -> Alike<'a>
+fn none_alike<'a>(alloc: Global) -> Alike<'a>
     ensures by_place { result.by_place.entries ≡ [] }
     ensures by_text { result.by_text.entries ≡ [] }
 {
@@ -58,7 +59,7 @@ fn by_text<'a>(
 
 /// The place of a block that has the same list as the one at the place: one for all that take it from the same block, or
 /// from blocks that give the same text. The time grows with the text of a list where the block that gives it is met first.
-pub(crate) fn alike_at<'a>(
+fn alike_at<'a>(
     values: &Values<'a>,
     alike: &mut Alike<'a>,
     place: usize,
@@ -79,16 +80,19 @@ pub(crate) fn alike_at<'a>(
     Ok(other)
 }
 
-/// The same of the lists of hosts, of host groups and of descriptions.
+/// Blocks of which the lists of hosts, of host groups and of descriptions were asked for. Its memory grows with them.
 #[derive(Drop)]
-pub(crate) struct Alikes<'a> {
+pub struct Alikes<'a> {
+    /// By their lists of hosts.
     pub hosts: Alike<'a>,
+    /// By their lists of host groups.
     pub host_groups: Alike<'a>,
+    /// By their lists of descriptions.
     pub descriptions: Alike<'a>,
 }
 
 /// None of them.
-pub(crate) fn none_found<'a>(alloc: Global) -> Alikes<'a>
+pub fn none_found<'a>(alloc: Global) -> Alikes<'a>
     ensures { (listing : ServiceListingOf) → AreListsAlike listing result }
 {
     Alikes {
@@ -98,16 +102,17 @@ pub(crate) fn none_found<'a>(alloc: Global) -> Alikes<'a>
     }
 }
 
-/// The places of blocks that have the same lists of hosts, of host groups and of descriptions as the one at the place.
-pub(crate) fn lists_like<'a>(
+/// The places of blocks that have the same lists of hosts, of host groups and of descriptions as the one at the place: the
+/// same for all that take a list from the same block, or from blocks that give the same text. The time grows with the texts
+/// of the lists where the blocks that give them are met first. A refused growth leaves what was found.
+pub fn lists_like<'a>(
     listing: &ServiceListing<'a>,
     alikes: &mut Alikes<'a>,
     place: usize,
 ) -> Result<((usize, usize), usize), AllocError>
     requires { AreListsAlike listing.now alikes.old }
     ensures alike { OnOk result (AreListsAlike listing.now alikes.new) }
-    ensures lists { IfOk result (λ others. (b : BlocksOf) → listing.now.blocks ≡ b.blocks
-        → HaveLists b listing.now.directives place others) }
+    ensures lists { IfOk result (HaveLists listing.now.blocks listing.now.directives place) }
 {
     let hosts = listing.hosts();
     let named = alike_at(hosts.objects(), &mut alikes.hosts, place)?;
