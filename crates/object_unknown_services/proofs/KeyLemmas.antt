@@ -6,6 +6,7 @@ use Rattle.std.specs.Option.{IfSome}
 use Rattle.std.specs.Str.{bytes_eq}
 use Rattle.std.proofs.lemmas.Bool.{cases_lt}
 use Rattle.std.proofs.lemmas.Cmp.{nat_list_eq_equiv}
+use Rattle.std.proofs.lemmas.List.{length-replicate, take_more}
 use Rattle.std.proofs.lemmas.List.Elements.{Contains-append_cases, Contains-append_left, Contains-append_right}
 use Rattle.std.proofs.lemmas.List.Quantifiers.{position-Some}
 use Rattle.std.proofs.lemmas.Slice.Eq.{bytes_eq-Decides}
@@ -18,9 +19,8 @@ use Rattle.object_reached.specs.declared.roles.Role.{Role}
 use Rattle.object_reader.specs.declared.block.Block.{Block}
 use Rattle.object_reader.specs.declared.block.BlockKind.TheVariants.{Service}
 use Rattle.object_services.specs.Doubled.{description_of, place_of}
-use Rattle.object_unknown_services.specs.Keys.{Adds, AreByKey, GivesBelow, HasKey, key_of, NamesBelow, NamesKey}
+use Rattle.object_unknown_services.specs.Keys.{Adds, AreByKey, AreListsOf, GivesBelow, HasKey, key_of, NamesFirst, NamesKey}
 use Rattle.object_unknown_services.specs.Named.{descriptions_at}
-use Rattle.object_unknown_services.proofs.NamedLemmas.{named-low}
 use Rattle.object_values.specs.Values.{texts}
 
 -- ---- keys
@@ -79,13 +79,9 @@ nothing-there zero key = refl
 nothing-there (suc count) zero = refl
 nothing-there (suc count) (suc key) = nothing-there count key
 
-long-none : (count : ℕ) → length (no_lists count) ≡ count
-long-none zero = refl
-long-none (suc count) = ap (λ (n : ℕ). suc n) (long-none count)
-
-pub keys-none : (names : List (List ℕ)) (count : ℕ) (lists : List (List ℕ)) → count ≡ length names + 1 → lists ≡ replicate count [] → AreByKey names (λ key place. ⊥) lists
-keys-none names count lists is are = record {
-  long = ap (λ (ls : List (List ℕ)). length ls) are ∙ long-none count ∙ is;
+pub keys-none : (wanted count : ℕ) (lists : List (List ℕ)) → count ≡ wanted → lists ≡ replicate count [] → AreListsOf wanted (λ key place. ⊥) lists
+keys-none wanted count lists is are = record {
+  long = ap (λ (ls : List (List ℕ)). length ls) are ∙ length-replicate count [] ∙ is;
   each = λ key place. (
     (λ at. Contains-none place (subst (λ (ps : List ℕ). Contains ps place) (ap (λ (ls : List (List ℕ)). get_or ls key []) are ∙ nothing-there count key) at)),
     (λ no. absurd no),
@@ -147,9 +143,9 @@ adds-both P Q R a b c to from p q = record {
   );
 }
 
-pub keys-adds : (names : List (List ℕ)) (P Q R : Keyed) (old new : List (List ℕ)) → ((key place : ℕ) → P key place ⊎ Q key place → R key place)
-    → ((key place : ℕ) → R key place → P key place ⊎ Q key place) → AreByKey names P old → Adds Q old new → AreByKey names R new
-keys-adds names P Q R old new to from are adds = record {
+pub keys-adds : (count : ℕ) (P Q R : Keyed) (old new : List (List ℕ)) → ((key place : ℕ) → P key place ⊎ Q key place → R key place)
+    → ((key place : ℕ) → R key place → P key place ⊎ Q key place) → AreListsOf count P old → Adds Q old new → AreListsOf count R new
+keys-adds count P Q R old new to from are adds = record {
   long = adds.long ∙ are.long;
   each = λ key place. (
     (λ there. ⊎_elim
@@ -160,9 +156,9 @@ keys-adds names P Q R old new to from are adds = record {
   );
 }
 
-pub keys-same : (names : List (List ℕ)) (P Q : Keyed) (lists : List (List ℕ)) → ((key place : ℕ) → P key place → Q key place) → ((key place : ℕ) → Q key place → P key place)
-    → AreByKey names P lists → AreByKey names Q lists
-keys-same names P Q lists to from are = record {
+pub keys-same : (count : ℕ) (P Q : Keyed) (lists : List (List ℕ)) → ((key place : ℕ) → P key place → Q key place) → ((key place : ℕ) → Q key place → P key place)
+    → AreListsOf count P lists → AreListsOf count Q lists
+keys-same count P Q lists to from are = record {
   long = are.long;
   each = λ key place. ((λ at. to key place ((are.each key place).0 at)), (λ q. (are.each key place).1 (from key place q)));
 }
@@ -214,7 +210,7 @@ pushed-more names place key xs i d old now new within is long pushed before =
 
 pub gives-none : (names : List (List ℕ)) (blocks : List Block) (lists : List (List ℕ)) → AreByKey names (λ key place. ⊥) lists → AreByKey names (GivesBelow blocks 0) lists
 gives-none names blocks lists are =
-    keys-same names (λ key place. ⊥) (GivesBelow blocks 0) lists (λ key place no. absurd no) (λ key place some. let low = some.1 in omega (arith, low)) are
+    keys-same (length names + 1) (λ key place. ⊥) (GivesBelow blocks 0) lists (λ key place no. absurd no) (λ key place some. let low = some.1 in omega (arith, low)) are
 
 pub gives-more : (blocks : List Block) (i place key : ℕ) (old new : List (List ℕ)) → place_of blocks i ≡ place
     → key ≡ key_of (names_in blocks Service) (description_of blocks i) → new ≡ set old key (get_or old key [] ++ place ∷ [])
@@ -223,7 +219,7 @@ gives-more blocks i place key old new place_is is pushed before =
     let inside = key-within (names_in blocks Service) (description_of blocks i) in
     let long = before.long in
     let low : key < length old = omega (arith, inside, is, long) in
-    keys-adds (names_in blocks Service) (GivesBelow blocks i) (λ k at. (at ≡ place) × (k ≡ key)) (GivesBelow blocks (i + 1)) old new to from before
+    keys-adds (length (names_in blocks Service) + 1) (GivesBelow blocks i) (λ k at. (at ≡ place) × (k ≡ key)) (GivesBelow blocks (i + 1)) old new to from before
     (adds-one old new key place low pushed)
   where
     to : (k at : ℕ) → GivesBelow blocks i k at ⊎ ((at ≡ place) × (k ≡ key)) → GivesBelow blocks (i + 1) k at
@@ -242,31 +238,88 @@ gives-more blocks i place key old new place_is is pushed before =
         ))
         (cases_lt r.0 i)
 
--- ---- one block more that may name services
+-- ---- one list of descriptions more
 
-pub names-none : (names : List (List ℕ)) (blocks : List Block) (role : Role) (lists : List (List ℕ)) → AreByKey names (λ key place. ⊥) lists → AreByKey names (NamesBelow blocks role 0) lists
+abbrev pub NamesSoFar : List Block → Role → (found : List (ℕ × ℕ)) → (i : ℕ) → Keyed
+NamesSoFar blocks role found i = NamesFirst blocks role (take i found)
+
+pub names-none : (names : List (List ℕ)) (blocks : List Block) (role : Role) (lists : List (List ℕ)) → AreByKey names (λ key place. ⊥) lists → AreByKey names (NamesFirst blocks role []) lists
 names-none names blocks role lists are =
-    keys-same names (λ key place. ⊥) (NamesBelow blocks role 0) lists (λ key place no. absurd no) (λ key place some. let low = some.0 in omega (arith, low)) are
+    keys-same (length names + 1) (λ key place. ⊥) (NamesFirst blocks role []) lists (λ key place no. absurd no) (λ key place some. Contains-none (place, place) some.0) are
 
-pub names-more : (blocks : List Block) (role : Role) (i : ℕ) (old new : List (List ℕ))
-    → Adds (Pushed (names_in blocks Service) (descriptions_at blocks role i) i) old new
-    → AreByKey (names_in blocks Service) (NamesBelow blocks role i) old → AreByKey (names_in blocks Service) (NamesBelow blocks role (i + 1)) new
-names-more blocks role i old new adds before =
-    keys-adds (names_in blocks Service) (NamesBelow blocks role i) (Pushed (names_in blocks Service) (descriptions_at blocks role i) i) (NamesBelow blocks role (i + 1)) old new to from before adds
-  where
-    to : (k at : ℕ) → NamesBelow blocks role i k at ⊎ Pushed (names_in blocks Service) (descriptions_at blocks role i) i k at → NamesBelow blocks role (i + 1) k at
-    to k at (inl p) = ((let low = p.0 in omega (arith, low)), p.1)
-    to k at (inr q) = ((let is = q.0 in omega (arith, is)), subst (λ (p : ℕ). NamesKey blocks role k p) (sym q.0) q.1)
+module _ (found : List (ℕ × ℕ)) (i : ℕ) (within : i < length found) where
+  abbrev pair : ℕ × ℕ
+  pair = get_or found i (0, 0)
 
-    from : (k at : ℕ) → NamesBelow blocks role (i + 1) k at → NamesBelow blocks role i k at ⊎ Pushed (names_in blocks Service) (descriptions_at blocks role i) i k at
-    from k at r = ⊎_elim
-        (λ (early : at < i). inl (early, r.1))
-        (λ (late : i ≤ at). let low = r.0 in let same : at ≡ i = omega (arith, late, low) in inr (same, subst (λ (p : ℕ). NamesKey blocks role k p) same r.1))
-        (cases_lt at i)
+  pairs-more : take (i + 1) found ≡ take i found ++ pair ∷ []
+  pairs-more = take_more found i (0, 0) within
 
-pub names-all : (blocks : List Block) (role : Role) (bound : ℕ) (lists : List (List ℕ)) → length blocks ≤ bound
-    → AreByKey (names_in blocks Service) (NamesBelow blocks role bound) lists → AreByKey (names_in blocks Service) (NamesKey blocks role) lists
-names-all blocks role bound lists all are = keys-same (names_in blocks Service) (NamesBelow blocks role bound) (NamesKey blocks role) lists
-    (λ key place some. some.1)
-    (λ key place some. let low = named-low blocks role place some.0 some.1 in (omega (arith, low, all), some))
-    are
+  pairs-keep : (x : ℕ × ℕ) → Contains (take i found) x → Contains (take (i + 1) found) x
+  pairs-keep x at = subst (λ (ps : List (ℕ × ℕ)). Contains ps x) (sym pairs-more) (Contains-append_left (take i found) (pair ∷ []) x at)
+
+  pairs-last : Contains (take (i + 1) found) pair
+  pairs-last = subst (λ (ps : List (ℕ × ℕ)). Contains ps pair) (sym pairs-more) (Contains-append_right (take i found) (pair ∷ []) pair (Contains-here pair []))
+
+  pairs-cases : (x : ℕ × ℕ) → Contains (take (i + 1) found) x → Contains (take i found) x ⊎ (pair ≡ x)
+  pairs-cases x at = ⊎_elim
+      (λ (before : Contains (take i found) x). inl before)
+      (λ (last : Contains (pair ∷ []) x). ⊎_elim (λ (here : pair ≡ x). inr here) (λ (none : Contains [] x). absurd (Contains-none x none)) (Contains-cases pair x [] last))
+      (Contains-append_cases (take i found) (pair ∷ []) x (subst (λ (ps : List (ℕ × ℕ)). Contains ps x) pairs-more at))
+
+  -- the places by their lists
+  pub places-more : (count : ℕ) (old new : List (List ℕ)) → pair.1 < count → new ≡ set old pair.1 (get_or old pair.1 [] ++ pair.0 ∷ [])
+      → AreListsOf count (λ list place. Contains (take i found) (place, list)) old → AreListsOf count (λ list place. Contains (take (i + 1) found) (place, list)) new
+  places-more count old new low pushed before =
+      let long = before.long in
+      keys-adds count (λ list place. Contains (take i found) (place, list)) (λ list place. (place ≡ pair.0) × (list ≡ pair.1)) (λ list place. Contains (take (i + 1) found) (place, list)) old new
+      to from before (adds-one old new pair.1 pair.0 (omega (arith, low, long)) pushed)
+    where
+      to : (list place : ℕ) → Contains (take i found) (place, list) ⊎ ((place ≡ pair.0) × (list ≡ pair.1)) → Contains (take (i + 1) found) (place, list)
+      to list place (inl p) = pairs-keep (place, list) p
+      to list place (inr q) = subst (λ (p : ℕ). Contains (take (i + 1) found) (p, list)) (sym q.0) (subst (λ (l : ℕ). Contains (take (i + 1) found) (pair.0, l)) (sym q.1) pairs-last)
+
+      from : (list place : ℕ) → Contains (take (i + 1) found) (place, list) → Contains (take i found) (place, list) ⊎ ((place ≡ pair.0) × (list ≡ pair.1))
+      from list place r = ⊎_elim
+          (λ (early : Contains (take i found) (place, list)). inl early)
+          (λ (here : pair ≡ (place, list)). inr (sym (ap (λ (p : ℕ × ℕ). p.0) here), sym (ap (λ (p : ℕ × ℕ). p.1) here)))
+          (pairs-cases (place, list) r)
+
+  module _ (blocks : List Block) (role : Role) where
+    -- a block whose list of descriptions was met before
+    pub names-past : (lists : List (List ℕ)) → (pair.0 ≡ pair.1 → ⊥) → AreByKey (names_in blocks Service) (NamesSoFar blocks role found i) lists
+        → AreByKey (names_in blocks Service) (NamesSoFar blocks role found (i + 1)) lists
+    names-past lists other are = keys-same (length (names_in blocks Service) + 1) (NamesSoFar blocks role found i) (NamesSoFar blocks role found (i + 1)) lists
+        (λ key place some. (pairs-keep (place, place) some.0, some.1))
+        (λ key place some. ⊎_elim
+        (λ (before : Contains (take i found) (place, place)). (before, some.1))
+        (λ (here : pair ≡ (place, place)). absurd (other (ap (λ (p : ℕ × ℕ). p.0) here ∙ sym (ap (λ (p : ℕ × ℕ). p.1) here))))
+        (pairs-cases (place, place) some.0))
+        are
+
+    pub names-more : (old new : List (List ℕ)) → pair.0 ≡ pair.1 → Adds (Pushed (names_in blocks Service) (descriptions_at blocks role pair.0) pair.0) old new
+        → AreByKey (names_in blocks Service) (NamesSoFar blocks role found i) old → AreByKey (names_in blocks Service) (NamesSoFar blocks role found (i + 1)) new
+    names-more old new same adds before =
+        keys-adds (length (names_in blocks Service) + 1) (NamesSoFar blocks role found i) (Pushed (names_in blocks Service) (descriptions_at blocks role pair.0) pair.0) (NamesSoFar blocks role found (i + 1)) old new
+        to from before adds
+      where
+        alike : pair ≡ (pair.0, pair.0)
+        alike = ap (λ (second : ℕ). (pair.0, second)) (sym same)
+
+        to : (k at : ℕ) → NamesSoFar blocks role found i k at ⊎ Pushed (names_in blocks Service) (descriptions_at blocks role pair.0) pair.0 k at → NamesSoFar blocks role found (i + 1) k at
+        to k at (inl p) = (pairs-keep (at, at) p.0, p.1)
+        to k at (inr q) = (
+          subst (λ (p : ℕ). Contains (take (i + 1) found) (p, p)) (sym q.0) (subst (λ (x : ℕ × ℕ). Contains (take (i + 1) found) x) alike pairs-last),
+          subst (λ (p : ℕ). NamesKey blocks role k p) (sym q.0) q.1,
+        )
+
+        from : (k at : ℕ) → NamesSoFar blocks role found (i + 1) k at → NamesSoFar blocks role found i k at ⊎ Pushed (names_in blocks Service) (descriptions_at blocks role pair.0) pair.0 k at
+        from k at r = ⊎_elim
+            (λ (early : Contains (take i found) (at, at)). inl (early, r.1))
+            (λ (here : pair ≡ (at, at)).
+            let is : at ≡ pair.0 = sym (ap (λ (p : ℕ × ℕ). p.0) here) in
+            inr (is, subst (λ (p : ℕ). NamesKey blocks role k p) is r.1))
+            (pairs-cases (at, at) r.0)
+
+pub places-none : (count many : ℕ) (lists : List (List ℕ)) → many ≡ count → lists ≡ replicate many [] → AreListsOf count (λ list place. Contains {X = ℕ × ℕ} [] (place, list)) lists
+places-none count many lists same are =
+    keys-same count (λ list place. ⊥) (λ list place. Contains {X = ℕ × ℕ} [] (place, list)) lists (λ list place no. absurd no) (λ list place at. Contains-none (place, list) at) (keys-none count many lists same are)

@@ -1,4 +1,5 @@
 pub mod KeyLemmas
 pub mod NamedLemmas
+pub mod DistinctLemmas
 pub mod StampLemmas
 pub mod UnknownLemmas

@@ -54,3 +54,12 @@ named-low blocks role place description at = by_kind (is_object_at blocks (servi
         → Contains (cond b (descriptions_in (list_at blocks (directives_of role).descriptions place)) []) description → place < length blocks
     by_kind true is there = at-within (is_object (service_kind role)) blocks place is
     by_kind false is there = absurd (Contains-none description there)
+
+pub named-object : (blocks : List Block) (role : Role) (place : ℕ) (description : List ℕ) → Contains (descriptions_at blocks role place) description
+    → is_object_at blocks (service_kind role) place ≡ true
+named-object blocks role place description at = by_kind (is_object_at blocks (service_kind role) place) refl at
+  where
+    by_kind : (b : Bool) → is_object_at blocks (service_kind role) place ≡ b
+        → Contains (cond b (descriptions_in (list_at blocks (directives_of role).descriptions place)) []) description → is_object_at blocks (service_kind role) place ≡ true
+    by_kind true is there = is
+    by_kind false is there = absurd (Contains-none description there)

@@ -33,15 +33,20 @@ abbrev pub NamesKey : List Block → Role → (key place : ℕ) → Type 0
 NamesKey blocks role key place =
     HasKey (names_in blocks Service) (descriptions_at blocks role place) key
 
--- and the place is below a bound
-abbrev pub NamesBelow : List Block → Role → (bound key place : ℕ) → Type 0
-NamesBelow blocks role bound key place = (place < bound) × NamesKey blocks role key place
+-- and its pair is among those that were found, with itself
+abbrev pub NamesFirst : List Block → Role → (found : List (ℕ × ℕ)) → (key place : ℕ) → Type 0
+NamesFirst blocks role found key place = Contains found (place, place) × NamesKey blocks role key place
 
--- there is a list for each key, and each has exactly the places of which `P` says so
-pub record AreByKey (names : List (List ℕ)) (P : (key place : ℕ) → Type 0)
-    (lists : List (List ℕ)) : Type 0 where
-  pub long : length lists ≡ length names + 1
-  pub each : (key place : ℕ) → Contains (slice_index_or lists key []) place ↔ P key place
+-- there are so many lists, and each has exactly the places of which `P` says so
+pub record AreListsOf (count : ℕ) (P : (number place : ℕ) → Type 0) (lists : List (List ℕ))
+    : Type 0 where
+  pub long : length lists ≡ count
+  pub each : (number place : ℕ) → Contains (slice_index_or lists number []) place ↔ P number place
+
+-- there is a list for each key
+abbrev pub AreByKey : (names : List (List ℕ)) → (P : (key place : ℕ) → Type 0)
+    → (lists : List (List ℕ)) → Type 0
+AreByKey names P lists = AreListsOf (length names + 1) P lists
 
 -- exactly the places of which `P` says so came to the lists
 pub record Adds (P : (key place : ℕ) → Type 0) (old new : List (List ℕ)) : Type 0 where

@@ -1,4 +1,5 @@
 pub mod Keys
+pub mod Distinct
 pub mod Named
 pub mod Stamps
 pub mod Unknown

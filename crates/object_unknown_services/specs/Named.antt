@@ -3,10 +3,9 @@
 use Rattle.std.specs.Prelude.{◌≡◌, ℕ, true, List, [], Contains, if◌then◌else◌}
 use Rattle.object_groups.specs.Names.{is_all}
 use Rattle.object_groups.specs.Objects.{is_object_at, list_at}
-use Rattle.object_inheritance.specs.Columns.{Column}
-use Rattle.object_listing.specs.Listing.{IsListed, ListingOf}
+use Rattle.object_listing.specs.Listing.{IsListed}
 use Rattle.object_reached.specs.declared.roles.Role.{Role}
-use Rattle.object_reached.specs.Listed.{of_hosts}
+use Rattle.object_reached.specs.Listed.{of_hosts, ServiceListingOf}
 use Rattle.object_reached.specs.Roles.{directives_of, service_kind}
 use Rattle.object_reader.specs.declared.block.Block.{Block}
 
@@ -25,12 +24,9 @@ NamesService blocks role place host description =
 
 -- ---- how they are found
 
--- what all blocks have for the directives of the role
-pub record IsNaming (blocks : List Block) (role : Role) (hosts : ListingOf) (descriptions : Column)
-    : Type 0 where
-  pub hosts_are : hosts ≡ record { blocks = blocks; directives = of_hosts (directives_of role) }
-  pub descriptions_are :
-      descriptions ≡ record { blocks = blocks; directive = (directives_of role).descriptions }
+-- what all blocks list by the directives of the role
+pub record IsNaming (blocks : List Block) (role : Role) (listing : ServiceListingOf) : Type 0 where
+  pub listing_is : listing ≡ record { blocks = blocks; directives = directives_of role }
 
 -- the descriptions that the block at the place names in that role; none where it isn't of the type
 abbrev pub descriptions_at : List Block → Role → (place : ℕ) → List (List ℕ)

@@ -1,6 +1,6 @@
 -- Services that escalations and dependencies name and that no block gives (chapters "Notification Escalations" and
 -- "Host and Service Dependencies").
-use Rattle.std.specs.Prelude.{◌≡◌, ℕ, ◌<◌, Bool, true, false, nat_lt, List, Option, Some, None}
+use Rattle.std.specs.Prelude.{◌≡◌, ℕ, ◌<◌, Bool, true, false, nat_lt, List, [], Option, Some, None, Contains, slice_index_or}
 use Rattle.object_groups.specs.Objects.{names_in}
 use Rattle.object_listing.specs.Listing.{IsListed}
 use Rattle.object_pairs.specs.Members.{HasService}
@@ -49,8 +49,19 @@ abbrev pub is_before : (first : Option ℕ) → (place : ℕ) → Bool
 is_before None place = true
 is_before (Some found) place = nat_lt place found
 
--- the block at the place does, and stands before the first that was found
-abbrev pub LacksBefore : List Block → Role → (stamps : List ℕ) → (stamp : ℕ)
-    → (first : Option ℕ) → (place : ℕ) → Type 0
-LacksBefore blocks role stamps stamp first place =
-    (is_before first place ≡ true) × ListsUnstamped blocks role stamps stamp place
+-- the block there does
+abbrev pub LacksAt : List Block → Role → (stamps : List ℕ) → (stamp here place : ℕ) → Type 0
+LacksAt blocks role stamps stamp here place =
+    (place ≡ here) × ListsUnstamped blocks role stamps stamp place
+
+-- the block at one of the places does
+abbrev pub LacksAmong : List Block → Role → (stamps : List ℕ) → (stamp : ℕ) → (places : List ℕ)
+    → (place : ℕ) → Type 0
+LacksAmong blocks role stamps stamp places place =
+    Contains places place × ListsUnstamped blocks role stamps stamp place
+
+-- and at a place of one of the lists of these numbers
+abbrev pub LacksIn : List Block → Role → (stamps : List ℕ) → (stamp : ℕ) → (lists : List (List ℕ))
+    → (numbers : List ℕ) → (place : ℕ) → Type 0
+LacksIn blocks role stamps stamp lists numbers place = (number : ℕ) × Contains numbers number
+    × LacksAmong blocks role stamps stamp (slice_index_or lists number []) place

@@ -2,6 +2,7 @@
 //! "Host and Service Dependencies"), and the first block that names one which no service block gives.
 #![tactic(auto)]
 
+mod distinct;
 mod keys;
 mod named;
 mod stamps;

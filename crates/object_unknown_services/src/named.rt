@@ -2,57 +2,24 @@
 
 ghost use Rattle.std.specs.Prelude.{◌≡◌, ◌<◌, length, IfOk};
 ghost use Rattle.object_groups.specs.declared.groups.GroupKind.TheVariants.{HostGroups};
-ghost use Rattle.object_groups.specs.Objects.{list_at};
+ghost use Rattle.object_groups.specs.Objects.{is_object_at, list_at};
 ghost use Rattle.object_listing.specs.Listing.{AreThose, IsListed};
 ghost use Rattle.object_reached.specs.Listed.{of_hosts};
-ghost use Rattle.object_reached.specs.Roles.{dependent_directives, directives_of, plain_directives};
+ghost use Rattle.object_reached.specs.Roles.{directives_of, service_kind};
 ghost use Rattle.object_unknown_services.specs.Named.{descriptions_at, descriptions_in};
 ghost use Rattle.object_values.specs.Values.{texts};
 
-use object_groups::groups::{GroupKind, Groups};
+use object_groups::groups::Groups;
 use object_groups::names::is_all;
 use object_groups::objects::{is_object, list_at};
 use object_inheritance::inherited::Values;
 use object_inheritance::templates::Templates;
-use object_listing::listing::Listing;
+use object_reached::listing::ServiceListing;
+use object_reached::reached::listing_of;
 use object_reached::roles::Role;
 use object_reader::block::Block;
 use std::alloc::{AllocError, Global};
 use std::marker::Model;
-
-/// The hosts that the blocks list in a role.
-fn hosts_of<'a>(
-    alloc: Global,
-    templates: &Templates<'a>,
-    role: Role,
-) -> Result<Listing<'a>, AllocError>
-    ensures { IfOk result (λ made. made
-        ≡ record { blocks = templates.now; directives = of_hosts (directives_of role) }) }
-{
-    let kind = GroupKind::HostGroups;
-    match role {
-        Role::Escalated | Role::Master => {
-            Listing::new(alloc, templates, kind, "host_name", "hostgroup_name")
-        }
-        Role::Dependent => Listing::new(
-            alloc,
-            templates,
-            kind,
-            "dependent_host_name",
-            "dependent_hostgroup_name",
-        ),
-    }
-}
-
-/// The directive by which blocks list descriptions in a role.
-fn description_directive(role: Role) -> &'static str
-    ensures { result.now ≡ (directives_of role).descriptions }
-{
-    match role {
-        Role::Escalated | Role::Master => "service_description",
-        Role::Dependent => "dependent_service_description",
-    }
-}
 
 /// The descriptions that the list of the block at the place names.
 fn descriptions_of<'a>(
@@ -70,14 +37,13 @@ fn descriptions_of<'a>(
     Ok(entries)
 }
 
-/// What blocks name as services in one role: by hosts and host groups, and by descriptions. It takes some 96 bytes a
+/// What blocks name as services in one role: by hosts and host groups, and by descriptions. It takes some 80 bytes a
 /// block. Contracts see the blocks and the role.
 #[derive(Drop)]
 pub(crate) struct Naming<'a> {
     blocks: &'a [Block],
     role: Role,
-    hosts: Listing<'a>,
-    descriptions: Values<'a>,
+    listing: ServiceListing<'a>,
 }
 
 impl<'a> Model for Naming<'a> {
@@ -88,7 +54,7 @@ impl<'a> Model for Naming<'a> {
 
     ghost view = { λ s. record { blocks = s.blocks.now; role = s.role } };
 
-    ghost invariant = { λ s. IsNaming s.blocks.now s.role s.hosts s.descriptions };
+    ghost invariant = { λ s. IsNaming s.blocks.now s.role s.listing };
 }
 
 impl<'a> Naming<'a> {
@@ -103,8 +69,7 @@ impl<'a> Naming<'a> {
         Ok(Naming {
             blocks: templates.blocks(),
             role,
-            hosts: hosts_of(alloc, templates, role)?,
-            descriptions: Values::new(alloc, templates, description_directive(role).as_bytes())?,
+            listing: listing_of(alloc, templates, role)?,
         })
     }
 
@@ -113,6 +78,25 @@ impl<'a> Naming<'a> {
         ensures { result.now ≡ self.now.blocks }
     {
         self.blocks
+    }
+
+    /// What the blocks list by the directives of the role.
+    pub(crate) fn listing(&self) -> &ServiceListing<'a>
+        ensures { result.now ≡ record {
+          blocks = self.now.blocks;
+          directives = directives_of self.now.role;
+        } }
+    {
+        &self.listing
+    }
+
+    /// Whether the block at the place is registered and of the type that speaks of services in the role.
+    pub(crate) fn speaks_at(&self, place: usize) -> bool
+        requires { place < length self.now.blocks }
+        ensures { result ≡ is_object_at self.now.blocks (service_kind self.now.role) place }
+    {
+        let blocks = self.blocks();
+        is_object(self.role.service_kind(), &blocks[place])
     }
 
     /// The descriptions that the block at the place names; none where it doesn't speak of services in the role.
@@ -125,9 +109,8 @@ impl<'a> Naming<'a> {
         ensures { IfOk result (λ found. texts found.items
             ≡ descriptions_at self.now.blocks self.now.role place) }
     {
-        let blocks = self.blocks();
-        if is_object(self.role.service_kind(), &blocks[place]) {
-            let found = descriptions_of(alloc, &self.descriptions, place)?;
+        if self.speaks_at(place) {
+            let found = descriptions_of(alloc, self.listing.descriptions(), place)?;
             return Ok(found);
         }
         Ok(Vec::new(alloc))
@@ -145,7 +128,7 @@ impl<'a> Naming<'a> {
         ensures hosts { IfOk result (λ found. AreThose
             (IsListed self.now.blocks (of_hosts (directives_of self.now.role)) place) found.items) }
     {
-        let found = self.hosts.objects_at(alloc, hosts, place)?;
+        let found = self.listing.hosts_at(alloc, hosts, place)?;
         Ok(found)
     }
 }

@@ -1,18 +1,19 @@
 //! The first block that names a service which no service block gives.
 
 ghost use Rattle.std.specs.Prelude.{◌≡◌, ◌↔◌, ◌+◌, ◌<◌, ◌^◌};
-ghost use Rattle.std.specs.Prelude.{length, true, Contains, IfOk};
+ghost use Rattle.std.specs.Prelude.{length, true, All, IfOk};
 ghost use Rattle.object_groups.specs.declared.groups.GroupKind.TheVariants.{HostGroups};
 ghost use Rattle.object_groups.specs.First.{IsFirst};
 ghost use Rattle.object_groups.specs.Objects.{names_in};
 ghost use Rattle.object_reader.specs.declared.block.BlockKind.TheVariants.{Host, Service};
-ghost use Rattle.object_unknown_services.specs.Keys.{AreByKey, GivesKey, NamesKey};
+ghost use Rattle.object_unknown_services.specs.Distinct.{AreNamers};
+ghost use Rattle.object_unknown_services.specs.Keys.{AreByKey, GivesKey};
 ghost use Rattle.object_unknown_services.specs.Stamps.{AreBelow};
 ghost use Rattle.object_unknown_services.specs.Unknown.{HasUnknownIn, HasUnknownOf};
 ghost use Rattle.object_unknown_services.specs.Unknown.{HasUnknownService, is_before};
-ghost use Rattle.object_unknown_services.specs.Unknown.{LacksBefore, ListsUnstamped};
+ghost use Rattle.object_unknown_services.specs.Unknown.{LacksAmong, LacksAt, LacksIn, ListsUnstamped};
 
-use crate::keys::{givers, namers};
+use crate::keys::{Namers, givers, namers_of};
 use crate::named::Naming;
 use crate::stamps::{lacks_any, stamp_all};
 use graph::lists::Lists;
@@ -66,8 +67,8 @@ fn if_lacks<'a>(
     requires hosts { hosts.old ≡ record { blocks = naming.now.blocks; kind = HostGroups } }
     requires stamp { 0 < stamp }
     ensures same { hosts.new ≡ hosts.old }
-    ensures first { IfOk result (IsFirst (λ at. (at ≡ place)
-        × LacksBefore naming.now.blocks naming.now.role stamps.now stamp first at)) }
+    ensures first { IfOk result (IsFirst (λ at. (is_before first at ≡ true)
+        × LacksAt naming.now.blocks naming.now.role stamps.now stamp place at)) }
 {
     if !is_before(first, place) {
         return Ok(None);
@@ -78,7 +79,8 @@ fn if_lacks<'a>(
     Ok(None)
 }
 
-/// The lowest of the places before the first that was found at which a block lists a host without the stamp.
+/// The lowest of the places before the first that was found at which a block lists a host without the stamp. After one
+/// that does no later one is looked at.
 fn first_lacking<'a>(
     alloc: Global,
     naming: &Naming<'a>,
@@ -91,12 +93,41 @@ fn first_lacking<'a>(
     requires hosts { hosts.old ≡ record { blocks = naming.now.blocks; kind = HostGroups } }
     requires stamp { 0 < stamp }
     ensures same { hosts.new ≡ hosts.old }
-    ensures first { IfOk result (IsFirst (λ at. Contains places.now at
-        × LacksBefore naming.now.blocks naming.now.role stamps.now stamp first at)) }
+    ensures first { IfOk result (IsFirst (λ at. (is_before first at ≡ true)
+        × LacksAmong naming.now.blocks naming.now.role stamps.now stamp places.now at)) }
 {
     let mut lowest = None;
     for place in places {
-        let lacking = if_lacks(alloc, naming, hosts, stamps, stamp, first, *place)?;
+        let before = lower(first, lowest);
+        let lacking = if_lacks(alloc, naming, hosts, stamps, stamp, before, *place)?;
+        lowest = lower(lowest, lacking);
+    }
+    Ok(lowest)
+}
+
+/// The same of all places that stand in lists of these numbers.
+fn first_listed<'a>(
+    alloc: Global,
+    naming: &Naming<'a>,
+    hosts: &mut Groups<'a>,
+    stamps: &[usize],
+    stamp: usize,
+    first: Option<usize>,
+    numbers: &[usize],
+    lists: &Lists<usize>,
+) -> Result<Option<usize>, AllocError>
+    requires hosts { hosts.old ≡ record { blocks = naming.now.blocks; kind = HostGroups } }
+    requires stamp { 0 < stamp }
+    requires numbers { All (λ number. number < length lists.now) numbers.now }
+    ensures same { hosts.new ≡ hosts.old }
+    ensures first { IfOk result (IsFirst (λ at. (is_before first at ≡ true) × LacksIn naming.now.blocks
+        naming.now.role stamps.now stamp lists.now numbers.now at)) }
+{
+    let mut lowest = None;
+    for number in numbers {
+        let before = lower(first, lowest);
+        let places = lists.get(*number);
+        let lacking = first_lacking(alloc, naming, hosts, stamps, stamp, before, places)?;
         lowest = lower(lowest, lacking);
     }
     Ok(lowest)
@@ -111,7 +142,7 @@ fn first_of_key<'a>(
     hosts: &mut Groups<'a>,
     stamps: &mut [usize],
     given: &Lists<usize>,
-    named: &Lists<usize>,
+    namers: &Namers,
     first: Option<usize>,
     key: usize,
 ) -> Result<Option<usize>, AllocError>
@@ -119,9 +150,8 @@ fn first_of_key<'a>(
     requires naming { services.now ≡ naming.now.blocks }
     requires stamps { AreBelow (length (names_in services.now Host)) (key + 1) stamps.old }
     requires given { AreByKey (names_in services.now Service) (GivesKey services.now) given.now }
-    requires named { AreByKey (names_in services.now Service)
-        (NamesKey services.now naming.now.role) named.now }
-    requires key { key < length named.now }
+    requires namers { AreNamers services.now naming.now.role namers.now }
+    requires key { key < length namers.now.described }
     requires fits { key + 1 < 2 ^ 64 }
     ensures same { hosts.new ≡ hosts.old }
     ensures stamps { IfOk result (λ found.
@@ -129,13 +159,22 @@ fn first_of_key<'a>(
     ensures first { IfOk result (IsFirst (λ place. (is_before first place ≡ true)
         × HasUnknownOf services.now naming.now.role key place)) }
 {
-    let places = named.get(key);
-    if places.is_empty() {
+    let numbers = namers.described.get(key);
+    if numbers.is_empty() {
         return Ok(None);
     }
     listed_are_objects();
     stamp_all(alloc, services, hosts, given.get(key), stamps, key + 1)?;
-    first_lacking(alloc, naming, hosts, stamps, key + 1, first, places)
+    first_listed(
+        alloc,
+        naming,
+        hosts,
+        stamps,
+        key + 1,
+        first,
+        numbers,
+        &namers.by_list,
+    )
 }
 
 /// The first block that names an unknown service in the role.
@@ -152,13 +191,13 @@ fn first_in<'a>(
     ensures same { hosts.new ≡ hosts.old }
     ensures first { IfOk result (IsFirst (HasUnknownIn services.now naming.now.role)) }
 {
-    let named = namers(alloc, services, naming)?;
+    let namers = namers_of(alloc, services, naming)?;
     let mut room = vec![in alloc; 0; hosts.objects().names().len()]?;
     let stamps = room.as_mut_slice();
     let mut first = None;
-    for key in 0..named.len() {
+    for key in 0..namers.described.len() {
         let found = first_of_key(
-            alloc, services, naming, hosts, stamps, given, &named, first, key,
+            alloc, services, naming, hosts, stamps, given, &namers, first, key,
         )?;
         first = lower(first, found);
     }
@@ -188,13 +227,13 @@ fn first_of_role<'a>(
 /// description which no service block gives, if there is one. A block names each host that it lists, by itself or by a
 /// host group, with each description that it lists; with `*` alone as the list of descriptions, or without one, it
 /// names none. Of a dependency both the masters and the dependents are looked at. `services` are the service
-/// blocks and `hosts` the host groups of the same blocks. Role by role, one description is looked at after another: the
-/// time grows with that of `hosts_at` for each service block whose description is named, and with that of finding a
-/// block's hosts for each description that it names, where no block before it is found to lack one: so with the pairs of
-/// hosts and descriptions, where no group reaches more groups than hosts. The memory grows with the blocks, the hosts and
-/// the entries of the blocks' lists, however many pairs there are: some 24 bytes for each service block and for each
-/// description that a block names, inherited ones among them, and 8 for each host. A refused growth leaves the groups
-/// as they were.
+/// blocks and `hosts` the host groups of the same blocks. Blocks with the same lists of hosts, of host groups and of
+/// descriptions count once. Role by role, one description is looked at after another: the time grows with that of
+/// `hosts_at` for each service block whose description is named, and with that of finding a block's hosts for each
+/// description that it names, where no block before it is found to lack one: so with the pairs of hosts and descriptions,
+/// where no group reaches more groups than hosts. The memory grows with the blocks, the hosts and the entries of the
+/// blocks' lists, where a list that many blocks take from one counts once, however many pairs there are. A refused growth
+/// leaves the groups as they were.
 pub fn first_unknown_service<'a>(
     alloc: Global,
     templates: &Templates<'a>,

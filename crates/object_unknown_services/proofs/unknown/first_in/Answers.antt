@@ -27,6 +27,6 @@ loop-key-preserved c = record {
 pub returns-clause-first : goal.returns-clause-first
 returns-clause-first c =
     let blocks = c.args.services.now in
-    let long = c.in_ok-named.ensures.long in
+    let long = c.in_ok-namers.ensures.keys in
     let all : length (names_in blocks Service) < c.loop-key.key = omega (arith, c.len-key-end.ensures, long, c.loop-key-test.false) in
     keys-end blocks c.args.naming.now.role c.loop-key.key c.loop-key.first all c.loop-key.invariant.first
