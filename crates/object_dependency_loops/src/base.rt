@@ -2,7 +2,8 @@
 
 ghost use Rattle.std.specs.Prelude.{◌≡◌, ◌+◌, ◌<◌, ◌≤◌, ◌^◌, ◌++◌};
 ghost use Rattle.std.specs.Prelude.{length, map, All, IfOk, OnOk};
-ghost use Rattle.object_dependency_loops.specs.Base.{AreServiceNodes, base_edges, graph_edges, IsBase, turn_edges};
+ghost use Rattle.object_dependency_loops.specs.Base.{AreServiceNodes, base_edges, graph_edges};
+ghost use Rattle.object_dependency_loops.specs.Base.{IsBase, turn_edges};
 ghost use Rattle.object_groups.specs.declared.groups.GroupKind.TheVariants.{HostGroups};
 ghost use Rattle.object_groups.specs.declared.lists.Direction.TheVariants.{ToNames};
 ghost use Rattle.object_groups.specs.ListEdges.{between};

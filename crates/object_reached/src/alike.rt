@@ -2,7 +2,7 @@
 
 ghost use Rattle.std.specs.Prelude.{◌≡◌, [], IfOk, OnOk};
 ghost use Rattle.object_groups.specs.Objects.{list_at};
-ghost use Rattle.object_reached.specs.Alike.{AreAlike, AreListsAlike, HaveLists};
+ghost use Rattle.object_reached.specs.Alike.{AreListsAlike, HaveLists, IsAlike};
 ghost use Rattle.object_reached.specs.Listed.{ServiceListingOf};
 
 use crate::listing::ServiceListing;
@@ -37,10 +37,8 @@ fn by_text<'a>(
     alike: &mut Alike<'a>,
     place: usize,
 ) -> Result<usize, AllocError>
-    requires { AreAlike values.now.blocks values.now.directive alike.old.by_place.entries
-        alike.old.by_text.entries }
-    ensures alike { OnOk result (AreAlike values.now.blocks values.now.directive
-        alike.new.by_place.entries alike.new.by_text.entries) }
+    requires { IsAlike values.now.blocks values.now.directive alike.old }
+    ensures alike { OnOk result (IsAlike values.now.blocks values.now.directive alike.new) }
     ensures same { IfOk result (λ other. list_at values.now.blocks values.now.directive other
         ≡ list_at values.now.blocks values.now.directive place) }
 {
@@ -64,10 +62,8 @@ fn alike_at<'a>(
     alike: &mut Alike<'a>,
     place: usize,
 ) -> Result<usize, AllocError>
-    requires { AreAlike values.now.blocks values.now.directive alike.old.by_place.entries
-        alike.old.by_text.entries }
-    ensures alike { OnOk result (AreAlike values.now.blocks values.now.directive
-        alike.new.by_place.entries alike.new.by_text.entries) }
+    requires { IsAlike values.now.blocks values.now.directive alike.old }
+    ensures alike { OnOk result (IsAlike values.now.blocks values.now.directive alike.new) }
     ensures same { IfOk result (λ other. list_at values.now.blocks values.now.directive other
         ≡ list_at values.now.blocks values.now.directive place) }
 {
@@ -104,7 +100,7 @@ pub fn none_found<'a>(alloc: Global) -> Alikes<'a>
 
 /// The places of blocks that have the same lists of hosts, of host groups and of descriptions as the one at the place: the
 /// same for all that take a list from the same block, or from blocks that give the same text. The time grows with the texts
-/// of the lists where the blocks that give them are met first. A refused growth leaves what was found.
+/// of the lists where the blocks that give them are met first. After a refused growth nothing is promised of `alikes`.
 pub fn lists_like<'a>(
     listing: &ServiceListing<'a>,
     alikes: &mut Alikes<'a>,

@@ -116,7 +116,7 @@ fn dependent_listing<'a>(
     Ok(listing)
 }
 
-/// What the blocks list by the directives of a role. A refused growth leaves nothing.
+/// What the blocks list by the directives of a role, as `ServiceListing::new` reads them. A refused growth leaves nothing.
 pub fn listing_of<'a>(
     alloc: Global,
     templates: &Templates<'a>,

@@ -1,6 +1,7 @@
 //! Service blocks, and blocks that name services, by descriptions.
 
-ghost use Rattle.std.specs.Prelude.{◌≡◌, ◌+◌, ◌<◌, ◌≤◌, length, All, Contains, IfOk, OnOk};
+ghost use Rattle.std.specs.Prelude.{◌≡◌, ◌+◌, ◌<◌, ◌≤◌};
+ghost use Rattle.std.specs.Prelude.{length, All, Contains, IfOk, OnOk};
 ghost use Rattle.object_groups.specs.Objects.{names_in};
 ghost use Rattle.object_reader.specs.declared.block.BlockKind.TheVariants.{Service};
 ghost use Rattle.object_unknown_services.specs.Distinct.{AreDistinct, AreNamers};
