@@ -1,15 +1,15 @@
--- The escalations and the dependencies of each object, one more at a time.
-use Rattle.std.proofs.Common.{◌≡◌, ℕ, ◌+◌, ◌<◌, ◌≤◌, Bool, true, false, cond, eqb, List, [], ◌∷◌, ◌++◌, length, filter, get_or, set, replicate, Some, slice_get, refl, sym, ap, subst, ◌∙◌, ⊎_elim, arith}
-use Rattle.std.specs.Prelude.{All, None}
+-- What the loops that gather the escalations and the dependencies of each object hold, one more at a time.
+use Rattle.std.proofs.Common.{◌≡◌, ℕ, ◌+◌, ◌<◌, Bool, true, false, cond, eqb, List, [], ◌∷◌, ◌++◌, length, filter, get_or, set, replicate, Some, slice_get, slice_index_or, refl, sym, ap, subst, ◌∙◌, arith}
+use Rattle.std.specs.Prelude.{All}
 use Rattle.std.specs.List.{range_with_len}
 use Rattle.std.proofs.lemmas.Bool.{eq-eqb, eqb-true}
-use Rattle.std.proofs.lemmas.List.{append-nil, get_or-set_other, get_or-set_same, get_or_default, length-replicate, length-set, map-id}
+use Rattle.std.proofs.lemmas.List.{append-nil, get_or-set_other, get_or-set_same, length-replicate, length-set, map-id}
 use Rattle.std.proofs.lemmas.List.Elements.{All-get_or, filter-append}
-use Rattle.std.proofs.lemmas.Option.{slice_get_cases}
+use Rattle.std.proofs.lemmas.Option.{slice_get_read}
 use Rattle.std.proofs.lemmas.List.FromFn.{filter_of_map_range_with_len_more}
 use Rattle.due_model.specs.declared.config.Dependency.{Dependency}
 use Rattle.due_model.specs.declared.config.Escalation.{Escalation}
-use Rattle.due_model.specs.ByObject.{HasEntries, HasPlaces, is_of, places_below}
+use Rattle.due_model.specs.ByObject.{AreEntries, is_of, places_below}
 use Rattle.due_model.proofs.ObjectIndex.{get_or-replicate_nil}
 
 -- a list after a value went to the end of one
@@ -22,16 +22,13 @@ pushed {X} lists n o x within =
       | false ↦ λ other. get_or-set_other lists n o more [] (λ is. let same : eqb n o ≡ true = eq-eqb n o (sym is) in cc) ∙ sym (append-nil (get_or lists o []))
     ] refl
 
--- what is read at a place stands there
-read_at : (es : List Escalation) (i : ℕ) (e : Escalation) → i < length es → e ≡ get_or es i e → slice_get es i ≡ Some e
-read_at es i e within is = ⊎_elim
-    (λ (here : (x : Escalation) × (i < length es) × (slice_get es i ≡ Some x) × (get_or es i x ≡ x)).
-    let same : here.0 ≡ e = sym here.3 ∙ get_or_default es i here.0 e within ∙ sym is in
-    here.2 ∙ ap Some same)
-    (λ (past : (length es ≤ i) × (slice_get es i ≡ None)). absurd (omega (arith, past.0, within)))
-    (slice_get_cases es i).1
-
 -- ---- escalations
+
+-- there are so many lists, and they have the places below `count`
+pub record HasPlaces (objects : ℕ) (es : List Escalation) (count : ℕ)
+    (lists : List (List ℕ)) : Type 0 where
+  pub as_many : length lists ≡ objects
+  pub places : (o : ℕ) → slice_index_or lists o [] ≡ places_below es count o
 
 pub HasPlaces-none : (objects : ℕ) (es : List Escalation) → HasPlaces objects es 0 (replicate objects [])
 HasPlaces-none objects es = record {
@@ -57,10 +54,16 @@ HasPlaces-more objects es i e lists low is within has =
       as_many = length-set lists e.object.0 (get_or lists e.object.0 [] ++ i ∷ []) ∙ has.as_many;
       places = λ o. pushed lists e.object.0 o i (omega (arith, own, has.as_many))
           ∙ ap (λ (xs : List ℕ). xs ++ cond (eqb e.object.0 o) (i ∷ []) []) (has.places o)
-          ∙ sym (places_below-more es i o e (read_at es i e low is));
+          ∙ sym (places_below-more es i o e (slice_get_read es (length es) i e refl low is));
     }
 
 -- ---- dependencies
+
+-- there are so many lists, and they have these entries
+pub record HasEntries (objects : ℕ) (dependencies : List Dependency)
+    (lists : List (List Dependency)) : Type 0 where
+  pub as_many : length lists ≡ objects
+  pub entries : AreEntries dependencies lists
 
 pub HasEntries-none : (objects : ℕ) → HasEntries objects [] (replicate objects [])
 HasEntries-none objects = record {

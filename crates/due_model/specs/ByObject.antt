@@ -29,18 +29,6 @@ entries_of dependencies o = filter (λ entry. entry.dependent.0 == o) dependenci
 abbrev pub ArePlaces : List Escalation → List (List ℕ) → Type 0
 ArePlaces es lists = (o : ℕ) → slice_index_or lists o [] ≡ places_of es o
 
--- there are so many lists, and they have the places below `count`
-pub record HasPlaces (objects : ℕ) (es : List Escalation) (count : ℕ)
-    (lists : List (List ℕ)) : Type 0 where
-  pub as_many : length lists ≡ objects
-  pub places : (o : ℕ) → slice_index_or lists o [] ≡ places_below es count o
-
 -- the lists have all entries
 abbrev pub AreEntries : List Dependency → List (List Dependency) → Type 0
 AreEntries dependencies lists = (o : ℕ) → slice_index_or lists o [] ≡ entries_of dependencies o
-
--- there are so many lists, and they have these entries
-pub record HasEntries (objects : ℕ) (dependencies : List Dependency)
-    (lists : List (List Dependency)) : Type 0 where
-  pub as_many : length lists ≡ objects
-  pub entries : AreEntries dependencies lists

@@ -1,7 +1,7 @@
 //! The notification dependencies of a configuration, found by their dependents.
 
 ghost use Rattle.std.specs.Prelude.{◌≡◌, ◌<◌, length, All, IfOk};
-ghost use Rattle.due_model.specs.ByObject.{AreEntries, HasEntries, entries_of};
+ghost use Rattle.due_model.specs.ByObject.{AreEntries, entries_of};
 
 use crate::config::{Dependency, ObjectId};
 use graph::lists::{Lists, ListsBuilder};

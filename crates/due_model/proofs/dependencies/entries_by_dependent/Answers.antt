@@ -2,8 +2,8 @@ use Rattle.std.proofs.Common.{◌++◌, ◌<◌, ◌∷◌, ◌∙◌, [], List,
 use Rattle.std.proofs.lemmas.List.{take_all, take_more}
 use Rattle.std.proofs.lemmas.List.Elements.{All-get_or}
 use Rattle.due_model.specs.declared.config.Dependency.{Dependency}
-use Rattle.due_model.specs.ByObject.{AreEntries, HasEntries}
-use Rattle.due_model.proofs.ByObjectLemmas.{HasEntries-more, HasEntries-none}
+use Rattle.due_model.specs.ByObject.{AreEntries}
+use Rattle.due_model.proofs.ByObjectLemmas.{HasEntries, HasEntries-more, HasEntries-none}
 use Rattle.due_model.proofs.dependencies.entries_by_dependent.Goals as goal
 
 abbrev no_entry : Dependency

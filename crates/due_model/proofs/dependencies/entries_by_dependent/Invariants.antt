@@ -1,5 +1,5 @@
 use Rattle.std.proofs.Common.{take}
-use Rattle.due_model.specs.ByObject.{HasEntries}
+use Rattle.due_model.proofs.ByObjectLemmas.{HasEntries}
 use Rattle.due_model.proofs.dependencies.entries_by_dependent.Given as goal
 
 -- The lists have the entries so far.

@@ -1,6 +1,5 @@
 use Rattle.std.proofs.Common.{◌+◌, ◌++◌, ◌∷◌, ◌∙◌, [], ap, get_or, set, subst, sym}
-use Rattle.due_model.specs.ByObject.{HasPlaces}
-use Rattle.due_model.proofs.ByObjectLemmas.{HasPlaces-more}
+use Rattle.due_model.proofs.ByObjectLemmas.{HasPlaces, HasPlaces-more}
 use Rattle.due_model.proofs.escalations.places_by_object.Goals as goal
 
 pub loop-place-preserved : goal.loop-place-preserved

@@ -1,4 +1,4 @@
-use Rattle.due_model.specs.ByObject.{HasPlaces}
+use Rattle.due_model.proofs.ByObjectLemmas.{HasPlaces}
 use Rattle.due_model.proofs.escalations.places_by_object.Given as goal
 
 -- The lists have the places so far.
