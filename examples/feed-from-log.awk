@@ -1,5 +1,5 @@
-# Makes a feed of a Nagios log: hard states, downtimes, flapping, the switches of notifications, and a clock line for each
-# minute between them.
+# Makes a feed of a Nagios log: hard states, downtimes, flapping, acknowledgements, the switches of notifications, and a clock
+# line for each minute between them.
 #
 #     awk -f examples/feed-from-log.awk examples/nagios.log
 #
@@ -35,6 +35,13 @@ match($0, /^\[[0-9]+\] /) {
         if (field[1] == "ENABLE_NOTIFICATIONS" || field[1] == "DISABLE_NOTIFICATIONS") {
             clock(now)
             print "[" now "] " field[1]
+        }
+        # (2 is sticky; the words after it say who is told, and of what)
+        if (field[1] == "ACKNOWLEDGE_HOST_PROBLEM" || field[1] == "ACKNOWLEDGE_SVC_PROBLEM") {
+            what = field[1] ~ /HOST/ ? "HOST" : "SERVICE"
+            about = what == "HOST" ? field[2] : field[2] ";" field[3]
+            clock(now)
+            tell("ACK", field[what == "HOST" ? 3 : 4] == 2 ? "STICKY" : "NORMAL")
         }
         next
     }

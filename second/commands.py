@@ -32,15 +32,15 @@ def replay(data):
     return status, rules.lines, ""
 
 
-def trace(data, deciders, queue, tries):
+def trace(data, deciders, queue, tries, standbys):
     objects, rest = parted(data, b"%events")
     feed, steps = parted(rest, b"%steps")
     configuration = Configuration(read(objects))
     given = list(answers(configuration, feed))
     lines = [f"R;{number};{fault}" for number, _, fault in given if fault]
-    world = World(configuration, [event for _, event, fault in given if not fault], deciders, queue, tries)
-    for number, line in enumerate(steps.decode().splitlines(), 1):
-        why = world.do(line)
+    world = World(configuration, [event for _, event, fault in given if not fault], deciders, queue, tries, standbys)
+    for number, line in enumerate(steps.removesuffix(b"\n").split(b"\n") if steps else [], 1):
+        why = world.do(line.decode("utf-8", "surrogateescape"))
         if why:
             lines.append(f"E;{number};{why}")
     return lines + list(world.lines())

@@ -1,7 +1,7 @@
 """The configuration that blocks give, or the first block with a fault."""
 from dataclasses import dataclass
 from object_text import Refused
-from templates import (ALL_LETTERS, DAYS, Site, criteria_in, is_dated, number_in, options_in, ranges_in)
+from templates import (ALL_LETTERS, DAYS, Site, criteria_in, is_dated, number_in, options_in, ranges_in, rule_in)
 
 CONTACTS = {"contacts": "contact", "contact_groups": "contactgroup"}
 HOSTS = {"host_name": "host", "hostgroup_name": "hostgroup"}
@@ -69,7 +69,9 @@ class Contact:
 
 @dataclass
 class Period:
+    """The ranges of each weekday, and of each rule of a dated line."""
     days: list
+    dated: list
     excludes: list
 
 
@@ -232,13 +234,18 @@ class Checked(Names):
             return "BadNumber"
         if self.has_bad_option(place):
             return "BadOption"
-        if any(line.name in DAYS and ranges_in(line.value) is None for line in lines) or not all(line.has_colon for line in dated):
+        if any(line.name in DAYS and ranges_in(line.value) is None for line in lines) or any(self.is_bad_line(line) for line in dated):
             return "BadRange"
         if kind == "service" and number_in(self.value(place, "is_volatile") or "0") != 0:
             return "Volatile"
         if any(entry.startswith("!") for name in lists for entry in self.list(place, name) or []):
             return "Exclusion"
-        return "DatedException" if dated else None
+        return "DatedException" if any(rule_in(line.name) is None for line in dated) else None
+
+    def is_bad_line(self, line):
+        """Whether a dated line has no times, a number that nothing has, or a rule without ranges."""
+        rule = rule_in(line.name)
+        return not line.has_colon or rule == () or rule is not None and ranges_in(line.value) is None
 
     # ---- names
 
@@ -327,7 +334,8 @@ class Configuration(Checked):
     def period_of(self, place):
         lines = self.days(place)
         excluded = [self.period_numbers[name] for name in self.list(place, "exclude") or []]
-        return Period([ranges_in(lines[day].value) if day in lines else [] for day in DAYS], excluded)
+        dated = [(rule_in(name), ranges_in(line.value)) for name, line in lines.items() if is_dated(name)]
+        return Period([ranges_in(lines[day].value) if day in lines else [] for day in DAYS], dated, excluded)
 
     def commands(self, place, kind):
         return {entry.split("!")[0] for entry in self.list(place, f"{kind}_notification_commands") or []}

@@ -5,7 +5,9 @@ DAYS = "sunday monday tuesday wednesday thursday friday saturday".split()
 TEMPLATE_TYPES = "host service contact hostescalation serviceescalation hostdependency servicedependency timeperiod hostgroup".split()
 RANGES = "00:00-24:00 09:00-17:00 0:00-6:00 12:00-13:00 12:30-12:45 22:00-24:00 10:00-10:00 08:00-12:00".split()
 BAD_RANGES = "9:00-17 09:00-08:00 00:00-24:01 foo 09:00-10:00, 09:60-10:00 1:00-2:00,,3:00-4:00".split()
-DATES = ["monday 1 may", "january 1", "day 3", "2024-01-01", "day", "9:00", "monday x", "alias x"]
+MONTHS = "january february march april may june july august september october november december".split()
+ODD_DATES = ["day", "9:00", "monday x", "alias x", "monday", "day 1 - 3", "monday 1 / 2", "december 0", "day -32", "monday 6", "2024-13-01", "2024-1",
+             "day -0", "may", "1", "monday 2 mai"]
 OPTIONS = {"host": ["d", "u", "r", "f", "s", "a", "n", "d,u,r", "down recovery", "d u", "unreachable,downtime", "all", ","],
            "service": ["w", "u", "c", "r", "f", "s", "a", "n", "w,u,c,r", "critical recovery", "unknown,warning", "c,r,f,s"]}
 ESCALATION_OPTIONS = {"host": ["d", "u", "r", "d,r", "a", "n", "u,d"], "service": ["w", "u", "c", "r", "c,r", "a", "n"]}
@@ -133,7 +135,7 @@ class Site:
         own = {"host": lambda: self.settings("host") + self.in_groups(0.3, "hostgroups", self.host_groups),
                "service": lambda: self.settings("service") + self.in_groups(0.2, "servicegroups", self.service_groups),
                "contact": lambda: self.commands_of("host", 0.7) + self.commands_of("service", 0.7),
-               "timeperiod": lambda: [(self.draw.choice(DAYS), self.ranges())],
+               "timeperiod": lambda: [(self.draw.choice(DAYS), self.ranges()), *self.dated_lines()],
                "hostgroup": lambda: self.maybe(0.5, "members", lambda: self.names(self.hosts))}
         for kind, names in self.templates.items():
             subject = kind.removesuffix("escalation").removesuffix("dependency")
@@ -161,14 +163,25 @@ class Site:
             self.add("contactgroup", [("contactgroup_name", name), *self.maybe(0.7, "members", lambda: self.names(self.contacts)),
                                       *self.maybe(0.3, "contactgroup_members", lambda: self.names(self.contact_groups))])
 
+    def date(self):
+        """The name of a dated line of one of the five classes."""
+        day, place = self.draw.choice([1, 2, 15, 20, 28, 29, 30, 31, -1, -2, -31, "01"]), self.draw.choice([1, 2, 3, 4, 5, -1, -2, -5])
+        month, weekday = self.draw.choice(MONTHS), self.draw.choice(DAYS)
+        year = self.draw.choice([1970, 1970, 2000, 2024, 2024, 2024, 2100])
+        return self.draw.choice([f"{year}-{self.draw.randint(1, 12):02}-{self.draw.randint(1, 31)}", f"{month} {day}", f"day {day}", f"day  {day}",
+                                 f"{weekday} {place} {month}", f"{weekday} {place}", f"{weekday} {place}"])
+
+    def dated_lines(self):
+        return [(self.date(), self.ranges()) for _ in range(self.draw.choice([0, 0, 0, 1, 2, 6]))]
+
     def add_periods(self):
         for below, name in enumerate(self.periods):
             others = self.periods[:None if self.odd() else below]
             rows = [("timeperiod_name", name), *self.use("timeperiod"), *self.maybe(0.2, "alias", lambda: "a: b"),
                     *self.maybe(0.4, "exclude", lambda: self.names(others, 0, 0.1, 2))]
-            rows += [row for day in DAYS for row in self.maybe(0.6, day, self.ranges)]
+            rows += [row for day in DAYS for row in self.maybe(0.6, day, self.ranges)] + self.dated_lines()
             if self.odd():
-                rows.append((self.draw.choice(DATES), self.draw.choice(["09:00-10:00", "foo"])))
+                rows.append((self.draw.choice(ODD_DATES), self.draw.choice(["09:00-10:00", "foo"])))
             self.add("timeperiod", rows)
 
     def add_objects(self):
@@ -243,18 +256,20 @@ class Site:
         host, description = self.draw.choice(self.pairs) if self.pairs and self.chance(0.8) else (self.draw.choice(self.hosts), "s0")
         name = host if kind == "HOST" else f"{host};{description}"
         what = self.draw.random()
-        if what < 0.3:
+        if what < 0.28:
             return "CLOCK"
-        if what < 0.75:
+        if what < 0.7:
             return f"{kind}_STATE;{name};{self.draw.choice(STATES[kind])}"
-        if what < 0.84:
+        if what < 0.77:
             return f"{kind}_DOWNTIME;{name};{self.draw.choice(['START', 'END', 'CANCELLED'])}"
-        if what < 0.92:
+        if what < 0.84:
             return f"{kind}_FLAPPING;{name};{self.draw.choice(['START', 'STOP'])}"
-        if what < 0.96:
+        if what < 0.87:
             return self.draw.choice(["ENABLE_NOTIFICATIONS", "ENABLE_NOTIFICATIONS", "DISABLE_NOTIFICATIONS"])
+        if what < 0.96:
+            return f"{kind}_ACK;{name};{self.draw.choice(['STICKY', 'NORMAL'])}"
         return self.draw.choice(["NOPE", "CLOCK;", "HOST_STATE;zz;UP", f"HOST_STATE;{host};OK", f"HOST_STATE;{host}",
-                                 f"SERVICE_STATE;{host};UP", "HOST_STATE;zz;XX", f"HOST_DOWNTIME;{host};STOP"])
+                                 f"SERVICE_STATE;{host};UP", "HOST_STATE;zz;XX", f"HOST_DOWNTIME;{host};STOP", f"HOST_ACK;{host};2"])
 
     def feed(self, begin):
         """A feed from this moment on; a line of a hundred has no stamp, and a feed of thirty is cut."""
@@ -271,9 +286,13 @@ class Site:
         lines = []
         for _ in range(self.draw.choice([50, 300])):
             lane, decider = self.draw.choice(lanes), self.draw.randrange(deciders)
-            kinds = ("post", "decide", "put", "pick", "settle", "fail", "ask", "close", "drain", "odd")
-            kind = self.draw.choices(kinds, (10, 14, 12, 10, 10, 4, 0.3, 2, 2, 0.6))[0]
+            kinds = ("post", "decide", "put", "pick", "settle", "fail", "ask", "wear", "replace", "close", "drain", "odd")
+            kind = self.draw.choices(kinds, (10, 14, 12, 10, 10, 4, 0.3, 3, 2, 2, 2, 0.6))[0]
+            if kind == "wear":
+                # A letter that fails one to four times, mostly as often as it may be tried, and then a box that takes over.
+                lines += [f"pick {lane}"] + self.draw.choice([1, 3, 3, 4]) * [f"fail {lane}"]
+                kind = "replace"
             lines.append({"post": "post", "decide": f"decide {decider}", "put": f"put {decider} {lane}",
-                          "odd": self.draw.choice(["", "post ", "decide 9", "decide x", "put 0 zz", "pick", "pick zz", "Post", f"decide 0{decider}"]),
+                          "odd": self.draw.choice(["", "post ", "decide 9", "decide x", "put 0 zz", "pick", "pick zz", "replace", "replace zz", "Post", f"decide 0{decider}"]),
                           }.get(kind, f"{kind} {lane}"))
         return "".join(f"{line}\n" for line in lines)

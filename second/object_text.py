@@ -6,6 +6,9 @@ TYPES = """host hostgroup service servicegroup contact contactgroup timeperiod c
 hostdependency servicedependency hostextinfo serviceextinfo""".split()
 MOST_BYTES, MOST_OF_A_LINE = 16_777_216, 4_096
 BLANKS = " \t"
+# The words with which a day line of a time period begins, beside those that begin with a digit.
+DAY_WORDS = """day sunday monday tuesday wednesday thursday friday saturday january february march april may june july august september
+october november december""".split()
 
 
 class Refused(Exception):
@@ -65,9 +68,10 @@ def meant(text):
 def directive(kind, text, line):
     words = re.split(r"[ \t]+", text)
     with_colon = [place for place, word in enumerate(words) if ":" in word]
-    if kind == "timeperiod" and with_colon and with_colon[0] > 0:
-        place = with_colon[0]
-        return Directive(" ".join(words[:place]), "".join(words[place:]), True)
+    is_day_line = kind == "timeperiod" and (words[0] in DAY_WORDS or words[0][0] in "0123456789")
+    if is_day_line and len(words) > 1 and ":" not in words[0]:
+        place = with_colon[0] if with_colon else len(words)
+        return Directive(" ".join(words[:place]), "".join(words[place:]), bool(with_colon))
     value = text[len(words[0]):].strip(BLANKS)
     if not value:
         raise Refused("NoValue", line)

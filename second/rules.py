@@ -1,4 +1,5 @@
 """The rules of notification, event by event."""
+import calendar
 import time
 from dataclasses import dataclass
 from math import gcd
@@ -9,7 +10,27 @@ LETTERS = {"DOWN": "d", "UNREACHABLE": "u", "WARNING": "w", "UNKNOWN": "u", "CRI
 MOST_AHEAD = 34_560_000
 
 
-@dataclass
+def is_named(rule, local):
+    """Whether the rule of a dated line names the local day."""
+    year, month, day, weekday = local.tm_year, local.tm_mon, local.tm_mday, (local.tm_wday + 1) % 7
+    length = calendar.monthrange(year, month)[1]
+    days = (day, day - length - 1)
+    places = ((day + 6) // 7, -((length - day) // 7 + 1))
+    return {1: lambda: rule[1:] == (year, month, day), 2: lambda: rule[1] == month and rule[2] in days, 3: lambda: rule[1] in days,
+            4: lambda: rule[1] == weekday and rule[2] in places and rule[3] == month,
+            5: lambda: rule[1] == weekday and rule[2] in places}[rule[0]]()
+
+
+def ranges_of(period, local):
+    """The ranges of the local day: of all lines of the first @dataclass
+class that has one for it, or else of the weekday."""
+    named = [(rule[0], ranges) for rule, ranges in period.dated if is_named(rule, local)]
+    if not named:
+        return period.days[(local.tm_wday + 1) % 7]
+    first = min(kind for kind, _ in named)
+    return [one for kind, ranges in named if kind == first for one in ranges]
+
+
 class Status:
     """What is known of an object."""
     state: str = "PENDING"
@@ -20,6 +41,8 @@ class Status:
     # Of the last problem notice: its state, its moment, and how long the next of that state waits.
     last: tuple = None
     ready: int = None
+    # Of the acknowledgement that holds: its word, and the state in which it came.
+    taken_on: tuple = None
 
 
 class Rules:
@@ -31,7 +54,8 @@ class Rules:
         self.moment, self.is_on, self.count = 0, True, 0
         self.lines, self.notices = [], []
         # Whether a period holds changes at multiples of this alone, as far as zones are whole quarters of an hour from UTC.
-        self.step = gcd(900, *(second for it in configuration.periods for day in it.days for span in day for second in span))
+        days = [day for it in configuration.periods for day in [*it.days, *(ranges for _, ranges in it.dated)]]
+        self.step = gcd(900, *(second for day in days for span in day for second in span))
 
     # ---- time periods
 
@@ -40,7 +64,7 @@ class Rules:
             return True
         it, local = self.configuration.periods[period], time.localtime(moment)
         second = local.tm_hour * 3600 + local.tm_min * 60 + local.tm_sec
-        within = any(start <= second < end for start, end in it.days[(local.tm_wday + 1) % 7])
+        within = any(start <= second < end for start, end in ranges_of(it, local))
         return within and not any(self.holds(other, moment) for other in it.excludes)
 
     def next(self, period, moment):
@@ -72,6 +96,7 @@ class Rules:
             ("NoProblem", kind == "RECOVERY" and now.sent == 0),
             ("Period", not self.holds(it.period, self.moment)),
             ("Dependency", of_state and self.depends(number)),
+            ("Acknowledged", kind == "PROBLEM" and now.taken_on is not None),
             ("FirstDelay", kind == "PROBLEM" and now.sent == 0 and self.moment < now.begin + 60 * it.delay),
             ("Interval", kind == "PROBLEM" and same and (now.last[2] == 0 or self.moment < now.last[1] + now.last[2])),
         ]
@@ -84,6 +109,8 @@ class Rules:
             return now.last[1] + now.last[2] if now.last[2] else None
         if stopped == "FirstDelay":
             return now.begin + 60 * it.delay
+        if stopped == "Acknowledged":
+            return None
         return self.next(it.period, self.moment) if stopped == "Period" else self.moment + 60
 
     def attempt(self, number, kind):
@@ -135,7 +162,7 @@ class Rules:
         elif kind in ("ENABLE_NOTIFICATIONS", "DISABLE_NOTIFICATIONS"):
             self.is_on = kind == "ENABLE_NOTIFICATIONS"
         else:
-            {"STATE": self.state, "DOWNTIME": self.downtime, "FLAPPING": self.flapping}[kind](number, word)
+            {"STATE": self.state, "DOWNTIME": self.downtime, "FLAPPING": self.flapping, "ACK": self.take_on}[kind](number, word)
         self.count += 1
 
     def clock(self):
@@ -146,6 +173,8 @@ class Rules:
     def state(self, number, word):
         now = self.statuses[number]
         before, now.state = now.state, word
+        if now.taken_on is not None and (word in GOOD or now.taken_on[0] == "NORMAL" and word != now.taken_on[1]):
+            now.taken_on = None
         if word in GOOD:
             if before not in NO_PROBLEM:
                 self.attempt(number, "RECOVERY")
@@ -153,6 +182,11 @@ class Rules:
         if before in NO_PROBLEM:
             now.begin, now.sent, now.last, now.ready = self.moment, 0, None, None
         self.attempt(number, "PROBLEM")
+
+    def take_on(self, number, word):
+        now = self.statuses[number]
+        if now.state not in NO_PROBLEM:
+            now.taken_on = (word, now.state)
 
     def downtime(self, number, word):
         now = self.statuses[number]

@@ -3,19 +3,19 @@ from rules import Rules
 
 
 class Lane:
-    def __init__(self):
+    def __init__(self, standbys):
         self.queue, self.hand, self.taken, self.undelivered = [], [], [], []
-        self.failures, self.asked, self.shut = 0, False, False
+        self.failures, self.standbys, self.asked, self.shut = 0, standbys, False, False
 
 
 class World:
-    def __init__(self, configuration, events, deciders, queue, tries):
+    def __init__(self, configuration, events, deciders, queue, tries, standbys):
         self.configuration, self.events = configuration, events
         self.most_queued, self.tries = queue, tries
         self.posted, self.decided = 0, [0] * deciders
         self.deciders = [Rules(configuration) for _ in range(deciders)]
         self.outboxes = [[[] for _ in configuration.lanes] for _ in range(deciders)]
-        self.lanes = [Lane() for _ in configuration.lanes]
+        self.lanes = [Lane(standbys) for _ in configuration.lanes]
 
     def number(self, word):
         is_decider = word.isascii() and word.isdigit() and int(word) < len(self.deciders)
@@ -39,7 +39,7 @@ class World:
                 return "BadStep"
             return None if self.put(decider, lane) else "NotEnabled"
         lane = self.lane(rest)
-        if name not in ("pick", "settle", "fail", "ask", "close", "drain") or lane is None:
+        if name not in ("pick", "settle", "fail", "ask", "replace", "close", "drain") or lane is None:
             return "BadStep"
         return None if getattr(self, name)(self.lanes[lane]) else "NotEnabled"
 
@@ -92,8 +92,15 @@ class World:
         lane.asked = True
         return True
 
+    def replace(self, lane):
+        if lane.shut or lane.asked or lane.failures < self.tries or not lane.standbys:
+            return False
+        lane.standbys -= 1
+        lane.failures = 0
+        return True
+
     def close(self, lane):
-        if lane.shut or not (lane.asked or lane.failures == self.tries):
+        if lane.shut or not (lane.asked or lane.failures == self.tries and not lane.standbys):
             return False
         lane.undelivered += lane.hand
         lane.hand, lane.shut = [], True

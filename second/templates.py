@@ -72,6 +72,34 @@ def is_dated(name):
     return name[0] in "0123456789" or words[0] in ["day", *MONTHS] or words[0] in DAYS and len(words) > 1
 
 
+def in_bounds(number, most, from_end=False):
+    """The number, or none where it is out of bounds."""
+    return number if 1 <= (abs(number) if from_end else number) <= most else None
+
+
+def rule_in(name):
+    """What the name of a dated line says: its class and its numbers; an empty rule, where it has a number that nothing has; none, where it
+    says something else."""
+    date = re.fullmatch("([0-9]{4})-([0-9]{1,2})-([0-9]{1,2})", name)
+    if date:
+        year, month, day = map(int, date.groups())
+        return (1, year, month, day) if in_bounds(month, 12) and in_bounds(day, 31) else ()
+    words = name.split(" ")
+    if len(words) not in (2, 3) or not re.fullmatch("-?[0-9]+", words[1]):
+        return None
+    number = int(words[1])
+    if len(words) == 2 and words[0] in ["day", *MONTHS]:
+        if not in_bounds(number, 31, True):
+            return ()
+        return (3, number) if words[0] == "day" else (2, MONTHS.index(words[0]) + 1, number)
+    if words[0] not in DAYS or len(words) == 3 and words[2] not in MONTHS:
+        return None
+    if not in_bounds(number, 5, True):
+        return ()
+    weekday = DAYS.index(words[0])
+    return (5, weekday, number) if len(words) == 2 else (4, weekday, number, MONTHS.index(words[2]) + 1)
+
+
 class Site:
     """All blocks of a text that mean something, by their places."""
 

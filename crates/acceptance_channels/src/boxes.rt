@@ -10,6 +10,7 @@ use channel_kinds::device_channel::DeviceChannel;
 use channel_kinds::mailbox::Mailbox;
 use channel_kinds::pager::Pager;
 use channel_kinds::spawned::Spawned;
+use channel_kinds::stream::{AnyOutlet, AnyStream};
 use std::alloc::Global;
 use std::io::{self, PipeReader, PipeWriter, Read};
 use std::process::Abort;
@@ -50,7 +51,10 @@ fn a_channel_in_memory(rt: HostRuntime) -> Result<(), Fail> {
 #[test]
 fn a_pager(rt: HostRuntime) -> Result<(), Fail> {
     let down = letter(rt.alloc(), DOWN)?;
-    let channel = DeviceChannel::new(rt.alloc(), Pager::new(Agreeing { reads: 0 }));
+    let channel = DeviceChannel::new(
+        rt.alloc(),
+        Pager::new(AnyStream::new(Agreeing { reads: 0 })),
+    );
     let mut channel: Box<dyn Channel> = Box::new(rt.alloc(), channel)?;
     drive(&rt, &mut channel, &down, Kind::Pager, 1_024);
     Ok(())
@@ -83,7 +87,7 @@ fn check_written(rt: &impl Abort, alloc: Global, mut reader: PipeReader) -> io::
 fn a_mailbox(rt: HostRuntime) -> Result<(), Fail> {
     let down = letter(rt.alloc(), DOWN)?;
     let (reader, writer) = io::pipe(&rt)?;
-    let channel = DeviceChannel::new(rt.alloc(), Mailbox::new(writer));
+    let channel = DeviceChannel::new(rt.alloc(), Mailbox::new(AnyOutlet::new(writer)));
     let mut channel: Box<dyn Channel> = Box::new(rt.alloc(), channel)?;
     drive(&rt, &mut channel, &down, Kind::Mailbox, 65_536);
     drop(channel);
@@ -92,13 +96,13 @@ fn a_mailbox(rt: HostRuntime) -> Result<(), Fail> {
 }
 
 /// A device of one of the three kinds.
-type OneOfThree<R> = AnyDevice<PipeWriter, Agreeing, R>;
+type OneOfThree<R> = AnyDevice<AnyOutlet<PipeWriter>, AnyStream<Agreeing>, R>;
 
 #[test]
 fn a_mailbox_as_one_of_three(rt: HostRuntime) -> Result<(), Fail> {
     let down = letter(rt.alloc(), DOWN)?;
     let (reader, writer) = io::pipe(&rt)?;
-    let device: OneOfThree<HostRuntime> = AnyDevice::Mailbox(Mailbox::new(writer));
+    let device: OneOfThree<HostRuntime> = AnyDevice::Mailbox(Mailbox::new(AnyOutlet::new(writer)));
     let channel = DeviceChannel::new(rt.alloc(), device);
     let mut channel: Box<dyn Channel> = Box::new(rt.alloc(), channel)?;
     drive(&rt, &mut channel, &down, Kind::Mailbox, 65_536);
@@ -110,7 +114,9 @@ fn a_mailbox_as_one_of_three(rt: HostRuntime) -> Result<(), Fail> {
 #[test]
 fn a_pager_as_one_of_three(rt: HostRuntime) -> Result<(), Fail> {
     let down = letter(rt.alloc(), DOWN)?;
-    let device: OneOfThree<HostRuntime> = AnyDevice::Pager(Pager::new(Agreeing { reads: 0 }));
+    let device: OneOfThree<HostRuntime> = AnyDevice::Pager(Pager::new(AnyStream::new(Agreeing {
+        reads: 0,
+    })));
     let channel = DeviceChannel::new(rt.alloc(), device);
     let mut channel: Box<dyn Channel> = Box::new(rt.alloc(), channel)?;
     drive(&rt, &mut channel, &down, Kind::Pager, 1_024);

@@ -8,6 +8,7 @@ use channel::letter::Letter;
 use channel::{Channel, Fault};
 use channel_kinds::device_channel::DeviceChannel;
 use channel_kinds::mailbox::Mailbox;
+use channel_kinds::stream::AnyOutlet;
 use std::alloc::{AllocError, Global};
 use std::io::Write;
 use std::process::Abort;
@@ -17,9 +18,12 @@ const CLOSED: &str = "-- closed\n";
 #[test]
 fn letter_bytes(rt: HostRuntime) -> Result<(), AllocError> {
     let down = letter(rt.alloc(), DOWN)?;
-    let mut mailbox = DeviceChannel::new(rt.alloc(), Mailbox::new(Vec::new(rt.alloc())));
+    let mut mailbox = DeviceChannel::new(
+        rt.alloc(),
+        Mailbox::new(AnyOutlet::new(Vec::new(rt.alloc()))),
+    );
     takes(&rt, &mut mailbox, &down);
-    let written = mailbox.into_device().close();
+    let written = mailbox.into_device().close().into_inner();
     check(&rt, written.len() == 89, "89 bytes");
     check(
         &rt,
@@ -32,7 +36,7 @@ fn letter_bytes(rt: HostRuntime) -> Result<(), AllocError> {
 /// A new mailbox takes the letter.
 fn takes<W: Write + Send + Drop>(
     rt: &impl Abort,
-    mailbox: &mut DeviceChannel<Mailbox<W>>,
+    mailbox: &mut DeviceChannel<Mailbox<AnyOutlet<W>>>,
     down: &Letter,
 ) {
     answers(rt, mailbox, down, Ok(()), "the letter is taken");
@@ -40,7 +44,11 @@ fn takes<W: Write + Send + Drop>(
 }
 
 /// Two letters, by one call and a flush each.
-fn two_letters(rt: &impl Abort, mailbox: &mut DeviceChannel<Mailbox<Device>>, letters: &Letters) {
+fn two_letters(
+    rt: &impl Abort,
+    mailbox: &mut DeviceChannel<Mailbox<AnyOutlet<Device>>>,
+    letters: &Letters,
+) {
     answers(rt, mailbox, &letters.down, Ok(()), "the first is taken");
     answers(rt, mailbox, &letters.up, Ok(()), "the second is taken");
     check(rt, has(mailbox, &[DOWN, UP], 0), "two receipts");
@@ -49,9 +57,12 @@ fn two_letters(rt: &impl Abort, mailbox: &mut DeviceChannel<Mailbox<Device>>, le
 #[test]
 fn letters_one_after_another(rt: HostRuntime) -> Result<(), AllocError> {
     let letters = Letters::new(rt.alloc())?;
-    let mut mailbox = DeviceChannel::new(rt.alloc(), Mailbox::new(Device::new(rt.alloc())));
+    let mut mailbox = DeviceChannel::new(
+        rt.alloc(),
+        Mailbox::new(AnyOutlet::new(Device::new(rt.alloc()))),
+    );
     two_letters(&rt, &mut mailbox, &letters);
-    let device = mailbox.into_device().close();
+    let device = mailbox.into_device().close().into_inner();
     check(
         &rt,
         are(&device.held, &[DOWN_TEXT, UP_TEXT, CLOSED]),
@@ -68,25 +79,25 @@ fn letters_one_after_another(rt: HostRuntime) -> Result<(), AllocError> {
 #[test]
 fn a_drop_writes_the_closing_line(rt: HostRuntime) {
     let mut device = Device::new(rt.alloc());
-    drop(Mailbox::new(&mut device));
+    drop(Mailbox::new(AnyOutlet::new(&mut device)));
     check(&rt, are(&device.held, &[CLOSED]), "the closing line");
 }
 
 /// A mailbox over this device is given a letter: what it answers, the failures before the close, and how many
 /// bytes of the letter and of the closing line the device holds at last.
 fn try_device(rt: &impl Abort, alloc: Global, device: Device, letter: &Letter, row: Row) {
-    let mut mailbox = DeviceChannel::new(alloc, Mailbox::new(device));
+    let mut mailbox = DeviceChannel::new(alloc, Mailbox::new(AnyOutlet::new(device)));
     answers(rt, &mut mailbox, letter, row.answer, "the answer");
     check(rt, keeps(&mailbox, row.answer), "what is kept");
     check(
         rt,
-        holds(&mailbox.into_device().close(), row),
+        holds(&mailbox.into_device().close().into_inner(), row),
         "what the device holds",
     );
 }
 
 /// Whether a mailbox keeps of one letter what this answer says.
-fn keeps(mailbox: &DeviceChannel<Mailbox<Device>>, answer: Result<(), Fault>) -> bool {
+fn keeps(mailbox: &DeviceChannel<Mailbox<AnyOutlet<Device>>>, answer: Result<(), Fault>) -> bool {
     if answer.is_ok() {
         has(mailbox, &[DOWN], 0)
     } else {
@@ -202,12 +213,12 @@ fn try_long(
     answer: Result<(), Fault>,
     written: usize,
 ) {
-    let mut mailbox = DeviceChannel::new(alloc, Mailbox::new(Vec::new(alloc)));
+    let mut mailbox = DeviceChannel::new(alloc, Mailbox::new(AnyOutlet::new(Vec::new(alloc))));
     answers(rt, &mut mailbox, letter, answer, "the answer");
     check(rt, mailbox.failures() == 0, "no failure");
     check(
         rt,
-        mailbox.into_device().close().len() == written,
+        mailbox.into_device().close().into_inner().len() == written,
         "how many bytes",
     );
 }

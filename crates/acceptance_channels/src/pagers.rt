@@ -8,13 +8,14 @@ use channel::letter::Letter;
 use channel::{Channel, Fault};
 use channel_kinds::device_channel::DeviceChannel;
 use channel_kinds::pager::Pager;
+use channel_kinds::stream::AnyStream;
 use std::alloc::{AllocError, Global};
 use std::process::Abort;
 
 const FAILED: Result<(), Fault> = Err(Fault::Device);
 
 /// The first letter is taken, the second is refused, and then none is.
-fn talk(rt: &impl Abort, pager: &mut DeviceChannel<Pager<Peer>>, letters: &Letters) {
+fn talk(rt: &impl Abort, pager: &mut DeviceChannel<Pager<AnyStream<Peer>>>, letters: &Letters) {
     answers(rt, pager, &letters.down, Ok(()), "the first is taken");
     answers(rt, pager, &letters.up, FAILED, "the second is refused");
     answers(rt, pager, &letters.up, FAILED, "the pager is over");
@@ -24,9 +25,12 @@ fn talk(rt: &impl Abort, pager: &mut DeviceChannel<Pager<Peer>>, letters: &Lette
 #[test]
 fn pager_dialogue(rt: HostRuntime) -> Result<(), AllocError> {
     let letters = Letters::new(rt.alloc())?;
-    let mut pager = DeviceChannel::new(rt.alloc(), Pager::new(Peer::new(rt.alloc(), b"OK\nNO\n")));
+    let mut pager = DeviceChannel::new(
+        rt.alloc(),
+        Pager::new(AnyStream::new(Peer::new(rt.alloc(), b"OK\nNO\n"))),
+    );
     talk(&rt, &mut pager, &letters);
-    let peer = pager.into_device().close();
+    let peer = pager.into_device().close().into_inner();
     let told = ["PAGE 79\n", DOWN_TEXT, "PAGE 78\n", UP_TEXT, "BYE\n"];
     check(&rt, are(&peer.told.held, &told), "what the peer is told");
     check(
@@ -40,7 +44,7 @@ fn pager_dialogue(rt: HostRuntime) -> Result<(), AllocError> {
 #[test]
 fn a_drop_writes_the_farewell(rt: HostRuntime) {
     let mut peer = Peer::new(rt.alloc(), b"");
-    drop(Pager::new(&mut peer));
+    drop(Pager::new(AnyStream::new(&mut peer)));
     check(&rt, are(&peer.told.held, &["BYE\n"]), "the farewell");
 }
 
@@ -52,16 +56,16 @@ fn try_peer(
     letter: &Letter,
     answer: Result<(), Fault>,
 ) -> Peer {
-    let mut pager = DeviceChannel::new(alloc, Pager::new(peer));
+    let mut pager = DeviceChannel::new(alloc, Pager::new(AnyStream::new(peer)));
     answers(rt, &mut pager, letter, answer, "the answer");
     try_again(rt, &mut pager, letter, answer);
-    pager.into_device().close()
+    pager.into_device().close().into_inner()
 }
 
 /// What is kept of the first letter; after a failure each letter is one failure more.
 fn try_again(
     rt: &impl Abort,
-    pager: &mut DeviceChannel<Pager<Peer>>,
+    pager: &mut DeviceChannel<Pager<AnyStream<Peer>>>,
     letter: &Letter,
     answer: Result<(), Fault>,
 ) {
@@ -159,7 +163,7 @@ fn a_stream_that_fails_when_written(rt: HostRuntime) -> Result<(), AllocError> {
 /// Gives a letter that is too long, and then one that just isn't.
 fn try_long(
     rt: &impl Abort,
-    pager: &mut DeviceChannel<Pager<Peer>>,
+    pager: &mut DeviceChannel<Pager<AnyStream<Peer>>>,
     too_long: &Letter,
     longest: &Letter,
 ) {
@@ -172,11 +176,14 @@ fn try_long(
 fn a_text_that_is_too_long(rt: HostRuntime) -> Result<(), AllocError> {
     let longest = long_letter(rt.alloc(), 1_024)?;
     let too_long = long_letter(rt.alloc(), 1_025)?;
-    let mut pager = DeviceChannel::new(rt.alloc(), Pager::new(Peer::new(rt.alloc(), b"OK\n")));
+    let mut pager = DeviceChannel::new(
+        rt.alloc(),
+        Pager::new(AnyStream::new(Peer::new(rt.alloc(), b"OK\n"))),
+    );
     try_long(&rt, &mut pager, &too_long, &longest);
     check(
         &rt,
-        pager.into_device().close().told.held.len() == 1_038,
+        pager.into_device().close().into_inner().told.held.len() == 1_038,
         "one page",
     );
     Ok(())

@@ -4,6 +4,7 @@ use crate::given::{DOWN, DOWN_TEXT, answers, are, check, has, letter};
 use channel::letter::Letter;
 use channel_kinds::device_channel::DeviceChannel;
 use channel_kinds::pager::Pager;
+use channel_kinds::stream::AnyStream;
 use std::alloc::Global;
 use std::io::{self, Read, Write};
 use std::net::{TcpListener, TcpStream};
@@ -25,7 +26,7 @@ fn serve(alloc: Global, listener: &TcpListener) -> io::Result<Vec<u8>> {
 
 /// Gives the letter to a pager over this stream, and lets go of it.
 fn page(rt: &impl Abort, alloc: Global, stream: TcpStream, letter: &Letter) {
-    let mut pager = DeviceChannel::new(alloc, Pager::new(stream));
+    let mut pager = DeviceChannel::new(alloc, Pager::new(AnyStream::new(stream)));
     answers(rt, &mut pager, letter, Ok(()), "the letter is taken");
     check(rt, has(&pager, &[DOWN], 0), "its receipt");
 }

@@ -1,9 +1,12 @@
-//! Tests of what the commands write, over readers and writers in memory. There is no code here.
+//! Tests of what the commands write over readers and writers in memory: pieces of an input, writers that fail, and what is written before
+//! the reader is called for more. There is no code here.
 #![tactic(auto)]
 
 #[cfg(test)]
-mod files;
-#[cfg(test)]
 mod replays;
 #[cfg(test)]
-mod traces;
+mod reports;
+#[cfg(test)]
+mod watchers;
+#[cfg(test)]
+mod writers;

@@ -2,12 +2,10 @@
 
 ghost use Rattle.std.specs.Prelude.{IsErrOf};
 
+use crate::writers::{Counting, Stubborn};
 use acceptance_inputs::readers::{self, Watching};
 use acceptance_inputs::texts::input;
-use acceptance_writers::{Counting, Stubborn};
 use command_output::{CommandFault, Ending};
-use object_load_faults::fault::{BlockFault, LoadFault};
-use object_reader::fault::LineFault;
 use replay::replay;
 use std::alloc::Global;
 use std::cell::Cell;
@@ -46,105 +44,6 @@ fn gives_of<R: Read + Drop>(
     let mut out = Vec::new(alloc);
     ends(rt, alloc, reader, &mut out, ending, name);
     is_written(rt, out.as_slice(), report, name);
-}
-
-/// Replays BASE with this feed, and compares what is written and how it ends.
-fn gives(rt: &impl Abort, alloc: Global, example: Example) -> Result<(), Fail> {
-    let (feed, report, ending) = example;
-    let text = input(alloc, feed)?;
-    gives_of(rt, alloc, text.as_bytes(), report, ending, feed);
-    Ok(())
-}
-
-/// A feed, what is written, and how it ends.
-type Example = (&'static str, &'static str, Ending);
-
-const ONE_HOST_DOWN: Example = (
-    "[1000] HOST_STATE;web;DOWN\n",
-    "N;0;1000;web;PROBLEM;DOWN;1;ann;mail\n",
-    Ending::Whole,
-);
-
-#[test]
-fn one_host_down(rt: HostRuntime) -> Result<(), Fail> {
-    gives(&rt, rt.alloc(), ONE_HOST_DOWN)
-}
-
-const FEEDS: [Example; 6] = [
-    ("", "", Ending::Whole),
-    (
-        "[1000] HOST_STATE;web;DOWN\n[1059] CLOCK\n[1060] CLOCK\n",
-        "N;0;1000;web;PROBLEM;DOWN;1;ann;mail\nN;2;1060;web;PROBLEM;DOWN;2;ann;mail\n",
-        Ending::Whole,
-    ),
-    (
-        "[1000] HOST_STATE;web;DOWN\n[1030] HOST_STATE;web;DOWN\n[1059] CLOCK\n[1060] CLOCK\n",
-        "N;0;1000;web;PROBLEM;DOWN;1;ann;mail\nS;1;1030;web;PROBLEM;DOWN;Interval\nN;3;1060;web;PROBLEM;DOWN;2;ann;mail\n",
-        Ending::Whole,
-    ),
-    (
-        "[1000] DISABLE_NOTIFICATIONS\n[1000] HOST_STATE;web;DOWN\n[1005] ENABLE_NOTIFICATIONS\n[1010] HOST_STATE;web;UP\n",
-        "S;1;1000;web;PROBLEM;DOWN;Program\nS;3;1010;web;RECOVERY;UP;NoProblem\n",
-        Ending::Whole,
-    ),
-    (
-        "[1000] HOST_STATE;web;DOWN\n[990] HOST_STATE;web;UP\n[10",
-        "N;0;1000;web;PROBLEM;DOWN;1;ann;mail\nN;1;1000;web;RECOVERY;UP;2;ann;mail\nR;3;Cut\n",
-        Ending::Short,
-    ),
-    (
-        "[x] CLOCK\n[1] NOPE\n[1] HOST_STATE;db;DOWN\n[1] HOST_STATE;web;CRITICAL\n[32503680000] CLOCK\n",
-        "R;1;BadStamp\nR;2;UnknownKind\nR;3;UnknownObject\nR;4;BadState\nR;5;BadStamp\n",
-        Ending::Whole,
-    ),
-];
-
-#[test]
-fn worked_feeds(rt: HostRuntime) -> Result<(), Fail> {
-    for example in &FEEDS {
-        gives(&rt, rt.alloc(), *example)?;
-    }
-    Ok(())
-}
-
-/// An object text, and its fault.
-type Refused = (&'static str, LoadFault);
-
-const REFUSED: [Refused; 2] = [
-    (
-        "define host{\n host_name web\n",
-        LoadFault::Line {
-            line: 1,
-            fault: LineFault::Unclosed,
-        },
-    ),
-    (
-        "\ndefine host{\n contacts ann\n}\n",
-        LoadFault::Block {
-            line: 2,
-            fault: BlockFault::MissingDirective,
-        },
-    ),
-];
-
-/// Nothing is replayed, and nothing is written.
-fn is_refused(rt: &impl Abort, alloc: Global, refused: Refused) {
-    let (text, fault) = refused;
-    let mut out = Vec::new(alloc);
-    let ended = replay(alloc, text.as_bytes(), &mut out);
-    assert_eq!(rt;
-        (ended, out.is_empty()),
-        (Err(CommandFault::Objects(fault)), true),
-        "{text}"
-    );
-}
-
-#[test]
-fn refused_objects(rt: HostRuntime) -> Result<(), Fail> {
-    for refused in &REFUSED {
-        is_refused(&rt, rt.alloc(), *refused);
-    }
-    Ok(())
 }
 
 /// Replays a text in pieces of several sizes.

@@ -82,21 +82,34 @@ fn state_name(number: u64) -> &'static str {
     }
 }
 
+/// Adds what is said of a host, where there is one.
+fn add_host(
+    text: &mut String,
+    host: Option<&Host>,
+    command: &str,
+    word: &str,
+) -> Result<(), AllocError> {
+    match host {
+        None => text.push_str("CLOCK\n"),
+        Some(host) => {
+            let name = host.name;
+            write!(text, "{command};{name};{word}\n")
+        }
+    }
+}
+
 /// Adds a line of the feed after its stamp.
 fn add_line(text: &mut String, hosts: &[Host], numbers: &mut Numbers) -> Result<(), AllocError> {
-    let host = numbers.next();
+    let number = numbers.next();
+    let host = hosts.get(number as usize % hosts.len().max(1));
     let state = state_name(numbers.next());
-    match numbers.next() % 12 {
+    match numbers.next() % 14 {
         0 => text.push_str("DISABLE_NOTIFICATIONS\n"),
         1 | 2 => text.push_str("ENABLE_NOTIFICATIONS\n"),
         3..=6 => text.push_str("CLOCK\n"),
-        _ => match hosts.get(host as usize % hosts.len().max(1)) {
-            None => text.push_str("CLOCK\n"),
-            Some(host) => {
-                let name = host.name;
-                write!(text, "HOST_STATE;{name};{state}\n")
-            }
-        },
+        7 => add_host(text, host, "HOST_ACK", "STICKY"),
+        8 => add_host(text, host, "HOST_ACK", "NORMAL"),
+        _ => add_host(text, host, "HOST_STATE", state),
     }
 }
 
@@ -162,8 +175,8 @@ fn events_of(
 struct Counts {
     problems: usize,
     recoveries: usize,
-    /// Suppressions by Program, NoProblem and Interval.
-    stopped: [usize; 3],
+    /// Suppressions by Program, NoProblem, Acknowledged and Interval.
+    stopped: [usize; 4],
 }
 
 impl Counts {
@@ -179,7 +192,8 @@ impl Counts {
             let place = match suppression.filter {
                 Filter::Program => 0,
                 Filter::NoProblem => 1,
-                _ => 2,
+                Filter::Acknowledged => 2,
+                _ => 3,
             };
             self.stopped[place] = self.stopped[place].saturating_add(1);
         }
@@ -230,7 +244,7 @@ fn compare_seeds(
     let mut counts = Counts {
         problems: 0,
         recoveries: 0,
-        stopped: [0; 3],
+        stopped: [0; 4],
     };
     for seed in 0..SEEDS {
         let events = seed_events(rt, alloc, config, hosts, seed, step)?;

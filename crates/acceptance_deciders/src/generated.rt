@@ -1,7 +1,7 @@
 //! Generated configurations and events, with services, disabled objects, periods that exclude others, escalations of
-//! some letters, dependencies, contacts restricted for hosts and for services, downtimes and flapping. On each, the
-//! slow program, one decider, and two, three and eight say the same; what was due or suppressed after some of the
-//! events is the front of that after all of them, and no notice stands twice.
+//! some letters, dependencies, contacts restricted for hosts and for services, downtimes, flapping and
+//! acknowledgements. On each, the slow program, one decider, and two, three and eight say the same; what was due or
+//! suppressed after some of the events is the front of that after all of them, and no notice stands twice.
 
 ghost use Rattle.std.specs.Prelude.{◌<◌, ◌≤◌, All, length};
 ghost use Rattle.due_model.specs.Accepted.{IsAccepted};
@@ -35,7 +35,7 @@ const EVENTS: u64 = 24;
 const OBJECTS: u16 = 5;
 
 /// How many filters there are.
-const FILTERS: usize = 13;
+const FILTERS: usize = 14;
 
 /// How many commands each has.
 const LANES: u8 = 2;
@@ -288,11 +288,12 @@ impl Numbers {
     /// What an event says.
     fn event(&mut self) -> EventKind {
         let object = self.below(u64::from(OBJECTS)) as u16;
-        match self.below(16) {
+        match self.below(18) {
             0 => EventKind::Program(!self.once_in(3)),
             1 => EventKind::Flapping(ObjectId(object), self.once_in(2)),
             2 | 3 => self.downtime(object),
             4..=8 => EventKind::Clock,
+            9 | 10 => EventKind::Ack(ObjectId(object), self.once_in(2)),
             _ => self.hard(object),
         }
     }

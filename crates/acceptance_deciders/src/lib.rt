@@ -13,4 +13,6 @@ mod generated;
 #[cfg(test)]
 mod numbers;
 #[cfg(test)]
+mod refused;
+#[cfg(test)]
 mod said;

@@ -1,11 +1,14 @@
 //! What a decider says of some events.
 
-ghost use Rattle.std.specs.Prelude.{All};
+ghost use Rattle.std.specs.Prelude.{◌≡◌, ◌∷◌, All, List, OnOk, length};
+ghost use Rattle.due_model.specs.declared.event.Event.{Event};
 ghost use Rattle.due_model.specs.Accepted.{IsAccepted};
 ghost use Rattle.due_model.specs.Proper.{IsProper};
+ghost use Rattle.decider.specs.Fits.{Fits, kept, settings};
+ghost use Rattle.decider.specs.Outbox.{lists};
 ghost use Rattle.decider.specs.Share.{IsShare};
 
-use decider::{Decider, Outbox, Share};
+use decider::{DecideFault, Decider, Outbox, Share};
 use due_model::config::{Config, LaneId, ObjectId};
 use due_model::event::Event;
 use due_model::notice::{Notice, Suppression};
@@ -18,6 +21,22 @@ pub(crate) const LANES: u8 = 2;
 
 /// More notices than wait for a lane.
 const MANY: u32 = 100_000;
+
+/// Decides an event, and once more where its growth was refused: then nothing has changed.
+fn decide(decider: &mut Decider<'_>, event: Event, outbox: &mut Outbox) -> Result<(), DecideFault>
+    requires proper { IsProper (kept decider.old).config event }
+    requires fits { (past : List Event) × Fits (kept decider.old) past }
+    requires lanes { length (lists outbox.old) ≡ length (kept decider.old).config.lanes }
+    ensures fits { OnOk result ((past : List Event)
+        → Fits (kept decider.old) past → Fits (kept decider.new) (event ∷ past)) }
+    ensures settings { settings (kept decider.new) ≡ settings (kept decider.old) }
+    ensures lanes { length (lists outbox.new) ≡ length (lists outbox.old) }
+{
+    match decider.decide(event, outbox) {
+        Err(DecideFault::NoMemory) => decider.decide(event, outbox),
+        decided => decided,
+    }
+}
 
 /// The decider of these objects and its outbox after these events.
 fn decided<'a>(
@@ -34,7 +53,7 @@ fn decided<'a>(
     let mut outbox = Outbox::new(alloc, config.lanes.len())?;
     let mut decider = Decider::new(alloc, config, zone, share)?;
     for event in events {
-        decider.decide(*event, &mut outbox)?;
+        decide(&mut decider, *event, &mut outbox)?;
     }
     Ok((decider, outbox))
 }

@@ -77,8 +77,9 @@ const NEXT_PROBLEM: [Step; 10] = [
     (1120, Told::Hard(State::Down), 1, None),
 ];
 
-/// When a problem is attempted again after each filter; never, where its period never holds or an interval is 0.
-const EACH_FILTER: [Step; 12] = [
+/// When a problem is attempted again after each filter; never, where it is acknowledged, its period never holds or an interval
+/// is 0.
+const EACH_FILTER: [Step; 13] = [
     (1000, Told::Hard(State::Down), 1, None),
     (1000, Told::Stopped(Filter::Program, Some(7)), 1, Some(1060)),
     (1010, Told::Stopped(Filter::Disabled, None), 1, Some(1070)),
@@ -101,6 +102,7 @@ const EACH_FILTER: [Step; 12] = [
         1,
         Some(1110),
     ),
+    (1055, Told::Stopped(Filter::Acknowledged, Some(7)), 1, None),
     (1060, Told::Stopped(Filter::Period, None), 1, None),
     (
         1070,

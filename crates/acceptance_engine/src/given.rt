@@ -1,30 +1,90 @@
 //! Configurations and feeds that runs are tested with, and what they leave.
 
 use acceptance_inputs::accepted::is_accepted;
-use acceptance_inputs::configs::base;
-use due_model::config::{Config, Contact, Lane, LaneId, Rights};
+use acceptance_inputs::rows::{ContactRow, ObjectRow, Rows, config_of};
+use channel::Channel;
+use channel::memory::MemoryChannel;
+use due_model::config::{Config, ContactId, LaneId};
 use due_model::notice::Notice;
-use due_model::options::OptionLetters;
-use due_model::sequence::Sequence;
-use due_model::short_list::Text;
 use due_model::zone::Zone;
-use engine::{Engine, LaneEnd, Post, RunEnd, Settings};
+use engine::{Closers, Engine, Gate, LaneEnd, OpenGate, Post, RunEnd, Settings, are_few};
 use std::alloc::{AllocError, Global};
 use std::process::Abort;
+use std::sync::Wait;
+use std::thread::Threads;
 use undelivered::Why;
 
-/// The end of a run of a configuration over a feed, with a queue of one notice.
-pub(crate) fn run(
-    rt: &impl Abort,
+/// The greatest length of a letter's text.
+const LIMIT: u64 = 65_536;
+
+/// How many deciders a run has, and how often it tries a letter. The queue of each lane holds one notice.
+#[derive(Clone, Copy)]
+pub(crate) struct How {
+    pub(crate) deciders: u8,
+    pub(crate) tries: u8,
+}
+
+impl How {
+    /// One decider and three tries.
+    pub(crate) const PLAIN: How = How {
+        deciders: 1,
+        tries: 3,
+    };
+}
+
+/// The end of a run of a configuration over a feed.
+pub(crate) fn run<G: Gate + Sync, R: Abort + Threads + Wait + Sync>(
+    rt: &R,
     alloc: Global,
     config: &Config,
     feed: &[u8],
     posts: Vec<Post>,
-    tries: u8,
+    how: How,
+    closers: &Closers,
+    gate: &G,
 ) -> RunEnd {
     assert!(rt; is_accepted(config), "the configuration is accepted");
-    let settings = Settings::new(1, 1, tries).expect(rt, "settings in range");
-    Engine::run(alloc, config, &Zone::Utc, feed, posts, settings)
+    assert!(rt; are_few(&posts), "no lane has too many channels");
+    let settings = Settings::new(how.deciders, 1, how.tries).expect(rt, "settings in range");
+    Engine::run(
+        rt,
+        alloc,
+        config,
+        &Zone::Utc,
+        feed,
+        posts,
+        settings,
+        closers,
+        gate,
+    )
+}
+
+/// A channel in memory for each lane, which fails at the calls that are listed for it.
+pub(crate) fn in_memory(alloc: Global, fails: &[&[u64]]) -> Result<Vec<Post>, AllocError> {
+    let mut posts = Vec::new(alloc);
+    for (lane, fails) in (0..=u8::MAX).zip(fails) {
+        let channel = MemoryChannel::new(alloc, LIMIT, fails)?;
+        let channel: Box<dyn Channel> = Box::new(alloc, channel)?;
+        posts.push(Post {
+            lane: LaneId(lane),
+            channel,
+        })?;
+    }
+    Ok(posts)
+}
+
+/// The end of a run that nobody asks to close a lane, and that no gate holds back, where each lane has a channel in memory.
+pub(crate) fn run_in_memory<R: Abort + Threads + Wait + Sync>(
+    rt: &R,
+    alloc: Global,
+    config: &Config,
+    feed: &[u8],
+    fails: &[&[u64]],
+    how: How,
+) -> Result<RunEnd, AllocError> {
+    let posts = in_memory(alloc, fails)?;
+    let closers = Closers::new(alloc, (config.lanes.len() % 256) as u8)?;
+    Ok(run(rt, alloc, config, feed, posts, how, &closers, &OpenGate))
 }
 
 /// The feed was read to its end, and gave so many events and refused lines.
@@ -37,14 +97,32 @@ pub(crate) fn has_read(rt: &impl Abort, end: &RunEnd, events: usize, refused: us
     );
 }
 
-/// Whether these are notices of each event from one number to another.
-fn are_of_events(notices: &[Notice], from: u64, to: u64) -> bool {
+/// The number after that of the last of these notices, where they are of each event from one number on.
+fn event_after(notices: &[Notice], from: u64) -> Option<u64> {
     let mut next = from;
     for notice in notices {
         if notice.event != next {
-            return false;
+            return None;
         }
         next = next.saturating_add(1);
+    }
+    Some(next)
+}
+
+/// Whether these are notices of each event from one number to another.
+pub(crate) fn are_of_events(notices: &[Notice], from: u64, to: u64) -> bool {
+    event_after(notices, from) == Some(to)
+}
+
+/// Whether what the channels of a lane have taken, one after another, are the notices of each event from one number to another.
+fn has_taken_events(lane: &LaneEnd, from: u64, to: u64) -> bool {
+    let mut next = from;
+    for number in 0..lane.served() {
+        let taken = lane.record(number).unwrap_or(&[]);
+        match event_after(taken, next) {
+            Some(after) => next = after,
+            None => return false,
+        }
     }
     next == to
 }
@@ -56,7 +134,7 @@ pub(crate) fn leaves(rt: &impl Abort, end: &RunEnd, lane: u8, taken: u64, all: u
     let left = found.expect(rt, "the lane is there");
     assert!(rt; left.lane() == LaneId(lane), "the number of lane {lane}");
     assert!(rt;
-        are_of_events(left.taken(), 0, taken),
+        has_taken_events(left, 0, taken),
         "what lane {lane} has taken"
     );
     assert!(rt;
@@ -77,43 +155,64 @@ pub(crate) fn flips(alloc: Global, count: u64) -> Result<Vec<u8>, AllocError> {
     Ok(feed)
 }
 
-/// Notified of everything on both lanes.
-fn on_both(alloc: Global) -> Result<Rights, AllocError> {
-    let lanes = Sequence::new(Vec::from_slice(alloc, &[LaneId(0), LaneId(1)])?);
-    Ok(Rights {
-        enabled: true,
-        options: OptionLetters::ALL,
-        period: None,
-        lanes,
-    })
-}
+/// Ann, notified of everything by mail and by pager.
+const ANN: ContactRow = ContactRow {
+    name: "ann",
+    lanes: &[LaneId(0), LaneId(1)],
+    ..ContactRow::FREE
+};
 
-fn contacts(alloc: Global) -> Result<Vec<Contact>, AllocError> {
-    let name = Text::new(alloc, b"ann")?;
-    let hosts = on_both(alloc)?;
-    let services = on_both(alloc)?;
-    let mut made = Vec::new(alloc);
-    made.push(Contact {
+/// A host of this name, of which Ann is told.
+const fn host(name: &'static str) -> ObjectRow {
+    ObjectRow {
         name,
-        hosts,
-        services,
-    })?;
-    Ok(made)
-}
-
-fn lanes(alloc: Global) -> Result<Vec<Lane>, AllocError> {
-    let mail = Text::new(alloc, b"mail")?;
-    let pager = Text::new(alloc, b"pager")?;
-    let mut made = Vec::new(alloc);
-    made.push(Lane { name: mail })?;
-    made.push(Lane { name: pager })?;
-    Ok(made)
+        interval: 1,
+        contacts: &[ContactId(0)],
+        ..ObjectRow::PLAIN
+    }
 }
 
 /// One host, whose contact is told by mail and by pager.
 pub(crate) fn on_two_lanes(alloc: Global) -> Result<Config, AllocError> {
-    let mut config = base(alloc)?;
-    config.contacts = Sequence::new(contacts(alloc)?);
-    config.lanes = Sequence::new(lanes(alloc)?);
-    Ok(config)
+    config_of(
+        alloc,
+        Rows {
+            lanes: 2,
+            contacts: &[ANN],
+            objects: &[host("web")],
+            ..Rows::NONE
+        },
+    )
+}
+
+/// The names of five hosts.
+const NAMES: [&str; 5] = ["web", "db", "mail", "dns", "time"];
+
+/// Five hosts, whose contact is told by mail and by pager; of the fourth nobody is notified.
+pub(crate) fn five_hosts(alloc: Global) -> Result<Config, AllocError> {
+    let silent = ObjectRow {
+        enabled: false,
+        ..host("dns")
+    };
+    config_of(
+        alloc,
+        Rows {
+            lanes: 2,
+            contacts: &[ANN],
+            objects: &[host("web"), host("db"), host("mail"), silent, host("time")],
+            ..Rows::NONE
+        },
+    )
+}
+
+/// The lines of five hosts that are down one after another, and then up, and so on, so many: event i at moment i.
+pub(crate) fn rounds(alloc: Global, count: u64) -> Result<Vec<u8>, AllocError> {
+    let mut feed = Vec::new(alloc);
+    for moment in 0..count {
+        let state = if (moment / 5) % 2 == 0 { "DOWN" } else { "UP" };
+        let name = NAMES[(moment % 5) as usize];
+        let line = format!(in alloc; "[{moment}] HOST_STATE;{name};{state}\n")?;
+        feed.extend_from_slice(line.as_bytes())?;
+    }
+    Ok(feed)
 }

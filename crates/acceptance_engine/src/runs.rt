@@ -1,47 +1,19 @@
 //! Runs of the worked examples: what each lane has taken, what it gave up, and why it is closed.
 
-use crate::given::{flips, has_read, leaves, on_two_lanes, run};
+use crate::gates::{DecidersMeet, LanesMeet, Meeting};
+use crate::given::{How, flips, has_read, in_memory, leaves, on_two_lanes, run, run_in_memory};
 use acceptance_inputs::configs::base;
-use channel::Channel;
-use channel::memory::MemoryChannel;
-use due_model::config::{Config, LaneId};
-use engine::{Post, RunEnd};
-use std::alloc::{AllocError, Global};
+use engine::Closers;
 use std::process::Abort;
 use std::test::Fail;
 use undelivered::Why;
-
-/// The greatest length of a letter's text.
-const LIMIT: u64 = 65_536;
-
-/// The end of a run in which each lane has a channel in memory, which fails at the calls that are listed for it.
-fn run_in_memory(
-    rt: &impl Abort,
-    alloc: Global,
-    config: &Config,
-    feed: &[u8],
-    fails: &[&[u64]],
-    tries: u8,
-) -> Result<RunEnd, AllocError> {
-    let mut posts = Vec::new(alloc);
-    for (lane, fails) in (0..=u8::MAX).zip(fails) {
-        let channel = MemoryChannel::new(alloc, LIMIT, fails)?;
-        let channel: Box<dyn Channel> = Box::new(alloc, channel)?;
-        posts.push(Post {
-            lane: LaneId(lane),
-            channel,
-        })?;
-    }
-    Ok(run(rt, alloc, config, feed, posts, tries))
-}
 
 /// A lane without a channel gives all up.
 #[test]
 fn no_channel(rt: HostRuntime) -> Result<(), Fail> {
     let config = base(rt.alloc())?;
-    let posts = Vec::new(rt.alloc());
     let feed = b"[1000] HOST_STATE;web;DOWN\n".as_slice();
-    let end = run(&rt, rt.alloc(), &config, feed, posts, 3);
+    let end = run_in_memory(&rt, rt.alloc(), &config, feed, &[], How::PLAIN)?;
     has_read(&rt, &end, 1, 0);
     leaves(&rt, &end, 0, 0, 1, Why::NoChannel);
     Ok(())
@@ -52,7 +24,11 @@ fn no_channel(rt: HostRuntime) -> Result<(), Fail> {
 fn failing_device(rt: HostRuntime) -> Result<(), Fail> {
     let config = base(rt.alloc())?;
     let feed = flips(rt.alloc(), 5)?;
-    let end = run_in_memory(&rt, rt.alloc(), &config, feed.as_slice(), &[&[3, 4]], 2)?;
+    let how = How {
+        deciders: 1,
+        tries: 2,
+    };
+    let end = run_in_memory(&rt, rt.alloc(), &config, feed.as_slice(), &[&[3, 4]], how)?;
     has_read(&rt, &end, 5, 0);
     leaves(&rt, &end, 0, 2, 5, Why::Failed);
     Ok(())
@@ -63,21 +39,16 @@ fn failing_device(rt: HostRuntime) -> Result<(), Fail> {
 fn device_that_recovers(rt: HostRuntime) -> Result<(), Fail> {
     let config = base(rt.alloc())?;
     let feed = flips(rt.alloc(), 5)?;
-    let end = run_in_memory(&rt, rt.alloc(), &config, feed.as_slice(), &[&[3, 4]], 3)?;
+    let end = run_in_memory(
+        &rt,
+        rt.alloc(),
+        &config,
+        feed.as_slice(),
+        &[&[3, 4]],
+        How::PLAIN,
+    )?;
     has_read(&rt, &end, 5, 0);
     leaves(&rt, &end, 0, 5, 5, Why::FeedOver);
-    Ok(())
-}
-
-/// A thousand events on two lanes.
-#[test]
-fn thousand_flips(rt: HostRuntime) -> Result<(), Fail> {
-    let config = on_two_lanes(rt.alloc())?;
-    let feed = flips(rt.alloc(), 1_000)?;
-    let end = run_in_memory(&rt, rt.alloc(), &config, feed.as_slice(), &[&[], &[]], 3)?;
-    has_read(&rt, &end, 1_000, 0);
-    leaves(&rt, &end, 0, 1_000, 1_000, Why::FeedOver);
-    leaves(&rt, &end, 1, 1_000, 1_000, Why::FeedOver);
     Ok(())
 }
 
@@ -86,9 +57,90 @@ fn thousand_flips(rt: HostRuntime) -> Result<(), Fail> {
 fn one_of_two_lanes_fails(rt: HostRuntime) -> Result<(), Fail> {
     let config = on_two_lanes(rt.alloc())?;
     let feed = flips(rt.alloc(), 6)?;
-    let end = run_in_memory(&rt, rt.alloc(), &config, feed.as_slice(), &[&[1], &[]], 1)?;
+    let how = How {
+        deciders: 2,
+        tries: 1,
+    };
+    let end = run_in_memory(&rt, rt.alloc(), &config, feed.as_slice(), &[&[1], &[]], how)?;
     has_read(&rt, &end, 6, 0);
     leaves(&rt, &end, 0, 0, 6, Why::Failed);
     leaves(&rt, &end, 1, 6, 6, Why::FeedOver);
+    Ok(())
+}
+
+/// A thousand events on two lanes.
+#[test]
+fn thousand_flips(rt: HostRuntime) -> Result<(), Fail> {
+    let config = on_two_lanes(rt.alloc())?;
+    let feed = flips(rt.alloc(), 1_000)?;
+    let end = run_in_memory(
+        &rt,
+        rt.alloc(),
+        &config,
+        feed.as_slice(),
+        &[&[], &[]],
+        How::PLAIN,
+    )?;
+    has_read(&rt, &end, 1_000, 0);
+    leaves(&rt, &end, 0, 1_000, 1_000, Why::FeedOver);
+    leaves(&rt, &end, 1, 1_000, 1_000, Why::FeedOver);
+    Ok(())
+}
+
+/// The same where each notice waits for the one of the other lane: lanes deliver at the same time.
+#[test]
+fn thousand_flips_of_lanes_that_meet(rt: HostRuntime) -> Result<(), Fail> {
+    let config = on_two_lanes(rt.alloc())?;
+    let feed = flips(rt.alloc(), 1_000)?;
+    let posts = in_memory(rt.alloc(), &[&[], &[]])?;
+    let closers = Closers::new(rt.alloc(), 2)?;
+    let gate = LanesMeet {
+        meeting: Meeting::new(rt.alloc(), 2)?,
+    };
+    let end = run(
+        &rt,
+        rt.alloc(),
+        &config,
+        feed.as_slice(),
+        posts,
+        How::PLAIN,
+        &closers,
+        &gate,
+    );
+    assert!(&rt; gate.meeting.went(1_000), "the lanes have met");
+    has_read(&rt, &end, 1_000, 0);
+    leaves(&rt, &end, 0, 1_000, 1_000, Why::FeedOver);
+    leaves(&rt, &end, 1, 1_000, 1_000, Why::FeedOver);
+    Ok(())
+}
+
+/// The same where each turn of a decider waits for that of the other: deciders decide at the same time.
+#[test]
+fn thousand_flips_of_deciders_that_meet(rt: HostRuntime) -> Result<(), Fail> {
+    let config = on_two_lanes(rt.alloc())?;
+    let feed = flips(rt.alloc(), 1_000)?;
+    let posts = in_memory(rt.alloc(), &[&[], &[]])?;
+    let closers = Closers::new(rt.alloc(), 2)?;
+    let gate = DecidersMeet {
+        meeting: Meeting::new(rt.alloc(), 2)?,
+    };
+    let how = How {
+        deciders: 2,
+        tries: 3,
+    };
+    let end = run(
+        &rt,
+        rt.alloc(),
+        &config,
+        feed.as_slice(),
+        posts,
+        how,
+        &closers,
+        &gate,
+    );
+    assert!(&rt; gate.meeting.went(1_000), "the deciders have met");
+    has_read(&rt, &end, 1_000, 0);
+    leaves(&rt, &end, 0, 1_000, 1_000, Why::FeedOver);
+    leaves(&rt, &end, 1, 1_000, 1_000, Why::FeedOver);
     Ok(())
 }

@@ -1,93 +1,22 @@
-//! The feed against its rules, line by line and in any pieces.
+//! A feed in any pieces, up to each of its ends. What each line gives is seen through the program.
 
 use acceptance_inputs::readers::{Exes, Pieces, in_pieces};
-use acceptance_inputs::rows::{ObjectRow, Rows, config_of};
-use due_model::config::{Config, ObjectId};
+use acceptance_inputs::rows::{Rows, config_of};
+use due_model::config::Config;
 use due_model::event::{Event, EventKind};
-use due_model::state::State;
-use event_feed::{FeedFault, Feeder, read_line, stop_fault};
+use event_feed::{FeedFault, Feeder, stop_fault};
 use std::alloc::{AllocError, Global};
 use std::io::Read;
 use std::process::Abort;
 use std::test::Fail;
 use text_lines::{AnyReader, Input, LineReader, NextLine, Stop};
 
-/// What a line gives.
-type Given = Result<Event, FeedFault>;
-
 /// The number of a line, and what it gives.
-type Answer = (u64, Given);
+type Answer = (u64, Result<Event, FeedFault>);
 
-/// A line, and what it gives.
-pub(crate) type Row = (&'static str, Given);
-
-/// What stands after the stamp of a line, and what happened by it.
-pub(crate) type Said = (&'static str, Result<EventKind, FeedFault>);
-
-/// The objects.
-const OBJECTS: [ObjectRow; 5] = [
-    ObjectRow {
-        name: "web",
-        ..ObjectRow::PLAIN
-    },
-    ObjectRow {
-        name: "my host",
-        ..ObjectRow::PLAIN
-    },
-    ObjectRow {
-        name: "disk",
-        host: Some(ObjectId(0)),
-        ..ObjectRow::PLAIN
-    },
-    ObjectRow {
-        name: "Größe von /var",
-        host: Some(ObjectId(1)),
-        ..ObjectRow::PLAIN
-    },
-    ObjectRow {
-        name: "bücher",
-        ..ObjectRow::PLAIN
-    },
-];
-
-/// The configuration of these objects.
+/// A configuration without objects.
 fn config(alloc: Global) -> Result<Config, AllocError> {
-    config_of(
-        alloc,
-        Rows {
-            objects: &OBJECTS,
-            ..Rows::NONE
-        },
-    )
-}
-
-/// Compares what one line gives.
-fn line_gives(rt: &impl Abort, config: &Config, line: &[u8], given: Given) {
-    assert_eq!(rt; read_line(config, line), given, "{line:?}");
-}
-
-/// Compares what each line of a table gives.
-fn lines_give(rt: &impl Abort, config: &Config, rows: &[Row]) {
-    for row in rows {
-        let (line, given) = *row;
-        line_gives(rt, config, line.as_bytes(), given);
-    }
-}
-
-/// Compares what the lines of a table say, each with one stamp.
-fn commands_say(
-    rt: &impl Abort,
-    alloc: Global,
-    config: &Config,
-    rows: &[Said],
-) -> Result<(), AllocError> {
-    for row in rows {
-        let (command, said) = *row;
-        let line = format!(in alloc; "[1] {command}")?;
-        let kind = read_line(config, line.as_bytes()).map(|event| event.kind);
-        assert_eq!(rt; kind, said, "{command}");
-    }
-    Ok(())
+    config_of(alloc, Rows::NONE)
 }
 
 /// The next answer of a feed, if it isn't over.
@@ -132,197 +61,6 @@ fn gives<R: Read + Drop>(
     answers_are(rt, config, &mut feeder, answers);
     is_over(rt, config, &mut feeder, why);
     Ok(())
-}
-
-const LINES: [Row; 25] = [
-    (
-        "[0] CLOCK",
-        Ok(Event {
-            moment: 0,
-            kind: EventKind::Clock,
-        }),
-    ),
-    (
-        "[32503679999] CLOCK",
-        Ok(Event {
-            moment: 32_503_679_999,
-            kind: EventKind::Clock,
-        }),
-    ),
-    ("[32503680000] CLOCK", Err(FeedFault::BadStamp)),
-    (
-        "[0000000000000000000000000000000000000007] CLOCK",
-        Ok(Event {
-            moment: 7,
-            kind: EventKind::Clock,
-        }),
-    ),
-    (
-        "[9999999999999999999999999999999999999999] CLOCK",
-        Err(FeedFault::BadStamp),
-    ),
-    ("", Err(FeedFault::BadStamp)),
-    ("CLOCK", Err(FeedFault::BadStamp)),
-    ("[] CLOCK", Err(FeedFault::BadStamp)),
-    ("[1", Err(FeedFault::BadStamp)),
-    ("[1]CLOCK", Err(FeedFault::BadStamp)),
-    ("[ 1] CLOCK", Err(FeedFault::BadStamp)),
-    ("[-1] CLOCK", Err(FeedFault::BadStamp)),
-    ("[1x] CLOCK", Err(FeedFault::BadStamp)),
-    ("[1] ", Err(FeedFault::UnknownKind)),
-    ("[1]  CLOCK", Err(FeedFault::UnknownKind)),
-    ("[1] clock", Err(FeedFault::UnknownKind)),
-    ("[1] CLOCK\r", Err(FeedFault::UnknownKind)),
-    ("[x] NOPE;web", Err(FeedFault::BadStamp)),
-    ("[1] NOPE;web;UP", Err(FeedFault::UnknownKind)),
-    ("[1] ;CLOCK", Err(FeedFault::UnknownKind)),
-    ("[1] CLOCK;", Err(FeedFault::BadState)),
-    ("[1] ENABLE_NOTIFICATIONS;1", Err(FeedFault::BadState)),
-    ("[1] DISABLE_NOTIFICATIONS;;", Err(FeedFault::BadState)),
-    (
-        "[1] ENABLE_NOTIFICATIONS",
-        Ok(Event {
-            moment: 1,
-            kind: EventKind::Program(true),
-        }),
-    ),
-    (
-        "[1] DISABLE_NOTIFICATIONS",
-        Ok(Event {
-            moment: 1,
-            kind: EventKind::Program(false),
-        }),
-    ),
-];
-
-#[test]
-fn reads_lines(rt: HostRuntime) -> Result<(), Fail> {
-    try_case(&rt, rt.alloc(), Case::Lines(&LINES))
-}
-
-const HOST_STATES: [Row; 15] = [
-    (
-        "[1] HOST_STATE;web;UP",
-        Ok(Event {
-            moment: 1,
-            kind: EventKind::Hard(ObjectId(0), State::Up),
-        }),
-    ),
-    (
-        "[1] HOST_STATE;web;DOWN",
-        Ok(Event {
-            moment: 1,
-            kind: EventKind::Hard(ObjectId(0), State::Down),
-        }),
-    ),
-    (
-        "[1] HOST_STATE;my host;UNREACHABLE",
-        Ok(Event {
-            moment: 1,
-            kind: EventKind::Hard(ObjectId(1), State::Unreachable),
-        }),
-    ),
-    (
-        "[1] HOST_STATE;bücher;DOWN",
-        Ok(Event {
-            moment: 1,
-            kind: EventKind::Hard(ObjectId(4), State::Down),
-        }),
-    ),
-    ("[1] HOST_STATE;disk;UP", Err(FeedFault::UnknownObject)),
-    ("[1] HOST_STATE; web;UP", Err(FeedFault::UnknownObject)),
-    ("[1] HOST_STATE;;UP", Err(FeedFault::UnknownObject)),
-    ("[1] HOST_STATE;db;CRITICAL", Err(FeedFault::UnknownObject)),
-    ("[1] HOST_STATE;web;CRITICAL", Err(FeedFault::BadState)),
-    ("[1] HOST_STATE;web;PENDING", Err(FeedFault::BadState)),
-    ("[1] HOST_STATE;web;", Err(FeedFault::BadState)),
-    ("[1] HOST_STATE;web;UP\r", Err(FeedFault::BadState)),
-    ("[1] HOST_STATE;db", Err(FeedFault::BadState)),
-    ("[1] HOST_STATE", Err(FeedFault::BadState)),
-    ("[1] HOST_STATE;db;UP;", Err(FeedFault::BadState)),
-];
-
-#[test]
-fn reads_host_states(rt: HostRuntime) -> Result<(), Fail> {
-    try_case(&rt, rt.alloc(), Case::Lines(&HOST_STATES))
-}
-
-/// The second is refused before its stamp is looked for.
-fn bytes_that_are_no_text(rt: &impl Abort, config: &Config) {
-    line_gives(rt, config, b"[1] \xff", Err(FeedFault::NotUtf8));
-    line_gives(rt, config, b"\xff", Err(FeedFault::NotUtf8));
-}
-
-#[test]
-fn refuses_bytes_that_are_no_text(rt: HostRuntime) -> Result<(), Fail> {
-    try_case(&rt, rt.alloc(), Case::NoText)
-}
-
-/// So many bytes that are no text give this fault.
-fn no_text_gives(
-    rt: &impl Abort,
-    alloc: Global,
-    config: &Config,
-    count: usize,
-    fault: FeedFault,
-) -> Result<(), Fail> {
-    let line = vec![in alloc; 0xff; count]?;
-    line_gives(rt, config, line.as_slice(), Err(fault));
-    Ok(())
-}
-
-/// One byte over the limit is refused before the text is looked at.
-fn long_lines(rt: &impl Abort, alloc: Global, config: &Config) -> Result<(), Fail> {
-    no_text_gives(rt, alloc, config, 4096, FeedFault::NotUtf8)?;
-    no_text_gives(rt, alloc, config, 4097, FeedFault::LineTooLong)
-}
-
-#[test]
-fn reads_long_lines(rt: HostRuntime) -> Result<(), Fail> {
-    try_case(&rt, rt.alloc(), Case::LongLines)
-}
-
-const REFUSED: &[u8] =
-    b"[x] CLOCK\n[1] NOPE\n[1] HOST_STATE;db;DOWN\n[1] HOST_STATE;web;CRITICAL\n[32503680000] CLOCK\n";
-
-const REFUSED_ANSWERS: [Answer; 5] = [
-    (1, Err(FeedFault::BadStamp)),
-    (2, Err(FeedFault::UnknownKind)),
-    (3, Err(FeedFault::UnknownObject)),
-    (4, Err(FeedFault::BadState)),
-    (5, Err(FeedFault::BadStamp)),
-];
-
-#[test]
-fn refuses_lines_by_number(rt: HostRuntime) -> Result<(), Fail> {
-    let feed = Case::Feed(REFUSED, &REFUSED_ANSWERS, Stop::InputEnded);
-    try_case(&rt, rt.alloc(), feed)
-}
-
-const CUT: &[u8] = b"[1000] HOST_STATE;web;DOWN\n[990] HOST_STATE;web;UP\n[10";
-
-const CUT_ANSWERS: [Answer; 3] = [
-    (
-        1,
-        Ok(Event {
-            moment: 1000,
-            kind: EventKind::Hard(ObjectId(0), State::Down),
-        }),
-    ),
-    (
-        2,
-        Ok(Event {
-            moment: 1000,
-            kind: EventKind::Hard(ObjectId(0), State::Up),
-        }),
-    ),
-    (3, Err(FeedFault::Cut)),
-];
-
-#[test]
-fn raises_stamps_up_to_the_cut(rt: HostRuntime) -> Result<(), Fail> {
-    let feed = Case::Feed(CUT, &CUT_ANSWERS, Stop::CutLine);
-    try_case(&rt, rt.alloc(), feed)
 }
 
 /// Empty lines, a refused line after a great stamp, and lines of 4,096, 4,097 and 60,004 bytes.
@@ -610,12 +348,7 @@ fn gives_each_line_and_text(rt: HostRuntime) -> Result<(), Fail> {
 
 /// What a test tries of a configuration.
 #[derive(Clone, Copy)]
-pub(crate) enum Case {
-    Lines(&'static [Row]),
-    Said(&'static [Said]),
-    NoText,
-    LongLines,
-    Feed(&'static [u8], &'static [Answer], Stop),
+enum Case {
     Mixed,
     Ends,
     Fails,
@@ -626,11 +359,6 @@ pub(crate) enum Case {
 /// Tries one case.
 fn try_in(rt: &impl Abort, alloc: Global, config: &Config, case: Case) -> Result<(), Fail> {
     match case {
-        Case::Lines(rows) => lines_give(rt, config, rows),
-        Case::Said(rows) => commands_say(rt, alloc, config, rows)?,
-        Case::NoText => bytes_that_are_no_text(rt, config),
-        Case::LongLines => long_lines(rt, alloc, config)?,
-        Case::Feed(feed, answers, why) => gives(rt, alloc, config, feed, answers, why)?,
         Case::Mixed => mixed_gives(rt, alloc, config)?,
         Case::Ends => ends_at_each(rt, alloc, config)?,
         Case::Fails => fails_at_each(rt, alloc, config)?,
@@ -641,7 +369,7 @@ fn try_in(rt: &impl Abort, alloc: Global, config: &Config, case: Case) -> Result
 }
 
 /// Tries one case with the configuration. This function alone owns one: each that does takes long to prove.
-pub(crate) fn try_case(rt: &impl Abort, alloc: Global, case: Case) -> Result<(), Fail> {
+fn try_case(rt: &impl Abort, alloc: Global, case: Case) -> Result<(), Fail> {
     let config = config(alloc)?;
     try_in(rt, alloc, &config, case)
 }

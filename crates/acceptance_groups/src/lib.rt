@@ -1,5 +1,5 @@
-//! Tests of what the lists and values of object text say: groups, hosts of services, options; on values from outside.
-//! There is no code here.
+//! Tests of what the lists of object text say: groups, hosts of services, options, and the members of service groups; on values from
+//! outside. There is no code here.
 #![tactic(auto)]
 
 #[cfg(test)]

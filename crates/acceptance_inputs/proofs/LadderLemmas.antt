@@ -55,6 +55,7 @@ module _ (c : Config) (h : IsOrdered c) where
       record {
         week = step.week;
         ranges = step.ranges;
+        dated = step.dated;
         excludes = All-weaker (λ (x : PeriodId). x.0 < k) (λ (x : PeriodId). x.0 < length c.periods) (λ x h. omega (arith, within, h)) (get_or c.periods k d).excludes step.excludes;
       }
 

@@ -21,6 +21,7 @@ pub record IsFewBesides (c : Config) : Type 0 where
 pub record IsStep (place : ℕ) (period : Period) : Type 0 where
   pub week : length period.days ≡ 7
   pub ranges : All (All RangeFits) period.days
+  pub dated : All (λ line. All RangeFits line.ranges) period.dated
   pub excludes : All (λ excluded. excluded.0 < place) period.excludes
 
 -- each period may stand at its place: it excludes earlier ones alone

@@ -161,6 +161,11 @@ fn may_stand(period: &Period, place: usize) -> bool
         .days
         .iter()
         .all(|ranges| do_ranges_fit(ranges.as_slice()))
+        && period
+            .dated
+            .as_slice()
+            .iter()
+            .all(|line| do_ranges_fit(line.ranges.as_slice()))
         && are_below(period.excludes.as_slice(), place)
 }
 

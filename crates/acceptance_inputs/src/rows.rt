@@ -270,6 +270,7 @@ fn period(
     let mut period = Period {
         name: Text::new(alloc, b"work")?,
         days: no_days(alloc),
+        dated: Sequence::new(Vec::new(alloc)),
         excludes: Sequence::new(Vec::from_slice(alloc, excludes)?),
     };
     set_days(alloc, &mut period.days, first, last, ranges)?;

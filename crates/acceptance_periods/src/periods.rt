@@ -5,7 +5,7 @@ use object_periods::laws::{no_loop_is_left, periods_fit};
 use std::alloc::AllocError;
 
 /// Texts, and the periods of each.
-const PERIODS: [Case; 20] = [
+const PERIODS: [Case; 23] = [
     ("", ""),
     ("define host{\nhost_name a\n}\n", ""),
     ("define timeperiod{\ntimeperiod_name p\n}\n", "p\n"),
@@ -93,6 +93,22 @@ const PERIODS: [Case; 20] = [
     (
         "define timeperiod{\ntimeperiod_name p\nmonday 00:00-00:00\n}\n",
         "p 1:0-0,\n",
+    ),
+    // Lines of dates: the block's own, the last first, then its template's that it doesn't have. One blank stands between
+    // the words of a name.
+    (
+        "define timeperiod{\nname t\nregister 0\nday 1 01:00-02:00\ndecember 24 03:00-04:00\n}\ndefine timeperiod{\nuse t\ntimeperiod_name p\nday  1 05:00-06:00\nmonday -1 may 07:00-08:00\n2024-1-2 00:00-00:00\n}\n",
+        "p Date { year: 2024, month: 1, day: 2 }:0-0, WeekdayOfMonth { weekday: 1, place: -1, month: 5 }:25200-28800, OfEachMonth { day: 1 }:18000-21600, OfMonth { month: 12, day: 24 }:10800-14400,\n",
+    ),
+    // A line of dates isn't its weekday's line.
+    (
+        "define timeperiod{\ntimeperiod_name p\nmonday 01:00-02:00\nmonday 1 03:00-04:00,05:00-06:00\n}\n",
+        "p 1:3600-7200, WeekdayOfEachMonth { weekday: 1, place: 1 }:10800-14400,18000-21600,\n",
+    ),
+    // Of a line of dates that is given twice the last counts; another way to write a day is another line.
+    (
+        "define timeperiod{\ntimeperiod_name p\n2024-01-02 01:00-02:00\n2024-1-2 03:00-04:00\n2024-01-02 05:00-06:00\n}\n",
+        "p Date { year: 2024, month: 1, day: 2 }:18000-21600, Date { year: 2024, month: 1, day: 2 }:10800-14400,\n",
     ),
 ];
 

@@ -58,7 +58,7 @@ fn add_templates(out: &mut String, rows: usize) -> Result<(), AllocError> {
     write!(out, "define timeperiod{{\nname a{rows}\nregister 0\n}}\n")?;
     write!(
         out,
-        "define timeperiod{{\nname b{rows}\nregister 0\nday 1 00:00-24:00\n}}\n"
+        "define timeperiod{{\nname b{rows}\nregister 0\nday 1 - 2 00:00-24:00\n}}\n"
     )
 }
 

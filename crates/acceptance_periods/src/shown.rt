@@ -2,7 +2,7 @@
 //! proved soonest.
 
 use acceptance_shown::text_or_mark;
-use due_model::config::{Period, Range};
+use due_model::config::{Dated, Period, Range};
 use object_faults::check::check;
 use object_faults::fault::{PassFault, ValueFault};
 use object_groups::objects::Objects;
@@ -94,11 +94,24 @@ fn show_day(out: &mut String, weekday: usize, ranges: &[Range]) -> Result<(), Al
     Ok(())
 }
 
-/// A period in one line: its name, its days, and `!` with the number of each period that it excludes.
+/// The rule of a dated line and its ranges.
+fn show_line(out: &mut String, line: &Dated) -> Result<(), AllocError> {
+    let rule = line.day;
+    write!(out, " {rule:?}:")?;
+    for range in line.ranges.as_slice() {
+        write!(out, "{}-{},", range.start, range.end)?;
+    }
+    Ok(())
+}
+
+/// A period in one line: its name, its days, its dated lines, and `!` with the number of each period that it excludes.
 fn show_period(out: &mut String, period: &Period) -> Result<(), AllocError> {
     out.push_str(text_or_mark(period.name.as_slice()))?;
     for weekday in 0..7 {
         show_day(out, weekday, period.days[weekday].as_slice())?;
+    }
+    for line in period.dated.as_slice() {
+        show_line(out, line)?;
     }
     for excluded in period.excludes.as_slice() {
         write!(out, " !{}", excluded.0)?;

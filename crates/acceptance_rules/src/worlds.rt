@@ -1,7 +1,8 @@
 //! Runs of worlds: the worked examples, long lists of steps, and a world at its limits.
 
-ghost use Rattle.std.specs.Prelude.{◌≡◌, ◌<◌, All, IsTrue, length};
+ghost use Rattle.std.specs.Prelude.{◌≡◌, ◌<◌, ◌≤◌, All, IsTrue, length};
 ghost use Rattle.due_model.specs.Accepted.{IsAccepted};
+ghost use Rattle.steps.specs.Settings.{max_boxes};
 ghost use Rattle.world_steps.specs.Steps.{IsProperStep};
 ghost use Rattle.world_steps.specs.Views.{world_setup};
 
@@ -16,7 +17,7 @@ use due_model::state::State;
 use due_model::zone::Zone;
 use std::alloc::{AllocError, Global};
 use std::process::Abort;
-use world_steps::{LaneStep, Settings, Step, StepFault, World};
+use world_steps::{LaneStep, MAX_BOXES, Settings, Step, StepFault, World};
 
 /// Whether the step posts what may be posted, if it posts.
 fn is_proper_step(config: &Config, step: Step) -> bool
@@ -117,26 +118,44 @@ fn has_line(
     Ok(())
 }
 
-/// A world of this configuration refuses these of the steps, and its line is then this, part by part.
+/// A world of this configuration, whose lane has so many boxes, refuses these of the steps, and its line is then this, part by part.
 fn plays_in(
     rt: &impl Abort,
     alloc: Global,
     config: &Config,
+    boxes: u8,
     steps: &[Step],
     places: &[usize],
     line: [&[u64]; 3],
 ) -> Result<(), AllocError>
     requires accepted { IsAccepted config.now }
+    requires boxes { boxes ≤ max_boxes }
     requires lanes { length config.now.lanes ≡ 1 }
     requires objects { 0 < length config.now.objects }
 {
     let zone = Zone::Utc;
-    let mut world = World::new(alloc, config, &zone, TWO_TRIES, &[true])?;
+    let mut world = World::new(alloc, config, &zone, TWO_TRIES, &[boxes])?;
     refuses(rt, config, &mut world, steps, places);
     has_line(rt, alloc, &world, line)
 }
 
-/// A world of one host with one decider refuses these of the steps, and its line is then this, part by part.
+/// A world of one host with one decider and so many boxes refuses these of the steps, and its line is then this, part by part.
+fn plays_with(
+    rt: &impl Abort,
+    alloc: Global,
+    boxes: u8,
+    steps: &[Step],
+    places: &[usize],
+    line: [&[u64]; 3],
+) -> Result<(), AllocError>
+    requires { boxes ≤ max_boxes }
+{
+    let config = base(alloc)?;
+    assert!(rt; is_accepted(&config) && config.lanes.len() == 1 && config.objects.len() > 0);
+    plays_in(rt, alloc, &config, boxes, steps, places, line)
+}
+
+/// The same with one box.
 fn plays(
     rt: &impl Abort,
     alloc: Global,
@@ -144,9 +163,7 @@ fn plays(
     places: &[usize],
     line: [&[u64]; 3],
 ) -> Result<(), AllocError> {
-    let config = base(alloc)?;
-    assert!(rt; is_accepted(&config) && config.lanes.len() == 1 && config.objects.len() > 0);
-    plays_in(rt, alloc, &config, steps, places, line)
+    plays_with(rt, alloc, 1, steps, places, line)
 }
 
 /// Web is down.
@@ -159,6 +176,12 @@ const GOES_DOWN: Step = Step::Post(Event {
 const COMES_UP: Step = Step::Post(Event {
     moment: 1010,
     kind: EventKind::Hard(ObjectId(0), State::Up),
+});
+
+/// And down again.
+const GOES_DOWN_AGAIN: Step = Step::Post(Event {
+    moment: 1020,
+    kind: EventKind::Hard(ObjectId(0), State::Down),
 });
 
 const ASK_AND_CLOSE: [Step; 12] = [
@@ -202,6 +225,64 @@ const TRIED_TWICE: [Step; 9] = [
     Step::Lane(MAIL, LaneStep::Close),
 ];
 
+/// The letter in hand fails at the first box, and the second takes it.
+const REPLACED: [Step; 10] = [
+    GOES_DOWN,
+    Step::Decide(0),
+    Step::Put(0, MAIL),
+    Step::Lane(MAIL, LaneStep::Pick),
+    Step::Lane(MAIL, LaneStep::Close),
+    Step::Lane(MAIL, LaneStep::Fail),
+    Step::Lane(MAIL, LaneStep::Fail),
+    Step::Lane(MAIL, LaneStep::Fail),
+    Step::Lane(MAIL, LaneStep::Replace),
+    Step::Lane(MAIL, LaneStep::Settle),
+];
+
+/// The first of two boxes takes a letter and then fails, the second takes the next, and no box is left for the third.
+const REPLACED_AND_CLOSED: [Step; 27] = [
+    GOES_DOWN,
+    COMES_UP,
+    GOES_DOWN_AGAIN,
+    Step::Decide(0),
+    Step::Decide(0),
+    Step::Decide(0),
+    Step::Put(0, MAIL),
+    Step::Put(0, MAIL),
+    Step::Put(0, MAIL),
+    Step::Lane(MAIL, LaneStep::Pick),
+    Step::Lane(MAIL, LaneStep::Settle),
+    Step::Lane(MAIL, LaneStep::Pick),
+    Step::Lane(MAIL, LaneStep::Fail),
+    Step::Lane(MAIL, LaneStep::Replace),
+    Step::Lane(MAIL, LaneStep::Fail),
+    Step::Lane(MAIL, LaneStep::Close),
+    Step::Lane(MAIL, LaneStep::Replace),
+    Step::Lane(MAIL, LaneStep::Pick),
+    Step::Lane(MAIL, LaneStep::Fail),
+    Step::Lane(MAIL, LaneStep::Settle),
+    Step::Lane(MAIL, LaneStep::Pick),
+    Step::Lane(MAIL, LaneStep::Fail),
+    Step::Lane(MAIL, LaneStep::Fail),
+    Step::Lane(MAIL, LaneStep::Replace),
+    Step::Lane(MAIL, LaneStep::Close),
+    Step::Lane(MAIL, LaneStep::Close),
+    Step::Lane(MAIL, LaneStep::Replace),
+];
+
+/// A lane that is asked to close isn't given another box.
+const ASKED_IN_FAILURE: [Step; 9] = [
+    GOES_DOWN,
+    Step::Decide(0),
+    Step::Put(0, MAIL),
+    Step::Lane(MAIL, LaneStep::Pick),
+    Step::Lane(MAIL, LaneStep::Fail),
+    Step::Lane(MAIL, LaneStep::Fail),
+    Step::Lane(MAIL, LaneStep::Ask),
+    Step::Lane(MAIL, LaneStep::Replace),
+    Step::Lane(MAIL, LaneStep::Close),
+];
+
 #[test]
 fn ask_and_close(rt: HostRuntime) -> Result<(), AllocError> {
     plays(&rt, rt.alloc(), &ASK_AND_CLOSE, &[11], [&[0], &[], &[1]])
@@ -216,6 +297,30 @@ fn ask_and_close_unsettled(rt: HostRuntime) -> Result<(), AllocError> {
 #[test]
 fn two_tries(rt: HostRuntime) -> Result<(), AllocError> {
     plays(&rt, rt.alloc(), &TRIED_TWICE, &[5, 8], [&[], &[], &[0]])
+}
+
+#[test]
+fn replaced(rt: HostRuntime) -> Result<(), AllocError> {
+    plays_with(&rt, rt.alloc(), 2, &REPLACED, &[5, 8], [&[0], &[], &[]])
+}
+
+#[test]
+fn replaced_and_closed(rt: HostRuntime) -> Result<(), AllocError> {
+    let steps = &REPLACED_AND_CLOSED;
+    let refused = &[14, 16, 18, 24, 26, 27];
+    plays_with(&rt, rt.alloc(), 2, steps, refused, [&[0, 1], &[], &[2]])
+}
+
+#[test]
+fn asked_in_failure(rt: HostRuntime) -> Result<(), AllocError> {
+    plays_with(
+        &rt,
+        rt.alloc(),
+        8,
+        &ASKED_IN_FAILURE,
+        &[8],
+        [&[], &[], &[0]],
+    )
 }
 
 /// A change of web's state at a moment, which is decided, put, picked and settled.
@@ -280,7 +385,7 @@ fn takes_changes(
     requires objects { 0 < length config.now.objects }
 {
     let zone = Zone::Utc;
-    let mut world = World::new(alloc, config, &zone, LEAST, &[true])?;
+    let mut world = World::new(alloc, config, &zone, LEAST, &[1])?;
     runs(rt, config, &mut world, steps);
     has_taken(rt, alloc, &world, count)
 }
@@ -348,7 +453,7 @@ fn last_lane_is_full(
     requires objects { length config.now.objects ≡ 8 }
 {
     let zone = Zone::Utc;
-    let mut world = World::new(alloc, config, &zone, MOST, &[true; 16])?;
+    let mut world = World::new(alloc, config, &zone, MOST, &[MAX_BOXES; 16])?;
     runs(rt, config, &mut world, steps);
     refuses(rt, config, &mut world, &[Step::Put(7, LAST)], &[1]);
     has_waiting(rt, alloc, &world, ObjectId(0), &[0], &[])?;

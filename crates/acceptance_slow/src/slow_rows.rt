@@ -348,8 +348,8 @@ static ONE_HOST: [Case; 5] = [
     },
 ];
 
-/// Downtimes, flapping, a first delay and a contact's options.
-static STOPPED: [Case; 4] = [
+/// Downtimes, flapping, acknowledgements, a first delay and a contact's options.
+static STOPPED: [Case; 6] = [
     Case {
         what: "a downtime",
         events: &[(1000, STARTS), (1010, HOST_DOWN), (1020, HOST_UP)],
@@ -375,6 +375,54 @@ static STOPPED: [Case; 4] = [
             (4, 1070, PROBLEM, DOWN, 1, 0),
         ],
         suppressions: &[(1, 1010, PROBLEM, DOWN, 1, Filter::Flapping, None)],
+        ..NOTHING
+    },
+    Case {
+        what: "an acknowledgement until the state changes",
+        events: &[
+            (1000, HOST_DOWN),
+            (1010, EventKind::Ack(ObjectId(0), false)),
+            (1060, CLOCK),
+            (1120, CLOCK),
+            (1130, HOST_DOWN),
+            (1140, EventKind::Hard(ObjectId(0), State::Unreachable)),
+            (1150, HOST_UP),
+        ],
+        notices: &[
+            (0, 1000, PROBLEM, DOWN, 1, 0),
+            (5, 1140, PROBLEM, State::Unreachable, 2, 0),
+            (6, 1150, RECOVERY, UP, 3, 0),
+        ],
+        suppressions: &[
+            (2, 1060, PROBLEM, DOWN, 2, Filter::Acknowledged, None),
+            (4, 1130, PROBLEM, DOWN, 2, Filter::Acknowledged, None),
+        ],
+        ..NOTHING
+    },
+    Case {
+        what: "an acknowledgement until the problem is over",
+        events: &[
+            (990, EventKind::Ack(ObjectId(0), true)),
+            (1000, HOST_DOWN),
+            (1010, EventKind::Ack(ObjectId(0), true)),
+            (1140, EventKind::Hard(ObjectId(0), State::Unreachable)),
+            (1150, HOST_UP),
+            (1160, HOST_DOWN),
+        ],
+        notices: &[
+            (1, 1000, PROBLEM, DOWN, 1, 0),
+            (4, 1150, RECOVERY, UP, 2, 0),
+            (5, 1160, PROBLEM, DOWN, 1, 0),
+        ],
+        suppressions: &[(
+            3,
+            1140,
+            PROBLEM,
+            State::Unreachable,
+            2,
+            Filter::Acknowledged,
+            None,
+        )],
         ..NOTHING
     },
     Case {

@@ -20,11 +20,11 @@ kind_of (Pager pager) = kinds.Pager
 kind_of (Spawned spawned) = kinds.Spawned
 
 -- what a text makes of it: it stays of its kind, and does what the one that it holds does
-abbrev pub sends_of : {W S R : Type 0} → (contents : W → Option (List ℕ))
-    → (asked remaining : S → Option (List ℕ))
+abbrev pub sends_of : {W S R : Type 0} → (contents : W → Option (List ℕ)) → (is_flushed : W → Bool)
+    → (asked remaining : S → Option (List ℕ)) → (is_asked : S → Bool) → (reads : S → ℕ)
     → (old : AnyDevice W S R) → (text : List ℕ) → (is_taken : Bool) → (new : AnyDevice W S R) → Type 0
-sends_of {W} contents asked remaining (Mailbox old) text is_taken new =
-    (mailbox : Mail W) × (new ≡ Mailbox mailbox) × Posts contents old text is_taken mailbox
-sends_of {W} {S} contents asked remaining (Pager old) text is_taken new =
-    (pager : Paged S) × (new ≡ Pager pager) × Pages asked remaining old text is_taken pager
-sends_of contents asked remaining (Spawned old) text is_taken new = new ≡ Spawned old
+sends_of {W} contents is_flushed asked remaining is_asked reads (Mailbox old) text is_taken new =
+    (mailbox : Mail W) × (new ≡ Mailbox mailbox) × Posts contents is_flushed old text is_taken mailbox
+sends_of {W} {S} contents is_flushed asked remaining is_asked reads (Pager old) text is_taken new =
+    (pager : Paged S) × (new ≡ Pager pager) × Pages asked remaining is_asked reads old text is_taken pager
+sends_of contents is_flushed asked remaining is_asked reads (Spawned old) text is_taken new = new ≡ Spawned old

@@ -4,3 +4,4 @@ pub mod DeviceChannel
 pub mod Mailbox
 pub mod Pager
 pub mod Spawned
+pub mod Stream

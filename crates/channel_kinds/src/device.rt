@@ -6,8 +6,8 @@ ghost use Rattle.channel_kinds.specs.Device.{kind_of, limit_of, sends_of};
 use crate::mailbox::Mailbox;
 use crate::pager::Pager;
 use crate::spawned::Spawned;
+use crate::stream::{Outlet, Stream};
 use channel::Kind;
-use std::io::{Read, Write};
 use std::process::{Processes, SystemProcess};
 
 /// What takes the texts of letters.
@@ -42,26 +42,19 @@ pub trait TextDevice: Drop {
 /// A mailbox over a writer, a pager over a stream, or a program that is started for each letter. It does what the device that
 /// it holds does, and nothing else.
 #[derive(Drop)]
-pub enum AnyDevice<
-    W: Write + Drop,
-    S: Read + Write + Drop,
-    R: Processes<Started = SystemProcess> + Drop,
-> {
+pub enum AnyDevice<W: Outlet, S: Stream, R: Processes<Started = SystemProcess> + Drop> {
     Mailbox(Mailbox<W>),
     Pager(Pager<S>),
     Spawned(Spawned<R>),
 }
 
-impl<
-    W: Write + Drop,
-    S: Read + Write + Drop,
-    R: Processes<Started = SystemProcess> + Drop,
-> TextDevice for AnyDevice<W, S, R> {
+impl<W: Outlet, S: Stream, R: Processes<Started = SystemProcess> + Drop> TextDevice
+    for AnyDevice<W, S, R> {
     ghost kind = { kind_of };
 
     ghost limit = { limit_of };
 
-    ghost sends = { sends_of W.contents S.contents S.remaining };
+    ghost sends = { sends_of W.contents W.is_flushed S.contents S.remaining S.is_flushed S.reads };
 
     fn kind(&self) -> Kind {
         match self {

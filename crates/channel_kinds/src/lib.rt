@@ -8,4 +8,5 @@ pub mod device_channel;
 pub mod mailbox;
 pub mod pager;
 pub mod spawned;
+pub mod stream;
 mod writing;

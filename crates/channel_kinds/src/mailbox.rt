@@ -5,9 +5,9 @@ ghost use Rattle.channel_kinds.specs.Mailbox.{closing_line};
 ghost use Rattle.written.specs.Written.{WritesFront};
 
 use crate::device::TextDevice;
+use crate::stream::Outlet;
 use crate::writing::write_flushed;
 use channel::Kind;
-use std::io::Write;
 use std::marker::Model;
 
 /// How many bytes a letter to a mailbox has at most.
@@ -19,11 +19,11 @@ const CLOSING_LINE: &[u8] = b"-- closed\n";
 /// A mailbox over a writer. Each letter is written by as few calls as the writer takes, and flushed; where the
 /// writer fails, or the program ends between two calls, a front of the text stands there. A drop without `close`
 /// writes the closing line too, and swallows a fault.
-pub struct Mailbox<W: Write + Drop> {
+pub struct Mailbox<W: Outlet> {
     writer: W,
 }
 
-impl<W: Write + Drop> Model for Mailbox<W> {
+impl<W: Outlet> Model for Mailbox<W> {
     ghost use Rattle.channel_kinds.specs.Mailbox.{Mail};
 
     ghost Value = { Mail W };
@@ -31,7 +31,7 @@ impl<W: Write + Drop> Model for Mailbox<W> {
     ghost view = { λ s. record { writer = s.writer } };
 }
 
-impl<W: Write + Drop> Mailbox<W> {
+impl<W: Outlet> Mailbox<W> {
     /// A mailbox over a writer. It writes nothing.
     pub fn new(writer: W) -> Mailbox<W>
         ensures { result.writer ≡ writer }
@@ -50,14 +50,14 @@ impl<W: Write + Drop> Mailbox<W> {
     }
 }
 
-impl<W: Write + Drop> Drop for Mailbox<W> {
+impl<W: Outlet> Drop for Mailbox<W> {
     fn drop(self) {
         let Mailbox { mut writer } = self;
         let _swallowed = write_flushed(&mut writer, CLOSING_LINE);
     }
 }
 
-impl<W: Write + Drop> TextDevice for Mailbox<W> {
+impl<W: Outlet> TextDevice for Mailbox<W> {
     ghost use Rattle.channel.specs.declared.Kind.TheVariants as kinds;
     ghost use Rattle.channel_kinds.specs.Mailbox.{mailbox_limit, Posts};
 
@@ -65,7 +65,7 @@ impl<W: Write + Drop> TextDevice for Mailbox<W> {
 
     ghost limit = { λ _. mailbox_limit };
 
-    ghost sends = { Posts W.contents };
+    ghost sends = { Posts W.contents W.is_flushed };
 
     fn kind(&self) -> Kind {
         Kind::Mailbox

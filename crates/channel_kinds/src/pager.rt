@@ -1,17 +1,17 @@
 //! A pager: a peer that answers each letter.
 
-ghost use Rattle.std.specs.Prelude.{◌≡◌, ◌+◌, ◌≤◌, ◌++◌, false, length, OnOk};
+ghost use Rattle.std.specs.Prelude.{◌≡◌, ◌+◌, ◌≤◌, ◌++◌, false, true, length, OnOk};
 ghost use Rattle.std.specs.Io.KnownBytes.{Appends};
 ghost use Rattle.channel_kinds.specs.Pager.{Talks, farewell, page_of, pager_limit};
 ghost use Rattle.written.specs.Written.{WritesFront};
 
 use crate::answer;
 use crate::device::TextDevice;
+use crate::stream::{Outlet, Stream};
 use crate::writing::{DeviceFailed, write_flushed};
 use arrayvec::ArrayVec;
 use channel::Kind;
 use itoa::Buffer;
-use std::io::{Read, Write};
 use std::marker::Model;
 
 /// How many bytes a letter to a pager has at most.
@@ -23,13 +23,13 @@ const FAREWELL: &[u8] = b"BYE\n";
 /// A pager over a stream. It writes `PAGE n` and the n bytes of a letter's text, and hears an answer: at most 64
 /// bytes, by at most 64 calls, up to a newline. After its first failure it writes and reads nothing more but the
 /// farewell. A drop without `close` writes that too, and swallows a fault.
-pub struct Pager<S: Read + Write + Drop> {
+pub struct Pager<S: Stream> {
     stream: S,
     /// Whether it failed once.
     is_over: bool,
 }
 
-impl<S: Read + Write + Drop> Model for Pager<S> {
+impl<S: Stream> Model for Pager<S> {
     ghost use Rattle.channel_kinds.specs.Pager.{Paged};
 
     ghost Value = { Paged S };
@@ -37,7 +37,7 @@ impl<S: Read + Write + Drop> Model for Pager<S> {
     ghost view = { λ s. record { stream = s.stream; is_over = s.is_over } };
 }
 
-impl<S: Read + Write + Drop> Pager<S> {
+impl<S: Stream> Pager<S> {
     /// A pager that didn't fail. It writes and reads nothing.
     pub fn new(stream: S) -> Pager<S>
         ensures stream { result.stream ≡ stream }
@@ -62,7 +62,7 @@ impl<S: Read + Write + Drop> Pager<S> {
     }
 }
 
-impl<S: Read + Write + Drop> Drop for Pager<S> {
+impl<S: Stream> Drop for Pager<S> {
     fn drop(self) {
         let Pager {
             mut stream,
@@ -72,7 +72,7 @@ impl<S: Read + Write + Drop> Drop for Pager<S> {
     }
 }
 
-impl<S: Read + Write + Drop> TextDevice for Pager<S> {
+impl<S: Stream> TextDevice for Pager<S> {
     ghost use Rattle.channel.specs.declared.Kind.TheVariants as kinds;
     ghost use Rattle.channel_kinds.specs.Pager.{pager_limit, Pages};
 
@@ -80,7 +80,7 @@ impl<S: Read + Write + Drop> TextDevice for Pager<S> {
 
     ghost limit = { λ _. pager_limit };
 
-    ghost sends = { Pages S.contents S.remaining };
+    ghost sends = { Pages S.contents S.remaining S.is_flushed S.reads };
 
     fn kind(&self) -> Kind {
         Kind::Pager
@@ -103,20 +103,23 @@ impl<S: Read + Write + Drop> TextDevice for Pager<S> {
 }
 
 /// Writes a page and hears the answer: whether the letter is taken.
-fn talk<S: Read + Write>(stream: &mut S, text: &[u8]) -> bool
+fn talk<S: Stream>(stream: &mut S, text: &[u8]) -> bool
     requires { length text.now ≤ pager_limit }
-    ensures { Talks S.contents S.remaining stream.old stream.new text.now result }
+    ensures talks { Talks S.contents S.remaining S.is_flushed stream.old stream.new text.now result }
+    ensures reads { S.reads stream.new ≤ S.reads stream.old + 64 }
 {
     write_page(stream, text).is_ok() && answer::is_taken(stream)
 }
 
 /// Writes a page, by one call where the writer takes it. Where the writer fails, a front of it was written.
-fn write_page<W: Write>(writer: &mut W, text: &[u8]) -> Result<(), DeviceFailed>
+fn write_page<W: Outlet>(writer: &mut W, text: &[u8]) -> Result<(), DeviceFailed>
     requires { length text.now ≤ pager_limit }
     ensures ok { OnOk result
         (Appends (W.contents writer.old) (W.contents writer.new) (page_of text.now)) }
+    ensures flushed { OnOk result (W.is_flushed writer.new ≡ true) }
     ensures front { WritesFront (W.contents writer.old) (W.contents writer.new)
         (page_of text.now) }
+    ensures reads { W.reads writer.new ≡ W.reads writer.old }
 {
     write_flushed(writer, page_of(text).as_slice())
 }

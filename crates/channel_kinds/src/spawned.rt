@@ -4,6 +4,7 @@ ghost use Rattle.std.specs.Prelude.{◌≡◌, map, string_bytes, IfOk};
 ghost use Rattle.std.specs.Process.{command_args, command_program};
 
 use crate::device::TextDevice;
+use crate::stream::AnyOutlet;
 use crate::writing::write_whole;
 use channel::Kind;
 use std::alloc::{AllocError, Global};
@@ -152,7 +153,7 @@ fn start<R: Processes<Started = SystemProcess>>(
 /// ended with status 0. A program whose end can't be waited for is left.
 fn hand_over(mut child: Child, text: &[u8], left: &mut Option<Child>) -> bool {
     let is_written = match child.stdin.take() {
-        Some(mut input) => write_whole(&mut input, text).is_ok(),
+        Some(input) => write_whole(&mut AnyOutlet::new(input), text).is_ok(),
         None => false,
     };
     match child.wait() {

@@ -1,6 +1,5 @@
 -- Which lanes the channel words name.
-use Rattle.std.specs.Prelude.{◌≡◌, ℕ, ◌<◌, All, Bool, true, false, List, [], length, map, position, slice_index_or, take, Option, None, Some, ⊤}
-use Rattle.std.specs.List.{list_any}
+use Rattle.std.specs.Prelude.{◌≡◌, ℕ, ◌<◌, ◌≤◌, ◌==◌, All, List, [], filter, length, map, position, slice_index_or, take, Option, None, Some, ⊤}
 use Rattle.std.specs.Str.{bytes_eq}
 use Rattle.due_model.specs.declared.config.Config.{Config}
 use Rattle.due_model.specs.declared.config.LaneId.{LaneId}
@@ -21,36 +20,41 @@ names_of words = map (λ word. word.name.now) words
 abbrev pub IsUnknown : Config → (name : List ℕ) → Type 0
 IsUnknown c name = lane_named c name ≡ None
 
--- whether a name is one of these
-abbrev pub is_among : (name : List ℕ) → List (List ℕ) → Bool
-is_among name names = list_any (λ other. bytes_eq other name) names
+-- how many of these names are this one
+abbrev pub count_of : (name : List ℕ) → List (List ℕ) → ℕ
+count_of name names = length (filter (λ other. bytes_eq other name) names)
 
--- whether the name at this place stands at an earlier one too
-abbrev pub is_repeat : List (List ℕ) → (place : ℕ) → Bool
-is_repeat names place = is_among (slice_index_or names place []) (take place names)
+-- how often the name at this place stands at earlier ones
+abbrev pub earlier_of : List (List ℕ) → (place : ℕ) → ℕ
+earlier_of names place = count_of (slice_index_or names place []) (take place names)
 
--- no name stands twice
-abbrev pub AreDistinct : List (List ℕ) → Type 0
-AreDistinct names = (place : ℕ) → place < length names → is_repeat names place ≡ false
+-- no name stands more than eight times
+abbrev pub AreFew : List (List ℕ) → Type 0
+AreFew names = (place : ℕ) → place < length names → earlier_of names place < 8
 
--- the name is the first that stands at an earlier place too
-pub record IsFirstDoubled (name : List ℕ) (names : List (List ℕ)) : Type 0 where
+-- the name is the first that stands at eight earlier places too
+pub record IsFirstNinth (name : List ℕ) (names : List (List ℕ)) : Type 0 where
   pub place : ℕ
   pub within : place < length names
   pub here : slice_index_or names place [] ≡ name
-  pub doubled : is_repeat names place ≡ true
-  pub earlier : (k : ℕ) → k < place → is_repeat names k ≡ false
+  pub ninth : 8 ≤ earlier_of names place
+  pub earlier : (k : ℕ) → k < place → earlier_of names k < 8
 
--- The lanes are those that the names name, one for each in order, and no name stands twice.
+-- how many of these lanes are lane l
+abbrev pub boxes_for : List LaneId → (l : ℕ) → ℕ
+boxes_for lanes l = length (filter (λ lane. lane.0 == l) lanes)
+
+-- The lanes are those that the names name, one for each in order; no name, and so no lane, stands more than eight times.
 pub record AreLanesOf (c : Config) (names : List (List ℕ)) (lanes : List LaneId) : Type 0 where
   pub each : map (lane_named c) names ≡ map (λ lane. Some lane.0) lanes
-  pub distinct : AreDistinct names
+  pub few : AreFew names
+  pub few_lanes : (l : ℕ) → boxes_for lanes l ≤ 8
 
--- What a fault says of the names: the first that no lane has, or where there is none the first that is doubled, or nothing.
+-- What a fault says of the names: the first that no lane has, or where there is none the first that stands a ninth time, or nothing.
 abbrev pub NamesFail : Config → List (List ℕ) → ChannelFault → Type 0
 NamesFail c names (fault.BadChannel word) = ⊥
 NamesFail c names (fault.NoCommand name) = IsFirst (IsUnknown c) name.now names
 NamesFail c names (fault.Doubled name) =
-    All (λ other. ¬ IsUnknown c other) names × IsFirstDoubled name.now names
+    All (λ other. ¬ IsUnknown c other) names × IsFirstNinth name.now names
 NamesFail c names (fault.NotOpened name) = ⊥
 NamesFail c names fault.NoMemory = ⊤

@@ -14,7 +14,7 @@ pub enum ChannelFault<'a> {
     BadChannel(&'a str),
     /// No contact uses a command of this name.
     NoCommand(&'a str),
-    /// A second word names this command.
+    /// A ninth word names this command.
     Doubled(&'a str),
     /// The channel of this command can't be opened.
     NotOpened(&'a str),

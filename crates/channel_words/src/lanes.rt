@@ -1,12 +1,11 @@
 //! The lanes that channel words name.
 
-ghost use Rattle.std.specs.Prelude.{◌≡◌, ◌≤◌, All, length, map, IfErr, IfNone, IfOk, IfSome};
+ghost use Rattle.std.specs.Prelude.{◌≡◌, ◌≤◌, All, filter, length, map, IfErr, IfNone, IfOk, IfSome};
 ghost use Rattle.std.specs.Prelude.{OnOk, Some};
-ghost use Rattle.std.specs.List.{list_any};
 ghost use Rattle.std.specs.Str.{bytes_eq};
 ghost use Rattle.std.specs.Option.{option_map};
 ghost use Rattle.due_model.specs.Limits.{max_lanes};
-ghost use Rattle.channel_words.specs.Lanes.{AreDistinct, AreLanesOf, IsFirstDoubled, IsUnknown};
+ghost use Rattle.channel_words.specs.Lanes.{AreFew, AreLanesOf, IsFirstNinth, IsUnknown};
 ghost use Rattle.channel_words.specs.Lanes.{NamesFail};
 ghost use Rattle.channel_words.specs.Lanes.{lane_named, names_of};
 
@@ -15,8 +14,11 @@ use crate::word::ChannelWord;
 use due_model::config::{Config, LaneId};
 use std::alloc::Global;
 
+/// How many words may name one command: its channel, and those that stand by for it.
+const MOST: usize = 8;
+
 /// The lanes that words name, one for each in order. The first word whose command no contact uses is the fault; where there is
-/// none, the first whose command an earlier one names. Want of memory says nothing of them.
+/// none, the first that is the ninth of its command. Want of memory says nothing of them.
 pub fn lanes_of<'a>(
     alloc: Global,
     config: &Config,
@@ -27,13 +29,13 @@ pub fn lanes_of<'a>(
     ensures fault { IfErr result (NamesFail config.now (names_of words.now)) }
 {
     let lanes = named_lanes(alloc, config, words)?;
-    match first_doubled(words) {
+    match first_ninth(words) {
         Some(name) => Err(ChannelFault::Doubled(name)),
         None => Ok(lanes),
     }
 }
 
-/// The lanes that words name, doubled or not.
+/// The lanes that words name, however often.
 fn named_lanes<'a>(
     alloc: Global,
     config: &Config,
@@ -79,22 +81,22 @@ fn place_named(config: &Config, name: &str) -> Option<usize>
         .position(|lane| lane.name.as_slice() == name)
 }
 
-/// The first name that an earlier word has too.
-fn first_doubled<'a>(words: &[ChannelWord<'a>]) -> Option<&'a str>
-    ensures some { IfSome result (λ name. IsFirstDoubled name.now (names_of words.now)) }
-    ensures none { IfNone result (AreDistinct (names_of words.now)) }
+/// The first name that eight earlier words have too.
+fn first_ninth<'a>(words: &[ChannelWord<'a>]) -> Option<&'a str>
+    ensures some { IfSome result (λ name. IsFirstNinth name.now (names_of words.now)) }
+    ensures none { IfNone result (AreFew (names_of words.now)) }
 {
     for (place, word) in words.iter().enumerate() {
-        if is_named(&words[..place], word.name) {
+        if words_named(&words[..place], word.name) >= MOST {
             return Some(word.name);
         }
     }
     None
 }
 
-/// Whether one of the words has that name.
-fn is_named(words: &[ChannelWord<'_>], name: &str) -> bool
-    ensures { result ≡ list_any (λ word. bytes_eq word.name.now name.now) words.now }
+/// How many of the words have that name.
+fn words_named(words: &[ChannelWord<'_>], name: &str) -> usize
+    ensures { result ≡ length (filter (λ word. bytes_eq word.name.now name.now) words.now) }
 {
-    words.iter().any(|word| word.name == name)
+    words.iter().filter(|word| word.name == name).count()
 }

@@ -21,7 +21,7 @@ text-rule name made long named is is_long is_named =
     is_named ∙ ap (λ (r : Rule). record r { value_names = 1 }) (is_long ∙ ap (λ (r : Rule). record r { long = Some name }) is)
 
 -- the same, then with a parser, and then with a default
-pub number-rule : (name default : List ℕ) (most : ℕ) (named parsed defaulted : Rule) (parser : Option ValueParser) → named ≡ text_option name → parsed ≡ record named { parser = parser }
-    → parser ≡ Some (Signed (pos 1) (pos most)) → defaulted ≡ record parsed { defaults = default ∷ [] } → defaulted ≡ number_option name default most
-number-rule name default most named parsed defaulted parser is is_parsed is_parser is_defaulted =
+pub number-rule : (name default : List ℕ) (least most : ℕ) (named parsed defaulted : Rule) (parser : Option ValueParser) → named ≡ text_option name → parsed ≡ record named { parser = parser }
+    → parser ≡ Some (Signed (pos least) (pos most)) → defaulted ≡ record parsed { defaults = default ∷ [] } → defaulted ≡ number_option name default least most
+number-rule name default least most named parsed defaulted parser is is_parsed is_parser is_defaulted =
     is_defaulted ∙ ap (λ (r : Rule). record r { defaults = default ∷ [] }) (is_parsed ∙ ap₂ (λ (r : Rule) (p : Option ValueParser). record r { parser = p }) is is_parser)

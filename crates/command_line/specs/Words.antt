@@ -1,5 +1,5 @@
 -- What the words of a command line ask, and which words there are.
-use Rattle.std.specs.Prelude.{◌≡◌, ℕ, List, [], ◌∷◌, map, Some, pos, true, false, codes, is_some}
+use Rattle.std.specs.Prelude.{◌≡◌, ℕ, ◌<◌, List, [], ◌∷◌, map, Some, pos, true, false, codes, is_some}
 use Rattle.std.specs.Option.{option_copied, option_map}
 use Rattle.std.specs.Str.Parse.{digits_value, IsNumeral, without_leading_plus}
 use Rattle.clap.specs.Lexer.{usize_max}
@@ -9,7 +9,7 @@ use Rattle.clap.specs.declared.parser.matches.Found.{Found}
 use Rattle.clap.specs.Words.{App, Rule, new_app, new_rule, rows_of, subcommand_rows_of}
 use Rattle.clap.specs.Words.{with_rule}
 use Rattle.steps.specs.declared.settings.Settings.{Settings}
-use Rattle.steps.specs.Settings.{AreSettings}
+use Rattle.steps.specs.Settings.{AreSettings, max_boxes}
 use Rattle.clap.specs.declared.builder.value_parser.ValueParser.TheVariants.{Signed}
 use Rattle.command_line.specs.declared.words.Request.{Request}
 use Rattle.command_line.specs.declared.words.ZoneWords.{ZoneWords}
@@ -18,14 +18,14 @@ use Rattle.command_line.specs.declared.words.Request.TheVariants.{Replay, Trace,
 -- the name of the command that is asked for
 abbrev pub request_name : Request → List ℕ
 request_name (Replay objects zone) = codes "replay"
-request_name (Trace settings zone) = codes "trace"
+request_name (Trace settings standbys zone) = codes "trace"
 request_name (Run objects settings zone channels) = codes "run"
 
--- a run has one decider
+-- in a trace fewer boxes stand by than a lane may have
 abbrev pub AreSettingsFit : Request → Type 0
 AreSettingsFit (Replay objects zone) = Unit {0}
-AreSettingsFit (Trace settings zone) = Unit {0}
-AreSettingsFit (Run objects settings zone channels) = settings.deciders ≡ 1
+AreSettingsFit (Trace settings standbys zone) = standbys < max_boxes
+AreSettingsFit (Run objects settings zone channels) = Unit {0}
 
 -- the texts that the options of a command hold of the zone
 pub record IsZoneOf (options : Found) (words : ZoneWords) : Type 0 where
@@ -49,27 +49,29 @@ HoldFitting options deciders = (queue : ℕ) × (tries : ℕ)
     × HoldsNumber options (codes "queue") queue × HoldsNumber options (codes "tries") tries
     × AreSettings deciders queue tries
 
--- The options of `trace` make no request: the numbers that they hold are no settings.
+-- The options of `trace` make no request: the numbers that they hold are no settings, or too many boxes stand by.
 abbrev pub TraceLacks : Found → Type 0
-TraceLacks options = (deciders : ℕ) → HoldsNumber options (codes "deciders") deciders
+TraceLacks options = (deciders standbys : ℕ) → HoldsNumber options (codes "deciders") deciders
+    → HoldsNumber options (codes "standbys") standbys → standbys < max_boxes
     → HoldFitting options deciders → ⊥
 
 -- The options of `run` make no request: they name no file, or the numbers that they hold are no settings.
 abbrev pub RunLacks : Found → Type 0
-RunLacks options = is_some (first_value options (codes "objects")) ≡ true
-    → HoldFitting options 1 → ⊥
+RunLacks options = (deciders : ℕ) → is_some (first_value options (codes "objects")) ≡ true
+    → HoldsNumber options (codes "deciders") deciders → HoldFitting options deciders → ⊥
 
--- What the options of a command hold: of `replay` the file of the object text, if it is given; of `trace` the settings; of
--- `run` the file, the settings but the number of deciders, which is 1, and the channel words; and of each the zone.
+-- What the options of a command hold: of `replay` the file of the object text, if it is given; of `trace` the settings and
+-- how many boxes stand by; of `run` the file, the settings and the channel words; and of each the zone.
 abbrev pub IsRequestOf : Found → Request → Type 0
 IsRequestOf options (Replay objects zone) =
     (option_copied objects ≡ first_value options (codes "objects")) × IsZoneOf options zone
-IsRequestOf options (Trace settings zone) =
-    HoldsNumber options (codes "deciders") settings.deciders × HoldSettings options settings
-    × IsZoneOf options zone
-IsRequestOf options (Run objects settings zone channels) =
-    (Some objects.now ≡ first_value options (codes "objects")) × (settings.deciders ≡ 1)
+IsRequestOf options (Trace settings standbys zone) =
+    HoldsNumber options (codes "deciders") settings.deciders
+    × HoldsNumber options (codes "standbys") standbys
     × HoldSettings options settings × IsZoneOf options zone
+IsRequestOf options (Run objects settings zone channels) =
+    (Some objects.now ≡ first_value options (codes "objects"))
+    × HoldsNumber options (codes "deciders") settings.deciders × HoldSettings options settings × IsZoneOf options zone
     × (option_map (λ words. map (λ word. word.now) words.now) channels
     ≡ option_map raw_values (matched_of options (codes "channel")))
 
@@ -87,20 +89,20 @@ IsMetWith matches name so = (options : Found)
 -- what it says of the zone
 abbrev pub request_zone : Request → ZoneWords
 request_zone (Replay objects zone) = zone
-request_zone (Trace settings zone) = zone
+request_zone (Trace settings standbys zone) = zone
 request_zone (Run objects settings zone channels) = zone
 
 -- it gives a rule and a file
 abbrev pub AreTwo : ZoneWords → Type 0
 AreTwo words = (is_some words.rule ≡ true) × (is_some words.file ≡ true)
 
--- `--NAME NUMBER`, with a number from 1 to `most`, or with `default` where it is left out
-abbrev pub number_option : List ℕ → List ℕ → ℕ → Rule
-number_option name default most = record (new_rule name) {
+-- `--NAME NUMBER`, with a number from `least` to `most`, or with `default` where it is left out
+abbrev pub number_option : (name default : List ℕ) → (least most : ℕ) → Rule
+number_option name default least most = record (new_rule name) {
   long = Some name;
   value_names = 1;
   defaults = default ∷ [];
-  parser = Some (Signed (pos 1) (pos most));
+  parser = Some (Signed (pos least) (pos most));
 }
 
 -- `--NAME TEXT`, which may be left out
@@ -129,20 +131,22 @@ replay_words = with_zone (with_rule (new_app (codes "replay")) (text_option (cod
 -- two say how many notices a lane's queue holds, and how many tries a message has
 abbrev pub with_lane_options : App → App
 with_lane_options app =
-    with_rule (with_rule app (number_option (codes "queue") (codes "64") 1024))
-    (number_option (codes "tries") (codes "3") 10)
+    with_rule (with_rule app (number_option (codes "queue") (codes "64") 1 1024))
+    (number_option (codes "tries") (codes "3") 1 10)
 
--- `trace` has these, and how many deciders there are
+-- `trace` has these, and how many deciders there are, and how many boxes of each lane stand by
 abbrev pub trace_words : App
 trace_words =
-    with_zone (with_lane_options (with_rule (new_app (codes "trace"))
-    (number_option (codes "deciders") (codes "1") 8)))
+    with_zone (with_lane_options (with_rule (with_rule (new_app (codes "trace"))
+    (number_option (codes "deciders") (codes "1") 1 8))
+    (number_option (codes "standbys") (codes "0") 0 7)))
 
--- `run` has the file of the object text, which must be given, the same options, and the channel words
+-- `run` has the file of the object text, which must be given, how many deciders there are, the same options, and the channel words
 abbrev pub run_words : App
 run_words =
-    with_rule (with_zone (with_lane_options (with_rule (new_app (codes "run"))
-    (record (text_option (codes "objects")) { required = true })))) (word_list (codes "channel"))
+    with_rule (with_zone (with_lane_options (with_rule (with_rule (new_app (codes "run"))
+    (record (text_option (codes "objects")) { required = true }))
+    (number_option (codes "deciders") (codes "2") 1 8)))) (word_list (codes "channel"))
 
 -- `notify-run` has these three commands, `--version`, no command `help`, and asks for one of the three
 abbrev pub program_words : App

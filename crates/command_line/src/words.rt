@@ -1,10 +1,10 @@
 //! The words of a command line, and what they ask.
 
-ghost use Rattle.std.specs.Prelude.{◌≡◌, codes, false, IfNone, IfOk, IfSome, is_some, Some, true};
+ghost use Rattle.std.specs.Prelude.{◌≡◌, ◌<◌, ℕ, codes, false, IfNone, IfOk, IfSome, is_some, Some, true};
 ghost use Rattle.clap.specs.Matches.{found_of};
 ghost use Rattle.clap.specs.Words.{app_of, rule_of, subcommand_name_of};
 ghost use Rattle.command_line.specs.Words.{AreSettingsFit, IsAskedBy, IsRequestOf, IsZoneOf};
-ghost use Rattle.command_line.specs.Words.{HoldFitting, HoldSettings, IsMetWith, RunLacks};
+ghost use Rattle.command_line.specs.Words.{HoldFitting, HoldSettings, HoldsNumber, IsMetWith, RunLacks};
 ghost use Rattle.command_line.specs.Words.{TraceLacks};
 ghost use Rattle.command_line.specs.Words.{number_option, program_words, replay_words};
 ghost use Rattle.command_line.specs.Words.{request_name, request_zone, run_words, text_option};
@@ -12,7 +12,7 @@ ghost use Rattle.command_line.specs.Words.{trace_words, with_lane_options, with_
 
 use clap::{Arg, ArgMatches, Command, value_parser};
 use std::alloc::{AllocError, Global};
-use steps::Settings;
+use steps::{MAX_BOXES, Settings};
 
 /// What `notify-run --version` says after the name.
 const VERSION: &str = "0.2.0";
@@ -62,6 +62,7 @@ from standard input, one step a line, and does them one by one:
   settle LANE     the lane's channel takes the message in hand
   fail LANE       the lane's channel doesn't take it
   ask LANE        the lane is asked to close
+  replace LANE    a box that stands by takes over, the message still in hand
   close LANE      the lane is shut
   drain LANE      the front of a shut lane's queue is given up
 
@@ -84,19 +85,21 @@ each notification command go to the channel that a word names for it.
   NAME=command:PROGRAM ARGUMENT.. to the input of the program, started for each message
 
 NAME is a command that a contact lists. The program and its arguments are separated by
-spaces; nothing quotes a space. What an event makes due is tried before the next line of
-the feed is waited for. A message that fails is tried again, up to --tries; then its
-command's channel is closed, and that and all later messages of the command stay
-undelivered. Standard output gets, as the feed comes,
+spaces; nothing quotes a space. Messages go out as the events come, those of each host or
+service in order. A message that fails is tried again, up to --tries; then the next word of
+the same command takes over with it, of up to eight; after the last, that and all later
+messages of the command stay undelivered. Once the feed is over, standard output gets
 
   R;line;fault                                             a refused line of the feed
   S;event;moment;object;kind;state;filter                  what a filter of the object stopped
   C;event;moment;object;kind;state;number;contact;filter   a contact that was refused
 
-and once it is over, for each command that contacts list,
+and then, for each command that contacts list,
 
   T;command;event;object;contact                           a message that its channel took
   U;command;event;object;contact                           a message that is undelivered
+  G;command;n;count                                        of several words: what number n,
+                                                           from 0, has taken
   Z;command;why                                            why it was closed: FeedOver, Failed,
                                                            NoChannel or NoMemory";
 
@@ -120,9 +123,11 @@ pub enum Request<'m, 'a> {
     /// A trace.
     Trace {
         settings: Settings,
+        /// How many boxes of each lane stand by.
+        standbys: u8,
         zone: ZoneWords<'a>,
     },
-    /// A run, of the object text in the file and the feed on standard input, with one decider.
+    /// A run, of the object text in the file and the feed on standard input.
     Run {
         objects: &'a str,
         settings: Settings,
@@ -193,22 +198,35 @@ fn replay_command<'a>(alloc: Global) -> Result<Command<'a>, AllocError>
     with_zone(alloc, command)
 }
 
-/// The option that says how many deciders there are.
-fn deciders_option<'a>(alloc: Global) -> Arg<'a>
-    ensures rule { rule_of result ≡ number_option (codes "deciders") (codes "1") 8 }
+/// The option that says how many deciders there are, and how many where it is left out.
+fn deciders_option<'a>(alloc: Global, default: &'a str) -> Arg<'a>
+    ensures rule { rule_of result ≡ number_option (codes "deciders") default.entry.now 1 8 }
     ensures local { result.global ≡ false }
 {
     Arg::new(alloc, "deciders")
         .long("deciders")
         .value_name("NUMBER")
         .value_parser(value_parser!(u8).range(1..=8))
-        .default_value("1")
+        .default_value(default)
         .help("How many deciders share the objects, 1 to 8")
+}
+
+/// The option that says how many boxes of each lane stand by.
+fn standbys_option<'a>(alloc: Global) -> Arg<'a>
+    ensures rule { rule_of result ≡ number_option (codes "standbys") (codes "0") 0 7 }
+    ensures local { result.global ≡ false }
+{
+    Arg::new(alloc, "standbys")
+        .long("standbys")
+        .value_name("NUMBER")
+        .value_parser(value_parser!(u8).range(0..=7))
+        .default_value("0")
+        .help("How many boxes of each lane stand by, 0 to 7")
 }
 
 /// The option that says how many notices a lane's queue holds.
 fn queue_option<'a>(alloc: Global, help: &'a str) -> Arg<'a>
-    ensures rule { rule_of result ≡ number_option (codes "queue") (codes "64") 1024 }
+    ensures rule { rule_of result ≡ number_option (codes "queue") (codes "64") 1 1024 }
     ensures local { result.global ≡ false }
 {
     Arg::new(alloc, "queue")
@@ -221,7 +239,7 @@ fn queue_option<'a>(alloc: Global, help: &'a str) -> Arg<'a>
 
 /// The option that says how often a message is tried.
 fn tries_option<'a>(alloc: Global) -> Arg<'a>
-    ensures rule { rule_of result ≡ number_option (codes "tries") (codes "3") 10 }
+    ensures rule { rule_of result ≡ number_option (codes "tries") (codes "3") 1 10 }
     ensures local { result.global ≡ false }
 {
     Arg::new(alloc, "tries")
@@ -239,7 +257,8 @@ fn trace_command<'a>(alloc: Global) -> Result<Command<'a>, AllocError>
     let command = Command::new(alloc, "trace")
         .about("The engine's design at work, step by step, in an order that you choose")
         .long_about(TRACE)
-        .arg(deciders_option(alloc))?;
+        .arg(deciders_option(alloc, "1"))?
+        .arg(standbys_option(alloc))?;
     let queue = "How many notices the queue of a lane holds, 1 to 1024";
     let with_lanes = with_lane_options(alloc, command, queue)?;
     with_zone(alloc, with_lanes)
@@ -278,8 +297,9 @@ fn run_command<'a>(alloc: Global) -> Result<Command<'a>, AllocError>
     let command = Command::new(alloc, "run")
         .about("Sends what is due, from an object file and a feed of events")
         .long_about(RUN)
-        .arg(objects)?;
-    let queue = "Without effect yet: a run hands each notice to its channel at once; 1 to 1024";
+        .arg(objects)?
+        .arg(deciders_option(alloc, "2"))?;
+    let queue = "How many notices wait at most for a command's channel, 1 to 1024";
     let with_lanes = with_lane_options(alloc, command, queue)?;
     let with_options = with_zone(alloc, with_lanes)?;
     with_options.arg(channel_words(alloc))
@@ -314,6 +334,16 @@ fn settings_of(options: &ArgMatches<'_>, deciders: u8) -> Option<Settings>
     Settings::new(deciders, queue, tries)
 }
 
+/// How many deciders the options of a command ask for.
+fn deciders_of(options: &ArgMatches<'_>) -> Option<u8>
+    ensures held { IfSome result (λ deciders.
+        HoldsNumber (found_of options.now) (codes "deciders") deciders) }
+    ensures lacking { IfNone result ((deciders : ℕ)
+        → HoldsNumber (found_of options.now) (codes "deciders") deciders → deciders < 256 → ⊥) }
+{
+    options.get_one::<u8>("deciders")
+}
+
 /// What the options of a command say of the zone.
 fn zone_words<'a>(options: &ArgMatches<'a>) -> ZoneWords<'a>
     ensures { IsZoneOf (found_of options.now) result }
@@ -337,13 +367,19 @@ fn replay_request<'m, 'a>(options: &'m ArgMatches<'a>) -> Request<'m, 'a>
 
 /// What the options of `trace` ask.
 fn trace_request<'m, 'a>(options: &'m ArgMatches<'a>) -> Option<Request<'m, 'a>>
+    ensures settings { IfSome result AreSettingsFit }
     ensures named { IfSome result (λ request. request_name request ≡ codes "trace") }
     ensures options { IfSome result (IsRequestOf (found_of options.now)) }
     ensures lacking { IfNone result (TraceLacks (found_of options.now)) }
 {
     let deciders = options.get_one::<u8>("deciders")?;
+    let standbys = options.get_one::<u8>("standbys")?;
+    if standbys >= MAX_BOXES {
+        return None;
+    }
     Some(Request::Trace {
         settings: settings_of(options, deciders)?,
+        standbys,
         zone: zone_words(options),
     })
 }
@@ -356,10 +392,10 @@ fn run_request<'m, 'a>(options: &'m ArgMatches<'a>) -> Option<Request<'m, 'a>>
     ensures lacking { IfNone result (RunLacks (found_of options.now)) }
 {
     let objects = options.get_str("objects")?;
-    let settings = settings_of(options, 1)?;
+    let deciders = deciders_of(options)?;
     Some(Request::Run {
         objects,
-        settings,
+        settings: settings_of(options, deciders)?,
         zone: zone_words(options),
         channels: options.get_strs("channel"),
     })

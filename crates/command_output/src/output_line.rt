@@ -6,7 +6,7 @@ ghost use Rattle.command_output.specs.OutputLine.{entries_text, line_text};
 
 use crate::line_head::{entry_head, make_head, push_head};
 use crate::report_line::{push_entry, push_entry_after, push_refused};
-use crate::run_line::{push_closed, push_letter};
+use crate::run_line::{push_box, push_closed, push_letter};
 use crate::trace_line::{LaneLine, StepRefusal, push_held};
 use due_model::config::{Config, LaneId};
 use due_model::notice::{Notice, Suppression};
@@ -23,17 +23,38 @@ pub enum OutputLine<'a> {
     /// `S` or `C`: a message that a filter of the object, or of the contact, stopped.
     Suppression(Suppression),
     /// `R`: a line of the feed that gives no event.
-    Refused { line: u64, fault: FeedFault },
+    Refused {
+        line: u64,
+        fault: FeedFault,
+    },
     /// `E`: a step line that does nothing.
-    RefusedStep { line: u64, refusal: StepRefusal },
+    RefusedStep {
+        line: u64,
+        refusal: StepRefusal,
+    },
     /// `L`: what a lane holds of an object.
     Held(LaneLine<'a>),
     /// `T`: a message that the lane's channel has taken.
-    Taken { lane: LaneId, notice: Notice },
+    Taken {
+        lane: LaneId,
+        notice: Notice,
+    },
     /// `U`: a message that the lane gave up.
-    Undelivered { lane: LaneId, notice: Notice },
+    Undelivered {
+        lane: LaneId,
+        notice: Notice,
+    },
+    /// `G`: how many messages a channel of the lane has taken, by its number from 0.
+    Box {
+        lane: LaneId,
+        number: u64,
+        count: u64,
+    },
     /// `Z`: why the lane is closed.
-    Closed { lane: LaneId, why: Why },
+    Closed {
+        lane: LaneId,
+        why: Why,
+    },
 }
 
 /// Adds a line, with its newline.
@@ -57,6 +78,11 @@ pub(crate) fn push_line(
         OutputLine::Held(held) => push_held(text, config, held),
         OutputLine::Taken { lane, notice } => push_letter(text, config, b'T', *lane, notice),
         OutputLine::Undelivered { lane, notice } => push_letter(text, config, b'U', *lane, notice),
+        OutputLine::Box {
+            lane,
+            number,
+            count,
+        } => push_box(text, config, *lane, *number, *count),
         OutputLine::Closed { lane, why } => push_closed(text, config, *lane, *why),
     }
 }

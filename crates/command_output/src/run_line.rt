@@ -1,7 +1,8 @@
-//! The lines of a run beside those of a report: what became of each letter, and why a lane is closed.
+//! The lines of a run beside those of a report: what became of each letter, how many each channel of a lane has taken, and why a lane is
+//! closed.
 
 ghost use Rattle.std.specs.Prelude.{◌≡◌, [], ◌∷◌, ◌++◌, OnOk};
-ghost use Rattle.command_output.specs.RunLine.{closed_line, letter_line, why_name};
+ghost use Rattle.command_output.specs.RunLine.{box_line, closed_line, letter_line, why_name};
 
 use crate::fields::{push_contact, push_field, push_lane, push_number, push_object};
 use due_model::config::{Config, LaneId};
@@ -54,5 +55,23 @@ pub(crate) fn push_closed(
     line.extend_from_slice(b"Z")?;
     push_lane(line, config, lane)?;
     push_field(line, why_name(why).as_bytes())?;
+    line.extend_from_slice(b"\n")
+}
+
+/// Adds the line of how many notices a channel of a lane has taken, by its number among the lane's.
+pub(crate) fn push_box(
+    line: &mut Vec<u8>,
+    config: &Config,
+    lane: LaneId,
+    number: u64,
+    count: u64,
+) -> Result<(), AllocError>
+    ensures { OnOk result
+        (line.new.items ≡ line.old.items ++ box_line config.now lane.0 number count) }
+{
+    line.extend_from_slice(b"G")?;
+    push_lane(line, config, lane)?;
+    push_number(line, number)?;
+    push_number(line, count)?;
     line.extend_from_slice(b"\n")
 }

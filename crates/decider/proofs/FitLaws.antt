@@ -3,7 +3,6 @@ use Rattle.std.proofs.Common.{◌≡◌, ℕ, ◌+◌, ◌<◌, ◌^◌, max, Li
 use Rattle.std.proofs.lemmas.List.Elements.{All-cons}
 use Rattle.lemmas.proofs.Beginnings.{moment_in_range}
 use Rattle.due_model.specs.declared.config.ObjectId.{ObjectId}
-use Rattle.due_model.specs.declared.config.Range.{Range}
 use Rattle.due_model.specs.declared.event.Event.{Event}
 use Rattle.due_model.specs.declared.notice.Suppression.{Suppression}
 use Rattle.due_model.specs.declared.rules.ObjectStatus.{ObjectStatus}
@@ -14,6 +13,7 @@ use Rattle.due_model.specs.Readings.{moment, switch_after}
 use Rattle.due_times.specs.Index.{Due}
 use Rattle.problem_count.specs.Book.{BookValues}
 use Rattle.problem_count.specs.Laws.{UntouchedFit}
+use Rattle.time_period.specs.Days.{Worked}
 use Rattle.decider.specs.Books.{share_books}
 use Rattle.decider.specs.declared.reading.EventContext.{EventContext}
 use Rattle.decider.specs.declared.staging.NewBook.{NewBook}
@@ -87,7 +87,7 @@ module _ (k : Kept) (e : Event) (past : List Event) (fits : Fits k past) (proper
   has_room decided is = subst (λ (xs : List NewBook). HasRoom k.index xs) (sym is) (room_for k.config k.zone k.share e past k.index fits.index.room)
 
 -- what is read of a decider, with this zone, these periods and books and in this context
-abbrev pub values_with : Kept → Zone → List (List (List Range)) → EventContext → List BookValues → Values
+abbrev pub values_with : Kept → Zone → List Worked → EventContext → List BookValues → Values
 values_with k zone periods context books = record {
   config = k.config;
   zone = zone;
@@ -100,12 +100,12 @@ values_with k zone periods context books = record {
 }
 
 -- those that it keeps
-pub at_with : (k : Kept) (e : Event) (past : List Event) (zone : Zone) (periods : List (List (List Range))) (context : EventContext) (books : List BookValues)
+pub at_with : (k : Kept) (e : Event) (past : List Event) (zone : Zone) (periods : List Worked) (context : EventContext) (books : List BookValues)
     → zone ≡ k.zone → periods ≡ k.tables.periods → context ≡ context_of k e → books ≡ k.books → IsAt (values_at k e) e past
     → IsAt (values_with k zone periods context books) e past
 at_with k e past zone periods context books same_zone same_periods same_context same_books is =
     subst (λ (x : Zone). IsAt (values_with k x periods context books) e past) (sym same_zone)
-    (subst (λ (x : List (List (List Range))). IsAt (values_with k k.zone x context books) e past) (sym same_periods)
+    (subst (λ (x : List Worked). IsAt (values_with k k.zone x context books) e past) (sym same_periods)
     (subst (λ (x : EventContext). IsAt (values_with k k.zone k.tables.periods x books) e past) (sym same_context)
     (subst (λ (x : List BookValues). IsAt (values_with k k.zone k.tables.periods (context_of k e) x) e past) (sym same_books) is)))
 

@@ -24,6 +24,7 @@ no_hard (event.Program on) is m x = refl
 no_hard (event.Hard p state) is m x = cc
 no_hard (event.Downtime p change) is m x = refl
 no_hard (event.Flapping p starts) is m x = refl
+no_hard (event.Ack p sticky) is m x = refl
 
 -- one that gives it to an object changes that of the object alone
 one_hard : (k : EventKind) (p : ObjectId) (state : State) → hard_by k ≡ Some (p, state) → (m : ℕ) (x : State) → hard_after m k x ≡ cond (p.0 == m) state x
@@ -32,6 +33,7 @@ one_hard (event.Program on) p state is m x = cc
 one_hard (event.Hard q now) p state is m x = ap (λ (given : ObjectId × State). cond (given.0.0 == m) given.1 x) (same_Some (q, now) (p, state) is)
 one_hard (event.Downtime q change) p state is m x = cc
 one_hard (event.Flapping q starts) p state is m x = cc
+one_hard (event.Ack q sticky) p state is m x = cc
 
 pub hard_named : (k : EventKind) (p : ObjectId) (state : State) → hard_by k ≡ Some (p, state) → named_by k ≡ Some p
 hard_named event.Clock p state is = cc
@@ -39,6 +41,7 @@ hard_named (event.Program on) p state is = cc
 hard_named (event.Hard q now) p state is = ap (λ (given : ObjectId × State). Some given.0) (same_Some (q, now) (p, state) is)
 hard_named (event.Downtime q change) p state is = cc
 hard_named (event.Flapping q starts) p state is = cc
+hard_named (event.Ack q sticky) p state is = cc
 
 -- by states that agree a dependency fails alike
 by_states : (c : Config) (zone : Zone) (f g : ℕ → State) (t o : ℕ) → ((m : ℕ) → f m ≡ g m) → dependency_fails c zone f t o ≡ dependency_fails c zone g t o

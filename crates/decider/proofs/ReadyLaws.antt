@@ -109,6 +109,7 @@ none_left (event.Program on) t = refl
 none_left (event.Hard p state) t = refl
 none_left (event.Downtime p change) t = refl
 none_left (event.Flapping p starts) t = refl
+none_left (event.Ack p sticky) t = refl
 
 -- what is left of the entry of an object that the event doesn't touch is all of it
 untouched_left : (k : EventKind) (o : ℕ) (due : Option ℕ) (t : ℕ) → touches o k due t ≡ false → left_after k t due ≡ due
@@ -117,6 +118,7 @@ untouched_left (event.Program on) o due t h = refl
 untouched_left (event.Hard p state) o due t h = refl
 untouched_left (event.Downtime p change) o due t h = refl
 untouched_left (event.Flapping p starts) o due t h = refl
+untouched_left (event.Ack p sticky) o due t h = refl
 
 module _ (c : Config) (zone : Zone) (share : Share) (past : List Event) where
   -- the ready moment of an object of the share

@@ -1,7 +1,6 @@
 -- What is read to decide an event, and the event and the past that it is of.
 use Rattle.std.specs.Prelude.{◌≡◌, ℕ, ◌<◌, ◌≤◌, List, ◌∷◌, length}
 use Rattle.due_model.specs.declared.config.Config.{Config}
-use Rattle.due_model.specs.declared.config.Range.{Range}
 use Rattle.due_model.specs.declared.event.Event.{Event}
 use Rattle.due_model.specs.declared.zone.Zone.{Zone}
 use Rattle.due_model.specs.Accepted.{IsAccepted}
@@ -10,7 +9,7 @@ use Rattle.due_model.specs.Proper.{IsProper}
 use Rattle.due_model.specs.Readings.{moment as moment_of, program_on}
 use Rattle.due_times.specs.Index.{Due}
 use Rattle.problem_count.specs.Book.{BookValues}
-use Rattle.time_period.specs.Days.{AreCompiled}
+use Rattle.time_period.specs.Days.{AreCompiled, Worked}
 use Rattle.decider.specs.declared.reading.EventContext.{EventContext}
 use Rattle.decider.specs.declared.reading.Reading.{Reading}
 use Rattle.decider.specs.declared.share.Share.{Share}
@@ -20,7 +19,7 @@ use Rattle.decider.specs.Statuses.{StatusLists, StatusesFit}
 
 -- what is worked out of a configuration once
 pub record TableValues : Type 0 where
-  pub periods : List (List (List Range))
+  pub periods : List Worked
   -- among so many objects the search of dependencies goes
   pub searched : ℕ
 

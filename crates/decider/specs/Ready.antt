@@ -4,7 +4,7 @@ use Rattle.std.specs.Option.{option_map_or}
 use Rattle.due_model.specs.declared.config.Config.{Config}
 use Rattle.due_model.specs.declared.event.Event.{Event}
 use Rattle.due_model.specs.declared.event.EventKind.{EventKind}
-use Rattle.due_model.specs.declared.event.EventKind.TheVariants.{Clock, Program, Hard, Downtime, Flapping}
+use Rattle.due_model.specs.declared.event.EventKind.TheVariants.{Clock, Program, Hard, Downtime, Flapping, Ack}
 use Rattle.due_model.specs.declared.zone.Zone.{Zone}
 use Rattle.due_model.specs.Histories.{ready}
 use Rattle.due_model.specs.Limits.{max_objects}
@@ -39,6 +39,7 @@ is_clock (Program on) = false
 is_clock (Hard o state) = false
 is_clock (Downtime o change) = false
 is_clock (Flapping o starts) = false
+is_clock (Ack o sticky) = false
 
 -- whether object o has a problem that is ready by the moment of an event
 abbrev pub is_ready : Config → Zone → Event → List Event → (o : ℕ) → Bool

@@ -3,18 +3,20 @@ use Rattle.std.specs.Prelude.{◌≡◌, ℕ, Bool, false, List, length, replica
 use Rattle.due_model.specs.declared.config.ObjectId.{ObjectId}
 use Rattle.due_model.specs.declared.event.Event.{Event}
 use Rattle.due_model.specs.declared.event.EventKind.{EventKind}
-use Rattle.due_model.specs.declared.event.EventKind.TheVariants.{Clock, Program, Hard, Downtime, Flapping}
+use Rattle.due_model.specs.declared.event.EventKind.TheVariants.{Clock, Program, Hard, Downtime, Flapping, Ack}
 use Rattle.due_model.specs.declared.rules.ObjectStatus.{ObjectStatus}
 use Rattle.due_model.specs.declared.state.State.{State}
 use Rattle.due_model.specs.declared.state.State.TheVariants.{Pending}
+use Rattle.due_model.specs.Acknowledgements.{ack_after}
 use Rattle.due_model.specs.Histories.{status_after}
 use Rattle.due_model.specs.Readings.{depth_after, flapping_after, hard_after}
 
--- each object's last hard state, how many of its downtimes run, and whether it is flapping
+-- each object's last hard state, how many of its downtimes run, whether it is flapping, and how its problem is acknowledged
 pub record StatusLists : Type 0 where
   pub states : List State
   pub depths : List ℕ
   pub flaps : List Bool
+  pub acks : List (Option Bool)
 
 -- of so many objects of which nothing is known yet
 abbrev pub no_statuses : (objects : ℕ) → StatusLists
@@ -22,6 +24,7 @@ no_statuses objects = record {
   states = replicate objects Pending;
   depths = replicate objects 0;
   flaps = replicate objects false;
+  acks = replicate objects None;
 }
 
 -- the status of object o
@@ -30,6 +33,7 @@ status_at s o = record {
   state = slice_index_or s.states o Pending;
   depth = slice_index_or s.depths o 0;
   flapping = slice_index_or s.flaps o false;
+  acknowledged = slice_index_or s.acks o None;
 }
 
 -- with this status of object o
@@ -38,6 +42,7 @@ with_status s o status = record {
   states = slice_set s.states o status.state;
   depths = slice_set s.depths o status.depth;
   flaps = slice_set s.flaps o status.flapping;
+  acks = slice_set s.acks o status.acknowledged;
 }
 
 -- with this hard state of object o
@@ -52,12 +57,17 @@ with_depth s o depth = record s { depths = slice_set s.depths o depth }
 abbrev pub with_flapping : StatusLists → (o : ℕ) → Bool → StatusLists
 with_flapping s o flapping = record s { flaps = slice_set s.flaps o flapping }
 
+-- with the problem of object o acknowledged so, or not
+abbrev pub with_ack : StatusLists → (o : ℕ) → Option Bool → StatusLists
+with_ack s o acknowledged = record s { acks = slice_set s.acks o acknowledged }
+
 -- the status of object o after an event that says this, which was so before it
 abbrev pub status_by : (o : ℕ) → EventKind → ObjectStatus → ObjectStatus
 status_by o k old = record {
   state = hard_after o k old.state;
   depth = depth_after o k old.depth;
   flapping = flapping_after o k old.flapping;
+  acknowledged = ack_after o k old.state old.acknowledged;
 }
 
 -- the object that an event names
@@ -67,6 +77,7 @@ named_by (Program on) = None
 named_by (Hard o state) = Some o
 named_by (Downtime o change) = Some o
 named_by (Flapping o starts) = Some o
+named_by (Ack o sticky) = Some o
 
 -- the object to which it gives a hard state, and that state
 abbrev pub hard_by : EventKind → Option (ObjectId × State)
@@ -75,6 +86,7 @@ hard_by (Program on) = None
 hard_by (Hard o state) = Some (o, state)
 hard_by (Downtime o change) = None
 hard_by (Flapping o starts) = None
+hard_by (Ack o sticky) = None
 
 -- the statuses after an event that says this
 abbrev pub statuses_after : EventKind → StatusLists → StatusLists
@@ -88,4 +100,5 @@ pub record StatusesFit (objects : ℕ) (past : List Event) (s : StatusLists) : T
   pub states : length s.states ≡ objects
   pub depths : length s.depths ≡ objects
   pub flaps : length s.flaps ≡ objects
+  pub acks : length s.acks ≡ objects
   pub each : (o : ℕ) → status_at s o ≡ status_after o past

@@ -130,4 +130,12 @@ impl<'a> Decider<'a> {
     {
         self.log.lines()
     }
+
+    /// The suppressions so far as a vector, in the same order.
+    pub fn into_log(self) -> Vec<Suppression>
+        ensures { result.items ≡ (kept self.entry).log }
+    {
+        let Decider { core: _, log } = self;
+        log.into_lines()
+    }
 }

@@ -36,6 +36,7 @@ pub(crate) fn take_judged(index: &mut Index, event: EventKind, t: u64)
         EventKind::Hard(_, _) => {}
         EventKind::Downtime(_, _) => {}
         EventKind::Flapping(_, _) => {}
+        EventKind::Ack(_, _) => {}
     }
 }
 

@@ -117,6 +117,14 @@ pub(crate) fn stage_event(
             object,
             staged,
         ),
+        EventKind::Ack(object, _) => stage_owned(
+            alloc,
+            reading,
+            dependencies,
+            statuses,
+            object,
+            staged,
+        ),
     }
 }
 

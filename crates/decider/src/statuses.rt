@@ -1,11 +1,13 @@
 //! The status of each object.
 
 ghost use Rattle.std.specs.Prelude.{◌≡◌, ◌+◌, ◌^◌, ◌<◌};
-ghost use Rattle.std.specs.Prelude.{length, IfOk, IfSome, slice_index_or};
+ghost use Rattle.std.specs.Prelude.{length, IfOk, IfSome, slice_index_or, None};
 ghost use Rattle.due_model.specs.declared.state.State.TheVariants.{Pending};
+ghost use Rattle.due_model.specs.Acknowledgements.{ack_after};
 ghost use Rattle.due_model.specs.Readings.{depth_after, depth_changed, flapping_after};
 ghost use Rattle.decider.specs.Statuses.{hard_by, named_by, no_statuses, status_at, status_by};
-ghost use Rattle.decider.specs.Statuses.{statuses_after, with_depth, with_flapping, with_state};
+ghost use Rattle.decider.specs.Statuses.{statuses_after, with_ack, with_depth, with_flapping};
+ghost use Rattle.decider.specs.Statuses.{with_state};
 
 use due_model::config::ObjectId;
 use due_model::event::{DowntimeChange, EventKind};
@@ -14,7 +16,7 @@ use due_model::state::State;
 use std::alloc::{AllocError, Global};
 use std::marker::Model;
 
-/// The status of each object, by its number. It takes 10 bytes an object.
+/// The status of each object, by its number. It takes some 12 bytes an object.
 #[derive(Drop)]
 pub(crate) struct Statuses {
     /// The last hard state of each.
@@ -23,6 +25,8 @@ pub(crate) struct Statuses {
     depths: Vec<u64>,
     /// Whether each is flapping.
     flaps: Vec<bool>,
+    /// How the running problem of each is acknowledged: sticky or not; none where it isn't.
+    acks: Vec<Option<bool>>,
 }
 
 impl Model for Statuses {
@@ -35,11 +39,13 @@ impl Model for Statuses {
       states = s.states.items;
       depths = s.depths.items;
       flaps = s.flaps.items;
+      acks = s.acks.items;
     } };
 
     // There are as many of each.
     ghost invariant = { λ s. (length s.depths.items ≡ length s.states.items)
-        × (length s.flaps.items ≡ length s.states.items) };
+        × (length s.flaps.items ≡ length s.states.items)
+        × (length s.acks.items ≡ length s.states.items) };
 }
 
 impl Statuses {
@@ -51,6 +57,7 @@ impl Statuses {
             states: vec![in alloc; State::Pending; objects]?,
             depths: vec![in alloc; 0; objects]?,
             flaps: vec![in alloc; false; objects]?,
+            acks: vec![in alloc; None; objects]?,
         })
     }
 
@@ -64,6 +71,7 @@ impl Statuses {
             state: self.states[number],
             depth: self.depths[number],
             flapping: self.flaps[number],
+            acknowledged: self.acks[number],
         }
     }
 
@@ -105,6 +113,17 @@ impl Statuses {
         self.flaps[usize::from(object.0)] = flapping;
     }
 
+    /// Says how the problem of an object is acknowledged after an event, of which its state is the one before it.
+    fn follow_ack(&mut self, object: ObjectId, event: EventKind)
+        requires { object.0 < length self.old.states }
+        ensures { self.new ≡ with_ack self.old object.0 (ack_after object.0 event
+            (slice_index_or self.old.states object.0 Pending)
+            (slice_index_or self.old.acks object.0 None)) }
+    {
+        let number = usize::from(object.0);
+        self.acks[number] = event.ack_after(object, self.states[number], self.acks[number]);
+    }
+
     /// Counts an event.
     pub(crate) fn count(&mut self, event: EventKind)
         requires named { IfSome (named_by event) (λ object. (object.0 < length self.old.states)
@@ -115,10 +134,12 @@ impl Statuses {
             EventKind::Clock => {}
             EventKind::Program(_) => {}
             EventKind::Hard(object, state) => {
+                self.follow_ack(object, event);
                 self.replace_state(object, state);
             }
             EventKind::Downtime(object, change) => self.change_depth(object, change),
             EventKind::Flapping(object, starts) => self.set_flapping(object, starts),
+            EventKind::Ack(object, _) => self.follow_ack(object, event),
         }
     }
 }
@@ -142,6 +163,7 @@ pub(crate) fn status_by(old: ObjectStatus, event: EventKind, object: ObjectId) -
         state: event.hard_after(object, old.state),
         depth: depth_by(old.depth, event, object),
         flapping: flapping_by(old.flapping, event, object),
+        acknowledged: event.ack_after(object, old.state, old.acknowledged),
     }
 }
 

@@ -1,2 +1,5 @@
-pub mod TryLaws
+pub mod DrainLaws
 pub mod LaneLaws
+pub mod PickLaws
+pub mod TendLaws
+pub mod TryLaws

@@ -1,7 +1,10 @@
 -- What tries that failed leave, and how a lane's record stands after a notice was handed to its channel.
-use Rattle.std.specs.Prelude.{◌≡◌, ℕ, ◌+◌, ◌-◌, ◌^◌, ◌<◌, ◌≤◌, ◌⊎◌, List, [], ◌∷◌, ◌++◌, Some}
+use Rattle.std.specs.Prelude.{◌≡◌, ℕ, ◌+◌, ◌-◌, ◌^◌, ◌<◌, ◌≤◌, ◌⊎◌, List, [], ◌∷◌, ◌++◌}
+use Rattle.std.specs.Prelude.{Option, Some, length}
 use Rattle.std.specs.Option.{option_to_list}
+use Rattle.due_model.specs.declared.config.Config.{Config}
 use Rattle.due_model.specs.declared.notice.Notice.{Notice}
+use Rattle.channel.specs.Letter.{letter_of}
 use Rattle.undelivered.specs.Record.{Record}
 use Rattle.undelivered.specs.declared.Why.{Why}
 use Rattle.undelivered.specs.declared.Why.TheVariants.{NoMemory}
@@ -56,3 +59,10 @@ KeepsInHand why n old new =
 -- all that a record holds, in order: what its channel has taken, the notice in hand, what was given up
 abbrev pub contents : Record → List Notice
 contents lane = lane.taken ++ option_to_list lane.hand ++ lane.undelivered
+
+-- The notice in hand failed: the count of failures stood no lower than `old` when its letter was first tried, and from there on
+-- so many tries of it failed.
+abbrev pub HasFailed : (tries : ℕ) → Config → (limit old new : ℕ) → (hand : Option Notice) → Type 0
+HasFailed tries c limit old new hand =
+    (n : Notice) × (first : ℕ) × (hand ≡ Some n) × (old ≤ first)
+    × TriesFailed tries limit (length (letter_of c n)) first new

@@ -10,24 +10,15 @@ ghost use Rattle.delivery_worker.specs.Attempts.{HasTriedAndAsked, KeepsInHand, 
 ghost use Rattle.delivery_worker.specs.Attempts.{contents, with_taken};
 ghost use Rattle.due_model.specs.declared.notice.Notice.{Notice};
 
+use crate::hand::keep_room;
 use crate::laws::attempt;
 use crate::{Attempted, Bell};
 use channel::Channel;
 use channel::letter::letter_text;
 use due_model::config::Config;
 use due_model::notice::Notice;
-use std::alloc::{AllocError, Global};
+use std::alloc::Global;
 use undelivered::{LaneRecord, Why};
-
-/// Makes room for one receipt more. A refused growth is the only error; nothing that a letter is tried by changes.
-fn keep_room(channel: &mut Box<dyn Channel>) -> Result<(), AllocError>
-    ensures room { OnOk result (0 < room channel.new) }
-    ensures taken { taken channel.new ≡ taken channel.old }
-    ensures failures { failures channel.new ≡ failures channel.old }
-    ensures limit { limit channel.new ≡ limit channel.old }
-{
-    channel.reserve()
-}
 
 /// Takes a notice up and hands its letter to the lane's channel, as often as it may be tried. After Ok the channel and the
 /// record have it as the last that was taken. An error says why the lane is to close: `Asked`, `Failed`, or `NoMemory`, where a

@@ -1,12 +1,19 @@
-//! How the worker of a lane hands a notice to the lane's channel: as often as it may be tried, unless a bell says that the
-//! lane is to close.
+//! The worker of a lane: it picks what the deciders put into the lane's queue, and hands each notice to the lane's channel, as
+//! often as it may be tried, unless a bell says that the lane is to close. What comes after the close stays undelivered.
 #![tactic(auto)]
 
 ghost use Rattle.std.specs.Prelude.{◌≡◌, ◌+◌, if◌then◌else◌};
 ghost use Rattle.channel.specs.Channels.{IsCounted};
 
 pub mod delivery;
+mod hand;
 pub mod laws;
+mod queue;
+mod worker;
+
+use due_model::config::LaneId;
+use due_model::notice::Notice;
+pub use worker::{Served, serve, tend_next};
 
 /// What tells a worker that its lane is to close.
 pub trait Bell {
@@ -27,6 +34,15 @@ pub trait Bell {
     /// How many true answers there were.
     fn count(&self) -> u64
         ensures { result ≡ count self.now };
+}
+
+/// What holds notices and events back for a while.
+pub trait Gate {
+    /// Whether the notice may be tried on its lane now.
+    fn admit(&self, lane: LaneId, notice: &Notice) -> bool;
+
+    /// Called by a decider before each event.
+    fn turn(&self, decider: u8);
 }
 
 /// What became of a letter that was tried.

@@ -44,10 +44,11 @@ object_filter c zone v a f is =
     ∷ (is_recovery a.kind && v.sent == 0, why.NoProblem)
     ∷ (not (in_period c zone v.period a.moment), why.Period)
     ∷ (is_of_problem a.kind && v.depends, why.Dependency)
+    ∷ (is_problem a.kind && v.acknowledged, why.Acknowledged)
     ∷ (is_problem a.kind && v.sent == 0 && nat_lt a.moment (v.began + 60 * v.delay), why.FirstDelay)
     ∷ (is_problem a.kind && is_too_soon v.last a.state a.moment, why.Interval)
     ∷ [])
-    (refl, (refl, (refl, (refl, (refl, (refl, (refl, (refl, (refl, (refl, tt)))))))))) f is
+    (refl, (refl, (refl, (refl, (refl, (refl, (refl, (refl, (refl, (refl, (refl, tt))))))))))) f is
 
 contact_filter : (c : Config) (zone : Zone) (rights : Rights) (a : Attempt) (f : Filter) → contact_failing c zone rights a ≡ Some f → is_of_contact f ≡ true
 contact_filter c zone rights a f is =

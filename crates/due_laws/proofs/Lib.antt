@@ -1,3 +1,4 @@
+pub mod Acknowledgements
 pub mod Answered
 pub mod Begins
 pub mod DependencyLaws

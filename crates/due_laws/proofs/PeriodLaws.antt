@@ -12,7 +12,7 @@ use Rattle.due_model.specs.declared.config.Range.{Range}
 use Rattle.due_model.specs.declared.zone.Zone.{Zone}
 use Rattle.due_model.specs.Accepted.{Chain, Excludes, IsAccepted, PeriodFits}
 use Rattle.due_model.specs.Local.{Local, local}
-use Rattle.due_model.specs.Periods.{holds, in_period, in_range, ranges_on}
+use Rattle.due_model.specs.Periods.{holds, in_period, in_range, ranges_at}
 use Rattle.lemmas.proofs.Lists.{any_alike, All-slice_get}
 use Rattle.due_laws.specs.Periods.{HoldsByRanges}
 use Rattle.lemmas.proofs.Dependencies.{each_fails}
@@ -20,7 +20,7 @@ use Rattle.due_laws.proofs.ShortChains.{short}
 
 -- what a period's definition says of it, where `inner` says which periods hold
 abbrev holds_by : (PeriodId → Bool) → Local → Period → Bool
-holds_by inner time period = list_any (in_range time.second) (ranges_on period time.weekday) && not (list_any inner period.excludes)
+holds_by inner time period = list_any (in_range time.second) (ranges_at period time) && not (list_any inner period.excludes)
 
 abbrev holds_if : (PeriodId → Bool) → Local → Option Period → Bool
 holds_if inner time None = false
@@ -32,7 +32,7 @@ module _ (c : Config) (time : Local) where
       → holds_if (λ q. holds d c.periods q.0 time) time found ≡ holds_if (λ q. holds (suc d) c.periods q.0 time) time found
   same_found d p further none None is = refl
   same_found d p further none (Some period) is =
-      ap (λ b. list_any (in_range time.second) (ranges_on period time.weekday) && not b)
+      ap (λ b. list_any (in_range time.second) (ranges_at period time) && not b)
       (any_alike (λ q. holds d c.periods q.0 time) (λ q. holds (suc d) c.periods q.0 time) period.excludes
       (λ x found. further x.0 (λ q chain. none q (x.0, (period, is, found), chain))))
 
@@ -60,7 +60,7 @@ module _ (c : Config) (time : Local) where
     with_depth zero p period n at = let within = slice_get_within c.periods p period at in absurd (omega (arith, n, within))
     with_depth (suc d) p period n at =
         ap (holds_if (λ q. holds d c.periods q.0 time) time) at
-        ∙ ap (λ b. list_any (in_range time.second) (ranges_on period time.weekday) && not b)
+        ∙ ap (λ b. list_any (in_range time.second) (ranges_at period time) && not b)
         (any_alike (λ q. holds d c.periods q.0 time) (λ q. holds (suc d) c.periods q.0 time) period.excludes
         (λ x found. same_excluded d p x.0 n (period, at, found)))
 
@@ -83,7 +83,7 @@ pub holds_by_ranges : (c : Config) (zone : Zone) (p : PeriodId) (period : Period
 holds_by_ranges c zone p period t accepted at =
     let time = local zone t in
     let inner : PeriodId → Bool = λ q. in_period c zone (Some q) t in
-    let ranges = ranges_on period time.weekday in
+    let ranges = ranges_at period time in
     let same : in_period c zone (Some p) t ≡ holds_by inner time period = with_depth c time accepted (length c.periods) p.0 period refl at in (
       λ h.
           let parts = and_parts (list_any (in_range time.second) ranges) (not (list_any inner period.excludes)) (sym same ∙ h) in

@@ -37,8 +37,9 @@ pub record Passes (v : View) (a : Attempt) : Type 0 where
 
 pub passes_from_none : (c : Config) (zone : Zone) (v : View) (a : Attempt) → failing c zone v a ≡ None → Passes v a
 passes_from_none c zone v a h =
-    let t10 : List (Bool × Filter) = (is_problem a.kind && is_too_soon v.last a.state a.moment, why.Interval) ∷ [] in
-    let t9 : List (Bool × Filter) = (is_problem a.kind && v.sent == 0 && nat_lt a.moment (v.began + 60 * v.delay), why.FirstDelay) ∷ t10 in
+    let t11 : List (Bool × Filter) = (is_problem a.kind && is_too_soon v.last a.state a.moment, why.Interval) ∷ [] in
+    let t10 : List (Bool × Filter) = (is_problem a.kind && v.sent == 0 && nat_lt a.moment (v.began + 60 * v.delay), why.FirstDelay) ∷ t11 in
+    let t9 : List (Bool × Filter) = (is_problem a.kind && v.acknowledged, why.Acknowledged) ∷ t10 in
     let t8 : List (Bool × Filter) = (is_of_problem a.kind && v.depends, why.Dependency) ∷ t9 in
     let t7 : List (Bool × Filter) = (not (in_period c zone v.period a.moment), why.Period) ∷ t8 in
     let t6 : List (Bool × Filter) = (is_recovery a.kind && v.sent == 0, why.NoProblem) ∷ t7 in
@@ -54,9 +55,10 @@ passes_from_none c zone v a h =
     let p6 = none_by_test (is_recovery a.kind && v.sent == 0) why.NoProblem t7 p5.1 in
     let p7 = none_by_test (not (in_period c zone v.period a.moment)) why.Period t8 p6.1 in
     let p8 = none_by_test (is_of_problem a.kind && v.depends) why.Dependency t9 p7.1 in
-    let p9 = none_by_test (is_problem a.kind && v.sent == 0 && nat_lt a.moment (v.began + 60 * v.delay)) why.FirstDelay t10 p8.1 in
-    let p10 = none_by_test (is_problem a.kind && is_too_soon v.last a.state a.moment) why.Interval [] p9.1 in
-    record { program = not-false v.program p1.0; down = p3.0; flapping = p4.0; sent = p6.0; interval = p10.0 }
+    let p9 = none_by_test (is_problem a.kind && v.acknowledged) why.Acknowledged t10 p8.1 in
+    let p10 = none_by_test (is_problem a.kind && v.sent == 0 && nat_lt a.moment (v.began + 60 * v.delay)) why.FirstDelay t11 p9.1 in
+    let p11 = none_by_test (is_problem a.kind && is_too_soon v.last a.state a.moment) why.Interval [] p10.1 in
+    record { program = not-false v.program p1.0; down = p3.0; flapping = p4.0; sent = p6.0; interval = p11.0 }
 
 -- a problem or a recovery tells of no downtime
 pub problem_is_not_downtime : (k : Kind) → is_of_problem k ≡ true → not (is_of_downtime k) ≡ true

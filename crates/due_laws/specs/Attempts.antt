@@ -26,6 +26,7 @@ is_of_contact filters.Options = false
 is_of_contact filters.NoProblem = false
 is_of_contact filters.Period = false
 is_of_contact filters.Dependency = false
+is_of_contact filters.Acknowledged = false
 is_of_contact filters.FirstDelay = false
 is_of_contact filters.Interval = false
 is_of_contact filters.ContactDisabled = true

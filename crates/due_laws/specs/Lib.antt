@@ -5,3 +5,6 @@ pub mod Dependencies
 pub mod Periods
 pub mod Readings
 pub mod Rows
+pub mod Orders
+pub mod Retries
+pub mod Acknowledgements

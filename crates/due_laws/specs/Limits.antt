@@ -1,6 +1,6 @@
 -- The numbers of the limits.
 use Rattle.std.specs.Prelude.{◌≡◌}
-use Rattle.due_model.specs.Limits.{max_objects, max_contacts, max_lanes, max_periods, max_escalations, max_dependencies, max_number, last_moment, day, text_limit, line_limit, max_events, max_deciders, max_queue, max_tries}
+use Rattle.due_model.specs.Limits.{max_objects, max_contacts, max_lanes, max_periods, max_escalations, max_dependencies, max_number, last_moment, day, text_limit, line_limit, max_events, max_deciders}
 
 pub record LimitsAreThese : Type 0 where
   pub objects : max_objects ≡ 65_535
@@ -20,5 +20,3 @@ pub record LimitsAreThese : Type 0 where
   -- 2 ^ 32
   pub events : max_events ≡ 4_294_967_296
   pub deciders : max_deciders ≡ 8
-  pub queue : max_queue ≡ 1_024
-  pub tries : max_tries ≡ 10

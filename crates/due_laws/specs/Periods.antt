@@ -6,12 +6,12 @@ use Rattle.due_model.specs.declared.config.PeriodId.{PeriodId}
 use Rattle.due_model.specs.declared.zone.Zone.{Zone}
 use Rattle.due_model.specs.Accepted.{IsAccepted}
 use Rattle.due_model.specs.Local.{local}
-use Rattle.due_model.specs.Periods.{in_period, next_in, ranges_on}
+use Rattle.due_model.specs.Periods.{in_period, next_in, ranges_at}
 
--- some range of the local weekday has the local second, and none of the periods that this one excludes holds
+-- some range of the local day has the local second, and none of the periods that this one excludes holds
 pub record HoldsByRanges (c : Config) (zone : Zone) (t : ℕ) (period : Period) : Type 0 where
   pub in_a_range : Any (λ range. (range.start ≤ (local zone t).second)
-      × ((local zone t).second < range.end)) (ranges_on period (local zone t).weekday)
+      × ((local zone t).second < range.end)) (ranges_at period (local zone t))
   pub not_excluded : All (λ excluded. in_period c zone (Some excluded) t ≡ false) period.excludes
 
 -- A period of an accepted configuration holds exactly there (chapter "Time Periods").

@@ -1,18 +1,19 @@
 -- What the readings of the past say of the whole list of events, in the order of the feed.
-use Rattle.std.specs.Prelude.{◌≡◌, ◌↔◌, ℕ, ◌-◌, ◌<◌, ◌≤◌, ◌⊎◌, Bool, true, false, ◌&&◌, List, [], ◌∷◌, ◌++◌, length, reverse, take, All, Any, count_by, ◌==◌, Option, None, Some, IsTrue, if◌then◌else◌}
+use Rattle.std.specs.Prelude.{◌≡◌, ◌↔◌, ℕ, ◌-◌, ◌<◌, ◌≤◌, ◌⊎◌, Bool, true, false, List, [], ◌∷◌, ◌++◌, length, reverse, take, All, Any, count_by, ◌==◌, Option, None, Some, IsTrue, if◌then◌else◌}
 use Rattle.due_model.specs.declared.config.Config.{Config}
 use Rattle.due_model.specs.declared.config.Object.{Object}
 use Rattle.due_model.specs.declared.event.Event.{Event}
 use Rattle.due_model.specs.declared.event.EventKind.{EventKind}
-use Rattle.due_model.specs.declared.event.EventKind.TheVariants.{Clock, Program, Hard, Downtime, Flapping}
+use Rattle.due_model.specs.declared.event.EventKind.TheVariants.{Clock, Program, Hard, Downtime, Flapping, Ack}
 use Rattle.due_model.specs.declared.event.DowntimeChange.TheVariants.{Start, End, Cancelled}
 use Rattle.due_model.specs.declared.notice.Outcome.{Outcome}
 use Rattle.due_model.specs.declared.notice.Outcome.TheVariants.{Nothing, Sent, Suppressed}
 use Rattle.due_model.specs.declared.state.State.{State}
 use Rattle.due_model.specs.declared.state.State.TheVariants as state
 use Rattle.due_model.specs.declared.zone.Zone.{Zone}
+use Rattle.due_model.specs.Acknowledgements.{is_ok_of}
 use Rattle.due_model.specs.Histories.{of_problem, notices_sent, last_notice, ready, retry_after}
-use Rattle.due_model.specs.Readings.{moment, program_on, hard, flapping, down, began, is_ok_state, is_problem_of, is_problem_state}
+use Rattle.due_model.specs.Readings.{moment, program_on, hard, flapping, down, began, is_problem_of, is_problem_state}
 use Rattle.due_model.specs.Rules.{is_problem, next_notice}
 
 -- The moment after some events is at least each stamp, and one of them.
@@ -56,6 +57,7 @@ starts_downtime o (Downtime p Start) = p.0 == o
 starts_downtime o (Downtime p End) = false
 starts_downtime o (Downtime p Cancelled) = false
 starts_downtime o (Flapping p starts) = false
+starts_downtime o (Ack p sticky) = false
 
 abbrev pub ends_downtime : ℕ → EventKind → Bool
 ends_downtime o Clock = false
@@ -65,6 +67,7 @@ ends_downtime o (Downtime p Start) = false
 ends_downtime o (Downtime p End) = p.0 == o
 ends_downtime o (Downtime p Cancelled) = p.0 == o
 ends_downtime o (Flapping p starts) = false
+ends_downtime o (Ack p sticky) = false
 
 abbrev pub starts_in : ℕ → List Event → ℕ
 starts_in o events = count_by (λ e. starts_downtime o e.kind) events
@@ -86,14 +89,6 @@ DownWhereStartsOutnumber = (o : ℕ) (feed : List Event)
     ↔ ((earlier : List Event) × (s : Event) × (later : List Event)
     × (feed ≡ earlier ++ s ∷ later) × Outnumbers o s later)
 
--- an event is a hard OK state of the object
-abbrev pub is_ok_of : ℕ → EventKind → Bool
-is_ok_of o Clock = false
-is_ok_of o (Program on) = false
-is_ok_of o (Hard p s) = p.0 == o && is_ok_state s
-is_ok_of o (Downtime p change) = false
-is_ok_of o (Flapping p starts) = false
-
 abbrev pub is_pending : State → Bool
 is_pending state.Pending = true
 is_pending state.Up = false
@@ -111,6 +106,7 @@ is_pending_event (Program on) = false
 is_pending_event (Hard p s) = is_pending s
 is_pending_event (Downtime p change) = false
 is_pending_event (Flapping p starts) = false
+is_pending_event (Ack p sticky) = false
 
 -- event b, with `later` after it, is a hard problem state of the object, and no event strictly between it and the last is a hard
 -- OK state of it
@@ -157,6 +153,7 @@ hard_state_of o (Program on) = None
 hard_state_of o (Hard p s) = if p.0 == o then Some s else None
 hard_state_of o (Downtime p change) = None
 hard_state_of o (Flapping p starts) = None
+hard_state_of o (Ack p sticky) = None
 
 -- whether an event says that object o starts or stops flapping, if it says so
 abbrev pub flapping_of : ℕ → EventKind → Option Bool
@@ -165,6 +162,7 @@ flapping_of o (Program on) = None
 flapping_of o (Hard p s) = None
 flapping_of o (Downtime p change) = None
 flapping_of o (Flapping p starts) = if p.0 == o then Some starts else None
+flapping_of o (Ack p sticky) = None
 
 -- the program switch that an event sets, if it sets one
 abbrev pub switch_of : EventKind → Option Bool
@@ -173,6 +171,7 @@ switch_of (Program on) = Some on
 switch_of (Hard p s) = None
 switch_of (Downtime p change) = None
 switch_of (Flapping p starts) = None
+switch_of (Ack p sticky) = None
 
 -- a value is that of the last event of the feed that gives one; where none does, it is the first value
 abbrev pub IsOfLastEvent : {X : Type 0} → (EventKind → Option X) → X → List Event → X → Type 0

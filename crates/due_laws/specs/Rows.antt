@@ -18,6 +18,7 @@ use Rattle.due_model.specs.declared.notice.Kind.{Kind}
 use Rattle.due_model.specs.declared.notice.Kind.TheVariants as kind
 use Rattle.due_model.specs.declared.notice.Notice.{Notice}
 use Rattle.due_model.specs.declared.notice.Suppression.{Suppression}
+use Rattle.due_model.specs.declared.options.OptionLetters.{OptionLetters}
 use Rattle.due_model.specs.declared.state.State.{State}
 use Rattle.due_model.specs.declared.state.State.TheVariants as state
 use Rattle.due_model.specs.declared.state.StateSet.{StateSet}
@@ -74,6 +75,13 @@ at t k = record { moment = t; kind = k }
 -- object o has a hard state
 abbrev pub has : ℕ → State → EventKind
 has o s = event.Hard (record { 0 = o }) s
+
+abbrev pub downtime : ℕ → EventKind
+downtime o = event.Downtime (record { 0 = o }) change.Start
+
+-- the same hours on each day of the week
+abbrev pub daily : List Range → Period
+daily ranges = record { name = codes "work"; days = replicate 7 ranges; dated = []; excludes = [] }
 
 -- what a report says of a notice: event, moment, kind, state, number, contact
 abbrev pub NoticeRow : Type 0
@@ -167,6 +175,48 @@ OverlappingEscalations = Gives overlap 0
     ∷ (7, 9300, kind.Problem, state.Down, 6, 2) ∷ (9, 12900, kind.Problem, state.Down, 7, 2) ∷ [])
     []
 
+-- an escalation of web to bob from the first notification on, with these options
+abbrev pub always_to_bob : OptionLetters → Escalation
+always_to_bob options = record (escalation 0 0 0 1 1) { options = options }
+
+-- an escalation whose options lack the letter of a problem or of a recovery doesn't match it
+abbrev pub EscalationOptions : Type 0
+EscalationOptions = Gives
+    (with_bob (always_to_bob (record every_letter { down = false; recovery = false }) ∷ [])) 0
+    (at 1000 (has 0 state.Down) ∷ at 1010 (has 0 state.Unreachable) ∷ at 1020 (has 0 state.Up) ∷ [])
+    ((0, 1000, kind.Problem, state.Down, 1, 0) ∷ (1, 1010, kind.Problem, state.Unreachable, 2, 1)
+    ∷ (2, 1020, kind.Recovery, state.Up, 3, 0) ∷ [])
+    []
+
+-- an escalation outside of its period doesn't match: here from 09:00 to 17:00
+abbrev pub EscalationPeriod : Type 0
+EscalationPeriod = Gives (record
+    (with_bob (record (always_to_bob every_letter) { period = Some (record { 0 = 0 }) } ∷ []))
+    { periods = daily (record { start = 32400; end = 61200 } ∷ []) ∷ [] }) 0
+    (at 32399 (has 0 state.Down) ∷ at 32400 (has 0 state.Unreachable) ∷ at 61200 (has 0 state.Up)
+    ∷ [])
+    ((0, 32399, kind.Problem, state.Down, 1, 0)
+    ∷ (1, 32400, kind.Problem, state.Unreachable, 2, 1)
+    ∷ (2, 61200, kind.Recovery, state.Up, 3, 0) ∷ [])
+    []
+
+-- flapping and downtime are told to the object's own contacts, whatever escalation there is
+abbrev pub OwnContacts : Type 0
+OwnContacts = Gives (with_bob (always_to_bob every_letter ∷ [])) 0
+    (at 1000 (event.Flapping (record { 0 = 0 }) true)
+    ∷ at 1010 (event.Flapping (record { 0 = 0 }) false)
+    ∷ at 1020 (downtime 0) ∷ at 1030 (event.Downtime (record { 0 = 0 }) change.End)
+    ∷ at 1040 (downtime 0) ∷ at 1050 (event.Downtime (record { 0 = 0 }) change.Cancelled)
+    ∷ at 1060 (has 0 state.Down) ∷ [])
+    ((0, 1000, kind.FlappingStart, state.Pending, 0, 0)
+    ∷ (1, 1010, kind.FlappingStop, state.Pending, 0, 0)
+    ∷ (2, 1020, kind.DowntimeStart, state.Pending, 0, 0)
+    ∷ (3, 1030, kind.DowntimeEnd, state.Pending, 0, 0)
+    ∷ (4, 1040, kind.DowntimeStart, state.Pending, 0, 0)
+    ∷ (5, 1050, kind.DowntimeCancelled, state.Pending, 0, 0)
+    ∷ (6, 1060, kind.Problem, state.Down, 1, 1) ∷ [])
+    []
+
 -- after a notice with the interval 0 none follows until the state changes
 abbrev pub IntervalZero : Type 0
 IntervalZero = Gives (record (with_bob (escalation 1 4 6 0 1 ∷ []))
@@ -179,9 +229,6 @@ IntervalZero = Gives (record (with_bob (escalation 1 4 6 0 1 ∷ []))
     ∷ (3, 1180, kind.Problem, state.Warning, 4, 1) ∷ (6, 10000, kind.Problem, state.Critical, 5, 1)
     ∷ [])
     []
-
-abbrev pub downtime : ℕ → EventKind
-downtime o = event.Downtime (record { 0 = o }) change.Start
 
 abbrev pub InDowntime : Type 0
 InDowntime = Gives base 0
@@ -215,6 +262,37 @@ WhileFlapping = Gives base 0
     ∷ (2, 1020, kind.FlappingStop, state.Down, 0, 0)
     ∷ (4, 1070, kind.Problem, state.Down, 1, 0) ∷ [])
     ((1, 1010, kind.Problem, state.Down, filter.Flapping) ∷ [])
+
+-- web is down, somebody takes that on, it is still down, then unreachable, and up again
+abbrev pub acknowledged_once : (sticky : Bool) → List Event
+acknowledged_once sticky = at 1000 (has 0 state.Down) ∷ at 1010 (event.Ack (record { 0 = 0 }) sticky)
+    ∷ at 1060 event.Clock ∷ at 1120 event.Clock ∷ at 1130 (has 0 state.Down)
+    ∷ at 1140 (has 0 state.Unreachable) ∷ at 1150 (has 0 state.Up) ∷ []
+
+-- An acknowledgement holds the notices of a problem back, and the clock doesn't attempt the problem again. A change of
+-- state ends it, unless it is sticky; recoveries are told.
+abbrev pub Acknowledged : Type 0
+Acknowledged = Gives base 0 (acknowledged_once false)
+    ((0, 1000, kind.Problem, state.Down, 1, 0) ∷ (5, 1140, kind.Problem, state.Unreachable, 2, 0)
+    ∷ (6, 1150, kind.Recovery, state.Up, 3, 0) ∷ [])
+    ((2, 1060, kind.Problem, state.Down, filter.Acknowledged)
+    ∷ (4, 1130, kind.Problem, state.Down, filter.Acknowledged) ∷ [])
+    × Gives base 0 (acknowledged_once true)
+    ((0, 1000, kind.Problem, state.Down, 1, 0) ∷ (6, 1150, kind.Recovery, state.Up, 2, 0) ∷ [])
+    ((2, 1060, kind.Problem, state.Down, filter.Acknowledged)
+    ∷ (4, 1130, kind.Problem, state.Down, filter.Acknowledged)
+    ∷ (5, 1140, kind.Problem, state.Unreachable, filter.Acknowledged) ∷ [])
+
+-- an acknowledgement of an object that is up is none, and none outlasts an OK state
+abbrev pub AcknowledgedUp : Type 0
+AcknowledgedUp = Gives base 0
+    (at 1000 (event.Ack (record { 0 = 0 }) true) ∷ at 1010 (has 0 state.Up)
+    ∷ at 1020 (event.Ack (record { 0 = 0 }) true) ∷ at 1030 (has 0 state.Down)
+    ∷ at 1040 (event.Ack (record { 0 = 0 }) true) ∷ at 1050 (has 0 state.Up)
+    ∷ at 1060 (has 0 state.Down) ∷ [])
+    ((3, 1030, kind.Problem, state.Down, 1, 0) ∷ (5, 1050, kind.Recovery, state.Up, 2, 0)
+    ∷ (6, 1060, kind.Problem, state.Down, 1, 0) ∷ [])
+    []
 
 -- objects 1, 2 and 3 are the services A, C and B of web: A depends on B, and B on C
 abbrev pub only_critical : StateSet
@@ -265,10 +343,6 @@ FirstDelay = Gives (record base { objects = record web { delay = 2 } ∷ [] }) 0
     ((2, 1120, kind.Problem, state.Down, 1, 0) ∷ [])
     ((0, 1000, kind.Problem, state.Down, filter.FirstDelay) ∷ [])
 
--- the same hours on each day of the week
-abbrev pub daily : List Range → Period
-daily ranges = record { name = codes "work"; days = replicate 7 ranges; excludes = [] }
-
 abbrev pub work_hours : Config
 work_hours = record base {
   objects = record web { period = Some (record { 0 = 0 }) } ∷ [];
@@ -306,7 +380,7 @@ ContactOptions = sup (record base
 -- a period that holds on Thursdays, but not where these others do
 abbrev pub thursdays : List Range → List PeriodId → Period
 thursdays ranges excludes = record
-    { name = codes "day"; days = replicate 4 [] ++ ranges ∷ [] ∷ [] ∷ []; excludes = excludes }
+    { name = codes "day"; days = replicate 4 [] ++ ranges ∷ [] ∷ [] ∷ []; dated = []; excludes = excludes }
 
 -- period 0 is all of Thursday without lunch, period 1 is lunch without tea, period 2 is tea
 abbrev pub meals : Config

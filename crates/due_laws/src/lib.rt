@@ -4,6 +4,7 @@
 
 pub mod attempts;
 pub mod dependencies;
+pub mod filters;
 pub mod laws;
 pub mod limits;
 pub mod periods;

@@ -2,7 +2,7 @@
 
 ghost use Rattle.due_laws.specs.Periods.{PeriodsHoldByRanges, NextIsLeast};
 
-/// A period of an accepted configuration holds exactly where a range of the local weekday has the local second
+/// A period of an accepted configuration holds exactly where a range of the local day has the local second
 /// and none of the periods that it excludes holds.
 pub fn hold_by_ranges()
     ensures { PeriodsHoldByRanges }

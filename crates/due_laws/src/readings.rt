@@ -3,6 +3,7 @@
 ghost use Rattle.due_laws.specs.Readings.{MomentIsGreatestStamp, IsReadyByLast, DownWhereStartsOutnumber};
 ghost use Rattle.due_laws.specs.Readings.{BeginIsLeast, HardIsOfLastEvent, FlappingIsOfLastEvent};
 ghost use Rattle.due_laws.specs.Readings.{SwitchIsOfLastEvent};
+ghost use Rattle.due_laws.specs.Acknowledgements.{AckedByLastAcknowledgement};
 
 /// The readings say of the whole list of events what the manual says: the moment is the greatest stamp, the
 /// ready moment comes from the last problem attempt, the object is in downtime where from some start on starts
@@ -19,4 +20,10 @@ pub fn follow_the_last_event()
     ensures hard { HardIsOfLastEvent }
     ensures flapping { FlappingIsOfLastEvent }
     ensures switch { SwitchIsOfLastEvent }
+{}
+
+/// A problem is acknowledged where its last acknowledgement holds: no OK state came since, and, unless it is sticky,
+/// the state is the same (chapter "External Commands").
+pub fn follow_the_acknowledgement()
+    ensures { AckedByLastAcknowledgement }
 {}

@@ -2,7 +2,9 @@
 
 ghost use Rattle.due_laws.specs.Rows.{OneHostDown, EmptyFeed, Renotify, SameStateTooSoon, ProgramSwitch};
 ghost use Rattle.due_laws.specs.Rows.{EscalationAndRecovery, OverlappingEscalations, IntervalZero};
+ghost use Rattle.due_laws.specs.Rows.{EscalationOptions, EscalationPeriod, OwnContacts};
 ghost use Rattle.due_laws.specs.Rows.{InDowntime, NestedDowntimes, WhileFlapping, DependencyChain};
+ghost use Rattle.due_laws.specs.Rows.{Acknowledged, AcknowledgedUp};
 ghost use Rattle.due_laws.specs.Rows.{FirstDelay, ContactOptions, WorkHours, NestedExclusion};
 
 /// The definitions give what the worked examples say of one host: a notice, none, the next after the
@@ -20,6 +22,9 @@ pub fn worked_escalations()
     ensures escalation_and_recovery { EscalationAndRecovery }
     ensures overlapping { OverlappingEscalations }
     ensures interval_zero { IntervalZero }
+    ensures options { EscalationOptions }
+    ensures period { EscalationPeriod }
+    ensures own_contacts { OwnContacts }
 {}
 
 /// The definitions give what the worked examples say of the other filters.
@@ -28,6 +33,8 @@ pub fn worked_filters()
     ensures nested_downtimes { NestedDowntimes }
     ensures flapping { WhileFlapping }
     ensures dependency_chain { DependencyChain }
+    ensures acknowledged { Acknowledged }
+    ensures acknowledged_up { AcknowledgedUp }
     ensures first_delay { FirstDelay }
     ensures contact_options { ContactOptions }
 {}

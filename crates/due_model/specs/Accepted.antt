@@ -49,6 +49,7 @@ pub record RangeFits (range : Range) : Type 0 where
 pub record PeriodFits (c : Config) (period : Period) : Type 0 where
   pub week : length period.days ≡ 7
   pub ranges : All (All RangeFits) period.days
+  pub dated : All (λ line. All RangeFits line.ranges) period.dated
   pub excludes : All (λ p. p.0 < length c.periods) period.excludes
 
 pub record EscalationFits (c : Config) (e : Escalation) : Type 0 where

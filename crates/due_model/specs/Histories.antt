@@ -12,6 +12,7 @@ use Rattle.due_model.specs.declared.notice.Outcome.TheVariants.{Nothing, Sent, S
 use Rattle.due_model.specs.declared.zone.Zone.{Zone}
 use Rattle.due_model.specs.Periods.{next_in}
 use Rattle.due_model.specs.Readings.{moment, program_on, hard, depth, down, flapping, begins, began}
+use Rattle.due_model.specs.Acknowledgements.{acked, acknowledgement}
 use Rattle.due_model.specs.declared.rules.Last.{Last}
 use Rattle.due_model.specs.declared.rules.ObjectStatus.{ObjectStatus}
 use Rattle.due_model.specs.declared.rules.Attempt.{Attempt}
@@ -54,8 +55,8 @@ abbrev pub after_last : Option Last → Option ℕ
 after_last None = None
 after_last (Some last) = next_notice last.moment last.gap
 
--- When a problem is attempted again by the clock, after an attempt at a moment that this filter stopped. `last` is the
--- last notice, `began` the moment at which the problem began.
+-- When a problem is attempted again by the clock, after an attempt at a moment that this filter stopped; never, where
+-- the problem is acknowledged. `last` is the last notice, `began` the moment at which the problem began.
 abbrev pub retry_after : Config → Zone → Object → (began : ℕ) → Option Last → (moment : ℕ) → Filter
     → Option ℕ
 retry_after c zone object began last m filter.Program = Some (m + 60)
@@ -66,6 +67,7 @@ retry_after c zone object began last m filter.Options = Some (m + 60)
 retry_after c zone object began last m filter.NoProblem = Some (m + 60)
 retry_after c zone object began last m filter.Period = next_in c zone object.period m
 retry_after c zone object began last m filter.Dependency = Some (m + 60)
+retry_after c zone object began last m filter.Acknowledged = None
 retry_after c zone object began last m filter.FirstDelay = Some (began + 60 * object.delay)
 retry_after c zone object began last m filter.Interval = after_last last
 retry_after c zone object began last m filter.ContactDisabled = Some (m + 60)
@@ -85,7 +87,12 @@ ready c zone object began (Suppressed k state number moment why ∷ history) =
 -- the status of the object after the past
 abbrev pub status_after : ℕ → List Event → ObjectStatus
 status_after o past =
-    record { state = hard o past; depth = depth o past; flapping = flapping o past }
+    record {
+      state = hard o past;
+      depth = depth o past;
+      flapping = flapping o past;
+      acknowledged = acknowledgement o past;
+    }
 
 -- whether the object, or a service's host, is in downtime
 abbrev pub down_with_host : ℕ → Object → List Event → Bool
@@ -103,6 +110,7 @@ view c zone o object e past earlier = record {
   sent = notices_sent earlier;
   period = object.period;
   depends = dependency_fails c zone (λ master. hard master (e ∷ past)) (moment (e ∷ past)) o;
+  acknowledged = acked o (e ∷ past);
   began = began o (e ∷ past);
   delay = object.delay;
   last = last_notice earlier;

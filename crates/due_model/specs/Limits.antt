@@ -1,6 +1,6 @@
 -- The limits, each named once: those of the code are its constants.
 use Rattle.std.specs.Prelude.{ℕ}
-use Rattle.due_model.specs.declared.limits.TheConstants.{MAX_OBJECTS, MAX_CONTACTS, MAX_LANES, MAX_PERIODS, MAX_ESCALATIONS, MAX_DEPENDENCIES, MAX_NUMBER, LAST_MOMENT, DAY, TEXT_LIMIT, LINE_LIMIT, MAX_EVENTS, MAX_DECIDERS, MAX_QUEUE, MAX_TRIES}
+use Rattle.due_model.specs.declared.limits.TheConstants.{MAX_OBJECTS, MAX_CONTACTS, MAX_LANES, MAX_PERIODS, MAX_ESCALATIONS, MAX_DEPENDENCIES, MAX_NUMBER, LAST_MOMENT, DAY, TEXT_LIMIT, LINE_LIMIT, MAX_EVENTS, MAX_DECIDERS}
 
 -- how many objects, contacts, lanes, periods, escalations and dependencies a configuration may have
 abbrev pub max_objects : ℕ
@@ -44,12 +44,6 @@ line_limit = LINE_LIMIT
 abbrev pub max_events : ℕ
 max_events = MAX_EVENTS
 
--- how many deciders may run, how many notices a lane's queue may hold, and how often a channel may be tried
+-- how many deciders may run
 abbrev pub max_deciders : ℕ
 max_deciders = MAX_DECIDERS
-
-abbrev pub max_queue : ℕ
-max_queue = MAX_QUEUE
-
-abbrev pub max_tries : ℕ
-max_tries = MAX_TRIES

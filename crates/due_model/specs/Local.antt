@@ -1,4 +1,4 @@
--- Local time: the weekday and the second of the day of an instant, in a zone.
+-- Local time: the day and the second of the day of an instant, in a zone.
 use Rattle.std.specs.Prelude.{ℕ, ℤ, pos, ◌+ℤ◌, ◌*ℤ◌, unsigned_abs}
 use Rattle.std.specs.Int.{int_div_euclid, int_rem_euclid}
 use Rattle.jiff_tz.specs.Zone.{offset_at}
@@ -21,15 +21,18 @@ offset (File rules) t = (table.offset_at rules (pos t *ℤ nanoseconds)).seconds
 abbrev pub local_second : Zone → ℕ → ℤ
 local_second zone t = pos t +ℤ offset zone t
 
--- what a clock and a calendar on the wall show: the weekday from Sunday, which is 0, and the second of the day
+-- what a calendar and a clock on the wall show: the day, which is 0 on 1970-01-01, and the second of the day
 pub record Local : Type 0 where
-  pub weekday : ℕ
+  pub day : ℤ
   pub second : ℕ
 
--- Local time, of which a period speaks (chapter "Time Periods"). 1970-01-01 was a Thursday.
+-- the weekday from Sunday, which is 0; 1970-01-01 was a Thursday
+abbrev pub weekday_at : Local → ℕ
+weekday_at time = unsigned_abs (int_rem_euclid (time.day +ℤ pos 4) (pos 7))
+
+-- Local time, of which a period speaks (chapter "Time Periods").
 abbrev pub local : Zone → ℕ → Local
 local zone t = record {
-  weekday = unsigned_abs
-      (int_rem_euclid (int_div_euclid (local_second zone t) (pos 86400) +ℤ pos 4) (pos 7));
+  day = int_div_euclid (local_second zone t) (pos 86400);
   second = unsigned_abs (int_rem_euclid (local_second zone t) (pos 86400));
 }

@@ -6,24 +6,29 @@ use Rattle.due_model.specs.declared.config.Period.{Period}
 use Rattle.due_model.specs.declared.config.PeriodId.{PeriodId}
 use Rattle.due_model.specs.declared.config.Range.{Range}
 use Rattle.due_model.specs.declared.zone.Zone.{Zone}
-use Rattle.due_model.specs.Local.{Local, local}
+use Rattle.due_model.specs.Local.{Local, local, weekday_at}
+use Rattle.due_model.specs.Days.{ranges_on}
 
 -- a range holds its start, and not its end
 abbrev pub in_range : ℕ → Range → Bool
 in_range second range = nat_le range.start second && nat_lt second range.end
 
 -- the ranges of a weekday
-abbrev pub ranges_on : Period → ℕ → List Range
-ranges_on period weekday =
+abbrev pub weekly_ranges : Period → ℕ → List Range
+weekly_ranges period weekday =
     elim (slice_get period.days weekday) as (λ _. List Range) [ None ↦ [] | Some ranges ↦ ranges ]
 
--- A period holds at a local time where some range of the weekday has its second, and no period that it
+-- the ranges of a local day: those of the dated lines that decide, and the weekday's where no dated line names the day
+abbrev pub ranges_at : Period → Local → List Range
+ranges_at period time = ranges_on (weekly_ranges period (weekday_at time)) period.dated time
+
+-- A period holds at a local time where some range of the day has its second, and no period that it
 -- excludes holds there (chapter "Time Periods"). A chain of exclusions has at most `depth` periods.
 abbrev pub holds : (depth : ℕ) → List Period → ℕ → Local → Bool
 holds zero periods number time = false
 holds (suc depth) periods number time = elim (slice_get periods number) as (λ _. Bool) [
   | None ↦ false
-  | Some period ↦ list_any (in_range time.second) (ranges_on period time.weekday)
+  | Some period ↦ list_any (in_range time.second) (ranges_at period time)
       && not (list_any (λ excluded. holds depth periods excluded.0 time) period.excludes)
 ]
 

@@ -2,7 +2,7 @@
 use Rattle.std.specs.Prelude.{ℕ, ◌+◌, ◌-◌, max, Bool, true, false, not, ◌&&◌, List, [], ◌∷◌, nat_lt, ◌==◌, if◌then◌else◌}
 use Rattle.due_model.specs.declared.event.Event.{Event}
 use Rattle.due_model.specs.declared.event.EventKind.{EventKind}
-use Rattle.due_model.specs.declared.event.EventKind.TheVariants.{Clock, Program, Hard, Downtime, Flapping}
+use Rattle.due_model.specs.declared.event.EventKind.TheVariants.{Clock, Program, Hard, Downtime, Flapping, Ack}
 use Rattle.due_model.specs.declared.event.DowntimeChange.{DowntimeChange}
 use Rattle.due_model.specs.declared.event.DowntimeChange.TheVariants.{Start, End, Cancelled}
 use Rattle.due_model.specs.declared.state.State.{State}
@@ -42,6 +42,7 @@ switch_after (Program now) on = now
 switch_after (Hard p s) on = on
 switch_after (Downtime p change) on = on
 switch_after (Flapping p starts) on = on
+switch_after (Ack p sticky) on = on
 
 -- whether the last program switch event is no DISABLE; the switch is on at first
 abbrev pub program_on : List Event → Bool
@@ -55,6 +56,7 @@ hard_after o (Program now) state = state
 hard_after o (Hard p s) state = if p.0 == o then s else state
 hard_after o (Downtime p change) state = state
 hard_after o (Flapping p starts) state = state
+hard_after o (Ack p sticky) state = state
 
 -- Hard: the state of the object's last hard event; pending, if there is none (chapter "State Types")
 abbrev pub hard : ℕ → List Event → State
@@ -73,6 +75,7 @@ depth_after o (Program now) depth = depth
 depth_after o (Hard p s) depth = depth
 depth_after o (Downtime p change) depth = if p.0 == o then depth_changed change depth else depth
 depth_after o (Flapping p starts) depth = depth
+depth_after o (Ack p sticky) depth = depth
 
 -- how many downtimes of the object run (chapter "Scheduled Downtime")
 abbrev pub depth : ℕ → List Event → ℕ
@@ -89,6 +92,7 @@ flapping_after o (Program now) flapping = flapping
 flapping_after o (Hard p s) flapping = flapping
 flapping_after o (Downtime p change) flapping = flapping
 flapping_after o (Flapping p starts) flapping = if p.0 == o then starts else flapping
+flapping_after o (Ack p sticky) flapping = flapping
 
 -- Flap: whether the object's last flapping event is a start (chapter "State Flapping")
 abbrev pub flapping : ℕ → List Event → Bool
@@ -102,6 +106,7 @@ is_problem_of o (Program now) = false
 is_problem_of o (Hard p s) = p.0 == o && is_problem_state s
 is_problem_of o (Downtime p change) = false
 is_problem_of o (Flapping p starts) = false
+is_problem_of o (Ack p sticky) = false
 
 -- A problem begins with the first hard problem state after an OK or pending one (chapter "Notifications").
 abbrev pub begins : ℕ → Event → List Event → Bool

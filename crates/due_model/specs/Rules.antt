@@ -65,6 +65,7 @@ attempted o (event.Downtime p change) old ready t =
     if p.0 == o then attempted_by_downtime old.depth change else None
 attempted o (event.Flapping p starts) old ready t =
     if p.0 == o then attempted_by_flapping old.flapping starts else None
+attempted o (event.Ack p sticky) old ready t = None
 
 -- the letter of a state (chapter "Object Definitions", `notification_options`)
 abbrev pub state_letter : State → OptionLetter
@@ -172,6 +173,7 @@ failing c zone v a = first_failing (
     ∷ (is_recovery a.kind && v.sent == 0, filter.NoProblem)
     ∷ (not (in_period c zone v.period a.moment), filter.Period)
     ∷ (is_of_problem a.kind && v.depends, filter.Dependency)
+    ∷ (is_problem a.kind && v.acknowledged, filter.Acknowledged)
     ∷ (
       is_problem a.kind && v.sent == 0
           && nat_lt a.moment (v.began + 60 * v.delay),

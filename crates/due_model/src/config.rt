@@ -110,12 +110,38 @@ pub struct Range {
     pub end: u32,
 }
 
+/// The days that a dated line of a time period names (chapter "Time Periods", "Time Range Exceptions"). A month is 1 to
+/// 12, a weekday 0 (Sunday) to 6. A day of a month is 1 to 31, or -1 to -31 from its end on; a place among the days of
+/// one weekday in a month is 1 to 5, or -1 to -5 from its end on. A day that a month lacks never comes.
+#[derive(Clone, Copy, Debug, PartialEq, Eq)]
+pub enum DayRule {
+    /// One date.
+    Date { year: i16, month: u8, day: u8 },
+    /// A day of one month, each year.
+    OfMonth { month: u8, day: i8 },
+    /// A day of each month.
+    OfEachMonth { day: i8 },
+    /// The weekday at this place in one month, each year.
+    WeekdayOfMonth { weekday: u8, place: i8, month: u8 },
+    /// The weekday at this place in each month.
+    WeekdayOfEachMonth { weekday: u8, place: i8 },
+}
+
+/// A dated line of a time period: what holds on the days that it names.
+#[derive(Drop)]
+pub struct Dated {
+    pub day: DayRule,
+    pub ranges: Sequence<Range>,
+}
+
 /// A time period (chapter "Time Periods").
 #[derive(Drop)]
 pub struct Period {
     pub name: Text,
     /// The ranges of each weekday, Sunday first.
     pub days: [Sequence<Range>; 7],
+    /// The dated lines, which decide on the days that they name.
+    pub dated: Sequence<Dated>,
     /// The periods that are taken out of this one.
     pub excludes: Sequence<PeriodId>,
 }

@@ -1,10 +1,11 @@
 //! The notification dependencies of a configuration, found by their dependents.
 
-ghost use Rattle.std.specs.Prelude.{◌≡◌, ◌<◌, length, All, IfOk};
-ghost use Rattle.due_model.specs.ByObject.{AreEntries, entries_of};
+ghost use Rattle.std.specs.Prelude.{◌≡◌, length, IfOk};
+ghost use Rattle.due_model.specs.ByObject.{entries_of};
 
+use crate::by_object::{ByObject, lists_by_object};
 use crate::config::{Dependency, ObjectId};
-use graph::lists::{Lists, ListsBuilder};
+use graph::lists::Lists;
 use std::alloc::{AllocError, Global};
 use std::marker::Model;
 
@@ -36,7 +37,7 @@ impl Dependencies {
     pub fn new(alloc: Global, items: Vec<Dependency>) -> Result<Self, AllocError>
         ensures { IfOk result (λ dependencies. dependencies ≡ items.items) }
     {
-        let entries = entries_by_dependent(alloc, items.as_slice())?.build(alloc)?;
+        let entries = lists_by_object(alloc, items.as_slice())?;
         Ok(Dependencies { items, entries })
     }
 
@@ -68,31 +69,16 @@ impl Dependencies {
     }
 }
 
-/// The entries of each object, in their order.
-fn entries_by_dependent(
-    alloc: Global,
-    dependencies: &[Dependency],
-) -> Result<ListsBuilder<Dependency>, AllocError>
-    ensures { IfOk result (AreEntries dependencies.now) }
-{
-    let objects = objects_of(dependencies);
-    let mut lists = ListsBuilder::with_room(alloc, objects, dependencies.len())?;
-    for entry in dependencies {
-        lists.push(usize::from(entry.dependent.0), *entry)?;
-    }
-    Ok(lists)
-}
+impl ByObject<Dependency> for Dependency {
+    ghost number = { λ entry. entry.dependent.0 };
 
-/// Among how many objects the dependents are.
-fn objects_of(dependencies: &[Dependency]) -> usize
-    ensures { All (λ entry. entry.dependent.0 < result) dependencies.now }
-{
-    let mut objects = 0;
-    for entry in dependencies {
-        let number = usize::from(entry.dependent.0);
-        if objects <= number {
-            objects = number + 1;
-        }
+    ghost kept = { λ entry _. entry };
+
+    fn object(&self) -> ObjectId {
+        self.dependent
     }
-    objects
+
+    fn kept(&self, _place: usize) -> Dependency {
+        *self
+    }
 }

@@ -1,10 +1,11 @@
 //! The escalations of a configuration, found by their objects.
 
-ghost use Rattle.std.specs.Prelude.{◌≡◌, ◌<◌, length, All, IfOk};
-ghost use Rattle.due_model.specs.ByObject.{ArePlaces, places_of};
+ghost use Rattle.std.specs.Prelude.{◌≡◌, length, IfOk};
+ghost use Rattle.due_model.specs.ByObject.{places_of};
 
+use crate::by_object::{ByObject, lists_by_object};
 use crate::config::{Escalation, ObjectId};
-use graph::lists::{Lists, ListsBuilder};
+use graph::lists::Lists;
 use std::alloc::{AllocError, Global};
 use std::marker::Model;
 
@@ -36,7 +37,7 @@ impl Escalations {
     pub fn new(alloc: Global, items: Vec<Escalation>) -> Result<Self, AllocError>
         ensures { IfOk result (λ escalations. escalations ≡ items.items) }
     {
-        let places = places_by_object(alloc, items.as_slice())?.build(alloc)?;
+        let places = lists_by_object(alloc, items.as_slice())?;
         Ok(Escalations { items, places })
     }
 
@@ -68,31 +69,16 @@ impl Escalations {
     }
 }
 
-/// The places of each object's escalations.
-fn places_by_object(
-    alloc: Global,
-    escalations: &[Escalation],
-) -> Result<ListsBuilder<usize>, AllocError>
-    ensures { IfOk result (ArePlaces escalations.now) }
-{
-    let objects = objects_of(escalations);
-    let mut lists = ListsBuilder::with_room(alloc, objects, escalations.len())?;
-    for (place, escalation) in escalations.iter().enumerate() {
-        lists.push(usize::from(escalation.object.0), place)?;
-    }
-    Ok(lists)
-}
+impl ByObject<usize> for Escalation {
+    ghost number = { λ e. e.object.0 };
 
-/// Among how many objects those of the escalations are.
-fn objects_of(escalations: &[Escalation]) -> usize
-    ensures { All (λ e. e.object.0 < result) escalations.now }
-{
-    let mut objects = 0;
-    for escalation in escalations {
-        let number = usize::from(escalation.object.0);
-        if objects <= number {
-            objects = number + 1;
-        }
+    ghost kept = { λ _ place. place };
+
+    fn object(&self) -> ObjectId {
+        self.object
     }
-    objects
+
+    fn kept(&self, place: usize) -> usize {
+        place
+    }
 }

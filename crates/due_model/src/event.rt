@@ -24,6 +24,9 @@ pub enum EventKind {
     Downtime(ObjectId, DowntimeChange),
     /// An object starts (`true`) or stops flapping (chapter "State Flapping").
     Flapping(ObjectId, bool),
+    /// Somebody acknowledges the problem of an object (chapter "External Commands"): until it recovers
+    /// (`true`, sticky), or until its state changes.
+    Ack(ObjectId, bool),
 }
 
 /// What happens to a scheduled downtime.

@@ -2,10 +2,12 @@
 //! cite: who is due which notice after a list of events.
 #![tactic(auto)]
 
+mod by_object;
 pub mod config;
 pub mod dependencies;
 pub mod escalations;
 pub mod event;
+pub mod item;
 pub mod limits;
 pub mod notice;
 pub mod objects;

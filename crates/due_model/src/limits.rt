@@ -38,9 +38,3 @@ pub const MAX_EVENTS: u64 = 4_294_967_296;
 
 /// How many deciders may run.
 pub const MAX_DECIDERS: u8 = 8;
-
-/// How many notices a lane's queue may hold.
-pub const MAX_QUEUE: u16 = 1_024;
-
-/// How often a channel may be tried with one letter.
-pub const MAX_TRIES: u8 = 10;

@@ -34,6 +34,8 @@ pub enum Filter {
     Period,
     /// A notification dependency fails.
     Dependency,
+    /// The problem is acknowledged.
+    Acknowledged,
     /// The delay before the first notice hasn't passed.
     FirstDelay,
     /// The interval since the last notice of the same state hasn't passed.

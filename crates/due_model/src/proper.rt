@@ -42,9 +42,9 @@ fn kind_is_proper(config: &Config, kind: EventKind) -> bool
                 None => false,
             }
         }
-        EventKind::Downtime(object, _) | EventKind::Flapping(object, _) => has_object(
-            config, object,
-        ),
+        EventKind::Downtime(object, _)
+        | EventKind::Flapping(object, _)
+        | EventKind::Ack(object, _) => has_object(config, object),
     }
 }
 

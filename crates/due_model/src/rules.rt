@@ -3,6 +3,7 @@
 ghost use Rattle.std.specs.Prelude.{◌≡◌, ◌+◌, ◌^◌, ◌<◌, Some, IfSome};
 ghost use Rattle.due_model.specs.Readings.{is_ok_state, is_problem_state, switch_after, hard_after};
 ghost use Rattle.due_model.specs.Readings.{depth_changed, is_problem_of};
+ghost use Rattle.due_model.specs.Acknowledgements.{ack_after, kept_in_state};
 ghost use Rattle.due_model.specs.Rules.{attempted, attempted_by_state, attempted_by_downtime};
 ghost use Rattle.due_model.specs.Rules.{attempted_by_flapping, downtime_kind, has_come, state_letter};
 ghost use Rattle.due_model.specs.Rules.{letter_of, has_letter, is_too_soon, next_notice, same_state};
@@ -171,6 +172,48 @@ impl EventKind {
             _ => false,
         }
     }
+
+    /// How the running problem of an object is acknowledged after this event: sticky or not; none where it
+    /// isn't. Before the event the object was in this hard state, and `kept` was the acknowledgement
+    /// (chapter "External Commands").
+    pub fn ack_after(self, object: ObjectId, state: State, kept: Option<bool>) -> Option<bool>
+        ensures { result ≡ ack_after object.0 self state kept }
+    {
+        match self {
+            EventKind::Hard(named, now) => {
+                if named.0 == object.0 {
+                    kept_in_state(kept, state, now)
+                } else {
+                    kept
+                }
+            }
+            EventKind::Ack(named, sticky) => {
+                if named.0 == object.0 && state.is_problem() {
+                    Some(sticky)
+                } else {
+                    kept
+                }
+            }
+            _ => kept,
+        }
+    }
+}
+
+/// What is left of an acknowledgement when an object in hard state `old` has the hard state `now`: nothing
+/// after an OK state, and nothing after a change of state unless it is sticky.
+fn kept_in_state(kept: Option<bool>, old: State, now: State) -> Option<bool>
+    ensures { result ≡ kept_in_state kept old now }
+{
+    match kept {
+        Some(sticky) => {
+            if !now.is_ok() && (sticky || same_state(now, old)) {
+                Some(sticky)
+            } else {
+                None
+            }
+        }
+        None => None,
+    }
 }
 
 impl DowntimeChange {
@@ -206,6 +249,8 @@ pub struct ObjectStatus {
     /// How many downtimes run.
     pub depth: u64,
     pub flapping: bool,
+    /// How the running problem is acknowledged: sticky (`true`) or not; none where it isn't.
+    pub acknowledged: Option<bool>,
 }
 
 /// What a hard state attempts on an object that was in state `old`.
@@ -290,6 +335,7 @@ pub fn attempted(
                 None
             }
         }
+        EventKind::Ack(_, _) => None,
     }
 }
 
@@ -332,6 +378,8 @@ pub struct View {
     pub period: Option<PeriodId>,
     /// Whether a notification dependency fails.
     pub depends: bool,
+    /// Whether the problem is acknowledged.
+    pub acknowledged: bool,
     /// When this problem began, in seconds since the epoch.
     pub began: u64,
     /// `first_notification_delay`, in units of 60 seconds.

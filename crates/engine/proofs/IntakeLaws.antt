@@ -1,9 +1,9 @@
 -- What the answers of a feeder say of the lines of its feed, and what was taken of them.
-use Rattle.std.proofs.Common.{◌≡◌, ◌≢◌, ℕ, ◌+◌, ◌<◌, true, false, cond, ◌||◌, All, List, [], ◌∷◌, ◌++◌, length, Option, None, Some, Bool, IsSome, IfSome, IsTrue, Ok, Err, refl, sym, ap, subst, ◌∙◌, arith, append_assoc, length-append}
+use Rattle.std.proofs.Common.{◌≡◌, ◌≢◌, ℕ, ◌+◌, ◌<◌, ◌≤◌, true, false, cond, ◌||◌, All, List, [], ◌∷◌, ◌++◌, length, Option, None, Some, Bool, IsSome, IfSome, IsTrue, Ok, Err, refl, sym, ap, subst, ◌∙◌, arith, append_assoc, length-append}
 use Rattle.std.proofs.lemmas.Bool.{eq-eqb, ne_eqb}
 use Rattle.std.proofs.lemmas.Grind.{flat_map-append}
 use Rattle.std.proofs.lemmas.List.{append-nil}
-use Rattle.std.proofs.lemmas.List.Elements.{All-push}
+use Rattle.std.proofs.lemmas.List.Elements.{All-nil, All-push}
 use Rattle.std.proofs.lemmas.List.Folds.{list_any-append, list_any_none}
 use Rattle.std.proofs.lemmas.Option.{IfSome_then}
 use Rattle.due_model.specs.declared.config.Config.{Config}
@@ -18,9 +18,9 @@ use Rattle.text_lines.specs.declared.line_reader.Stop.TheVariants.{InputEnded, C
 use Rattle.event_feed.specs.Fault.{is_line_fault, stop_fault}
 use Rattle.event_feed.specs.Feed.{Answer, AnswersNext, AreGivenBy, refusal, FaultFits, Feed, GivesEvent, GivesFault, GivesNone, answers_from, PassesLines, ends_feed}
 use Rattle.text_lines.specs.Lines.{Known, pieces}
-use Rattle.engine.specs.Feed.{AreTaken, AreFrontOfFeed, CameFirst, HasEnded, HasRead, Intake, IsFrontOfFeed, Offers, accepted, count_after, ended, event_in, events_in, is_cut, is_unnumbered, refused_in, refusals_in, taken_after}
+use Rattle.engine.specs.Feed.{AreTaken, AreFrontOfFeed, CameFirst, Goes, HasEnded, HasRead, HasTaken, Intake, IsFrontOfFeed, IsOver, IsStart, Kept, Offers, accepted, count_after, ended, event_in, events_in, is_cut, is_unnumbered, refused_in, refusals_in, taken_after}
 use Rattle.engine.specs.Lists.{IsFrontOf}
-use Rattle.event_feed.specs.FeedLaws.{known_then, Passed, passed_more, event_passes, fault_passes, next_given, none_given, fault_last, fault_next, event_answers, earlier_more, then_by}
+use Rattle.event_feed.specs.FeedLaws.{known_same, known_then, Passed, passed_more, event_passes, fault_passes, next_given, none_given, fault_last, fault_next, event_answers, earlier_more, then_by}
 
 -- ---- what is given of a feed
 
@@ -140,9 +140,9 @@ taken_last can_fail c start given now events refused last taken cut events' refu
       cut_is = sym cuts ∙ ap is_cut (sym all);
     }
 
-pub over_whole : (can_fail : Bool) (c : Config) (start : Feed) (said : List Answer) (old new : Intake) → HasRead c start said old → GivesNone c.objects old.feed new.feed → new.events ≡ old.events → new.refused ≡ old.refused
+whole_ended : (can_fail : Bool) (c : Config) (start : Feed) (said : List Answer) (old new : Intake) → HasRead c start said old → GivesNone c.objects old.feed new.feed → new.events ≡ old.events → new.refused ≡ old.refused
     → HasEnded can_fail c start said false new
-over_whole can_fail c start said old new h gives events refused = record {
+whole_ended can_fail c start said old new h gives events refused = record {
   given = said ++ [];
   said_is = sym (h.first.taken [] ∙ append-nil said);
   of_feed = given_then can_fail c start said old.feed old.events old.refused [] h.first (none_given can_fail c.objects old.feed new.feed gives.answers);
@@ -179,17 +179,17 @@ stop_not_memory stop fault e same = by stop (subst (λ (f : FeedFault). stop_fau
     by TooManyBytes k = cc
     by TooManyLines k = cc
 
-pub over_cut : (can_fail : Bool) (c : Config) (start : Feed) (said : List Answer) (old new : Intake) (fault : RefusedLine) (stop : Stop) → HasRead c start said old → new.feed.stop ≡ Some stop → GivesFault c.objects old.feed fault new.feed
+cut_ended : (can_fail : Bool) (c : Config) (start : Feed) (said : List Answer) (old new : Intake) (fault : RefusedLine) (stop : Stop) → HasRead c start said old → new.feed.stop ≡ Some stop → GivesFault c.objects old.feed fault new.feed
     → (IsSome new.feed.stop → AreGivenBy can_fail c.objects old.feed (refusal fault ∷ [])) → new.events ≡ old.events → new.refused ≡ old.refused ++ fault ∷ []
     → HasEnded can_fail c start (said ++ refusal fault ∷ []) true new
-over_cut can_fail c start said old new fault stop h is gives last events refused =
+cut_ended can_fail c start said old new fault stop h is gives last events refused =
     let both = fault_last can_fail c.objects old.feed new.feed fault stop is gives last in
     cut_by can_fail c start said old new (refusal fault ∷ []) fault h both.0 refl both.1 (stop_not_memory stop fault.fault (subst (λ s. FaultFits fault.fault s) is gives.fits)) events refused
 
-pub event_refused : (can_fail : Bool) (c : Config) (start : Feed) (said : List Answer) (e : Event) (now : Intake) → Offers c start said e now → length now.events ≡ max_events
+full_ended : (can_fail : Bool) (c : Config) (start : Feed) (said : List Answer) (e : Event) (now : Intake) → Offers c start said e now → length now.events ≡ max_events
     → HasEnded can_fail c start (said ++ refusal (record { line = now.feed.line; fault = Ended }) ∷ []) true (ended now)
 unfolding answer_of
-event_refused can_fail c start said e now h full =
+full_ended can_fail c start said e now h full =
     let next = next_given can_fail c.objects h.before now.feed (answer_of e now) (event_answers c h.before now.feed e now.feed.line refl h.gives) in
     cut_by can_fail c start said (record now { feed = h.before }) (ended now) (answer_of e now ∷ next.0) (record { line = now.feed.line; fault = Ended }) h.read next.1
     (ap (λ b. cond b (record { line = now.feed.line; given = Err Ended } ∷ []) (answer_of e now ∷ taken_after (length now.events + 1) next.0)) (eq-eqb (length now.events) max_events full))
@@ -211,17 +211,109 @@ pub read_said : (c : Config) (start : Feed) (said : List Answer) (now : Intake) 
 read_said c start said now h = said_by c start said now.feed (length now.events) start.bytes now.feed.bytes h.first.answers h.first.taken
 
 -- and so are their events
-pub read_front : (c : Config) (start : Feed) (said : List Answer) (now : Intake) → HasRead c start said now → IsFrontOfFeed c start now.events
-read_front c start said now h =
-    IfSome_then start.bytes (read_said c start said now h)
-    (λ bytes front. (
-      events_in front.0,
-      ap events_in front.1 ∙ flat_map-append (λ (a : Answer). event_in a.given) said front.0 ∙ ap (λ (xs : List Event). xs ++ events_in front.0) (sym h.first.events_are),
+pub front_of : (c : Config) (start : Feed) (said : List Answer) (events : List Event) → AreFrontOfFeed c start said → events ≡ events_in said → IsFrontOfFeed c start events
+front_of c start said events front is =
+    IfSome_then start.bytes front
+    (λ bytes f. (
+      events_in f.0,
+      ap events_in f.1 ∙ flat_map-append (λ (a : Answer). event_in a.given) said f.0 ∙ ap (λ (xs : List Event). xs ++ events_in f.0) (sym is),
     ))
 
--- the same before the event that is offered is accepted
-pub offered_said : (c : Config) (start : Feed) (said : List Answer) (e : Event) (now : Intake) → Offers c start said e now → AreFrontOfFeed c start said
-offered_said c start said e now h = read_said c start said (record now { feed = h.before }) h.read
+-- ---- the reading is over
 
-pub offered_front : (c : Config) (start : Feed) (said : List Answer) (e : Event) (now : Intake) → Offers c start said e now → IsFrontOfFeed c start now.events
-offered_front c start said e now h = read_front c start said (record now { feed = h.before }) h.read
+pub over_whole : (can_fail : Bool) (c : Config) (start : Feed) (said : List Answer) (old new : Intake) → HasRead c start said old → GivesNone c.objects old.feed new.feed → new.events ≡ old.events → new.refused ≡ old.refused
+    → IsOver can_fail c start said false new
+over_whole can_fail c start said old new h gives events refused = record {
+  ended = whole_ended can_fail c start said old new h gives events refused;
+  before = said;
+  last = [];
+  front = read_said c start said old h;
+  events_are = events ∙ h.first.events_are;
+  refused_are = refused ∙ h.first.refused_are ∙ sym (append-nil (refusals_in said));
+  one = refl;
+}
+
+pub over_cut : (can_fail : Bool) (c : Config) (start : Feed) (said : List Answer) (old new : Intake) (fault : RefusedLine) (stop : Stop) → HasRead c start said old → new.feed.stop ≡ Some stop → GivesFault c.objects old.feed fault new.feed
+    → (IsSome new.feed.stop → AreGivenBy can_fail c.objects old.feed (refusal fault ∷ [])) → new.events ≡ old.events → new.refused ≡ old.refused ++ fault ∷ []
+    → IsOver can_fail c start (said ++ refusal fault ∷ []) true new
+over_cut can_fail c start said old new fault stop h is gives last events refused = record {
+  ended = cut_ended can_fail c start said old new fault stop h is gives last events refused;
+  before = said;
+  last = fault ∷ [];
+  front = read_said c start said old h;
+  events_are = events ∙ h.first.events_are;
+  refused_are = refused ∙ ap (λ (rs : List RefusedLine). rs ++ fault ∷ []) h.first.refused_are;
+  one = refl;
+}
+
+pub event_refused : (can_fail : Bool) (c : Config) (start : Feed) (said : List Answer) (e : Event) (now : Intake) → Offers c start said e now → length now.events ≡ max_events
+    → IsOver can_fail c start (said ++ refusal (record { line = now.feed.line; fault = Ended }) ∷ []) true (ended now)
+event_refused can_fail c start said e now h full = record {
+  ended = full_ended can_fail c start said e now h full;
+  before = said;
+  last = record { line = now.feed.line; fault = Ended } ∷ [];
+  front = read_said c start said (record now { feed = h.before }) h.read;
+  events_are = h.read.first.events_are;
+  refused_are = ap (λ (rs : List RefusedLine). rs ++ record { line = now.feed.line; fault = Ended } ∷ []) h.read.first.refused_are;
+  one = refl;
+}
+
+-- ---- what was taken, while the feed goes on and where it is over
+
+module _ (can_fail : Bool) (c : Config) (start : Feed) (now : Intake) (over : Option Bool) where
+  pub has_read : (said : List Answer) → over ≡ None → HasTaken can_fail c start said over now → HasRead c start said now
+  has_read said none h = subst (λ (o : Option Bool). HasTaken can_fail c start said o now) none h
+
+  pub read_taken : (said : List Answer) → over ≡ None → HasRead c start said now → HasTaken can_fail c start said over now
+  read_taken said none h = subst (λ (o : Option Bool). HasTaken can_fail c start said o now) (sym none) h
+
+  pub over_taken : (said : List Answer) (cut : Bool) → over ≡ Some cut → IsOver can_fail c start said cut now → HasTaken can_fail c start said over now
+  over_taken said cut is h = subst (λ (o : Option Bool). HasTaken can_fail c start said o now) (sym is) h
+
+  pub taken_over : (said : List Answer) (cut : Bool) → over ≡ Some cut → HasTaken can_fail c start said over now → IsOver can_fail c start said cut now
+  taken_over said cut is h = subst (λ (o : Option Bool). HasTaken can_fail c start said o now) is h
+
+-- what an event that was read makes of it
+module _ (can_fail : Bool) (c : Config) (start : Feed) (said : List Answer) (e : Event) (old new : Intake) (over : Option Bool) (offers : Offers c start said e old) where
+  pub takes_full : length old.events ≡ max_events → new ≡ ended old → over ≡ Some true → (all : List Answer) × HasTaken can_fail c start all over new
+  takes_full full is at = (
+    said ++ refusal (record { line = old.feed.line; fault = Ended }) ∷ [],
+    over_taken can_fail c start new over (said ++ refusal (record { line = old.feed.line; fault = Ended }) ∷ []) true at
+        (subst (λ (x : Intake). IsOver can_fail c start (said ++ refusal (record { line = old.feed.line; fault = Ended }) ∷ []) true x) (sym is) (event_refused can_fail c start said e old offers full)),
+  )
+
+  pub takes_event : length old.events ≢ max_events → new ≡ accepted e old → over ≡ None → (all : List Answer) × HasTaken can_fail c start all over new
+  takes_event few is none = (
+    said ++ answer_of e old ∷ [],
+    read_taken can_fail c start new over (said ++ answer_of e old ∷ []) none
+        (subst (λ (x : Intake). HasRead c start (said ++ answer_of e old ∷ []) x) (sym is) (event_accepted c start said e old offers few)),
+  )
+
+-- ---- the start
+
+nothing_first : (c : Config) (start : Feed) → CameFirst c start [] start [] []
+nothing_first c start = record {
+  answers = known_same start.bytes (λ bytes rest. answers_from c.objects start bytes ≡ [] ++ answers_from c.objects start rest) (λ xs. refl);
+  line = omega arith;
+  earlier = All-nil (λ (answer : Answer). answer.line ≤ start.line);
+  read_on = All-nil (λ (answer : Answer). ends_feed answer.given ≡ false);
+  lines = known_same start.bytes (λ bytes rest. (before : List (List ℕ)) × (pieces bytes ≡ before ++ pieces rest) × (start.line ≡ start.line + length before)) (λ xs. ([], refl, omega arith));
+  events_are = refl;
+  refused_are = refl;
+  taken = λ others. refl;
+}
+
+nothing_read : (c : Config) (known : Option (List ℕ)) (now : Kept) → IsStart known now → HasRead c now.read.feed [] now.read
+nothing_read c known now s = record {
+  first = subst (λ (xs : List Event). CameFirst c now.read.feed [] now.read.feed xs now.read.refused) (sym s.no_events)
+      (subst (λ (rs : List RefusedLine). CameFirst c now.read.feed [] now.read.feed [] rs) (sym s.no_refused) (nothing_first c now.read.feed));
+  goes_on = s.first.goes_on;
+  proper = subst (λ (xs : List Event). All (IsProper c) xs) (sym s.no_events) (All-nil (IsProper c));
+  short = omega (arith, ap length s.no_events);
+  named = subst (λ (rs : List RefusedLine). All (λ (r : RefusedLine). r.fault ≢ NoMemory) rs) (sym s.no_refused) (All-nil (λ (r : RefusedLine). r.fault ≢ NoMemory));
+}
+
+-- what an intake that began there has taken since
+pub taken_since : (can_fail : Bool) (c : Config) (known : Option (List ℕ)) (old new : Kept) → IsStart known old → Goes can_fail c old new
+    → (said : List Answer) × HasTaken can_fail c old.read.feed said new.over new.read
+taken_since can_fail c known old new s goes = goes old.read.feed [] (read_taken can_fail c old.read.feed old.read old.over [] s.not_over (nothing_read c known old s))

@@ -1,11 +1,7 @@
-pub mod ServeLaws
-pub mod LanesLaws
-pub mod EndLaws
-pub mod DeskLaws
+pub mod AlikeLaws
+pub mod FeedsLaws
 pub mod IntakeLaws
-pub mod RunLaws
-pub mod GainLaws
-pub mod DueLaws
-pub mod LineLaws
+pub mod LeftLaws
+pub mod PostLaws
+pub mod RecordLaws
 pub mod RunEndLaws
-pub mod MadeLaws

@@ -96,9 +96,10 @@ pub record Intake : Type 0 where
   pub events : List Event
   pub refused : List RefusedLine
 
--- the same, and for how many more events and lines there is room
+-- the same; whether it is over, and then whether it was cut; and for how many more events and lines there is room
 pub record Kept : Type 0 where
   pub read : Intake
+  pub over : Option Bool
   pub events_room : ℕ
   pub refused_room : ℕ
 
@@ -159,6 +160,29 @@ AreFrontOfFeed c start said =
     IfSome start.bytes
     (λ bytes. IsFrontOf said (taken_after 0 (answers_from c.objects start bytes)))
 
+-- The reading is over, and the feed was cut or not. The answers but the last, where it was cut, are a front of what is taken of it.
+pub record IsOver (can_fail : Bool) (c : Config) (start : Feed) (said : List Answer) (cut : Bool)
+    (now : Intake) : Type 0 where
+  pub ended : HasEnded can_fail c start said cut now
+  pub before : List Answer
+  pub last : List RefusedLine
+  pub front : AreFrontOfFeed c start before
+  pub events_are : now.events ≡ events_in before
+  pub refused_are : now.refused ≡ refusals_in before ++ last
+  pub one : length last ≡ (if cut then 1 else 0)
+
+-- what was taken of a feed so far, which goes on or is over
+abbrev pub HasTaken : (can_fail : Bool) → Config → (start : Feed) → (said : List Answer)
+    → (over : Option Bool) → Intake → Type 0
+HasTaken can_fail c start said None now = HasRead c start said now
+HasTaken can_fail c start said (Some cut) now = IsOver can_fail c start said cut now
+
+-- of a feed of which answers were taken, others are taken then
+abbrev pub Goes : (can_fail : Bool) → Config → (old new : Kept) → Type 0
+Goes can_fail c old new = (start : Feed) (said : List Answer)
+    → HasTaken can_fail c start said old.over old.read
+    → (all : List Answer) × HasTaken can_fail c start all new.over new.read
+
 -- what the next line of the feed makes of a run that has taken these answers
 abbrev pub Follows : (can_fail : Bool) → Config → (start : Feed) → (said : List Answer) → Next
     → Intake
@@ -167,13 +191,19 @@ Follows can_fail c start said (Accepts e) now = Offers c start said e now
 Follows can_fail c start said Refused now =
     (fault : RefusedLine) × HasRead c start (said ++ refusal fault ∷ []) now
 Follows can_fail c start said (Over cut) now =
-    (last : Option Answer) × HasEnded can_fail c start (with_one said last) cut now
+    (all : List Answer) × IsOver can_fail c start all cut now
 
 -- whether the feed goes on after it
 abbrev pub goes_on : Next → Bool
 goes_on (Accepts e) = true
 goes_on Refused = true
 goes_on (Over cut) = false
+
+-- the event that it is, if it is one
+abbrev pub accepts : Next → List Event
+accepts (Accepts e) = e ∷ []
+accepts Refused = []
+accepts (Over cut) = []
 
 -- an event more is accepted
 abbrev pub accepted : Event → Intake → Intake
@@ -184,3 +214,33 @@ abbrev pub ended : Intake → Intake
 ended now = record now {
   refused = now.refused ++ record { line = now.feed.line; fault = Ended } ∷ [];
 }
+
+-- ---- from its start to its end
+
+-- the first line of a feed is the next, and its bytes are these, where they are known
+pub record IsFirst (known : Option (List ℕ)) (feed : Feed) : Type 0 where
+  pub bytes : feed.bytes ≡ known
+  pub line : feed.line ≡ 0
+  pub last : feed.last ≡ 0
+  pub goes_on : feed.stop ≡ None
+
+-- nothing was read of such a feed
+pub record IsStart (known : Option (List ℕ)) (now : Kept) : Type 0 where
+  pub first : IsFirst known now.read.feed
+  pub no_events : now.read.events ≡ []
+  pub no_refused : now.read.refused ≡ []
+  pub not_over : now.over ≡ None
+
+-- What a run leaves of a feed: all that was taken of it, or, where memory ran out, a front of that; then it isn't said to be cut.
+pub record IsLeft (can_fail : Bool) (c : Config) (start : Feed) (memory : Bool)
+    (events : List Event) (refused : List RefusedLine) (cut : Bool) : Type 0 where
+  pub read : memory ≡ false → (given : List Answer)
+      × AreGivenBy can_fail c.objects start given
+      × AreTaken given events refused cut
+  pub front : IsFrontOfFeed c start events
+  pub read_front : memory ≡ true → (said : List Answer)
+      × AreFrontOfFeed c start said
+      × (events ≡ events_in said) × (refused ≡ refusals_in said)
+  pub uncut : memory ≡ true → cut ≡ false
+  pub proper : All (IsProper c) events
+  pub named : All (λ r. r.fault ≢ NoMemory) refused

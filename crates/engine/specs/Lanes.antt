@@ -1,69 +1,66 @@
--- A lane of a run, and how it ends.
-use Rattle.std.specs.Prelude.{◌≡◌, ◌≢◌, Bool, true, false, List, [], ◌++◌, Option, None, Some}
+-- The lanes of a run: their channels, and how each ends.
+use Rattle.std.specs.Prelude.{◌≡◌, ◌≢◌, ◌==◌, ℕ, ◌≤◌, Bool, true, List, [], ◌∷◌, ◌++◌, filter, length, map, Some, if◌then◌else◌}
 use Rattle.due_model.specs.declared.config.LaneId.{LaneId}
 use Rattle.due_model.specs.declared.notice.Notice.{Notice}
+use Rattle.delivery_worker.specs.declared.worker.Served.{Served}
+use Rattle.delivery_worker.specs.Picked.{join_lists}
 use Rattle.undelivered.specs.Record.{Record}
 use Rattle.undelivered.specs.declared.Why.{Why}
-use Rattle.undelivered.specs.declared.Why.TheVariants.{FeedOver, Asked, Failed, NoMemory, NoChannel}
+use Rattle.undelivered.specs.declared.Why.TheVariants.{FeedOver, Failed, NoMemory, NoChannel}
 
--- ---- how it ends
+-- ---- their channels
 
--- a lane at the end of a run: what its channel has taken, what was given up, and why it is closed
+-- the channels of lane l: those of its posts, in the order of the posts
+abbrev pub boxes_of : {P X : Type 0} → (lane : P → ℕ) → (channel : P → X) → (l : ℕ) → List P → List X
+boxes_of lane channel l posts = map channel (filter (λ post. lane post == l) posts)
+
+-- how many there are
+abbrev pub count_of : {P : Type 0} → (lane : P → ℕ) → List P → (l : ℕ) → ℕ
+count_of lane posts l = length (filter (λ post. lane post == l) posts)
+
+-- ---- how a lane ends
+
+-- a lane at the end of a run: how many channels it was given, what each that served has taken, in order, what was given up, and why it
+-- is closed
 pub record LaneParts : Type 0 where
   pub lane : LaneId
-  pub taken : List Notice
+  pub boxes : ℕ
+  pub records : List (List Notice)
   pub undelivered : List Notice
   pub why : Why
 
+-- what its channels have taken, in order
+abbrev pub taken : LaneParts → List Notice
+taken lane = join_lists lane.records
+
 -- all that is held for it, in order
 abbrev pub joined : LaneParts → List Notice
-joined lane = lane.taken ++ lane.undelivered
+joined lane = taken lane ++ lane.undelivered
 
--- A lane's close has its cause: where the feed is over nothing is undelivered, a lane that failed gave something up, a lane has
--- no channel, and has taken nothing, exactly where none was given, memory ran out only where the run says so, and nobody asks.
-pub record IsCause (posted memory : Bool) (lane : LaneParts) : Type 0 where
+-- A lane's close has its cause. So many channels were given, and each that served has a record. Where the feed is over nothing is
+-- undelivered; a lane that failed gave something up, and each of its channels has served and failed; a lane has no channel, and then
+-- no record, exactly where none was given; and memory ran out only where the run says so.
+pub record IsCause (given : ℕ) (memory : Bool) (lane : LaneParts) : Type 0 where
+  pub boxes : lane.boxes ≡ given
+  pub some : given ≢ 0 → lane.records ≢ []
+  pub most : length lane.records ≤ given
   pub over : lane.why ≡ FeedOver → lane.undelivered ≡ []
   pub failed : lane.why ≡ Failed → lane.undelivered ≢ []
-  pub unposted : lane.why ≡ NoChannel → posted ≡ false
-  pub no_channel : posted ≡ false → lane.why ≡ NoChannel
-  pub untaken : lane.why ≡ NoChannel → lane.taken ≡ []
+  pub each_failed : lane.why ≡ Failed → length lane.records ≡ given
+  pub unposted : lane.why ≡ NoChannel → given ≡ 0
+  pub no_channel : given ≡ 0 → lane.why ≡ NoChannel
   pub ran_out : lane.why ≡ NoMemory → memory ≡ true
-  pub unasked : lane.why ≢ Asked
 
--- ---- while it runs
+-- what each channel that served has taken, of so many: a lane that was given none has no record
+abbrev pub records_of : (boxes : ℕ) → Record → List (List Notice)
+records_of boxes held = if boxes == 0 then [] else held.ended ++ held.taken ∷ []
 
--- a lane that runs: whether it has a channel that serves, and its record
-pub record LaneValue : Type 0 where
-  pub lane : LaneId
-  pub serves : Bool
-  pub kept : Record
-
--- all that it holds, in order
-abbrev pub held : LaneValue → List Notice
-held lane = lane.kept.taken ++ lane.kept.undelivered
-
--- a lane that isn't there
-abbrev pub no_lane : LaneValue
-no_lane = record {
-  lane = record { 0 = 0 };
-  serves = false;
-  kept = record { taken = []; hand = None; undelivered = []; why = None };
-}
-
--- A lane has nothing in hand between two notices. While it serves it is open, and nothing was given up; else it is shut. One
--- that failed gave up a notice. Without a channel from the first it has taken nothing.
-pub record Stands (lane : LaneValue) : Type 0 where
-  pub hand : lane.kept.hand ≡ None
-  pub serving : lane.serves ≡ true → lane.kept.why ≡ None
-  pub nothing : lane.serves ≡ true → lane.kept.undelivered ≡ []
-  pub shut : lane.serves ≡ false → lane.kept.why ≢ None
-  pub failed : lane.kept.why ≡ Some Failed → lane.kept.undelivered ≢ []
-  pub untaken : lane.kept.why ≡ Some NoChannel → lane.kept.taken ≡ []
-
--- why a lane may be shut while the feed goes on
-pub record MayBeShut (posted memory : Bool) (why : Option Why) : Type 0 where
-  pub unposted : why ≡ Some NoChannel → posted ≡ false
-  pub no_channel : posted ≡ false → why ≡ Some NoChannel
-  pub ran_out : why ≡ Some NoMemory → memory ≡ true
-  pub unasked : why ≢ Some Asked
-  pub not_over : why ≢ Some FeedOver
+-- Lane l ends as its worker says: what each of its channels has taken, what was given up, and why it was closed; a lane without a
+-- channel for that, whatever came after.
+pub record IsEndOf (l given : ℕ) (s : Served) (lane : LaneParts) : Type 0 where
+  pub number : lane.lane.0 ≡ l
+  pub boxes : lane.boxes ≡ given
+  pub records : lane.records ≡ records_of given s.held
+  pub undelivered : lane.undelivered ≡ s.held.undelivered
+  pub unposted : s.held.why ≡ Some NoChannel → lane.why ≡ NoChannel
+  pub why : s.held.why ≢ Some NoChannel → lane.why ≡ s.why

@@ -1,7 +1,7 @@
 pub mod Lists
-pub mod Feed
 pub mod Lanes
+pub mod Feed
 pub mod Due
-pub mod Served
-pub mod Made
+pub mod Alike
+pub mod Feeds
 pub mod Run

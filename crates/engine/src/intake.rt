@@ -1,14 +1,18 @@
 //! The reading of a feed: the events that are accepted, and the lines that are refused.
 
-ghost use Rattle.std.specs.Prelude.{◌≡◌, ◌+◌, ◌<◌, ◌≤◌, [], List, true, None, IfOk};
-ghost use Rattle.std.specs.Prelude.{OnErr, OnOk};
+ghost use Rattle.std.specs.Prelude.{◌≡◌, ◌+◌, ◌<◌, ◌≤◌, ◌++◌, [], ◌∷◌, List, true, false, None};
+ghost use Rattle.std.specs.Prelude.{IfOk, IsSome, OnErr, OnOk, Some};
+ghost use Rattle.std.specs.Option.{option_to_list};
+ghost use Rattle.due_model.specs.declared.config.Config.{Config};
 ghost use Rattle.due_model.specs.declared.event.Event.{Event};
 ghost use Rattle.event_feed.specs.Feed.{Answer, Feed, feed_limit, feed_of};
-ghost use Rattle.text_lines.specs.Lines.{has_line};
-ghost use Rattle.engine.specs.Feed.{Follows, HasRead, accepted, ended, goes_on};
+ghost use Rattle.engine.specs.Feed.{Follows, Goes, HasRead, HasTaken, IsLeft, Offers, accepts};
+ghost use Rattle.engine.specs.Feed.{goes_on};
 
 use due_model::config::Config;
 use due_model::event::Event;
+use due_model::limits::MAX_EVENTS;
+use engine_threads::{Given, Source};
 use event_feed::{FeedFault, Feeder, RefusedLine};
 use std::alloc::{AllocError, Global};
 use std::io::Read;
@@ -18,7 +22,7 @@ use text_lines::{Input, LineReader};
 /// What the next line of a feed is.
 #[derive(Clone, Copy)]
 pub(crate) enum Next {
-    /// An event, which is to be accepted.
+    /// An event that is accepted.
     Accepts(Event),
     /// A line that was refused, and the feed goes on.
     Refused,
@@ -26,7 +30,7 @@ pub(crate) enum Next {
     Over(bool),
 }
 
-/// What was read of a feed. Contracts see the feed, the events, the refused lines, and the room for more.
+/// What was read of a feed. Contracts see the feed, the events, the refused lines, whether it is over, and the room for more.
 #[derive(Drop)]
 pub(crate) struct Intake<R: Read> {
     feeder: Feeder<R>,
@@ -34,6 +38,8 @@ pub(crate) struct Intake<R: Read> {
     events: Vec<Event>,
     /// The lines that were refused.
     refused: Vec<RefusedLine>,
+    /// Where the feed is over, whether it was cut.
+    over: Option<bool>,
 }
 
 impl<R: Read> Model for Intake<R> {
@@ -48,6 +54,7 @@ impl<R: Read> Model for Intake<R> {
         events = s.events.items;
         refused = s.refused.items;
       };
+      over = s.over;
       events_room = vec_capacity s.events - vec_len s.events;
       refused_room = vec_capacity s.refused - vec_len s.refused;
     } };
@@ -56,20 +63,21 @@ impl<R: Read> Model for Intake<R> {
 impl<R: Input + Drop> Intake<R> {
     /// Nothing was read of the feed whose first line is the next of this reader. It takes no memory.
     pub(crate) fn new(alloc: Global, lines: LineReader<R>) -> Self
-        ensures { result.read
+        ensures read { result.read
             ≡ record { feed = feed_of lines 0 0 None; events = []; refused = [] } }
+        ensures over { result.over ≡ None }
     {
         Intake {
             feeder: Feeder::new(lines),
             events: Vec::new(alloc),
             refused: Vec::new(alloc),
+            over: None,
         }
     }
 
     /// Reads the next line that says something. A refused growth is the only error, and comes before anything is read; after
     /// Ok there is room for the line.
-    pub(crate) fn next(&mut self, config: &Config) -> Result<Next, AllocError>
-        requires { self.old.read.feed.stop ≡ None }
+    fn read_line(&mut self, config: &Config) -> Result<Next, AllocError>
         ensures next { IfOk result (λ next. (start : Feed) (said : List Answer)
             → HasRead config.now start said self.old.read
             → Follows R.can_fail config.now start said next self.new.read) }
@@ -80,6 +88,7 @@ impl<R: Input + Drop> Intake<R> {
         ensures refused_room { IfOk result (λ next. (e : Event) → next ≡ Next.Accepts e
             → 0 < self.new.refused_room) }
         ensures events { self.new.read.events ≡ self.old.read.events }
+        ensures over { self.new.over ≡ self.old.over }
         ensures err { OnErr result (self.new.read ≡ self.old.read) }
     {
         self.events.reserve(1)?;
@@ -97,50 +106,120 @@ impl<R: Input + Drop> Intake<R> {
         }
     }
 
-    /// Accepts an event. It takes no memory.
-    pub(crate) fn accept(&mut self, event: Event)
-        requires { 0 < self.old.events_room }
-        ensures { self.new.read ≡ accepted event self.old.read }
+    /// Accepts the event of the last line. One that can't be numbered is refused as Ended, and the feed is over. It takes no
+    /// memory.
+    fn accept(&mut self, event: Event) -> Next
+        requires events_room { 0 < self.old.events_room }
+        requires refused_room { 0 < self.old.refused_room }
+        requires goes_on { self.old.over ≡ None }
+        ensures taken { (can_fail : _) (c : Config) (start : Feed) (said : List Answer)
+            → Offers c start said event self.old.read
+            → (all : List Answer) × HasTaken can_fail c start all self.new.over self.new.read }
+        ensures given { self.new.read.events ≡ self.old.read.events ++ accepts result }
+        ensures goes_on { goes_on result ≡ true → self.new.over ≡ None }
+        ensures over { goes_on result ≡ false → IsSome self.new.over }
+        ensures feed { self.new.read.feed ≡ self.old.read.feed }
     {
+        if self.events.len() as u64 == MAX_EVENTS {
+            let refusal = RefusedLine {
+                line: self.feeder.line(),
+                fault: FeedFault::Ended,
+            };
+            let _room = self.refused.push(refusal);
+            self.over = Some(true);
+            return Next::Over(true);
+        }
         let _room = self.events.push(event);
+        Next::Accepts(event)
     }
 
-    /// Refuses the event of the last line, since it can't be numbered. It takes no memory.
-    pub(crate) fn refuse(&mut self)
-        requires { 0 < self.old.refused_room }
-        ensures { self.new.read ≡ ended self.old.read }
+    /// Reads the next line that says something, and accepts its event. A refused growth is the only error, and changes nothing
+    /// of what was read.
+    fn take_line(&mut self, config: &Config) -> Result<Next, AllocError>
+        requires { self.old.over ≡ None }
+        ensures goes { Goes R.can_fail config.now self.old self.new }
+        ensures given { IfOk result (λ next.
+            self.new.read.events ≡ self.old.read.events ++ accepts next) }
+        ensures goes_on { IfOk result (λ next. goes_on next ≡ true → self.new.over ≡ None) }
+        ensures over { IfOk result (λ next. goes_on next ≡ false → IsSome self.new.over) }
+        ensures line { IfOk result (λ next. goes_on next ≡ true
+            → self.old.read.feed.line < self.new.read.feed.line) }
+        ensures limit { OnOk result (self.new.read.feed.line ≤ feed_limit + 1) }
+        ensures err { OnErr result (self.new.read ≡ self.old.read) }
     {
-        let refusal = RefusedLine {
-            line: self.feeder.line(),
-            fault: FeedFault::Ended,
-        };
-        let _room = self.refused.push(refusal);
+        match self.read_line(config)? {
+            Next::Accepts(event) => Ok(self.accept(event)),
+            Next::Refused => Ok(Next::Refused),
+            Next::Over(cut) => {
+                self.over = Some(cut);
+                Ok(Next::Over(cut))
+            }
+        }
     }
 
-    /// The refused lines.
-    pub(crate) fn refused(&self) -> &[RefusedLine]
-        ensures { result.now ≡ self.now.read.refused }
+    /// Reads on to the next event that is accepted, or to the end of the feed. A refused growth is the only error.
+    fn next_event(&mut self, config: &Config) -> Result<Option<Event>, AllocError>
+        ensures goes { Goes R.can_fail config.now self.old self.new }
+        ensures ok { IfOk result (λ event.
+            self.new.read.events ≡ self.old.read.events ++ option_to_list event) }
+        ensures err { OnErr result (self.new.read.events ≡ self.old.read.events) }
+        ensures over { IfOk result (λ event. event ≡ None → IsSome self.new.over) }
     {
-        &self.refused
+        while self.over.is_none() {
+            match self.take_line(config)? {
+                Next::Accepts(event) => return Ok(Some(event)),
+                Next::Refused => {}
+                Next::Over(_) => return Ok(None),
+            }
+        }
+        Ok(None)
     }
 
-    /// Whether a line that isn't empty is held whole, so that `next` calls no reader.
-    pub(crate) fn has_line(&self) -> bool
-        ensures { result ≡ has_line self.now.read.feed.held }
-    {
-        self.feeder.has_line()
-    }
-
-    /// The events and the refused lines.
-    pub(crate) fn into_lists(self) -> (Vec<Event>, Vec<RefusedLine>)
+    /// The events, the refused lines, and whether the feed was cut. Where memory ran out, here or elsewhere, the feed isn't said
+    /// to be cut, and the line at which it was is left out.
+    pub(crate) fn into_parts(self, memory: bool) -> (Vec<Event>, Vec<RefusedLine>, bool)
         ensures events { result.0.items ≡ self.read.events }
-        ensures refused { result.1.items ≡ self.read.refused }
+        ensures left { (can_fail : _) (c : Config) (start : Feed) (said : List Answer)
+            → HasTaken can_fail c start said self.over self.read
+            → (memory ≡ false → IsSome self.over)
+            → IsLeft can_fail c start memory result.0.items result.1.items result.2 }
     {
         let Intake {
             feeder: _,
             events,
-            refused,
+            mut refused,
+            over,
         } = self;
-        (events, refused)
+        let Some(cut) = over else {
+            return (events, refused, false);
+        };
+        if memory && cut {
+            let _line = refused.pop();
+            return (events, refused, false);
+        }
+        (events, refused, cut)
+    }
+}
+
+impl<R: Input + Drop> Source for Intake<R> {
+    ghost use Rattle.std.specs.Prelude.{IsSome};
+    ghost use Rattle.engine.specs.Feed.{Goes};
+
+    ghost given_so_far = { λ s. s.read.events };
+
+    ghost goes = { λ c a b. Goes R.can_fail c a b };
+
+    ghost stays = { λ c s start said taken. (said, taken) };
+
+    ghost ended = { λ s. IsSome s.over };
+
+    ghost follows = { λ c a b d one two start said taken.
+        two start (one start said taken).0 (one start said taken).1 };
+
+    fn next(&mut self, config: &Config) -> Result<Given, AllocError> {
+        match self.next_event(config)? {
+            Some(event) => Ok(Given::Event(event)),
+            None => Ok(Given::Over),
+        }
     }
 }

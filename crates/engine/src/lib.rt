@@ -1,18 +1,24 @@
-//! The notification engine: it reads a feed of events, decides each, and hands what is due to the channels of the lanes.
+//! The notification engine: it reads a feed of events, decides each in one or more deciders, and hands what is due to the channels
+//! of the lanes, of which each has a worker. The intake works in the calling thread; each decider and each worker has its own. The
+//! feed is read, or is put together from the feeds of callers in threads of their own.
 #![tactic(auto)]
 
-mod bell;
-mod desk;
+mod alike;
 mod engine;
+mod feeds;
 mod intake;
-mod lane;
 mod lanes;
+mod open_gate;
 mod post;
-mod run;
 mod run_end;
+mod running;
 
+pub use alike::runs_are_alike;
+pub use caller_feeds::{EndFull, FeedEnd, FeedHandle, Full};
+pub use closers::Closers;
+pub use delivery_worker::Gate;
 pub use engine::Engine;
-pub use post::Post;
-pub use run::{Run, Turn};
+pub use open_gate::OpenGate;
+pub use post::{Post, are_few};
 pub use run_end::{LaneEnd, RunEnd};
 pub use steps::Settings;

@@ -12,7 +12,7 @@ use Rattle.due_model.specs.declared.config.ObjectId.{ObjectId}
 use Rattle.due_model.specs.declared.event.DowntimeChange.TheVariants.{Start, End, Cancelled}
 use Rattle.due_model.specs.declared.event.Event.{Event}
 use Rattle.due_model.specs.declared.event.EventKind.{EventKind}
-use Rattle.due_model.specs.declared.event.EventKind.TheVariants.{Clock, Program, Hard, Downtime, Flapping}
+use Rattle.due_model.specs.declared.event.EventKind.TheVariants.{Clock, Program, Hard, Downtime, Flapping, Ack}
 use Rattle.due_model.specs.declared.state.State.TheVariants.{Up, Down, Unreachable, Fine, Warning, Unknown, Critical}
 use Rattle.text_lines.specs.LineReader.{line_limit}
 use Rattle.event_feed.specs.declared.fault.FeedFault.{FeedFault}
@@ -22,7 +22,7 @@ use Rattle.event_feed.specs.declared.line.Command.TheVariants.{TellTime, Switch,
 use Rattle.event_feed.specs.declared.line.Subject.{Subject}
 use Rattle.event_feed.specs.declared.line.Subject.TheVariants.{Host, Service}
 use Rattle.event_feed.specs.declared.line.Words.{Words}
-use Rattle.event_feed.specs.declared.line.Words.TheVariants.{States, Downtimes, Flaps}
+use Rattle.event_feed.specs.declared.line.Words.TheVariants.{States, Downtimes, Flaps, Acks}
 
 abbrev pub begins_with : List ℕ → List ℕ → Bool
 begins_with bytes front = bytes_eq (take (length front) bytes) front
@@ -78,6 +78,8 @@ command_named name =
     else if bytes_eq name (codes "SERVICE_DOWNTIME") then Some (Tell Downtimes Service)
     else if bytes_eq name (codes "HOST_FLAPPING") then Some (Tell Flaps Host)
     else if bytes_eq name (codes "SERVICE_FLAPPING") then Some (Tell Flaps Service)
+    else if bytes_eq name (codes "HOST_ACK") then Some (Tell Acks Host)
+    else if bytes_eq name (codes "SERVICE_ACK") then Some (Tell Acks Service)
     else None
 
 -- ---- the words
@@ -114,12 +116,20 @@ flapping_said object word =
     else if bytes_eq word (codes "STOP") then Some (Flapping object false)
     else None
 
+-- that the problem is acknowledged, and how long that lasts (chapter "External Commands")
+abbrev pub ack_said : ObjectId → List ℕ → Option EventKind
+ack_said object word =
+    if bytes_eq word (codes "STICKY") then Some (Ack object true)
+    else if bytes_eq word (codes "NORMAL") then Some (Ack object false)
+    else None
+
 -- what a word says of such an object
 abbrev pub said : Words → Subject → ObjectId → List ℕ → Option EventKind
 said States Host object word = host_state_said object word
 said States Service object word = service_state_said object word
 said Downtimes subject object word = downtime_said object word
 said Flaps subject object word = flapping_said object word
+said Acks subject object word = ack_said object word
 
 -- ---- the arguments
 

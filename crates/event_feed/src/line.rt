@@ -10,7 +10,7 @@ ghost use Rattle.std.specs.List.{prefix_len};
 ghost use Rattle.due_model.specs.Proper.{IsProper};
 ghost use Rattle.due_model.specs.Limits.{last_moment};
 ghost use Rattle.std.specs.Char.{is_ascii_digit};
-ghost use Rattle.event_feed.specs.Line.{bare_reading, command_named, command_of};
+ghost use Rattle.event_feed.specs.Line.{ack_said, bare_reading, command_named, command_of};
 ghost use Rattle.event_feed.specs.Line.{command_reading, digits_number};
 ghost use Rattle.event_feed.specs.Line.{downtime_said, fields, fields_after, flapping_said};
 ghost use Rattle.event_feed.specs.Line.{host_state_said};
@@ -46,6 +46,8 @@ pub(crate) enum Words {
     Downtimes,
     /// Flapping starts or stops (chapter "State Flapping").
     Flaps,
+    /// The problem is acknowledged: until it is over, or until the state changes (chapter "External Commands").
+    Acks,
 }
 
 /// What the arguments of a command name.
@@ -264,6 +266,10 @@ fn find_command(name: &[u8]) -> Option<Command>
         Some(Command::Tell(Words::Flaps, Subject::Host))
     } else if is_word(name, b"SERVICE_FLAPPING") {
         Some(Command::Tell(Words::Flaps, Subject::Service))
+    } else if is_word(name, b"HOST_ACK") {
+        Some(Command::Tell(Words::Acks, Subject::Host))
+    } else if is_word(name, b"SERVICE_ACK") {
+        Some(Command::Tell(Words::Acks, Subject::Service))
     } else {
         None
     }
@@ -361,6 +367,7 @@ fn find_said(words: Words, subject: Subject, object: ObjectId, word: &[u8]) -> O
         },
         Words::Downtimes => find_downtime(object, word),
         Words::Flaps => find_flapping(object, word),
+        Words::Acks => find_ack(object, word),
     }
 }
 
@@ -419,6 +426,19 @@ fn find_flapping(object: ObjectId, word: &[u8]) -> Option<EventKind>
         Some(EventKind::Flapping(object, true))
     } else if is_word(word, b"STOP") {
         Some(EventKind::Flapping(object, false))
+    } else {
+        None
+    }
+}
+
+/// What a word says of an acknowledgement of an object's problem.
+fn find_ack(object: ObjectId, word: &[u8]) -> Option<EventKind>
+    ensures { result ≡ ack_said object word.now }
+{
+    if is_word(word, b"STICKY") {
+        Some(EventKind::Ack(object, true))
+    } else if is_word(word, b"NORMAL") {
+        Some(EventKind::Ack(object, false))
     } else {
         None
     }

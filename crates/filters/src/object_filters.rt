@@ -36,6 +36,7 @@ pub fn object_verdict(view: View, attempt: &Attempt<'_>) -> Result<(), Filter>
     stop_if(is_without_problem(view, kind), Filter::NoProblem)?;
     stop_if(attempt.is_outside(view.period), Filter::Period)?;
     stop_if(depends(view, kind), Filter::Dependency)?;
+    stop_if(is_acknowledged(view, kind), Filter::Acknowledged)?;
     stop_if(is_within_delay(view, attempt), Filter::FirstDelay)?;
     stop_if(is_within_interval(view, attempt), Filter::Interval)
 }
@@ -80,6 +81,13 @@ fn depends(view: View, kind: Kind) -> bool
     ensures { result ≡ (is_of_problem kind && view.depends) }
 {
     kind.is_of_problem() && view.depends
+}
+
+/// The problem is acknowledged. Recoveries are told.
+fn is_acknowledged(view: View, kind: Kind) -> bool
+    ensures { result ≡ (is_problem kind && view.acknowledged) }
+{
+    kind.is_problem() && view.acknowledged
 }
 
 /// No notice of the problem went out, and the delay since its first event hasn't passed.

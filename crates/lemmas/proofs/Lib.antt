@@ -11,3 +11,4 @@ pub mod Chains
 pub mod Edges
 pub mod Rising
 pub mod Results
+pub mod Acknowledgements

@@ -1,6 +1,6 @@
 -- Lists: those in which each element is related to each later one, ranges of numbers, elements read at a place, and a list
 -- taken from its front one element at a time.
-use Rattle.std.proofs.Common.{◌≡◌, ℕ, zero, suc, ◌+◌, ◌<◌, ◌≤◌, Bool, true, false, cond, ◌||◌, List, [], ◌∷◌, ◌++◌, length, length-take, length-take-le, get_or, take, drop, reverse, map-id, filter, flat_map, All, Some, slice_get, Contains, refl, sym, ap, ap₂, ◌∙◌, arith, ◌-◌, replicate}
+use Rattle.std.proofs.Common.{◌≡◌, ℕ, zero, suc, ◌+◌, ◌<◌, ◌≤◌, Bool, true, false, cond, ◌||◌, List, [], ◌∷◌, ◌++◌, length, length-take, length-take-le, get_or, take, drop, reverse, map-id, filter, flat_map, All, Some, slice_get, Contains, refl, sym, ap, ap₂, ◌∙◌, arith, replicate}
 use Rattle.std.specs.List.{AllPairs, list_any, range_with_len, slice_split, onto_first}
 use Rattle.std.proofs.lemmas.List.{take_more, reverse-append, length-reverse, take_all, drop_all, drop-append-le, get_or_default}
 use Rattle.std.proofs.lemmas.Option.{get_or_from_slice_get}

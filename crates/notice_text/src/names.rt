@@ -50,6 +50,7 @@ pub fn filter_name(filter: Filter) -> &'static str
         Filter::NoProblem => "NoProblem",
         Filter::Period => "Period",
         Filter::Dependency => "Dependency",
+        Filter::Acknowledged => "Acknowledged",
         Filter::FirstDelay => "FirstDelay",
         Filter::Interval => "Interval",
         Filter::ContactDisabled => "ContactDisabled",

@@ -1,7 +1,7 @@
 //! The program `notify-run`: its command line, and how each command ends.
 #![tactic(auto)]
 
-ghost use Rattle.std.specs.Prelude.{◌≡◌};
+ghost use Rattle.std.specs.Prelude.{◌≡◌, ◌<◌};
 ghost use Rattle.std.specs.Process.{exit_status};
 ghost use Rattle.clap.specs.Values.{kind_of};
 ghost use Rattle.command_output.specs.Outcome.{outcome_status};
@@ -9,6 +9,7 @@ ghost use Rattle.command_line.specs.Words.{AreSettingsFit, AreTwo, request_zone}
 ghost use Rattle.notify_run.specs.Refusal.{refusal_status};
 ghost use Rattle.notify_run.specs.Zones.{IsBadRule, zone_fault_status};
 ghost use Rattle.sending.specs.Fault.{run_status};
+ghost use Rattle.steps.specs.Settings.{max_boxes};
 
 use clap::error::ErrorKind;
 use command_input::zone_of;
@@ -23,6 +24,8 @@ use std::env;
 use std::fs::File;
 use std::io::IsTerminal;
 use std::process::ExitCode;
+use std::sync::Wait;
+use std::thread::Threads;
 use steps::Settings;
 use text_lines::AnyReader;
 use trace::trace_in;
@@ -106,10 +109,17 @@ fn replay_through<P: Watcher>(
 }
 
 /// Does a trace.
-fn do_trace(rt: &HostRuntime, zone: &Zone, settings: Settings) -> Result<Ending, CommandFault> {
+fn do_trace(
+    rt: &HostRuntime,
+    zone: &Zone,
+    settings: Settings,
+    standbys: u8,
+) -> Result<Ending, CommandFault>
+    requires { standbys < max_boxes }
+{
     let input = AnyReader::new(rt.stdin());
     let mut writer = AnyWriter::new(rt.stdout());
-    trace_in(rt.alloc(), zone, settings, input, &mut writer)
+    trace_in(rt.alloc(), zone, settings, standbys, input, &mut writer)
 }
 
 /// Says on standard error what a run failed with, if it did, and gives its exit status.
@@ -126,8 +136,13 @@ fn status_of_run<R: Eprint>(rt: &R, outcome: Result<Ending, RunFault<'_>>) -> Ex
     }
 }
 
-/// Does what is asked, and gives the exit status. The zone is read before anything else.
-fn status_of_request(rt: &HostRuntime, request: Request<'_, '_>) -> ExitCode
+/// Does what is asked, and gives the exit status. The zone is read before anything else. The handle is of the machine, and again
+/// that by which threads are started.
+fn status_of_request<T: Threads + Wait + Sync>(
+    rt: &HostRuntime,
+    threads: &T,
+    request: Request<'_, '_>,
+) -> ExitCode
     requires { AreSettingsFit request }
     ensures two { AreTwo (request_zone request.entry) → exit_status result ≡ 2 }
     ensures rule { IsBadRule (request_zone request.entry) → exit_status result ≡ 2 }
@@ -139,14 +154,29 @@ fn status_of_request(rt: &HostRuntime, request: Request<'_, '_>) -> ExitCode
     };
     let outcome = match request {
         Request::Replay { objects, .. } => do_replay(rt, &zone, objects),
-        Request::Trace { settings, .. } => do_trace(rt, &zone, settings),
+        Request::Trace {
+            settings,
+            standbys,
+            ..
+        } => do_trace(rt, &zone, settings, standbys),
         Request::Run {
             objects,
             settings,
             channels,
             ..
         } => {
-            let outcome = do_run(rt, &zone, objects, settings, channels);
+            let feed = AnyReader::new(rt.stdin());
+            let mut writer = AnyWriter::new(rt.stdout());
+            let outcome = do_run(
+                rt,
+                threads,
+                &zone,
+                objects,
+                settings,
+                channels,
+                feed,
+                &mut writer,
+            );
             return status_of_run(rt, outcome);
         }
     };
@@ -169,7 +199,7 @@ fn main(rt: HostRuntime) -> ExitCode {
         Err(error) => return status_of_refusal(&rt, &error),
     };
     match request_of(&matches) {
-        Some(request) => status_of_request(&rt, request),
+        Some(request) => status_of_request(&rt, &rt, request),
         None => {
             let _ = rt.eprintln("usage: notify-run --help");
             ExitCode::from(2)

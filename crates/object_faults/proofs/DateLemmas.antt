@@ -1,25 +1,29 @@
--- What a search notes are the lines of dates of the definition.
+-- The lines of dates that are found are those of the definition.
 use Rattle.std.proofs.Common.{◌≡◌, ℕ, zero, suc, Bool, true, false, not, cond, List, [], ◌∷◌, ◌++◌, length, map, reverse, Option, Some, None, refl, sym, ap, subst, ⊎_elim, ◌⊎◌, inl, inr, ◌∙◌}
-use Rattle.std.specs.Prelude.{Contains, find, is_some, slice_get, ◌↔◌, ◌||◌, ◌&&◌}
+use Rattle.std.specs.Prelude.{All, Contains, find, is_some, slice_get, ◌||◌, ◌&&◌}
 use Rattle.std.specs.List.{list_any}
 use Rattle.std.specs.Option.{option_and_then, option_map, option_map_or, option_to_list}
 use Rattle.std.specs.Str.{bytes_eq}
 use Rattle.std.proofs.lemmas.Bool.{false≢true}
 use Rattle.std.proofs.lemmas.List.{reverse-append}
-use Rattle.std.proofs.lemmas.List.Elements.{Contains-append_cases}
+use Rattle.std.proofs.lemmas.List.Elements.{All-contains, Contains-append_cases}
+use Rattle.std.proofs.lemmas.Slice.Eq.{bytes_eq-Decides}
 use Rattle.lemmas.proofs.Elements.{at-Contains, Contains-cases, Contains-flat_map, Contains-here, Contains-later, Contains-map, Contains-none}
 use Rattle.object_faults.specs.Columns.{date_at, date_by, date_fault}
-use Rattle.object_faults.specs.Dated.{dated_line, directive_names, has_line, has_timed, has_time, has_untimed}
+use Rattle.object_faults.specs.Dated.{directive_names, has_bad_line, has_line, has_other_line, is_bad_line, is_other_line}
 use Rattle.object_faults.specs.declared.fault.ValueFault.{ValueFault}
 use Rattle.object_faults.specs.Faults.{is_registered}
+use Rattle.object_inheritance.specs.DatedLines.{AreLines, dated_line, named}
+use Rattle.object_inheritance.specs.declared.dated_lines.Line.{Line}
 use Rattle.object_inheritance.specs.Kinds.{is_period}
-use Rattle.object_faults.specs.Search.{Entries, HasNoted, noted}
-use Rattle.object_faults.proofs.NoteLemmas.{same-name}
 use Rattle.object_inheritance.specs.Inherited.{first_given, given, given_along, own, sources, value}
 use Rattle.object_reader.specs.declared.block.Block.{Block}
 use Rattle.object_reader.specs.declared.block.Directive.{Directive}
 use Rattle.object_values.specs.Ranges.{is_dated}
 use Rattle.object_values.specs.Values.{value_in}
+
+same-name : (one other : List ℕ) → bytes_eq one other ≡ true → one ≡ other
+same-name one other is = (bytes_eq-Decides one other).0 is
 
 -- ---- elements
 
@@ -107,79 +111,86 @@ same-flag true b to from = sym (to refl)
 same-flag false true to from = from refl
 same-flag false false to from = refl
 
-module _ (blocks : List Block) (place : ℕ) (entries : Entries) (are : (name : List ℕ) → noted entries name ≡ dated_line name (value blocks name place)) where
-  -- a flag that says whether a line is noted that passes
-  flag-is : (passes : Bool → Bool) (timed flag : Bool) → passes timed ≡ true → ((b : Bool) → passes b ≡ true → b ≡ timed) → ((flag ≡ true) ↔ HasNoted entries timed)
-      → flag ≡ list_any (has_line passes blocks place) (directive_names blocks)
-  flag-is passes timed flag so only says = same-flag flag _ to from
-    where
-      to : flag ≡ true → list_any (has_line passes blocks place) (directive_names blocks) ≡ true
-      to is =
-          let has = says.0 is in
-          let line : dated_line has.0 (value blocks has.0 place) ≡ Some timed = sym (are has.0) ∙ has.1 in
-          any-from (has_line passes blocks place) (directive_names blocks) has.0 (by_value has.0 (value blocks has.0 place) refl (is_dated has.0) line)
-          (ap (λ found. option_map_or passes found false) line ∙ so)
-        where
-          by_value : (name : List ℕ) (text : Option (List ℕ)) → value blocks name place ≡ text → (b : Bool) → cond b (option_map (has_time name) text) None ≡ Some timed → Contains (directive_names blocks) name
-          by_value name (Some text) is b line = value-named blocks name place text is
-          by_value name None is true line = absurd (false≢true (ap is_some line))
-          by_value name None is false line = absurd (false≢true (ap is_some line))
+-- some line of these passes
+abbrev any-line : (List ℕ → List ℕ → Bool) → List (List ℕ × List ℕ) → Bool
+any-line passes lines = list_any (λ line. passes line.0 line.1) lines
 
-      from : list_any (has_line passes blocks place) (directive_names blocks) ≡ true → flag ≡ true
+line-found : (passes : List ℕ → List ℕ → Bool) (lines : List (List ℕ × List ℕ)) → any-line passes lines ≡ true
+    → (line : List ℕ × List ℕ) × Contains lines line × (passes line.0 line.1 ≡ true)
+line-found passes [] none = absurd (false≢true none)
+line-found passes (x ∷ xs) any = by_head (passes x.0 x.1) refl any (line-found passes xs)
+  where
+    by_head : (b : Bool) → passes x.0 x.1 ≡ b → (b || any-line passes xs) ≡ true → (any-line passes xs ≡ true → (y : List ℕ × List ℕ) × Contains xs y × (passes y.0 y.1 ≡ true))
+        → (y : List ℕ × List ℕ) × Contains (x ∷ xs) y × (passes y.0 y.1 ≡ true)
+    by_head true is any more = (x, Contains-here x xs, is)
+    by_head false fails any more = let later = more any in (later.0, Contains-later x later.0 xs later.1, later.2)
+
+line-from : (passes : List ℕ → List ℕ → Bool) (lines : List (List ℕ × List ℕ)) (line : List ℕ × List ℕ) → Contains lines line → passes line.0 line.1 ≡ true → any-line passes lines ≡ true
+line-from passes [] line at is = absurd (Contains-none line at)
+line-from passes (y ∷ ys) line at is = by_head (passes y.0 y.1) refl (Contains-cases y line ys at) (λ later. line-from passes ys line later is)
+  where
+    by_head : (b : Bool) → passes y.0 y.1 ≡ b → (y ≡ line) ⊎ Contains ys line → (Contains ys line → any-line passes ys ≡ true) → (b || any-line passes ys) ≡ true
+    by_head true is either more = refl
+    by_head false fails (inl here) more = absurd (false≢true (sym fails ∙ ap (λ (l : List ℕ × List ℕ). passes l.0 l.1) here ∙ is))
+    by_head false fails (inr later) more = more later
+
+module _ (passes : List ℕ → List ℕ → Bool) (blocks : List Block) (place : ℕ) (lines : List (List ℕ × List ℕ)) (are : AreLines blocks place lines) where
+  -- a line of the block passes where one of those that are found does
+  line-is : any-line passes lines ≡ list_any (has_line passes blocks place) (directive_names blocks)
+  line-is = same-flag _ _ to from
+    where
+      to : any-line passes lines ≡ true → list_any (has_line passes blocks place) (directive_names blocks) ≡ true
+      to any =
+          let found = line-found passes lines any in
+          let line : dated_line found.0.0 (value blocks found.0.0 place) ≡ Some found.0.1 =
+          All-contains (λ (l : List ℕ × List ℕ). dated_line l.0 (value blocks l.0 place) ≡ Some l.1) lines found.0 are.each found.1 in
+          any-from (has_line passes blocks place) (directive_names blocks) found.0.0 (by_value found.0.0 found.0.1 (value blocks found.0.0 place) refl (is_dated found.0.0) line)
+          (ap (λ text. option_map_or (passes found.0.0) text false) line ∙ found.2)
+        where
+          by_value : (name t : List ℕ) (text : Option (List ℕ)) → value blocks name place ≡ text → (b : Bool) → cond b text None ≡ Some t → Contains (directive_names blocks) name
+          by_value name t (Some text) is b line = value-named blocks name place text is
+          by_value name t None is true line = absurd (false≢true (ap is_some line))
+          by_value name t None is false line = absurd (false≢true (ap is_some line))
+
+      from : list_any (has_line passes blocks place) (directive_names blocks) ≡ true → any-line passes lines ≡ true
       from any =
           let found = any-found (has_line passes blocks place) (directive_names blocks) any in
-          says.1 (found.0, are found.0 ∙ by_line (dated_line found.0 (value blocks found.0 place)) found.1)
+          by_line found.0 (dated_line found.0 (value blocks found.0 place)) refl found.1
         where
-          by_line : (line : Option Bool) → option_map_or passes line false ≡ true → line ≡ Some timed
-          by_line None not_so = absurd (false≢true not_so)
-          by_line (Some b) is = ap (λ (c : Bool). Some c) (only b is)
+          by_line : (name : List ℕ) (text : Option (List ℕ)) → dated_line name (value blocks name place) ≡ text → option_map_or (passes name) text false ≡ true → any-line passes lines ≡ true
+          by_line name None is fails = absurd (false≢true fails)
+          by_line name (Some text) is passing = line-from passes lines (name, text) (are.all name text is) passing
 
-  untimed-is : (flag : Bool) → ((flag ≡ true) ↔ HasNoted entries false) → flag ≡ has_untimed blocks place
-  untimed-is flag says = flag-is not false flag refl only says
-    where
-      only : (b : Bool) → not b ≡ true → b ≡ false
-      only true not_so = absurd (false≢true not_so)
-      only false so = refl
+-- the same of lines as they are kept
+any-named : (passes : List ℕ → List ℕ → Bool) (lines : List Line) → list_any (λ line. passes line.name.now line.text.now) lines ≡ any-line passes (named lines)
+any-named passes [] = refl
+any-named passes (line ∷ lines) = ap (λ rest. passes line.name.now line.text.now || rest) (any-named passes lines)
 
-  timed-is : (flag : Bool) → ((flag ≡ true) ↔ HasNoted entries true) → flag ≡ has_timed blocks place
-  timed-is flag says = flag-is (λ timed. timed) true flag refl (λ b is. is) says
+pub kept-line-is : (passes : List ℕ → List ℕ → Bool) (blocks : List Block) (place : ℕ) (lines : List Line) (flag : Bool) → flag ≡ list_any (λ line. passes line.name.now line.text.now) lines
+    → AreLines blocks place (named lines) → flag ≡ list_any (has_line passes blocks place) (directive_names blocks)
+kept-line-is passes blocks place lines flag is are = is ∙ any-named passes lines ∙ line-is passes blocks place (named lines) are
 
-  -- the fault of a registered period
-  pub fault-is : (block : Block) (untimed timed : Bool) (fault : Option ValueFault) → slice_get blocks place ≡ Some block → is_registered block ≡ true → is_period block.kind ≡ true
-      → ((untimed ≡ true) ↔ HasNoted entries false) → ((timed ≡ true) ↔ HasNoted entries true) → fault ≡ date_by untimed timed → fault ≡ date_at blocks place
-  fault-is block untimed timed fault here registered period not_so so is =
-      is ∙ ap (λ (u : Bool). date_by u timed) (untimed-is untimed not_so) ∙ ap (λ (t : Bool). date_by (has_untimed blocks place) t) (timed-is timed so)
-      ∙ sym (ap (option_and_then (date_fault blocks place)) here
-      ∙ ap (λ (b : Bool). cond (b && is_period block.kind) (date_by (has_untimed blocks place) (has_timed blocks place)) None) registered
-      ∙ ap (λ (b : Bool). cond b (date_by (has_untimed blocks place) (has_timed blocks place)) None) period)
+-- the fault of a registered period
+pub fault-is : (blocks : List Block) (place : ℕ) (block : Block) (bad other : Bool) (fault : Option ValueFault) → slice_get blocks place ≡ Some block → is_registered block ≡ true
+    → is_period block.kind ≡ true → bad ≡ has_bad_line blocks place → other ≡ has_other_line blocks place → fault ≡ date_by bad other → fault ≡ date_at blocks place
+fault-is blocks place block bad other fault here registered period bad_is other_is is =
+    is ∙ ap (λ (u : Bool). date_by u other) bad_is ∙ ap (λ (t : Bool). date_by (has_bad_line blocks place) t) other_is
+    ∙ sym (ap (option_and_then (date_fault blocks place)) here
+    ∙ ap (λ (b : Bool). cond (b && is_period block.kind) (date_by (has_bad_line blocks place) (has_other_line blocks place)) None) registered
+    ∙ ap (λ (b : Bool). cond b (date_by (has_bad_line blocks place) (has_other_line blocks place)) None) period)
 
--- where there is not_so fault nothing is noted
-pub fresh-still : (entries : Entries) (untimed timed : Bool) → ((untimed ≡ true) ↔ HasNoted entries false) → ((timed ≡ true) ↔ HasNoted entries true)
-    → date_by untimed timed ≡ None → (name : List ℕ) → noted entries name ≡ None
-fresh-still entries untimed timed not_so so none name = by_noted (noted entries name) refl
-  where
-    flags : (u t : Bool) → date_by u t ≡ None → (u ≡ true → ⊥) × (t ≡ true → ⊥)
-    flags true t none = absurd (false≢true (sym (ap is_some none)))
-    flags false true none = absurd (false≢true (sym (ap is_some none)))
-    flags false false none = (false≢true, false≢true)
-
-    by_noted : (found : Option Bool) → noted entries name ≡ found → found ≡ None
-    by_noted None is = refl
-    by_noted (Some true) is = absurd ((flags untimed timed none).1 (so.1 (name, is)))
-    by_noted (Some false) is = absurd ((flags untimed timed none).0 (not_so.1 (name, is)))
-
--- a block that is not_so registered period has not_so such fault
+-- a block that is no registered period has no such fault
 pub fault-unregistered : (blocks : List Block) (place : ℕ) (block : Block) → slice_get blocks place ≡ Some block → is_registered block ≡ false → None ≡ date_at blocks place
 fault-unregistered blocks place block here is =
     sym (ap (option_and_then (date_fault blocks place)) here
-    ∙ ap (λ (b : Bool). cond (b && is_period block.kind) (date_by (has_untimed blocks place) (has_timed blocks place)) None) is)
+    ∙ ap (λ (b : Bool). cond (b && is_period block.kind) (date_by (has_bad_line blocks place) (has_other_line blocks place)) None) is)
 
 pub fault-no_period : (blocks : List Block) (place : ℕ) (block : Block) → slice_get blocks place ≡ Some block → is_period block.kind ≡ false → None ≡ date_at blocks place
 fault-no_period blocks place block here is =
     sym (ap (option_and_then (date_fault blocks place)) here
-    ∙ ap (λ (b : Bool). cond (is_registered block && b) (date_by (has_untimed blocks place) (has_timed blocks place)) None) is
+    ∙ ap (λ (b : Bool). cond (is_registered block && b) (date_by (has_bad_line blocks place) (has_other_line blocks place)) None) is
     ∙ by_test (is_registered block))
   where
-    by_test : (b : Bool) → cond {A = Option ValueFault} (b && false) (date_by (has_untimed blocks place) (has_timed blocks place)) None ≡ None
+    by_test : (b : Bool) → cond {A = Option ValueFault} (b && false) (date_by (has_bad_line blocks place) (has_other_line blocks place)) None ≡ None
     by_test true = refl
     by_test false = refl

@@ -3,7 +3,4 @@ pub mod KnownLemmas
 pub mod TableLemmas
 pub mod NeedLemmas
 mod RankLemmas
-mod NoteLemmas
-mod TurnLemmas
-mod SearchLemmas
 mod DateLemmas

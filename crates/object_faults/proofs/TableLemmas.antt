@@ -14,7 +14,7 @@ use Rattle.object_faults.specs.declared.first.Found.{Found}
 use Rattle.std.proofs.lemmas.Option.{slice_get_within}
 use Rattle.object_faults.specs.declared.needs.Side.TheVariants.{Masters, Dependents}
 use Rattle.object_faults.specs.Columns.{any_at, column_fault, date_at, date_by, date_fault, first_of, IsFirst, lower_fault, name_columns, plain_fault, registered_fault, side_fault, value_columns, whole_at}
-use Rattle.object_faults.specs.Dated.{has_timed, has_untimed}
+use Rattle.object_faults.specs.Dated.{has_bad_line, has_other_line}
 use Rattle.object_faults.specs.Faults.{AreFree, fault_by, fault_of, is_broken, is_lacking, is_registered, IsFirstFault, lacks, value_fault}
 use Rattle.object_inheritance.specs.Kinds.{is_period}
 use Rattle.object_faults.proofs.RankLemmas.{merged}
@@ -135,11 +135,11 @@ module _ (blocks : List Block) (place : ℕ) where
       let kind = block.kind in
       ap (λ plain. lower_fault plain (date_at blocks place)) (plain-is block here)
       ∙ ap (λ found. lower_fault (cond (is_registered block) (plain_fault blocks place kind) None) (option_and_then (date_fault blocks place) found)) here
-      ∙ elim (is_registered block) as (λ b. lower_fault (cond b (plain_fault blocks place kind) None) (cond (b && is_period kind) (date_by (has_untimed blocks place) (has_timed blocks place)) None)
+      ∙ elim (is_registered block) as (λ b. lower_fault (cond b (plain_fault blocks place kind) None) (cond (b && is_period kind) (date_by (has_bad_line blocks place) (has_other_line blocks place)) None)
       ≡ cond b (value_fault blocks place kind) None) [
         | true ↦ merged (is_lacking blocks place kind) (list_any (is_broken blocks place Number) (numbers kind)) (list_any (λ row. is_broken blocks place row.0 row.1) (option_lists kind))
             (list_any (is_broken blocks place Ranges) (range_lines kind)) (list_any (is_broken blocks place Zero) (zeros kind)) (list_any (is_broken blocks place Names) (name_lists kind))
-            (is_period kind) (has_untimed blocks place) (has_timed blocks place)
+            (is_period kind) (has_bad_line blocks place) (has_other_line blocks place)
         | false ↦ refl
       ]
 

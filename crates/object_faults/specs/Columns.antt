@@ -20,7 +20,7 @@ use Rattle.object_faults.specs.declared.first.Found.{Found}
 use Rattle.object_faults.specs.declared.lists.NameList.TheVariants as entries
 use Rattle.object_faults.specs.declared.needs.Side.{Side}
 use Rattle.object_faults.specs.declared.needs.Side.TheVariants.{Masters, Dependents}
-use Rattle.object_faults.specs.Dated.{has_timed, has_untimed}
+use Rattle.object_faults.specs.Dated.{has_bad_line, has_other_line}
 use Rattle.object_faults.specs.Faults.{fault_by, is_broken, is_lacking, is_registered, lacks}
 use Rattle.object_inheritance.specs.Kinds.{has_contacts, is_contact, is_dependency, is_escalation, is_host_or_service, is_period, is_service, means_nothing}
 use Rattle.object_faults.specs.Lists.{is_list_of, list_directive}
@@ -205,15 +205,15 @@ plain_fault blocks place kind = fault_by
 
 -- ---- lines of dates beside them
 
--- the fault of a line of dates without a word with a colon, and of one with such a word
-abbrev pub date_by : (untimed timed : Bool) → Option ValueFault
-date_by untimed timed =
-    if untimed then Some BadRange else if timed then Some DatedException else None
+-- the fault of a line of dates that is none, and of one that says something other than a day
+abbrev pub date_by : (bad other : Bool) → Option ValueFault
+date_by bad other =
+    if bad then Some BadRange else if other then Some DatedException else None
 
 -- the fault of the lines of dates that the block at the place has, if it is a registered period
 abbrev pub date_fault : List Block → ℕ → Block → Option ValueFault
 date_fault blocks place block = if is_registered block && is_period block.kind
-    then date_by (has_untimed blocks place) (has_timed blocks place) else None
+    then date_by (has_bad_line blocks place) (has_other_line blocks place) else None
 
 abbrev pub date_at : List Block → ℕ → Option ValueFault
 date_at blocks place = option_and_then (date_fault blocks place) (slice_get blocks place)

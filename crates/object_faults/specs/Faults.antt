@@ -11,7 +11,7 @@ use Rattle.object_inheritance.specs.Registered.{registers}
 use Rattle.object_values.specs.Options.{criteria_in, options_in}
 use Rattle.object_values.specs.Ranges.{are_ranges}
 use Rattle.object_values.specs.Values.{number_in, value_in}
-use Rattle.object_faults.specs.Dated.{has_timed, has_untimed}
+use Rattle.object_faults.specs.Dated.{has_bad_line, has_other_line}
 use Rattle.object_faults.specs.declared.column.Check.{Check}
 use Rattle.object_faults.specs.declared.column.Check.TheVariants.{Given, Number, Options, Criteria, Ranges, Zero, Names}
 use Rattle.object_faults.specs.declared.fault.PassFault.{PassFault}
@@ -95,18 +95,18 @@ abbrev pub is_lacking : List Block → ℕ → BlockKind → Bool
 is_lacking blocks place kind = list_any (is_broken blocks place Given) (names kind)
     || lacks blocks place kind Masters || lacks blocks place kind Dependents
 
--- The fault of the values that the block at the place, of the type, has. A line of dates without a word with
--- a colon isn't ranges.
+-- The fault of the values that the block at the place, of the type, has. A line of dates that is none counts
+-- as one that isn't ranges.
 abbrev pub value_fault : List Block → ℕ → BlockKind → Option ValueFault
 value_fault blocks place kind = fault_by
     (is_lacking blocks place kind)
     (list_any (is_broken blocks place Number) (numbers kind))
     (list_any (λ row. is_broken blocks place row.0 row.1) (option_lists kind))
     (list_any (is_broken blocks place Ranges) (range_lines kind)
-    || (is_period kind && has_untimed blocks place))
+    || (is_period kind && has_bad_line blocks place))
     (list_any (is_broken blocks place Zero) (zeros kind))
     (list_any (is_broken blocks place Names) (name_lists kind))
-    (is_period kind && has_timed blocks place)
+    (is_period kind && has_other_line blocks place)
 
 -- the same, if it is registered
 abbrev pub fault_of : List Block → ℕ → Block → Option ValueFault

@@ -5,4 +5,3 @@ pub mod Lists
 pub mod Columns
 pub mod Known
 pub mod Needs
-pub mod Search

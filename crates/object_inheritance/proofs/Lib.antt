@@ -6,3 +6,6 @@ mod GiverLemmas
 mod ColumnLemmas
 mod LawLemmas
 mod EntryLemmas
+mod TurnLemmas
+mod LineLemmas
+mod SearchLemmas

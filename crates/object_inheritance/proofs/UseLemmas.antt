@@ -63,6 +63,10 @@ All-mapped f n each [] p = All-nil (λ q. q < n)
 All-mapped f n each (block ∷ blocks) zero = each block
 All-mapped f n each (block ∷ blocks) (suc p) = All-mapped f n each blocks p
 
+pub used-within : (blocks : List Block) (p : ℕ) → All (λ q. q < length blocks) (get_or (template_graph blocks) p [])
+unfolding template_graph
+used-within blocks p = All-mapped (templates_of blocks) (length blocks) (templates-within blocks) blocks p
+
 pub leads-within : (blocks : List Block) (p q : ℕ) → Leads (template_graph blocks) p q → q < length blocks
 unfolding template_graph
 leads-within blocks p q leads =

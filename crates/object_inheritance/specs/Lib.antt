@@ -8,3 +8,5 @@ pub mod Columns
 pub mod Laws
 pub mod Kinds
 pub mod JoinedLaws
+pub mod DatedLines
+pub mod LineSearch

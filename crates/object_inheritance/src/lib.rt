@@ -2,6 +2,7 @@
 //! each block uses, the faults of that, and the value that each block has for a directive.
 #![tactic(auto)]
 
+pub mod dated_lines;
 mod givers;
 pub mod inherited;
 pub mod kinds;

@@ -1,11 +1,14 @@
 -- What an accepted configuration asks of periods.
-use Rattle.std.proofs.Common.{◌≡◌, ℕ, suc, ◌<◌, List, length, map, get_or, Some, sym, ap, subst, ◌∙◌, arith}
-use Rattle.std.specs.Prelude.{All, Contains, slice_get}
+use Rattle.std.proofs.Common.{◌≡◌, ℕ, suc, ◌<◌, List, [], ◌∷◌, Option, None, length, map, get_or, Some, sym, ap, subst, ◌∙◌, arith}
+use Rattle.std.specs.Prelude.{All, Contains, filter_map, slice_get}
+use Rattle.std.specs.List.{cons_option}
+use Rattle.std.specs.Option.{IfSome}
 use Rattle.std.proofs.lemmas.List.{get_or-map, length-map}
-use Rattle.std.proofs.lemmas.List.Elements.{All-map}
+use Rattle.std.proofs.lemmas.List.Elements.{All-cons, All-map, All-nil}
 use Rattle.std.proofs.lemmas.Option.{slice_get-get_or, slice_get_within}
 use Rattle.due_model.specs.Accepted.{Excludes, HasNoLoop, PeriodFits, RangeFits}
 use Rattle.due_model.specs.declared.config.Config.{Config}
+use Rattle.due_model.specs.declared.config.Dated.{Dated}
 use Rattle.due_model.specs.declared.config.Period.{Period}
 use Rattle.due_model.specs.declared.config.PeriodId.{PeriodId}
 use Rattle.due_model.specs.declared.config.Range.{Range}
@@ -15,11 +18,14 @@ use Rattle.object_groups.specs.Objects.{names_in, objects_in}
 use Rattle.object_inheritance.specs.Inherited.{value}
 use Rattle.object_periods.specs.Laws.{NoLoopIsLeft, PeriodsFit}
 use Rattle.object_periods.specs.Loops.{ExcludesNumber, HasNoPeriodLoop}
-use Rattle.object_periods.specs.Periods.{ArePeriodsOf, excluded_at, ranges_at}
+use Rattle.object_periods.specs.Periods.{AreDatedOf, ArePeriodsOf, dated_by, dated_in, excluded_at, line_ranges, ranges_at}
 use Rattle.object_periods.proofs.DayLemmas.{line-fits}
 use Rattle.object_periods.proofs.ExcludeLemmas.{names-long, numbers-within}
 use Rattle.object_reader.specs.declared.block.Block.{Block}
 use Rattle.object_reader.specs.declared.block.BlockKind.TheVariants.{TimePeriod}
+use Rattle.object_values.specs.DayRules.{day_named}
+use Rattle.object_values.specs.declared.day_rules.DayName.{DayName}
+use Rattle.object_values.specs.declared.day_rules.DayName.TheVariants.{Day, NoDay, Other}
 use Rattle.object_values.specs.Ranges.{weekdays}
 
 -- what holds of the image of each element
@@ -29,7 +35,28 @@ unmapped n ids all = λ i d low.
     let at = all i 0 (let long = length-map ids (λ (id : PeriodId). id.0) in omega (arith, long, low)) in
     omega (arith, is, at)
 
+-- the ranges of dated lines lie within a day
+one-fits : (line : List ℕ × List ℕ) → IfSome (dated_in line) (λ dated. All RangeFits dated.ranges)
+one-fits line = by_day (day_named line.0)
+  where
+    by_day : (day : DayName) → IfSome (dated_by day (line_ranges (Some line.1))) (λ dated. All RangeFits dated.ranges)
+    by_day (Day rule) = line-fits (Some line.1)
+    by_day NoDay = tt
+    by_day Other = tt
+
+all-fit : (lines : List (List ℕ × List ℕ)) → All (λ line. All RangeFits line.ranges) (filter_map dated_in lines)
+all-fit [] = All-nil (λ line. All RangeFits line.ranges)
+all-fit (line ∷ lines) = by_one (dated_in line) (one-fits line) (all-fit lines)
+  where
+    by_one : (one : Option Dated) → IfSome one (λ dated. All RangeFits dated.ranges) → All (λ line. All RangeFits line.ranges) (filter_map dated_in lines)
+        → All (λ line. All RangeFits line.ranges) (cons_option one (filter_map dated_in lines))
+    by_one None fits rest = rest
+    by_one (Some dated) fits rest = All-cons (λ line. All RangeFits line.ranges) dated (filter_map dated_in lines) fits rest
+
 module _ (blocks : List Block) (c : Config) (are : ArePeriodsOf blocks c.periods) where
+  dated-fit : (place : ℕ) (dated : List Dated) → AreDatedOf blocks place dated → All (λ line. All RangeFits line.ranges) dated
+  dated-fit place dated of = subst (λ (all : List Dated). All (λ line. All RangeFits line.ranges) all) (sym of.2) (all-fit of.0)
+
   -- the block of each period
   abbrev place_of : ℕ → ℕ
   place_of number = get_or (objects_in blocks TimePeriod) number 0
@@ -43,6 +70,7 @@ module _ (blocks : List Block) (c : Config) (are : ArePeriodsOf blocks c.periods
         week = ap (λ (days : List (List Range)). length days) is.days;
         ranges = subst (λ (days : List (List Range)). All (All RangeFits) days) (sym is.days)
             (All-map (All RangeFits) (ranges_at blocks (place_of number)) weekdays (λ i d within. line-fits (value blocks (get_or weekdays i d) (place_of number))));
+        dated = dated-fit (place_of number) period.dated is.dated;
         excludes = unmapped (length c.periods) period.excludes (subst (λ (ks : List ℕ). All (λ k. k < length c.periods) ks) (sym is.excludes)
             (subst (λ (n : ℕ). All (λ k. k < n) (excluded_at blocks (place_of number))) (names-long blocks ∙ sym are.count)
             (numbers-within (names_in blocks TimePeriod) _)));

@@ -4,3 +4,4 @@ mod PeriodLemmas
 mod RuleLemmas
 mod LoopLemmas
 mod LawLemmas
+mod DatedLemmas

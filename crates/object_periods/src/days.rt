@@ -16,7 +16,7 @@ use std::alloc::{AllocError, Global};
 use std::marker::Model;
 
 /// The ranges of a day line; none where there is no line.
-fn line_ranges(alloc: Global, line: Option<&[u8]>) -> Result<Sequence<Range>, AllocError>
+pub(crate) fn line_ranges(alloc: Global, line: Option<&[u8]>) -> Result<Sequence<Range>, AllocError>
     ensures { IfOk result (λ ranges. ranges ≡ line_ranges (option_copied line.entry)) }
 {
     let Some(text) = line else {

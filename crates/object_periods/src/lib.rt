@@ -2,6 +2,7 @@
 //! that they exclude, and loops of exclusions.
 #![tactic(auto)]
 
+mod dated;
 mod days;
 mod excludes;
 pub mod laws;

@@ -1,13 +1,15 @@
 -- Day lines, as they are written and as they are found.
 use Rattle.std.proofs.Common.{◌≡◌, ℕ, ◌+◌, ◌-◌, ◌<◌, ◌≤◌, ◌⊎◌, inl, inr, Bool, true, false, not, ◌||◌, ◌==◌, List, [], ◌∷◌, ◌++◌, length, take, drop, get_or, refl, sym, ap, subst, ◌∙◌, arith, tests, one-add, append_assoc, length-append}
 use Rattle.std.proofs.lemmas.Bool.{and_parts, and_from}
-use Rattle.std.proofs.lemmas.List.{append-nil, take-append-drop, nil_from_length}
-use Rattle.std.proofs.Math.Seq.{take-append_seam, drop-append_seam}
+use Rattle.std.proofs.lemmas.List.{append-nil, drop-append-le, take-append-drop, nil_from_length}
+use Rattle.std.proofs.Math.Seq.{take-append_seam, drop-append_seam, drop-length}
 use Rattle.std.specs.List.{list_all, list_any, position_or_len, before_first}
 use Rattle.object_reader.specs.declared.block.Directive.{Directive}
 use Rattle.object_reader.specs.Blanks.{is_blank, AreBlanks, HasNoBlank, BeginsTight, without_end}
-use Rattle.object_reader.specs.DayLines.{separated, AreWords, without_blanks, IsDayLine, day_front, starts_word, spaced, day_line}
-use Rattle.object_reader.proofs.Trimming.{stops, before_fails, rest_begins, not_mark, EndsTight, end_dropped, split_end, tail_is}
+use Rattle.object_reader.specs.Statements.{first_word, after_word}
+use Rattle.object_reader.specs.DayLines.{separated, AreWords, without_blanks, HasTimes, HasNoTimes, IsDayLine, before_times, begins_day, day_front, starts_word, spaced, day_line}
+use Rattle.object_reader.proofs.Trimming.{stops, all_append, all_parts, before_fails, blanks_from, none_or_some, rest_begins, not_mark, EndsTight, end_dropped, split_end, tail_is, trimmed_parts}
+use Rattle.object_reader.proofs.FirstWord.{apart, blanks_begin, word_first}
 
 -- words with one space between each two, one byte at a time
 
@@ -156,40 +158,168 @@ any_rest p (x ∷ xs) h = by_head (any_rest p xs) (p x) refl where
   by_head later true e = rw e (omega arith)
   by_head later false e = rw (e, one-add) (later (rw e at h))
 
-fronted : (s : List ℕ) → list_any (λ b. b == 58) s ≡ true → day_front s ≡ without_end (λ b. not (is_blank b)) (before_first (λ b. b == 58) s)
-unfolding day_front
+fronted : (s : List ℕ) → list_any (λ b. b == 58) s ≡ true → before_times s ≡ without_end (λ b. not (is_blank b)) (before_first (λ b. b == 58) s)
+unfolding before_times
 fronted s h = rw h refl
 
-bare : (s : List ℕ) → list_any (λ b. b == 58) s ≡ false → day_front s ≡ []
-unfolding day_front
+bare : (s : List ℕ) → list_any (λ b. b == 58) s ≡ false → before_times s ≡ []
+unfolding before_times
 bare s h = rw h refl
 
-front_found : (s : List ℕ) (d : Directive) (h : IsDayLine s d) → day_front s ≡ h.front
+-- a line with times has a colon
+has_colon : (s : List ℕ) (d : Directive) → HasTimes s d → list_any (λ b. b == 58) s ≡ true
+has_colon s d h = ap (list_any (λ b. b == 58)) (h.parts ∙ sym (append_assoc h.front h.start (58 ∷ h.after))) ∙ any_mid (λ b. b == 58) (h.front ++ h.start) 58 h.after refl
+
+front_found : (s : List ℕ) (d : Directive) (h : HasTimes s d) → before_times s ≡ h.front
 front_found s d h =
     let whole : s ≡ (h.front ++ h.start) ++ 58 ∷ h.after = h.parts ∙ sym (append_assoc h.front h.start (58 ∷ h.after)) in
     let (f, last, e, blank) = words_end h.first h.others h.front h.words in
-    fronted s (ap (list_any (λ b. b == 58)) whole ∙ any_mid (λ b. b == 58) (h.front ++ h.start) 58 h.after refl)
+    fronted s (has_colon s d h)
     ∙ ap (λ x. without_end (λ b. not (is_blank b)) (before_first (λ b. b == 58) x)) whole
     ∙ ap (without_end (λ b. not (is_blank b))) (ap (λ n. take n ((h.front ++ h.start) ++ 58 ∷ h.after)) (stops (λ b. b == 58) (h.front ++ h.start) 58 h.after h.no_colon refl)
     ∙ take-append_seam (h.front ++ h.start) (58 ∷ h.after))
     ∙ end_dropped (λ b. not (is_blank b)) h.front h.start (inr (f, last, e, ap not blank)) h.no_blank
 
+-- the first of words is the first word of what begins with them
+words_first : (first : List ℕ) (others : List (List ℕ)) (bs rest : List ℕ) → AreWords bs (first ∷ others) → first_word (bs ++ rest) ≡ first
+words_first first others bs rest (blanks, left, is, word, blank, some, tight, more) =
+    let b = blanks_begin blanks blank some in
+    let whole : bs ++ rest ≡ first ++ b.first ∷ (b.others ++ (left ++ rest)) =
+    ap (λ x. x ++ rest) is ∙ append_assoc first (blanks ++ left) rest ∙ ap (λ x. first ++ x) (append_assoc blanks left rest ∙ ap (λ x. x ++ (left ++ rest)) b.is) in
+    ap first_word whole ∙ word_first first b.first (b.others ++ (left ++ rest)) word b.passes
+
+-- a blank more at the end
+
+first_mark : (b : ℕ) (bs : List ℕ) → is_blank b ≡ false → first_word (b ∷ bs) ≡ b ∷ first_word bs
+first_mark b bs e = rw (e, one-add) refl
+
+first_ended : (s : List ℕ) → first_word (s ++ 32 ∷ []) ≡ first_word s
+first_ended [] = refl
+first_ended (b ∷ bs) = by_head (first_ended bs) (is_blank b) refl where
+  by_head : first_word (bs ++ 32 ∷ []) ≡ first_word bs → (t : Bool) → is_blank b ≡ t → first_word (b ∷ (bs ++ 32 ∷ [])) ≡ first_word (b ∷ bs)
+  by_head more true e = rw e refl
+  by_head more false e = first_mark b (bs ++ 32 ∷ []) e ∙ ap (λ x. b ∷ x) more ∙ sym (first_mark b bs e)
+
+starts_ended : (bs : List ℕ) → starts_word (bs ++ 32 ∷ []) ≡ starts_word bs
+starts_ended [] = refl
+starts_ended (b ∷ bs) = refl
+
+spaced_ended : (s : List ℕ) → spaced (s ++ 32 ∷ []) ≡ spaced s
+unfolding spaced
+spaced_ended [] = refl
+spaced_ended (b ∷ bs) = by_head (spaced_ended bs) (is_blank b) refl (starts_word bs) refl where
+  by_head : spaced (bs ++ 32 ∷ []) ≡ spaced bs → (t : Bool) → is_blank b ≡ t → (u : Bool) → starts_word bs ≡ u → spaced (b ∷ (bs ++ 32 ∷ [])) ≡ spaced (b ∷ bs)
+  by_head more false e u f = mark_spaced b (bs ++ 32 ∷ []) e ∙ ap (λ x. b ∷ x) more ∙ sym (mark_spaced b bs e)
+  by_head more true e true f = gap_spaced b (bs ++ 32 ∷ []) e (starts_ended bs ∙ f) ∙ ap (λ x. 32 ∷ x) more ∙ sym (gap_spaced b bs e f)
+  by_head more true e false f = blank_spaced b (bs ++ 32 ∷ []) e (starts_ended bs ∙ f) ∙ more ∙ sym (blank_spaced b bs e f)
+
+-- of two words or more something stands after the first
+words_after : (first second : List ℕ) (others : List (List ℕ)) (s : List ℕ) → AreWords (s ++ 32 ∷ []) (first ∷ second ∷ others) → 0 < length (after_word s)
+words_after first second others s h = by_after (none_or_some (after_word s)) where
+  front : first_word s ≡ first
+  front = sym (first_ended s) ∙ sym (ap first_word (append-nil (s ++ 32 ∷ []))) ∙ words_first first (second ∷ others) (s ++ 32 ∷ []) [] h
+
+  -- where nothing stands there, all that follows the first word is blank, and so the second word isn't there
+  all_blank : after_word s ≡ [] → AreBlanks (drop (length first) s)
+  all_blank none =
+      let tail : List ℕ = drop (length (first_word s)) s in
+      let is : tail ≡ before_first (λ b. not (is_blank b)) tail = trimmed_parts tail ∙ ap (λ x. before_first (λ b. not (is_blank b)) tail ++ x) none ∙ append-nil (before_first (λ b. not (is_blank b)) tail) in
+      subst (λ w. AreBlanks (drop (length w) s)) front
+      (subst AreBlanks (sym is) (blanks_from (before_first (λ b. not (is_blank b)) tail) (before_fails (λ b. not (is_blank b)) tail)))
+
+  by_after : (after_word s ≡ []) ⊎ (0 < length (after_word s)) → 0 < length (after_word s)
+  by_after (inr some) = some
+  by_after (inl none) =
+      let (blanks, left, is, word, blank, some, tight, more) = h in
+      let starts = word_starts left second others more tight in
+      let left_some : 0 < length left = begun left starts in
+      let long : length s + 1 ≡ length first + (length blanks + length left) =
+      omega (arith, length-append s (32 ∷ []), ap length is, length-append first (blanks ++ left), length-append blanks left) in
+      let rest : drop (length first) s ++ 32 ∷ [] ≡ blanks ++ left =
+      sym (drop-append-le (length first) s (32 ∷ []) (omega (arith, long, some, left_some))) ∙ ap (drop (length first)) is ∙ drop-append_seam first (blanks ++ left) in
+      let blank_left = (all_parts is_blank blanks left (subst AreBlanks rest (all_append is_blank (drop (length first) s) (32 ∷ []) (all_blank none) refl))).1 in
+      absurd (no_mark left blank_left starts) where
+        begun : (bs : List ℕ) → starts_word bs ≡ true → 0 < length bs
+        begun [] e = let never : ⊥ = cc in absurd never
+        begun (b ∷ bs) e = omega arith
+
+        no_mark : (bs : List ℕ) → AreBlanks bs → starts_word bs ≡ true → ⊥
+        no_mark [] h e = cc
+        no_mark (b ∷ bs) h e = let yes = (and_parts (is_blank b) (list_all is_blank bs) h).0 in let never : false ≡ true = sym (ap not yes) ∙ e in cc
+
+-- the words in front are found
+
+front_first : (s : List ℕ) (d : Directive) (h : HasTimes s d) → first_word s ≡ h.first
+front_first s d h = ap first_word h.parts ∙ words_first h.first h.others h.front (h.start ++ 58 ∷ h.after) h.words
+
+bare_first : (s : List ℕ) (d : Directive) (h : HasNoTimes s d) → first_word s ≡ h.first
+bare_first s d h = sym (first_ended s) ∙ sym (ap first_word (append-nil (s ++ 32 ∷ []))) ∙ words_first h.first (h.second ∷ h.others) (s ++ 32 ∷ []) [] h.words
+
+in_times : (s : List ℕ) → begins_day (first_word s) ≡ true → list_any (λ b. b == 58) s ≡ true → day_front s ≡ before_times s
+unfolding day_front
+in_times s begins colon = rw (begins, colon) refl
+
+in_none : (s : List ℕ) → begins_day (first_word s) ≡ true → list_any (λ b. b == 58) s ≡ false → (length (after_word s) == 0) ≡ false → day_front s ≡ s
+unfolding day_front
+in_none s begins colon after = rw (begins, colon, after) refl
+
+in_single : (s : List ℕ) → begins_day (first_word s) ≡ true → list_any (λ b. b == 58) s ≡ false → (length (after_word s) == 0) ≡ true → day_front s ≡ []
+unfolding day_front
+in_single s begins colon after = rw (begins, colon, after) refl
+
+in_other : (s : List ℕ) → begins_day (first_word s) ≡ false → day_front s ≡ []
+unfolding day_front
+in_other s begins = rw begins refl
+
+no_colons : (s : List ℕ) → list_all (λ b. not (b == 58)) s ≡ true → list_any (λ b. b == 58) s ≡ false
+no_colons [] h = refl
+no_colons (b ∷ bs) h =
+    let parts = and_parts (not (b == 58)) (list_all (λ b. not (b == 58)) bs) h in
+    rw (not_mark (b == 58) parts.0) (no_colons bs parts.1)
+
+all_colonless : (s : List ℕ) → list_any (λ b. b == 58) s ≡ false → list_all (λ b. not (b == 58)) s ≡ true
+all_colonless [] h = refl
+all_colonless (b ∷ bs) h = by_head (all_colonless bs) (b == 58) refl where
+  by_head : (list_any (λ b. b == 58) bs ≡ false → list_all (λ b. not (b == 58)) bs ≡ true) → (t : Bool) → (b == 58) ≡ t → list_all (λ b. not (b == 58)) (b ∷ bs) ≡ true
+  by_head more true e = let never : true ≡ false = sym (ap (λ t. t || list_any (λ b. b == 58) bs) e) ∙ h in let no : ⊥ = cc in absurd no
+  by_head more false e = rw e (more (rw e at h))
+
+some_after : (s : List ℕ) → 0 < length (after_word s) → (length (after_word s) == 0) ≡ false
+some_after s some = grind (arith, tests)
+
+times_front : (s : List ℕ) (d : Directive) (h : HasTimes s d) → day_front s ≡ h.front
+times_front s d h = in_times s (ap begins_day (front_first s d h) ∙ h.begins) (has_colon s d h) ∙ front_found s d h
+
+none_front : (s : List ℕ) (d : Directive) (h : HasNoTimes s d) → day_front s ≡ s
+none_front s d h =
+    in_none s (ap begins_day (bare_first s d h) ∙ h.begins) (no_colons s h.no_colon) (some_after s (words_after h.first h.second h.others s h.words))
+
 -- a day line's words are in front of it
 pub day_some : (s : List ℕ) (d : Directive) → IsDayLine s d → 0 < length (day_front s)
-day_some s d h =
+day_some s d (inl h) =
     let (f, last, e, blank) = words_end h.first h.others h.front h.words in
-    omega (arith, ap length (front_found s d h), ap length e, length-append f (last ∷ []))
+    omega (arith, ap length (times_front s d h), ap length e, length-append f (last ∷ []))
+day_some s d (inr h) =
+    let (blanks, left, is, word, blank, some, tight, more) = h.words in
+    let (blanks', left', is', word', blank', some', tight', more') = more in
+    omega (arith, ap length (none_front s d h), length-append s (32 ∷ []), ap length is, length-append h.first (blanks ++ left), length-append blanks left, ap length is', length-append h.second (blanks' ++ left'), length-append blanks' left', some, some')
 
 -- what is written is found
-pub day_found : (s : List ℕ) (d : Directive) → IsDayLine s d → day_line s (day_front s) ≡ d
-day_found s d h =
-    let front = front_found s d h in
-    let name : spaced (day_front s) ≡ d.name = ap spaced front ∙ words_spaced h.first h.others h.front h.words ∙ sym h.name in
-    let rest : drop (length (day_front s)) s ≡ h.start ++ 58 ∷ h.after =
-    ap (λ f. drop (length f) s) front ∙ ap (drop (length h.front)) h.parts ∙ drop-append_seam h.front (h.start ++ 58 ∷ h.after) in
-    let value : without_blanks (drop (length (day_front s)) s) ≡ d.value = ap without_blanks rest ∙ sym h.value in
+named : (s : List ℕ) (d : Directive) → spaced (day_front s) ≡ d.name → without_blanks (drop (length (day_front s)) s) ≡ d.value → day_line s (day_front s) ≡ d
+named s d name value =
     ap (λ (n : List ℕ). let made : Directive = record { name = n; value = without_blanks (drop (length (day_front s)) s) } in made) name
     ∙ ap (λ (v : List ℕ). let made : Directive = record { name = d.name; value = v } in made) value
+
+pub day_found : (s : List ℕ) (d : Directive) → IsDayLine s d → day_line s (day_front s) ≡ d
+day_found s d (inl h) =
+    let front = times_front s d h in
+    let rest : drop (length (day_front s)) s ≡ h.start ++ 58 ∷ h.after =
+    ap (λ f. drop (length f) s) front ∙ ap (drop (length h.front)) h.parts ∙ drop-append_seam h.front (h.start ++ 58 ∷ h.after) in
+    named s d (ap spaced front ∙ words_spaced h.first h.others h.front h.words ∙ sym h.name) (ap without_blanks rest ∙ sym h.value)
+day_found s d (inr h) =
+    let front = none_front s d h in
+    named s d (ap spaced front ∙ sym (spaced_ended s) ∙ words_spaced h.first (h.second ∷ h.others) (s ++ 32 ∷ []) h.words ∙ sym h.name)
+    (ap (λ f. without_blanks (drop (length f) s)) front ∙ ap without_blanks (drop-length s) ∙ sym h.value)
 
 -- and what is found is written so
 
@@ -198,7 +328,7 @@ record IsParted (s : List ℕ) : Type 0 where
   front : List ℕ
   start : List ℕ
   after : List ℕ
-  is : day_front s ≡ front
+  is : before_times s ≡ front
   parts : s ≡ front ++ (start ++ 58 ∷ after)
   no_blank : HasNoBlank start
   no_colon : list_all (λ b. not (b == 58)) (front ++ start) ≡ true
@@ -231,26 +361,61 @@ front_ended front some (inr (f, last, e, blank)) = ap is_ended e ∙ ended f las
   twice true h = refl
   twice false h = sym h
 
+times_written : (s : List ℕ) → begins_day (first_word s) ≡ true → list_any (λ b. b == 58) s ≡ true → 0 < length (before_times s) → HasTimes s (day_line s (before_times s))
+times_written s begins e some =
+    let h = parted s e in
+    let w = words_of h.front (front_ended h.front (subst (λ x. 0 < length x) h.is some) h.ends) in
+    subst (λ x. HasTimes s (day_line s x)) (sym h.is) (record {
+      front = h.front;
+      first = w.first;
+      others = w.others;
+      start = h.start;
+      after = h.after;
+      parts = h.parts;
+      words = w.words;
+      begins = sym (ap begins_day (ap first_word h.parts ∙ words_first w.first w.others h.front (h.start ++ 58 ∷ h.after) w.words)) ∙ begins;
+      no_blank = h.no_blank;
+      no_colon = h.no_colon;
+      name = words_spaced w.first w.others h.front w.words;
+      value = ap without_blanks (ap (drop (length h.front)) h.parts ∙ drop-append_seam h.front (h.start ++ 58 ∷ h.after));
+    })
+
+none_written : (s : List ℕ) → begins_day (first_word s) ≡ true → list_any (λ b. b == 58) s ≡ false → 0 < length (after_word s) → HasNoTimes s (day_line s s)
+none_written s begins e some =
+    let a = apart s some in
+    let w = words_of (after_word s ++ 32 ∷ []) (ended (after_word s) 32 refl) in
+    let tight : BeginsTight (after_word s ++ 32 ∷ []) = inr (a.first, a.others ++ 32 ∷ [], ap (λ x. x ++ 32 ∷ []) a.rest, a.begins) in
+    let parts : s ++ 32 ∷ [] ≡ first_word s ++ (a.between ++ (after_word s ++ 32 ∷ [])) =
+    ap (λ x. x ++ 32 ∷ []) a.parts ∙ append_assoc (first_word s) (a.between ++ after_word s) (32 ∷ []) ∙ ap (λ x. first_word s ++ x) (append_assoc a.between (after_word s) (32 ∷ [])) in
+    let words : AreWords (s ++ 32 ∷ []) (first_word s ∷ w.first ∷ w.others) = (a.between, after_word s ++ 32 ∷ [], parts, a.word, a.blank, a.some_blank, tight, w.words) in
+    record {
+      first = first_word s;
+      second = w.first;
+      others = w.others;
+      words = words;
+      begins = begins;
+      no_colon = all_colonless s e;
+      name = sym (spaced_ended s) ∙ words_spaced (first_word s) (w.first ∷ w.others) (s ++ 32 ∷ []) words;
+      value = ap without_blanks (drop-length s);
+    }
+
 pub day_written : (s : List ℕ) → 0 < length (day_front s) → IsDayLine s (day_line s (day_front s))
-day_written s some = by_colon (list_any (λ b. b == 58) s) refl where
-  by_colon : (t : Bool) → list_any (λ b. b == 58) s ≡ t → IsDayLine s (day_line s (day_front s))
-  by_colon false e = absurd (omega (arith, ap length (bare s e)))
-  by_colon true e =
-      let h = parted s e in
-      let w = words_of h.front (front_ended h.front (subst (λ x. 0 < length x) h.is some) h.ends) in
-      subst (λ x. IsDayLine s (day_line s x)) (sym h.is) (record {
-        front = h.front;
-        first = w.first;
-        others = w.others;
-        start = h.start;
-        after = h.after;
-        parts = h.parts;
-        words = w.words;
-        no_blank = h.no_blank;
-        no_colon = h.no_colon;
-        name = words_spaced w.first w.others h.front w.words;
-        value = ap without_blanks (ap (drop (length h.front)) h.parts ∙ drop-append_seam h.front (h.start ++ 58 ∷ h.after));
-      })
+day_written s some = by_first (begins_day (first_word s)) refl where
+  by_after : begins_day (first_word s) ≡ true → list_any (λ b. b == 58) s ≡ false → (t : Bool) → (length (after_word s) == 0) ≡ t → IsDayLine s (day_line s (day_front s))
+  by_after begins colon true e = absurd (omega (arith, ap length (in_single s begins colon e), some))
+  by_after begins colon false e =
+      let after : 0 < length (after_word s) = grind (arith, tests) in
+      subst (λ x. IsDayLine s (day_line s x)) (sym (in_none s begins colon e)) (inr (none_written s begins colon after))
+
+  by_colon : begins_day (first_word s) ≡ true → (t : Bool) → list_any (λ b. b == 58) s ≡ t → IsDayLine s (day_line s (day_front s))
+  by_colon begins true e =
+      let front = in_times s begins e in
+      subst (λ x. IsDayLine s (day_line s x)) (sym front) (inl (times_written s begins e (subst (λ x. 0 < length x) front some)))
+  by_colon begins false e = by_after begins e (length (after_word s) == 0) refl
+
+  by_first : (t : Bool) → begins_day (first_word s) ≡ t → IsDayLine s (day_line s (day_front s))
+  by_first false e = absurd (omega (arith, ap length (in_other s e), some))
+  by_first true e = by_colon e (list_any (λ b. b == 58) s) refl
 
 -- the loop over words
 module _ (whole so_far left : List ℕ) (some : 0 < length left) (done : spaced whole ≡ so_far ++ spaced left) where
@@ -276,8 +441,22 @@ pub all_spaced : (whole so_far left : List ℕ) → spaced whole ≡ so_far ++ s
 unfolding spaced
 all_spaced whole so_far left done e = done ∙ ap (λ x. so_far ++ spaced x) (nil_from_length left e) ∙ append-nil so_far
 
-pub day_front_le : (s : List ℕ) → length (day_front s) ≤ length s
-day_front_le s = by_colon (list_any (λ b. b == 58) s) refl where
-  by_colon : (t : Bool) → list_any (λ b. b == 58) s ≡ t → length (day_front s) ≤ length s
+times_le : (s : List ℕ) → length (before_times s) ≤ length s
+times_le s = by_colon (list_any (λ b. b == 58) s) refl where
+  by_colon : (t : Bool) → list_any (λ b. b == 58) s ≡ t → length (before_times s) ≤ length s
   by_colon false e = omega (arith, ap length (bare s e))
   by_colon true e = let h = parted s e in omega (arith, ap length h.is, ap length h.parts, length-append h.front (h.start ++ 58 ∷ h.after))
+
+pub day_front_le : (s : List ℕ) → length (day_front s) ≤ length s
+day_front_le s = by_first (begins_day (first_word s)) refl where
+  by_after : begins_day (first_word s) ≡ true → list_any (λ b. b == 58) s ≡ false → (t : Bool) → (length (after_word s) == 0) ≡ t → length (day_front s) ≤ length s
+  by_after begins colon true e = omega (arith, ap length (in_single s begins colon e))
+  by_after begins colon false e = omega (arith, ap length (in_none s begins colon e))
+
+  by_colon : begins_day (first_word s) ≡ true → (t : Bool) → list_any (λ b. b == 58) s ≡ t → length (day_front s) ≤ length s
+  by_colon begins true e = omega (arith, ap length (in_times s begins e), times_le s)
+  by_colon begins false e = by_after begins e (length (after_word s) == 0) refl
+
+  by_first : (t : Bool) → begins_day (first_word s) ≡ t → length (day_front s) ≤ length s
+  by_first false e = omega (arith, ap length (in_other s e))
+  by_first true e = by_colon e (list_any (λ b. b == 58) s) refl

@@ -1,4 +1,5 @@
 pub mod Trimming
+pub mod FirstWord
 pub mod Lines
 pub mod Utf8
 pub mod Joining

@@ -19,63 +19,7 @@ use Rattle.object_reader.specs.Blocks.{name_and_value, day_or_value, is_period, 
 use Rattle.object_reader.specs.Spelling.{IsDefine, IsNameAndValue, IsDay, IsSpelled}
 use Rattle.object_reader.proofs.Trimming.{stops, before_fails, BeginsWith, rest_begins, blanks_from, blanks_dropped, not_mark, none_or_some}
 use Rattle.object_reader.proofs.DayLines.{day_some, day_found, day_written}
-
--- the part before the first element that passes, and the rest
-front_and_rest : (p : ℕ → Bool) (xs : List ℕ) → xs ≡ before_first p xs ++ drop (length (before_first p xs)) xs
-front_and_rest p xs = rw (length-prefix_len (λ b. not (p b)) xs) (sym (take-append-drop (position_or_len p xs) xs))
-
--- a word, and blanks after it
-word_first : (word : List ℕ) (y : ℕ) (ys : List ℕ) → list_all (λ b. not (is_blank b)) word ≡ true → is_blank y ≡ true → first_word (word ++ y ∷ ys) ≡ word
-word_first word y ys h e = rw (stops is_blank word y ys h e) (take-append_seam word (y ∷ ys))
-
--- blanks that aren't empty begin with one
-pub blanks_begin : (blanks : List ℕ) → AreBlanks blanks → 0 < length blanks → BeginsWith is_blank blanks
-blanks_begin [] h some = absurd (omega arith)
-blanks_begin (y ∷ ys) h some = record { first = y; others = ys; is = refl; passes = (and_parts (is_blank y) (list_all is_blank ys) h).0 }
-
--- what stands after a word, blanks and what begins with a mark
-after_first_word : (word blanks : List ℕ) (z : ℕ) (zs : List ℕ) → list_all (λ b. not (is_blank b)) word ≡ true → AreBlanks blanks → 0 < length blanks → is_blank z ≡ false
-    → (first_word (word ++ (blanks ++ z ∷ zs)) ≡ word) × (after_word (word ++ (blanks ++ z ∷ zs)) ≡ z ∷ zs)
-after_first_word word blanks z zs h blank some mark =
-    let b = blanks_begin blanks blank some in
-    let w : first_word (word ++ (blanks ++ z ∷ zs)) ≡ word = ap (λ bs. first_word (word ++ (bs ++ z ∷ zs))) b.is ∙ word_first word b.first (b.others ++ z ∷ zs) h b.passes in
-    (w, ap (λ f. trim_start (drop (length f) (word ++ (blanks ++ z ∷ zs)))) w ∙ ap trim_start (drop-append_seam word (blanks ++ z ∷ zs)) ∙ blanks_dropped blanks z zs blank mark)
-
--- a blank is taken with those before the first mark
-blank_taken : (y : ℕ) (ys : List ℕ) → is_blank y ≡ true → 0 < length (before_first (λ b. not (is_blank b)) (y ∷ ys))
-blank_taken y ys e = rw (e, one-add) (omega arith)
-
--- a statement with something after its first word: the word, blanks, and what begins with a mark
-record IsApart (s : List ℕ) : Type 0 where
-  between : List ℕ
-  first : ℕ
-  others : List ℕ
-  parts : s ≡ first_word s ++ (between ++ after_word s)
-  word : list_all (λ b. not (is_blank b)) (first_word s) ≡ true
-  blank : AreBlanks between
-  some_blank : 0 < length between
-  rest : after_word s ≡ first ∷ others
-  begins : is_blank first ≡ false
-
-apart : (s : List ℕ) → 0 < length (after_word s) → IsApart s
-apart s some =
-    let mark : ℕ → Bool = λ b. not (is_blank b) in
-    let tail : List ℕ = drop (length (first_word s)) s in
-    let same : tail ≡ drop (position_or_len is_blank s) s = ap (λ n. drop n s) (length-prefix_len (λ b. not (is_blank b)) s) in
-    let begins = rest_begins mark tail some in
-    let tail_some : 0 < length tail = omega (arith, ap length (take-append-drop (position_or_len mark tail) tail), length-append (take (position_or_len mark tail) tail) (drop (position_or_len mark tail) tail)) in
-    let blank = rest_begins is_blank s (subst (λ t. 0 < length t) same tail_some) in
-    record {
-      between = before_first mark tail;
-      first = begins.first;
-      others = begins.others;
-      parts = front_and_rest is_blank s ∙ ap (λ t. first_word s ++ t) (sym (take-append-drop (position_or_len mark tail) tail));
-      word = before_fails is_blank s;
-      blank = blanks_from (before_first mark tail) (before_fails mark tail);
-      some_blank = subst (λ t. 0 < length (before_first mark t)) (sym (same ∙ blank.is)) (blank_taken blank.first blank.others blank.passes);
-      rest = begins.is;
-      begins = not_mark (is_blank begins.first) begins.passes;
-    }
+use Rattle.object_reader.proofs.FirstWord.{after_first_word, apart, blanks_begin, front_and_rest, IsApart, word_first}
 
 -- a directive is spelled so
 

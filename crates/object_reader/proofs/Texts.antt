@@ -17,10 +17,10 @@ use Rattle.object_reader.specs.Blanks.{is_blank, AreBlanks, BeginsTight, IsTight
 use Rattle.object_reader.specs.Lines.{Line, content}
 use Rattle.object_reader.specs.Joined.{JoinedLine, EndsInBackslash, EndsHere, GoesOn, IsPutAfter, IsJoined, AreJoined}
 use Rattle.object_reader.specs.Statements.{Statement}
-use Rattle.object_reader.specs.DayLines.{separated, AreWords, without_blanks, IsDayLine}
+use Rattle.object_reader.specs.DayLines.{separated, AreWords, without_blanks, HasTimes, HasNoTimes, IsDayLine}
 use Rattle.object_reader.specs.Spelling.{IsUnescaped, IsKept, Says, IsNameAndValue, IsSpelled}
 use Rattle.object_reader.specs.Grammar.{AreStatements, IsDirective, AreDirectives, AreBlocks, IsObjectText, IsPlain, ArePlain}
-use Rattle.object_reader.proofs.Spelling.{blanks_begin}
+use Rattle.object_reader.proofs.FirstWord.{blanks_begin}
 use Rattle.object_reader.proofs.Grammar.{answered_blocks}
 
 -- a text may be cut before a byte below 128
@@ -229,7 +229,7 @@ separated_some first [] some = some
 separated_some first (p ∷ ps) some = omega (arith, length-append first (32 ∷ separated (32 ∷ []) p ps))
 
 day_plain : (text : List ℕ) (d : Directive) → IsDayLine text d → IsUtf8 text → BeginsTight text → IsPlain d
-day_plain text d h whole tight =
+day_plain text d (inl h) whole tight =
     let rest : List ℕ = h.start ++ 58 ∷ h.after in
     let parts = words_utf8 h.first h.others h.front rest h.words (subst (λ x. IsUtf8 x) h.parts whole) in
     let (blanks, left, is, word, blank, some, begins, more) = h.words in
@@ -238,6 +238,13 @@ day_plain text d h whole tight =
       name = subst (λ x. IsUtf8 x) (sym h.name) parts.0;
       value = subst (λ x. IsUtf8 x) (sym h.value) (filtered_utf8 [] rest parts.1);
       some_name = subst (λ x. 0 < length x) (sym h.name) (separated_some h.first h.others first_some);
+    }
+day_plain text d (inr h) whole tight =
+    let spelled : IsUtf8 ((text ++ 32 ∷ []) ++ []) = subst (λ x. IsUtf8 x) (sym (append-nil (text ++ 32 ∷ []))) (IsUtf8-append text (32 ∷ []) whole (cons_utf8 32 [] (lit< tt) IsUtf8-nil)) in
+    record {
+      name = subst (λ x. IsUtf8 x) (sym h.name) (words_utf8 h.first (h.second ∷ h.others) (text ++ 32 ∷ []) [] h.words spelled).0;
+      value = subst (λ x. IsUtf8 x) (sym h.value) IsUtf8-nil;
+      some_name = subst (λ x. 0 < length x) (sym h.name) (omega (arith, length-append h.first (32 ∷ separated (32 ∷ []) h.second h.others)));
     }
 
 directive_plain : (kind : BlockKind) (s : Statement) (d : Directive) → IsDirective kind s d → IsSpoken s → IsPlain d

@@ -31,7 +31,7 @@ name_and_value s =
     if length (after_word s) == 0 then Err NoValue
     else Ok (record { name = first_word s; value = after_word s })
 
--- a day line, with what stands before its first word with a colon; or a name and a value
+-- a day line, with the words that are its name; or a name and a value
 abbrev pub day_or_value : List ℕ → List ℕ → Result Directive LineFault
 day_or_value s [] = name_and_value s
 day_or_value s (b ∷ bs) = Ok (day_line s (b ∷ bs))

@@ -1,13 +1,66 @@
 //! Day lines of a time period (chapter "Object Definitions", "Time Period Definition"): a name of
 //! several words, as `monday -1 may`, and a value with a colon in its first word.
 
-ghost use Rattle.std.specs.Prelude.{◌≡◌, not, ◌==◌, IfOk};
+ghost use Rattle.std.specs.Prelude.{◌≡◌, not, ◌==◌, codes, IfOk};
 ghost use Rattle.std.specs.List.{position, list_any};
+ghost use Rattle.std.specs.Str.{bytes_eq};
 ghost use Rattle.object_reader.specs.Blanks.{is_blank, without_end};
-ghost use Rattle.object_reader.specs.DayLines.{day_front, starts_word, spaced, without_blanks};
+ghost use Rattle.object_reader.specs.DayLines.{before_times, begins_day, begins_with_digit, day_front};
+ghost use Rattle.object_reader.specs.DayLines.{months, spaced, starts_word, weekdays, without_blanks};
 
 use crate::blanks::is_blank;
+use crate::statement::is_word;
+use crate::words::Words;
 use std::alloc::{AllocError, Global};
+
+/// Whether a word is a weekday.
+pub fn is_weekday(word: &[u8]) -> bool
+    ensures { result ≡ list_any (bytes_eq word.now) weekdays }
+{
+    is_word(word, "sunday")
+        || is_word(word, "monday")
+        || is_word(word, "tuesday")
+        || is_word(word, "wednesday")
+        || is_word(word, "thursday")
+        || is_word(word, "friday")
+        || is_word(word, "saturday")
+}
+
+/// Whether a word is a month.
+pub fn is_month(word: &[u8]) -> bool
+    ensures { result ≡ list_any (bytes_eq word.now) months }
+{
+    is_word(word, "january")
+        || is_word(word, "february")
+        || is_word(word, "march")
+        || is_word(word, "april")
+        || is_word(word, "may")
+        || is_word(word, "june")
+        || is_word(word, "july")
+        || is_word(word, "august")
+        || is_word(word, "september")
+        || is_word(word, "october")
+        || is_word(word, "november")
+        || is_word(word, "december")
+}
+
+/// Whether a name begins with a digit.
+pub fn begins_with_digit(name: &[u8]) -> bool
+    ensures { result ≡ begins_with_digit name.now }
+{
+    match name {
+        [] => false,
+        [first, ..] => first.is_ascii_digit(),
+    }
+}
+
+/// Whether a day line begins with the word: a weekday, a month, `day`, or a word that begins with a digit.
+#[tactic(auto, unfolding(crate::specs::DayLines::begins_day))]
+pub fn begins_day(word: &[u8]) -> bool
+    ensures { result ≡ begins_day word.now }
+{
+    begins_with_digit(word) || is_word(word, "day") || is_month(word) || is_weekday(word)
+}
 
 /// Whether there is a colon.
 fn has_colon(bytes: &[u8]) -> bool
@@ -35,15 +88,34 @@ fn up_to_blank(bytes: &[u8]) -> &[u8]
 }
 
 /// What stands before the first word with a colon; nothing where no word has one.
-#[tactic(auto, unfolding(crate::specs::DayLines::day_front))]
-pub(crate) fn day_front(statement: &[u8]) -> &[u8]
-    ensures { result.now ≡ day_front statement.now }
+#[tactic(auto, unfolding(crate::specs::DayLines::before_times))]
+fn before_times(statement: &[u8]) -> &[u8]
+    ensures { result.now ≡ before_times statement.now }
 {
     if !has_colon(statement) {
         return &statement[..0];
     }
     let end = first_colon(statement).unwrap_or(statement.len());
     up_to_blank(&statement[..end])
+}
+
+/// The words that are the name of a day line: those before the first with a colon, or all where none has one. Nothing
+/// where the line is no day line, by its first word, or where it is that word alone.
+#[tactic(auto, unfolding(crate::specs::DayLines::day_front))]
+pub(crate) fn day_front<'a>(words: &Words<'a>) -> &'a [u8]
+    ensures { result.now ≡ day_front words.now }
+{
+    let statement = words.all();
+    if !begins_day(words.first()) {
+        return &statement[..0];
+    }
+    if has_colon(statement) {
+        return before_times(statement);
+    }
+    if words.after().is_empty() {
+        return &statement[..0];
+    }
+    statement
 }
 
 /// Whether there is a first byte, and it is no blank.

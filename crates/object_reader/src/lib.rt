@@ -4,7 +4,7 @@
 
 pub mod blanks;
 pub mod block;
-mod day_line;
+pub mod day_line;
 pub mod fault;
 mod joined;
 mod line;

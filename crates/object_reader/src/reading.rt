@@ -65,7 +65,7 @@ fn name_and_value(alloc: Global, line: u64, words: &Words<'_>) -> Result<Directi
     })
 }
 
-/// The directive that a day line is, of which these words stand before the first with a colon.
+/// The directive that a day line is, whose name is these words.
 fn day_line(alloc: Global, text: &[u8], front: &[u8]) -> Result<Directive, AllocError>
     requires { length front.now ≤ length text.now }
     ensures { IfOk result (λ d. d ≡ day_line text.now front.now) }
@@ -96,10 +96,9 @@ fn directive(
     ensures { Gives result (at_line line (directive_of kind words.now)) }
 {
     if is_period(kind) {
-        let text = words.all();
-        let front = day_front(text);
+        let front = day_front(words);
         if !front.is_empty() {
-            return Ok(day_line(alloc, text, front)?);
+            return Ok(day_line(alloc, words.all(), front)?);
         }
     }
     name_and_value(alloc, line, words)

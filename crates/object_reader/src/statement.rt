@@ -18,7 +18,7 @@ use std::alloc::{AllocError, Global};
 use std::borrow::CowSlice;
 
 /// Whether the bytes are those of the word.
-fn is_word(bytes: &[u8], word: &str) -> bool
+pub(crate) fn is_word(bytes: &[u8], word: &str) -> bool
     ensures { result ≡ bytes_eq bytes.now word.now }
 {
     bytes == word.as_bytes()

@@ -1,3 +1,4 @@
 pub mod EntryLemmas
 pub mod NumberLemmas
 pub mod RangeLemmas
+pub mod DayRuleLemmas

@@ -1,3 +1,4 @@
 pub mod Values
 pub mod Options
 pub mod Ranges
+pub mod DayRules

@@ -1,9 +1,10 @@
 -- The day lines of a time period (chapter "Time Periods").
-use Rattle.std.specs.Prelude.{◌+◌, ◌*◌, ◌<◌, ◌&&◌, ◌||◌, ◌==◌, ℕ, Bool, false, not, nat_le, nat_lt, List, [], ◌∷◌, ◌++◌, length, map, filter_map, codes, is_some, position, Option, Some, None, if◌then◌else◌}
-use Rattle.std.specs.Char.{is_ascii_digit}
+use Rattle.std.specs.Prelude.{suc, ◌+◌, ◌*◌, ◌<◌, ◌&&◌, ◌||◌, ◌==◌, ℕ, Bool, false, not, nat_le, nat_lt, List, [], ◌∷◌, ◌++◌, length, map, filter_map, codes, is_some, position, Option, Some, None, if◌then◌else◌}
 use Rattle.std.specs.List.{after_first, before_first, list_all, list_any, slice_split}
+use Rattle.std.specs.Option.{option_map}
 use Rattle.std.specs.Str.{bytes_eq}
 use Rattle.due_model.specs.declared.config.Range.{Range}
+pub use Rattle.object_reader.specs.DayLines.{begins_with_digit, months, weekdays}
 use Rattle.object_values.specs.Values.{is_comma, number_in}
 
 abbrev pub is_colon : ℕ → Bool
@@ -51,27 +52,17 @@ ranges_in text = if are_ranges text then Some (ranges_among text) else None
 
 -- ---- the names of day lines
 
--- the weekdays, by their numbers
-abbrev pub weekdays : List (List ℕ)
-weekdays = codes "sunday" ∷ codes "monday" ∷ codes "tuesday" ∷ codes "wednesday"
-    ∷ codes "thursday" ∷ codes "friday" ∷ codes "saturday" ∷ []
-
-abbrev pub months : List (List ℕ)
-months = codes "january" ∷ codes "february" ∷ codes "march" ∷ codes "april" ∷ codes "may"
-    ∷ codes "june" ∷ codes "july" ∷ codes "august" ∷ codes "september" ∷ codes "october"
-    ∷ codes "november" ∷ codes "december" ∷ []
-
 -- the weekday that a directive names: 0 is Sunday
 abbrev pub weekday_of : List ℕ → Option ℕ
 weekday_of name = position (bytes_eq name) weekdays
 
+-- the month that a word is: 1 is January
+abbrev pub month_of : List ℕ → Option ℕ
+month_of word = option_map suc (position (bytes_eq word) months)
+
 -- the first word of a name
 abbrev pub first_word : List ℕ → List ℕ
 first_word name = before_first (λ b. b == 32) name
-
-abbrev pub begins_with_digit : List ℕ → Bool
-begins_with_digit [] = false
-begins_with_digit (b ∷ bs) = is_ascii_digit b
 
 -- Whether a directive is a line of dates: it begins with a digit, or its first word is `day`, a
 -- month, or a weekday that isn't all of it.

@@ -2,6 +2,7 @@
 //! ranges of times (chapter "Object Definitions").
 #![tactic(auto)]
 
+pub mod day_rules;
 pub mod options;
 pub mod ranges;
 pub mod values;

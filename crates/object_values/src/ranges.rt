@@ -6,13 +6,14 @@ ghost use Rattle.std.specs.Prelude.{if◌then◌else◌, None};
 ghost use Rattle.std.specs.List.{after_first, before_first, list_any, position};
 ghost use Rattle.std.specs.Option.{option_to_list};
 ghost use Rattle.std.specs.Str.{bytes_eq};
-ghost use Rattle.object_values.specs.Ranges.{are_ranges, begins_with_digit, is_dated, months, range_in};
-ghost use Rattle.object_values.specs.Ranges.{ranges_among, ranges_in, time_in, time_of, weekday_of, weekdays};
+ghost use Rattle.object_values.specs.Ranges.{are_ranges, is_dated, month_of, range_in};
+ghost use Rattle.object_values.specs.Ranges.{ranges_among, ranges_in, time_in, time_of, weekday_of};
 ghost use Rattle.object_values.specs.Values.{number_in};
 
 use crate::values::{equals, number_in};
 use due_model::config::Range;
 use due_model::sequence::Sequence;
+use object_reader::day_line::{begins_with_digit, is_month, is_weekday};
 use std::alloc::{AllocError, Global};
 
 /// The place of the first such byte.
@@ -23,7 +24,7 @@ fn first_mark(bytes: &[u8], mark: u8) -> Option<usize>
 }
 
 /// The bytes before the first such byte; all where there is none.
-fn before(bytes: &[u8], mark: u8) -> &[u8]
+pub(crate) fn before(bytes: &[u8], mark: u8) -> &[u8]
     ensures { result.now ≡ before_first (λ b. b == mark) bytes.now }
 {
     let end = first_mark(bytes, mark).unwrap_or(bytes.len());
@@ -31,7 +32,7 @@ fn before(bytes: &[u8], mark: u8) -> &[u8]
 }
 
 /// The bytes after the first such byte; none where there is none.
-fn after(bytes: &[u8], mark: u8) -> &[u8]
+pub(crate) fn after(bytes: &[u8], mark: u8) -> &[u8]
     ensures { result.now ≡ after_first (λ b. b == mark) bytes.now }
 {
     match first_mark(bytes, mark) {
@@ -146,8 +147,8 @@ pub fn ranges_in(alloc: Global, text: &[u8]) -> Result<Option<Sequence<Range>>, 
     Ok(Some(Sequence::new(ranges)))
 }
 
-/// The weekday that a directive of a time period names: 0 is Sunday. `None` for other directives.
-pub fn weekday_of(name: &[u8]) -> Option<usize>
+/// The weekday that a name is: 0 is Sunday. `None` for other names.
+pub fn weekday_of(name: &[u8]) -> Option<u8>
     ensures { result ≡ weekday_of name.now }
 {
     if equals(name, "sunday") {
@@ -174,45 +175,47 @@ pub fn weekday_of(name: &[u8]) -> Option<usize>
     None
 }
 
-/// Whether a word is a weekday.
-fn is_weekday(word: &[u8]) -> bool
-    ensures { result ≡ list_any (bytes_eq word.now) weekdays }
+/// The month that a word is: 1 is January. `None` for other words.
+pub fn month_of(name: &[u8]) -> Option<u8>
+    ensures { result ≡ month_of name.now }
 {
-    equals(word, "sunday")
-        || equals(word, "monday")
-        || equals(word, "tuesday")
-        || equals(word, "wednesday")
-        || equals(word, "thursday")
-        || equals(word, "friday")
-        || equals(word, "saturday")
-}
-
-/// Whether a word is a month.
-fn is_month(word: &[u8]) -> bool
-    ensures { result ≡ list_any (bytes_eq word.now) months }
-{
-    equals(word, "january")
-        || equals(word, "february")
-        || equals(word, "march")
-        || equals(word, "april")
-        || equals(word, "may")
-        || equals(word, "june")
-        || equals(word, "july")
-        || equals(word, "august")
-        || equals(word, "september")
-        || equals(word, "october")
-        || equals(word, "november")
-        || equals(word, "december")
-}
-
-/// Whether a name begins with a digit.
-fn begins_with_digit(name: &[u8]) -> bool
-    ensures { result ≡ begins_with_digit name.now }
-{
-    match name {
-        [] => false,
-        [first, ..] => first.is_ascii_digit(),
+    if equals(name, "january") {
+        return Some(1);
     }
+    if equals(name, "february") {
+        return Some(2);
+    }
+    if equals(name, "march") {
+        return Some(3);
+    }
+    if equals(name, "april") {
+        return Some(4);
+    }
+    if equals(name, "may") {
+        return Some(5);
+    }
+    if equals(name, "june") {
+        return Some(6);
+    }
+    if equals(name, "july") {
+        return Some(7);
+    }
+    if equals(name, "august") {
+        return Some(8);
+    }
+    if equals(name, "september") {
+        return Some(9);
+    }
+    if equals(name, "october") {
+        return Some(10);
+    }
+    if equals(name, "november") {
+        return Some(11);
+    }
+    if equals(name, "december") {
+        return Some(12);
+    }
+    None
 }
 
 /// Whether a directive of a time period is a line of dates: it begins with a digit, or its first word is `day`,

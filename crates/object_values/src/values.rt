@@ -111,7 +111,7 @@ pub fn command_name(entry: &[u8]) -> &[u8]
 }
 
 /// Whether the bytes are decimal digits.
-fn are_digits(bytes: &[u8]) -> bool
+pub(crate) fn are_digits(bytes: &[u8]) -> bool
     ensures { result ≡ list_all is_ascii_digit bytes.now }
 {
     bytes.iter().all(|byte| byte.is_ascii_digit())

@@ -1,25 +1,38 @@
 -- What an event finds is what the definitions read, and what becomes of it is told to the book.
-use Rattle.std.proofs.Common.{◌≡◌, ℕ, ◌≤◌, Bool, true, false, List, ◌∷◌, Option, Some, None, if◌then◌else◌, refl, sym, ap, subst, ◌∙◌, arith}
+use Rattle.std.proofs.Common.{◌≡◌, ℕ, ◌<◌, ◌≤◌, get_or, length, Bool, true, false, List, ◌∷◌, Option, Some, None, is_some, if◌then◌else◌, refl, sym, ap, subst, ◌∙◌, arith}
+use Rattle.std.proofs.lemmas.List.{get_or_default}
 use Rattle.due_model.specs.declared.config.Config.{Config}
 use Rattle.due_model.specs.declared.config.Object.{Object}
+use Rattle.due_model.specs.declared.config.PeriodId.{PeriodId}
 use Rattle.due_model.specs.declared.event.Event.{Event}
 use Rattle.due_model.specs.declared.notice.Filter.{Filter}
 use Rattle.due_model.specs.declared.notice.Kind.{Kind}
 use Rattle.due_model.specs.declared.notice.Kind.TheVariants as kind
 use Rattle.due_model.specs.declared.notice.Outcome.{Outcome}
 use Rattle.due_model.specs.declared.notice.Outcome.TheVariants.{Nothing, Sent, Suppressed}
+use Rattle.due_model.specs.declared.rules.View.{View}
 use Rattle.due_model.specs.declared.state.State.{State}
 use Rattle.due_model.specs.declared.zone.Zone.{Zone}
+use Rattle.due_model.specs.Acknowledgements.{acknowledgement}
 use Rattle.due_model.specs.Histories.{judged, outcome_of, status_after, view}
 use Rattle.due_model.specs.Periods.{first_passing, next_in}
 use Rattle.due_model.specs.Readings.{hard, moment}
 use Rattle.due_model.specs.Rules.{attempted, is_problem}
+use Rattle.lemmas.proofs.Acknowledgements.{acked_is}
 use Rattle.outcomes.specs.declared.found.Found.{Found}
 use Rattle.outcomes.specs.Found.{IsFound, attempt_by, view_by}
 use Rattle.outcomes.specs.Outcome.{IsOfKind}
 use Rattle.problem_count.specs.Book.{BookValues, after_hard, begins_problem}
 use Rattle.problem_count.specs.Fits.{BookFits, BookFitsWithin, outcome_at, problem_before}
 use Rattle.problem_count.specs.Laws.{OutcomesAreByDue, is_of_problem_attempt}
+use Rattle.time_period.specs.Days.{AreCompiled, IsCompiled, never, Worked}
+
+-- ---- a period that is worked out
+
+pub compiled_at : (c : Config) (all : List Worked) (p : PeriodId) (worked : Worked) → AreCompiled c all → p.0 < length c.periods → worked ≡ get_or all p.0 worked → IsCompiled c p worked
+compiled_at c all p worked are known is =
+    let same : worked ≡ get_or all p.0 never = is ∙ get_or_default all p.0 worked never (omega (arith, known, are.0)) in
+    subst (IsCompiled c p) (sym same) (are.1 p known)
 
 -- ---- a hard state in the book
 
@@ -44,7 +57,14 @@ hard_sent s t book = sent_by (begins_problem s book) s t book
 pub view_is : (c : Config) (zone : Zone) (o : ℕ) (settings : Object) (e : Event) (past : List Event) (found : Found) (book : BookValues)
     → IsFound c zone o settings e past found → BookFitsWithin c zone o settings e past book
     → view_by settings found book ≡ view c zone o settings e past (problem_before c zone o settings e past)
-view_is c zone o settings e past found book is fits = rw (is.program, is.after, is.host_down, is.depends, fits) refl
+view_is c zone o settings e past found book is fits =
+    by_found ∙ ap with_ack (sym (acked_is o (e ∷ past)))
+  where
+    with_ack : Bool → View
+    with_ack acknowledged = record (view c zone o settings e past (problem_before c zone o settings e past)) { acknowledged = acknowledged }
+
+    by_found : view_by settings found book ≡ with_ack (is_some (acknowledgement o (e ∷ past)))
+    by_found = rw (is.program, is.after, is.host_down, is.depends, fits) refl
 
 pub attempt_is : (c : Config) (zone : Zone) (o : ℕ) (settings : Object) (e : Event) (past : List Event) (found : Found) (k : Kind)
     → IsFound c zone o settings e past found

@@ -1,5 +1,5 @@
 -- What an event finds, by the definitions, and what the filters read of it.
-use Rattle.std.specs.Prelude.{◌≡◌, ℕ, Bool, false, ◌||◌, List, ◌∷◌, nat_lt, Option, Some, None}
+use Rattle.std.specs.Prelude.{◌≡◌, ℕ, Bool, false, ◌||◌, List, ◌∷◌, nat_lt, Option, Some, None, is_some}
 use Rattle.due_model.specs.declared.config.Config.{Config}
 use Rattle.due_model.specs.declared.config.Object.{Object}
 use Rattle.due_model.specs.declared.config.ObjectId.{ObjectId}
@@ -41,6 +41,7 @@ view_by settings found book = record {
   sent = book.sent;
   period = settings.period;
   depends = found.depends;
+  acknowledged = is_some found.after.acknowledged;
   began = book.began;
   delay = settings.delay;
   last = book.last;

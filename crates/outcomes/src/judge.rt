@@ -78,6 +78,7 @@ fn view_of(settings: &Object, found: &Found, book: Book) -> View
         sent: book.sent(),
         period: settings.period,
         depends: found.depends,
+        acknowledged: found.after.acknowledged.is_some(),
         began: book.began(),
         delay: settings.delay,
         last: book.last(),

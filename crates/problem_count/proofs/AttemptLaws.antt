@@ -64,6 +64,7 @@ attempts_problem o (event.Hard p s) old due t h =
     problem_by (p.0 == o) (is_problem_state s) (if is_ok_state s && is_problem_state old.state then Some kind.Recovery else None) h
 attempts_problem o (event.Downtime p change) old due t h = cc
 attempts_problem o (event.Flapping p starts) old due t h = cc
+attempts_problem o (event.Ack p sticky) old due t h = cc
 
 pub problem_is_attempted : (c : Config) (zone : Zone) (o : ℕ) (object : Object) (e : Event) (past : List Event) → is_problem_of o e.kind ≡ true
     → is_of_problem_attempt (outcome_at c zone o object e past) ≡ true
@@ -112,6 +113,7 @@ attempted_by_due o (event.Program on) old due t = refl
 attempted_by_due o (event.Hard p s) old due t = refl
 attempted_by_due o (event.Downtime p change) old due t = refl
 attempted_by_due o (event.Flapping p starts) old due t = refl
+attempted_by_due o (event.Ack p sticky) old due t = refl
 
 pub outcomes_are_by_due : OutcomesAreByDue
 outcomes_are_by_due c zone o object e past book fits =
@@ -177,6 +179,7 @@ runs_by o (event.Downtime p change) old due t h =
     absurd (not_problem (attempted o (event.Downtime p change) old due t) (no_downtime (p.0 == o) (nat_lt 0 old.depth) (nat_lt 0 (depth_changed change old.depth)) (downtime_kind change) (no_problem_kind change)) h)
 runs_by o (event.Flapping p starts) old due t h =
     absurd (not_problem (attempted o (event.Flapping p starts) old due t) (no_flapping (p.0 == o) old.flapping starts) h)
+runs_by o (event.Ack p sticky) old due t h = cc
 
 pub problems_run : ProblemsRun
 problems_run = runs_by

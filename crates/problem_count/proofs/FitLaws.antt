@@ -76,6 +76,7 @@ other_within c zone o object m (event.Hard p s) past h =
     sym (ap (within_hard c zone object s (hard o past) (max (moment past) m) (began o past) (problem c zone o object past)) h)
 other_within c zone o object m (event.Downtime p change) past h = refl
 other_within c zone o object m (event.Flapping p starts) past h = refl
+other_within c zone o object m (event.Ack p sticky) past h = refl
 
 pub other_events_fit : OtherEventsFit
 other_events_fit c zone o object e past book fits h = fits ∙ other_within c zone o object e.moment e.kind past h
@@ -148,6 +149,7 @@ untouched_hard o (event.Program on) due t h = refl
 untouched_hard o (event.Hard p s) due t h = h
 untouched_hard o (event.Downtime p change) due t h = refl
 untouched_hard o (event.Flapping p starts) due t h = refl
+untouched_hard o (event.Ack p sticky) due t h = refl
 
 untouched_attempt : (o : ℕ) (k : EventKind) (old : ObjectStatus) (due : Option ℕ) (t : ℕ) → touches o k due t ≡ false → attempted o k old due t ≡ None
 untouched_attempt o event.Clock old due t h = no_clock (is_problem_state old.state) (has_come due t) h
@@ -155,6 +157,7 @@ untouched_attempt o (event.Program on) old due t h = refl
 untouched_attempt o (event.Hard p s) old due t h = ap (λ (b : Bool). if b then attempted_by_state old.state s else None) h
 untouched_attempt o (event.Downtime p change) old due t h = ap (λ (b : Bool). if b then attempted_by_downtime old.depth change else None) h
 untouched_attempt o (event.Flapping p starts) old due t h = ap (λ (b : Bool). if b then attempted_by_flapping old.flapping starts else None) h
+untouched_attempt o (event.Ack p sticky) old due t h = refl
 
 pub untouched_fit : UntouchedFit
 untouched_fit c zone o object e past book fits h =
@@ -213,6 +216,7 @@ retry_law c zone object began last t next filter.Options h = refl
 retry_law c zone object began last t next filter.NoProblem h = refl
 retry_law c zone object began last t next filter.Period h = h
 retry_law c zone object began last t next filter.Dependency h = refl
+retry_law c zone object began last t next filter.Acknowledged h = refl
 retry_law c zone object began last t next filter.FirstDelay h = h
 retry_law c zone object began last t next filter.Interval h = refl
 retry_law c zone object began last t next filter.ContactDisabled h = refl

@@ -42,10 +42,20 @@ number_of book = if is_problem_state book.state then book.sent + 1 else 1
 -- when a problem is attempted again, after an attempt at moment t that this filter stopped; `next` has it for
 -- the filters of which the configuration says when
 abbrev pub retry_by : Option Last → (t : ℕ) → (next : Option ℕ) → Filter → Option ℕ
+retry_by last t next filter.Program = Some (t + 60)
+retry_by last t next filter.Disabled = Some (t + 60)
+retry_by last t next filter.Downtime = Some (t + 60)
+retry_by last t next filter.Flapping = Some (t + 60)
+retry_by last t next filter.Options = Some (t + 60)
+retry_by last t next filter.NoProblem = Some (t + 60)
 retry_by last t next filter.Period = next
+retry_by last t next filter.Dependency = Some (t + 60)
+retry_by last t next filter.Acknowledged = None
 retry_by last t next filter.FirstDelay = next
 retry_by last t next filter.Interval = after_last last
-retry_by last t next why = Some (t + 60)
+retry_by last t next filter.ContactDisabled = Some (t + 60)
+retry_by last t next filter.ContactOptions = Some (t + 60)
+retry_by last t next filter.ContactPeriod = Some (t + 60)
 
 -- the greatest gap that a configuration can give, in seconds
 abbrev pub longest_gap : ℕ

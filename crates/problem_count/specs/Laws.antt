@@ -4,7 +4,7 @@ use Rattle.due_model.specs.declared.config.Config.{Config}
 use Rattle.due_model.specs.declared.config.Object.{Object}
 use Rattle.due_model.specs.declared.event.Event.{Event}
 use Rattle.due_model.specs.declared.event.EventKind.{EventKind}
-use Rattle.due_model.specs.declared.event.EventKind.TheVariants.{Clock, Program, Hard, Downtime, Flapping}
+use Rattle.due_model.specs.declared.event.EventKind.TheVariants.{Clock, Program, Hard, Downtime, Flapping, Ack}
 use Rattle.due_model.specs.declared.notice.Kind.TheVariants.{Problem}
 use Rattle.due_model.specs.declared.notice.Outcome.{Outcome}
 use Rattle.due_model.specs.declared.notice.Outcome.TheVariants.{Nothing, Sent, Suppressed}
@@ -52,6 +52,7 @@ touches o (Program on) due t = false
 touches o (Hard p s) due t = p.0 == o
 touches o (Downtime p change) due t = p.0 == o
 touches o (Flapping p starts) due t = p.0 == o
+touches o (Ack p sticky) due t = p.0 == o
 
 -- Of an event that doesn't touch the object nothing becomes, and the book fits on.
 abbrev pub UntouchedFit : Type 0

@@ -132,8 +132,8 @@ impl Book {
 
     /// A filter stops an attempt as a problem at moment `t`. It doesn't count. The clock attempts the problem again:
     /// after `Period` and `FirstDelay` at `next`, a moment that the caller knows, and never where that is none; after
-    /// `Interval` once the last notice's interval has passed; after any other filter 60 seconds later. It asks for
-    /// a running problem.
+    /// `Interval` once the last notice's interval has passed; after `Acknowledged` never, until the next hard state;
+    /// after any other filter 60 seconds later. It asks for a running problem.
     pub fn suppressed(&mut self, filter: Filter, t: u64, next: Option<u64>)
         requires runs { is_problem_state self.old.state ≡ true }
         requires moment { t ≤ last_moment }
@@ -154,7 +154,17 @@ impl Book {
                 let last = self.last?;
                 next_notice(last.moment, last.gap)
             }
-            _ => Some(t + 60),
+            Filter::Acknowledged => None,
+            Filter::Program
+            | Filter::Disabled
+            | Filter::Downtime
+            | Filter::Flapping
+            | Filter::Options
+            | Filter::NoProblem
+            | Filter::Dependency
+            | Filter::ContactDisabled
+            | Filter::ContactOptions
+            | Filter::ContactPeriod => Some(t + 60),
         }
     }
 

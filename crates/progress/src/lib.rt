@@ -4,8 +4,10 @@
 ghost use Rattle.std.specs.Prelude.{◌≡◌};
 ghost use Rattle.progress.specs.Progress.{count_after};
 
+mod counts;
 mod line;
 
+pub use counts::{Counts, show};
 pub use line::ProgressLine;
 
 /// How far a command is. Each count stays at the greatest `u64`.

@@ -45,6 +45,14 @@ impl<'a, E: Eprint> ProgressLine<'a, E> {
         }
     }
 
+    /// The command is over, and this is how far it came: that stays, on a line of its own.
+    pub fn finish_at(mut self, progress: Progress) {
+        if self.is_terminal {
+            self.last = Some(progress);
+        }
+        self.finish();
+    }
+
     /// Writes the line.
     fn write(&mut self, progress: Progress) {
         let Progress { events, messages } = progress;

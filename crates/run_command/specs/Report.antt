@@ -1,31 +1,25 @@
 -- The report of a run: what its feed gives, and then what became of the messages of each lane.
-use Rattle.std.specs.Prelude.{◌≡◌, ℕ, Bool, false, not, ◌==◌, List, [], ◌∷◌, ◌++◌, flat_map, length, Option, Result, Ok, Err, IsErrOf, if◌then◌else◌}
-use Rattle.std.specs.List.{list_any}
+use Rattle.std.specs.Prelude.{◌≡◌, ℕ, Bool, false, not, ltb, ◌==◌, List, [], ◌++◌, flat_map, length, slice_index_or, Option, Result, IsErrOf, if◌then◌else◌}
+use Rattle.std.specs.List.{list_any, range_with_len}
 use Rattle.due_model.specs.declared.config.Config.{Config}
-use Rattle.due_model.specs.declared.event.Event.{Event}
 use Rattle.due_model.specs.declared.notice.Notice.{Notice}
 use Rattle.due_model.specs.declared.notice.Suppression.{Suppression}
 use Rattle.due_model.specs.declared.zone.Zone.{Zone}
-use Rattle.decider.specs.Decider.{suppressed_gained}
-use Rattle.event_feed.specs.declared.fault.FeedFault.{FeedFault}
 use Rattle.event_feed.specs.declared.fault.RefusedLine.{RefusedLine}
-use Rattle.event_feed.specs.Feed.{Answer}
 use Rattle.engine.specs.declared.run_end.RunEnd.{RunEnd}
-use Rattle.engine.specs.Due.{whole_share}
-use Rattle.engine.specs.Feed.{event_in}
 use Rattle.engine.specs.Lanes.{LaneParts}
-use Rattle.engine.specs.Run.{EndsAfter}
+use Rattle.engine.specs.Run.{IsReadOf, IsRunOf}
 use Rattle.command_output.specs.declared.outcome.CommandFault.{CommandFault}
 use Rattle.command_output.specs.declared.outcome.CommandFault.TheVariants.{Output}
 use Rattle.command_output.specs.declared.outcome.Ending.{Ending}
 use Rattle.command_output.specs.declared.outcome.Ending.TheVariants.{Whole, Short, Undelivered}
 use Rattle.written.specs.Written.{Writes, WritesFront}
 use Rattle.command_output.specs.ReportLine.{refused_line, suppression_line}
-use Rattle.command_output.specs.RunLine.{closed_line, taken_line, undelivered_line}
+use Rattle.command_output.specs.RunLine.{box_line, closed_line, taken_line, undelivered_line}
 
--- ---- as the feed comes
+-- ---- its parts
 
--- the lines of refused lines, in order
+-- the lines of refused lines of the feed, in order
 abbrev pub refused_text : List RefusedLine → List ℕ
 refused_text refused = flat_map (λ r. refused_line r.line r.fault) refused
 
@@ -33,39 +27,40 @@ refused_text refused = flat_map (λ r. refused_line r.line r.fault) refused
 abbrev pub log_text : Config → List Suppression → List ℕ
 log_text c log = flat_map (suppression_line c) log
 
--- what is told of a line of the feed, after a past: what its event suppresses, by object, then contact; or its refusal
-abbrev pub answer_text : Config → Zone → (past : List Event) → (line : ℕ) → Result Event FeedFault
-    → List ℕ
-answer_text c zone past line (Ok e) = log_text c (suppressed_gained c zone whole_share e past)
-answer_text c zone past line (Err fault) = refused_line line fault
-
--- what is told of the lines of a feed, one after another; the past is the events before them, the newest first
-abbrev pub told_after : Config → Zone → (past : List Event) → List Answer → List ℕ
-told_after c zone past [] = []
-told_after c zone past (answer ∷ more) =
-    answer_text c zone past answer.line answer.given
-    ++ told_after c zone (event_in answer.given ++ past) more
-
--- ---- when it is over
-
 -- the lines of some notices of a lane, in order
 abbrev pub letters_text : (Notice → List ℕ) → List Notice → List ℕ
 letters_text line notices = flat_map line notices
 
--- of a lane what its channel has taken, what it gave up, and why it is closed
+-- the lines of what a lane's channels have taken, one after another
+abbrev pub taken_text : Config → LaneParts → List ℕ
+taken_text c lane = flat_map (letters_text (taken_line c lane.lane.0)) lane.records
+
+-- how many each channel of a lane that served has taken, in order
+abbrev pub box_lines : Config → LaneParts → List ℕ
+box_lines c lane =
+    flat_map (λ n. box_line c lane.lane.0 n (length (slice_index_or lane.records n [])))
+    (range_with_len 0 (length lane.records))
+
+-- the same, where it was given several
+abbrev pub boxes_text : Config → LaneParts → List ℕ
+boxes_text c lane = if ltb 1 lane.boxes then box_lines c lane else []
+
+-- of a lane what its channels have taken, what it gave up, how many each of several channels has taken, and why it is closed
 abbrev pub lane_lines : Config → LaneParts → List ℕ
 lane_lines c lane =
-    letters_text (taken_line c lane.lane.0) lane.taken
+    taken_text c lane
     ++ letters_text (undelivered_line c lane.lane.0) lane.undelivered
+    ++ boxes_text c lane
     ++ closed_line c lane.lane.0 lane.why
 
 -- the lines of each lane, in order
 abbrev pub lanes_text : Config → List LaneParts → List ℕ
 lanes_text c lanes = flat_map (lane_lines c) lanes
 
--- the report of a run that has taken these answers of its feed, and left these lanes
-abbrev pub report_text : Config → Zone → (said : List Answer) → List LaneParts → List ℕ
-report_text c zone said lanes = told_after c zone [] said ++ lanes_text c lanes
+-- the report of a run that has left this: what was refused, what was suppressed, and the lanes
+abbrev pub report_text : Config → RunEnd → List ℕ
+report_text c end =
+    refused_text end.refused.items ++ log_text c end.log.items ++ lanes_text c end.lanes.items
 
 -- ---- how it ended
 
@@ -81,21 +76,28 @@ ending_of end =
 
 -- ---- what is written
 
+-- A run of a feed whose bytes are known or not has left this, where each lane was given so many channels.
+abbrev pub IsRun : (can_fail : Bool) → Config → Zone → (given : ℕ → ℕ)
+    → (known : Option (List ℕ)) → RunEnd → Type 0
+IsRun can_fail c zone given known end =
+    IsRunOf c zone given end.events.items end.memory end.lanes.items end.log.items
+    × IsReadOf can_fail c known end.memory end.events.items end.refused.items end.cut
+
 -- the report of a run of this feed was written, for which there was memory, and it ended so
-abbrev pub WritesReport : (can_fail : Bool) → Config → Zone → (posted : ℕ → Bool)
+abbrev pub WritesReport : (can_fail : Bool) → Config → Zone → (given : ℕ → ℕ)
     → (known : Option (List ℕ)) → Ending → (before after : Option (List ℕ)) → Type 0
-WritesReport can_fail c zone posted known ending before after =
-    (said : List Answer) × (end : RunEnd)
-    × EndsAfter can_fail c zone posted known said end
+WritesReport can_fail c zone given known ending before after =
+    (end : RunEnd)
+    × IsRun can_fail c zone given known end
     × (end.memory ≡ false) × (ending ≡ ending_of end)
-    × Writes before after (report_text c zone said end.lanes.items)
+    × Writes before after (report_text c end)
 
 -- a front of it was; where that was the output's fault, there was memory for the run
-abbrev pub WritesReportFront : (can_fail : Bool) → Config → Zone → (posted : ℕ → Bool)
+abbrev pub WritesReportFront : (can_fail : Bool) → Config → Zone → (given : ℕ → ℕ)
     → (known : Option (List ℕ)) → Result Ending CommandFault → (before after : Option (List ℕ))
     → Type 0
-WritesReportFront can_fail c zone posted known result before after =
-    (said : List Answer) × (end : RunEnd)
-    × EndsAfter can_fail c zone posted known said end
+WritesReportFront can_fail c zone given known result before after =
+    (end : RunEnd)
+    × IsRun can_fail c zone given known end
     × (IsErrOf result Output → end.memory ≡ false)
-    × WritesFront before after (report_text c zone said end.lanes.items)
+    × WritesFront before after (report_text c end)

@@ -3,7 +3,8 @@
 ghost use Rattle.std.specs.Prelude.{◌≡◌, ◌++◌, IfErr, OnOk};
 ghost use Rattle.command_output.specs.Outcome.{IsWriteFault};
 ghost use Rattle.written.specs.Written.{Leaves, WritesFront};
-ghost use Rattle.run_command.specs.Report.{has_undelivered, lane_lines, lanes_text, letters_text};
+ghost use Rattle.run_command.specs.Report.{box_lines, boxes_text, has_undelivered, lane_lines};
+ghost use Rattle.run_command.specs.Report.{lanes_text, letters_text, taken_text};
 ghost use Rattle.command_output.specs.RunLine.{taken_line, undelivered_line};
 
 use command_output::{CommandFault, Lines, OutputLine, Sink};
@@ -30,7 +31,8 @@ pub(crate) fn write_lanes<W: Sink>(
     Ok(())
 }
 
-/// Makes the lines of a lane: what its channel has taken, what it gave up, and why it is closed.
+/// Makes the lines of a lane: what its channels have taken, what it gave up, how many each of several channels has taken, and why it is
+/// closed.
 fn write_lane<W: Sink>(
     lines: &mut Lines,
     writer: &mut W,
@@ -44,13 +46,84 @@ fn write_lane<W: Sink>(
     ensures fault { IfErr result (λ fault. IsWriteFault W.can_fail fault) }
 {
     let number = lane.lane();
-    let taken = lane.taken();
     let undelivered = lane.undelivered();
     let why = lane.why();
-    write_taken(lines, writer, config, number, taken)?;
+    write_records(lines, writer, config, lane)?;
     write_undelivered(lines, writer, config, number, undelivered)?;
+    write_boxes(lines, writer, config, lane)?;
     let closed = OutputLine::Closed { lane: number, why };
     lines.write(writer, config, &closed)?;
+    Ok(())
+}
+
+/// Makes the lines of what a lane's channels have taken, one after another.
+fn write_records<W: Sink>(
+    lines: &mut Lines,
+    writer: &mut W,
+    config: &Config,
+    lane: &LaneEnd,
+) -> Result<(), CommandFault>
+    ensures ok { OnOk result (Leaves (W.contents writer.old) (W.contents writer.new)
+        (lines.old ++ taken_text config.now lane.now) lines.new) }
+    ensures front { WritesFront (W.contents writer.old) (W.contents writer.new)
+        (lines.old ++ taken_text config.now lane.now) }
+    ensures fault { IfErr result (λ fault. IsWriteFault W.can_fail fault) }
+{
+    let of_lane = lane.lane();
+    for number in 0..lane.served() {
+        let Some(taken) = lane.record(number) else {
+            unreachable!()
+        };
+        write_taken(lines, writer, config, of_lane, taken)?;
+    }
+    Ok(())
+}
+
+/// Makes the lines of how many each channel of a lane has taken, where it was given several.
+fn write_boxes<W: Sink>(
+    lines: &mut Lines,
+    writer: &mut W,
+    config: &Config,
+    lane: &LaneEnd,
+) -> Result<(), CommandFault>
+    ensures ok { OnOk result (Leaves (W.contents writer.old) (W.contents writer.new)
+        (lines.old ++ boxes_text config.now lane.now) lines.new) }
+    ensures front { WritesFront (W.contents writer.old) (W.contents writer.new)
+        (lines.old ++ boxes_text config.now lane.now) }
+    ensures fault { IfErr result (λ fault. IsWriteFault W.can_fail fault) }
+{
+    if lane.boxes() > 1 {
+        write_each_box(lines, writer, config, lane)
+    } else {
+        Ok(())
+    }
+}
+
+/// Makes the line of each channel of a lane that served.
+fn write_each_box<W: Sink>(
+    lines: &mut Lines,
+    writer: &mut W,
+    config: &Config,
+    lane: &LaneEnd,
+) -> Result<(), CommandFault>
+    ensures ok { OnOk result (Leaves (W.contents writer.old) (W.contents writer.new)
+        (lines.old ++ box_lines config.now lane.now) lines.new) }
+    ensures front { WritesFront (W.contents writer.old) (W.contents writer.new)
+        (lines.old ++ box_lines config.now lane.now) }
+    ensures fault { IfErr result (λ fault. IsWriteFault W.can_fail fault) }
+{
+    let of_lane = lane.lane();
+    for number in 0..lane.served() {
+        let Some(taken) = lane.record(number) else {
+            unreachable!()
+        };
+        let line = OutputLine::Box {
+            lane: of_lane,
+            number: number as u64,
+            count: taken.len() as u64,
+        };
+        lines.write(writer, config, &line)?;
+    }
     Ok(())
 }
 

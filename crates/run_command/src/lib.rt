@@ -1,39 +1,37 @@
 //! The command `run`: the events of a feed, and the channels that take what they make due.
 #![tactic(auto)]
 
-ghost use Rattle.std.specs.Prelude.{◌≡◌, ◌==◌, ℕ, Bool, List, [], false};
-ghost use Rattle.std.specs.Prelude.{Err, Ok, Option, None, Some};
-ghost use Rattle.std.specs.Prelude.{IfErr, IfOk, IsErrOf, ◌⊎◌};
-ghost use Rattle.std.specs.List.{list_any};
-ghost use Rattle.due_model.specs.declared.zone.Zone.{Zone};
+ghost use Rattle.std.specs.Prelude.{◌≡◌, ◌≤◌, ℕ, [], false, IsOk};
+ghost use Rattle.std.specs.Prelude.{IfErr, IfOk, IsErrOf, OnOk, ◌⊎◌};
 ghost use Rattle.due_model.specs.Accepted.{IsAccepted};
-ghost use Rattle.engine.specs.Run.{HasTaken, run_value};
+ghost use Rattle.engine.specs.Lanes.{count_of};
 ghost use Rattle.command_output.specs.Outcome.{IsWriteFault};
-ghost use Rattle.run_command.specs.Report.{WritesReport, WritesReportFront, ending_of};
+ghost use Rattle.written.specs.Written.{Writes, WritesFront};
+ghost use Rattle.run_command.specs.Report.{WritesReport, WritesReportFront, ending_of, report_text};
 
+mod feed_lines;
 mod lanes;
-mod telling;
-mod turns;
 
 use command_output::{CommandFault, Ending, Lines, Sink};
 use due_model::config::Config;
 use due_model::zone::Zone;
-use engine::{Post, Run, RunEnd, Settings, Turn};
-use lanes::has_undelivered;
+use engine::{Closers, Engine, Gate, Post, RunEnd, Settings};
+use feed_lines::{write_log, write_refused};
+use lanes::{has_undelivered, write_lanes};
 use progress::Watcher;
 use std::alloc::Global;
-use telling::Telling;
+use std::sync::Wait;
+use std::thread::Threads;
 use text_lines::Input;
 
-/// Reads a feed to its end, hands what its events make due to the channels of the lanes, and writes the report of that. What an
-/// event makes due is tried, and its `S` and `C` lines, or the `R` line of a refused line, are written before the reader is
-/// called for more; when the feed is over, lane by lane, the `T` lines of what its channel has taken, the `U` lines of what it
-/// gave up, each in order, and its `Z` line. Where the output fails, a front of the report was written: nothing more is, and
-/// the run goes on to the end of the feed. Where memory runs out in the run it reads no further, and what is there is told.
-/// The watcher is told how far it is whenever the feed may be waited for: how many events were decided, and how many letters
-/// channels have taken. `Undelivered` says that a lane gave something up, `Short` that the feed ended before its input; of
-/// both, the latter is said.
-pub fn run<R: Input + Drop, W: Sink, P: Watcher>(
+/// Reads a feed to its end, hands what its events make due to the channels of the lanes, in threads, and writes the report of
+/// that once the feed is over and all lanes are closed: the `R` lines of refused lines of the feed; the `S` and `C` lines of
+/// what was suppressed; and lane by lane the `T` lines of what its channels have taken, the `U` lines of what it gave up, each in
+/// order, where it was given several channels the `G` lines of how many each that served has taken, and its `Z` line. Where the output fails, a front of the report was written. Where memory runs out in the run it reads
+/// no further, and what is there is told. The watcher is told before lines are written. `Undelivered` says that a lane gave
+/// something up, `Short` that the feed ended before its input; of both, the latter is said.
+pub fn run<R: Input + Drop, W: Sink, G: Gate + Sync, P: Watcher, T: Threads + Wait + Sync>(
+    rt: &T,
     alloc: Global,
     config: &Config,
     zone: &Zone,
@@ -41,101 +39,66 @@ pub fn run<R: Input + Drop, W: Sink, P: Watcher>(
     posts: Vec<Post>,
     feed: R,
     writer: &mut W,
+    closers: &Closers,
+    gate: &G,
     watcher: &mut P,
 ) -> Result<Ending, CommandFault>
-    requires { IsAccepted config.now }
+    requires accepted { IsAccepted config.now }
+    // Of each lane there are at most eight posts.
+    requires few { (l : ℕ) → count_of (λ post. post.lane.0) posts.items l ≤ 8 }
     // What is written is the report of a run of the feed, and nothing else.
     ensures report { IfOk result (λ ending. WritesReport R.can_fail config.now zone.now
-        (λ l. list_any (λ post. post.lane.0 == l) posts.items) (R.remaining feed) ending
+        (count_of (λ post. post.lane.0) posts.items) (R.remaining feed) ending
         (W.contents writer.old) (W.contents writer.new)) }
     // Or a front of it.
     ensures front { WritesReportFront R.can_fail config.now zone.now
-        (λ l. list_any (λ post. post.lane.0 == l) posts.items) (R.remaining feed) result
+        (count_of (λ post. post.lane.0) posts.items) (R.remaining feed) result
         (W.contents writer.old) (W.contents writer.new) }
     ensures fault { IfErr result (λ fault. IsWriteFault W.can_fail fault) }
 {
-    match Run::start(alloc, config, zone, feed, posts, settings) {
-        Ok(begun) => tell(alloc, config, begun, writer, watcher),
-        Err(_end) => Err(CommandFault::NoMemory),
-    }
-}
-
-/// The rest of a run of whose feed nothing is read. Where there is no memory for its lines nothing is told of it.
-fn tell<R: Input + Drop, W: Sink, P: Watcher>(
-    alloc: Global,
-    config: &Config,
-    begun: Run<'_, R>,
-    writer: &mut W,
-    watcher: &mut P,
-) -> Result<Ending, CommandFault>
-    requires { (zone : Zone) × (posted : ℕ → Bool) × (known : Option (List ℕ))
-        × HasTaken R.can_fail config.now zone posted known [] (Ok Turn.GoesOn) (run_value begun) }
-    ensures report { (zone : Zone) (posted : ℕ → Bool) (known : Option (List ℕ))
-        → HasTaken R.can_fail config.now zone posted known [] (Ok Turn.GoesOn)
-        (run_value begun.entry)
-        → IfOk result (λ ending. WritesReport R.can_fail config.now zone posted known ending
-        (W.contents writer.old) (W.contents writer.new)) }
-    ensures front { (zone : Zone) (posted : ℕ → Bool) (known : Option (List ℕ))
-        → HasTaken R.can_fail config.now zone posted known [] (Ok Turn.GoesOn)
-        (run_value begun.entry)
-        → WritesReportFront R.can_fail config.now zone posted known result
-        (W.contents writer.old) (W.contents writer.new) }
-    ensures fault { IfErr result (λ fault. IsWriteFault W.can_fail fault) }
-{
-    match Lines::new(alloc) {
-        Ok(lines) => tell_lines(Telling::new(lines), config, begun, writer, watcher),
-        Err(_) => {
-            let _untold = begun.complete();
-            Err(CommandFault::NoMemory)
-        }
-    }
-}
-
-/// The same, where nothing was told yet.
-fn tell_lines<R: Input + Drop, W: Sink, P: Watcher>(
-    mut telling: Telling,
-    config: &Config,
-    mut begun: Run<'_, R>,
-    writer: &mut W,
-    watcher: &mut P,
-) -> Result<Ending, CommandFault>
-    requires taken { (zone : Zone) × (posted : ℕ → Bool) × (known : Option (List ℕ))
-        × HasTaken R.can_fail config.now zone posted known [] (Ok Turn.GoesOn) (run_value begun) }
-    requires held { telling.lines ≡ [] }
-    requires none { telling.fault ≡ None }
-    ensures report { (zone : Zone) (posted : ℕ → Bool) (known : Option (List ℕ))
-        → HasTaken R.can_fail config.now zone posted known [] (Ok Turn.GoesOn)
-        (run_value begun.entry)
-        → IfOk result (λ ending. WritesReport R.can_fail config.now zone posted known ending
-        (W.contents writer.old) (W.contents writer.new)) }
-    ensures front { (zone : Zone) (posted : ℕ → Bool) (known : Option (List ℕ))
-        → HasTaken R.can_fail config.now zone posted known [] (Ok Turn.GoesOn)
-        (run_value begun.entry)
-        → WritesReportFront R.can_fail config.now zone posted known result
-        (W.contents writer.old) (W.contents writer.new) }
-    ensures fault { IfErr result (λ fault. IsWriteFault W.can_fail fault) }
-{
-    let read = telling.tell_turns(&mut begun, config, writer, watcher);
+    let room = Lines::new(alloc);
+    let end = Engine::run(
+        rt, alloc, config, zone, feed, posts, settings, closers, gate,
+    );
     watcher.make_way();
-    let end = begun.close(read);
-    telling.tell_lanes(&end.lanes, config, writer);
-    outcome_of(&end, telling.finish(writer))
+    match room {
+        Ok(lines) => outcome_of(&end, tell(lines, writer, config, &end)),
+        Err(_) => Err(CommandFault::NoMemory),
+    }
 }
 
-/// How a run ended whose report was written, or not for this fault.
-fn outcome_of(end: &RunEnd, fault: Option<CommandFault>) -> Result<Ending, CommandFault>
-    ensures ok { IfOk result (λ ending. (end.now.memory ≡ false) × (fault ≡ None)
-        × (ending ≡ ending_of end.now)) }
+/// Writes the report of a run.
+fn tell<W: Sink>(
+    mut lines: Lines,
+    writer: &mut W,
+    config: &Config,
+    end: &RunEnd,
+) -> Result<(), CommandFault>
+    requires { lines ≡ [] }
+    ensures ok { OnOk result (Writes (W.contents writer.old) (W.contents writer.new)
+        (report_text config.now end.now)) }
+    ensures front { WritesFront (W.contents writer.old) (W.contents writer.new)
+        (report_text config.now end.now) }
+    ensures fault { IfErr result (λ fault. IsWriteFault W.can_fail fault) }
+{
+    write_refused(&mut lines, writer, config, &end.refused)?;
+    write_log(&mut lines, writer, config, &end.log)?;
+    write_lanes(&mut lines, writer, config, &end.lanes)?;
+    lines.flush(writer)
+}
+
+/// How a run ended whose report was written, or not for a fault.
+fn outcome_of(end: &RunEnd, told: Result<(), CommandFault>) -> Result<Ending, CommandFault>
+    ensures ok { IfOk result (λ ending. (end.now.memory ≡ false)
+        × (ending ≡ ending_of end.now) × IsOk told) }
     ensures output { IsErrOf result CommandFault.Output → end.now.memory ≡ false }
-    ensures fault { IfErr result (λ found. (found ≡ CommandFault.NoMemory) ⊎ (fault ≡ Some found)) }
+    ensures fault { IfErr result (λ found. (found ≡ CommandFault.NoMemory) ⊎ IsErrOf told found) }
 {
     if end.memory {
         return Err(CommandFault::NoMemory);
     }
-    match fault {
-        None => Ok(ending_of(end)),
-        Some(fault) => Err(fault),
-    }
+    told?;
+    Ok(ending_of(end))
 }
 
 /// How a run ended whose report was written.

@@ -1,12 +1,18 @@
 -- The channels that the words of a command line ask for.
-use Rattle.std.specs.Prelude.{ℕ, List, Contains, ⊤}
+use Rattle.std.specs.Prelude.{ℕ, List, [], ◌∷◌, Contains, ⊤}
 use Rattle.channel.specs.declared.Kind.{Kind}
 use Rattle.channel.specs.declared.Kind.TheVariants as kinds
+use Rattle.channel_kinds.specs.declared.device.AnyDevice.{AnyDevice}
+use Rattle.channel_kinds.specs.declared.device.AnyDevice.TheVariants as device
+use Rattle.channel_kinds.specs.Device.{kind_of}
+use Rattle.channel_kinds.specs.DeviceChannel.{Held}
 use Rattle.channel_words.specs.declared.fault.ChannelFault.{ChannelFault}
 use Rattle.channel_words.specs.declared.fault.ChannelFault.TheVariants as fault
 use Rattle.channel_words.specs.declared.word.ChannelWord.{ChannelWord}
 use Rattle.channel_words.specs.declared.word.Device.{Device}
 use Rattle.channel_words.specs.declared.word.Device.TheVariants.{Mailbox, Pager, Command}
+use Rattle.channel_words.specs.Words.{words_in}
+use Rattle.channel.specs.declared.Receipt.{Receipt}
 
 -- the kind of channel that a device is
 abbrev pub device_kind : Device → Kind
@@ -14,9 +20,45 @@ device_kind (Mailbox path) = kinds.Mailbox
 device_kind (Pager address) = kinds.Pager
 device_kind (Command line) = kinds.Spawned
 
--- the kind that a word asks for
-abbrev pub word_kind : ChannelWord → Kind
-word_kind word = device_kind word.device
+-- the program that a device is to start, and its arguments; none where it is of another kind
+abbrev pub asked_words : Device → List (List ℕ)
+asked_words (Mailbox path) = []
+asked_words (Pager address) = []
+asked_words (Command line) = words_in line.now
+
+-- the program that an opened device starts, and its arguments
+abbrev pub program_words : {W S R : Type 0} → AnyDevice W S R → List (List ℕ)
+program_words (device.Mailbox mailbox) = []
+program_words (device.Pager pager) = []
+program_words (device.Spawned started) = started.program ∷ started.arguments
+
+-- a channel as it was opened: its kind, its program's words, what it has taken, and how often it failed
+pub record Opened : Type 0 where
+  pub kind : Kind
+  pub words : List (List ℕ)
+  pub taken : List Receipt
+  pub failures : ℕ
+
+abbrev pub opened : {W S R : Type 0} → Held (AnyDevice W S R) → Opened
+opened channel = record {
+  kind = kind_of channel.device;
+  words = program_words channel.device;
+  taken = channel.kept.taken;
+  failures = channel.kept.failures;
+}
+
+-- as a device is asked for: it has taken nothing, and didn't fail
+abbrev pub asked_of : Device → Opened
+asked_of device = record {
+  kind = device_kind device;
+  words = asked_words device;
+  taken = [];
+  failures = 0;
+}
+
+-- as a word asks for it
+abbrev pub asked : ChannelWord → Opened
+asked word = asked_of word.device
 
 -- one of these channels isn't opened, or memory ran out
 abbrev pub IsOpeningFault : (names : List (List ℕ)) → ChannelFault → Type 0

@@ -45,14 +45,12 @@ pub record AreChecked (known : Option (List ℕ)) (names : List (List ℕ)) (con
   pub text : IsFileOf config known
   pub lanes_are : AreLanesOf config names lanes
 
--- What was right before the channels were opened: the shape of the texts of all words and, by an accepted configuration,
--- their names.
-pub record AreRight (texts : List (List ℕ)) : Type 0 where
+-- What was right before the channels were opened: the shape of the texts of all words and, by this accepted configuration,
+-- their names, which are of these lanes.
+pub record AreRight (texts : List (List ℕ)) (config : Config) (lanes : List LaneId) : Type 0 where
   pub words : List ChannelWord
   pub read : AreRead texts words
-  pub config : Config
   pub accepted : IsAccepted config
-  pub lanes : List LaneId
   pub lanes_are : AreLanesOf config (names_of words) lanes
 
 -- First the shape of the texts of all words; the rest is only looked at where that is right.

@@ -1,31 +1,33 @@
 //! The channels of a run, opened as the words of the command line say.
 
 ghost use Rattle.std.specs.Prelude.{◌≡◌, [], ◌∷◌, map, IfErr, IfOk, IfSome};
-ghost use Rattle.channel.specs.declared.Kind.TheVariants as kinds;
-ghost use Rattle.channel_kinds.specs.Device.{kind_of};
 ghost use Rattle.channel_words.specs.Lanes.{names_of};
-ghost use Rattle.sending.specs.Channels.{IsOpeningFault, word_kind};
+ghost use Rattle.sending.specs.Channels.{IsOpeningFault, asked, asked_of, opened};
 
 use channel_kinds::device::AnyDevice;
 use channel_kinds::device_channel::DeviceChannel;
 use channel_kinds::mailbox::Mailbox;
 use channel_kinds::pager::Pager;
 use channel_kinds::spawned::Spawned;
+use channel_kinds::stream::{AnyOutlet, AnyStream};
 use channel_words::{ChannelFault, ChannelWord, Device, words_in};
 use std::alloc::AllocError;
 use std::fs::{File, OpenOptions};
 use std::net::TcpStream;
 
 /// A channel of the program: over a file, a stream to a peer, or what starts programs.
-pub type OpenedChannel = DeviceChannel<AnyDevice<File, TcpStream, HostRuntime>>;
+pub type OpenedChannel = DeviceChannel<
+    AnyDevice<AnyOutlet<File>, AnyStream<TcpStream>, HostRuntime>,
+>;
 
 /// Opens the channels of words, in order, up to the first that can't be opened: those before it are then closed again.
 pub fn open_channels<'a>(
     rt: &HostRuntime,
     words: &[ChannelWord<'a>],
 ) -> Result<Vec<OpenedChannel>, ChannelFault<'a>>
-    ensures kinds { IfOk result (λ channels.
-        map (λ channel. kind_of channel.device) channels.items ≡ map word_kind words.now) }
+    // Each is of its word's kind, with its program and its arguments; it has taken nothing, and didn't fail.
+    ensures opened { IfOk result (λ channels.
+        map opened channels.items ≡ map asked words.now) }
     ensures fault { IfErr result (IsOpeningFault (names_of words.now)) }
 {
     let mut channels = Vec::new(rt.alloc());
@@ -40,7 +42,7 @@ fn open_channel<'a>(
     rt: &HostRuntime,
     word: &ChannelWord<'a>,
 ) -> Result<OpenedChannel, ChannelFault<'a>>
-    ensures kind { IfOk result (λ channel. kind_of channel.device ≡ word_kind word.now) }
+    ensures opened { IfOk result (λ channel. opened channel ≡ asked word.now) }
     ensures fault { IfErr result (IsOpeningFault (names_of (word.now ∷ []))) }
 {
     let opened = match word.device {
@@ -56,30 +58,30 @@ fn open_channel<'a>(
 
 /// A mailbox over the file at a path, which is made if it isn't there, and appended to.
 fn open_mailbox(rt: &HostRuntime, path: &str) -> Option<OpenedChannel>
-    ensures { IfSome result (λ channel. kind_of channel.device ≡ kinds.Mailbox) }
+    ensures { IfSome result (λ channel. opened channel ≡ asked_of (Device.Mailbox path.entry)) }
 {
     let file = OpenOptions::new()
         .append(true)
         .create(true)
         .open(rt, path)
         .ok()?;
-    let device = AnyDevice::Mailbox(Mailbox::new(file));
+    let device = AnyDevice::Mailbox(Mailbox::new(AnyOutlet::new(file)));
     Some(DeviceChannel::new(rt.alloc(), device))
 }
 
 /// A pager over a stream to the peer at an address, HOST:PORT.
 fn open_pager(rt: &HostRuntime, address: &str) -> Option<OpenedChannel>
-    ensures { IfSome result (λ channel. kind_of channel.device ≡ kinds.Pager) }
+    ensures { IfSome result (λ channel. opened channel ≡ asked_of (Device.Pager address.entry)) }
 {
     let stream = TcpStream::connect(rt, address).ok()?;
-    let device = AnyDevice::Pager(Pager::new(stream));
+    let device = AnyDevice::Pager(Pager::new(AnyStream::new(stream)));
     Some(DeviceChannel::new(rt.alloc(), device))
 }
 
 /// A channel that starts the program of a line, with the arguments that stand after it. It isn't started yet.
 fn open_program(rt: &HostRuntime, line: &str) -> Result<Option<OpenedChannel>, AllocError>
-    ensures { IfOk result (λ opened.
-        IfSome opened (λ channel. kind_of channel.device ≡ kinds.Spawned)) }
+    ensures { IfOk result (λ found.
+        IfSome found (λ channel. opened channel ≡ asked_of (Device.Command line.entry))) }
 {
     let line = words_in(rt.alloc(), line)?;
     let Some((program, arguments)) = line.split_first() else {

@@ -4,7 +4,7 @@ ghost use Rattle.std.specs.Prelude.{◌≡◌};
 
 use channel_words::ChannelFault;
 use command_output::CommandFault;
-use std::alloc::AllocFailed;
+use std::alloc::{AllocError, AllocFailed};
 
 /// Why a run was given up: for its channels, or for what any command may be given up for.
 #[derive(Clone, Copy, Debug)]
@@ -40,6 +40,17 @@ impl<T: Drop> From<AllocFailed<T>> for RunFault<'_> {
     ghost from_gives = { λ _ given. given ≡ Command NoMemory };
 
     fn from(_error: AllocFailed<T>) -> Self {
+        RunFault::Command(CommandFault::NoMemory)
+    }
+}
+
+impl From<AllocError> for RunFault<'_> {
+    ghost use Rattle.command_output.specs.declared.outcome.CommandFault.TheVariants.{NoMemory};
+    ghost use Rattle.sending.specs.declared.fault.RunFault.TheVariants.{Command};
+
+    ghost from_gives = { λ _ given. given ≡ Command NoMemory };
+
+    fn from(_error: AllocError) -> Self {
         RunFault::Command(CommandFault::NoMemory)
     }
 }

@@ -1,9 +1,11 @@
-//! A run over the devices of the machine: the channels that words name are opened, and the feed of standard input is read.
+//! A run over the devices of the machine: the channels that words name are opened, and the feed is read.
 #![tactic(auto)]
 
 pub mod channels;
+pub mod counting;
 pub mod fault;
 pub mod run;
+mod watching;
 
 pub use fault::RunFault;
 pub use run::do_run;

@@ -1,7 +1,9 @@
 -- What a round makes of the flags of the last one, and what the flags say after so many rounds.
-use Rattle.std.specs.Prelude.{◌≡◌, ℕ, Bool, true, not, ◌&&◌, ◌||◌, ◌==◌, List, length, slice_index_or, Option, None, Some}
+use Rattle.std.specs.Prelude.{◌≡◌, ℕ, Bool, true, nat_lt, not, ◌&&◌, ◌||◌, ◌==◌, List, length, slice_index_or, Option, None, Some}
 use Rattle.std.specs.List.{list_any}
 use Rattle.due_model.specs.declared.config.Config.{Config}
+use Rattle.due_model.specs.declared.config.Dated.{Dated}
+use Rattle.due_model.specs.declared.config.DayRule.{DayRule}
 use Rattle.due_model.specs.declared.config.Dependency.{Dependency}
 use Rattle.due_model.specs.declared.config.Period.{Period}
 use Rattle.due_model.specs.declared.config.PeriodId.{PeriodId}
@@ -10,14 +12,20 @@ use Rattle.due_model.specs.declared.state.State.TheVariants as state
 use Rattle.due_model.specs.declared.zone.Zone.{Zone}
 use Rattle.due_model.specs.Dependencies.{entry_fails, has_state}
 use Rattle.due_model.specs.Local.{Local, local}
-use Rattle.due_model.specs.Periods.{holds, in_range, ranges_on}
+use Rattle.due_model.specs.Days.{class_of, names_day}
+use Rattle.due_model.specs.Periods.{holds, in_range, ranges_at}
 use Rattle.slow_lookups.specs.Flags.{flag_at}
 
 -- ---- periods
 
 -- a period's own ranges hold at a local time
 abbrev pub own_ranges_hold : Local → Period → Bool
-own_ranges_hold time period = list_any (in_range time.second) (ranges_on period time.weekday)
+own_ranges_hold time period = list_any (in_range time.second) (ranges_at period time)
+
+-- a rule names the local day, and none of these lines that names it is of an earlier class
+abbrev pub is_first : List Dated → Local → DayRule → Bool
+is_first dated time rule = names_day time rule
+    && not (list_any (λ other. names_day time other.day && nat_lt (class_of other.day) (class_of rule)) dated)
 
 -- a period's flag of a round, after these of the round before it
 abbrev pub period_flag : List Bool → Local → Period → Bool

@@ -8,3 +8,4 @@
 pub mod dependencies;
 mod flags;
 pub mod periods;
+mod ranges;

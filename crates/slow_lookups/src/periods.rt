@@ -3,13 +3,16 @@
 ghost use Rattle.std.specs.Prelude.{◌≡◌, ◌<◌, ◌≤◌, ◌^◌, IfOk, length, map};
 ghost use Rattle.std.specs.List.{list_any};
 ghost use Rattle.due_model.specs.Limits.{last_moment};
-ghost use Rattle.due_model.specs.Periods.{in_period, in_range, next_in};
+ghost use Rattle.day_rules.specs.Dates.{shown};
+ghost use Rattle.due_model.specs.Periods.{in_period, next_in};
 ghost use Rattle.slow_lookups.specs.Flags.{flag_at};
 ghost use Rattle.slow_lookups.specs.Rounds.{ArePeriodFlags, ArePeriodsAt, is_open};
-ghost use Rattle.slow_lookups.specs.Rounds.{own_ranges_hold, period_flag};
+ghost use Rattle.slow_lookups.specs.Rounds.{period_flag};
 
 use crate::flags::flag_at;
-use due_model::config::{Config, Period, PeriodId, Range};
+use crate::ranges::own_ranges_hold;
+use day_rules::CalendarTime;
+use due_model::config::{Config, Period, PeriodId};
 use due_model::zone::Zone;
 use std::alloc::{AllocError, Global};
 use zone_times::local::local_time;
@@ -67,12 +70,8 @@ pub(crate) fn flags_at(
     ensures { IfOk result (λ flags. ArePeriodsAt config.now zone.now t flags.items) }
 {
     let local = local_time(zone, t);
-    rounds(
-        alloc,
-        config.periods.as_slice(),
-        local.weekday,
-        local.second,
-    )
+    let time = CalendarTime::new(local.day, local.second);
+    rounds(alloc, config.periods.as_slice(), time)
 }
 
 /// Whether a period holds by these flags; no period is always.
@@ -85,21 +84,16 @@ pub(crate) fn is_open(flags: &[bool], period: Option<PeriodId>) -> bool
     }
 }
 
-/// A flag for each period: whether it holds at a second of a weekday. Each round lets chains of exclusions have one
+/// A flag for each period: whether it holds at a local time. Each round lets chains of exclusions have one
 /// period more.
 #[tactic(auto, using(crate::proofs::RoundLemmas::periods_more))]
-fn rounds(
-    alloc: Global,
-    periods: &[Period],
-    weekday: u8,
-    second: u32,
-) -> Result<Vec<bool>, AllocError>
+fn rounds(alloc: Global, periods: &[Period], time: CalendarTime) -> Result<Vec<bool>, AllocError>
     ensures { IfOk result (λ flags. ArePeriodFlags (length periods.now) periods.now
-        (record { weekday = weekday; second = second }) flags.items) }
+        (shown time) flags.items) }
 {
     let mut flags = Vec::new(alloc);
     for _round in 0..periods.len() {
-        let next = round(alloc, periods, flags.as_slice(), weekday, second)?;
+        let next = round(alloc, periods, flags.as_slice(), time)?;
         flags = next;
     }
     Ok(flags)
@@ -110,45 +104,24 @@ fn round(
     alloc: Global,
     periods: &[Period],
     before: &[bool],
-    weekday: u8,
-    second: u32,
+    time: CalendarTime,
 ) -> Result<Vec<bool>, AllocError>
     ensures { IfOk result (λ flags. flags.items
-        ≡ map (period_flag before.now (record { weekday = weekday; second = second }))
+        ≡ map (period_flag before.now (shown time))
         periods.now) }
 {
     let mut flags = Vec::new(alloc);
     for period in periods {
-        flags.push(period_flag(period, before, weekday, second))?;
+        flags.push(period_flag(period, before, time))?;
     }
     Ok(flags)
 }
 
 /// A period's flag of the next round: one of its own ranges holds, and no period that it excludes does.
-fn period_flag(period: &Period, before: &[bool], weekday: u8, second: u32) -> bool
-    ensures { result
-        ≡ period_flag before.now (record { weekday = weekday; second = second }) period.now }
+fn period_flag(period: &Period, before: &[bool], time: CalendarTime) -> bool
+    ensures { result ≡ period_flag before.now (shown time) period.now }
 {
-    own_ranges_hold(period, weekday, second) && !holds_any(period.excludes.as_slice(), before)
-}
-
-/// Whether a second of a weekday is in one of the period's own ranges.
-fn own_ranges_hold(period: &Period, weekday: u8, second: u32) -> bool
-    ensures { result ≡ own_ranges_hold (record { weekday = weekday; second = second }) period.now }
-{
-    match period.days.get(usize::from(weekday)) {
-        None => false,
-        Some(ranges) => is_in_any(ranges.as_slice(), second),
-    }
-}
-
-/// Whether a second is in one of these ranges.
-fn is_in_any(ranges: &[Range], second: u32) -> bool
-    ensures { result ≡ list_any (in_range second) ranges.now }
-{
-    ranges
-        .iter()
-        .any(|range| range.start <= second && second < range.end)
+    own_ranges_hold(period, time) && !holds_any(period.excludes.as_slice(), before)
 }
 
 /// Whether one of these periods holds by the flags.

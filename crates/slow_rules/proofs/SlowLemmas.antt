@@ -1,5 +1,5 @@
 -- What the slow program's functions need of the definitions.
-use Rattle.std.proofs.Common.{take, ◌≡◌, ℕ, ◌+◌, ◌<◌, ◌≤◌, List, [], ◌∷◌, ◌++◌, length, reverse, All, get_or, sym, ap, ◌∙◌, arith}
+use Rattle.std.proofs.Common.{take, ◌≡◌, ℕ, ◌+◌, ◌<◌, ◌≤◌, List, [], ◌∷◌, ◌++◌, length, reverse, All, get_or, is_some, sym, ap, ◌∙◌, arith}
 use Rattle.std.proofs.lemmas.List.Elements.{All-cons}
 use Rattle.std.proofs.lemmas.List.{reverse-append}
 use Rattle.due_model.specs.declared.config.Config.{Config}
@@ -11,7 +11,9 @@ use Rattle.due_model.specs.Proper.{IsProper}
 use Rattle.due_model.specs.Limits.{last_moment}
 use Rattle.due_model.specs.Histories.{hist, longer, outcome}
 use Rattle.due_model.specs.Due.{due_for, notices, suppressed_for, suppressions}
-use Rattle.due_model.specs.Readings.{began, moment}
+use Rattle.due_model.specs.Acknowledgements.{ack_after, acked, acknowledgement}
+use Rattle.due_model.specs.Readings.{began, hard, moment}
+use Rattle.lemmas.proofs.Acknowledgements.{acked_is, acknowledgement_after}
 use Rattle.lemmas.proofs.Lists.{All-reverse, length_past, past_more}
 use Rattle.lemmas.proofs.Beginnings.{began-le-moment, moment_in_range}
 
@@ -24,6 +26,18 @@ now_moment_in_range c e events now h = moment_in_range c (e ∷ reverse events) 
 
 pub now_began_in_range : (c : Config) (o : ℕ) (e : Event) (events : List Event) → IsProper c e → All (IsProper c) events → began o (e ∷ reverse events) ≤ last_moment
 now_began_in_range c o e events now h = omega (arith, began-le-moment o (e ∷ reverse events), now_moment_in_range c e events now h)
+
+-- an acknowledgement after the event at place i
+pub acknowledgement_more : (o : ℕ) (events : List Event) (i : ℕ) (d : Event) → i < length events
+    → ack_after o (get_or events i d).kind (hard o (reverse (take i events))) (acknowledgement o (reverse (take i events)))
+    ≡ acknowledgement o (reverse (take (i + 1) events))
+acknowledgement_more o events i d h =
+    sym (acknowledgement_after o (get_or events i d) (reverse (take i events)))
+    ∙ ap (acknowledgement o) (sym (past_more events i d h))
+
+-- a problem is acknowledged where what is kept says so
+pub acked_now : (o : ℕ) (e : Event) (past : List Event) → is_some (ack_after o e.kind (hard o past) (acknowledgement o past)) ≡ acked o (e ∷ past)
+acked_now o e past = sym (acked_is o (e ∷ past) ∙ ap is_some (acknowledgement_after o e past))
 
 -- the history after the event at place i
 pub hist_more : (c : Config) (zone : Zone) (o : ℕ) (object : Object) (events : List Event) (i : ℕ) (d : Event) (history : List Outcome) (now : Outcome) → i < length events

@@ -69,6 +69,8 @@ pub(crate) fn failing(
         Ok(Some(Filter::Period))
     } else if kind.is_of_problem() && view.depends {
         Ok(Some(Filter::Dependency))
+    } else if kind.is_problem() && view.acknowledged {
+        Ok(Some(Filter::Acknowledged))
     } else if is_within_delay(view, attempt) {
         Ok(Some(Filter::FirstDelay))
     } else if is_within_gap(view, attempt) {

@@ -128,7 +128,17 @@ fn retry_after(
         Filter::Period => Retry::InPeriod(moment),
         Filter::FirstDelay => Retry::At(Some(began + 60 * u64::from(subject.object.delay))),
         Filter::Interval => Retry::At(after_last(last)),
-        _ => Retry::At(Some(moment + 60)),
+        Filter::Acknowledged => Retry::At(None),
+        Filter::Program
+        | Filter::Disabled
+        | Filter::Downtime
+        | Filter::Flapping
+        | Filter::Options
+        | Filter::NoProblem
+        | Filter::Dependency
+        | Filter::ContactDisabled
+        | Filter::ContactOptions
+        | Filter::ContactPeriod => Retry::At(Some(moment + 60)),
     }
 }
 

@@ -18,8 +18,8 @@ use crate::escalations::{Numbered, gap};
 use crate::filters::failing;
 use crate::histories::{before, last_notice, notices_sent, of_problem, ready};
 use crate::readings::{
-    began, began_at, depth, flapping, hard, hard_at, is_down_at, is_flapping_at, moment_at,
-    program_on,
+    acknowledgement, began, began_at, depth, flapping, hard, hard_at, is_acknowledged_at,
+    is_down_at, is_flapping_at, moment_at, program_on,
 };
 use crate::subject::Subject;
 use due_model::config::{Config, ObjectId};
@@ -39,6 +39,7 @@ fn status(object: ObjectId, past: &[Event]) -> ObjectStatus
         state: hard(object, past),
         depth: depth(object, past),
         flapping: flapping(object, past),
+        acknowledged: acknowledgement(object, past),
     }
 }
 
@@ -200,6 +201,7 @@ fn view(
         sent: notices_sent(earlier),
         period: subject.object.period,
         depends,
+        acknowledged: is_acknowledged_at(subject.id, event, past),
         began: began_at(subject.id, event, past),
         delay: subject.object.delay,
         last: last_notice(earlier),

@@ -5,6 +5,7 @@ ghost use Rattle.std.specs.Prelude.{not, length, reverse};
 ghost use Rattle.due_model.specs.Readings.{moment, program_on, hard, began};
 ghost use Rattle.due_model.specs.Readings.{is_problem_of, is_problem_state};
 ghost use Rattle.due_model.specs.Readings.{depth, depth_after, down, flapping, flapping_after};
+ghost use Rattle.due_model.specs.Acknowledgements.{acked, acknowledgement};
 
 use due_model::config::ObjectId;
 use due_model::event::{Event, EventKind};
@@ -113,6 +114,31 @@ pub(crate) fn is_flapping_at(object: ObjectId, event: &Event, past: &[Event]) ->
     ensures { result ≡ flapping object.0 (event.now ∷ reverse past.now) }
 {
     flapping_after(object, event.kind, flapping(object, past))
+}
+
+/// How the running problem of the object is acknowledged after the events: sticky or not; none where it isn't (chapter
+/// "External Commands").
+pub(crate) fn acknowledgement(object: ObjectId, events: &[Event]) -> Option<bool>
+    ensures { result ≡ acknowledgement object.0 (reverse events.now) }
+{
+    let mut acknowledged = None;
+    let mut state = State::Pending;
+    for event in events {
+        acknowledged = event.kind.ack_after(object, state, acknowledged);
+        state = event.kind.hard_after(object, state);
+    }
+    acknowledged
+}
+
+/// Whether the running problem of the object is acknowledged after an event and those before it.
+pub(crate) fn is_acknowledged_at(object: ObjectId, event: &Event, past: &[Event]) -> bool
+    ensures { result ≡ acked object.0 (event.now ∷ reverse past.now) }
+{
+    let before = acknowledgement(object, past);
+    event
+        .kind
+        .ack_after(object, hard(object, past), before)
+        .is_some()
 }
 
 /// The last hard state of the object after an event and those before it.

@@ -1,9 +1,14 @@
 -- The ranges of a world's settings.
 use Rattle.std.specs.Prelude.{ℕ, ◌≤◌}
-use Rattle.due_model.specs.Limits.{max_deciders, max_queue, max_tries}
+use Rattle.due_model.specs.Limits.{max_deciders}
+use Rattle.steps.specs.declared.settings.TheConstants.{MAX_BOXES}
 
--- there is at least one of each, and no more than the limits say
+-- how many boxes a lane may have
+abbrev pub max_boxes : ℕ
+max_boxes = MAX_BOXES
+
+-- There is at least one of each. A queue holds at most 1,024 notices, and a channel is tried at most 10 times with one letter.
 pub record AreSettings (deciders queue tries : ℕ) : Type 0 where
   pub number : (1 ≤ deciders) × (deciders ≤ max_deciders)
-  pub room : (1 ≤ queue) × (queue ≤ max_queue)
-  pub attempts : (1 ≤ tries) × (tries ≤ max_tries)
+  pub room : (1 ≤ queue) × (queue ≤ 1_024)
+  pub attempts : (1 ≤ tries) × (tries ≤ 10)

@@ -1,19 +1,22 @@
-//! A lane: its queue, the message in hand, and what its channel has taken or not.
+//! A lane: its queue, the message in hand, and what its boxes have taken or not. One box serves, and others stand by.
 
 ghost use Rattle.std.specs.Prelude.{◌≡◌, map, IfOk};
 ghost use Rattle.steps.specs.Lanes.{lane_state, new_lane};
 
-use crate::line::{LineParts, about_in, about_in_hand, about_in_queue};
+use crate::line::{LineParts, about_in, about_in_hand, about_in_queue, about_in_records};
 use crate::step::LaneStep;
 use due_model::config::ObjectId;
 use due_model::notice::Notice;
 use std::alloc::{AllocError, Global};
 use std::collections::VecDeque;
+use std::mem;
 
 /// What is kept of a lane of the configuration.
 #[derive(Drop)]
 pub struct KeptLane {
-    /// What its channel has taken, the oldest first.
+    /// What each box has taken that was replaced, in order.
+    ended: Vec<Vec<Notice>>,
+    /// What the box of now has taken, the oldest first.
     taken: Vec<Notice>,
     /// The message in hand.
     hand: Option<Notice>,
@@ -23,6 +26,8 @@ pub struct KeptLane {
     queue: VecDeque<Notice>,
     /// How often the message in hand wasn't taken.
     failures: u8,
+    /// How many boxes stand by.
+    standbys: u8,
     /// Whether it is asked to close.
     asked: bool,
     /// Whether it is shut.
@@ -30,22 +35,24 @@ pub struct KeptLane {
 }
 
 impl KeptLane {
-    ghost use Rattle.std.specs.Prelude.{◌↔◌, [], ◌∷◌, length, IsTrue, OnOk, OnErr};
-    ghost use Rattle.steps.specs.Lanes.{Can, CanSettle, about, closed, does, drained, queued};
-    ghost use Rattle.steps.specs.Lanes.{settled};
+    ghost use Rattle.std.specs.Prelude.{◌↔◌, ◌<◌, [], ◌∷◌, length, IsTrue, OnOk, OnErr};
+    ghost use Rattle.steps.specs.Lanes.{Can, CanSettle, about, all_taken, closed};
+    ghost use Rattle.steps.specs.Lanes.{does, drained, queued, replaced, settled};
 
-    /// A lane with nothing in it, which serves or is shut.
-    pub(crate) fn new(alloc: Global, serves: bool) -> Self
-        ensures { lane_state result ≡ new_lane serves }
+    /// A lane with nothing in it and so many boxes.
+    pub(crate) fn new(alloc: Global, boxes: u8) -> Self
+        ensures { lane_state result ≡ new_lane boxes }
     {
         KeptLane {
+            ended: Vec::new(alloc),
             taken: Vec::new(alloc),
             hand: None,
             undelivered: Vec::new(alloc),
             queue: VecDeque::new(alloc),
             failures: 0,
+            standbys: boxes.saturating_sub(1),
             asked: false,
-            shut: !serves,
+            shut: boxes == 0,
         }
     }
 
@@ -60,6 +67,7 @@ impl KeptLane {
     pub fn can(&self, step: LaneStep, tries: u8) -> bool
         ensures { IsTrue result ↔ Can tries step (lane_state self.now) }
     {
+        let all_failed = self.failures == tries;
         match step {
             LaneStep::Pick => {
                 !self.shut && !self.asked && self.hand.is_none() && !self.queue.is_empty()
@@ -67,12 +75,13 @@ impl KeptLane {
             LaneStep::Settle => !self.shut && self.hand.is_some(),
             LaneStep::Fail => !self.shut && self.hand.is_some() && self.failures < tries,
             LaneStep::Ask => !self.shut && !self.asked,
-            LaneStep::Close => !self.shut && (self.asked || self.failures == tries),
+            LaneStep::Replace => !self.shut && !self.asked && all_failed && self.standbys > 0,
+            LaneStep::Close => !self.shut && (self.asked || (all_failed && self.standbys == 0)),
             LaneStep::Drain => self.shut && !self.queue.is_empty(),
         }
     }
 
-    /// The channel has taken the message in hand. A refused growth changes nothing.
+    /// The box of now has taken the message in hand. A refused growth changes nothing.
     fn settle(&mut self) -> Result<(), AllocError>
         requires { CanSettle (lane_state self.old) }
         ensures ok { OnOk result (lane_state self.new ≡ settled (lane_state self.old)) }
@@ -83,6 +92,21 @@ impl KeptLane {
         }
         self.hand = None;
         self.failures = 0;
+        Ok(())
+    }
+
+    /// The record of the box of now ends, and that of the next begins with the message still in hand. A refused growth
+    /// changes nothing.
+    fn replace(&mut self) -> Result<(), AllocError>
+        requires { 0 < (lane_state self.old).standbys }
+        ensures ok { OnOk result (lane_state self.new ≡ replaced (lane_state self.old)) }
+        ensures err { OnErr result (lane_state self.new ≡ lane_state self.old) }
+    {
+        self.ended.reserve(1)?;
+        let next = Vec::new(self.taken.allocator().clone()?);
+        let _room = self.ended.push(mem::replace(&mut self.taken, next));
+        self.failures = 0;
+        self.standbys -= 1;
         Ok(())
     }
 
@@ -131,6 +155,7 @@ impl KeptLane {
                 self.asked = true;
                 Ok(())
             }
+            LaneStep::Replace => self.replace(),
             LaneStep::Close => self.close(),
             LaneStep::Drain => self.drain(),
         }
@@ -154,7 +179,7 @@ impl KeptLane {
         outbox: Vec<Notice>,
     ) -> Result<LineParts, AllocError>
         ensures taken { IfOk result (λ parts.
-            parts.taken.items ≡ about object.0 (lane_state self.now).taken) }
+            parts.taken.items ≡ about object.0 (all_taken (lane_state self.now))) }
         ensures hand { IfOk result (λ parts.
             parts.hand.items ≡ about object.0 (lane_state self.now).hand) }
         ensures undelivered { IfOk result (λ parts.
@@ -164,7 +189,7 @@ impl KeptLane {
         ensures outbox { IfOk result (λ parts. parts.outbox.items ≡ outbox.items) }
     {
         Ok(LineParts {
-            taken: about_in(alloc, &self.taken, object)?,
+            taken: about_in_records(alloc, &self.ended, &self.taken, object)?,
             hand: about_in_hand(alloc, self.hand, object)?,
             undelivered: about_in(alloc, &self.undelivered, object)?,
             queue: about_in_queue(alloc, &self.queue, object)?,
@@ -173,13 +198,13 @@ impl KeptLane {
     }
 }
 
-/// A lane for each of these, with nothing in it, which serves or is shut. A refused growth is the only error.
-pub fn new_lanes(alloc: Global, served: &[bool]) -> Result<Vec<KeptLane>, AllocError>
+/// A lane for each of these, with nothing in it and so many boxes. A refused growth is the only error.
+pub fn new_lanes(alloc: Global, served: &[u8]) -> Result<Vec<KeptLane>, AllocError>
     ensures { IfOk result (λ lanes. map lane_state lanes.items ≡ map new_lane served.now) }
 {
     let mut made = Vec::with_capacity(alloc, served.len())?;
-    for serves in served {
-        made.push(KeptLane::new(alloc, *serves))?;
+    for boxes in served {
+        made.push(KeptLane::new(alloc, *boxes))?;
     }
     Ok(made)
 }

@@ -1,8 +1,8 @@
 //! What a lane holds of one object.
 
-ghost use Rattle.std.specs.Prelude.{◌≡◌, IfOk};
+ghost use Rattle.std.specs.Prelude.{◌≡◌, ◌++◌, IfOk, OnOk};
 ghost use Rattle.std.specs.Option.{option_to_list};
-ghost use Rattle.steps.specs.Lanes.{about};
+ghost use Rattle.steps.specs.Lanes.{about, join_records, lists_of};
 
 use due_model::config::ObjectId;
 use due_model::notice::Notice;
@@ -12,7 +12,7 @@ use std::collections::VecDeque;
 /// What a lane holds of one object, part by part, each with the oldest notice first.
 #[derive(Drop)]
 pub struct LineParts {
-    /// What the lane's channel has taken.
+    /// What the lane's channel has taken: what each of its boxes has, in order.
     pub taken: Vec<Notice>,
     /// The message in hand: at most one.
     pub hand: Vec<Notice>,
@@ -37,6 +37,41 @@ pub(crate) fn about_in(
         .copied()
         .filter(|notice| notice.object.0 == object.0)
         .collect(alloc)
+}
+
+/// Appends the notices of an object among these. A refused growth is the only error.
+fn append_about(
+    found: &mut Vec<Notice>,
+    notices: &[Notice],
+    object: ObjectId,
+) -> Result<(), AllocError>
+    ensures { OnOk result (found.new.items ≡ found.old.items ++ about object.0 notices.now) }
+{
+    for notice in notices {
+        if notice.object.0 == object.0 {
+            found.push(*notice)?;
+        }
+    }
+    Ok(())
+}
+
+/// The notices of an object among what the boxes of a lane have taken: the records that ended, and then the last.
+/// A refused growth is the only error.
+pub(crate) fn about_in_records(
+    alloc: Global,
+    ended: &[Vec<Notice>],
+    last: &[Notice],
+    object: ObjectId,
+) -> Result<Vec<Notice>, AllocError>
+    ensures { IfOk result (λ found. found.items
+        ≡ about object.0 (join_records (lists_of ended.now) ++ last.now)) }
+{
+    let mut found = Vec::new(alloc);
+    for taken in ended {
+        append_about(&mut found, taken, object)?;
+    }
+    append_about(&mut found, last, object)?;
+    Ok(found)
 }
 
 /// The notices of an object in a queue. A refused growth is the only error.

@@ -54,11 +54,13 @@ impl Log {
         ensures ok { OnOk result (self.new.lines ≡ self.old.lines ++ suppression ∷ []) }
         ensures room { 0 < self.old.room → IsOk result }
         ensures less { self.old.room ≤ self.new.room + 1 }
-        ensures err { OnErr result (self.new.lines ≡ self.old.lines) }
-        ensures kept { OnErr result (self.old.room ≤ self.new.room) }
+        ensures err { OnErr result (self.new ≡ self.old) }
     {
-        self.lines.push(suppression)?;
-        Ok(())
+        self.lines.reserve(1)?;
+        match self.lines.push(suppression) {
+            Ok(()) => Ok(()),
+            Err(_) => unreachable!(),
+        }
     }
 
     /// The suppressions, the oldest first.
@@ -66,6 +68,14 @@ impl Log {
         ensures { result.now ≡ self.now.lines }
     {
         self.lines.as_slice()
+    }
+
+    /// The suppressions as a vector, the oldest first.
+    pub fn into_lines(self) -> Vec<Suppression>
+        ensures { result.items ≡ self.lines }
+    {
+        let Log { lines } = self;
+        lines
     }
 
     /// Forgets all of them and keeps their memory. A caller that has passed them on calls it, so that the

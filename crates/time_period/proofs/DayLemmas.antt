@@ -1,5 +1,5 @@
 -- How a day's ranges are made, one after the other.
-use Rattle.std.proofs.Common.{◌≡◌, ℕ, zero, suc, ◌+◌, ◌<◌, ◌≤◌, Bool, true, false, ◌||◌, List, [], ◌∷◌, ◌++◌, length, get_or, take, slice_index_or, All, Option, None, Some, refl, sym, ap, ap₂, ◌∙◌, arith, inl, inr}
+use Rattle.std.proofs.Common.{◌≡◌, ℕ, zero, suc, ◌+◌, ◌<◌, ◌≤◌, Bool, true, false, ◌||◌, List, [], ◌∷◌, ◌++◌, length, get_or, take, All, Option, None, Some, refl, sym, ap, ap₂, ◌∙◌, arith, inl, inr}
 use Rattle.std.proofs.lemmas.Bool.Decides.{leb_tells, nat_tests}
 use Rattle.std.proofs.lemmas.List.{get_or_append_left, length-append}
 use Rattle.std.proofs.Math.Seq.{get_or-append_seam}
@@ -11,22 +11,23 @@ use Rattle.due_model.specs.declared.config.Period.{Period}
 use Rattle.due_model.specs.declared.config.PeriodId.{PeriodId}
 use Rattle.due_model.specs.declared.config.Range.{Range}
 use Rattle.due_model.specs.Limits.{day}
-use Rattle.due_model.specs.Periods.{in_range, ranges_on}
+use Rattle.due_model.specs.Periods.{in_range, weekly_ranges}
 use Rattle.time_period.specs.Days.{AreWorkedOut, IsDay, IsDayOf, IsMade, holds_any, holds_at, holds_without, in_ranges}
+use Rattle.time_period.specs.Steps.{Own, own_at}
 use Rattle.time_period.specs.Stretches.{Stays}
 use Rattle.time_period.proofs.StretchLemmas.{Stays-same, ended, not_begun}
 
-All-push : {X : Type 0} (P : X → Type 0) (xs : List X) (x : X) → All P xs → P x → All P (xs ++ x ∷ [])
+pub All-push : {X : Type 0} (P : X → Type 0) (xs : List X) (x : X) → All P xs → P x → All P (xs ++ x ∷ [])
 All-push P xs x all also = All-append P xs (x ∷ []) all (All-cons P x [] also (All-nil P))
 
-or_false : (b : Bool) → (b || false) ≡ b
+pub or_false : (b : Bool) → (b || false) ≡ b
 or_false true = refl
 or_false false = refl
 
 differ : true ≡ false → ⊥
 differ e = cc
 
-inside : (k : ℕ) (r : Range) → r.start ≤ k → k < r.end → in_range k r ≡ true
+pub inside : (k : ℕ) (r : Range) → r.start ≤ k → k < r.end → in_range k r ≡ true
 inside k r low high = grind (arith, nat_tests)
 
 module _ (test : ℕ → Bool) (start end next : ℕ) (ranges : List Range) (made : IsMade test start ranges) (some : start < day)
@@ -85,8 +86,8 @@ module _ (test : ℕ → Bool) (start end next : ℕ) (ranges : List Range) (mad
       later h = omega (arith, h, up, on_up)
 
 -- one weekday more
-pub worked_out_more : (period : Period) (done : List (List (List Range))) (count : ℕ) (days : List (List Range)) (day : List Range)
-    → AreWorkedOut period done count days → IsDayOf (holds_without period done count) day → AreWorkedOut period done (count + 1) (days ++ day ∷ [])
+pub worked_out_more : (period : Period) (done : List Own) (count : ℕ) (days : List (List Range)) (day : List Range)
+    → AreWorkedOut period done count days → IsDayOf (holds_without (weekly_ranges period count) period.excludes done count) day → AreWorkedOut period done (count + 1) (days ++ day ∷ [])
 worked_out_more period done count days day out is = record {
   as_many = length-append days (day ∷ []) ∙ ap (λ n. n + 1) out.as_many;
   each = All-push IsDay days day out.each is.is_day;
@@ -97,17 +98,17 @@ worked_out_more period done count days day out is = record {
         let now : count ≡ weekday = omega (arith, last.1, within) in
         ap (λ n. in_ranges (get_or (days ++ day ∷ []) n []) second) same
         ∙ ap (λ ranges. in_ranges ranges second) (get_or-append_seam days day [] [])
-        ∙ is.alike second in_day ∙ ap (λ n. holds_without period done n second) now
+        ∙ is.alike second in_day ∙ ap (λ n. holds_without (weekly_ranges period n) period.excludes done n second) now
   ];
 }
 
 -- one excluded period more
-pub any_more : (excludes : List PeriodId) (done : List (List (List Range))) (weekday i : ℕ) (d : PeriodId) (from : ℕ) (holds : Bool) (end : ℕ) → i < length excludes
-    → Stays (λ k. holds_any (take i excludes) done weekday k || holds_at (slice_index_or done (get_or excludes i d).0 []) weekday k) from holds end
+pub any_more : (excludes : List PeriodId) (done : List Own) (weekday i : ℕ) (d : PeriodId) (from : ℕ) (holds : Bool) (end : ℕ) → i < length excludes
+    → Stays (λ k. holds_any (take i excludes) done weekday k || holds_at (own_at done (get_or excludes i d).0).days weekday k) from holds end
     → Stays (λ k. holds_any (take (i + 1) excludes) done weekday k) from holds end
 any_more excludes done weekday i d from holds end h stays =
     Stays-same (λ k. holds_any (take (i + 1) excludes) done weekday k) _ from holds end
-    (λ k. list_any_more (λ (x : PeriodId). holds_at (slice_index_or done x.0 []) weekday k) excludes i d h) stays
+    (λ k. list_any_more (λ (x : PeriodId). holds_at (own_at done x.0).days weekday k) excludes i d h) stays
 
 -- what is read of a list, with any default
 pub found_at : {X : Type 0} (xs : List X) (i : ℕ) (x d : X) → i < length xs → x ≡ get_or xs i x → x ≡ get_or xs i d
@@ -115,6 +116,6 @@ found_at [] i x d h e = absurd (omega (arith, h))
 found_at (y ∷ ys) zero x d h e = e
 found_at (y ∷ ys) (suc i) x d h e = found_at ys i x d (omega (arith, h)) e
 
-pub on_weekday : (period : Period) (weekday : ℕ) (ranges : List Range) → weekday < length period.days → ranges ≡ get_or period.days weekday ranges → ranges_on period weekday ≡ ranges
+pub on_weekday : (period : Period) (weekday : ℕ) (ranges : List Range) → weekday < length period.days → ranges ≡ get_or period.days weekday ranges → weekly_ranges period weekday ≡ ranges
 on_weekday period weekday ranges h is =
     ap (λ (o : Option (List Range)). elim o as (λ _. List Range) [ None ↦ [] | Some found ↦ found ]) (slice_get_read period.days weekday ranges h is)

@@ -1,5 +1,10 @@
 pub mod StretchLemmas
+pub mod ClassLemmas
+pub mod MergeLemmas
+pub mod NeedsLemmas
+pub mod StepLemmas
 pub mod WalkLemmas
 pub mod DayLemmas
+pub mod SweepLemmas
 pub mod DoneLemmas
 pub mod ExclusionLemmas

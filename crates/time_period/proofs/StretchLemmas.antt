@@ -1,8 +1,8 @@
 -- Stretches of a day's ranges.
-use Rattle.std.proofs.Common.{◌≡◌, ◌≢◌, ℕ, zero, suc, ◌+◌, ◌<◌, ◌≤◌, Bool, true, false, ◌||◌, nat_le, List, [], ◌∷◌, length, get_or, take, All, refl, sym, subst, ap, ◌∙◌, arith, inl, inr, le-leb, leb-false}
+use Rattle.std.proofs.Common.{◌≡◌, ◌≢◌, ℕ, zero, suc, ◌<◌, ◌≤◌, Bool, true, false, ◌||◌, nat_le, List, [], ◌∷◌, length, get_or, All, refl, sym, subst, ap, ◌∙◌, arith, inl, inr, le-leb, leb-false}
 use Rattle.std.specs.List.{list_any, AllWithin}
 use Rattle.std.proofs.lemmas.Bool.Decides.{leb_tells, nat_tests}
-use Rattle.std.proofs.lemmas.List.Folds.{list_any_more, list_any_none}
+use Rattle.std.proofs.lemmas.List.Folds.{list_any_none}
 use Rattle.due_model.specs.declared.config.Range.{Range}
 use Rattle.due_model.specs.Periods.{in_range}
 use Rattle.time_period.specs.Days.{IsDay, holds_at, in_ranges}
@@ -11,12 +11,6 @@ use Rattle.time_period.specs.Stretches.{Stays}
 -- the same stretch, of a test that agrees
 pub Stays-same : (f g : ℕ → Bool) (from : ℕ) (holds : Bool) (end : ℕ) → ((k : ℕ) → f k ≡ g k) → Stays g from holds end → Stays f from holds end
 Stays-same f g from holds end same h = record { later = h.later; alike = λ k low high. same k ∙ h.alike k low high }
-
--- one range more
-pub stretch_more : (ranges : List Range) (i : ℕ) (d : Range) (from : ℕ) (holds : Bool) (end : ℕ) → i < length ranges
-    → Stays (λ k. in_ranges (take i ranges) k || in_range k (get_or ranges i d)) from holds end → Stays (in_ranges (take (i + 1) ranges)) from holds end
-stretch_more ranges i d from holds end h stays =
-    Stays-same (in_ranges (take (i + 1) ranges)) _ from holds end (λ k. list_any_more (in_range k) ranges i d h) stays
 
 -- an element that alone may pass settles whether some element passes
 pub only_one : {X : Type 0} (p : X → Bool) (xs : List X) (i : ℕ) (x : X) → i < length xs → x ≡ get_or xs i x

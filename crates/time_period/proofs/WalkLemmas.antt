@@ -1,16 +1,15 @@
 -- A walk from stretch to stretch finds the first moment that passes.
-use Rattle.std.proofs.Common.{◌≡◌, ℕ, zero, suc, ◌+◌, ◌-◌, ◌<◌, ◌≤◌, ℤ, ◌+ℤ◌, pos, negsuc, unsigned_abs, Bool, true, false, List, Option, None, Some, refl, sym, ap, ap₂, ◌∙◌, arith, inl, inr}
-use Rattle.std.specs.Int.{int_div_euclid, int_rem_euclid}
+use Rattle.std.proofs.Common.{◌≡◌, ℕ, zero, suc, ◌+◌, ◌-◌, ◌<◌, ◌≤◌, ℤ, pos, negsuc, unsigned_abs, Bool, true, false, Option, None, Some, refl, sym, ap, ap₂, ◌∙◌, arith, inl, inr}
+use Rattle.std.specs.Int.{int_rem_euclid}
 use Rattle.std.proofs.lemmas.Bool.Decides.{leb_tells}
 use Rattle.due_model.specs.declared.config.Config.{Config}
 use Rattle.due_model.specs.declared.config.PeriodId.{PeriodId}
-use Rattle.due_model.specs.declared.config.Range.{Range}
 use Rattle.due_model.specs.declared.zone.Zone.{Zone}
 use Rattle.due_model.specs.Limits.{day}
 use Rattle.due_model.specs.Local.{Local, local, local_second}
 use Rattle.due_model.specs.Periods.{first_passing, in_period, next_in, reach_of_next}
-use Rattle.zone_times.specs.Clock.{GoesOn}
-use Rattle.time_period.specs.Days.{IsCompiled, holds_at, passes}
+use Rattle.zone_times.specs.Clock.{GoesOn, later}
+use Rattle.time_period.specs.Days.{IsCompiled, Worked, worked_holds}
 use Rattle.time_period.specs.Stretches.{Stays}
 use Rattle.time_period.specs.Walks.{HasCome}
 
@@ -65,38 +64,43 @@ module _ (test : ℕ → Bool) where
   pub come_past : (t at : ℕ) → HasCome test t at → t + (reach_of_next + 1) ≤ at → first_passing test (reach_of_next + 1) t ≡ None
   come_past t at come past = come.left ∙ ap (λ n. first_passing test n at) (omega (arith, past)) ∙ none_left at
 
-first_same : (f g : ℕ → Bool) → ((k : ℕ) → f k ≡ g k) → (n t : ℕ) → first_passing f n t ≡ first_passing g n t
-unfolding first_passing
-first_same f g same zero t = refl
-first_same f g same (suc n) t =
-    ap₂ (λ (b : Bool) (rest : Option ℕ). elim b as (λ _. Option ℕ) [ true ↦ Some t | false ↦ rest ]) (same t) (first_same f g same n (t + 1))
+pub next_of : (c : Config) (zone : Zone) (period : PeriodId) (t : ℕ) → first_passing (in_period c zone (Some period)) (reach_of_next + 1) t ≡ next_in c zone (Some period) t
+unfolding next_in
+next_of c zone period t = refl
 
 rem_below : (z : ℤ) (n : ℕ) → 0 < n → unsigned_abs (int_rem_euclid z (pos n)) < n
 rem_below (pos a) n h = omega arith
 rem_below (negsuc a) n h = omega arith
 
-pub in_week : (zone : Zone) (t : ℕ) → (local zone t).weekday < 7
-in_week zone t = rem_below (int_div_euclid (local_second zone t) (pos day) +ℤ pos 4) 7 (omega arith)
-
 pub in_day : (zone : Zone) (t : ℕ) → (local zone t).second < day
 in_day zone t = rem_below (local_second zone t) day (omega arith)
 
--- a worked-out period passes where the period of the configuration holds
-pub passes_in : (c : Config) (zone : Zone) (period : PeriodId) (days : List (List Range)) → IsCompiled c period days
-    → (t : ℕ) → passes days zone t ≡ in_period c zone (Some period) t
-passes_in c zone period days compiled t = compiled (local zone t).weekday (local zone t).second (in_week zone t) (in_day zone t)
+-- a worked-out period holds where the period of the configuration does
+pub holds_in : (c : Config) (zone : Zone) (period : PeriodId) (worked : Worked) (before : ℕ → Bool) → IsCompiled c period worked
+    → (t : ℕ) → worked_holds worked before (local zone t) ≡ in_period c zone (Some period) t
+holds_in c zone period worked before compiled t = compiled before (local zone t) (in_day zone t)
 
-pub next_by : (c : Config) (zone : Zone) (period : PeriodId) (days : List (List Range)) (t : ℕ) → IsCompiled c period days
-    → first_passing (passes days zone) (reach_of_next + 1) t ≡ next_in c zone (Some period) t
-unfolding next_in
-next_by c zone period days t compiled = first_same (passes days zone) (in_period c zone (Some period)) (passes_in c zone period days compiled) (reach_of_next + 1) t
+-- the local time of a moment, by its numbers
+pub same_local : (zone : Zone) (t : ℕ) (d : ℤ) (s : ℕ) → d ≡ (local zone t).day → s ≡ (local zone t).second → record { day = d; second = s } ≡ local zone t
+same_local zone t d s day_is second_is = ap₂ (λ (e : ℤ) (r : ℕ). the_local e r) day_is second_is
+  where
+    the_local : ℤ → ℕ → Local
+    the_local e r = record { day = e; second = r }
 
 -- a stretch of the day is one of moments, as long as the clock goes on
-pub stays_for : (days : List (List Range)) (zone : Zone) (t until end at : ℕ) (holds : Bool) → Stays (holds_at days (local zone t).weekday) (local zone t).second holds end
-    → GoesOn zone t until → t < at → at ≤ until → at ≤ t + (end - (local zone t).second) → Stays (passes days zone) t holds at
-stays_for days zone t until end at holds stays goes_on some early inside = record {
+pub stays_for : (c : Config) (period : PeriodId) (worked : Worked) (before : ℕ → Bool) (zone : Zone) (t until end at : ℕ) (d : ℤ) (s : ℕ) (holds : Bool) → IsCompiled c period worked
+    → d ≡ (local zone t).day → s ≡ (local zone t).second → Stays (λ k. worked_holds worked before (record { day = d; second = k })) s holds end
+    → GoesOn zone t until → t < at → at ≤ until → at ≤ t + (end - s) → Stays (in_period c zone (Some period)) t holds at
+stays_for c period worked before zone t until end at d s holds compiled day_is second_is stays goes_on some early inside = record {
   later = some;
   alike = λ k low high.
-      ap (λ (time : Local). holds_at days time.weekday time.second) (goes_on k low (omega (arith, high, early)))
-      ∙ stays.alike ((local zone t).second + (k - t)) (omega arith) (omega (arith, low, high, inside, stays.later));
+      sym (holds_in c zone period worked before compiled k)
+      ∙ ap (worked_holds worked before) (goes_on k low (omega (arith, high, early)) ∙ moved k)
+      ∙ stays.alike (s + (k - t)) (omega arith) (omega (arith, low, high, inside, stays.later));
 }
+  where
+    moved : (k : ℕ) → later (local zone t) (k - t) ≡ record { day = d; second = s + (k - t) }
+    moved k = ap₂ (λ (e : ℤ) (r : ℕ). the_local e r) (sym day_is) (ap (λ (n : ℕ). n + (k - t)) (sym second_is))
+      where
+        the_local : ℤ → ℕ → Local
+        the_local e r = record { day = e; second = r }

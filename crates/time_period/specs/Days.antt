@@ -1,59 +1,85 @@
--- Periods as they are worked out: the ranges of each weekday, from Sunday on.
-use Rattle.std.specs.Prelude.{◌≡◌, ℕ, ◌<◌, ◌≤◌, Bool, true, not, ◌&&◌, List, [], length, All, AllPairs, slice_index_or}
+-- Periods as they are worked out: the ranges of each weekday, from Sunday on, or steps.
+use Rattle.std.specs.Prelude.{◌≡◌, ℕ, ◌<◌, ◌≤◌, Bool, true, not, ◌&&◌, ◌||◌, cond, nat_lt, take, List, [], ◌∷◌, ◌++◌, length, All, Contains, slice_index_or}
 use Rattle.std.specs.List.{list_any}
 use Rattle.due_model.specs.declared.config.Config.{Config}
 use Rattle.due_model.specs.declared.config.Period.{Period}
 use Rattle.due_model.specs.declared.config.PeriodId.{PeriodId}
 use Rattle.due_model.specs.declared.config.Range.{Range}
-use Rattle.due_model.specs.declared.zone.Zone.{Zone}
+use Rattle.due_model.specs.Accepted.{Excludes}
 use Rattle.due_model.specs.Limits.{day}
-use Rattle.due_model.specs.Local.{local}
-use Rattle.due_model.specs.Periods.{holds, in_range, ranges_on}
+use Rattle.due_model.specs.Local.{Local, weekday_at}
+use Rattle.due_model.specs.Periods.{holds, in_range, weekly_ranges}
+pub use Rattle.time_period.specs.Ranges.{IsDay, in_ranges}
+use Rattle.time_period.specs.Needs.{picked}
+use Rattle.time_period.specs.Steps.{flags_after, IsStepOf, Own, own_at}
 
--- some range holds the second
-abbrev pub in_ranges : List Range → ℕ → Bool
-in_ranges ranges second = list_any (in_range second) ranges
-
--- the same of the weekday's ranges
+-- some range of the weekday holds the second
 abbrev pub holds_at : List (List Range) → (weekday second : ℕ) → Bool
 holds_at days weekday second = in_ranges (slice_index_or days weekday []) second
 
--- the same at a moment, in a zone
-abbrev pub passes : List (List Range) → Zone → ℕ → Bool
-passes days zone t = holds_at days (local zone t).weekday (local zone t).second
+-- a period as it is worked out: its ranges by weekdays; or steps, where a dated line is reached
+pub record Worked : Type 0 where
+  pub number : ℕ
+  pub days : List (List Range)
+  pub steps : List Own
+
+abbrev pub never : Worked
+never = record { number = 0; days = []; steps = [] }
+
+-- whether it holds at a local time; flags of other periods that are set before make no difference
+abbrev pub holds_by : List (List Range) → ℕ → List Own → (before : ℕ → Bool) → Local → Bool
+holds_by days number [] before time = holds_at days (weekday_at time) time.second
+holds_by days number (own ∷ owns) before time = flags_after time (own ∷ owns) before number
+
+abbrev pub worked_holds : Worked → (before : ℕ → Bool) → Local → Bool
+worked_holds worked before time = holds_by worked.days worked.number worked.steps before time
 
 -- a worked-out period holds where the period of the configuration does
-abbrev pub IsCompiled : Config → PeriodId → List (List Range) → Type 0
-IsCompiled c period days = (weekday second : ℕ) → weekday < 7 → second < day
-    → holds_at days weekday second
-    ≡ holds (length c.periods) c.periods period.0
-    (record { weekday = weekday; second = second })
+abbrev pub IsCompiled : Config → PeriodId → Worked → Type 0
+IsCompiled c period worked = (before : ℕ → Bool) (time : Local) → time.second < day
+    → worked_holds worked before time ≡ holds (length c.periods) c.periods period.0 time
 
 -- each period of the configuration has its place among these
-abbrev pub AreCompiled : Config → List (List (List Range)) → Type 0
+abbrev pub AreCompiled : Config → List Worked → Type 0
 AreCompiled c all =
     (length all ≡ length c.periods)
-    × ((p : PeriodId) → p.0 < length c.periods → IsCompiled c p (slice_index_or all p.0 []))
+    × ((p : PeriodId) → p.0 < length c.periods → IsCompiled c p (slice_index_or all p.0 never))
+
+-- the period of a number, by the steps of all periods and the numbers of those that it needs
+abbrev pub worked_by : ℕ → (table : List Own) → (needs : List ℕ) → Worked
+worked_by number table needs =
+    record { number = number; days = (own_at table number).days; steps = picked table needs }
+
+-- each of these numbers has its step
+pub record IsKeptBy (number : ℕ) (table : List Own) (needs : List ℕ) : Type 0 where
+  pub own : number < length table
+  pub others : All (λ n. n < length table) needs
+
+-- ---- how it is worked out
+
+-- what is kept of a period says of it what the definition says, and it excludes no others
+pub record IsRight (c : Config) (p : ℕ) (own : Own) : Type 0 where
+  pub number : own.number ≡ p
+  pub step : IsStepOf c own
+  pub excludes : (excluded : PeriodId) → Contains own.excludes excluded → Excludes c p excluded.0
+
+-- what is kept of all periods of the configuration
+pub record IsTable (c : Config) (table : List Own) : Type 0 where
+  pub as_many : length table ≡ length c.periods
+  pub right : (p : ℕ) → p < length c.periods → IsRight c p (own_at table p)
 
 -- ---- how a day is kept, and made
 
--- ranges that aren't empty, one after the other with a gap between them, within the day
-pub record IsDay (ranges : List Range) : Type 0 where
-  pub some : All (λ r. r.start < r.end) ranges
-  pub apart : AllPairs (λ a b. a.end < b.start) ranges
-  pub within : All (λ r. r.end ≤ day) ranges
-
 -- whether some of these periods holds, of those that are done
-abbrev pub holds_any : List PeriodId → (done : List (List (List Range))) → (weekday second : ℕ)
-    → Bool
-holds_any excludes done weekday second =
-    list_any (λ excluded. holds_at (slice_index_or done excluded.0 []) weekday second) excludes
+abbrev pub holds_any : List PeriodId → (done : List Own) → (weekday second : ℕ) → Bool
+holds_any excludes done weekday second = list_any
+    (λ excluded. holds_at (own_at done excluded.0).days weekday second) excludes
 
--- a period without those that it excludes
-abbrev pub holds_without : Period → (done : List (List (List Range))) → (weekday second : ℕ) → Bool
-holds_without period done weekday second =
-    in_ranges (ranges_on period weekday) second
-    && not (holds_any period.excludes done weekday second)
+-- ranges without those of the periods that are excluded
+abbrev pub holds_without : List Range → List PeriodId → (done : List Own) → (weekday second : ℕ)
+    → Bool
+holds_without ranges excludes done weekday second =
+    in_ranges ranges second && not (holds_any excludes done weekday second)
 
 -- a day whose ranges hold exactly where the test passes
 pub record IsDayOf (test : ℕ → Bool) (ranges : List Range) : Type 0 where
@@ -61,12 +87,13 @@ pub record IsDayOf (test : ℕ → Bool) (ranges : List Range) : Type 0 where
   pub alike : (second : ℕ) → second < day → in_ranges ranges second ≡ test second
 
 -- such days, of the first `count` weekdays
-pub record AreWorkedOut (period : Period) (done : List (List (List Range))) (count : ℕ)
+pub record AreWorkedOut (period : Period) (done : List Own) (count : ℕ)
     (days : List (List Range)) : Type 0 where
   pub as_many : length days ≡ count
   pub each : All IsDay days
   pub alike : (weekday second : ℕ) → weekday < count → second < day
-      → holds_at days weekday second ≡ holds_without period done weekday second
+      → holds_at days weekday second
+      ≡ holds_without (weekly_ranges period weekday) period.excludes done weekday second
 
 -- a day that is made up to a second, from which the test passes
 pub record IsMade (test : ℕ → Bool) (start : ℕ) (ranges : List Range) : Type 0 where
@@ -75,3 +102,19 @@ pub record IsMade (test : ℕ → Bool) (start : ℕ) (ranges : List Range) : Ty
   pub before : start < day → All (λ r. r.end < start) ranges
   pub holds : start < day → test start ≡ true
   pub alike : (second : ℕ) → second < start → in_ranges ranges second ≡ test second
+
+-- ---- how ranges are joined
+
+-- a range is added where it isn't empty
+abbrev pub closed : List Range → (start end : ℕ) → List Range
+closed ranges start end = cond (nat_lt start end) (ranges ++ record { start = start; end = end } ∷ []) ranges
+
+-- ranges in the order of their starts, joined up to a place: those that are done, and one that may yet grow
+pub record IsSwept (sorted : List Range) (i start end : ℕ) (ranges : List Range) : Type 0 where
+  pub low : start ≤ end
+  pub high : end ≤ day
+  pub is_day : IsDay ranges
+  pub before : All (λ r. r.end < start) ranges
+  pub later : (j : ℕ) (d : Range) → i ≤ j → j < length sorted → start ≤ (slice_index_or sorted j d).start
+  pub alike : (k : ℕ) → k < day
+      → (in_ranges ranges k || in_range k (record { start = start; end = end })) ≡ in_ranges (take i sorted) k

@@ -1,14 +1,15 @@
 -- Which period excludes which, as a graph, and an order in which they are worked out.
-use Rattle.std.specs.Prelude.{◌≡◌, ℕ, ◌+◌, ◌-◌, ◌<◌, ◌≤◌, List, [], ◌∷◌, ◌++◌, length, map, All, Contains, slice_index, slice_index_or}
+use Rattle.std.specs.Prelude.{◌≡◌, ℕ, ◌+◌, ◌<◌, ◌≤◌, Bool, not, ◌&&◌, ◌==◌, List, [], ◌∷◌, ◌++◌, length, map, All, Contains, Some, slice_get, slice_index}
+use Rattle.std.specs.List.{list_all, list_any}
 use Rattle.graph.specs.declared.edges.Edge.{Edge}
 use Rattle.due_model.specs.declared.config.Config.{Config}
 use Rattle.due_model.specs.declared.config.Period.{Period}
 use Rattle.due_model.specs.declared.config.PeriodId.{PeriodId}
-use Rattle.due_model.specs.declared.config.Range.{Range}
 use Rattle.due_model.specs.Accepted.{Excludes}
-use Rattle.due_model.specs.Limits.{day}
-use Rattle.due_model.specs.Periods.{holds}
-use Rattle.time_period.specs.Days.{holds_at}
+use Rattle.due_model.specs.Local.{Local}
+use Rattle.due_model.specs.Periods.{in_range, ranges_at}
+use Rattle.time_period.specs.Days.{IsRight}
+use Rattle.time_period.specs.Steps.{is_plain, Own, own_at, truth}
 
 -- the edges from one period
 abbrev pub edges_of : ℕ → List PeriodId → List Edge
@@ -28,17 +29,25 @@ pub record InOrder (c : Config) (order : List ℕ) : Type 0 where
   pub forward : (i j : ℕ) → i < length order → j < length order
       → Excludes c (slice_index order i) (slice_index order j) → i < j
 
--- these days hold where the period does, if chains of exclusions are followed so far at least
-abbrev pub IsRight : Config → (deep p : ℕ) → List (List Range) → Type 0
-IsRight c deep p days = (depth weekday second : ℕ) → deep ≤ depth → weekday < 7 → second < day
-    → holds_at days weekday second
-    ≡ holds depth c.periods p (record { weekday = weekday; second = second })
+-- what the definition says of a period, it says by those that the period excludes
+abbrev pub IsSettled : Config → Type 0
+IsSettled c = (p : ℕ) (period : Period) (time : Local) → slice_get c.periods p ≡ Some period
+    → truth c p time ≡ (list_any (in_range time.second) (ranges_at period time)
+    && not (list_any (λ excluded. truth c excluded.0 time) period.excludes))
+
+-- the periods that a period excludes are right already
+abbrev pub AreReady : Config → Period → List Own → Type 0
+AreReady c period done = (excluded : PeriodId) → Contains period.excludes excluded
+    → IsRight c excluded.0 (own_at done excluded.0)
 
 -- all that come from that place of the order on are done
-pub record AreDone (c : Config) (order : List ℕ) (left : ℕ)
-    (done : List (List (List Range))) : Type 0 where
+pub record AreDone (c : Config) (order : List ℕ) (left : ℕ) (done : List Own) : Type 0 where
   pub start : left ≤ length order
   pub as_many : length done ≡ length c.periods
   pub right : (i : ℕ) → left ≤ i → i < length order
-      → IsRight c (length order - left) (slice_index order i)
-      (slice_index_or done (slice_index order i) [])
+      → IsRight c (slice_index order i) (own_at done (slice_index order i))
+
+-- whether no dated line is reached from a period
+abbrev pub is_weekly : Period → List Own → Bool
+is_weekly period done = length period.dated == 0
+    && list_all (λ excluded. is_plain (own_at done excluded.0)) period.excludes

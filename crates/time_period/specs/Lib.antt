@@ -1,3 +1,8 @@
+pub mod Classes
+pub mod Flags
+pub mod Ranges
+pub mod Steps
+pub mod Needs
 pub mod Stretches
 pub mod Days
 pub mod Walks

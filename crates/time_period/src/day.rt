@@ -8,19 +8,7 @@ ghost use Rattle.time_period.specs.Stretches.{IsStretch};
 use crate::stretch::Stretch;
 use due_model::config::Range;
 
-/// Whether some range holds the second, and a second up to which that stays. The ranges stand in any order.
-pub(crate) fn stretch_of(ranges: &[Range], second: u32) -> Stretch
-    requires { second < day }
-    ensures { IsStretch (in_ranges ranges.now) second result }
-{
-    let mut stretch = Stretch::never();
-    for range in ranges {
-        stretch = stretch.or(Stretch::of_range(*range, second));
-    }
-    stretch
-}
-
-/// The same of a day's ranges, which stand in order: a binary search.
+/// Whether some range of a day holds the second, and a second up to which that stays. They stand in order: a binary search.
 pub(crate) fn stretch_in(ranges: &[Range], second: u32) -> Stretch
     requires day { IsDay ranges.now }
     requires second { second < day }

@@ -1,5 +1,5 @@
 -- What is written after a feed, and the whole.
-use Rattle.std.proofs.Common.{◌≡◌, ◌≢◌, inl, inr, ℕ, Bool, true, false, List, [], ◌++◌, length, replicate, Option, None, IfSome, refl, sym, ap, subst, ◌∙◌, append_assoc}
+use Rattle.std.proofs.Common.{◌≡◌, ◌≢◌, inl, inr, ℕ, ◌+◌, Bool, true, false, List, [], ◌++◌, length, replicate, Option, None, IfSome, refl, sym, ap, subst, ◌∙◌, append_assoc}
 use Rattle.std.proofs.lemmas.Option.{IfSome_then}
 use Rattle.std.proofs.lemmas.List.{append-nil}
 use Rattle.std.proofs.lemmas.List.Elements.{All-nil}
@@ -73,8 +73,8 @@ whole old mid last new first held text held' h k l =
 -- ---- the feed
 
 -- nothing of the feed was read, and nothing written
-pub front_of_none : (can_fail : Bool) (c : Config) (zone : Zone) (settings : Settings) (source : Reading) (known : Option (List ℕ)) → IfSome (to_come source) (λ bytes. TracesFront can_fail c zone settings bytes known known)
-front_of_none can_fail c zone settings source known = some_all (to_come source) (λ bytes. TracesFront can_fail c zone settings bytes known known) (λ bytes. (
+pub front_of_none : (can_fail : Bool) (c : Config) (zone : Zone) (settings : Settings) (standbys : ℕ) (source : Reading) (known : Option (List ℕ)) → IfSome (to_come source) (λ bytes. TracesFront can_fail c zone settings standbys bytes known known)
+front_of_none can_fail c zone settings standbys source known = some_all (to_come source) (λ bytes. TracesFront can_fail c zone settings standbys bytes known known) (λ bytes. (
   [],
   [],
   inl (
@@ -104,10 +104,10 @@ fresh_state c run held fresh =
     ∙ ap (λ (t : List ℕ). record { events = []; over = false; text = t }) fresh.text
 
 -- a front of what the feed gives was written
-pub front_of_feed : (can_fail : Bool) (c : Config) (zone : Zone) (settings : Settings) (run : Run) (feed : Feed) (source : Reading) (before after : Option (List ℕ)) (held : List ℕ)
+pub front_of_feed : (can_fail : Bool) (c : Config) (zone : Zone) (settings : Settings) (standbys : ℕ) (run : Run) (feed : Feed) (source : Reading) (before after : Option (List ℕ)) (held : List ℕ)
     → IsFresh c run held → feed ≡ feed_of source 0 0 None
-    → IfSome feed.bytes (λ bytes. ReadsFront can_fail run feed bytes before after held) → IfSome (to_come source) (λ bytes. TracesFront can_fail c zone settings bytes before after)
-front_of_feed can_fail c zone settings run feed source before after held fresh is h =
+    → IfSome feed.bytes (λ bytes. ReadsFront can_fail run feed bytes before after held) → IfSome (to_come source) (λ bytes. TracesFront can_fail c zone settings standbys bytes before after)
+front_of_feed can_fail c zone settings standbys run feed source before after held fresh is h =
     IfSome_then (to_come source) (subst (λ (x : Feed). IfSome x.bytes (λ bytes. ReadsFront can_fail run x bytes before after held)) is h)
     (λ bytes front. (
       front.0,
@@ -139,12 +139,12 @@ fed can_fail c source feed known rest after run run' before now held held' fresh
 -- ---- the steps after it
 
 -- but for its events the run is that with which a trace begins
-pub record HasBegun (c : Config) (zone : Zone) (settings : Settings) (run : Run) : Type 0 where
+pub record HasBegun (c : Config) (zone : Zone) (settings : Settings) (standbys : ℕ) (run : Run) : Type 0 where
   pub config : run.config.now ≡ c
   pub deciders : run.deciders ≡ settings.deciders
   pub setup : world_setup run.world ≡ trace_setup c zone settings
   pub posted : run.posted ≡ 0
-  pub world : world_state run.world ≡ new_world (trace_setup c zone settings) (replicate (length c.lanes) true)
+  pub world : world_state run.world ≡ new_world (trace_setup c zone settings) (replicate (length c.lanes) (standbys + 1))
 
 state_of_parts : (run : Run) (events : List Event) (world : WorldState) → run.events.items ≡ events → run.posted ≡ 0 → world_state run.world ≡ world
     → run_state run ≡ record { events = events; posted = 0; world = world }
@@ -153,17 +153,17 @@ state_of_parts run events world e p w =
     ∙ ap (λ (n : ℕ). record { events = events; posted = n; world = world_state run.world }) p
     ∙ ap (λ (v : WorldState). record { events = events; posted = 0; world = v }) w
 
-module _ (can_fail : Bool) (c : Config) (zone : Zone) (settings : Settings) (source : Reading) (known : Option (List ℕ)) (after : AfterFeed) (run : Run) (w0 w1 : Option (List ℕ)) (held : List ℕ)
-    (begun : HasBegun c zone settings run) (feed : IsFed can_fail c source known after run w0 w1 held) where
+module _ (can_fail : Bool) (c : Config) (zone : Zone) (settings : Settings) (standbys : ℕ) (source : Reading) (known : Option (List ℕ)) (after : AfterFeed) (run : Run) (w0 w1 : Option (List ℕ)) (held : List ℕ)
+    (begun : HasBegun c zone settings standbys run) (feed : IsFed can_fail c source known after run w0 w1 held) where
   -- what is said of the run once the feed is read is said of the one in which the steps begin
   in_start : (P : Config → ℕ → Setup → RunState → Bool → Type 0) (f : FeedState) → Has f run w0 w1 held
       → P run.config.now run.deciders (world_setup run.world) (run_state run) run.is_over
-      → P c settings.deciders (trace_setup c zone settings) (start_with c zone settings f) f.over
+      → P c settings.deciders (trace_setup c zone settings) (start_with c zone settings standbys f) f.over
   in_start P f has h =
-      same_parts (λ x d s. P x d s (start_with c zone settings f) f.over) c run.config.now settings.deciders run.deciders (trace_setup c zone settings) (world_setup run.world)
+      same_parts (λ x d s. P x d s (start_with c zone settings standbys f) f.over) c run.config.now settings.deciders run.deciders (trace_setup c zone settings) (world_setup run.world)
       begun.config begun.deciders begun.setup
       (subst (λ (x : RunState). P run.config.now run.deciders (world_setup run.world) x f.over)
-      (state_of_parts run f.events (new_world (trace_setup c zone settings) (replicate (length c.lanes) true)) has.events begun.posted begun.world)
+      (state_of_parts run f.events (new_world (trace_setup c zone settings) (replicate (length c.lanes) (standbys + 1))) has.events begun.posted begun.world)
       (subst (λ (x : Bool). P run.config.now run.deciders (world_setup run.world) (run_state run) x) has.over h))
 
   abbrev End : Ending → Option (List ℕ) → List ℕ → List ℕ → Type 0
@@ -174,9 +174,9 @@ module _ (can_fail : Bool) (c : Config) (zone : Zone) (settings : Settings) (sou
 
   -- all that was made was written
   pub feed_traced : (ending : Ending) (w2 w3 : Option (List ℕ)) (held2 : List ℕ) → Leaves w2 w3 held2 [] → IfSome known (End ending w2 held2)
-      → IfSome (to_come source) (λ bytes. TracesFeed can_fail c zone settings bytes ending w0 w3)
+      → IfSome (to_come source) (λ bytes. TracesFeed can_fail c zone settings standbys bytes ending w0 w3)
   feed_traced ending w2 w3 held2 flushed end =
-      known_last (to_come source) known _ (End ending w2 held2) (λ bytes. TracesFeed can_fail c zone settings bytes ending w0 w3)
+      known_last (to_come source) known _ (End ending w2 held2) (λ bytes. TracesFeed can_fail c zone settings standbys bytes ending w0 w3)
       (λ bytes rest h k.
       let f : FeedState = after_answers no_feed h.0 in (
         after,
@@ -190,9 +190,9 @@ module _ (can_fail : Bool) (c : Config) (zone : Zone) (settings : Settings) (sou
       feed.each end
 
   -- a front of it was written
-  pub front_of_end : (w2 : Option (List ℕ)) → IfSome known (Front w2) → IfSome (to_come source) (λ bytes. TracesFront can_fail c zone settings bytes w0 w2)
+  pub front_of_end : (w2 : Option (List ℕ)) → IfSome known (Front w2) → IfSome (to_come source) (λ bytes. TracesFront can_fail c zone settings standbys bytes w0 w2)
   front_of_end w2 front =
-      known_last (to_come source) known _ (Front w2) (λ bytes. TracesFront can_fail c zone settings bytes w0 w2)
+      known_last (to_come source) known _ (Front w2) (λ bytes. TracesFront can_fail c zone settings standbys bytes w0 w2)
       (λ bytes rest h k.
       let f : FeedState = after_answers no_feed h.0 in (
         h.0,
@@ -204,6 +204,6 @@ module _ (can_fail : Bool) (c : Config) (zone : Zone) (settings : Settings) (sou
 
   -- all was made, and a front of what was held is written
   pub front_of_flush : (ending : Ending) (w2 w3 : Option (List ℕ)) (held2 : List ℕ) → WritesFront w2 w3 held2 → IfSome known (End ending w2 held2)
-      → IfSome (to_come source) (λ bytes. TracesFront can_fail c zone settings bytes w0 w3)
+      → IfSome (to_come source) (λ bytes. TracesFront can_fail c zone settings standbys bytes w0 w3)
   front_of_flush ending w2 w3 held2 front end =
       front_of_end w3 (IfSome_then known end (λ rest k. (k.0, inr (ending, k.1), front_less w1 w2 w3 (held ++ k.0) held2 k.2 front)))

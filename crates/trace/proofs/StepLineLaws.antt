@@ -9,7 +9,7 @@ use Rattle.std.proofs.Math.Seq.{drop-cons, get_or-append_seam}
 use Rattle.due_model.specs.declared.config.Config.{Config}
 use Rattle.due_model.specs.declared.config.LaneId.{LaneId}
 use Rattle.steps.specs.declared.step.Step.TheVariants.{Post, Decide, Put, Lane}
-use Rattle.steps.specs.declared.step.LaneStep.TheVariants.{Pick, Settle, Fail, Ask, Close, Drain}
+use Rattle.steps.specs.declared.step.LaneStep.TheVariants.{Pick, Settle, Fail, Ask, Replace, Close, Drain}
 use Rattle.trace.specs.declared.step_line.StepLine.{StepLine}
 use Rattle.trace.specs.declared.step_line.StepLine.TheVariants.{PostNext, Do}
 use Rattle.trace.specs.StepLine.{BeginsWithWord, IsDecider, NamesLane, Spells, SpellsDecide, SpellsLane, SpellsPut}
@@ -114,7 +114,8 @@ module _ (c : Config) (deciders : ℕ) (line : List ℕ)
     (post : line ≡ codes "post" → ⊥) (decide : (d : ℕ) → SpellsDecide deciders d line → ⊥) (put : (d : ℕ) (lane : LaneId) → SpellsPut c deciders d lane line → ⊥)
     (pick : (lane : LaneId) → SpellsLane c (codes "pick ") lane line → ⊥) (settle : (lane : LaneId) → SpellsLane c (codes "settle ") lane line → ⊥)
     (fail : (lane : LaneId) → SpellsLane c (codes "fail ") lane line → ⊥) (ask : (lane : LaneId) → SpellsLane c (codes "ask ") lane line → ⊥)
-    (close : (lane : LaneId) → SpellsLane c (codes "close ") lane line → ⊥) (drain : (lane : LaneId) → SpellsLane c (codes "drain ") lane line → ⊥) where
+    (replace : (lane : LaneId) → SpellsLane c (codes "replace ") lane line → ⊥) (close : (lane : LaneId) → SpellsLane c (codes "close ") lane line → ⊥)
+    (drain : (lane : LaneId) → SpellsLane c (codes "drain ") lane line → ⊥) where
   pub no_step : (said : StepLine) → Spells c deciders said line → ⊥
   no_step PostNext spelled = post spelled
   no_step (Do (Post event)) spelled = spelled
@@ -124,5 +125,6 @@ module _ (c : Config) (deciders : ℕ) (line : List ℕ)
   no_step (Do (Lane lane Settle)) spelled = settle lane spelled
   no_step (Do (Lane lane Fail)) spelled = fail lane spelled
   no_step (Do (Lane lane Ask)) spelled = ask lane spelled
+  no_step (Do (Lane lane Replace)) spelled = replace lane spelled
   no_step (Do (Lane lane Close)) spelled = close lane spelled
   no_step (Do (Lane lane Drain)) spelled = drain lane spelled

@@ -14,7 +14,7 @@ use Rattle.text_lines.specs.LineReader.{byte_limit, line_limit, cut_text}
 use Rattle.text_lines.specs.Lines.{BeginsWithLine, IsUnbroken, Known}
 use Rattle.steps.specs.declared.step.Step.TheVariants.{Post, Decide, Put, Lane}
 use Rattle.steps.specs.declared.step.LaneStep.{LaneStep}
-use Rattle.steps.specs.declared.step.LaneStep.TheVariants.{Pick, Settle, Fail, Ask, Close, Drain}
+use Rattle.steps.specs.declared.step.LaneStep.TheVariants.{Pick, Settle, Fail, Ask, Replace, Close, Drain}
 use Rattle.world_steps.specs.Worlds.{Setup}
 use Rattle.trace.specs.declared.step_line.StepLine.{StepLine}
 use Rattle.trace.specs.declared.step_line.StepLine.TheVariants.{PostNext, Do}
@@ -67,6 +67,7 @@ says_nothing c d (Do (Lane lane step)) spelled = no_word (word_of step) spelled.
     some Settle = omega arith
     some Fail = omega arith
     some Ask = omega arith
+    some Replace = omega arith
     some Close = omega arith
     some Drain = omega arith
 

@@ -2,14 +2,14 @@
 use Rattle.std.specs.Prelude.{ℕ, List, flat_map, length}
 use Rattle.std.specs.List.{range_with_len}
 use Rattle.command_output.specs.TraceLine.{held_line}
-use Rattle.steps.specs.Lanes.{about}
+use Rattle.steps.specs.Lanes.{about, all_taken}
 use Rattle.world_steps.specs.Lines.{decider_of}
 use Rattle.world_steps.specs.Worlds.{Setup, WorldState, lane_at, outbox_at}
 
 -- in this state of a world: the line of what lane l holds of object o
 abbrev pub held_text : Setup → WorldState → (l o : ℕ) → List ℕ
 held_text s w l o =
-    held_line s.config l o (about o (lane_at w l).taken) (about o (lane_at w l).hand)
+    held_line s.config l o (about o (all_taken (lane_at w l))) (about o (lane_at w l).hand)
     (about o (lane_at w l).undelivered) (about o (lane_at w l).queue)
     (about o (outbox_at w (decider_of s o) l))
 

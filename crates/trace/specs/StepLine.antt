@@ -8,7 +8,7 @@ use Rattle.event_feed.specs.Line.{digits_number}
 use Rattle.steps.specs.declared.step.Step.{Step}
 use Rattle.steps.specs.declared.step.Step.TheVariants.{Post, Decide, Put, Lane}
 use Rattle.steps.specs.declared.step.LaneStep.{LaneStep}
-use Rattle.steps.specs.declared.step.LaneStep.TheVariants.{Pick, Settle, Fail, Ask, Close, Drain}
+use Rattle.steps.specs.declared.step.LaneStep.TheVariants.{Pick, Settle, Fail, Ask, Replace, Close, Drain}
 use Rattle.trace.specs.declared.step_line.StepLine.{StepLine}
 use Rattle.trace.specs.declared.step_line.StepLine.TheVariants.{PostNext, Do}
 use Rattle.notice_text.specs.Texts.{lane_text}
@@ -51,6 +51,7 @@ word_of Pick = codes "pick "
 word_of Settle = codes "settle "
 word_of Fail = codes "fail "
 word_of Ask = codes "ask "
+word_of Replace = codes "replace "
 word_of Close = codes "close "
 word_of Drain = codes "drain "
 

@@ -1,5 +1,5 @@
 -- What a trace does: it writes what its steps lead to, or fails.
-use Rattle.std.specs.Prelude.{◌≡◌, ℕ, Bool, true, false, List, [], ◌++◌, length, replicate, ◌⊎◌, Option}
+use Rattle.std.specs.Prelude.{◌≡◌, ℕ, ◌+◌, Bool, true, false, List, [], ◌++◌, length, replicate, ◌⊎◌, Option}
 use Rattle.due_model.specs.declared.config.Config.{Config}
 use Rattle.due_model.specs.declared.zone.Zone.{Zone}
 use Rattle.due_model.specs.declared.zone.Zone.TheVariants.{Utc}
@@ -75,15 +75,15 @@ EndFront can_fail c deciders s start over end rest before after held =
     (text : List ℕ) × BeginsEnd can_fail c deciders s start over end rest text
     × WritesFront before after (held ++ text)
 
--- the world in which a trace begins: all its lanes serve
+-- the world in which a trace begins: all its lanes serve, each with so many boxes that stand by
 abbrev pub trace_setup : Config → Zone → Settings → Setup
 trace_setup c zone settings = setup_for c zone settings
 
-abbrev pub start_with : Config → Zone → Settings → FeedState → RunState
-start_with c zone settings f = record {
+abbrev pub start_with : Config → Zone → Settings → (standbys : ℕ) → FeedState → RunState
+start_with c zone settings standbys f = record {
   events = f.events;
   posted = 0;
-  world = new_world (trace_setup c zone settings) (replicate (length c.lanes) true);
+  world = new_world (trace_setup c zone settings) (replicate (length c.lanes) (standbys + 1));
 }
 
 -- nothing of a feed yet
@@ -92,60 +92,60 @@ no_feed = record { events = []; over = false; text = [] }
 
 -- What is written of a feed and the steps after it: the refused lines of the feed in order, then those of the step lines in
 -- order, and then the lines of what the lanes hold in the world that the steps lead to.
-abbrev pub TracesFeed : (can_fail : Bool) → Config → Zone → Settings → (bytes : List ℕ) → Ending
+abbrev pub TracesFeed : (can_fail : Bool) → Config → Zone → Settings → (standbys : ℕ) → (bytes : List ℕ) → Ending
     → (old new : Option (List ℕ))
     → Type 0
-TracesFeed can_fail c zone settings bytes ending old new =
+TracesFeed can_fail c zone settings standbys bytes ending old new =
     (end : AfterFeed) × (given : List Answer) × (rest : List ℕ) × (text : List ℕ)
     × FeedEnds can_fail (answers c.objects 0 0 (pieces bytes)) 0 bytes end given rest
     × EndsTrace can_fail c settings.deciders (trace_setup c zone settings)
-    (start_with c zone settings (after_answers no_feed given))
+    (start_with c zone settings standbys (after_answers no_feed given))
     (after_answers no_feed given).over end rest ending text
     × Writes old new ((after_answers no_feed given).text ++ text)
 
 -- the same of the bytes of an input, whose object text was accepted, for local times of a zone
-abbrev pub TracesIn : (can_fail : Bool) → Zone → Settings → (bytes : List ℕ) → Ending
+abbrev pub TracesIn : (can_fail : Bool) → Zone → Settings → (standbys : ℕ) → (bytes : List ℕ) → Ending
     → (old new : Option (List ℕ)) → Type 0
-TracesIn can_fail zone settings bytes ending old new =
+TracesIn can_fail zone settings standbys bytes ending old new =
     (config : Config) × IsTextOf config (objects_in bytes)
-    × TracesFeed can_fail config zone settings (feed_in bytes) ending old new
+    × TracesFeed can_fail config zone settings standbys (feed_in bytes) ending old new
 
 -- and in UTC
-abbrev pub Traces : (can_fail : Bool) → Settings → (bytes : List ℕ) → Ending
+abbrev pub Traces : (can_fail : Bool) → Settings → (standbys : ℕ) → (bytes : List ℕ) → Ending
     → (old new : Option (List ℕ)) → Type 0
-Traces can_fail settings bytes ending old new =
-    TracesIn can_fail Utc settings bytes ending old new
+Traces can_fail settings standbys bytes ending old new =
+    TracesIn can_fail Utc settings standbys bytes ending old new
 
 -- What is written first of a feed and the steps after it: of the first lines of the feed, or of all of it and of the first
 -- step lines, or all.
-abbrev pub BeginsTrace : (can_fail : Bool) → Config → Zone → Settings → (bytes : List ℕ)
+abbrev pub BeginsTrace : (can_fail : Bool) → Config → Zone → Settings → (standbys : ℕ) → (bytes : List ℕ)
     → (given : List Answer) → (text : List ℕ) → Type 0
-BeginsTrace can_fail c zone settings bytes given text =
+BeginsTrace can_fail c zone settings standbys bytes given text =
     (FeedBegins can_fail (answers c.objects 0 0 (pieces bytes)) 0 bytes given × (text ≡ []))
     ⊎ ((end : AfterFeed) × (rest : List ℕ)
     × FeedEnds can_fail (answers c.objects 0 0 (pieces bytes)) 0 bytes end given rest
     × BeginsEnd can_fail c settings.deciders (trace_setup c zone settings)
-    (start_with c zone settings (after_answers no_feed given))
+    (start_with c zone settings standbys (after_answers no_feed given))
     (after_answers no_feed given).over end rest text)
 
 -- a front of it was written, and nothing else
-abbrev pub TracesFront : (can_fail : Bool) → Config → Zone → Settings → (bytes : List ℕ)
+abbrev pub TracesFront : (can_fail : Bool) → Config → Zone → Settings → (standbys : ℕ) → (bytes : List ℕ)
     → (old new : Option (List ℕ)) → Type 0
-TracesFront can_fail c zone settings bytes old new =
+TracesFront can_fail c zone settings standbys bytes old new =
     (given : List Answer) × (text : List ℕ)
-    × BeginsTrace can_fail c zone settings bytes given text
+    × BeginsTrace can_fail c zone settings standbys bytes given text
     × WritesFront old new ((after_answers no_feed given).text ++ text)
 
 -- the same of the bytes of an input, whose object text was accepted
-abbrev pub TracesFrontIn : (can_fail : Bool) → Zone → Settings → (bytes : List ℕ)
+abbrev pub TracesFrontIn : (can_fail : Bool) → Zone → Settings → (standbys : ℕ) → (bytes : List ℕ)
     → (old new : Option (List ℕ)) → Type 0
-TracesFrontIn can_fail zone settings bytes old new =
+TracesFrontIn can_fail zone settings standbys bytes old new =
     (config : Config) × IsTextOf config (objects_in bytes)
-    × TracesFront can_fail config zone settings (feed_in bytes) old new
+    × TracesFront can_fail config zone settings standbys (feed_in bytes) old new
 
 -- what a fault says: a front of the trace is written at most
-abbrev pub FailsWith : (can_fail : Bool) → Zone → Settings → (bytes : List ℕ) → CommandFault
+abbrev pub FailsWith : (can_fail : Bool) → Zone → Settings → (standbys : ℕ) → (bytes : List ℕ) → CommandFault
     → (old new : Option (List ℕ)) → Type 0
-FailsWith can_fail zone settings bytes fault old new =
+FailsWith can_fail zone settings standbys bytes fault old new =
     CommandFails can_fail (objects_in bytes) fault old new
-    (TracesFrontIn can_fail zone settings bytes old new)
+    (TracesFrontIn can_fail zone settings standbys bytes old new)

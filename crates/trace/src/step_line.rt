@@ -54,6 +54,9 @@ pub(crate) fn read_step(config: &Config, deciders: u8, line: &[u8]) -> Option<St
     if let Some(lane) = read_lane(config, b"ask ", line) {
         return Some(StepLine::Do(Step::Lane(lane, LaneStep::Ask)));
     }
+    if let Some(lane) = read_lane(config, b"replace ", line) {
+        return Some(StepLine::Do(Step::Lane(lane, LaneStep::Replace)));
+    }
     if let Some(lane) = read_lane(config, b"close ", line) {
         return Some(StepLine::Do(Step::Lane(lane, LaneStep::Close)));
     }

@@ -1,14 +1,16 @@
 //! What becomes of the notices that a lane's worker takes up, one by one: its channel takes them, or they stay
-//! undelivered.
+//! undelivered. A lane may have several channels, one after another.
 #![tactic(auto)]
 
 ghost use Rattle.std.specs.Prelude.{◌≡◌, ◌↔◌, [], ◌∷◌, ◌++◌, Some, None, IsSome};
 ghost use Rattle.std.specs.Prelude.{IsNone, IsErrOf, OnOk, OnErr, IfOk};
 ghost use Rattle.std.specs.Option.{option_to_list};
+ghost use Rattle.undelivered.specs.Record.{lists_of};
 
 use due_model::notice::Notice;
 use std::alloc::{AllocError, Global};
 use std::marker::Model;
+use std::mem;
 use thiserror::Error;
 
 /// Why a lane takes no more messages.
@@ -53,6 +55,8 @@ impl From<AllocError> for TakeFault {
 /// What became of a lane's notices so far.
 #[derive(Drop)]
 pub struct LaneRecord {
+    /// What each channel had taken that was replaced, in order.
+    ended: Vec<Vec<Notice>>,
     /// What the lane's channel has taken, in order.
     taken: Vec<Notice>,
     /// The notice that is being tried.
@@ -65,11 +69,12 @@ pub struct LaneRecord {
 
 impl Model for LaneRecord {
     ghost use Rattle.std.specs.Prelude.{◌≡◌, ◌<◌, None, IsSome, vec_len, vec_capacity};
-    ghost use Rattle.undelivered.specs.Record.{Record};
+    ghost use Rattle.undelivered.specs.Record.{Record, lists_of};
 
     ghost Value = { Record };
 
     ghost view = { λ s. record {
+      ended = lists_of s.ended.items;
       taken = s.taken.items;
       hand = s.hand;
       undelivered = s.undelivered.items;
@@ -81,9 +86,11 @@ impl Model for LaneRecord {
         × (vec_len s.undelivered < vec_capacity s.undelivered)) × (IsSome s.why → s.hand ≡ None) };
 }
 
-/// The four parts of a record.
+/// The parts of a record.
 #[derive(Clone, Copy)]
 pub struct RecordParts<'a> {
+    /// What each channel had taken that was replaced, in order.
+    pub ended: &'a [Vec<Notice>],
     /// What the channel has taken, in order.
     pub taken: &'a [Notice],
     /// The notice that is being tried.
@@ -97,9 +104,11 @@ pub struct RecordParts<'a> {
 impl LaneRecord {
     /// An open record in which nothing stands. It takes no memory.
     pub fn new(alloc: Global) -> LaneRecord
-        ensures { result ≡ record { taken = []; hand = None; undelivered = []; why = None } }
+        ensures { result
+            ≡ record { ended = []; taken = []; hand = None; undelivered = []; why = None } }
     {
         LaneRecord {
+            ended: Vec::new(alloc),
             taken: Vec::new(alloc),
             hand: None,
             undelivered: Vec::new(alloc),
@@ -140,6 +149,23 @@ impl LaneRecord {
         }
     }
 
+    /// The lane's channel is replaced: its record ends, and that of the next begins with the notice still in hand. A refused
+    /// growth is the only error, and changes nothing.
+    pub fn replace(&mut self) -> Result<(), AllocError>
+        requires hand { IsSome self.old.hand }
+        requires serving { self.old.why ≡ None }
+        ensures ok { OnOk result (self.new ≡ record self.old {
+          ended = self.old.ended ++ self.old.taken ∷ [];
+          taken = [];
+        }) }
+        ensures err { OnErr result (self.new ≡ self.old) }
+    {
+        self.ended.reserve(1)?;
+        let next = Vec::with_capacity(self.taken.allocator().clone()?, 1)?;
+        let _room = self.ended.push(mem::replace(&mut self.taken, next));
+        Ok(())
+    }
+
     /// Closes the record: a notice in hand is given up. It takes no memory.
     pub fn close(&mut self, why: Why)
         requires { self.old.why ≡ None }
@@ -166,14 +192,16 @@ impl LaneRecord {
         Ok(())
     }
 
-    /// The four parts.
+    /// The parts.
     pub fn parts(&self) -> RecordParts<'_>
+        ensures ended { lists_of result.ended.now ≡ self.now.ended }
         ensures taken { result.taken.now ≡ self.now.taken }
         ensures hand { result.hand ≡ self.now.hand }
         ensures undelivered { result.undelivered.now ≡ self.now.undelivered }
         ensures why { result.why ≡ self.now.why }
     {
         RecordParts {
+            ended: self.ended.as_slice(),
             taken: self.taken.as_slice(),
             hand: self.hand,
             undelivered: self.undelivered.as_slice(),

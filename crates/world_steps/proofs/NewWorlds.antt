@@ -1,5 +1,5 @@
 -- A new world is one of which all holds.
-use Rattle.std.proofs.Common.{◌≡◌, ℕ, zero, suc, ◌%◌, Bool, true, List, [], ◌∷◌, ◌++◌, length, map, get_or, replicate, take, reverse, slice_get, Option, Some, None, refl, sym, ap, ◌∙◌, subst, arith, inl, inr}
+use Rattle.std.proofs.Common.{◌≡◌, ℕ, zero, suc, ◌%◌, List, [], ◌∷◌, ◌++◌, length, map, get_or, replicate, take, reverse, slice_get, Option, Some, None, refl, sym, ap, ◌∙◌, subst, arith, inl, inr}
 use Rattle.std.proofs.lemmas.Bool.{cases_lt}
 use Rattle.std.proofs.lemmas.List.{length-map, length-replicate, get_or-replicate, get_or_past}
 use Rattle.std.proofs.lemmas.List.Elements.{All-nil, All-same}
@@ -22,7 +22,7 @@ nothing_due s o l = by_object (slice_get s.config.objects o)
     by_object None = refl
     by_object (Some object) = refl
 
-module _ (s : Setup) (served : List Bool) where
+module _ (s : Setup) (served : List ℕ) where
   -- a decider of a new world, or one that isn't there
   decider_is : (P : DeciderState → Type 0) → P (new_decider (length s.config.lanes)) → P no_decider → (d : ℕ) → P (decider_at (new_world s served) d)
   decider_is P new none d = elim (cases_lt d s.settings.deciders) [
@@ -31,12 +31,12 @@ module _ (s : Setup) (served : List Bool) where
   ]
 
   -- a lane of a new world, or one that isn't there
-  lane_is : (P : LaneState → Type 0) → ((serves : Bool) → P (new_lane serves)) → (all : List Bool) (l : ℕ) → P (get_or (map new_lane all) l empty_lane)
-  lane_is P new [] l = new true
-  lane_is P new (serves ∷ all) zero = new serves
-  lane_is P new (serves ∷ all) (suc l) = lane_is P new all l
+  pub lane_is : (P : LaneState → Type 0) → ((boxes : ℕ) → P (new_lane boxes)) → (all : List ℕ) (l : ℕ) → P (get_or (map new_lane all) l empty_lane)
+  lane_is P new [] l = new 1
+  lane_is P new (boxes ∷ all) zero = new boxes
+  lane_is P new (boxes ∷ all) (suc l) = lane_is P new all l
 
-  no_outbox : (d l : ℕ) → outbox_at (new_world s served) d l ≡ []
+  pub no_outbox : (d l : ℕ) → outbox_at (new_world s served) d l ≡ []
   no_outbox d l = decider_is (λ x. get_or x.outboxes l [] ≡ [])
       (elim (cases_lt l (length s.config.lanes)) [
         | inl h ↦ get_or-replicate (length s.config.lanes) l [] [] h
@@ -46,7 +46,7 @@ module _ (s : Setup) (served : List Bool) where
   none_decided : (d : ℕ) → (decider_at (new_world s served) d).decided ≡ 0
   none_decided d = decider_is (λ x. x.decided ≡ 0) refl refl d
 
-  no_past : (d : ℕ) → past_of (new_world s served) d ≡ []
+  pub no_past : (d : ℕ) → past_of (new_world s served) d ≡ []
   no_past d = ap (λ (n : ℕ). reverse (take n [])) (none_decided d)
 
   pub new_fits : length served ≡ length s.config.lanes → StateFits s (new_world s served)

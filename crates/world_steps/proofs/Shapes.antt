@@ -1,10 +1,11 @@
 -- What a lane holds, joined, is the same where a notice goes from one part to the next.
-use Rattle.std.proofs.Common.{◌≡◌, List, [], ◌++◌, take, drop, sym, ap, ◌∙◌, append_assoc}
+use Rattle.std.proofs.Common.{◌≡◌, List, [], ◌∷◌, ◌++◌, take, drop, sym, ap, ◌∙◌, append_assoc}
 use Rattle.std.proofs.lemmas.List.{append-nil, take-append-drop}
+use Rattle.std.proofs.lemmas.List.Concat.{flat_map-append}
 use Rattle.due_model.specs.declared.notice.Notice.{Notice}
 use Rattle.steps.specs.Lanes.{LaneState}
-use Rattle.steps.specs.Lanes.{contents}
-use Rattle.steps.specs.Lanes.{CanPick, picked, settled, closed, drained, queued}
+use Rattle.steps.specs.Lanes.{all_taken, contents, join_records}
+use Rattle.steps.specs.Lanes.{CanPick, picked, settled, replaced, closed, drained, queued}
 
 module _ {X : Type 0} where
   split_front : (xs ys : List X) → (xs ++ take 1 ys) ++ drop 1 ys ≡ xs ++ ys
@@ -24,18 +25,27 @@ module _ {X : Type 0} where
       ∙ sym (ap (λ (v : List X). ((t ++ h) ++ v) ++ q) nothing ∙ ap (λ (v : List X). v ++ q) (append-nil (t ++ h)))
 
 pub picked_law : (lane : LaneState) → CanPick lane → lane.undelivered ≡ [] → contents (picked lane) ≡ contents lane
-picked_law lane can nothing = picked_same lane.taken lane.hand lane.undelivered lane.queue can.hand nothing
+picked_law lane can nothing = picked_same (all_taken lane) lane.hand lane.undelivered lane.queue can.hand nothing
 
 pub settled_law : (lane : LaneState) → contents (settled lane) ≡ contents lane
-settled_law lane = ap (λ (v : List Notice). (v ++ lane.undelivered) ++ lane.queue) (append-nil (lane.taken ++ lane.hand))
+settled_law lane =
+    ap (λ (v : List Notice). (v ++ lane.undelivered) ++ lane.queue)
+    (append-nil (join_records lane.ended ++ (lane.taken ++ lane.hand)) ∙ sym (append_assoc (join_records lane.ended) lane.taken lane.hand))
+
+pub replaced_law : (lane : LaneState) → contents (replaced lane) ≡ contents lane
+replaced_law lane =
+    ap (λ (v : List Notice). ((v ++ lane.hand) ++ lane.undelivered) ++ lane.queue)
+    (append-nil (join_records (lane.ended ++ lane.taken ∷ []))
+    ∙ flat_map-append (λ (notices : List Notice). notices) lane.ended (lane.taken ∷ [])
+    ∙ ap (λ (v : List Notice). join_records lane.ended ++ v) (append-nil lane.taken))
 
 pub closed_law : (lane : LaneState) → lane.undelivered ≡ [] → contents (closed lane) ≡ contents lane
-closed_law lane nothing = closed_same lane.taken lane.hand lane.undelivered lane.queue nothing
+closed_law lane nothing = closed_same (all_taken lane) lane.hand lane.undelivered lane.queue nothing
 
 pub drained_law : (lane : LaneState) → contents (drained lane) ≡ contents lane
 drained_law lane =
-    ap (λ (v : List Notice). v ++ drop 1 lane.queue) (sym (append_assoc (lane.taken ++ lane.hand) lane.undelivered (take 1 lane.queue)))
-    ∙ split_front (lane.taken ++ lane.hand ++ lane.undelivered) lane.queue
+    ap (λ (v : List Notice). v ++ drop 1 lane.queue) (sym (append_assoc (all_taken lane ++ lane.hand) lane.undelivered (take 1 lane.queue)))
+    ∙ split_front (all_taken lane ++ lane.hand ++ lane.undelivered) lane.queue
 
 pub queued_law : (notices : List Notice) (lane : LaneState) → contents (queued notices lane) ≡ contents lane ++ notices
-queued_law notices lane = sym (append_assoc (lane.taken ++ lane.hand ++ lane.undelivered) lane.queue notices)
+queued_law notices lane = sym (append_assoc (all_taken lane ++ lane.hand ++ lane.undelivered) lane.queue notices)

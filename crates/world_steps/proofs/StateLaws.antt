@@ -17,17 +17,17 @@ use Rattle.decider.specs.Decider.{gained}
 use Rattle.decider.specs.DeciderLaws.{due_more}
 use Rattle.steps.specs.declared.step.Step.TheVariants.{Post, Decide, Put, Lane}
 use Rattle.steps.specs.declared.step.LaneStep.{LaneStep}
-use Rattle.steps.specs.declared.step.LaneStep.TheVariants.{Pick, Settle, Fail, Ask, Close, Drain}
+use Rattle.steps.specs.declared.step.LaneStep.TheVariants.{Pick, Settle, Fail, Ask, Replace, Close, Drain}
 use Rattle.steps.specs.Lanes.{LaneState, empty_lane}
 use Rattle.world_steps.specs.Worlds.{DeciderState, WorldState, Setup, no_decider, decider_at, lane_at, outbox_at}
-use Rattle.steps.specs.Lanes.{queued, picked, settled, failed, asked, closed, drained, Can, does}
+use Rattle.steps.specs.Lanes.{queued, picked, settled, failed, asked, replaced, closed, drained, Can, does}
 use Rattle.world_steps.specs.Steps.{after, with_lane, with_decider, decided, without_front, owner, past_of, OfLane, CanPut, CanDecide}
 use Rattle.steps.specs.Lanes.{about, contents}
 use Rattle.world_steps.specs.Lines.{line, decider_of}
 use Rattle.world_steps.specs.Fits.{StateFits}
 use Rattle.world_steps.proofs.ListLemmas.{everywhere}
 use Rattle.world_steps.proofs.Gains.{about_none, gained_owned, gained_is_owned}
-use Rattle.world_steps.proofs.Shapes.{picked_law, settled_law, closed_law, drained_law, queued_law}
+use Rattle.world_steps.proofs.Shapes.{picked_law, settled_law, replaced_law, closed_law, drained_law, queued_law}
 
 -- those of one object in two lists that are joined
 pub about-append : (o : ℕ) (xs ys : List Notice) → about o (xs ++ ys) ≡ about o xs ++ about o ys
@@ -36,7 +36,7 @@ about-append o xs ys = filter-append (λ (n : Notice). n.object.0 == o) xs ys
 module _ (s : Setup) (w : WorldState) (fits : StateFits s w) where
   -- ---- posting
 
-  posted_past : (e : Event) (d : ℕ) → past_of (record w { posted = w.posted ++ e ∷ [] }) d ≡ past_of w d
+  pub posted_past : (e : Event) (d : ℕ) → past_of (record w { posted = w.posted ++ e ∷ [] }) d ≡ past_of w d
   posted_past e d = ap reverse (take-append-le (decider_at w d).decided w.posted (e ∷ []) (fits.within d))
 
   post_fits : (e : Event) → StateFits s (record w { posted = w.posted ++ e ∷ [] })
@@ -91,7 +91,7 @@ module _ (s : Setup) (w : WorldState) (fits : StateFits s w) where
     outbox_here : (l : ℕ) → outbox_at (with_decider w d f) d l ≡ get_or (f (decider_at w d)).outboxes l []
     outbox_here l = ap (λ (x : DeciderState). get_or x.outboxes l []) decider_here
 
-    outbox_other : (k l : ℕ) → k ≢ d → outbox_at (with_decider w d f) k l ≡ outbox_at w k l
+    pub outbox_other : (k l : ℕ) → k ≢ d → outbox_at (with_decider w d f) k l ≡ outbox_at w k l
     outbox_other k l ne = ap (λ (x : DeciderState). get_or x.outboxes l []) (decider_other k ne)
 
   -- ---- a put
@@ -109,26 +109,26 @@ module _ (s : Setup) (w : WorldState) (fits : StateFits s w) where
     in_outbox : l < length (decider_at w d).outboxes
     in_outbox = omega (arith, fits.outboxes d can.decider, fits.lanes, can.lane)
 
-    front_here : outbox_at emptied d l ≡ drop 1 (outbox_at w d l)
+    pub front_here : outbox_at emptied d l ≡ drop 1 (outbox_at w d l)
     front_here = outbox_here d can.decider (without_front l) l ∙ get_or-set_same (decider_at w d).outboxes l (drop 1 (outbox_at w d l)) [] in_outbox
 
-    front_other : (k : ℕ) → k ≢ l → outbox_at emptied d k ≡ outbox_at w d k
+    pub front_other : (k : ℕ) → k ≢ l → outbox_at emptied d k ≡ outbox_at w d k
     front_other k ne = outbox_here d can.decider (without_front l) k ∙ get_or-set_other (decider_at w d).outboxes l k (drop 1 (outbox_at w d l)) [] ne
 
-    queue_here : lane_at put l ≡ queued front (lane_at w l)
+    pub queue_here : lane_at put l ≡ queued front (lane_at w l)
     queue_here = get_or-set_same w.lanes l (queued front (lane_at w l)) empty_lane can.lane
 
-    queue_other : (k : ℕ) → k ≢ l → lane_at put k ≡ lane_at w k
+    pub queue_other : (k : ℕ) → k ≢ l → lane_at put k ≡ lane_at w k
     queue_other k ne = get_or-set_other w.lanes l k (queued front (lane_at w l)) empty_lane ne
 
-    front_is_owned : All (λ n. n.object.0 % s.settings.deciders ≡ d) front
+    pub front_is_owned : All (λ n. n.object.0 % s.settings.deciders ≡ d) front
     front_is_owned = All-take (λ (n : Notice). n.object.0 % s.settings.deciders ≡ d) 1 (outbox_at w d l) (fits.share d l)
 
     decided_same : (k : ℕ) → (decider_at emptied k).decided ≡ (decider_at w k).decided
     decided_same = everywhere (λ k. (decider_at emptied k).decided ≡ (decider_at w k).decided) d
         (ap (λ (x : DeciderState). x.decided) (decider_here d can.decider (without_front l))) (λ k ne. ap (λ (x : DeciderState). x.decided) (decider_other d can.decider (without_front l) k ne))
 
-    put_past : (k : ℕ) → past_of put k ≡ past_of w k
+    pub put_past : (k : ℕ) → past_of put k ≡ past_of w k
     put_past k = ap (λ (n : ℕ). reverse (take n w.posted)) (decided_same k)
 
     outbox_elsewhere : (k : ℕ) → k ≢ l → (m : ℕ) → outbox_at emptied m k ≡ outbox_at w m k
@@ -212,18 +212,18 @@ module _ (s : Setup) (w : WorldState) (fits : StateFits s w) where
     abbrev longer : ℕ → List Notice
     longer l = get_or olds l [] ++ gain_at l
 
-    gained_here : (l : ℕ) → l < length olds → outbox_at later d l ≡ outbox_at w d l ++ gain_at l
+    pub gained_here : (l : ℕ) → l < length olds → outbox_at later d l ≡ outbox_at w d l ++ gain_at l
     gained_here l h = outbox_here d can.there change l ∙ get_or-map-range_with_len longer 0 (length olds) l l [] h (omega arith)
 
     nothing_beyond : (l : ℕ) → length olds ≤ l → outbox_at later d l ≡ []
     nothing_beyond l h = outbox_here d can.there change l ∙ get_or_past (map longer (range_with_len 0 (length olds))) l [] (omega (arith, length-map-range_with_len longer 0 (length olds), h))
 
-    decided_past : past_of later d ≡ e ∷ past
+    pub decided_past : past_of later d ≡ e ∷ past
     decided_past =
         ap (λ (x : DeciderState). reverse (take x.decided w.posted)) (decider_here d can.there change)
         ∙ past_more w.posted (decider_at w d).decided e can.left ∙ ap (λ (x : Event). x ∷ past) (get_or_from_slice_get w.posted (decider_at w d).decided e e found)
 
-    other_past : (k : ℕ) → k ≢ d → past_of later k ≡ past_of w k
+    pub other_past : (k : ℕ) → k ≢ d → past_of later k ≡ past_of w k
     other_past k ne = ap (λ (x : DeciderState). reverse (take x.decided w.posted)) (decider_other d can.there change k ne)
 
     lanes_long : length olds ≡ length s.config.lanes
@@ -298,8 +298,19 @@ module _ (s : Setup) (w : WorldState) (fits : StateFits s w) where
   lane_after l Settle can = lane_fits l can.there settled (settled_law (lane_at w l)) (λ serving. fits.serving l serving)
   lane_after l Fail can = lane_fits l can.there failed refl (λ serving. fits.serving l serving)
   lane_after l Ask can = lane_fits l can.there asked refl (λ serving. fits.serving l serving)
+  lane_after l Replace can = lane_fits l can.there replaced (replaced_law (lane_at w l)) (λ serving. fits.serving l serving)
   lane_after l Close can = lane_fits l can.there closed (closed_law (lane_at w l) (fits.serving l can.holds.serving)) (λ serving. absurd (cc))
   lane_after l Drain can = lane_fits l can.there drained (drained_law (lane_at w l)) (λ serving. let shut : (lane_at w l).shut ≡ true = can.holds.shut in absurd (cc))
+
+  -- what a lane holds stays the same in order, whatever its step
+  pub lane_kept : (l : ℕ) (step : LaneStep) → OfLane w l (Can s.settings.tries step) → (k : ℕ) → contents (lane_at (with_lane w l (does step)) k) ≡ contents (lane_at w k)
+  lane_kept l Pick can = same_contents l can.there picked (picked_law (lane_at w l) can.holds (fits.serving l can.holds.serving))
+  lane_kept l Settle can = same_contents l can.there settled (settled_law (lane_at w l))
+  lane_kept l Fail can = same_contents l can.there failed refl
+  lane_kept l Ask can = same_contents l can.there asked refl
+  lane_kept l Replace can = same_contents l can.there replaced (replaced_law (lane_at w l))
+  lane_kept l Close can = same_contents l can.there closed (closed_law (lane_at w l) (fits.serving l can.holds.serving))
+  lane_kept l Drain can = same_contents l can.there drained (drained_law (lane_at w l))
 
   -- after any step that is enabled; the law is needed where an event is decided
   pub post_after : (e : Event) → StateFits s (after s w (Post e))

@@ -4,3 +4,4 @@ pub mod Lines
 pub mod Runs
 pub mod Fits
 pub mod Views
+pub mod Orders

@@ -1,15 +1,17 @@
 -- A new world, and lists of steps.
-use Rattle.std.specs.Prelude.{◌≡◌, ◌↔◌, ℕ, ◌<◌, true, Bool, List, [], ◌∷◌, length, map, replicate, take}
+use Rattle.std.specs.Prelude.{◌≡◌, ◌↔◌, ℕ, ◌<◌, true, List, [], ◌∷◌, length, map, replicate, take}
 use Rattle.std.specs.Prelude.{slice_get, Some}
+use mathlib.Core.List.{IsPrefix}
 use Rattle.steps.specs.declared.step.Step.{Step}
 use Rattle.steps.specs.declared.step.StepFault.TheVariants.{NotEnabled}
 use Rattle.steps.specs.declared.step.Stopped.{Stopped}
-use Rattle.steps.specs.Lanes.{new_lane}
+use Rattle.steps.specs.Lanes.{LaneState, new_lane}
 use Rattle.world_steps.specs.Worlds.{WorldState, Setup, new_decider, lane_at}
 use Rattle.world_steps.specs.Steps.{IsEnabled, after}
 
--- a new world: nothing is posted, decided, held or asked, and exactly the lanes that aren't served are shut
-abbrev pub new_world : Setup → (served : List Bool) → WorldState
+-- a new world, with so many boxes for each lane: nothing is posted, decided, held or asked, and exactly the lanes that have
+-- none are shut
+abbrev pub new_world : Setup → (served : List ℕ) → WorldState
 new_world s served = record {
   posted = [];
   deciders = replicate s.settings.deciders (new_decider (length s.config.lanes));
@@ -41,7 +43,16 @@ pub record StopsAt (s : Setup) (before : WorldState) (steps : List Step) (then :
   pub refused : (step : Step) → slice_get steps stopped.step ≡ Some step
       → stopped.fault ≡ NotEnabled ↔ ¬ IsEnabled s then step
 
+-- a lane that is shut, and whose records are as they were before
+abbrev pub StaysShut : (before then : LaneState) → Type 0
+StaysShut before then =
+    (then.shut ≡ true) × (then.ended ≡ before.ended) × (then.taken ≡ before.taken)
+
 -- a lane that was shut before is still shut, and its channel has taken nothing
 abbrev pub ShutTakesNothing : WorldState → WorldState → Type 0
-ShutTakesNothing before then = (l : ℕ) → (lane_at before l).shut ≡ true
-    → ((lane_at then l).shut ≡ true) × ((lane_at then l).taken ≡ (lane_at before l).taken)
+ShutTakesNothing before then =
+    (l : ℕ) → (lane_at before l).shut ≡ true → StaysShut (lane_at before l) (lane_at then l)
+
+-- a box that was replaced before has taken nothing more: its record stands where it stood, as it was
+abbrev pub ReplacedTakeNothing : WorldState → WorldState → Type 0
+ReplacedTakeNothing before then = (l : ℕ) → IsPrefix (lane_at before l).ended (lane_at then l).ended

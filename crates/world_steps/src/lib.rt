@@ -3,8 +3,9 @@
 #![tactic(auto)]
 
 mod deciders;
+pub mod laws;
 mod line;
 mod world;
 
-pub use steps::{LaneStep, LineParts, Settings, Step, StepFault, Stopped};
+pub use steps::{LaneStep, LineParts, MAX_BOXES, Settings, Step, StepFault, Stopped};
 pub use world::World;

@@ -31,7 +31,7 @@ pub struct World<'a> {
 }
 
 impl<'a> World<'a> {
-    ghost use Rattle.std.specs.Prelude.{◌≡◌, ◌↔◌, ◌<◌, length, All, IsTrue, IfOk, OnOk};
+    ghost use Rattle.std.specs.Prelude.{◌≡◌, ◌↔◌, ◌<◌, ◌≤◌, length, All, IsTrue, IfOk, OnOk};
     ghost use Rattle.std.specs.Prelude.{OnErr, IfErr, IsErrOf};
     ghost use Rattle.due_model.specs.Accepted.{IsAccepted};
     ghost use Rattle.due_model.specs.Proper.{IsProper};
@@ -39,22 +39,25 @@ impl<'a> World<'a> {
     ghost use Rattle.world_steps.specs.Worlds.{lane_at, outbox_at};
     ghost use Rattle.world_steps.specs.Steps.{CanDecide, CanPut, IsEnabled, IsProperStep, after};
     ghost use Rattle.world_steps.specs.Steps.{past_of};
-    ghost use Rattle.steps.specs.Lanes.{about};
+    ghost use Rattle.steps.specs.Lanes.{about, all_taken};
+    ghost use Rattle.steps.specs.Settings.{max_boxes};
     ghost use Rattle.world_steps.specs.Lines.{decider_of, line, LinesAreDue, NoticesStandOnce};
-    ghost use Rattle.world_steps.specs.Runs.{new_world, LeadsTo, StopsAt, ShutTakesNothing};
+    ghost use Rattle.world_steps.specs.Runs.{new_world, LeadsTo, StopsAt, ReplacedTakeNothing, ShutTakesNothing};
     ghost use Rattle.world_steps.specs.Views.{world_state, world_setup, joined};
 
-    /// A world of this configuration in which nothing has happened. `served` says of each lane whether it has a
-    /// channel: one that hasn't is shut. A refused growth is the only error.
+    /// A world of this configuration in which nothing has happened. `served` says of each lane how many boxes its
+    /// channel has, up to `MAX_BOXES`: one serves, and the others stand by. A lane without any is shut. A refused growth
+    /// is the only error.
     pub fn new(
         alloc: Global,
         config: &'a Config,
         zone: &'a Zone,
         settings: Settings,
-        served: &[bool],
+        served: &[u8],
     ) -> Result<World<'a>, AllocError>
         requires accepted { IsAccepted config.now }
         requires served { length served.now ≡ length config.now.lanes }
+        requires boxes { All (λ boxes. boxes ≤ max_boxes) served.now }
         ensures setup { IfOk result (λ world.
             world_setup world ≡ setup_for config.now zone.now settings) }
         ensures state { IfOk result (λ world.
@@ -81,7 +84,8 @@ impl<'a> World<'a> {
         requires lane { lane.0 < length (world_setup self.now).config.lanes }
         requires object { object.0 < length (world_setup self.now).config.objects }
         ensures taken { IfOk result (λ parts.
-            parts.taken.items ≡ about object.0 (lane_at (world_state self.now) lane.0).taken) }
+            parts.taken.items ≡ about object.0
+            (all_taken (lane_at (world_state self.now) lane.0))) }
         ensures hand { IfOk result (λ parts.
             parts.hand.items ≡ about object.0 (lane_at (world_state self.now) lane.0).hand) }
         ensures undelivered { IfOk result (λ parts.
@@ -300,6 +304,8 @@ impl<'a> World<'a> {
         ensures once { NoticesStandOnce (world_setup self.new) (world_state self.new) }
         // a closed channel takes nothing.
         ensures shut { ShutTakesNothing (world_state self.old) (world_state self.new) }
+        // Nor does a box that was replaced.
+        ensures replaced { ReplacedTakeNothing (world_state self.old) (world_state self.new) }
     {
         // A law: what is due has no notice twice.
         stand_once();

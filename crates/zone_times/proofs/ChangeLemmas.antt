@@ -1,6 +1,5 @@
 -- A zone's offset stays as it is up to its next change and the end of the year of UTC.
-use Rattle.std.proofs.Common.{◌≡◌, ℕ, zero, suc, ◌+◌, ◌-◌, ◌<◌, ◌≤◌, Bool, true, false, cond, not, ◌&&◌, ◌==◌, int_le, int_lt, ℤ, pos, negsuc, neg_ℤ, ◌+ℤ◌, ◌-ℤ◌, ◌*ℤ◌, ◌<ℤ◌, ◌≤ℤ◌, ◌⊎◌, List, length, get_or, Option, None, Some, option_map, vec_len, IfSome, refl, sym, subst, ap, ap₂, ◌∙◌, ◌^◌, arith, rules, inl, inr}
-use Rattle.std.specs.Int.{int_div_euclid}
+use Rattle.std.proofs.Common.{◌≡◌, ℕ, ◌-◌, ◌<◌, ◌≤◌, Bool, true, false, cond, not, ◌&&◌, ◌==◌, int_le, int_lt, ℤ, pos, negsuc, neg_ℤ, ◌<ℤ◌, ◌≤ℤ◌, ◌⊎◌, length, Option, None, Some, option_map, vec_len, IfSome, refl, sym, subst, ap, ap₂, ◌∙◌, ◌^◌, arith, rules, inl, inr}
 use Rattle.std.specs.Prelude.{int_div}
 use Rattle.jiff.specs.ZoneView.{plain_zone}
 use Rattle.due_model.specs.declared.zone.Zone.{Zone}
@@ -19,7 +18,6 @@ use Rattle.jiff_tz.specs.declared.posix.TimeZone.{TimeZone as PosixZone}
 use Rattle.jiff_tz.specs.declared.timezone.TimeZone.{TimeZone}
 use Rattle.jiff_tz.specs.declared.timezone.TimeZone.TheVariants.{UTC, Unknown, Fixed, Posix, Tzif as Table}
 use Rattle.jiff_tz.specs.declared.tzif.Tzif.{Tzif}
-use Rattle.jiff_tz.specs.declared.tzif.transition.Transition.{Transition}
 use Rattle.jiff_tz.specs.PosixRule as rule
 use Rattle.jiff_tz.specs.PosixRule.{in_window, match_some, ordered, utc_window, transition_of, next_by, next_year}
 use Rattle.jiff_tz.specs.Tzif as table

@@ -1,5 +1,5 @@
 -- A clock whose offset stays goes on up to the end of its day.
-use Rattle.std.proofs.Common.{◌≡◌, ℕ, ◌+◌, ◌-◌, ◌<◌, ◌≤◌, ℤ, pos, ◌+ℤ◌, unsigned_abs, ap, ap₂, arith}
+use Rattle.std.proofs.Common.{◌≡◌, ℕ, ◌+◌, ◌-◌, ◌<◌, ◌≤◌, ℤ, pos, ◌+ℤ◌, unsigned_abs, ap₂, arith}
 use Rattle.std.specs.Int.{int_div_euclid, int_rem_euclid}
 use Rattle.jiff_core.proofs.SignedLemmas.{signed_arith}
 use Rattle.due_model.specs.declared.zone.Zone.{Zone}
@@ -8,8 +8,8 @@ use Rattle.due_model.specs.Local.{Local, local, local_second, offset}
 use Rattle.zone_times.specs.Clock.{later, GoesOn}
 
 -- what a clock shows
-abbrev weekday_at : ℤ → ℕ
-weekday_at second = unsigned_abs (int_rem_euclid (int_div_euclid second (pos day) +ℤ pos 4) (pos 7))
+abbrev day_at : ℤ → ℤ
+day_at second = int_div_euclid second (pos day)
 
 abbrev second_at : ℤ → ℕ
 second_at second = unsigned_abs (int_rem_euclid second (pos day))
@@ -21,12 +21,11 @@ same_second : (a b : ℤ) (d : ℕ) → b ≡ a +ℤ pos d → second_at a + d <
 same_second a b d e h = let same = same_day a b d e h in omega (arith, signed_arith)
 
 on_clock : (a b : ℤ) (d : ℕ) → b ≡ a +ℤ pos d → second_at a + d < day
-    → record { weekday = weekday_at b; second = second_at b } ≡ later (record { weekday = weekday_at a; second = second_at a }) d
-on_clock a b d e h =
-    ap₂ (λ (w : ℕ) (s : ℕ). the_local w s) (ap (λ days. unsigned_abs (int_rem_euclid (days +ℤ pos 4) (pos 7))) (same_day a b d e h)) (same_second a b d e h)
+    → record { day = day_at b; second = second_at b } ≡ later (record { day = day_at a; second = second_at a }) d
+on_clock a b d e h = ap₂ (λ (days : ℤ) (s : ℕ). the_local days s) (same_day a b d e h) (same_second a b d e h)
   where
-    the_local : ℕ → ℕ → Local
-    the_local w s = record { weekday = w; second = s }
+    the_local : ℤ → ℕ → Local
+    the_local days s = record { day = days; second = s }
 
 moved : (t k : ℕ) (o p : ℤ) → t ≤ k → p ≡ o → pos k +ℤ p ≡ (pos t +ℤ o) +ℤ pos (k - t)
 moved t k o p h e = rw e (omega (arith, signed_arith))

@@ -1,5 +1,5 @@
 -- The years of UTC: a moment between two of one year is of that year.
-use Rattle.std.proofs.Common.{◌≡◌, ℕ, zero, suc, ◌+◌, ◌*◌, ◌/◌, ◌<◌, ◌≤◌, Bool, true, false, cond, nat_le, ℤ, pos, negsuc, ◌+ℤ◌, ◌-ℤ◌, ◌*ℤ◌, ◌<ℤ◌, refl, sym, subst, ap, ◌∙◌, arith, inl, inr, to_z, of_z, w32, w64}
+use Rattle.std.proofs.Common.{◌≡◌, ℕ, zero, suc, ◌+◌, ◌*◌, ◌/◌, ◌<◌, ◌≤◌, ℤ, pos, negsuc, ◌+ℤ◌, ◌-ℤ◌, ◌*ℤ◌, ◌<ℤ◌, subst, ap, ◌∙◌, arith, inl, inr, to_z, of_z, w32, w64}
 use Rattle.jiff_core.specs.Calendar.{IsEpochDay}
 use Rattle.std.proofs.lemmas.Bool.Decides.{leb_tells}
 use Rattle.jiff_core.proofs.SignedLemmas.{signed_arith}

@@ -1,5 +1,5 @@
 -- When a zone's offset changes, and up to where that is known.
-use Rattle.std.specs.Prelude.{◌≡◌, ℕ, ℤ, pos, ◌*ℤ◌, ◌<ℤ◌, Option, None, option_map, IfSome}
+use Rattle.std.specs.Prelude.{◌≡◌, ℕ, ℤ, pos, ◌*ℤ◌, Option, None, option_map}
 use Rattle.jiff.specs.ZoneView.{plain_zone}
 use Rattle.jiff_tz.specs.Year.{year_of_nanos}
 use Rattle.jiff_tz.specs.Zone.{next_at}

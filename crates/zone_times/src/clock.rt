@@ -2,7 +2,7 @@
 //! the zone.
 
 ghost use Rattle.std.specs.Prelude.{◌≡◌, ℕ, ◌^◌, ◌<◌, ◌≤◌, unsigned_abs};
-ghost use Rattle.due_model.specs.Local.{local, offset};
+ghost use Rattle.due_model.specs.Local.{local, offset, weekday_at};
 ghost use Rattle.zone_times.specs.Clock.{GoesOn};
 
 use crate::local::{LocalTime, clock_at, local_time, offset_at};
@@ -84,7 +84,8 @@ impl<'a> ZoneClock<'a> {
     /// Local time at a moment, in seconds since the epoch (chapter "Time Periods").
     pub fn local_time(&self, t: u64) -> LocalTime
         requires { t < 2 ^ 35 }
-        ensures weekday { result.weekday ≡ (local self.now t).weekday }
+        ensures day { result.day ≡ (local self.now t).day }
+        ensures weekday { result.weekday ≡ weekday_at (local self.now t) }
         ensures second { result.second ≡ (local self.now t).second }
     {
         if t == self.at {

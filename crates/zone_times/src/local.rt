@@ -2,8 +2,9 @@
 
 ghost use Rattle.std.specs.Prelude.{◌≡◌, ◌^◌, ◌<◌, pos, ◌*ℤ◌, ◌+ℤ◌, unsigned_abs};
 ghost use Rattle.std.specs.Int.{int_div_euclid, int_rem_euclid};
-ghost use Rattle.due_model.specs.Limits.{day};
-ghost use Rattle.due_model.specs.Local.{local, offset};
+ghost use Rattle.jiff_core.specs.Calendar.{IsEpochDay};
+ghost use Rattle.due_model.specs.Limits.{day as day_length};
+ghost use Rattle.due_model.specs.Local.{local, offset, weekday_at};
 
 use due_model::limits::DAY;
 use due_model::zone::Zone;
@@ -12,18 +13,22 @@ use jiff::Timestamp;
 /// What a clock and a calendar on the wall show.
 #[derive(Clone, Copy, Debug, PartialEq, Eq)]
 pub struct LocalTime {
+    /// 0 on 1970-01-01.
+    pub day: i32,
     /// From Sunday, which is 0, to Saturday.
     pub weekday: u8,
     /// Of the day.
     pub second: u32,
     ghost in_week: { weekday < 7 },
-    ghost in_day: { second < day },
+    ghost in_day: { second < day_length },
+    ghost in_calendar: { IsEpochDay day },
 }
 
 /// Local time at a moment, in seconds since the epoch (chapter "Time Periods").
 pub fn local_time(zone: &Zone, t: u64) -> LocalTime
     requires { t < 2 ^ 35 }
-    ensures weekday { result.weekday ≡ (local zone.now t).weekday }
+    ensures day { result.day ≡ (local zone.now t).day }
+    ensures weekday { result.weekday ≡ weekday_at (local zone.now t) }
     ensures second { result.second ≡ (local zone.now t).second }
 {
     clock_at(t as i64 + i64::from(offset_at(zone, t)))
@@ -56,12 +61,15 @@ pub(crate) fn instant(t: u64) -> Timestamp
 /// What the clock shows that many seconds after its own midnight of 1970-01-01, a Thursday.
 pub(crate) fn clock_at(second: i64) -> LocalTime
     requires { unsigned_abs second < 2 ^ 36 }
+    ensures day { result.day ≡ int_div_euclid second (pos day_length) }
     ensures weekday { result.weekday
-        ≡ unsigned_abs (int_rem_euclid (int_div_euclid second (pos day) +ℤ pos 4) (pos 7)) }
-    ensures second { result.second ≡ unsigned_abs (int_rem_euclid second (pos day)) }
+        ≡ unsigned_abs (int_rem_euclid (int_div_euclid second (pos day_length) +ℤ pos 4) (pos 7)) }
+    ensures second { result.second ≡ unsigned_abs (int_rem_euclid second (pos day_length)) }
 {
+    let days = second.div_euclid(DAY as i64);
     LocalTime {
-        weekday: (second.div_euclid(DAY as i64) + 4).rem_euclid(7) as u8,
+        day: days as i32,
+        weekday: (days + 4).rem_euclid(7) as u8,
         second: second.rem_euclid(DAY as i64) as u32,
     }
 }

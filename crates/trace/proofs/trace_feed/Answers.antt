@@ -1,5 +1,7 @@
-use Rattle.std.proofs.Common.{◌≡◌, Bool, false, true, List, ℕ, length, replicate, refl, ap, ◌∙◌}
+use Rattle.std.proofs.Common.{◌≡◌, ◌+◌, ◌≤◌, false, List, ℕ, length, replicate, refl, ap, ◌∙◌, arith}
+use Rattle.std.proofs.lemmas.List.Elements.{All-same, All-replicate}
 use Rattle.event_feed.specs.Feed.{Feed}
+use Rattle.steps.specs.Settings.{max_boxes}
 use Rattle.text_lines.specs.LineReader.{to_come}
 use Rattle.text_lines.specs.Lines.{Known}
 use Rattle.world_steps.specs.Runs.{new_world}
@@ -20,18 +22,18 @@ fresh : (g : Over) (c : After-new-feeder g) → IsFresh c.args.config.now (first
 fresh g c = record { config = refl; events = c.new-2.ensures.items; over = refl; text = c.in_ok-lines.ensures }
 
 -- the same run with what its feed gave
-begun : (g : Over) (c : After-into_lines-source g) → HasBegun c.args.config.now c.args.zone.now c.args.settings c.read_feed.new.run
+begun : (g : Over) (c : After-into_lines-source g) → HasBegun c.args.config.now c.args.zone.now c.args.settings c.args.standbys c.read_feed.new.run
 begun g c =
     let unmoved = c.in_ok-after.ensures.unmoved in
     let setup = trace_setup c.args.config.now c.args.zone.now c.args.settings in
-    let served : c.deref.result.now ≡ replicate (length c.args.config.now.lanes) true =
-    c.deref.ensures.value ∙ c.in_ok-served.ensures.items_if_clones_equal (λ y e. e) ∙ ap (λ (n : ℕ). replicate n true) c.len.ensures in
+    let served : c.deref.result.now ≡ replicate (length c.args.config.now.lanes) (c.args.standbys + 1) =
+    c.deref.ensures.value ∙ c.in_ok-served.ensures.items_if_clones_equal (λ y e. e) ∙ ap (λ (n : ℕ). replicate n (c.args.standbys + 1)) c.len.ensures in
     record {
       config = ap (λ r. r.now) unmoved.config;
       deciders = unmoved.deciders;
       setup = unmoved.setup ∙ c.in_ok-new.ensures.setup;
       posted = unmoved.posted;
-      world = unmoved.world ∙ c.in_ok-new.ensures.state ∙ ap (λ (all : List Bool). new_world setup all) served;
+      world = unmoved.world ∙ c.in_ok-new.ensures.state ∙ ap (λ (all : List ℕ). new_world setup all) served;
     }
 
 read : (g : Over) (c : After-into_lines-source g) (run : Run) → IsFresh c.args.config.now run c.in_ok-lines.lines
@@ -48,24 +50,24 @@ pub returns-clause-traces : goal.returns-clause-traces
 returns-clause-traces g c =
     let past = goal.at.returns-clause-traces g c in
     let here = past.After-into_lines-source in
-    feed_traced g.R.Input.can_fail _ _ _ _ _ _ _ _ _ _ (begun g here) (read g here _ (fresh g past.After-new-feeder) c.in_ok-after.ensures.feed)
+    feed_traced g.R.Input.can_fail _ _ _ _ _ _ _ _ _ _ _ (begun g here) (read g here _ (fresh g past.After-new-feeder) c.in_ok-after.ensures.feed)
     c.in_ok-ending.ending _ _ c.write_end.new.lines c.in_ok-flush.ensures.ok c.in_ok-ending.ensures.ok
 
 pub returns-in_err-served-clause-front : goal.returns-in_err-served-clause-front
 returns-in_err-served-clause-front g c =
-    on_err_always _ (front_of_none g.R.Input.can_fail c.args.config.now c.args.zone.now c.args.settings c.args.source (g.W.Write.contents c.args.writer.now))
+    on_err_always _ (front_of_none g.R.Input.can_fail c.args.config.now c.args.zone.now c.args.settings c.args.standbys c.args.source (g.W.Write.contents c.args.writer.now))
 
 pub returns-in_err-new-clause-front : goal.returns-in_err-new-clause-front
 returns-in_err-new-clause-front g c =
-    on_err_always _ (front_of_none g.R.Input.can_fail c.args.config.now c.args.zone.now c.args.settings c.args.source (g.W.Write.contents c.args.writer.now))
+    on_err_always _ (front_of_none g.R.Input.can_fail c.args.config.now c.args.zone.now c.args.settings c.args.standbys c.args.source (g.W.Write.contents c.args.writer.now))
 
 pub returns-in_err-lines-clause-front : goal.returns-in_err-lines-clause-front
 returns-in_err-lines-clause-front g c =
-    on_err_always _ (front_of_none g.R.Input.can_fail c.args.config.now c.args.zone.now c.args.settings c.args.source (g.W.Write.contents c.args.writer.now))
+    on_err_always _ (front_of_none g.R.Input.can_fail c.args.config.now c.args.zone.now c.args.settings c.args.standbys c.args.source (g.W.Write.contents c.args.writer.now))
 
 pub returns-in_err-after-clause-front : goal.returns-in_err-after-clause-front
 returns-in_err-after-clause-front g c =
-    on_err_always _ (front_of_feed g.R.Input.can_fail c.args.config.now c.args.zone.now c.args.settings _ c.new-feeder.result c.args.source
+    on_err_always _ (front_of_feed g.R.Input.can_fail c.args.config.now c.args.zone.now c.args.settings c.args.standbys _ c.new-feeder.result c.args.source
     (g.W.Write.contents c.args.writer.now) (g.W.Write.contents c.read_feed.new.writer) c.in_ok-lines.lines
     (fresh g (goal.at.returns-in_err-after-clause-front g c).After-new-feeder) c.new-feeder.ensures c.in_err-after.ensures.front)
 
@@ -73,12 +75,18 @@ pub returns-in_err-ending-clause-front : goal.returns-in_err-ending-clause-front
 returns-in_err-ending-clause-front g c =
     let past = goal.at.returns-in_err-ending-clause-front g c in
     let here = past.After-into_lines-source in
-    on_err_always _ (front_of_end g.R.Input.can_fail _ _ _ _ _ _ _ _ _ _ (begun g here) (read g here _ (fresh g past.After-new-feeder) c.in_ok-after.ensures.feed)
+    on_err_always _ (front_of_end g.R.Input.can_fail _ _ _ _ _ _ _ _ _ _ _ (begun g here) (read g here _ (fresh g past.After-new-feeder) c.in_ok-after.ensures.feed)
     (g.W.Write.contents c.write_end.new.writer) c.in_err-ending.ensures.front)
 
 pub returns-in_err-flush-clause-front : goal.returns-in_err-flush-clause-front
 returns-in_err-flush-clause-front g c =
     let past = goal.at.returns-in_err-flush-clause-front g c in
     let here = past.After-into_lines-source in
-    on_err_always _ (front_of_flush g.R.Input.can_fail _ _ _ _ _ _ _ _ _ _ (begun g here) (read g here _ (fresh g past.After-new-feeder) c.in_ok-after.ensures.feed)
+    on_err_always _ (front_of_flush g.R.Input.can_fail _ _ _ _ _ _ _ _ _ _ _ (begun g here) (read g here _ (fresh g past.After-new-feeder) c.in_ok-after.ensures.feed)
     c.in_ok-ending.ending _ (g.W.Write.contents c.flush.new.writer) c.write_end.new.lines c.flush.ensures.front c.in_ok-ending.ensures.ok)
+
+pub new-requires-clause-boxes : goal.new-requires-clause-boxes
+new-requires-clause-boxes g c =
+    let few : c.args.standbys + 1 ≤ max_boxes = omega (arith, c.requires.standbys) in
+    All-same (λ (n : ℕ). n ≤ max_boxes) c.deref.result.now (replicate c.len.result (c.args.standbys + 1)) (c.deref.ensures.value ∙ c.in_ok-served.ensures.items_if_clones_equal (λ y e. e))
+    (All-replicate (λ (n : ℕ). n ≤ max_boxes) c.len.result (c.args.standbys + 1) few)

@@ -2,7 +2,7 @@ use Rattle.std.proofs.Common.{ap, ap₂, ◌≡◌, ◌∙◌, codes, true}
 use Rattle.std.proofs.lemmas.Result.{IfOk-weaker}
 use Rattle.clap.specs.Simple.{app_of_fields}
 use Rattle.clap.specs.Words.{Rule, app_of, new_app, rule_of, with_rule}
-use Rattle.command_line.specs.Words.{text_option, with_lane_options, with_zone}
+use Rattle.command_line.specs.Words.{number_option, text_option, with_lane_options, with_zone}
 use Rattle.command_line.proofs.RuleLemmas.{is_global}
 use Rattle.command_line.proofs.words.run_command.Goals as goal
 
@@ -12,10 +12,12 @@ returns c =
     let objects : rule_of c.required-objects.result ≡ record (text_option (codes "objects")) { required = true } =
     ap rule_of c.required-objects.ensures ∙ ap (λ (r : Rule). record r { required = true }) c.text_option.ensures.rule in
     let local = ap is_global c.required-objects.ensures ∙ c.text_option.ensures.local in
-    let one : app_of c.in_ok-command.command ≡ with_rule (new_app (codes "run")) (record (text_option (codes "objects")) { required = true }) =
-    c.in_ok-command.ensures.shape local ∙ ap₂ with_rule bare objects in
-    let laned : app_of c.in_ok-with_lanes.with_lanes ≡ with_lane_options (with_rule (new_app (codes "run")) (record (text_option (codes "objects")) { required = true })) =
-    c.in_ok-with_lanes.ensures.words ∙ ap with_lane_options one in
-    let zoned : app_of c.in_ok-with_options.with_options ≡ with_zone (with_lane_options (with_rule (new_app (codes "run")) (record (text_option (codes "objects")) { required = true }))) =
+    let one : app_of c.in_ok-arg.field-0 ≡ with_rule (new_app (codes "run")) (record (text_option (codes "objects")) { required = true }) =
+    c.in_ok-arg.ensures.shape local ∙ ap₂ with_rule bare objects in
+    let two : app_of c.in_ok-command.command ≡ with_rule (with_rule (new_app (codes "run")) (record (text_option (codes "objects")) { required = true })) (number_option (codes "deciders") (codes "2") 1 8) =
+    c.in_ok-command.ensures.shape c.deciders_option.ensures.local ∙ ap₂ with_rule one c.deciders_option.ensures.rule in
+    let laned : app_of c.in_ok-with_lanes.with_lanes ≡ with_lane_options (with_rule (with_rule (new_app (codes "run")) (record (text_option (codes "objects")) { required = true })) (number_option (codes "deciders") (codes "2") 1 8)) =
+    c.in_ok-with_lanes.ensures.words ∙ ap with_lane_options two in
+    let zoned : app_of c.in_ok-with_options.with_options ≡ with_zone (with_lane_options (with_rule (with_rule (new_app (codes "run")) (record (text_option (codes "objects")) { required = true })) (number_option (codes "deciders") (codes "2") 1 8))) =
     c.in_ok-with_options.ensures.words ∙ ap with_zone laned in
-    record { words = IfOk-weaker c.arg-2.result _ _ (λ r h. h.shape c.channel_words.ensures.local ∙ ap₂ with_rule zoned c.channel_words.ensures.rule) c.arg-2.ensures }
+    record { words = IfOk-weaker c.arg-3.result _ _ (λ r h. h.shape c.channel_words.ensures.local ∙ ap₂ with_rule zoned c.channel_words.ensures.rule) c.arg-3.ensures }

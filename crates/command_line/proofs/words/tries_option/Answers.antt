@@ -13,7 +13,7 @@ returns c =
     let named = text-rule (codes "tries") (rule_of c.new.result) (rule_of c.long.result) (rule_of c.value_name.result) c.new.ensures.rule (ap rule_of c.long.ensures) (ap rule_of c.value_name.ensures) in
     record {
       rule = ap rule_of c.help.ensures
-          ∙ number-rule (codes "tries") (codes "3") 10 (rule_of c.value_name.result) (rule_of c.value_parser-2.result) (rule_of c.default_value.result) c.value_parser-2.result.value_parser named
+          ∙ number-rule (codes "tries") (codes "3") 1 10 (rule_of c.value_name.result) (rule_of c.value_parser-2.result) (rule_of c.default_value.result) c.value_parser-2.result.value_parser named
           (ap rule_of c.value_parser-2.ensures.others) parser (ap rule_of c.default_value.ensures);
       local = ap is_global c.help.ensures ∙ ap is_global c.default_value.ensures ∙ ap is_global c.value_parser-2.ensures.others
           ∙ ap is_global c.value_name.ensures ∙ ap is_global c.long.ensures ∙ c.new.ensures.optional.1;

@@ -2,7 +2,7 @@ use Rattle.std.proofs.Common.{ap, ◌∙◌, arith}
 use Rattle.due_model.specs.declared.event.EventKind.{EventKind}
 use Rattle.due_model.specs.declared.rules.ObjectStatus.{ObjectStatus}
 use Rattle.decider.specs.Statuses.{status_by}
-use Rattle.decider.proofs.StatusLaws.{depth_few}
+use Rattle.decider.proofs.StatusLaws.{depth_few, status_step}
 use Rattle.decider.proofs.find.find.Goals as goal
 
 pub status_by-after-requires : goal.status_by-after-requires
@@ -20,7 +20,7 @@ returns-clause-found c = λ e past settings is at.
       at = is.at;
       program = is.switch;
       before = before;
-      after = c.status_by-after.ensures ∙ ap (λ (k : EventKind). status_by o k c.at-before.result) is.says ∙ ap (status_by o e.kind) before;
+      after = c.status_by-after.ensures ∙ ap (λ (k : EventKind). status_by o k c.at-before.result) is.says ∙ ap (status_by o e.kind) before ∙ status_step o e past;
       host_down = c.is_host_down-host_down.ensures e past settings is.known is.says at;
       depends = c.depends.ensures.fails e past is;
     }

@@ -42,3 +42,13 @@ pub returns-in-Flapping-clause-books : goal.returns-in-Flapping-clause-books
 returns-in-Flapping-clause-books c = on_ok_weaker c.stage_owned-in-Flapping.result (λ adds e past is.
     first_books _ _ _ _ c.clear.ensures.books (adds e past is)
     ∙ sym (named_books c.fit_on.ensures.untouched (values c.args.reading.now c.args.dependencies.now c.args.statuses.now) e past is c.in-Flapping.object (ap named_by c.in-Flapping.is))) c.stage_owned-in-Flapping.ensures.staged
+
+pub returns-in-Ack-clause-entries : goal.returns-in-Ack-clause-entries
+returns-in-Ack-clause-entries c = on_ok_weaker c.stage_owned-in-Ack.result (λ adds e past is.
+    first_entries _ _ _ _ c.clear.ensures.entries (adds e past is)
+    ∙ sym (named_entries c.fit_on.ensures.untouched (values c.args.reading.now c.args.dependencies.now c.args.statuses.now) e past is c.in-Ack.object (ap named_by c.in-Ack.is))) c.stage_owned-in-Ack.ensures.staged
+
+pub returns-in-Ack-clause-books : goal.returns-in-Ack-clause-books
+returns-in-Ack-clause-books c = on_ok_weaker c.stage_owned-in-Ack.result (λ adds e past is.
+    first_books _ _ _ _ c.clear.ensures.books (adds e past is)
+    ∙ sym (named_books c.fit_on.ensures.untouched (values c.args.reading.now c.args.dependencies.now c.args.statuses.now) e past is c.in-Ack.object (ap named_by c.in-Ack.is))) c.stage_owned-in-Ack.ensures.staged

@@ -16,6 +16,4 @@ returns x = record {
   line = refl;
   events = refl;
   deciders = refl;
-  queue = refl;
-  tries = refl;
 }

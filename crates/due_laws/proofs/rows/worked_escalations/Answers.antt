@@ -14,3 +14,15 @@ returns-clause-overlapping c = record { due = refl; suppressed = refl }
 pub returns-clause-interval_zero : goal.returns-clause-interval_zero
 unfolding hist
 returns-clause-interval_zero c = record { due = refl; suppressed = refl }
+
+pub returns-clause-options : goal.returns-clause-options
+unfolding hist
+returns-clause-options c = record { due = refl; suppressed = refl }
+
+pub returns-clause-period : goal.returns-clause-period
+unfolding hist
+returns-clause-period c = record { due = refl; suppressed = refl }
+
+pub returns-clause-own_contacts : goal.returns-clause-own_contacts
+unfolding hist
+returns-clause-own_contacts c = record { due = refl; suppressed = refl }

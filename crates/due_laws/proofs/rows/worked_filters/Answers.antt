@@ -26,3 +26,11 @@ returns-clause-first_delay c = record { due = refl; suppressed = refl }
 pub returns-clause-contact_options : goal.returns-clause-contact_options
 unfolding hist
 returns-clause-contact_options c = refl
+
+pub returns-clause-acknowledged : goal.returns-clause-acknowledged
+unfolding hist
+returns-clause-acknowledged c = (record { due = refl; suppressed = refl }, record { due = refl; suppressed = refl })
+
+pub returns-clause-acknowledged_up : goal.returns-clause-acknowledged_up
+unfolding hist
+returns-clause-acknowledged_up c = record { due = refl; suppressed = refl }

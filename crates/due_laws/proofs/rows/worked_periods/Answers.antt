@@ -5,7 +5,7 @@ use Rattle.std.specs.List.{list_any}
 use Rattle.due_model.specs.declared.config.Range.{Range}
 use Rattle.due_model.specs.declared.zone.Zone.TheVariants.{Utc}
 use Rattle.due_model.specs.Histories.{hist}
-use Rattle.due_model.specs.Local.{local}
+use Rattle.due_model.specs.Local.{local, weekday_at}
 use Rattle.due_model.specs.Periods.{in_range, in_period, first_passing, next_in}
 use Rattle.due_laws.specs.Rows.{work_hours}
 use Rattle.due_laws.proofs.rows.worked_periods.Goals as goal
@@ -37,7 +37,7 @@ not_at_work t low high =
     let s : ℕ = (t + 0) % 86400 in
     and_left _ true
     (at_any_day {X = List Range} (λ day. list_any (in_range s) (elim day as (λ _. List Range) [ None ↦ [] | Some ranges ↦ ranges ]) ≡ false)
-    (record { start = 32400; end = 61200 } ∷ []) 7 (local Utc t).weekday refl
+    (record { start = 32400; end = 61200 } ∷ []) 7 (weekday_at (local Utc t)) refl
     (ap (λ b. b || false) (off_hours t low high)))
 
 next_at_work : next_in work_hours Utc (Some (record { 0 = 0 })) 61200 ≡ Some 118800

@@ -1,11 +1,11 @@
-use Rattle.std.proofs.Common.{◌==◌, is_some, map}
-use Rattle.std.specs.List.{list_any}
+use Rattle.std.proofs.Common.{◌≡◌, ℕ, length, slice_get, Some}
 use Rattle.std.specs.Vec.Iter.{into_iter_items, into_iter_len}
-use Rattle.engine.specs.Made.{ArePlaced}
-use Rattle.engine.proofs.MadeLaws.{AreTakenFrom}
+use Rattle.engine.specs.Lanes.{boxes_of}
+use Rattle.engine.proofs.PostLaws.{AreTakenFrom}
 use Rattle.engine.proofs.lanes.channels_of.Given as goal
 
 abbrev pub invariant-loop-post : goal.invariant-loop-post
 invariant-loop-post g l =
     AreTakenFrom l.fn.posts.items l.yielded (into_iter_items l.post-iterator) (into_iter_len l.post-iterator)
-    × ArePlaced (λ k. list_any (λ post. post.lane.0 == k) l.yielded) l.count (map is_some l.channels.items)
+    × (length l.boxes.items ≡ l.count)
+    × ((k : ℕ) (of_lane : _) → slice_get l.boxes.items k ≡ Some of_lane → of_lane.items ≡ boxes_of (λ p. p.lane.0) (λ p. p.channel) k l.yielded)

@@ -1,13 +1,20 @@
-use Rattle.std.proofs.Common.{ℕ, ◌∙◌, Some, ap, arith, is_some, map, set, sym, true}
-use Rattle.std.proofs.lemmas.List.{length-map, map-set, set_past}
+use Rattle.std.proofs.Common.{rules, arith, ◌≡◌, ◌<◌, ◌++◌, ◌∷◌, [], length}
+use Rattle.engine_threads.proofs.ListLaws.{at_place}
+use Rattle.engine.proofs.PostLaws.{placed_here, placed_nowhere}
 use Rattle.engine.proofs.lanes.place.Goals as goal
 
-pub returns-then-place-len : goal.returns-then-place-len
-returns-then-place-len g c =
-    map-set is_some c.args.channels.now.items c.from-place.result (Some c.args.post.channel)
-    ∙ ap (λ (k : ℕ). set (map is_some c.args.channels.now.items) k true) c.from-place.ensures
+pub returns-in_ok-push-clause-placed : goal.returns-in_ok-push-clause-placed
+returns-in_ok-push-clause-placed g c =
+    let boxes = c.args.boxes.now.items in
+    let its : c.from-place.result ≡ c.args.post.lane.0 = search rules in
+    let long : c.len.result ≡ length boxes = search rules in
+    let below : c.from-place.result < length boxes = omega (arith, long, c.if-place-len.true) in
+    let at = at_place boxes c.from-place.result c.index_mut.result.now below (search rules) in
+    placed_here (λ p. p.lane.0) (λ p. p.channel) (λ bs. bs.items) boxes c.args.post c.from-place.result c.index_mut.result.now c.push.new.self its at c.in_ok-push.ensures.items
 
-pub returns-else-place-len : goal.returns-else-place-len
-returns-else-place-len g c =
-    let same = length-map c.args.channels.now.items is_some in
-    sym (set_past (map is_some c.args.channels.now.items) c.args.post.lane.0 true (omega (arith, same)))
+pub returns-else-place-len-clause-placed : goal.returns-else-place-len-clause-placed
+returns-else-place-len-clause-placed g c =
+    let boxes = c.args.boxes.now.items in
+    let its : c.from-place.result ≡ c.args.post.lane.0 = search rules in
+    let long : c.len.result ≡ length boxes = search rules in
+    placed_nowhere (λ p. p.lane.0) (λ p. p.channel) (λ bs. bs.items) boxes c.args.post (omega (arith, its, long, c.if-place-len.false))

@@ -1,28 +1,27 @@
-use Rattle.std.proofs.Common.{map, rules, subst}
-use Rattle.channel_words.specs.Lanes.{AreLanesOf, names_of}
-use Rattle.channel_words.specs.Words.{AreRead}
+use Rattle.std.proofs.Common.{◌≤◌, ◌∙◌, List, ap, length, rules, subst, sym}
+use Rattle.channel_words.specs.Lanes.{boxes_for}
+use Rattle.due_model.specs.declared.config.LaneId.{LaneId}
+use Rattle.run_command.specs.Report.{WritesReport}
+use Rattle.sending.proofs.PostLaws.{command_fails}
 use Rattle.sending.proofs.run.do_run.Goals as goal
 
-pub returns-in_default : goal.returns-in_default
-returns-in_default c = search rules
+pub run_through-requires-clause-each : goal.run_through-requires-clause-each
+run_through-requires-clause-each g c κs within = c.in_ok-config.ensures.each ∙ sym (ap length c.deref.ensures.value)
 
-pub returns-in_err-config : goal.returns-in_err-config
-returns-in_err-config c = search rules
+pub run_through-requires-clause-few : goal.run_through-requires-clause-few
+run_through-requires-clause-few g c κs within =
+    λ l. subst (λ (lanes : List LaneId). boxes_for lanes l ≤ 8) (sym c.deref.ensures.value) (c.in_ok-config.ensures.right.lanes_are.few_lanes l)
 
-pub returns-in_err-opened : goal.returns-in_err-opened
-returns-in_err-opened c = search rules
+pub returns-in_err-ending-clause-fault : goal.returns-in_err-ending-clause-fault
+returns-in_err-ending-clause-fault g c =
+    let fails = command_fails _ c.in_err-ending.field-0.0 c.in_ok-config.config c.in_ok-config.lanes.items c.in_ok-config.ensures.right c.in_err-ending.ensures.fault in
+    search rules
 
-pub returns-in_err-ending : goal.returns-in_err-ending
-returns-in_err-ending c = search rules
-
-pub returns : goal.returns
-returns c =
-    let checks = c.in_ok-config.ensures.checked in
-    record {
-      words = c.in_ok-words.words.items;
-      read = subst (λ texts. AreRead (map (λ text. text.now) texts) c.in_ok-words.words.items) c.texts_of.ensures c.in_ok-words.ensures.ok;
-      config = c.in_ok-config.config;
-      accepted = checks.accepted;
-      lanes = c.in_ok-config.lanes.items;
-      lanes_are = subst (λ words. AreLanesOf c.in_ok-config.config (names_of words) c.in_ok-config.lanes.items) c.deref.ensures.value checks.lanes_are;
-    }
+pub returns-clause-ok : goal.returns-clause-ok
+returns-clause-ok g c = record {
+  config = c.in_ok-config.config;
+  lanes = c.in_ok-config.lanes.items;
+  right = c.in_ok-config.ensures.right;
+  report = subst (λ (lanes : List LaneId). WritesReport g.R.Input.can_fail c.in_ok-config.config c.args.zone.now (boxes_for lanes) (g.R.Read.remaining c.args.feed) c.in_ok-ending.ending
+      (g.W.Write.contents c.args.writer.now) (g.W.Write.contents c.run_through.new.writer)) c.deref.ensures.value c.in_ok-ending.ensures.report;
+}

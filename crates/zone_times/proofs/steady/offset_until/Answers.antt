@@ -1,4 +1,4 @@
-use Rattle.std.proofs.Common.{◌≡◌, ℕ, ℤ, ◌+◌, ◌<◌, ◌≤◌, ◌^◌, pos, ◌<ℤ◌, Option, option_map, None, sym, ap, subst, ◌∙◌, arith, ⊎_elim, w64, to_z, of_z}
+use Rattle.std.proofs.Common.{◌≡◌, ℤ, ◌<◌, pos, ◌<ℤ◌, Option, option_map, sym, ap, subst, ◌∙◌, arith, ⊎_elim, w64, to_z, of_z}
 use Rattle.std.specs.Prelude.{IfSome}
 use Rattle.std.proofs.lemmas.Bool.{cases_eq}
 use Rattle.jiff_core.proofs.SignedLemmas.{signed_arith}

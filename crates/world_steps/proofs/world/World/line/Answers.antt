@@ -3,7 +3,7 @@ use Rattle.std.proofs.lemmas.List.{length-map}
 use Rattle.std.proofs.lemmas.Result.{IfOk-weaker}
 use Rattle.due_model.specs.Due.{due}
 use Rattle.steps.specs.declared.line.LineParts.{LineParts}
-use Rattle.steps.specs.Lanes.{LaneState, about, lane_state}
+use Rattle.steps.specs.Lanes.{LaneState, about, all_taken, lane_state}
 use Rattle.world_steps.specs.Worlds.{lane_at, outbox_at}
 use Rattle.world_steps.specs.Steps.{past_of}
 use Rattle.world_steps.specs.Lines.{decider_of, line}
@@ -25,9 +25,9 @@ returns-clause-taken c =
     let l = c.args.lane.0 in
     let there : l < length (map lane_state w.lanes.items) = omega (arith, w.fits.state.lanes, c.requires.lane) in
     let same = lane_read w.lanes.items l c.index-held.result.now there c.index-held.ensures in
-    IfOk-weaker c.about.result (λ (parts : LineParts). parts.taken.items ≡ about o (lane_state c.index-held.result.now).taken)
-    (λ (parts : LineParts). parts.taken.items ≡ about o (lane_at (world_state w) l).taken)
-    (λ parts e. e ∙ sym (ap (λ (lane : LaneState). about o lane.taken) same)) c.about.ensures.taken
+    IfOk-weaker c.about.result (λ (parts : LineParts). parts.taken.items ≡ about o (all_taken (lane_state c.index-held.result.now)))
+    (λ (parts : LineParts). parts.taken.items ≡ about o (all_taken (lane_at (world_state w) l)))
+    (λ parts e. e ∙ sym (ap (λ (lane : LaneState). about o (all_taken lane)) same)) c.about.ensures.taken
 
 pub returns-clause-hand : goal.returns-clause-hand
 returns-clause-hand c =
@@ -80,9 +80,9 @@ returns-clause-line c =
     let l = c.args.lane.0 in
     let lane = lane_at (world_state w) l in
     let out = outbox_at (world_state w) (decider_of (world_setup w) o) l in
-    from_five c.about.result (λ (parts : LineParts). parts.taken.items ≡ about o lane.taken) (λ parts. parts.hand.items ≡ about o lane.hand)
+    from_five c.about.result (λ (parts : LineParts). parts.taken.items ≡ about o (all_taken lane)) (λ parts. parts.hand.items ≡ about o lane.hand)
     (λ parts. parts.undelivered.items ≡ about o lane.undelivered) (λ parts. parts.queue.items ≡ about o lane.queue) (λ parts. parts.outbox.items ≡ about o out)
-    (λ parts. joined parts ≡ line (world_setup w) (world_state w) l o) (joined_law o lane.taken lane.hand lane.undelivered lane.queue out)
+    (λ parts. joined parts ≡ line (world_setup w) (world_state w) l o) (joined_law o (all_taken lane) lane.hand lane.undelivered lane.queue out)
     (returns-clause-taken c) (returns-clause-hand c) (returns-clause-undelivered c) (returns-clause-queue c) (returns-clause-outbox c)
 
 pub returns-clause-due : goal.returns-clause-due

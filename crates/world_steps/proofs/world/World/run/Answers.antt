@@ -1,9 +1,11 @@
-use Rattle.std.proofs.Common.{◌∙◌, get_or}
+use Rattle.std.proofs.Common.{◌∙◌, get_or, subst, sym}
 use Rattle.due_model.specs.declared.event.EventKind.TheVariants.{Clock}
 use Rattle.steps.specs.declared.step.Step.{Step}
 use Rattle.steps.specs.declared.step.Step.TheVariants.{Post}
+use Rattle.world_steps.specs.Runs.{ReplacedTakeNothing}
 use Rattle.world_steps.specs.Views.{world_state, world_setup}
-use Rattle.world_steps.proofs.RunLaws.{leads_next, shut_next}
+use Rattle.world_steps.specs.Worlds.{WorldState}
+use Rattle.world_steps.proofs.RunLaws.{leads_next, replaced_next, shut_next}
 use Rattle.world_steps.proofs.world.World.run.Goals as goal
 
 pub loop-index-preserved : goal.loop-index-preserved
@@ -20,5 +22,10 @@ loop-index-preserved c =
     record {
       leads = leads_next s t before then later steps i d c.loop-index.invariant.setup c.loop-index-test.true c.loop-index.invariant.leads done.enabled done.ok;
       setup = done.setup ∙ c.loop-index.invariant.setup;
+      replaced = replaced_next t before then later (get_or steps i d) c.loop-index.invariant.replaced done.enabled done.ok;
       shut = shut_next t before then later (get_or steps i d) c.loop-index.invariant.shut done.enabled done.ok;
     }
+
+pub returns-in-Err-clause-replaced : goal.returns-in-Err-clause-replaced
+returns-in-Err-clause-replaced c =
+    subst (λ (w : WorldState). ReplacedTakeNothing (world_state c.args.self.now) w) (sym c.in-Err.ensures.err) c.loop-index.invariant.replaced

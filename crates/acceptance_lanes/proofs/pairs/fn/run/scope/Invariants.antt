@@ -1,0 +1,7 @@
+use Rattle.std.proofs.Common.{◌≤◌, [], length}
+use Rattle.channel_queue.specs.Passes.{IsWorker}
+use Rattle.acceptance_lanes.specs.Deciders.{AreDeciders}
+use Rattle.acceptance_lanes.proofs.pairs.fn.run.scope.Given as goal
+
+abbrev pub invariant-loop : goal.invariant-loop
+invariant-loop g l = AreDeciders l.queue l.passes.items × (length l.passes.items ≤ 2)

@@ -1,0 +1,139 @@
+//! A lane with two deciders and a worker, in three threads, through a queue of one item.
+
+ghost use Rattle.std.specs.Prelude.{◌≡◌, ◌≤◌, [], length};
+ghost use Rattle.channel_queue.specs.Passes.{IsDecider, IsWorker};
+ghost use Rattle.acceptance_lanes.specs.Deciders.{AreDeciders};
+
+use crate::given::{last_pass, no_objects, put_all};
+use crate::serving::one;
+use crate::watched::{Refusing, TrueFrom, Watch, Watched};
+use channel::Channel;
+use channel_queue::{LaneQueue, Pass};
+use delivery_worker::{Served, serve};
+use due_model::config::{Config, ObjectId};
+use due_model::notice::Notice;
+use std::alloc::{AllocError, Global};
+use std::process::Abort;
+use std::sync::Wait;
+use std::test::Fail;
+use std::thread;
+use std::thread::Threads;
+use undelivered::Why;
+
+/// How many notices each decider puts.
+const EVENTS: u64 = 500;
+
+/// The event that comes next of an object after these notices, of which each of the object's is the next in its order.
+fn next_after(rt: &impl Abort, notices: &[Notice], object: u16, first: u64) -> u64 {
+    let mut next = first;
+    for notice in notices {
+        if notice.object == ObjectId(object) {
+            assert!(rt;
+                notice.event == next,
+                "event {next} of object {object} is next"
+            );
+            next = next.saturating_add(1);
+        }
+    }
+    next
+}
+
+/// Of each decider's object the lane has taken, and then given up, all notices in order.
+fn holds_all(rt: &impl Abort, served: &Served, why: Why) {
+    let parts = served.held.parts();
+    for object in 0..2 {
+        let taken = next_after(rt, parts.taken, object, 0);
+        let all = next_after(rt, parts.undelivered, object, taken);
+        assert!(rt; all == EVENTS, "all of object {object} is there");
+    }
+    assert!(rt; parts.why == Some(why), "closed for {:?}", parts.why);
+}
+
+/// Two deciders put, each in a thread of its own, while this thread serves.
+fn run(
+    rt: &(impl Threads + Wait + Abort + Sync),
+    alloc: Global,
+    config: &Config,
+    boxes: Vec<Box<dyn Channel>>,
+    queue: &LaneQueue,
+    passes: Vec<Pass>,
+    worker: Pass,
+) -> Served
+    requires boxes { length boxes.items ≤ 1 }
+    requires queue { queue.now.deciders ≤ 8 }
+    requires deciders { AreDeciders queue.now passes.items }
+    requires count { length passes.items ≤ 2 }
+    requires worker { IsWorker queue.now [] [] worker }
+{
+    thread::scope(
+        thread::scope_env(),
+        rt,
+        move |scope| -> Served
+            requires { (length boxes.items ≤ 1) × (queue.now.deciders ≤ 8) × AreDeciders queue.now passes.items
+                × (length passes.items ≤ 2) × IsWorker queue.now [] [] worker }
+        {
+            let mut passes = passes;
+            for _ in 0..2 {
+                if passes.is_empty() {
+                    break;
+                }
+                let pass = last_pass(rt, queue, &mut passes);
+                let decider = passes.len() as u8;
+                let started = scope.spawn(
+                    move ||
+                        requires { IsDecider queue.now decider [] pass }
+                    {
+                        let _pass = put_all(rt, queue, pass, decider, EVENTS);
+                    },
+                );
+                assert!(rt; started.is_ok(), "the thread is started");
+            }
+            let mut bell = TrueFrom::new(0);
+            let gate = Refusing::new(0);
+            serve(rt, alloc, config, boxes, 1, queue, worker, &mut bell, &gate)
+        },
+    )
+}
+
+/// Serves a lane by a box that is dropped once.
+fn drive(
+    rt: &(impl Threads + Wait + Abort + Sync),
+    alloc: Global,
+    channel: Watched,
+    why: Why,
+) -> Result<(), AllocError> {
+    let config = no_objects(alloc)?;
+    let boxes = one(alloc, channel)?;
+    let (queue, passes, worker) = LaneQueue::new(alloc, 1, 2)?;
+    let served = run(rt, alloc, &config, boxes, &queue, passes, worker);
+    holds_all(rt, &served, why);
+    Ok(())
+}
+
+#[test]
+fn fast_channel(rt: HostRuntime) -> Result<(), Fail> {
+    let watch = Watch::new(rt.alloc())?;
+    let channel = Watched::new(rt.alloc(), &watch, &[])?;
+    drive(&rt, rt.alloc(), channel, Why::FeedOver)?;
+    assert!(&rt; watch.told() == (1, 0, 1_000), "{:?}", watch.told());
+    Ok(())
+}
+
+#[test]
+fn slow_channel(rt: HostRuntime) -> Result<(), Fail> {
+    let watch = Watch::new(rt.alloc())?;
+    let channel = Watched::new(rt.alloc(), &watch, &[])?.with_turns(20);
+    drive(&rt, rt.alloc(), channel, Why::FeedOver)?;
+    assert!(&rt; watch.told() == (1, 0, 1_000), "{:?}", watch.told());
+    Ok(())
+}
+
+/// It fails at its 400th letter, and takes nothing from there on.
+#[test]
+fn failing_channel(rt: HostRuntime) -> Result<(), Fail> {
+    let watch = Watch::new(rt.alloc())?;
+    let channel = Watched::new(rt.alloc(), &watch, &[400])?;
+    drive(&rt, rt.alloc(), channel, Why::Failed)?;
+    assert!(&rt; watch.told() == (1, 1, 399), "{:?}", watch.told());
+    Ok(())
+}

@@ -1,0 +1,37 @@
+-- What a decider has received.
+use Rattle.std.proofs.Common.{◌≡◌, Bool, true, false, not, true≢false, List, [], ◌∷◌, ◌++◌, refl, ap, ◌∙◌, append_assoc, append-nil}
+use Rattle.due_model.specs.declared.config.Config.{Config}
+use Rattle.due_model.specs.declared.event.Event.{Event}
+use Rattle.due_model.specs.declared.notice.Suppression.{Suppression}
+use Rattle.due_model.specs.declared.zone.Zone.{Zone}
+use Rattle.decider.specs.declared.share.Share.{Share}
+use Rattle.channel_queue.specs.declared.LaneQueue.{LaneQueue}
+use Rattle.deciding.specs.declared.Signal.{Signal}
+use Rattle.deciding.specs.declared.Signal.TheVariants.{Over}
+use Rattle.deciding.specs.declared.seats.Seat.{Seat}
+use Rattle.deciding.specs.Decided.{HasHeard, HasStopped, heard}
+
+-- it has stopped, and then the rest of the ring was passed over
+pub heard_after : (c : Config) (zone : Zone) (share : Share) (queues : List LaneQueue) (over : Bool) (before after : List Signal) (seats : List Seat) (log : List Suppression)
+    → HasStopped c zone share queues over before seats log
+    → (over ≡ true → after ≡ before) → (over ≡ false → (past : List Event) → before ≡ heard past → (newer : List Event) × (after ≡ heard (newer ++ past) ++ Over ∷ []))
+    → HasHeard c zone share queues (not over) after seats log
+heard_after c zone share queues true before after seats log s same rest = record {
+  past = s.past;
+  all = s.all;
+  older = s.older;
+  whole = λ _. s.whole refl;
+  heard_all = same refl ∙ s.heard_all;
+  seats = s.seats;
+  log = s.log;
+}
+heard_after c zone share queues false before after seats log s same rest =
+    let more = rest refl s.all (s.heard_all ∙ append-nil (heard s.all)) in record {
+      past = s.past;
+      all = more.0 ++ s.all;
+      older = (more.0 ++ s.older.0, append_assoc more.0 s.older.0 s.past ∙ ap (λ (es : List Event). more.0 ++ es) s.older.1);
+      whole = λ e. absurd (true≢false e);
+      heard_all = more.1;
+      seats = s.seats;
+      log = s.log;
+    }

@@ -1,0 +1,4 @@
+pub mod Made
+pub mod Puts
+pub mod Decided
+pub mod Laws

@@ -1,0 +1,285 @@
+//! A lane served to its end.
+
+ghost use Rattle.std.specs.Prelude.{◌≡◌, ◌≢◌, ◌↔◌, ◌+◌, ◌<◌, ◌≤◌, ◌++◌, [], None, Some, IsSome};
+ghost use Rattle.std.specs.Prelude.{OnErr, OnOk, false, true, length, if◌then◌else◌};
+ghost use Rattle.std.specs.Option.{option_to_list};
+ghost use mathlib.Core.List.{IsPrefix};
+ghost use Rattle.channel_queue.specs.Passes.{IsWorker};
+ghost use Rattle.channel_queue.specs.Rule.{joined_of, picked_of};
+ghost use Rattle.delivery_worker.specs.Picked.{AllEnded, AreEnds, HasOwnRecord, IsServing};
+ghost use Rattle.delivery_worker.specs.Picked.{held as held_in, joined, next_record};
+ghost use Rattle.due_model.specs.Items.{notices};
+
+use crate::laws::tend;
+use crate::queue::{all_ended, pick_item};
+use crate::{Bell, Gate};
+use channel::Channel;
+use channel_queue::{LaneQueue, Pass};
+use crossbeam_utils::Backoff;
+use due_model::config::Config;
+use due_model::item::Item;
+use std::alloc::{AllocError, Global};
+use std::sync::Wait;
+use undelivered::{LaneRecord, Why};
+
+/// What a worker gives back.
+#[derive(Drop)]
+pub struct Served {
+    /// Its pass, which has picked the end of each decider.
+    pub pass: Pass,
+    /// What the lane's channel has taken, and what was given up.
+    pub held: LaneRecord,
+    /// Why the lane was closed; `NoMemory` also where memory ran out after the close.
+    pub why: Why,
+}
+
+/// Picks what is left, up to the end of each decider, and gives it up. False: memory ran out, and from there on nothing was
+/// recorded.
+fn drain<R: Wait>(
+    rt: &R,
+    lane: &mut LaneRecord,
+    recording: bool,
+    queue: &LaneQueue,
+    pass: Pass,
+    ends: &mut [bool; 8],
+) -> (Pass, bool)
+    requires deciders { queue.now.deciders ≤ 8 }
+    requires worker { IsWorker queue.now (picked_of pass) (joined_of pass) pass }
+    requires ends { AreEnds (picked_of pass) ends.old }
+    requires closed { IsSome lane.old.why }
+    requires idle { lane.old.hand ≡ None }
+    requires order { recording ≡ true → joined lane.old ≡ notices (picked_of pass) }
+    requires front { IsPrefix (joined lane.old) (notices (picked_of pass)) }
+    ensures worker { IsWorker queue.now (picked_of result.0) (joined_of pass) result.0 }
+    ensures ended { AllEnded queue.now.deciders (picked_of result.0) }
+    ensures order { result.1 ≡ true → joined lane.new ≡ notices (picked_of result.0) }
+    ensures front { IsPrefix (joined lane.new) (notices (picked_of result.0)) }
+    ensures recording { result.1 ≡ true → recording ≡ true }
+    ensures kept { lane.new ≡ record lane.old { undelivered = lane.new.undelivered } }
+    ensures grows { IsPrefix lane.old.undelivered lane.new.undelivered }
+{
+    let mut pass = pass;
+    let mut recording = recording;
+    let backoff = Backoff::new();
+    for _ in rt.forever() {
+        if all_ended(ends, queue.deciders()) {
+            return (pass, recording);
+        }
+        let (next, item) = pick_item(queue, pass, ends);
+        pass = next;
+        recording = give_up(lane, recording, item);
+        if item.is_some() {
+            backoff.reset();
+        } else {
+            backoff.snooze();
+        }
+    }
+    unreachable!()
+}
+
+/// Gives up what was picked, while there is memory for it.
+fn give_up(lane: &mut LaneRecord, recording: bool, item: Option<Item>) -> bool
+    requires { IsSome lane.old.why }
+    ensures ok { result ≡ true
+        → (recording ≡ true) × (joined lane.new ≡ joined lane.old ++ notices (option_to_list item)) }
+    ensures err { result ≡ false → lane.new ≡ lane.old }
+    ensures kept { lane.new ≡ record lane.old { undelivered = lane.new.undelivered } }
+    ensures grows { IsPrefix lane.old.undelivered lane.new.undelivered }
+{
+    if !recording {
+        return false;
+    }
+    match item {
+        Some(Item::Notice(_, notice)) => lane.drain(notice).is_ok(),
+        Some(Item::End(_)) | None => true,
+    }
+}
+
+/// Ends the record of the box before, unless this is the first. A refused growth is the only error, and changes nothing.
+fn end_record(lane: &mut LaneRecord, first: bool) -> Result<(), AllocError>
+    requires serving { IsServing lane.old }
+    requires hand { first ≡ false → IsSome lane.old.hand }
+    ensures ok { OnOk result (lane.new ≡ next_record first lane.old) }
+    ensures held { held_in lane.new ≡ held_in lane.old }
+    ensures serving { IsServing lane.new }
+    ensures records { OnOk result (length lane.new.ended ≡ length lane.old.ended + (if first then 0 else 1)) }
+    ensures err { OnErr result (lane.new ≡ lane.old) }
+{
+    if first {
+        return Ok(());
+    }
+    lane.replace()
+}
+
+/// Serves a lane by its first or its next box, which comes with an empty record. Before the next one serves, the record of the
+/// one before ends as it stands; the caller drops each.
+pub fn tend_next<B: Bell, G: Gate, R: Wait>(
+    rt: &R,
+    alloc: Global,
+    config: &Config,
+    channel: &mut Box<dyn Channel>,
+    first: bool,
+    lane: &mut LaneRecord,
+    tries: u8,
+    queue: &LaneQueue,
+    pass: Pass,
+    ends: &mut [bool; 8],
+    bell: &mut B,
+    gate: &G,
+) -> (Pass, Why)
+    requires deciders { queue.now.deciders ≤ 8 }
+    requires worker { IsWorker queue.now (picked_of pass) (joined_of pass) pass }
+    requires ends { AreEnds (picked_of pass) ends.old }
+    requires serving { IsServing lane.old }
+    requires order { held_in lane.old ≡ notices (picked_of pass) }
+    requires hand { first ≡ false → IsSome lane.old.hand }
+    requires tries { 0 < tries }
+    ensures worker { IsWorker queue.now (picked_of result.0) (joined_of pass) result.0 }
+    ensures ends { AreEnds (picked_of result.0) ends.new }
+    ensures serving { IsServing lane.new }
+    ensures order { result.1 ≢ Why.NoMemory → held_in lane.new ≡ notices (picked_of result.0) }
+    ensures front { IsPrefix (held_in lane.new) (notices (picked_of result.0)) }
+    ensures over { result.1 ≡ Why.FeedOver
+        → (lane.new.hand ≡ None) × AllEnded queue.now.deciders (picked_of result.0) }
+    ensures asked { (result.1 ≡ Why.Asked) ↔ (B.count bell.old < B.count bell.new) }
+    ensures bell { B.count bell.new ≤ B.count bell.old + 1 }
+    ensures unasked { result.1 ≢ Why.Asked → B.count bell.new ≡ B.count bell.old }
+    ensures failed { result.1 ≡ Why.Failed → IsSome lane.new.hand }
+    ensures has_channel { result.1 ≢ Why.NoChannel }
+    // The record of now is what this box has taken, and that of the box before stays as it was.
+    ensures own { taken channel.old ≡ [] → (first ≡ true → lane.old.taken ≡ [])
+        → HasOwnRecord first result.1 lane.old lane.new (taken channel.old) (taken channel.new) }
+    ensures records { result.1 ≢ Why.NoMemory
+        → length lane.new.ended ≡ length lane.old.ended + (if first then 0 else 1) }
+    ensures records_left { length lane.new.ended ≤ length lane.old.ended + (if first then 0 else 1) }
+{
+    if end_record(lane, first).is_err() {
+        return (pass, Why::NoMemory);
+    }
+    tend(
+        rt, alloc, config, channel, lane, tries, queue, pass, ends, bell, gate,
+    )
+}
+
+/// Serves a lane by its boxes, one after another, up to the close, which it leaves to the caller. The next box serves where the one
+/// before has failed.
+fn tend_boxes<B: Bell, G: Gate, R: Wait>(
+    rt: &R,
+    alloc: Global,
+    config: &Config,
+    boxes: Vec<Box<dyn Channel>>,
+    lane: &mut LaneRecord,
+    tries: u8,
+    queue: &LaneQueue,
+    pass: Pass,
+    ends: &mut [bool; 8],
+    bell: &mut B,
+    gate: &G,
+) -> (Pass, Why)
+    requires deciders { queue.now.deciders ≤ 8 }
+    requires worker { IsWorker queue.now (picked_of pass) (joined_of pass) pass }
+    requires ends { AreEnds (picked_of pass) ends.old }
+    requires serving { IsServing lane.old }
+    requires order { held_in lane.old ≡ notices (picked_of pass) }
+    requires idle { lane.old.hand ≡ None }
+    requires first { lane.old.ended ≡ [] }
+    requires tries { 0 < tries }
+    ensures worker { IsWorker queue.now (picked_of result.0) (joined_of pass) result.0 }
+    ensures ends { AreEnds (picked_of result.0) ends.new }
+    ensures serving { IsServing lane.new }
+    ensures order { result.1 ≢ Why.NoMemory → held_in lane.new ≡ notices (picked_of result.0) }
+    ensures front { IsPrefix (held_in lane.new) (notices (picked_of result.0)) }
+    ensures over { result.1 ≡ Why.FeedOver
+        → (lane.new.hand ≡ None) × AllEnded queue.now.deciders (picked_of result.0) }
+    ensures asked { (result.1 ≡ Why.Asked) ↔ (B.count bell.old < B.count bell.new) }
+    ensures bell { B.count bell.new ≤ B.count bell.old + 1 }
+    ensures unasked { result.1 ≢ Why.Asked → B.count bell.new ≡ B.count bell.old }
+    ensures failed { result.1 ≡ Why.Failed → IsSome lane.new.hand }
+    ensures no_channel { (result.1 ≡ Why.NoChannel) ↔ (boxes.items ≡ []) }
+    ensures untaken { boxes.items ≡ [] → lane.new ≡ lane.old }
+    ensures each_failed { result.1 ≡ Why.Failed → length lane.new.ended + 1 ≡ length boxes.items }
+    ensures records { boxes.items ≢ [] → length lane.new.ended < length boxes.items }
+{
+    let mut pass = pass;
+    let mut why = Why::NoChannel;
+    for channel in boxes {
+        let mut channel = channel;
+        let first = why == Why::NoChannel;
+        let (next, close) = tend_next(
+            rt,
+            alloc,
+            config,
+            &mut channel,
+            first,
+            lane,
+            tries,
+            queue,
+            pass,
+            ends,
+            bell,
+            gate,
+        );
+        drop(channel);
+        pass = next;
+        why = close;
+        if why != Why::Failed {
+            return (pass, why);
+        }
+    }
+    (pass, why)
+}
+
+/// Serves a lane to its end: up to the close by its boxes, if it has any, and then to the end of each decider. The first box
+/// serves until a letter has failed as often as it may be tried; then the next serves, beginning with that letter. A box is dropped
+/// where the next takes over or at the close, and comes with an empty record.
+pub fn serve<B: Bell, G: Gate, R: Wait>(
+    rt: &R,
+    alloc: Global,
+    config: &Config,
+    boxes: Vec<Box<dyn Channel>>,
+    tries: u8,
+    queue: &LaneQueue,
+    pass: Pass,
+    bell: &mut B,
+    gate: &G,
+) -> Served
+    requires boxes { length boxes.items ≤ 8 }
+    requires tries { 0 < tries }
+    requires deciders { queue.now.deciders ≤ 8 }
+    requires worker { IsWorker queue.now [] [] pass }
+    // Whatever the cause, the end of each decider was picked.
+    ensures worker { IsWorker queue.now (picked_of result.pass) [] result.pass }
+    ensures ended { AllEnded queue.now.deciders (picked_of result.pass) }
+    // What was taken and then what was given up is what was picked, in order; where memory ran out, a first part of it.
+    ensures order { result.why ≢ Why.NoMemory → joined result.held ≡ notices (picked_of result.pass) }
+    ensures front { IsPrefix (joined result.held) (notices (picked_of result.pass)) }
+    // The record is closed, for the same cause unless memory ran out later.
+    ensures hand { result.held.hand ≡ None }
+    ensures closed { IsSome result.held.why }
+    ensures why { result.why ≢ Why.NoMemory → result.held.why ≡ Some result.why }
+    // The cause of the close.
+    ensures over { result.held.why ≡ Some Why.FeedOver → result.held.undelivered ≡ [] }
+    ensures asked { (result.held.why ≡ Some Why.Asked) ↔ (B.count bell.old < B.count bell.new) }
+    ensures bell { B.count bell.new ≤ B.count bell.old + 1 }
+    ensures failed { result.held.why ≡ Some Why.Failed → result.held.undelivered ≢ [] }
+    ensures each_failed { result.held.why ≡ Some Why.Failed
+        → length result.held.ended + 1 ≡ length boxes.items }
+    ensures no_channel { (result.held.why ≡ Some Why.NoChannel) ↔ (boxes.items ≡ []) }
+    ensures untaken { boxes.items ≡ [] → result.held.taken ≡ [] }
+    // There is one record for each box that served.
+    ensures records { boxes.items ≢ [] → length result.held.ended < length boxes.items }
+    ensures no_records { boxes.items ≡ [] → result.held.ended ≡ [] }
+{
+    let mut held = LaneRecord::new(alloc);
+    let mut ends = [false; 8];
+    let (pass, why) = tend_boxes(
+        rt, alloc, config, boxes, &mut held, tries, queue, pass, &mut ends, bell, gate,
+    );
+    held.close(why);
+    if why == Why::FeedOver {
+        return Served { pass, held, why };
+    }
+    let (pass, recorded) = drain(rt, &mut held, why != Why::NoMemory, queue, pass, &mut ends);
+    let why = if recorded { why } else { Why::NoMemory };
+    Served { pass, held, why }
+}

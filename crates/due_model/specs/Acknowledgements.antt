@@ -1,0 +1,80 @@
+-- Acknowledgements: who has taken a problem on is not woken again (chapter "External Commands").
+use Rattle.std.specs.Prelude.{ℕ, Bool, true, false, not, ◌&&◌, ◌||◌, ◌==◌, List, [], ◌∷◌, Option, None, Some, if◌then◌else◌}
+use Rattle.std.specs.List.{list_all}
+use Rattle.std.specs.Option.{option_map}
+use Rattle.due_model.specs.declared.event.Event.{Event}
+use Rattle.due_model.specs.declared.event.EventKind.{EventKind}
+use Rattle.due_model.specs.declared.event.EventKind.TheVariants.{Clock, Program, Hard, Downtime, Flapping, Ack}
+use Rattle.due_model.specs.declared.state.State.{State}
+use Rattle.due_model.specs.Readings.{hard, is_ok_state, is_problem_state}
+use Rattle.due_model.specs.Rules.{same_state}
+
+-- whether an event is a hard OK state of the object
+abbrev pub is_ok_of : ℕ → EventKind → Bool
+is_ok_of o Clock = false
+is_ok_of o (Program now) = false
+is_ok_of o (Hard p s) = p.0 == o && is_ok_state s
+is_ok_of o (Downtime p change) = false
+is_ok_of o (Flapping p starts) = false
+is_ok_of o (Ack p sticky) = false
+
+-- how an event acknowledges the object, which has this hard state: sticky or not; only a problem is acknowledged
+abbrev pub acknowledges : ℕ → EventKind → State → Option Bool
+acknowledges o Clock state = None
+acknowledges o (Program now) state = None
+acknowledges o (Hard p s) state = None
+acknowledges o (Downtime p change) state = None
+acknowledges o (Flapping p starts) state = None
+acknowledges o (Ack p sticky) state =
+    if p.0 == o && is_problem_state state then Some sticky else None
+
+-- whether an acknowledgement in this state outlasts an event, of which this is the past with the event: it is no hard OK
+-- state of the object, and, unless the acknowledgement is sticky, the hard state is the same
+abbrev pub outlasts : ℕ → (sticky : Bool) → State → List Event → Bool
+outlasts o sticky state [] = true
+outlasts o sticky state (e ∷ past) =
+    not (is_ok_of o e.kind) && (sticky || same_state (hard o (e ∷ past)) state)
+
+-- the last acknowledgement of a problem of object o: whether it is sticky, and the hard state at it
+abbrev pub last_ack : ℕ → List Event → Option (Bool × State)
+last_ack o [] = None
+last_ack o (e ∷ past) =
+    elim (acknowledges o e.kind (hard o (e ∷ past))) as (λ _. Option (Bool × State)) [
+      | None ↦ last_ack o past
+      | Some sticky ↦ Some (sticky, hard o (e ∷ past))
+    ]
+
+-- the past at each event since that acknowledgement, with the event, the newest first
+abbrev pub since_ack : ℕ → List Event → List (List Event)
+since_ack o [] = []
+since_ack o (e ∷ past) =
+    elim (acknowledges o e.kind (hard o (e ∷ past))) as (λ _. List (List Event)) [
+      | None ↦ (e ∷ past) ∷ since_ack o past
+      | Some sticky ↦ []
+    ]
+
+-- Acked: the last acknowledgement of the object's problem outlasts each event since
+abbrev pub acked : ℕ → List Event → Bool
+acked o past = elim (last_ack o past) as (λ _. Bool) [
+  | None ↦ false
+  | Some ack ↦ list_all (outlasts o ack.0 ack.1) (since_ack o past)
+]
+
+-- how the running problem is acknowledged: sticky or not; none where it isn't
+abbrev pub acknowledgement : ℕ → List Event → Option Bool
+acknowledgement o past = if acked o past then option_map (λ ack. ack.0) (last_ack o past) else None
+
+-- what is left of an acknowledgement when an object in hard state `old` has the hard state `now`
+abbrev pub kept_in_state : Option Bool → (old now : State) → Option Bool
+kept_in_state None old now = None
+kept_in_state (Some sticky) old now =
+    if not (is_ok_state now) && (sticky || same_state now old) then Some sticky else None
+
+-- what is left of it after an event, of an object in this hard state before it
+abbrev pub ack_after : ℕ → EventKind → State → Option Bool → Option Bool
+ack_after o Clock old kept = kept
+ack_after o (Program on) old kept = kept
+ack_after o (Hard p s) old kept = if p.0 == o then kept_in_state kept old s else kept
+ack_after o (Downtime p change) old kept = kept
+ack_after o (Flapping p starts) old kept = kept
+ack_after o (Ack p sticky) old kept = if p.0 == o && is_problem_state old then Some sticky else kept

@@ -1,0 +1,21 @@
+use Rattle.std.proofs.Common.{List, subst, sym, ℕ}
+use Rattle.due_model.specs.declared.event.Event.{Event}
+use Rattle.engine.specs.Lanes.{count_of}
+use Rattle.engine.specs.Run.{IsRunOf}
+use Rattle.engine.proofs.FeedsLaws.{feeds_done}
+use Rattle.engine.proofs.engine.Engine.run_feeds.Goals as goal
+
+pub returns : goal.returns
+returns g c =
+    let config = c.args.config.now in
+    let given : ℕ → ℕ = count_of (λ post. post.lane.0) c.args.posts.items in
+    let ran = c.run_source-lanes in
+    let parts = c.into_parts-events in
+    let done = feeds_done config c.new.result ran.result.source c.args.ends.items parts.result.1.items parts.result.0.items ran.result.memory parts.result.2 c.new.ensures.ends c.new.ensures.events (c.new.ensures.taken config)
+    ran.ensures.source parts.ensures.events parts.ensures.ends
+    (λ taken m uncut. parts.ensures.over config taken m (ran.ensures.over m) uncut) (λ taken cut. parts.ensures.cut config taken cut) in
+    let run : IsRunOf config c.args.zone.now given parts.result.0.items ran.result.memory ran.result.lanes.items ran.result.log.items =
+    subst (λ (es : List Event). IsRunOf config c.args.zone.now given es ran.result.memory ran.result.lanes.items ran.result.log.items) (sym parts.ensures.events) ran.ensures.run in
+    let refused = c.new-2.ensures.items in
+    let uncut = parts.ensures.uncut in
+    assumption (run, done, refused, uncut)

@@ -1,0 +1,195 @@
+//! Runs over feeds from callers' own threads.
+
+ghost use Rattle.std.specs.Prelude.{◌≡◌, ◌≢◌, ◌≤◌, ℕ, All, [], true, false, length, reverse, None, IfOk};
+ghost use Rattle.std.specs.Prelude.{IsSome};
+ghost use Rattle.std.specs.List.{AllZip};
+ghost use Rattle.due_model.specs.declared.config.Config.{Config};
+ghost use Rattle.due_model.specs.Accepted.{IsAccepted};
+ghost use Rattle.due_model.specs.Proper.{IsProper};
+ghost use Rattle.caller_feeds.specs.Feeds.{ArePairs, AreUnread, AreUnsent, IsSameEnd};
+ghost use Rattle.caller_feeds.specs.Taken.{AreOver, IsTaken};
+ghost use Rattle.engine.specs.Due.{BeginsLog, HaveCauses, IsLog, LanesAreDue, LanesBeginDue};
+ghost use Rattle.engine.specs.Due.{LanesKeepDue};
+ghost use Rattle.engine.specs.Feeds.{AreCut, AreTaken, FeedsGo};
+ghost use Rattle.engine.specs.Lanes.{count_of};
+
+use crate::engine::Engine;
+use crate::post::Post;
+use crate::run_end::RunEnd;
+use crate::running::{Ran, run_source};
+use caller_feeds::{FeedEnd, FeedHandle, Intake, IntakeStop};
+use closers::Closers;
+use delivery_worker::Gate;
+use due_model::config::Config;
+use due_model::event::Event;
+use due_model::limits::MAX_EVENTS;
+use due_model::zone::Zone;
+use engine_threads::{Given, Source};
+use std::alloc::{AllocError, Global};
+use std::sync::Wait;
+use std::thread::Threads;
+use steps::Settings;
+
+/// What was taken of callers' feeds.
+#[derive(Drop)]
+pub(crate) struct Feeds {
+    intake: Intake,
+    /// Where the feeds are over, whether they were cut: an event can't be numbered, or the end of one is missing.
+    over: Option<bool>,
+}
+
+impl Feeds {
+    /// Nothing was taken of these ends' feeds. It takes no memory.
+    fn new(alloc: Global, ends: Vec<FeedEnd>) -> Self
+        requires { AreUnread ends.items }
+        ensures ends { result.intake.ends ≡ ends.items }
+        ensures events { result.intake.events ≡ [] }
+        ensures taken { (c : Config) → AreTaken c result × IsTaken c ends.items [] }
+    {
+        Feeds {
+            intake: Intake::new(alloc, ends, MAX_EVENTS as usize),
+            over: None,
+        }
+    }
+
+    /// The events, the ends in their order, and whether the feeds were cut; they aren't said to be where memory ran out.
+    fn into_parts(self, memory: bool) -> (Vec<Event>, Vec<FeedEnd>, bool)
+        ensures events { result.0.items ≡ self.intake.events }
+        ensures ends { result.1.items ≡ self.intake.ends }
+        ensures over { (c : Config) → AreTaken c self → memory ≡ false → IsSome self.over
+            → result.2 ≡ false → AreOver self.intake.ends }
+        ensures cut { (c : Config) → AreTaken c self → result.2 ≡ true
+            → AreCut c self.intake.ends self.intake.events }
+        ensures uncut { memory ≡ true → result.2 ≡ false }
+    {
+        let Feeds { intake, over } = self;
+        let (events, ends) = intake.into_lists();
+        (events, ends, over == Some(true) && !memory)
+    }
+}
+
+impl Source for Feeds {
+    ghost use Rattle.std.specs.Prelude.{IsSome};
+    ghost use Rattle.caller_feeds.specs.FeedLaws.{goes_on, goes_on_then};
+    ghost use Rattle.engine.specs.Feeds.{FeedsGo};
+
+    ghost given_so_far = { λ s. s.intake.events };
+
+    ghost goes = { λ c a b. FeedsGo c a b };
+
+    ghost stays = { λ c s. record { intake = goes_on c s.intake; taken = λ taken. taken } };
+
+    ghost ended = { λ s. IsSome s.over };
+
+    ghost follows = { λ c a b d one two. record {
+      intake = goes_on_then c a.intake b.intake d.intake one.intake two.intake;
+      taken = λ taken. two.taken (one.taken taken);
+    } };
+
+    fn next(&mut self, config: &Config) -> Result<Given, AllocError> {
+        if self.over.is_some() {
+            return Ok(Given::Over);
+        }
+        match self.intake.try_event(config) {
+            Ok(Some(event)) => return Ok(Given::Event(event)),
+            Ok(None) => return Ok(Given::Nothing),
+            Err(IntakeStop::NoMemory) => return Err(AllocError),
+            Err(IntakeStop::Over) => self.over = Some(false),
+            Err(IntakeStop::Ended | IntakeStop::HandleDropped) => self.over = Some(true),
+        }
+        Ok(Given::Over)
+    }
+}
+
+impl Engine {
+    /// So many feeds for callers in threads of their own: the handles, on which callers post, and in the same order the ends, which
+    /// `run_feeds` takes. Each holds 256 items. A refused growth is the only error.
+    pub fn feeds(alloc: Global, count: usize) -> Result<(Vec<FeedHandle>, Vec<FeedEnd>), AllocError>
+        ensures count { IfOk result (λ r. length r.1.items ≡ count) }
+        ensures pairs { IfOk result (λ r. ArePairs r.0.items r.1.items) }
+        ensures unsent { IfOk result (λ r. AreUnsent r.0.items) }
+        ensures unread { IfOk result (λ r. AreUnread r.1.items) }
+    {
+        caller_feeds::feeds(alloc, count)
+    }
+
+    /// As `run`, but the events come from the ends of callers' feeds, one at a time, of each feed in its order; in which order they
+    /// come of different feeds isn't promised. An improper event is passed over, and its end counts it. Events keep the stamps that
+    /// were sent: one that says less than an earlier one is taken at the earlier one's moment. The run goes on until each feed has
+    /// sent its end. It is cut where as many events were taken as can be numbered and one more waits in its feed, and where all that
+    /// was posted was taken and each feed whose end is missing has lost its handle: so a handle that is dropped doesn't hold the run
+    /// up, and `FeedEnd::is_over` tells which it was. The ends come back in their order, where memory ran out too.
+    pub fn run_feeds<G: Gate + Sync, T: Threads + Wait + Sync>(
+        rt: &T,
+        alloc: Global,
+        config: &Config,
+        zone: &Zone,
+        ends: Vec<FeedEnd>,
+        posts: Vec<Post>,
+        settings: Settings,
+        closers: &Closers,
+        gate: &G,
+    ) -> (RunEnd, Vec<FeedEnd>)
+        requires accepted { IsAccepted config.now }
+        // Of each lane there are at most eight posts.
+        requires few { (l : ℕ) → count_of (λ post. post.lane.0) posts.items l ≤ 8 }
+        requires unread { AreUnread ends.items }
+        // All that was due: of each object, each lane has taken or given up exactly that, in order,
+        ensures due { result.0.memory ≡ false → LanesAreDue config.now zone.now
+            (reverse result.0.events.items) result.0.lanes.items }
+        // and the log is all that was suppressed.
+        ensures log { result.0.memory ≡ false
+            → IsLog config.now zone.now (reverse result.0.events.items) result.0.log.items }
+        // All that was taken: the events are a merge of the proper ones that the ends have received, and each has counted the others.
+        ensures taken { IsTaken config.now result.1.items result.0.events.items }
+        ensures proper { All (IsProper config.now) result.0.events.items }
+        ensures refused { result.0.refused.items ≡ [] }
+        // The ends come back in order, each that of its feed.
+        ensures ends { AllZip IsSameEnd ends.items result.1.items }
+        // Each feed's end was received, or the feeds were cut,
+        ensures over { result.0.memory ≡ false → result.0.cut ≡ false → AreOver result.1.items }
+        ensures cut { result.0.cut ≡ true → AreCut config.now result.1.items result.0.events.items }
+        // or memory ran out: then what is there is a front of what there would be,
+        ensures uncut { result.0.memory ≡ true → result.0.cut ≡ false }
+        ensures due_front { LanesBeginDue config.now zone.now (reverse result.0.events.items)
+            result.0.lanes.items }
+        ensures log_front { BeginsLog config.now zone.now (reverse result.0.events.items)
+            result.0.log.items }
+        // a lane whose own memory sufficed has all that was decided,
+        ensures others { LanesKeepDue config.now zone.now (reverse result.0.events.items)
+            result.0.lanes.items }
+        // and every lane is there, where an event was accepted.
+        ensures whole { result.0.events.items ≢ []
+            → length result.0.lanes.items ≡ length config.now.lanes }
+        // A lane is closed for a cause.
+        ensures causes { HaveCauses (count_of (λ post. post.lane.0) posts.items)
+            result.0.memory result.0.lanes.items }
+    {
+        let Ran {
+            lanes,
+            log,
+            memory,
+            source,
+        } = run_source(
+            rt,
+            alloc,
+            config,
+            zone,
+            Feeds::new(alloc, ends),
+            posts,
+            settings,
+            closers,
+            gate,
+        );
+        let (events, ends, cut) = source.into_parts(memory);
+        let end = RunEnd {
+            events,
+            refused: Vec::new(alloc),
+            log,
+            lanes,
+            memory,
+            cut,
+        };
+        (end, ends)
+    }
+}

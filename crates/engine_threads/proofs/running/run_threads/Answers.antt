@@ -1,0 +1,50 @@
+use Rattle.std.proofs.Common.{arith, ◌≡◌, ◌<◌, ◌∙◌, ℕ, List, length, slice_get, Some, ap, subst, sym, reverse}
+use Rattle.std.proofs.lemmas.Option.{slice_get_within}
+use Rattle.due_model.specs.declared.event.Event.{Event}
+use Rattle.delivery_worker.specs.declared.worker.Served.{Served}
+use Rattle.engine_threads.specs.Run.{IsRun}
+use Rattle.engine_threads.proofs.ListLaws.{exists_at}
+use Rattle.engine_threads.proofs.RunLaws.{run_of_none}
+use Rattle.engine_threads.proofs.WorkLaws.{number_at, number_of}
+use Rattle.engine_threads.proofs.running.run_threads.Goals as goal
+
+pub returns-in_default-clause-run : goal.returns-in_default-clause-run
+returns-in_default-clause-run g c = λ boxes slots.
+    let end = c.nothing.result in
+    let none = c.nothing.ensures in
+    run_of_none c.args.config.now c.args.zone.now boxes (reverse (g.S.Source.given_so_far end.source)) end.memory end.lanes.items end.log.items none.lanes none.log none.memory
+
+pub returns-clause-run : goal.returns-clause-run
+returns-clause-run g c = λ boxes slots.
+    let end = c.nothing-in-Err.result in
+    let none = c.nothing-in-Err.ensures in
+    run_of_none c.args.config.now c.args.zone.now boxes (reverse (g.S.Source.given_so_far end.source)) end.memory end.lanes.items end.log.items none.lanes none.log none.memory
+
+pub returns-in-Ok-run_scope-clause-run : goal.returns-in-Ok-run_scope-clause-run
+returns-in-Ok-run_scope-clause-run g c = λ boxes slots.
+    let set = c.in-Ok.ensures in
+    let works : (l : ℕ) (w : _) → slice_get c.in-Ok.setting.works.items l ≡ Some w → length w.boxes.items ≡ boxes l = λ l w at.
+    let s = exists_at c.args.slots.items l (subst (λ n. l < n) set.works (slice_get_within c.in-Ok.setting.works.items l w at)) in
+    ap (λ bs. length bs.items) (set.slots l w s.0 s.1 at).0 ∙ slots l s.0 s.1 in
+    let run = c.end_of.ensures.run c.args.config.now c.args.zone.now boxes (reverse (g.S.Source.given_so_far c.in-Ok-run_scope.driven.source)) (c.in-Ok-run_scope.ensures.lanes boxes works) c.in-Ok-run_scope.ensures.log in
+    let past = ap (λ s. reverse (g.S.Source.given_so_far s)) (sym c.end_of.ensures.source) in
+    subst (λ (es : List Event). IsRun c.args.config.now c.args.zone.now boxes es c.end_of.result.memory c.end_of.result.lanes.items c.end_of.result.log.items) past run
+
+pub returns-in-Ok-run_scope-clause-whole : goal.returns-in-Ok-run_scope-clause-whole
+returns-in-Ok-run_scope-clause-whole g c = λ some.
+    let works = c.in-Ok.setting.works.items in
+    let lanes = c.in-Ok-run_scope.ensures.lanes (number_of works (λ w. length w.boxes.items)) (number_at works (λ w. length w.boxes.items)) in
+    subst (λ (ss : List Served). length ss ≡ length c.args.config.now.lanes) (sym c.end_of.ensures.lanes) (lanes.count)
+
+pub returns-in_default-clause-few : goal.returns-in_default-clause-few
+returns-in_default-clause-few g c = let none = ap (λ (ss : List Served). length ss) c.nothing.ensures.lanes in omega (arith, none)
+
+pub returns-clause-few : goal.returns-clause-few
+returns-clause-few g c = let none = ap (λ (ss : List Served). length ss) c.nothing-in-Err.ensures.lanes in omega (arith, none)
+
+pub returns-in-Ok-run_scope-clause-few : goal.returns-in-Ok-run_scope-clause-few
+returns-in-Ok-run_scope-clause-few g c =
+    let works = c.in-Ok.setting.works.items in
+    let lanes = c.in-Ok-run_scope.ensures.lanes (number_of works (λ w. length w.boxes.items)) (number_at works (λ w. length w.boxes.items)) in
+    let same = ap (λ (ss : List Served). length ss) c.end_of.ensures.lanes in
+    omega (arith, same, lanes.count)

@@ -1,0 +1,34 @@
+-- What a worker's thread gives back.
+use Rattle.std.specs.Prelude.{◌≡◌, ◌≢◌, ◌↔◌, ℕ, ◌+◌, ◌<◌, [], length, Some, IsSome}
+use mathlib.Core.List.{IsPrefix}
+use Rattle.due_model.specs.Items.{notices}
+use Rattle.channel_queue.specs.declared.LaneQueue.{LaneQueue}
+use Rattle.channel_queue.specs.Passes.{IsWorker}
+use Rattle.channel_queue.specs.Rule.{picked_of}
+use Rattle.delivery_worker.specs.declared.worker.Served.{Served}
+use Rattle.delivery_worker.specs.Picked.{AllEnded, joined}
+use Rattle.undelivered.specs.Record.{Record}
+use Rattle.undelivered.specs.declared.Why.{Why}
+use Rattle.undelivered.specs.declared.Why.TheVariants as why
+
+-- A lane that had so many boxes was closed for a cause, as this record and what the worker says of it tell. There is one record for
+-- each box that served, and a lane that failed had no box left.
+pub record HasCause (boxes : ℕ) (held : Record) (told : Why) : Type 0 where
+  pub closed : IsSome held.why
+  pub cause : told ≢ why.NoMemory → held.why ≡ Some told
+  pub over : held.why ≡ Some why.FeedOver → held.undelivered ≡ []
+  pub failed : held.why ≡ Some why.Failed → held.undelivered ≢ []
+  pub each_failed : held.why ≡ Some why.Failed → length held.ended + 1 ≡ boxes
+  pub no_channel : (held.why ≡ Some why.NoChannel) ↔ (boxes ≡ 0)
+  pub untaken : boxes ≡ 0 → held.taken ≡ []
+  pub records : boxes ≢ 0 → length held.ended < boxes
+  pub no_records : boxes ≡ 0 → held.ended ≡ []
+
+-- A lane was served to its end, by so many boxes at most.
+pub record IsServed (q : LaneQueue) (boxes : ℕ) (s : Served) : Type 0 where
+  pub worker : IsWorker q (picked_of s.pass) [] s.pass
+  pub ended : AllEnded q.deciders (picked_of s.pass)
+  -- what was taken and then what was given up is what was picked, in order; where memory ran out, a first part of it
+  pub order : s.why ≢ why.NoMemory → joined s.held ≡ notices (picked_of s.pass)
+  pub front : IsPrefix (joined s.held) (notices (picked_of s.pass))
+  pub cause : HasCause boxes s.held s.why

@@ -1,0 +1,236 @@
+//! A run of all threads.
+
+ghost use Rattle.std.specs.Prelude.{◌≡◌, ◌≢◌, ◌||◌, ◌<◌, ◌≤◌, ℕ, List, [], IfErr, IfOk, false};
+ghost use Rattle.std.specs.Prelude.{true, length, reverse, slice_get, Some};
+ghost use Rattle.due_model.specs.declared.config.Config.{Config};
+ghost use Rattle.due_model.specs.declared.event.Event.{Event};
+ghost use Rattle.due_model.specs.declared.zone.Zone.{Zone};
+ghost use Rattle.due_model.specs.Accepted.{IsAccepted};
+ghost use Rattle.channel_queue.specs.Passes.{IsWorker};
+ghost use Rattle.engine_threads.specs.Run.{AreLaneEnds, IsLogOf, IsRun};
+ghost use Rattle.engine_threads.specs.Works.{AreDeciderWorks, AreRings};
+
+use crate::driving::{Driven, drive};
+use crate::setting::{Setting, set_all};
+use crate::source::Source;
+use crate::starting::DeciderWork;
+use crate::word::StartWord;
+use crate::working::LaneWork;
+use crate::zone::GivesZone;
+use channel::Channel;
+use channel_queue::LaneQueue;
+use closers::Closers;
+use deciding::Signal;
+use delivery_worker::{Gate, Served};
+use due_model::config::Config;
+use due_model::notice::Suppression;
+use due_model::zone::Zone;
+use rtrb::Producer;
+use std::alloc::Global;
+use std::sync::Wait;
+use std::sync::atomic::AtomicBool;
+use std::thread;
+use std::thread::Threads;
+use steps::Settings;
+use undelivered::Why;
+
+/// What the threads of a run leave.
+#[derive(Drop)]
+pub struct ThreadsEnd<S: Source> {
+    /// Each lane in order; none where a thread can't be started or memory ran out before they begin, and then no event was taken.
+    pub lanes: Vec<Served>,
+    /// What was suppressed, by event, then object, then contact.
+    pub log: Vec<Suppression>,
+    /// Whether memory ran out in any thread, or one can't be started.
+    pub memory: bool,
+    /// Where the events came from.
+    pub source: S,
+}
+
+/// The threads of a run, in a scope.
+fn run_scope<S: Source, Z: GivesZone + Sync, G: Gate + Sync, R: Threads + Wait + Sync>(
+    rt: &R,
+    alloc: Global,
+    config: &Config,
+    zone: &Z,
+    source: S,
+    halt: &AtomicBool,
+    works: Vec<LaneWork>,
+    deciders: Vec<DeciderWork>,
+    senders: Vec<Producer<Signal>>,
+    tries: u8,
+    queues: &[LaneQueue],
+    closers: &Closers,
+    gate: &G,
+    word: &StartWord,
+) -> Result<Driven<S>, S>
+    requires accepted { IsAccepted config.now }
+    requires tries { 0 < tries }
+    requires source { S.given_so_far source ≡ [] }
+    requires some { 0 < length deciders.items }
+    requires most { length deciders.items ≤ 8 }
+    requires lanes { length queues.now ≡ length config.now.lanes }
+    requires queues { (l : ℕ) (q : _) → slice_get queues.now l ≡ Some q
+        → q.deciders ≡ length deciders.items }
+    requires works { length works.items ≡ length queues.now }
+    requires workers { (l : ℕ) (q : _) (w : _) → slice_get queues.now l ≡ Some q
+        → slice_get works.items l ≡ Some w → IsWorker q [] [] w.pass }
+    requires deciders { AreDeciderWorks queues.now deciders.items }
+    requires senders { length senders.items ≡ length deciders.items }
+    requires rings { AreRings deciders.items senders.items }
+    ensures lanes { IfOk result (λ r. (boxes : ℕ → ℕ)
+        → ((l : ℕ) (w : _) → slice_get works.items l ≡ Some w → length w.boxes.items ≡ boxes l)
+        → AreLaneEnds config.now (Z.zone zone.now) boxes (reverse (S.given_so_far r.source)) r.refused
+        r.served.items) }
+    ensures log { IfOk result (λ r.
+        IsLogOf config.now (Z.zone zone.now) (reverse (S.given_so_far r.source)) (r.refused || r.memory)
+        r.log.items) }
+    ensures source { IfOk result (λ r. S.goes config.now source r.source) }
+    ensures over { IfOk result (λ r. r.memory ≡ false → S.ended r.source) }
+    ensures none { IfErr result (λ s. s ≡ source) }
+{
+    thread::scope(
+        thread::scope_env(),
+        rt,
+        move |scope| -> Result<Driven<S>, S>
+            requires { IsAccepted config.now × (0 < tries) × (S.given_so_far source ≡ []) × (0 < length deciders.items)
+                × (length deciders.items ≤ 8) × (length queues.now ≡ length config.now.lanes)
+                × ((l : ℕ) (q : _) → slice_get queues.now l ≡ Some q → q.deciders ≡ length deciders.items)
+                × (length works.items ≡ length queues.now)
+                × ((l : ℕ) (q : _) (w : _) → slice_get queues.now l ≡ Some q → slice_get works.items l ≡ Some w → IsWorker q [] [] w.pass)
+                × AreDeciderWorks queues.now deciders.items × (length senders.items ≡ length deciders.items)
+                × AreRings deciders.items senders.items }
+            ensures lanes { IfOk result (λ r. (boxes : ℕ → ℕ)
+                → ((l : ℕ) (w : _) → slice_get works.items l ≡ Some w → length w.boxes.items ≡ boxes l)
+                → AreLaneEnds config.entry.now (Z.zone zone.entry.now) boxes (reverse (S.given_so_far r.source)) r.refused
+                r.served.items) }
+            ensures log { IfOk result (λ r.
+                IsLogOf config.entry.now (Z.zone zone.entry.now) (reverse (S.given_so_far r.source)) (r.refused || r.memory)
+                r.log.items) }
+            ensures source { IfOk result (λ r. S.goes config.entry.now source r.source) }
+            ensures over { IfOk result (λ r. r.memory ≡ false → S.ended r.source) }
+            ensures none { IfErr result (λ s. s ≡ source) }
+        {
+            drive(
+                scope, rt, alloc, config, zone, source, halt, works, deciders, senders, tries,
+                queues, closers, gate, word,
+            )
+        },
+    )
+}
+
+/// Whether memory ran out in a worker.
+fn any_refused(lanes: &[Served]) -> bool
+    ensures { result ≡ false → (l : ℕ) (s : _) → slice_get lanes.now l ≡ Some s
+        → s.why ≢ Why.NoMemory }
+{
+    for lane in lanes {
+        if lane.why == Why::NoMemory {
+            return true;
+        }
+    }
+    false
+}
+
+/// A run in which memory ran out, or a thread couldn't be started, before it began.
+fn nothing<S: Source>(alloc: Global, source: S) -> ThreadsEnd<S>
+    ensures lanes { result.lanes.items ≡ [] }
+    ensures log { result.log.items ≡ [] }
+    ensures memory { result.memory ≡ true }
+    ensures source { result.source ≡ source }
+{
+    ThreadsEnd {
+        lanes: Vec::new(alloc),
+        log: Vec::new(alloc),
+        memory: true,
+        source,
+    }
+}
+
+/// What the threads left, as a run's end.
+fn end_of<S: Source>(driven: Driven<S>) -> ThreadsEnd<S>
+    ensures run { (c : Config) (zone : Zone) (boxes : ℕ → ℕ) (past : List Event)
+        → AreLaneEnds c zone boxes past driven.refused driven.served.items
+        → IsLogOf c zone past (driven.refused || driven.memory) driven.log.items
+        → IsRun c zone boxes past result.memory result.lanes.items result.log.items }
+    ensures source { result.source ≡ driven.source }
+    ensures memory { result.memory ≡ false → driven.memory ≡ false }
+    ensures lanes { result.lanes.items ≡ driven.served.items }
+{
+    let Driven {
+        served,
+        log,
+        refused,
+        memory,
+        source,
+    } = driven;
+    let memory = (refused | memory) | any_refused(&served);
+    ThreadsEnd {
+        lanes: served,
+        log,
+        memory,
+        source,
+    }
+}
+
+/// Takes the events of a source to their end, decides each by all deciders, and hands what is due to the boxes of the lanes, of
+/// which each has a worker; all in threads of their own. Of a lane's boxes, at most eight, the first serves, and each other where
+/// the one before has failed, beginning with the letter in hand. Each thread waits for a word first: where one can't be started, none
+/// begins. Where a growth is refused in the source or a decider, no further event is taken or decided.
+pub fn run_threads<S: Source, G: Gate + Sync, R: Threads + Wait + Sync>(
+    rt: &R,
+    alloc: Global,
+    config: &Config,
+    zone: &Zone,
+    source: S,
+    slots: Vec<Vec<Box<dyn Channel>>>,
+    settings: Settings,
+    closers: &Closers,
+    gate: &G,
+) -> ThreadsEnd<S>
+    requires accepted { IsAccepted config.now }
+    requires source { S.given_so_far source ≡ [] }
+    requires lanes { length slots.items ≡ length config.now.lanes }
+    requires few { (l : ℕ) (c : _) → slice_get slots.items l ≡ Some c → length c.items ≤ 8 }
+    ensures run { (boxes : ℕ → ℕ)
+        → ((l : ℕ) (c : _) → slice_get slots.items l ≡ Some c → length c.items ≡ boxes l)
+        → IsRun config.now zone.now boxes (reverse (S.given_so_far result.source)) result.memory
+        result.lanes.items result.log.items }
+    ensures source { S.goes config.now source result.source }
+    ensures over { result.memory ≡ false → S.ended result.source }
+    ensures few { length result.lanes.items ≤ length config.now.lanes }
+    ensures whole { S.given_so_far result.source ≢ []
+        → length result.lanes.items ≡ length config.now.lanes }
+{
+    let capacity = usize::from(settings.queue);
+    let Ok(setting) = set_all(alloc, slots, settings.deciders, capacity) else {
+        return nothing(alloc, source);
+    };
+    let Setting {
+        queues,
+        works,
+        deciders,
+        senders,
+    } = setting;
+    let word = StartWord::new();
+    let halt = AtomicBool::new(false);
+    match run_scope(
+        rt,
+        alloc,
+        config,
+        zone,
+        source,
+        &halt,
+        works,
+        deciders,
+        senders,
+        settings.tries,
+        queues.as_slice(),
+        closers,
+        gate,
+        &word,
+    ) {
+        Ok(driven) => end_of(driven),
+        Err(source) => nothing(alloc, source),
+    }
+}

@@ -1,0 +1,160 @@
+"""What the scripts here ask of the kit: its command `rt`, which is a Python program, loaded as a module; the crates of this repository; and the
+libraries below them, as they were built.
+
+A library that a crate names is read from what a build left of it. `rt ci` builds libraries of its own and keeps them beside the kit, and `rt check` and
+`rt run` build theirs in the clone, in `crates/NAME/out/rlib`. Neither reads the other's, and a mixture of the two can't be used. What a library states
+is the same text in both, wherever the clone stands."""
+import copy
+import functools
+import hashlib
+import importlib.machinery
+import importlib.util
+import os
+import shutil
+import signal
+import sys
+import tempfile
+import threading
+
+TOP = os.path.dirname(os.path.dirname(os.path.realpath(__file__)))
+# Each check takes one processor, so that as many run side by side as there are.
+ONE_JOB = ["--jobs", "1"]
+# A function's own proof, which no other crate cites.
+OF_FUNCTIONS = ("Answers.antt", "Invariants.antt", "Proof.antt")
+
+
+def load():
+    """Returns the kit's command as a module. It reads its own words as it is loaded, so it gets none."""
+    program = shutil.which("rt")
+    if not program:
+        sys.exit("the command rt of the Rattle kit, which proves and builds, isn't on the PATH")
+    loader = importlib.machinery.SourceFileLoader("rt_program", os.path.realpath(program))
+    module = importlib.util.module_from_spec(importlib.util.spec_from_loader("rt_program", loader))
+    words, sys.argv = sys.argv, ["rt"]
+    try:
+        loader.exec_module(module)
+    finally:
+        sys.argv = words
+    return module
+
+
+rt = load()
+rtlib = rt.rtlib
+# What keeps other commands of the kit out of the folders in which this process builds.
+held = []
+
+
+def begin():
+    """Has all that is started end with this process, however it ends. It is called before any thread starts."""
+    rtlib.guarded()
+    if signal.getsignal(signal.SIGINT) is signal.default_int_handler:
+        signal.signal(signal.SIGINT, signal.SIG_DFL)
+
+
+def identity():
+    """Returns the text that names the kit."""
+    return rtlib.text_of(f"{rt.KIT}/KIT-ID")
+
+
+def crates(top=TOP):
+    """Returns the crates of the repository, lowest first."""
+    return rtlib.crates_below(top)
+
+
+def libraries_below(some):
+    """Returns the libraries that these crates stand on, each after those that it names itself."""
+    found = []
+    for crate in some:
+        found += [it for it in crate.below() if it not in found]
+    return found
+
+
+@functools.lru_cache(maxsize=None)
+def stated(built):
+    """Returns a sum of what a library states that was built in this folder: its interface, its code without bodies, its specs and its lemmas."""
+    total = hashlib.sha256()
+    for part in ("interface/lang", "lang/src", "lang/antt"):
+        for at, folders, names in os.walk(f"{built}/{part}"):
+            folders.sort()
+            for name in sorted(names):
+                if name.endswith((".rt", ".antt")) and name not in OF_FUNCTIONS:
+                    path = f"{at}/{name}"
+                    total.update(f"{os.path.relpath(path, built)} {rtlib.sum_of(path)}\n".encode())
+    return total.hexdigest()
+
+
+def take_kept(libraries, room):
+    """Gives each library the one that `rt ci` keeps beside the kit of the same text, over the same libraries, by links in the folder `room`. Returns whether
+    there is one of each; where one is lacking, nothing is changed."""
+    rt.Crate.allowed = rt.handles_of(TOP)
+    kept, given = rt.Kept(libraries), {}
+    for it in libraries:
+        shadow = copy.copy(it)
+        shadow.folder = f"{room}/{it.name}"
+        if not kept.give(shadow, False, kept.key(it)):
+            return False
+        kept.is_built(shadow)
+        given[it.name] = f"{shadow.folder}/out/rlib/{it.name}.rlib"
+    for it in libraries:
+        it.rlib = given[it.name]
+    return True
+
+
+def is_newer(crate):
+    """Returns whether the library in the clone was made after the last change of the crate's files. So it is after `rt ci`, which leaves no stamp."""
+    made = f"{crate.rlib}/format"
+    files = [*rtlib.files_of(crate.folder), f"{TOP}/crates.txt"]
+    return os.path.isfile(made) and all(os.path.getmtime(it) < os.path.getmtime(made) for it in files)
+
+
+def find_libraries(libraries, room, tell):
+    """Finds each of the libraries as it was built, or else builds those that are lacking. Returns whether all are there."""
+    if all(it.is_built() for it in libraries) or take_kept(libraries, room):
+        return True
+    if all(is_newer(it) and not os.path.exists(f"{it.folder}/out/rlib/stamp") for it in libraries):
+        return True
+    lacking = [it for it in libraries if not it.is_built()]
+    tell(f"{len(lacking)} of the {len(libraries)} libraries below aren't built, or not of this text: they are proved and built first, which takes minutes")
+    return build(libraries, lambda done, of, crate, is_proved, said: tell(f"{done} of {of}: {crate.name}" if is_proved else f"{crate.name} is not proved:\n{said}"))
+
+
+def build(libraries, tell):
+    """Proves and builds the libraries that aren't built in this clone, as many side by side as there are processors and memory for, and first those with
+    the longest chain of others behind them. What is done stays, so a build that was broken off goes on where it was. Returns whether all are proved.
+
+    It is the build of `rt lib` in the lanes of `rt ci`. `tell` is called as each ends, with how many have ended, of how many, the crate, whether it
+    is proved, and what was printed of it."""
+    rt.share_work(True)
+    lacking = [it for it in libraries if not it.is_built()]
+    # (no other rt works in these folders meanwhile)
+    held.extend(rtlib.lock(libraries))
+    for it in libraries:
+        rtlib.stop_on_links(it.folder)
+    telling, done = threading.Lock(), []
+
+    def prove(crate, given, jobs):
+        if not all(given.get((it.name, "proof"), True) for it in crate.below()):
+            return False
+        crate = copy.copy(crate)
+        with tempfile.TemporaryFile("a+", errors="replace") as crate.out:
+            status = crate.build_rlib(["--jobs", str(jobs)], anew=False)
+            if status == -signal.SIGKILL:
+                # (most likely for memory)
+                status = crate.build_rlib(ONE_JOB, anew=False)
+            crate.out.seek(0)
+            with telling:
+                done.append(crate.name)
+                tell(len(done), len(lacking), crate, not status, crate.out.read())
+        return not status
+
+    tasks, todo = {}, {it.name for it in lacking}
+    for it in lacking:
+        waits = [(below.name, "proof") for below in it.below() if below.name in todo]
+        tasks[it.name, "proof"] = (waits, it.count(rb"\n"), rt.need(it), lambda given, jobs, it=it: prove(it, given, jobs))
+    return all(rt.in_lanes(tasks).values()) if tasks else True
+
+
+def release():
+    """Lets other commands of the kit into the folders in which this process built."""
+    while held:
+        os.close(held.pop())
