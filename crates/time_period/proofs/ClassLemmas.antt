@@ -50,7 +50,7 @@ any-at {X} p (y ∷ ys) x at is = by_head (p y) refl (Contains-cases y x ys at) 
     by_head false fails (inl here) more = absurd (false≢true (sym fails ∙ ap p here ∙ is))
     by_head false fails (inr later) more = more later
 
-any-none : {X : Type 0} (p : X → Bool) (xs : List X) → ((x : X) → Contains xs x → p x ≡ false) → list_any p xs ≡ false
+pub any-none : {X : Type 0} (p : X → Bool) (xs : List X) → ((x : X) → Contains xs x → p x ≡ false) → list_any p xs ≡ false
 any-none p [] fails = refl
 any-none p (x ∷ xs) fails = ap₂ (λ a b. a || b) (fails x (Contains-here x xs)) (any-none p xs (λ y at. fails y (Contains-later x y xs at)))
 
@@ -196,10 +196,6 @@ names-same time k (WeekdayOfEachMonth weekday n) = refl
 module _ (dated : List Dated) (time : Local) where
   abbrev names : Dated → Bool
   names line = names_day time line.day
-
-  -- no line that names the day is of an earlier class
-  pub decides-among : (line : Dated) → decides (lines_on dated time) line ≡ not (list_any (λ other. names_day time other.day && nat_lt (class_of other.day) (class_of line.day)) dated)
-  decides-among line = ap not (any-filter names (λ other. nat_lt (class_of other.day) (class_of line.day)) dated)
 
   -- what some range of the day passes
   pub day-by-lines : (test : Range → Bool) (weekly : List Range) → list_any test (ranges_on weekly dated time)

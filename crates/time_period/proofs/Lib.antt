@@ -1,5 +1,6 @@
 pub mod StretchLemmas
 pub mod ClassLemmas
+pub mod DecidedLemmas
 pub mod MergeLemmas
 pub mod NeedsLemmas
 pub mod StepLemmas

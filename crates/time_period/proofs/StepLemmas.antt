@@ -1,12 +1,11 @@
 -- Steps, one more, and what their flags say.
-use Rattle.std.proofs.Common.{◌≡◌, ℕ, ℤ, pos, negsuc, ◌+ℤ◌, unsigned_abs, ◌+◌, ◌<◌, ◌≤◌, Bool, true, false, not, cond, List, [], ◌∷◌, ◌++◌, length, take, get_or, nat_lt, All, refl, sym, ap, ap₂, subst, ◌∙◌, ◌⊎◌, inl, inr, arith, tests}
-use Rattle.std.specs.Prelude.{Contains, ◌&&◌, ◌||◌, ◌==◌, Some, slice_get}
+use Rattle.std.proofs.Common.{◌≡◌, ℕ, ℤ, pos, negsuc, ◌+ℤ◌, unsigned_abs, ◌<◌, ◌≤◌, Bool, true, false, not, cond, List, [], ◌∷◌, ◌++◌, length, get_or, nat_lt, All, refl, sym, ap, ap₂, subst, ◌∙◌, ◌⊎◌, inl, inr, arith, tests}
+use Rattle.std.specs.Prelude.{Contains, ◌&&◌, ◌==◌, Some, slice_get}
 use Rattle.std.specs.Int.{int_rem_euclid}
 use Rattle.std.specs.List.{list_all, list_any}
 use Rattle.std.proofs.Math.Path.{fun_ext}
 use Rattle.std.proofs.lemmas.Bool.{and_parts, false≢true}
 use Rattle.std.proofs.lemmas.List.{nil_from_length}
-use Rattle.std.proofs.lemmas.List.Folds.{list_any_more}
 use Rattle.std.proofs.lemmas.List.Elements.{All-append, All-cons, All-head, All-nil, All-tail}
 use Rattle.lemmas.proofs.Elements.{Contains-cases, Contains-here, Contains-later, Contains-none}
 use Rattle.lemmas.proofs.Lists.{any_alike}
@@ -15,11 +14,12 @@ use Rattle.due_model.specs.declared.config.Dated.{Dated}
 use Rattle.due_model.specs.declared.config.Period.{Period}
 use Rattle.due_model.specs.declared.config.PeriodId.{PeriodId}
 use Rattle.due_model.specs.declared.config.Range.{Range}
-use Rattle.due_model.specs.Days.{class_of, names_day, ranges_on}
+use Rattle.due_model.specs.Days.{names_day, ranges_on}
 use Rattle.due_model.specs.Limits.{day}
 use Rattle.due_model.specs.Local.{Local, weekday_at}
 use Rattle.due_model.specs.Periods.{in_range, weekly_ranges}
-use Rattle.time_period.specs.Classes.{IsLeast}
+use Rattle.time_period.specs.declared.decided.Decided.{Decided}
+use Rattle.time_period.specs.Classes.{holds_by_class, IsDecided}
 use Rattle.time_period.specs.Days.{AreWorkedOut, holds_at, IsCompiled, IsRight, Worked, worked_holds}
 use Rattle.time_period.specs.Exclusions.{AreReady, IsSettled}
 use Rattle.time_period.specs.Ranges.{in_ranges}
@@ -104,9 +104,6 @@ right-steps c number days [] are at = absurd (Contains-none number at)
 right-steps c number days (own ∷ owns) are at = λ before time within. steps-true c time within (own ∷ owns) before number are at
 
 -- ---- steps of periods
-
-no-dated : (weekly : List Range) (time : Local) → ranges_on weekly [] time ≡ weekly
-no-dated weekly time = refl
 
 plain-parts : (own : Own) → is_plain own ≡ true → (own.dated ≡ []) × (own.excludes ≡ [])
 plain-parts own plain =
@@ -204,37 +201,28 @@ stretch-weekly worked before d weekday s holds end none is stays = record {
       ∙ sym (ap (λ (n : ℕ). holds_at worked.days n k) is) ∙ stays.alike k low high;
 }
 
--- a period's own ranges stay where those that decide do
-pub own-dated : (own : Own) (time : Local) (class : ℕ) (holds : Bool) (end : ℕ) → IsLeast (λ line. names_day time line.day) own.dated class → class < 6
-    → Stays (λ k. list_any (λ line. (class_of line.day == class && names_day time line.day) && in_ranges line.ranges k) own.dated) time.second holds end
-    → Stays (λ k. own_holds own (at_second time k)) time.second holds end
-own-dated own time class holds end least low stays =
-    Stays-same (λ k. own_holds own (at_second time k)) _ time.second holds end
-    (λ k. own-by-class (get_or own.days (weekday_at time) []) own.dated time class k least
-    ∙ ap (λ b. cond b (list_any (λ line. (class_of line.day == class && names_day time line.day) && in_ranges line.ranges k) own.dated) (in_ranges (get_or own.days (weekday_at time) []) k)) (below class low)) stays
-  where
-    below : (n : ℕ) → n < 6 → nat_lt n 6 ≡ true
-    below n h = grind (arith, tests)
+-- a period's own ranges stay where those of the lines that decide do, or its weekday's where no line names the day
+module _ (own : Own) (time : Local) (decided : Decided) (is : IsDecided time own.dated decided) where
+  own-by : (k : ℕ) → own_holds own (at_second time k)
+      ≡ cond (nat_lt decided.class 6) (holds_by_class decided.class time own.dated k) (in_ranges (get_or own.days (weekday_at time) []) k)
+  own-by k = own-by-class (get_or own.days (weekday_at time) []) own.dated time decided.class k is.least
 
-pub own-weekly : (own : Own) (time : Local) (class : ℕ) (holds : Bool) (end : ℕ) → IsLeast (λ line. names_day time line.day) own.dated class → 6 ≤ class
-    → Stays (in_ranges (get_or own.days (weekday_at time) [])) time.second holds end → Stays (λ k. own_holds own (at_second time k)) time.second holds end
-own-weekly own time class holds end least high stays =
-    Stays-same (λ k. own_holds own (at_second time k)) _ time.second holds end
-    (λ k. own-by-class (get_or own.days (weekday_at time) []) own.dated time class k least
-    ∙ ap (λ b. cond b (list_any (λ line. (class_of line.day == class && names_day time line.day) && in_ranges line.ranges k) own.dated) (in_ranges (get_or own.days (weekday_at time) []) k)) (above class high)) stays
-  where
-    above : (n : ℕ) → 6 ≤ n → nat_lt n 6 ≡ false
-    above n h = grind (arith, tests)
+  pub own-dated : decided.class < 6 → Stays (λ k. own_holds own (at_second time k)) time.second decided.stretch.holds decided.stretch.end
+  own-dated low =
+      Stays-same (λ k. own_holds own (at_second time k)) (holds_by_class decided.class time own.dated) time.second decided.stretch.holds decided.stretch.end
+      (λ k. own-by k ∙ ap (λ b. cond b (holds_by_class decided.class time own.dated k) (in_ranges (get_or own.days (weekday_at time) []) k)) (below decided.class low)) is.stretch
+    where
+      below : (n : ℕ) → n < 6 → nat_lt n 6 ≡ true
+      below n h = grind (arith, tests)
 
--- one line more
-pub line-more : (test : Dated → ℕ → Bool) (dated : List Dated) (i : ℕ) (d : Dated) (from : ℕ) (holds : Bool) (end : ℕ) → i < length dated → d ≡ get_or dated i d
-    → Stays (λ k. list_any (λ line. test line k) (take i dated) || test d k) from holds end → Stays (λ k. list_any (λ line. test line k) (take (i + 1) dated)) from holds end
-line-more test dated i d from holds end within is stays =
-    Stays-same _ _ from holds end (λ k. list_any_more (λ (line : Dated). test line k) dated i d within ∙ ap (λ (line : Dated). list_any (λ l. test l k) (take i dated) || test line k) (sym is)) stays
-
--- a test that never passes
-pub stays-never : (test : ℕ → Bool) (from end : ℕ) (holds : Bool) → holds ≡ false → end ≡ day → from < day → ((k : ℕ) → test k ≡ false) → Stays test from holds end
-stays-never test from end holds none last within fails = record { later = omega (arith, last, within); alike = λ k low high. fails k ∙ sym none }
+  pub own-weekly : (holds : Bool) (end : ℕ) → 6 ≤ decided.class → Stays (in_ranges (get_or own.days (weekday_at time) [])) time.second holds end
+      → Stays (λ k. own_holds own (at_second time k)) time.second holds end
+  own-weekly holds end high stays =
+      Stays-same (λ k. own_holds own (at_second time k)) (in_ranges (get_or own.days (weekday_at time) [])) time.second holds end
+      (λ k. own-by k ∙ ap (λ b. cond b (holds_by_class decided.class time own.dated k) (in_ranges (get_or own.days (weekday_at time) []) k)) (above decided.class high)) stays
+    where
+      above : (n : ℕ) → 6 ≤ n → nat_lt n 6 ≡ false
+      above n h = grind (arith, tests)
 
 -- ---- what is kept of a period
 
@@ -248,29 +236,6 @@ own-of number period days dated excludes are_days are_lines same = record {
       own-alike (weekly_ranges period (weekday_at time)) (get_or days (weekday_at time) []) period.dated dated time least.0 within least.1 are_lines
       (day-alike period.days days are_days (weekday_at time) time.second within ∙ ap (λ (ranges : List Range). in_ranges ranges time.second) (sym (weekly-is period.days (weekday_at time))));
 }
-
--- a line of another class, of another day, and one that decides
-pub of-other-class : (ranges : List Range) (own class : ℕ) (named : Bool) (from end : ℕ) (holds : Bool) → holds ≡ false → end ≡ day → from < day → (own ≡ class → ⊥)
-    → Stays (λ k. (own == class && named) && in_ranges ranges k) from holds end
-of-other-class ranges own class named from end holds none last within apart =
-    stays-never _ from end holds none last within (λ k. ap (λ b. (b && named) && in_ranges ranges k) (differs own class apart))
-  where
-    differs : (n m : ℕ) → (n ≡ m → ⊥) → (n == m) ≡ false
-    differs n m apart = grind (arith, tests)
-
-pub of-other-day : (ranges : List Range) (own class : ℕ) (named : Bool) (from end : ℕ) (holds : Bool) → holds ≡ false → end ≡ day → from < day → named ≡ false
-    → Stays (λ k. (own == class && named) && in_ranges ranges k) from holds end
-of-other-day ranges own class named from end holds none last within unnamed =
-    stays-never _ from end holds none last within (λ k. ap (λ b. (own == class && b) && in_ranges ranges k) unnamed ∙ and-false (own == class) (in_ranges ranges k))
-  where
-    and-false : (a b : Bool) → ((a && false) && b) ≡ false
-    and-false true b = refl
-    and-false false b = refl
-
-pub of-that-day : (ranges : List Range) (own class : ℕ) (named : Bool) (from end : ℕ) (holds : Bool) → own ≡ class → named ≡ true → Stays (in_ranges ranges) from holds end
-    → Stays (λ k. (own == class && named) && in_ranges ranges k) from holds end
-of-that-day ranges own class named from end holds same is stays =
-    Stays-same _ _ from holds end (λ k. ap₂ (λ a b. (a && b) && in_ranges ranges k) (subst (λ n. (own == n) ≡ true) same (eq-refl own)) is) stays
 
 pub weekday-stretch : (days own : List (List Range)) (weekday w second s : ℕ) (holds : Bool) (end : ℕ) → days ≡ own → weekday ≡ w → second ≡ s
     → Stays (in_ranges (get_or days weekday [])) second holds end → Stays (in_ranges (get_or own w [])) s holds end

@@ -1,9 +1,9 @@
-pub mod Classes
 pub mod Flags
 pub mod Ranges
+pub mod Stretches
+pub mod Classes
 pub mod Steps
 pub mod Needs
-pub mod Stretches
 pub mod Days
 pub mod Walks
 pub mod Exclusions

@@ -136,8 +136,8 @@ impl Compiled {
     fn stretch_by(&self, time: LocalTime, flags: &mut [bool]) -> Stretch
         requires some { 0 < length self.now.steps }
         requires long { length flags.old ≡ max_periods }
-        ensures stretch { IsStretch (λ k. worked_holds self.now (flag_at flags.old) (record { day = time.day; second = k }))
-            time.second result }
+        ensures stretch { IsStretch (λ k. worked_holds self.now (flag_at flags.old)
+            (record { day = time.day; second = k })) time.second result }
         ensures long { length flags.new ≡ max_periods }
     {
         self.run_steps(on_calendar(time), flags)
@@ -148,8 +148,8 @@ impl Compiled {
         requires weekday { time.weekday
             ≡ weekday_at (record { day = time.day; second = time.second }) }
         requires flags { 0 < length self.now.steps → length flags.old ≡ max_periods }
-        ensures stretch { IsStretch (λ k. worked_holds self.now (flag_at flags.old) (record { day = time.day; second = k }))
-            time.second result }
+        ensures stretch { IsStretch (λ k. worked_holds self.now (flag_at flags.old)
+            (record { day = time.day; second = k })) time.second result }
         ensures long { 0 < length self.now.steps → length flags.new ≡ max_periods }
     {
         if self.is_weekly() {

@@ -7,6 +7,7 @@
 pub mod compile;
 pub mod compiled;
 mod day;
+mod decided;
 mod made_day;
 mod needs;
 mod step;

@@ -1,85 +1,25 @@
 //! What is kept of a period from which a dated line is reached, or of one that such a period excludes.
 
-ghost use Rattle.std.specs.Prelude.{◌≡◌, ℕ, List, [], ◌∷◌, ◌++◌, ◌<◌, ◌≤◌, ◌&&◌, ◌==◌, All, length};
-ghost use Rattle.std.specs.Prelude.{slice_index_or};
+ghost use Rattle.std.specs.Prelude.{◌≡◌, ℕ, [], ◌<◌, ◌≤◌, All, length, slice_index_or};
 ghost use Rattle.std.specs.List.{list_any};
-ghost use Rattle.due_model.specs.Days.{class_of, names_day};
 ghost use Rattle.due_model.specs.Limits.{day as day_length, max_periods};
 ghost use Rattle.day_rules.specs.Dates.{shown};
-ghost use Rattle.time_period.specs.Classes.{IsLeast};
 ghost use Rattle.time_period.specs.Flags.{flag_at};
 ghost use Rattle.time_period.specs.Ranges.{IsDay, in_ranges};
 ghost use Rattle.time_period.specs.Steps.{at_second, IsKept, is_plain, IsSteady, own_holds, step_flag};
 ghost use Rattle.time_period.specs.Steps.{with_flag};
 ghost use Rattle.time_period.specs.Stretches.{IsStretch};
-ghost use Rattle.due_model.specs.declared.config.Dated.{Dated};
 
 use crate::day::stretch_in;
+use crate::decided::decided_by;
 use crate::stretch::Stretch;
-use day_rules::{CalendarTime, class_of};
+use day_rules::CalendarTime;
 use due_model::config::{Dated, PeriodId, Range};
 use due_model::sequence::Sequence;
 use std::alloc::Global;
 use std::marker::Model;
 
-/// The class of a line that names the day, where it is lower than this one; or this one.
-fn lower_class(class: u8, line: &Dated, time: CalendarTime) -> u8
-    ensures { (lines : List Dated) → IsLeast (λ one. names_day (shown time) one.day) lines class
-        → IsLeast (λ one. names_day (shown time) one.day) (lines ++ line.now ∷ []) result }
-{
-    let own = class_of(line.day);
-    if own >= class {
-        return class;
-    }
-    if time.is_named_by(line.day) {
-        return own;
-    }
-    class
-}
-
-/// The class that decides on a day: the least of those with a line that names it; 6 where none does.
-fn least_class(dated: &[Dated], time: CalendarTime) -> u8
-    ensures { IsLeast (λ line. names_day (shown time) line.day) dated.now result }
-{
-    let mut class = 6;
-    for line in dated {
-        class = lower_class(class, line, time);
-    }
-    class
-}
-
-/// Whether a line of the class that names the day holds a second, and a second up to which that stays.
-fn line_stretch(line: &Dated, class: u8, time: CalendarTime) -> Stretch
-    requires sorted { IsDay line.now.ranges }
-    requires second { (shown time).second < day_length }
-    ensures { IsStretch (λ k. (class_of line.now.day == class && names_day (shown time) line.now.day)
-        && in_ranges line.now.ranges k) (shown time).second result }
-{
-    if class_of(line.day) != class {
-        return Stretch::never();
-    }
-    if time.is_named_by(line.day) {
-        return stretch_in(line.ranges.as_slice(), time.second());
-    }
-    Stretch::never()
-}
-
-/// Whether some line of the class that names the day holds a second, and a second up to which that stays.
-fn lines_stretch(dated: &[Dated], class: u8, time: CalendarTime) -> Stretch
-    requires sorted { All (λ line. IsDay line.ranges) dated.now }
-    requires second { (shown time).second < day_length }
-    ensures { IsStretch (λ k. list_any (λ line. (class_of line.day == class
-        && names_day (shown time) line.day) && in_ranges line.ranges k) dated.now)
-        (shown time).second result }
-{
-    let mut stretch = Stretch::never();
-    for line in dated {
-        stretch = stretch.or(line_stretch(line, class, time));
-    }
-    stretch
-}
-
-/// The same of a weekday's ranges.
+/// Whether a weekday's ranges hold at a second, and a second up to which that stays.
 fn days_stretch(days: &[Sequence<Range>], weekday: u8, second: u32) -> Stretch
     requires sorted { All IsDay days.now }
     requires second { second < day_length }
@@ -229,10 +169,9 @@ impl Step {
         requires { (shown time).second < day_length }
         ensures { IsStretch (λ k. own_holds self.now (at_second (shown time) k)) (shown time).second result }
     {
-        let dated = self.dated();
-        let class = least_class(dated, time);
-        if class < 6 {
-            lines_stretch(dated, class, time)
+        let decided = decided_by(self.dated(), time);
+        if decided.class < 6 {
+            decided.stretch
         } else {
             days_stretch(self.days(), time.weekday(), time.second())
         }
