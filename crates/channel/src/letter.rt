@@ -28,7 +28,7 @@ pub fn letter_text(alloc: Global, config: &Config, notice: Notice) -> Result<Let
     ensures notice { IfOk result (λ letter. letter.notice ≡ notice) }
     ensures text { IfOk result (λ letter. letter.text ≡ letter_of config.now notice) }
 {
-    let mut text = Vec::new(alloc);
+    let mut text = Vec::with_capacity(alloc, room_for(config, &notice))?;
     push_subject(&mut text, config, &notice)?;
     push_numbers(&mut text, &notice)?;
     text.push(b'\n')?;
@@ -36,6 +36,37 @@ pub fn letter_text(alloc: Global, config: &Config, notice: Notice) -> Result<Let
         notice,
         text: Sequence::new(text),
     })
+}
+
+/// A letter without names, as long as one can be.
+const LONGEST: &str =
+    "To: \nKind: DOWNTIMECANCELLED\nObject: /\nState: UNREACHABLE\nNumber: 18446744073709551615\nMoment: 18446744073709551615\nEvent: 18446744073709551615\n\n";
+
+/// How many bytes a letter has at most. One growth makes the room for them all.
+fn room_for(config: &Config, notice: &Notice) -> usize {
+    let contact = texts::contact_name(config, notice.contact).len();
+    let object = object_len(config, notice.object);
+    LONGEST.len().saturating_add(contact).saturating_add(object)
+}
+
+/// How long the names are that tell an object: its own, and its host's.
+fn object_len(config: &Config, object: ObjectId) -> usize {
+    let Some(object) = config.objects.as_slice().get(object.0 as usize) else {
+        return 0;
+    };
+    let host = match object.host {
+        Some(host) => own_len(config, host),
+        None => 0,
+    };
+    object.name.len().saturating_add(host)
+}
+
+/// How long an object's own name is.
+fn own_len(config: &Config, object: ObjectId) -> usize {
+    match config.objects.as_slice().get(object.0 as usize) {
+        Some(object) => object.name.len(),
+        None => 0,
+    }
 }
 
 /// Adds the lines for the contact, the kind, the object and its state.

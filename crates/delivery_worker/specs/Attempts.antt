@@ -1,7 +1,6 @@
 -- What tries that failed leave, and how a lane's record stands after a notice was handed to its channel.
-use Rattle.std.specs.Prelude.{◌≡◌, ℕ, ◌+◌, ◌-◌, ◌^◌, ◌<◌, ◌≤◌, ◌⊎◌, List, [], ◌∷◌, ◌++◌}
+use Rattle.std.specs.Prelude.{◌≡◌, ℕ, ◌+◌, ◌-◌, ◌^◌, ◌<◌, ◌≤◌, ◌⊎◌, [], ◌∷◌, ◌++◌}
 use Rattle.std.specs.Prelude.{Option, Some, length}
-use Rattle.std.specs.Option.{option_to_list}
 use Rattle.due_model.specs.declared.config.Config.{Config}
 use Rattle.due_model.specs.declared.notice.Notice.{Notice}
 use Rattle.channel.specs.Letter.{letter_of}
@@ -43,6 +42,11 @@ pub record HasTriedAndAsked (answer : Attempted) (tries limit size old new asks_
     pub tried : TriesFailed failed limit size old new
     pub asked : RisesBy (asks_for answer failed) asks_old asks_new
 
+-- the same of the letter of a notice
+abbrev pub HasTriedLetter : Attempted → (tries : ℕ) → Config → Notice → (limit old new asks_old asks_new : ℕ) → Type 0
+HasTriedLetter answer tries c n limit old new asks_old asks_new =
+    HasTriedAndAsked answer tries limit (length (letter_of c n)) old new asks_old asks_new
+
 -- the record once its channel has taken a notice
 abbrev pub with_taken : Notice → Record → Record
 with_taken n lane = record lane { taken = lane.taken ++ n ∷ [] }
@@ -55,10 +59,6 @@ with_hand n lane = record lane { hand = Some n }
 abbrev pub KeepsInHand : Why → Notice → (old new : Record) → Type 0
 KeepsInHand why n old new =
     (new ≡ with_hand n old) ⊎ ((new ≡ old) × (why ≡ NoMemory))
-
--- all that a record holds, in order: what its channel has taken, the notice in hand, what was given up
-abbrev pub contents : Record → List Notice
-contents lane = lane.taken ++ option_to_list lane.hand ++ lane.undelivered
 
 -- The notice in hand failed: the count of failures stood no lower than `old` when its letter was first tried, and from there on
 -- so many tries of it failed.

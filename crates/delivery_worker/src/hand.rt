@@ -5,7 +5,8 @@ ghost use Rattle.std.specs.Prelude.{Some, None, IfErr, IsErrOf, OnErr, OnOk, fal
 ghost use Rattle.std.specs.Option.{option_to_list};
 ghost use Rattle.channel.specs.Channels.{receipt_of};
 ghost use Rattle.channel.specs.Letter.{letter_of};
-ghost use Rattle.delivery_worker.specs.Attempts.{HasFailed, KeepsInHand, TriesFailed, with_taken};
+ghost use Rattle.delivery_worker.specs.Attempts.{HasFailed, HasTriedLetter, KeepsInHand};
+ghost use Rattle.delivery_worker.specs.Attempts.{TriesFailed, with_taken};
 
 use crate::laws::attempt;
 use crate::{Attempted, Bell, Gate};
@@ -65,6 +66,19 @@ pub(crate) fn deliver_hand<B: Bell>(
     ensures failed { IsErrOf result Why.Failed
         → TriesFailed tries (limit channel.old) (length (letter_of config.now notice))
         (failures channel.old) (failures channel.new) }
+    // The bell was asked before each try that failed, and once more where that wasn't the end; where memory ran out, it wasn't, and
+    // nothing was tried.
+    ensures tries_taken { OnOk result
+        (HasTriedLetter Attempted.Settled tries config.now notice (limit channel.old)
+        (failures channel.old) (failures channel.new) (B.asks bell.old) (B.asks bell.new)) }
+    ensures tries_asked { IsErrOf result Why.Asked
+        → HasTriedLetter Attempted.Asked tries config.now notice (limit channel.old)
+        (failures channel.old) (failures channel.new) (B.asks bell.old) (B.asks bell.new) }
+    ensures tries_failed { IsErrOf result Why.Failed
+        → HasTriedLetter Attempted.Failed tries config.now notice (limit channel.old)
+        (failures channel.old) (failures channel.new) (B.asks bell.old) (B.asks bell.new) }
+    ensures no_asks { IsErrOf result Why.NoMemory → B.asks bell.new ≡ B.asks bell.old }
+    ensures no_tries { IsErrOf result Why.NoMemory → failures channel.new ≡ failures channel.old }
     ensures counted { failures channel.old ≤ failures channel.new }
     ensures limit { limit channel.new ≡ limit channel.old }
     ensures not_over { ¬ IsErrOf result Why.FeedOver }

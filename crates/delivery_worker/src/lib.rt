@@ -5,7 +5,6 @@
 ghost use Rattle.std.specs.Prelude.{◌≡◌, ◌+◌, if◌then◌else◌};
 ghost use Rattle.channel.specs.Channels.{IsCounted};
 
-pub mod delivery;
 mod hand;
 pub mod laws;
 mod queue;
