@@ -15,11 +15,10 @@ use Rattle.delivery_worker.specs.declared.worker.Served.{Served}
 use Rattle.delivery_worker.specs.Picked.{all_taken, join_lists, joined as joined_of}
 use Rattle.engine_threads.specs.Lanes.{HasCause}
 use Rattle.engine_threads.specs.Run.{IsNamed, IsRun}
-use Rattle.engine_threads.proofs.ListLaws.{exists_at}
 use Rattle.event_feed.specs.declared.fault.FeedFault.TheVariants as fault
 use Rattle.event_feed.specs.declared.fault.RefusedLine.{RefusedLine}
 use Rattle.event_feed.specs.Feed.{Answer, AreGiven, Feed, answers}
-use Rattle.lemmas.proofs.Lists.{AllPairs-nil}
+use Rattle.lemmas.proofs.Lists.{AllPairs-nil, some_at}
 use Rattle.log_merge.specs.Order.{place}
 use Rattle.steps.specs.Lanes.{about}
 use Rattle.text_lines.specs.Lines.{pieces}
@@ -123,7 +122,7 @@ module _ (c : Config) (zone : Zone) (given : ℕ → ℕ) (past : List Event) (m
     (long : length lanes ≡ length served) (each : (l : ℕ) (s : Served) (lane : LaneParts) → slice_get served l ≡ Some s → slice_get lanes l ≡ Some lane → IsEndOf l (given l) s lane) where
   -- the worker of a lane
   worker : (l : ℕ) (lane : LaneParts) → slice_get lanes l ≡ Some lane → (s : Served) × (slice_get served l ≡ Some s)
-  worker l lane at = exists_at served l (subst (λ (n : ℕ). l < n) long (slice_get_within lanes l lane at))
+  worker l lane at = some_at served l (subst (λ (n : ℕ). l < n) long (slice_get_within lanes l lane at))
 
   same_at : (l : ℕ) (lane : LaneParts) (at : slice_get lanes l ≡ Some lane) → joined_of (worker l lane at).0.held ≡ joined lane
   same_at l lane at =

@@ -21,7 +21,7 @@ use Rattle.channel_queue.specs.Rule.{IsPickedOf, decider_at, decider_seen, joine
 use Rattle.delivery_worker.specs.declared.worker.Served.{Served}
 use Rattle.engine_threads.specs.Joins.{AreKept, ArePickedBelow, AreWorkers, IsKept, IsMet, IsPicked}
 use Rattle.deciding.specs.Puts.{as_items}
-use Rattle.engine_threads.proofs.ListLaws.{set_other, set_same}
+use Rattle.engine_threads.specs.ListLaws.{set_other, set_same}
 
 -- a pass knows what it has
 pub own_worker : (q : LaneQueue) (picked : List Item) (joined : List Joined) (p : Pass Item Seen) → IsWorker q picked joined p → IsWorker q (picked_of p) (joined_of p) p

@@ -1,34 +1,5 @@
--- Two lists that grow together.
-use Rattle.std.proofs.Common.{◌≡◌, ℕ, zero, suc, List, [], ◌∷◌, ◌++◌, length, slice_get, get_or, set, Some, refl, sym, ap, ◌∙◌, subst, ⊎_elim, ◌⊎◌, inl, inr, append_assoc, append-nil, length-append, ◌+◌, ◌<◌, ◌≤◌, arith}
-use Rattle.std.proofs.lemmas.List.{get_or-set_same, length-set}
-use Rattle.std.proofs.lemmas.Option.{none-some, same_Some, slice_get-get_or}
-
--- what stands at a place of a list that has grown
-pub place : {X : Type 0} (l : List X) (a b : X) (j : ℕ) → slice_get (l ++ a ∷ []) j ≡ Some b → (slice_get l j ≡ Some b) ⊎ ((j ≡ length l) × (a ≡ b))
-place [] a b zero e = inr (refl, same_Some a b e)
-place [] a b (suc j) e = absurd (none-some b e)
-place (x ∷ xs) a b zero e = inl e
-place {X} (x ∷ xs) a b (suc j) e = ⊎_elim (λ (y : slice_get xs j ≡ Some b). inl y) (λ (y : (j ≡ length xs) × (a ≡ b)). inr (ap suc y.0, y.1)) (place xs a b j e)
-
-pub at_end : {X : Type 0} (l : List X) (a : X) → slice_get (l ++ a ∷ []) (length l) ≡ Some a
-at_end [] a = refl
-at_end (x ∷ xs) a = at_end xs a
-
-pub no_place : {X : Type 0} (l : List X) (b : X) → slice_get l (length l) ≡ Some b → ⊥
-no_place [] b e = none-some b e
-no_place (x ∷ xs) b e = no_place xs b e
-
--- a relation of the places of two lists of one length stays where both grow
-pub pairs_grow : {X Y : Type 0} (F : ℕ → X → Y → Type 0) (xs : List X) (ys : List Y) (x : X) (y : Y) → length ys ≡ length xs
-    → ((i : ℕ) (a : X) (b : Y) → slice_get xs i ≡ Some a → slice_get ys i ≡ Some b → F i a b) → F (length xs) x y
-    → (i : ℕ) (a : X) (b : Y) → slice_get (xs ++ x ∷ []) i ≡ Some a → slice_get (ys ++ y ∷ []) i ≡ Some b → F i a b
-pairs_grow {X} {Y} F xs ys x y same each last i a b at_a at_b = both (place xs x a i at_a) (place ys y b i at_b)
-  where
-    both : (slice_get xs i ≡ Some a) ⊎ ((i ≡ length xs) × (x ≡ a)) → (slice_get ys i ≡ Some b) ⊎ ((i ≡ length ys) × (y ≡ b)) → F i a b
-    both (inl p) (inl q) = each i a b p q
-    both (inl p) (inr q) = absurd (no_place xs a (subst (λ (k : ℕ). slice_get xs k ≡ Some a) (q.0 ∙ same) p))
-    both (inr p) (inl q) = absurd (no_place ys b (subst (λ (k : ℕ). slice_get ys k ≡ Some b) (p.0 ∙ sym same) q))
-    both (inr p) (inr q) = subst (λ (k : ℕ). F k a b) (sym p.0) (subst (λ (u : X). F (length xs) u b) p.1 (subst (λ (v : Y). F (length xs) x v) q.1 last))
+-- What is taken from the front of a list.
+use Rattle.std.proofs.Common.{◌≡◌, ℕ, List, [], ◌∷◌, ◌++◌, length, slice_get, Some, refl, sym, ap, ◌∙◌, subst, length-append, ◌+◌, ◌<◌, ◌≤◌, arith}
 
 -- what stands where a list goes on
 pub at_seam : {X : Type 0} (xs : List X) (x : X) (ys : List X) → slice_get (xs ++ x ∷ ys) (length xs) ≡ Some x
@@ -39,42 +10,9 @@ at_seam (y ∷ xs) x ys = at_seam xs x ys
 pub next_at : {X : Type 0} (xs : List X) (x : X) (rest ys whole : List X) → rest ≡ x ∷ ys → xs ++ rest ≡ whole → slice_get whole (length xs) ≡ Some x
 next_at {X} xs x rest ys whole is e = subst (λ (l : List X). slice_get l (length xs) ≡ Some x) (ap (λ (r : List X). xs ++ r) (sym is) ∙ e) (at_seam xs x ys)
 
--- and what comes after it is the rest
-pub next_rest : {X : Type 0} (xs : List X) (x : X) (rest ys whole : List X) → rest ≡ x ∷ ys → xs ++ rest ≡ whole → (xs ++ x ∷ []) ++ ys ≡ whole
-next_rest {X} xs x rest ys whole is e = append_assoc xs (x ∷ []) ys ∙ ap (λ (r : List X). xs ++ r) (sym is) ∙ e
-
--- where nothing is left all was taken
-pub all_taken : {X : Type 0} (xs rest whole : List X) → rest ≡ [] → xs ++ rest ≡ whole → xs ≡ whole
-all_taken {X} xs rest whole none e = sym (append-nil xs) ∙ ap (λ (r : List X). xs ++ r) (sym none) ∙ e
-
--- two lists of one length that grow
-pub both_longer : {X Y : Type 0} (xs : List X) (ys more : List Y) (x : X) (y : Y) → more ≡ ys ++ y ∷ [] → length ys ≡ length xs → length more ≡ length (xs ++ x ∷ [])
-both_longer xs ys more x y is same = ap length is ∙ length-append ys (y ∷ []) ∙ ap (λ n. n + 1) same ∙ sym (length-append xs (x ∷ []))
-
 -- there is room for what comes next
 pub room_for : {X : Type 0} (yielded rest more all : List X) (x : X) (n room : ℕ) → n ≡ length yielded → yielded ++ rest ≡ all → rest ≡ x ∷ more → length all ≤ room → n < room
 room_for {X} yielded rest more all x n room so is next fits =
     let long : length yielded + length rest ≡ length all = sym (length-append yielded rest) ∙ ap length is in
     let one : length rest ≡ length (x ∷ more) = ap length next in
     omega (arith, so, long, one, fits)
-
--- there is something at each place
-pub exists_at : {X : Type 0} (xs : List X) (i : ℕ) → i < length xs → (x : X) × (slice_get xs i ≡ Some x)
-exists_at [] i below = absurd (omega (arith, below))
-exists_at (x ∷ xs) zero below = (x, refl)
-exists_at (x ∷ xs) (suc i) below = exists_at xs i (omega (arith, below))
-
--- ---- places
-
-pub at_place : {X : Type 0} (xs : List X) (i : ℕ) (x : X) → i < length xs → x ≡ get_or xs i x → slice_get xs i ≡ Some x
-at_place {X} xs i x within is = slice_get-get_or xs i x within ∙ ap (λ (y : X). Some y) (sym is)
-
-pub set_same : {X : Type 0} (xs : List X) (i : ℕ) (x : X) → i < length xs → slice_get (set xs i x) i ≡ Some x
-set_same {X} xs i x within = slice_get-get_or (set xs i x) i x (let l = length-set xs i x in omega (arith, l, within)) ∙ ap (λ (y : X). Some y) (get_or-set_same xs i x x within)
-
-pub set_other : {X : Type 0} (xs : List X) (i j : ℕ) (x : X) → ¬ (j ≡ i) → slice_get (set xs i x) j ≡ slice_get xs j
-set_other [] i j x apart = refl
-set_other (y ∷ ys) zero zero x apart = absurd (apart refl)
-set_other (y ∷ ys) zero (suc j) x apart = refl
-set_other (y ∷ ys) (suc i) zero x apart = refl
-set_other (y ∷ ys) (suc i) (suc j) x apart = set_other ys i j x (λ e. apart (ap suc e))

@@ -7,7 +7,7 @@ use Rattle.due_model.specs.declared.notice.Suppression.{Suppression}
 use Rattle.deciding.specs.declared.ring.DeciderEnd.{DeciderEnd}
 use Rattle.log_merge.specs.Merge.{HasBoth}
 use Rattle.engine_threads.specs.Logs.{HasEach}
-use Rattle.engine_threads.proofs.ListLaws.{exists_at}
+use Rattle.lemmas.proofs.Lists.{some_at}
 
 -- a test keeps nothing of the logs before this place, but for one
 abbrev NoneBut : (place : ℕ) → List DeciderEnd → (Suppression → Bool) → (d : ℕ) → Type 0
@@ -72,7 +72,7 @@ module _ {X : Type 0} (key : X → ℕ) (n : ℕ) where
 pub named_below : (n : ℕ) (ends : List DeciderEnd) (log : List Suppression) → 0 < length ends → HasEach ends log
     → ((d : ℕ) (e : DeciderEnd) → slice_get ends d ≡ Some e → All (λ s. s.object.0 < n) e.log.items) → All (λ s. s.object.0 < n) log
 named_below n ends log some each all =
-    let first = exists_at ends 0 some in
+    let first = some_at ends 0 some in
     let none : (d : ℕ) (e : DeciderEnd) → slice_get ends d ≡ Some e → filter (is_above (λ (s : Suppression). s.object.0) n) e.log.items ≡ [] = λ d e at. none_above (λ (s : Suppression). s.object.0) n e.log.items (all d e at) in
     keys_below (λ (s : Suppression). s.object.0) n log
     (each (is_above (λ (s : Suppression). s.object.0) n) 0 first.0 first.1 (λ k f apart at. none k f at) ∙ none 0 first.0 first.1)

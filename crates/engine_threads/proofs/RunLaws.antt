@@ -22,7 +22,7 @@ use Rattle.deciding.specs.Laws.{MadeIsDue, MadeIsOwn, SuppressedIsInOrder, Suppr
 use Rattle.deciding.specs.Made.{made_due, suppressed}
 use Rattle.delivery_worker.specs.declared.worker.Served.{Served}
 use Rattle.delivery_worker.specs.Picked.{AllEnded, joined}
-use Rattle.lemmas.proofs.Lists.{AllPairs-nil}
+use Rattle.lemmas.proofs.Lists.{AllPairs-nil, some_at}
 use Rattle.log_merge.specs.Order.{IsInOrder, place}
 use Rattle.due_model.specs.Accepted.{IsAccepted}
 use Rattle.steps.specs.Lanes.{about}
@@ -35,7 +35,6 @@ use Rattle.engine_threads.specs.Logs.{AreInOrder, HasEach}
 use Rattle.engine_threads.specs.Run.{AreLaneEnds, IsLaneEnd, IsLogOf, IsNamed, IsRun}
 use Rattle.engine_threads.proofs.DueLaws.{LaneRead, about_front, lane_front, lane_named, lane_whole, owner, prefix_then, share_of}
 use Rattle.engine_threads.proofs.JoinLaws.{neither_first, neither_second}
-use Rattle.engine_threads.proofs.ListLaws.{exists_at}
 use Rattle.engine_threads.proofs.LogLaws.{named_below}
 
 -- the laws of what is made of a share
@@ -96,7 +95,7 @@ module _ (c : Config) (zone : Zone) (n : ℕ) (queues : List LaneQueue) (past : 
   abbrev chosen_by : (d : ℕ) → (decided : List Event) × (d < n → PutBy c zone n d queues past refused served decided)
   chosen_by d = ⊎_elim
       (λ (lt : d < n).
-      let e = exists_at ends d (subst (λ (m : ℕ). d < m) (sym long) lt) in
+      let e = some_at ends d (subst (λ (m : ℕ). d < m) (sym long) lt) in
       let m = met d e.0 e.1 in
       (m.past, λ _. record { older = m.older; whole = m.whole; picked = m.picked }))
       (λ (ge : n ≤ d). ([], λ (lt : d < n). absurd (omega (arith, lt, ge))))
@@ -169,7 +168,7 @@ log_end laws c zone n queues past refused served ends log accepted some long met
 }
   where
     its_end : (o : ℕ) → (e : DeciderEnd) × (slice_get ends (o % n) ≡ Some e)
-    its_end o = exists_at ends (o % n) (subst (λ (m : ℕ). (o % n) < m) (sym long) (owner n o some))
+    its_end o = some_at ends (o % n) (subst (λ (m : ℕ). (o % n) < m) (sym long) (owner n o some))
 
     its_met : (o : ℕ) → IsMet c zone n (o % n) queues past refused served (its_end o).0.log.items
     its_met o = met (o % n) (its_end o).0 (its_end o).1

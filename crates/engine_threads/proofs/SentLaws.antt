@@ -13,7 +13,7 @@ use Rattle.rtrb.specs.declared.consumer.Consumer.{Consumer}
 use Rattle.rtrb.specs.Ring.{IsPair, SameConsumer, SameProducer, sent}
 use Rattle.deciding.specs.declared.Signal.{Signal}
 use Rattle.engine_threads.specs.Sent.{AreSame, HaveSent}
-use Rattle.engine_threads.proofs.ListLaws.{set_other, set_same}
+use Rattle.engine_threads.specs.ListLaws.{set_other, set_same}
 
 pub same_self : (p : Producer Signal Global AnyItems) → SameProducer p p
 same_self p = ((refl, refl, refl, refl), refl)

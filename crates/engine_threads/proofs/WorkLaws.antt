@@ -2,7 +2,8 @@
 use Rattle.std.proofs.Common.{◌≡◌, Option, None, ℕ, ◌+◌, ◌<◌, ◌≤◌, set, arith, List, [], ◌∷◌, ◌++◌, length, length-append, slice_get, Some, refl, sym, ap, ◌∙◌, subst, ⊎_elim}
 use Rattle.std.proofs.lemmas.Bool.{cases_eq}
 use Rattle.std.proofs.lemmas.Option.{none-some, same_Some, slice_get_within}
-use Rattle.engine_threads.proofs.ListLaws.{exists_at, pairs_grow, place, set_other, set_same}
+use Rattle.engine_threads.specs.ListLaws.{pairs_grow, place, set_other, set_same}
+use Rattle.lemmas.proofs.Lists.{some_at}
 use Rattle.std.specs.declared.alloc.Global.{Global}
 use Rattle.rtrb.specs.declared.AnyItems.{AnyItems}
 use Rattle.rtrb.specs.declared.producer.Producer.{Producer}
@@ -12,7 +13,7 @@ use Rattle.deciding.specs.declared.Signal.{Signal}
 use Rattle.deciding.specs.declared.seats.Seat.{Seat}
 use Rattle.engine_threads.specs.declared.starting.DeciderWork.{DeciderWork}
 use Rattle.deciding.specs.Puts.{ArePut, Puts}
-use Rattle.engine_threads.specs.Works.{AreDeciderWorks, AreRings, IsDeciderWork, IsLonger}
+use Rattle.engine_threads.specs.Works.{AreDeciderWorks, AreLonger, AreRings, IsDeciderWork, IsLonger}
 
 pub rings_grow : (ws : List DeciderWork) (ps : List (Producer Signal Global AnyItems)) (w : DeciderWork) (p : Producer Signal Global AnyItems) → length ps ≡ length ws → sent p ≡ [] → IsPair p w.ring
     → AreRings ws ps → AreRings (ws ++ w ∷ []) (ps ++ p ∷ [])
@@ -61,11 +62,8 @@ module _ (q : LaneQueue) (old now : List DeciderWork) (k : ℕ) (w v : DeciderWo
 
 -- ---- a lane more
 
-abbrev pub AreLonger : LaneQueue → (old new : List DeciderWork) → Type 0
-AreLonger q old new = (d : ℕ) (w v : DeciderWork) → slice_get old d ≡ Some w → slice_get new d ≡ Some v → IsLonger d q w v
-
 was_there : (old new : List DeciderWork) (d : ℕ) (v : DeciderWork) → length new ≡ length old → slice_get new d ≡ Some v → (w : DeciderWork) × (slice_get old d ≡ Some w)
-was_there old new d v long at = exists_at old d (subst (λ n. d < n) long (slice_get_within new d v at))
+was_there old new d v long at = some_at old d (subst (λ n. d < n) long (slice_get_within new d v at))
 
 pub rings_longer : (q : LaneQueue) (old new : List DeciderWork) (ps : List (Producer Signal Global AnyItems)) → length new ≡ length old → AreLonger q old new → AreRings old ps → AreRings new ps
 rings_longer q old new ps long more r = record {
@@ -79,10 +77,6 @@ pub works_longer : (queues : List LaneQueue) (q : LaneQueue) (old new : List Dec
 works_longer queues q old new long more works d v at =
     let w = was_there old new d v long at in
     longer_work d queues q w.0 v (more d w.0 v w.1 at) (works d w.0 w.1)
-
--- what holds of each of a list holds of one more
-pub each_grows : {X : Type 0} (F : X → Type 0) (xs : List X) (x : X) → ((i : ℕ) (a : X) → slice_get xs i ≡ Some a → F a) → F x → (i : ℕ) (a : X) → slice_get (xs ++ x ∷ []) i ≡ Some a → F a
-each_grows {X} F xs x each last i a at = ⊎_elim (λ y. each i a y) (λ y. subst F y.1 last) (place xs x a i at)
 
 -- a number of the item at each place
 abbrev number_in : {W : Type 0} → Option W → (W → ℕ) → ℕ

@@ -1,6 +1,6 @@
 use Rattle.std.proofs.Common.{rules, arith, ◌≡◌, ◌<◌, ◌∙◌, ◌++◌, ◌∷◌, [], ap, length, slice_get, Some, subst, sym}
 use Rattle.std.proofs.lemmas.Option.{slice_get_within}
-use Rattle.engine_threads.proofs.ListLaws.{exists_at}
+use Rattle.lemmas.proofs.Lists.{some_at}
 use Rattle.engine.specs.Lanes.{boxes_of}
 use Rattle.engine.proofs.PostLaws.{boxes_more, taken_all, taken_more, taken_none}
 use Rattle.engine.proofs.lanes.channels_of.Goals as goal
@@ -21,7 +21,7 @@ loop-post-preserved g c =
       long ∙ inv.1,
       (λ k new at.
           let inside = slice_get_within c.place.new.boxes.items k new at in
-          let old = exists_at c.loop-post.boxes.items k (subst (λ n. k < n) long inside) in
+          let old = some_at c.loop-post.boxes.items k (subst (λ n. k < n) long inside) in
           c.in_ok-place.ensures.placed k old.0 new old.1 at
           ∙ ap (λ bs. bs ++ boxes_of (λ p. p.lane.0) (λ p. p.channel) k (post ∷ [])) (inv.2 k old.0 old.1)
           ∙ sym (boxes_more (λ p. p.lane.0) (λ p. p.channel) k c.loop-post.yielded (post ∷ []))),

@@ -3,7 +3,7 @@ use Rattle.std.proofs.lemmas.List.{nil_from_length}
 use Rattle.std.proofs.lemmas.Option.{same_Some, slice_get-get_or}
 use Rattle.std.specs.Vec.Iter.{into_iter_items}
 use Rattle.engine.specs.Lanes.{IsEndOf}
-use Rattle.engine_threads.proofs.ListLaws.{all_taken, both_longer, next_rest, pairs_grow}
+use Rattle.engine_threads.specs.ListLaws.{all_taken, both_longer, next_rest, pairs_grow}
 use Rattle.engine.proofs.PostLaws.{room_for}
 use Rattle.engine.proofs.lanes.ends_of.Goals as goal
 

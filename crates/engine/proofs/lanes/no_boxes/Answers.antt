@@ -1,5 +1,5 @@
 use Rattle.std.proofs.Common.{rules, ◌≡◌, [], ◌∷◌, ◌+◌, ap, length, length-append, ◌∙◌}
-use Rattle.engine_threads.proofs.WorkLaws.{each_grows}
+use Rattle.engine_threads.specs.ListLaws.{each_grows}
 use Rattle.engine.proofs.lanes.no_boxes.Goals as goal
 
 pub loop-lane-preserved : goal.loop-lane-preserved

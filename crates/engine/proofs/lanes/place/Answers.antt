@@ -1,5 +1,5 @@
 use Rattle.std.proofs.Common.{rules, arith, ◌≡◌, ◌<◌, ◌++◌, ◌∷◌, [], length}
-use Rattle.engine_threads.proofs.ListLaws.{at_place}
+use Rattle.lemmas.proofs.Lists.{slice_get_read}
 use Rattle.engine.proofs.PostLaws.{placed_here, placed_nowhere}
 use Rattle.engine.proofs.lanes.place.Goals as goal
 
@@ -9,7 +9,7 @@ returns-in_ok-push-clause-placed g c =
     let its : c.from-place.result ≡ c.args.post.lane.0 = search rules in
     let long : c.len.result ≡ length boxes = search rules in
     let below : c.from-place.result < length boxes = omega (arith, long, c.if-place-len.true) in
-    let at = at_place boxes c.from-place.result c.index_mut.result.now below (search rules) in
+    let at = slice_get_read boxes c.from-place.result c.index_mut.result.now below (search rules) in
     placed_here (λ p. p.lane.0) (λ p. p.channel) (λ bs. bs.items) boxes c.args.post c.from-place.result c.index_mut.result.now c.push.new.self its at c.in_ok-push.ensures.items
 
 pub returns-else-place-len-clause-placed : goal.returns-else-place-len-clause-placed

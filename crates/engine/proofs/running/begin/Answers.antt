@@ -2,7 +2,7 @@ use Rattle.std.proofs.Common.{◌≡◌, ◌<◌, ◌∙◌, Some, ap, length, m
 use Rattle.std.proofs.lemmas.List.{length-map}
 use Rattle.std.proofs.lemmas.Option.{same_Some, slice_get-map, slice_get_within}
 use Rattle.std.specs.Option.{option_map}
-use Rattle.engine_threads.proofs.ListLaws.{exists_at}
+use Rattle.lemmas.proofs.Lists.{some_at}
 use Rattle.engine.proofs.PostLaws.{boxes_count}
 use Rattle.engine.proofs.running.begin.Goals as goal
 
@@ -12,6 +12,6 @@ returns-clause-each g c = λ l n at.
     let counts : c.in_ok-counts.counts.items ≡ map (λ bs. length bs.items) boxes = c.in_ok-counts.ensures ∙ ap (map (λ bs. length bs.items)) c.deref.ensures.value in
     let here : slice_get (map (λ bs. length bs.items) boxes) l ≡ Some n = subst (λ ns. slice_get ns l ≡ Some n) counts at in
     let inside = subst (λ k. l < k) (length-map boxes (λ bs. length bs.items)) (slice_get_within (map (λ bs. length bs.items) boxes) l n here) in
-    let of_lane = exists_at boxes l inside in
+    let of_lane = some_at boxes l inside in
     let same = same_Some n (length of_lane.0.items) (sym here ∙ slice_get-map (λ bs. length bs.items) boxes l ∙ ap (option_map (λ bs. length bs.items)) of_lane.1) in
     same ∙ ap (λ bs. length bs) (c.in_ok-boxes.ensures.each l of_lane.0 of_lane.1) ∙ boxes_count (λ p. p.lane.0) (λ p. p.channel) l c.args.posts.items

@@ -1,6 +1,6 @@
 use Rattle.std.proofs.Common.{arith, ◌<◌, length, subst}
 use Rattle.std.proofs.lemmas.Option.{slice_get_within}
-use Rattle.engine_threads.proofs.ListLaws.{exists_at}
+use Rattle.lemmas.proofs.Lists.{some_at}
 use Rattle.engine.specs.Lanes.{IsEndOf}
 use Rattle.engine.proofs.RunEndLaws.{run_is}
 use Rattle.engine.proofs.running.end_of.Goals as goal
@@ -11,5 +11,5 @@ returns-clause-run g c = λ config zone given events counts threads.
     (λ l s lane at_s at_lane.
     let inside = slice_get_within c.args.left.lanes.items l s at_s in
     let long = c.requires.counts in
-    let n = exists_at c.args.counts.now l (omega (arith, inside, long)) in
+    let n = some_at c.args.counts.now l (omega (arith, inside, long)) in
     subst (λ k. IsEndOf l k s lane) (counts l n.0 n.1) (c.ends_of.ensures.each l n.0 s lane n.1 at_s at_lane))

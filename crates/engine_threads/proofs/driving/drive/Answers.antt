@@ -15,7 +15,7 @@ use Rattle.engine_threads.specs.Lanes.{IsServed}
 use Rattle.engine_threads.specs.Logs.{AreInOrder, HasEach}
 use Rattle.engine_threads.proofs.DueLaws.{share_of}
 use Rattle.engine_threads.proofs.JoinLaws.{neither_first, own_worker}
-use Rattle.engine_threads.proofs.ListLaws.{exists_at}
+use Rattle.lemmas.proofs.Lists.{some_at}
 use Rattle.engine_threads.proofs.RunLaws.{Laws, decided_of, decided_older, lane_end, log_any, log_end}
 use Rattle.engine_threads.proofs.SentLaws.{pair_still}
 use Rattle.engine_threads.proofs.driving.drive.Goals as goal
@@ -24,8 +24,8 @@ pub meet_all-refused-requires-clause-workers : goal.meet_all-refused-requires-cl
 meet_all-refused-requires-clause-workers g c = λ l q s at_q at_s.
     let long : length c.args.queues.now ≡ length c.in-Some.lanes.items = sym (c.in-Some.ensures.count ∙ c.requires.works) in
     let below = slice_get_within c.args.queues.now l q at_q in
-    let w = exists_at c.args.works.items l (subst (λ n. l < n) (sym c.requires.works) below) in
-    let h = exists_at c.in-Some.lanes.items l (subst (λ n. l < n) long below) in
+    let w = some_at c.args.works.items l (subst (λ n. l < n) (sym c.requires.works) below) in
+    let h = some_at c.in-Some.lanes.items l (subst (λ n. l < n) long below) in
     let kept : IsServed h.0.promise.queue.now h.0.promise.boxes s = c.join_all-served.ensures.each l h.0 s h.1 at_s in
     let its = c.in-Some.ensures.each l w.0 h.0 w.1 h.1 in
     let same : h.0.promise.queue.now ≡ q = same_Some _ _ (sym its.0 ∙ at_q) in
@@ -40,9 +40,9 @@ meet_all-refused-requires-clause-ends g c = (
       let ends : length c.join_all-ends.result.items ≡ length c.in-Some-start_deciders.ends.items = c.join_all-ends.ensures.count in
       let count : length c.join_all-ends.result.items ≡ length c.args.deciders.items = ends ∙ c.in-Some-start_deciders.ensures.count in
       let below = slice_get_within c.join_all-ends.result.items d e at_e in
-      let w = exists_at c.args.deciders.items d (subst (λ n. d < n) count below) in
-      let h = exists_at c.in-Some-start_deciders.ends.items d (subst (λ n. d < n) ends below) in
-      let p0 = exists_at c.args.senders.items d (subst (λ n. d < n) (count ∙ sym c.requires.senders) below) in
+      let w = some_at c.args.deciders.items d (subst (λ n. d < n) count below) in
+      let h = some_at c.in-Some-start_deciders.ends.items d (subst (λ n. d < n) ends below) in
+      let p0 = some_at c.args.senders.items d (subst (λ n. d < n) (count ∙ sym c.requires.senders) below) in
       let kept : HasDecided h.0.promise.config.now (g.Z.GivesZone.zone h.0.promise.zone.now) h.0.promise.share h.0.promise.queues.now h.0.promise.ring.value e = c.join_all-ends.ensures.each d h.0 e h.1 at_e in
       let its = c.in-Some-start_deciders.ensures.each d w.0 h.0 w.1 h.1 in
       let pair = c.requires.pairs d w.0 p0.0 w.1 p0.1 in
@@ -78,9 +78,9 @@ returns-clause-lanes g c = λ boxes slots.
     let ends : length c.join_all-ends.result.items ≡ length c.in-Some-start_deciders.ends.items = c.join_all-ends.ensures.count in
     let count : length c.join_all-ends.result.items ≡ length c.args.deciders.items = ends ∙ c.in-Some-start_deciders.ensures.count in
     let below = slice_get_within c.join_all-ends.result.items d e at_e in
-    let w = exists_at c.args.deciders.items d (subst (λ n. d < n) count below) in
-    let h = exists_at c.in-Some-start_deciders.ends.items d (subst (λ n. d < n) ends below) in
-    let p0 = exists_at c.args.senders.items d (subst (λ n. d < n) (count ∙ sym c.requires.senders) below) in
+    let w = some_at c.args.deciders.items d (subst (λ n. d < n) count below) in
+    let h = some_at c.in-Some-start_deciders.ends.items d (subst (λ n. d < n) ends below) in
+    let p0 = some_at c.args.senders.items d (subst (λ n. d < n) (count ∙ sym c.requires.senders) below) in
     let kept : HasDecided h.0.promise.config.now (g.Z.GivesZone.zone h.0.promise.zone.now) h.0.promise.share h.0.promise.queues.now h.0.promise.ring.value e = c.join_all-ends.ensures.each d h.0 e h.1 at_e in
     let its = c.in-Some-start_deciders.ensures.each d w.0 h.0 w.1 h.1 in
     let pair = c.requires.pairs d w.0 p0.0 w.1 p0.1 in
@@ -102,10 +102,10 @@ returns-clause-lanes g c = λ boxes slots.
       count = c.meet_all-refused.ensures.served ∙ long ∙ c.requires.lanes;
       each = λ l t at_t.
           let below : l < length c.args.queues.now = subst (λ m. l < m) (c.meet_all-refused.ensures.served ∙ long) (slice_get_within c.meet_all-refused.new.served.items l t at_t) in
-          let q = exists_at c.args.queues.now l below in
-          let s = exists_at c.join_all-served.result.items l (subst (λ m. l < m) (sym long) below) in
-          let w = exists_at c.args.works.items l (subst (λ m. l < m) (sym c.requires.works) below) in
-          let h = exists_at c.in-Some.lanes.items l (subst (λ m. l < m) (sym (c.in-Some.ensures.count ∙ c.requires.works)) below) in
+          let q = some_at c.args.queues.now l below in
+          let s = some_at c.join_all-served.result.items l (subst (λ m. l < m) (sym long) below) in
+          let w = some_at c.args.works.items l (subst (λ m. l < m) (sym c.requires.works) below) in
+          let h = some_at c.in-Some.lanes.items l (subst (λ m. l < m) (sym (c.in-Some.ensures.count ∙ c.requires.works)) below) in
           let kept : IsServed h.0.promise.queue.now h.0.promise.boxes s.0 = c.join_all-served.ensures.each l h.0 s.0 h.1 s.1 in
           let its = c.in-Some.ensures.each l w.0 h.0 w.1 h.1 in
           let same : h.0.promise.queue.now ≡ q.0 = same_Some _ _ (sym its.0 ∙ q.1) in
@@ -135,9 +135,9 @@ returns-clause-log g c =
     let ends : length c.join_all-ends.result.items ≡ length c.in-Some-start_deciders.ends.items = c.join_all-ends.ensures.count in
     let count : length c.join_all-ends.result.items ≡ length c.args.deciders.items = ends ∙ c.in-Some-start_deciders.ensures.count in
     let below = slice_get_within c.join_all-ends.result.items d e at_e in
-    let w = exists_at c.args.deciders.items d (subst (λ n. d < n) count below) in
-    let h = exists_at c.in-Some-start_deciders.ends.items d (subst (λ n. d < n) ends below) in
-    let p0 = exists_at c.args.senders.items d (subst (λ n. d < n) (count ∙ sym c.requires.senders) below) in
+    let w = some_at c.args.deciders.items d (subst (λ n. d < n) count below) in
+    let h = some_at c.in-Some-start_deciders.ends.items d (subst (λ n. d < n) ends below) in
+    let p0 = some_at c.args.senders.items d (subst (λ n. d < n) (count ∙ sym c.requires.senders) below) in
     let kept : HasDecided h.0.promise.config.now (g.Z.GivesZone.zone h.0.promise.zone.now) h.0.promise.share h.0.promise.queues.now h.0.promise.ring.value e = c.join_all-ends.ensures.each d h.0 e h.1 at_e in
     let its = c.in-Some-start_deciders.ensures.each d w.0 h.0 w.1 h.1 in
     let pair = c.requires.pairs d w.0 p0.0 w.1 p0.1 in

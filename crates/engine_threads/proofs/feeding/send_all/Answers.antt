@@ -1,6 +1,6 @@
 use Rattle.std.proofs.Common.{rules, ◌<◌, ◌≤◌, length, ◌∙◌, refl}
 use Rattle.std.proofs.lemmas.List.{length-set}
-use Rattle.engine_threads.proofs.ListLaws.{at_place}
+use Rattle.lemmas.proofs.Lists.{slice_get_read}
 use Rattle.engine_threads.proofs.SentLaws.{same_after, sent_after, sent_none, sent_one}
 use Rattle.engine_threads.proofs.feeding.send_all.Goals as goal
 
@@ -12,7 +12,7 @@ loop-place-preserved g c =
     let inv = c.loop-place.invariant in
     let place = c.loop-place.place in
     let below : place < length c.loop-place.rings.items = search rules in
-    let at = at_place c.loop-place.rings.items place c.index_mut.result.now below (search rules) in (
+    let at = slice_get_read c.loop-place.rings.items place c.index_mut.result.now below (search rules) in (
       sent_one c.args.signal place c.args.rings.now.items c.loop-place.rings.items c.index_mut.result.now c.send.new.ring at c.send.ensures.ring c.send.ensures.sent inv.0,
       length-set c.loop-place.rings.items place c.send.new.ring ∙ inv.1,
     )

@@ -1,6 +1,7 @@
 use Rattle.std.proofs.Common.{rules, arith, ◌≡◌, ◌≤◌, ◌<◌, ◌++◌, ◌∷◌, [], Some, length, vec_capacity}
 use Rattle.std.specs.Vec.Iter.{into_iter_items}
-use Rattle.engine_threads.proofs.ListLaws.{both_longer, next_rest, pairs_grow, room_for}
+use Rattle.engine_threads.specs.ListLaws.{both_longer, next_rest, pairs_grow}
+use Rattle.engine_threads.proofs.ListLaws.{room_for}
 use Rattle.engine_threads.proofs.joining.join_all.Goals as goal
 
 pub loop-handle-preserved : goal.loop-handle-preserved

@@ -2,7 +2,7 @@ use Rattle.std.proofs.Common.{rules, ◌≡◌, List, sym, subst}
 use Rattle.due_model.specs.declared.notice.Suppression.{Suppression}
 use Rattle.log_merge.specs.Merge.{HasBoth}
 use Rattle.log_merge.specs.Order.{IsInOrder}
-use Rattle.engine_threads.proofs.ListLaws.{at_place}
+use Rattle.lemmas.proofs.Lists.{slice_get_read}
 use Rattle.engine_threads.proofs.LogLaws.{HasBelow, all_below, none_below, one_more}
 use Rattle.engine_threads.proofs.logs.merge_logs.Goals as goal
 
@@ -16,7 +16,7 @@ pub loop-end-preserved : goal.loop-end-preserved
 loop-end-preserved c =
     let i = c.loop-end.end-index in
     let end = c.end-item.result in
-    let at = at_place c.args.ends.now i end c.loop-end-test.true c.end-item.is in
+    let at = slice_get_read c.args.ends.now i end c.loop-end-test.true c.end-item.is in
     let first : c.deref.result.now ≡ c.loop-end.log.items = search rules in
     let second : c.deref-in-loop-end.result.now ≡ end.log.items = search rules in
     let log = c.in_ok-log.log.items in

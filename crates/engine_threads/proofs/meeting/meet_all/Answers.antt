@@ -6,7 +6,9 @@ use Rattle.deciding.specs.declared.ring.DeciderEnd.{DeciderEnd}
 use Rattle.std.specs.Vec.Iter.{into_iter_items}
 use Rattle.engine_threads.specs.Joins.{IsMet}
 use Rattle.engine_threads.proofs.JoinLaws.{kept_self, kept_then, met_before, neither_first, neither_second}
-use Rattle.engine_threads.proofs.ListLaws.{at_place, next_at, next_rest, set_other}
+use Rattle.engine_threads.specs.ListLaws.{next_rest, set_other}
+use Rattle.lemmas.proofs.Lists.{slice_get_read}
+use Rattle.engine_threads.proofs.ListLaws.{next_at}
 use Rattle.engine_threads.proofs.meeting.meet_all.Goals as goal
 
 pub meet_one-refused-requires-clause-end : goal.meet_one-refused-requires-clause-end
@@ -16,7 +18,7 @@ meet_one-refused-requires-clause-end c =
     let end = subst (λ k. slice_get c.args.ends.items k ≡ Some c.in-Some.end) (sym inv.0) (next_at c.loop-end.yielded c.in-Some.end (into_iter_items c.loop-end.end-iterator) (into_iter_items c.next.new.self) c.args.ends.items c.in-Some.ensures.steps.0 inv.1) in
     let below : place < length c.args.ends.items = slice_get_within c.args.ends.items place c.in-Some.end end in
     let long : length c.args.ends.items ≡ length c.loop-end.senders.items = sym (inv.6 ∙ c.requires.senders) in
-    let sender = at_place c.loop-end.senders.items place c.index_mut.result.now (subst (λ n. place < n) long below) (search rules) in
+    let sender = slice_get_read c.loop-end.senders.items place c.index_mut.result.now (subst (λ n. place < n) long below) (search rules) in
     (c.requires.ends.0, c.requires.ends.1, length c.args.ends.items, place, c.requires.ends.2, c.requires.ends.3 place c.in-Some.end c.index_mut.result.now end (inv.5 place c.index_mut.result.now (omega arith) sender))
 
 pub loop-end-preserved : goal.loop-end-preserved
@@ -27,7 +29,7 @@ loop-end-preserved c =
     let end = subst (λ k. slice_get c.args.ends.items k ≡ Some c.in-Some.end) (sym inv.0) (next_at c.loop-end.yielded c.in-Some.end (into_iter_items c.loop-end.end-iterator) (into_iter_items c.next.new.self) c.args.ends.items c.in-Some.ensures.steps.0 inv.1) in
     let below : place < length c.args.ends.items = slice_get_within c.args.ends.items place c.in-Some.end end in
     let long : length c.args.ends.items ≡ length c.loop-end.senders.items = sym (inv.6 ∙ c.requires.senders) in
-    let sender = at_place c.loop-end.senders.items place r (subst (λ n. place < n) long below) (search rules) in
+    let sender = slice_get_read c.loop-end.senders.items place r (subst (λ n. place < n) long below) (search rules) in
     let memory = c.loop-end.memory || c.meet_one-refused.result in
     let met = c.meet_one-refused.ensures in (
       ap (λ n. n + 1) inv.0 ∙ sym (length-append c.loop-end.yielded (c.in-Some.end ∷ [])),

@@ -3,7 +3,7 @@ use Rattle.std.proofs.lemmas.Option.{slice_get_within}
 use Rattle.due_model.specs.declared.event.Event.{Event}
 use Rattle.delivery_worker.specs.declared.worker.Served.{Served}
 use Rattle.engine_threads.specs.Run.{IsRun}
-use Rattle.engine_threads.proofs.ListLaws.{exists_at}
+use Rattle.lemmas.proofs.Lists.{some_at}
 use Rattle.engine_threads.proofs.RunLaws.{run_of_none}
 use Rattle.engine_threads.proofs.WorkLaws.{number_at, number_of}
 use Rattle.engine_threads.proofs.running.run_threads.Goals as goal
@@ -24,7 +24,7 @@ pub returns-in-Ok-run_scope-clause-run : goal.returns-in-Ok-run_scope-clause-run
 returns-in-Ok-run_scope-clause-run g c = λ boxes slots.
     let set = c.in-Ok.ensures in
     let works : (l : ℕ) (w : _) → slice_get c.in-Ok.setting.works.items l ≡ Some w → length w.boxes.items ≡ boxes l = λ l w at.
-    let s = exists_at c.args.slots.items l (subst (λ n. l < n) set.works (slice_get_within c.in-Ok.setting.works.items l w at)) in
+    let s = some_at c.args.slots.items l (subst (λ n. l < n) set.works (slice_get_within c.in-Ok.setting.works.items l w at)) in
     ap (λ bs. length bs.items) (set.slots l w s.0 s.1 at).0 ∙ slots l s.0 s.1 in
     let run = c.end_of.ensures.run c.args.config.now c.args.zone.now boxes (reverse (g.S.Source.given_so_far c.in-Ok-run_scope.driven.source)) (c.in-Ok-run_scope.ensures.lanes boxes works) c.in-Ok-run_scope.ensures.log in
     let past = ap (λ s. reverse (g.S.Source.given_so_far s)) (sym c.end_of.ensures.source) in

@@ -4,7 +4,9 @@ use Rattle.std.proofs.lemmas.Option.{slice_get_within}
 use Rattle.std.specs.Vec.Iter.{into_iter_items}
 use Rattle.deciding.specs.declared.seats.Seat.{Seat}
 use Rattle.engine_threads.specs.declared.starting.DeciderWork.{DeciderWork}
-use Rattle.engine_threads.proofs.ListLaws.{all_taken, at_place, next_at, next_rest}
+use Rattle.engine_threads.specs.ListLaws.{all_taken, next_rest}
+use Rattle.lemmas.proofs.Lists.{slice_get_read}
+use Rattle.engine_threads.proofs.ListLaws.{next_at}
 use Rattle.engine_threads.proofs.WorkLaws.{left_one, longer_one}
 use Rattle.engine_threads.proofs.setting.add_seats.Goals as goal
 
@@ -18,7 +20,7 @@ loop-pass-preserved c =
     let pass = subst (λ k. slice_get c.args.passes.items k ≡ Some c.in-Some.pass) (sym inv.0) (next_at c.loop-pass.yielded c.in-Some.pass (into_iter_items c.loop-pass.pass-iterator) (into_iter_items c.next.new.self) c.args.passes.items c.in-Some.ensures.steps.0 inv.1) in
     let below : place < length c.args.passes.items = slice_get_within c.args.passes.items place c.in-Some.pass pass in
     let long : length c.args.passes.items ≡ length c.loop-pass.deciders.items = c.requires.count ∙ sym inv.2 in
-    let at = at_place c.loop-pass.deciders.items place w (subst (λ n. place < n) long below) (search rules) in
+    let at = slice_get_read c.loop-pass.deciders.items place w (subst (λ n. place < n) long below) (search rules) in
     let seats : c.push.new.self.items ≡ w.seats.items ++ seat ∷ [] = search rules in (
       ap (λ n. n + 1) inv.0 ∙ sym (length-append c.loop-pass.yielded (c.in-Some.pass ∷ [])),
       next_rest c.loop-pass.yielded c.in-Some.pass (into_iter_items c.loop-pass.pass-iterator) (into_iter_items c.next.new.self) c.args.passes.items c.in-Some.ensures.steps.0 inv.1,

@@ -1,7 +1,7 @@
 use Rattle.std.proofs.Common.{rules, ◌≡◌, ℕ, ◌++◌, ◌∷◌, [], length, ap, ◌∙◌}
 use Rattle.std.specs.Vec.Iter.{into_iter_items}
 use Rattle.decider.specs.declared.share.Share.{Share}
-use Rattle.engine_threads.proofs.ListLaws.{both_longer, next_rest, pairs_grow}
+use Rattle.engine_threads.specs.ListLaws.{both_longer, next_rest, pairs_grow}
 use Rattle.engine_threads.proofs.starting.start_deciders.Goals as goal
 
 abbrev made_share : ℕ → ℕ → Share

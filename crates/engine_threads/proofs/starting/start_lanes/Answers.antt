@@ -2,7 +2,9 @@ use Rattle.std.proofs.Common.{rules, ◌≡◌, ◌<◌, ◌++◌, ◌∷◌, []
 use Rattle.std.proofs.lemmas.List.{nil_from_length}
 use Rattle.std.proofs.lemmas.Option.{slice_get_within}
 use Rattle.std.specs.Vec.Iter.{into_iter_items}
-use Rattle.engine_threads.proofs.ListLaws.{all_taken, at_place, both_longer, next_at, next_rest, pairs_grow}
+use Rattle.engine_threads.specs.ListLaws.{all_taken, both_longer, next_rest, pairs_grow}
+use Rattle.lemmas.proofs.Lists.{slice_get_read}
+use Rattle.engine_threads.proofs.ListLaws.{next_at}
 use Rattle.engine_threads.proofs.starting.start_lanes.Goals as goal
 
 pub start_lane-requires-clause-deciders : goal.start_lane-requires-clause-deciders
@@ -11,7 +13,7 @@ start_lane-requires-clause-deciders g c κs within =
     let work = next_at c.loop-work.yielded c.in-Some.work (into_iter_items c.loop-work.work-iterator) (into_iter_items c.next.new.self) c.args.works.items c.in-Some.ensures.steps.0 inv.2 in
     let len : length c.loop-work.yielded ≡ c.len-in-loop-work.result = search rules in
     let below : c.len-in-loop-work.result < length c.args.queues.now = subst (λ n. c.len-in-loop-work.result < n) c.requires.count (subst (λ n. n < length c.args.works.items) len (slice_get_within c.args.works.items (length c.loop-work.yielded) c.in-Some.work work)) in
-    let queue = at_place c.args.queues.now c.len-in-loop-work.result c.index-queues-len.result below c.index-queues-len.is in
+    let queue = slice_get_read c.args.queues.now c.len-in-loop-work.result c.index-queues-len.result below c.index-queues-len.is in
     c.requires.deciders c.len-in-loop-work.result c.index-queues-len.result queue
 
 pub start_lane-requires-clause-worker : goal.start_lane-requires-clause-worker
@@ -20,7 +22,7 @@ start_lane-requires-clause-worker g c κs within =
     let work = next_at c.loop-work.yielded c.in-Some.work (into_iter_items c.loop-work.work-iterator) (into_iter_items c.next.new.self) c.args.works.items c.in-Some.ensures.steps.0 inv.2 in
     let len : length c.loop-work.yielded ≡ c.len-in-loop-work.result = search rules in
     let below : c.len-in-loop-work.result < length c.args.queues.now = subst (λ n. c.len-in-loop-work.result < n) c.requires.count (subst (λ n. n < length c.args.works.items) len (slice_get_within c.args.works.items (length c.loop-work.yielded) c.in-Some.work work)) in
-    let queue = at_place c.args.queues.now c.len-in-loop-work.result c.index-queues-len.result below c.index-queues-len.is in
+    let queue = slice_get_read c.args.queues.now c.len-in-loop-work.result c.index-queues-len.result below c.index-queues-len.is in
     c.requires.workers c.len-in-loop-work.result c.index-queues-len.result c.in-Some.work queue (subst (λ k. slice_get c.args.works.items k ≡ Some c.in-Some.work) len work)
 
 pub loop-work-preserved : goal.loop-work-preserved
@@ -29,7 +31,7 @@ loop-work-preserved g c =
     let work = next_at c.loop-work.yielded c.in-Some.work (into_iter_items c.loop-work.work-iterator) (into_iter_items c.next.new.self) c.args.works.items c.in-Some.ensures.steps.0 inv.2 in
     let len : length c.loop-work.yielded ≡ c.len-in-loop-work.result = search rules in
     let below : c.len-in-loop-work.result < length c.args.queues.now = subst (λ n. c.len-in-loop-work.result < n) c.requires.count (subst (λ n. n < length c.args.works.items) len (slice_get_within c.args.works.items (length c.loop-work.yielded) c.in-Some.work work)) in
-    let queue = at_place c.args.queues.now c.len-in-loop-work.result c.index-queues-len.result below c.index-queues-len.is in
+    let queue = slice_get_read c.args.queues.now c.len-in-loop-work.result c.index-queues-len.result below c.index-queues-len.is in
     let items : c.push.new.self.items ≡ c.loop-work.handles.items ++ c.in_ok-handle.handle ∷ [] = search rules in
     let boxes : c.in_ok-handle.handle.promise.boxes ≡ length c.in-Some.work.boxes.items = search rules in
     let its : c.in_ok-handle.handle.promise.queue.now ≡ c.index-queues-len.result = search rules in
