@@ -3,13 +3,12 @@
 ghost use Rattle.std.specs.Prelude.{◌≡◌, ◌||◌, ◌<◌, ◌≤◌, ℕ, List, [], IfErr, IfOk, IfSome, length, reverse};
 ghost use Rattle.std.specs.Prelude.{false, true, slice_get, vec_capacity, Some};
 ghost use Rattle.due_model.specs.Accepted.{IsAccepted};
-ghost use Rattle.channel_queue.specs.Passes.{IsWorker};
 ghost use Rattle.rtrb.specs.Ring.{IsPair};
 ghost use Rattle.log_merge.specs.Order.{IsInOrder};
 ghost use Rattle.engine_threads.specs.Logs.{AreInOrder, HasEach};
 ghost use Rattle.engine_threads.specs.Run.{AreLaneEnds, IsLogOf};
 ghost use Rattle.engine_threads.specs.Sent.{HaveSent};
-ghost use Rattle.engine_threads.specs.Works.{IsDeciderWork};
+ghost use Rattle.engine_threads.specs.Works.{AreDeciderWorks, AreNewWorkers, HaveDeciders};
 
 use crate::feeding::feed_from;
 use crate::joining::join_all;
@@ -57,8 +56,8 @@ fn rooms(alloc: Global, deciders: usize, lanes: usize) -> Option<(Vec<DeciderEnd
     Some((ended, left))
 }
 
-/// Starts all threads, sends them the events, and puts together what they give back. Where a thread can't be started, or a growth
-/// is refused before they begin, the source comes back as it was.
+/// Starts all threads, sends them the events, and puts together what they give back. Where a thread can't be started, or
+/// a growth is refused before they begin, the source comes back as it was.
 pub(crate) fn drive<
     's,
     E,
@@ -89,13 +88,14 @@ pub(crate) fn drive<
     requires some { 0 < length deciders.items }
     requires most { length deciders.items ≤ 8 }
     requires lanes { length queues.now ≡ length config.now.lanes }
-    requires queues { (l : ℕ) (q : _) → slice_get queues.now l ≡ Some q → q.deciders ≡ length deciders.items }
+    requires queues { HaveDeciders (length deciders.items) queues.now }
     requires works { length works.items ≡ length queues.now }
-    requires workers { (l : ℕ) (q : _) (w : _) → slice_get queues.now l ≡ Some q → slice_get works.items l ≡ Some w → IsWorker q [] [] w.pass }
-    requires deciders { (d : ℕ) (w : _) → slice_get deciders.items d ≡ Some w → IsDeciderWork d queues.now w }
+    requires workers { AreNewWorkers (λ w. w.pass) queues.now works.items }
+    requires deciders { AreDeciderWorks queues.now deciders.items }
     requires senders { length senders.items ≡ length deciders.items }
     requires unsent { HaveSent [] senders.items }
-    requires pairs { (d : ℕ) (w : _) (p : _) → slice_get deciders.items d ≡ Some w → slice_get senders.items d ≡ Some p → IsPair p w.ring }
+    requires pairs { (d : ℕ) (w : _) (p : _) → slice_get deciders.items d ≡ Some w
+        → slice_get senders.items d ≡ Some p → IsPair p w.ring }
     ensures lanes { IfOk result (λ r. (boxes : ℕ → ℕ)
         → ((l : ℕ) (w : _) → slice_get works.items l ≡ Some w → length w.boxes.items ≡ boxes l)
         → AreLaneEnds config.now (Z.zone zone.now) boxes (reverse (S.given_so_far r.source)) r.refused

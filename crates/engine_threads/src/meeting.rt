@@ -39,8 +39,8 @@ fn join_seats(queues: &[LaneQueue], served: &mut Vec<Served>, seats: Vec<Seat>)
 /// Compares what a decider has received with what it was sent.
 fn compare(ring: &mut Consumer<Signal>, sender: &mut Producer<Signal>)
     requires { IsPair sender.old ring.old }
-    ensures { (all past : List Event) → received ring.old ≡ heard all ++ Over ∷ [] → sent sender.old ≡ heard past ++ Over ∷ []
-        → all ≡ past }
+    ensures { (all past : List Event) → received ring.old ≡ heard all ++ Over ∷ []
+        → sent sender.old ≡ heard past ++ Over ∷ [] → all ≡ past }
 {
     ring.slots_beside(sender);
 }

@@ -6,9 +6,8 @@ ghost use Rattle.due_model.specs.declared.config.Config.{Config};
 ghost use Rattle.due_model.specs.declared.event.Event.{Event};
 ghost use Rattle.due_model.specs.declared.zone.Zone.{Zone};
 ghost use Rattle.due_model.specs.Accepted.{IsAccepted};
-ghost use Rattle.channel_queue.specs.Passes.{IsWorker};
 ghost use Rattle.engine_threads.specs.Run.{AreLaneEnds, IsLogOf, IsRun};
-ghost use Rattle.engine_threads.specs.Works.{AreDeciderWorks, AreRings};
+ghost use Rattle.engine_threads.specs.Works.{AreDeciderWorks, AreNewWorkers, AreRings, HaveDeciders};
 
 use crate::driving::{Driven, drive};
 use crate::setting::{Setting, set_all};
@@ -70,11 +69,9 @@ fn run_scope<S: Source, Z: GivesZone + Sync, G: Gate + Sync, R: Threads + Wait +
     requires some { 0 < length deciders.items }
     requires most { length deciders.items ≤ 8 }
     requires lanes { length queues.now ≡ length config.now.lanes }
-    requires queues { (l : ℕ) (q : _) → slice_get queues.now l ≡ Some q
-        → q.deciders ≡ length deciders.items }
+    requires queues { HaveDeciders (length deciders.items) queues.now }
     requires works { length works.items ≡ length queues.now }
-    requires workers { (l : ℕ) (q : _) (w : _) → slice_get queues.now l ≡ Some q
-        → slice_get works.items l ≡ Some w → IsWorker q [] [] w.pass }
+    requires workers { AreNewWorkers (λ w. w.pass) queues.now works.items }
     requires deciders { AreDeciderWorks queues.now deciders.items }
     requires senders { length senders.items ≡ length deciders.items }
     requires rings { AreRings deciders.items senders.items }
@@ -93,20 +90,22 @@ fn run_scope<S: Source, Z: GivesZone + Sync, G: Gate + Sync, R: Threads + Wait +
         thread::scope_env(),
         rt,
         move |scope| -> Result<Driven<S>, S>
-            requires { IsAccepted config.now × (0 < tries) × (S.given_so_far source ≡ []) × (0 < length deciders.items)
-                × (length deciders.items ≤ 8) × (length queues.now ≡ length config.now.lanes)
-                × ((l : ℕ) (q : _) → slice_get queues.now l ≡ Some q → q.deciders ≡ length deciders.items)
+            requires { IsAccepted config.now × (0 < tries) × (S.given_so_far source ≡ [])
+                × (0 < length deciders.items) × (length deciders.items ≤ 8)
+                × (length queues.now ≡ length config.now.lanes)
+                × HaveDeciders (length deciders.items) queues.now
                 × (length works.items ≡ length queues.now)
-                × ((l : ℕ) (q : _) (w : _) → slice_get queues.now l ≡ Some q → slice_get works.items l ≡ Some w → IsWorker q [] [] w.pass)
-                × AreDeciderWorks queues.now deciders.items × (length senders.items ≡ length deciders.items)
+                × AreNewWorkers (λ w. w.pass) queues.now works.items
+                × AreDeciderWorks queues.now deciders.items
+                × (length senders.items ≡ length deciders.items)
                 × AreRings deciders.items senders.items }
             ensures lanes { IfOk result (λ r. (boxes : ℕ → ℕ)
                 → ((l : ℕ) (w : _) → slice_get works.items l ≡ Some w → length w.boxes.items ≡ boxes l)
-                → AreLaneEnds config.entry.now (Z.zone zone.entry.now) boxes (reverse (S.given_so_far r.source)) r.refused
-                r.served.items) }
+                → AreLaneEnds config.entry.now (Z.zone zone.entry.now) boxes
+                (reverse (S.given_so_far r.source)) r.refused r.served.items) }
             ensures log { IfOk result (λ r.
-                IsLogOf config.entry.now (Z.zone zone.entry.now) (reverse (S.given_so_far r.source)) (r.refused || r.memory)
-                r.log.items) }
+                IsLogOf config.entry.now (Z.zone zone.entry.now) (reverse (S.given_so_far r.source))
+                (r.refused || r.memory) r.log.items) }
             ensures source { IfOk result (λ r. S.goes config.entry.now source r.source) }
             ensures over { IfOk result (λ r. r.memory ≡ false → S.ended r.source) }
             ensures none { IfErr result (λ s. s ≡ source) }

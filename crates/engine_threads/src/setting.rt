@@ -1,8 +1,9 @@
 //! What is made before the threads start.
 
 ghost use Rattle.std.specs.Prelude.{◌≡◌, ◌<◌, ◌≤◌, ℕ, [], IfOk, OnOk, length, slice_get, Some};
-ghost use Rattle.channel_queue.specs.Passes.{IsDecider, IsWorker};
-ghost use Rattle.engine_threads.specs.Works.{AreDeciderWorks, AreRings, IsLonger};
+ghost use Rattle.channel_queue.specs.Passes.{IsDecider};
+ghost use Rattle.engine_threads.specs.Works.{AreDeciderWorks, AreLonger, AreNewWorkers, AreRings};
+ghost use Rattle.engine_threads.specs.Works.{HaveDeciders};
 
 use crate::starting::DeciderWork;
 use crate::working::LaneWork;
@@ -47,9 +48,9 @@ fn add_seats(
     deciders: &mut Vec<DeciderWork>,
 ) -> Result<(), AllocError>
     requires count { length passes.items ≡ length deciders.old.items }
-    requires passes { (d : ℕ) (p : _) → slice_get passes.items d ≡ Some p → IsDecider queue.now d [] p }
-    ensures longer { OnOk result ((d : ℕ) (w v : _) → slice_get deciders.old.items d ≡ Some w → slice_get deciders.new.items d ≡ Some v
-        → IsLonger d queue.now w v) }
+    requires passes { (d : ℕ) (p : _) → slice_get passes.items d ≡ Some p
+        → IsDecider queue.now d [] p }
+    ensures longer { OnOk result (AreLonger queue.now deciders.old.items deciders.new.items) }
     ensures count { length deciders.new.items ≡ length deciders.old.items }
 {
     let _ = queue;
@@ -80,8 +81,8 @@ fn lane_work(lane: LaneId, boxes: Vec<Box<dyn Channel>>, pass: Pass) -> LaneWork
     LaneWork { lane, boxes, pass }
 }
 
-/// Makes all that the threads begin with: a lane for each slot, with its boxes, with a queue for so many items, and so many deciders. A refused
-/// growth is the only error.
+/// Makes all that the threads begin with: a lane for each slot, with its boxes, with a queue for so many items, and so many
+/// deciders. A refused growth is the only error.
 pub(crate) fn set_all(
     alloc: Global,
     slots: Vec<Vec<Box<dyn Channel>>>,
@@ -93,11 +94,10 @@ pub(crate) fn set_all(
     requires few { (l : ℕ) (c : _) → slice_get slots.items l ≡ Some c → length c.items ≤ 8 }
     ensures queues { IfOk result (λ s. length s.queues.items ≡ length slots.items) }
     ensures works { IfOk result (λ s. length s.works.items ≡ length slots.items) }
-    ensures slots { IfOk result (λ s. (l : ℕ) (w : _) (c : _) → slice_get slots.items l ≡ Some c → slice_get s.works.items l ≡ Some w
-        → (w.boxes ≡ c) × (w.lane.0 ≡ l)) }
-    ensures counts { IfOk result (λ s. (l : ℕ) (q : _) → slice_get s.queues.items l ≡ Some q → q.deciders ≡ deciders) }
-    ensures workers { IfOk result (λ s. (l : ℕ) (q : _) (w : _) → slice_get s.queues.items l ≡ Some q → slice_get s.works.items l ≡ Some w
-        → IsWorker q [] [] w.pass) }
+    ensures slots { IfOk result (λ s. (l : ℕ) (w : _) (c : _) → slice_get slots.items l ≡ Some c
+        → slice_get s.works.items l ≡ Some w → (w.boxes ≡ c) × (w.lane.0 ≡ l)) }
+    ensures counts { IfOk result (λ s. HaveDeciders deciders s.queues.items) }
+    ensures workers { IfOk result (λ s. AreNewWorkers (λ w. w.pass) s.queues.items s.works.items) }
     ensures deciders { IfOk result (λ s. length s.deciders.items ≡ deciders) }
     ensures senders { IfOk result (λ s. length s.senders.items ≡ deciders) }
     ensures rings { IfOk result (λ s. AreRings s.deciders.items s.senders.items) }

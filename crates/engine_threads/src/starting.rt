@@ -8,7 +8,7 @@ ghost use Rattle.rtrb.specs.Ring.{received};
 ghost use Rattle.deciding.specs.Decided.{HasDecided};
 ghost use Rattle.engine_threads.specs.Lanes.{IsServed};
 ghost use Rattle.deciding.specs.Puts.{ArePut};
-ghost use Rattle.engine_threads.specs.Works.{IsDeciderWork};
+ghost use Rattle.engine_threads.specs.Works.{AreDeciderWorks, AreNewWorkers};
 
 use crate::word::StartWord;
 use crate::working::{LaneWork, serve_lane};
@@ -95,10 +95,12 @@ pub(crate) fn start_lanes<'s, E, G: Gate + Sync, R: Wait + Sync>(
     requires tries { 0 < tries }
     requires count { length works.items ≡ length queues.now }
     requires deciders { (l : ℕ) (q : _) → slice_get queues.now l ≡ Some q → q.deciders ≤ 8 }
-    requires workers { (l : ℕ) (q : _) (w : _) → slice_get queues.now l ≡ Some q → slice_get works.items l ≡ Some w → IsWorker q [] [] w.pass }
+    requires workers { AreNewWorkers (λ w. w.pass) queues.now works.items }
     ensures count { IfSome result (λ hs. length hs.items ≡ length works.items) }
-    ensures each { IfSome result (λ hs. (l : ℕ) (w : _) (h : _) → slice_get works.items l ≡ Some w → slice_get hs.items l ≡ Some h
-        → (slice_get queues.now l ≡ Some h.promise.queue.now) × (h.promise.boxes ≡ length w.boxes.items)) }
+    ensures each { IfSome result (λ hs. (l : ℕ) (w : _) (h : _)
+        → slice_get works.items l ≡ Some w → slice_get hs.items l ≡ Some h
+        → (slice_get queues.now l ≡ Some h.promise.queue.now)
+        × (h.promise.boxes ≡ length w.boxes.items)) }
 {
     let Ok(mut handles) = Vec::with_capacity(alloc, works.len()) else {
         return None;
@@ -136,7 +138,8 @@ impl<'s, Z: GivesZone> Promise<Option<DeciderEnd>> for Decides<'s, Z> {
     ghost use Rattle.std.specs.Prelude.{IfSome};
     ghost use Rattle.deciding.specs.Decided.{HasDecided};
 
-    ghost kept_by = { λ p r. IfSome r (λ end. HasDecided p.config.now (Z.zone p.zone.now) p.share p.queues.now p.ring.value end) };
+    ghost kept_by = { λ p r. IfSome r (λ end.
+        HasDecided p.config.now (Z.zone p.zone.now) p.share p.queues.now p.ring.value end) };
 }
 
 /// Starts the thread of a decider. `None`: it can't be started.
@@ -175,10 +178,12 @@ fn start_decider<'s, E, Z: GivesZone + Sync, G: Gate + Sync, R: Wait + Sync>(
     let started = scope.spawn_with(
         promise,
         move || -> Option<DeciderEnd>
-            requires { IsAccepted config.now × IsShare share × (received work.ring ≡ []) × (length queues.now ≡ length config.now.lanes)
+            requires { IsAccepted config.now × IsShare share × (received work.ring ≡ [])
+                × (length queues.now ≡ length config.now.lanes)
                 × (length work.seats.items ≡ length queues.now)
                 × ArePut share.decider queues.now work.seats.items (λ _. []) (λ _. []) }
-            ensures { IfSome result (λ end. HasDecided config.entry.now (Z.zone zone.entry.now) share queues.entry.now work.ring end) }
+            ensures { IfSome result (λ end.
+                HasDecided config.entry.now (Z.zone zone.entry.now) share queues.entry.now work.ring end) }
         {
             if !word.wait(rt) {
                 return None;
@@ -220,10 +225,13 @@ pub(crate) fn start_deciders<'s, E, Z: GivesZone + Sync, G: Gate + Sync, R: Wait
     requires accepted { IsAccepted config.now }
     requires deciders { length works.items ≤ 8 }
     requires queues { length queues.now ≡ length config.now.lanes }
-    requires works { (d : ℕ) (w : _) → slice_get works.items d ≡ Some w → IsDeciderWork d queues.now w }
+    requires works { AreDeciderWorks queues.now works.items }
     ensures count { IfSome result (λ hs. length hs.items ≡ length works.items) }
-    ensures each { IfSome result (λ hs. (d : ℕ) (w : _) (h : _) → slice_get works.items d ≡ Some w → slice_get hs.items d ≡ Some h
-        → (h.promise.config.now ≡ config.now) × (h.promise.zone.now ≡ zone.now) × (h.promise.queues.now ≡ queues.now) × (h.promise.share ≡ record { decider = d; deciders = length works.items })
+    ensures each { IfSome result (λ hs. (d : ℕ) (w : _) (h : _)
+        → slice_get works.items d ≡ Some w → slice_get hs.items d ≡ Some h
+        → (h.promise.config.now ≡ config.now) × (h.promise.zone.now ≡ zone.now)
+        × (h.promise.queues.now ≡ queues.now)
+        × (h.promise.share ≡ record { decider = d; deciders = length works.items })
         × (h.promise.ring.value ≡ w.ring)) }
 {
     let deciders = works.len() as u8;

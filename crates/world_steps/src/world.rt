@@ -42,7 +42,8 @@ impl<'a> World<'a> {
     ghost use Rattle.steps.specs.Lanes.{about, all_taken};
     ghost use Rattle.steps.specs.Settings.{max_boxes};
     ghost use Rattle.world_steps.specs.Lines.{decider_of, line, LinesAreDue, NoticesStandOnce};
-    ghost use Rattle.world_steps.specs.Runs.{new_world, LeadsTo, StopsAt, ReplacedTakeNothing, ShutTakesNothing};
+    ghost use Rattle.world_steps.specs.Runs.{new_world, LeadsTo, StopsAt};
+    ghost use Rattle.world_steps.specs.Runs.{ReplacedTakeNothing, ShutTakesNothing};
     ghost use Rattle.world_steps.specs.Views.{world_state, world_setup, joined};
 
     /// A world of this configuration in which nothing has happened. `served` says of each lane how many boxes its

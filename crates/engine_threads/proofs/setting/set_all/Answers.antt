@@ -5,7 +5,8 @@ use Rattle.channel_queue.specs.declared.LaneQueue.{LaneQueue}
 use Rattle.channel_queue.specs.Passes.{IsWorker}
 use Rattle.engine_threads.specs.ListLaws.{all_taken, both_longer, each_grows, next_rest, pairs_grow}
 use Rattle.engine_threads.proofs.ListLaws.{next_at}
-use Rattle.engine_threads.proofs.WorkLaws.{AreLonger, rings_longer, works_longer}
+use Rattle.engine_threads.specs.Works.{AreLonger}
+use Rattle.engine_threads.proofs.WorkLaws.{rings_longer, works_longer}
 use Rattle.engine_threads.proofs.setting.set_all.Goals as goal
 
 pub lane_work-requires : goal.lane_work-requires
