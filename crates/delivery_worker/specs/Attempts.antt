@@ -1,5 +1,5 @@
 -- What tries that failed leave, and how a lane's record stands after a notice was handed to its channel.
-use Rattle.std.specs.Prelude.{◌≡◌, ℕ, ◌+◌, ◌-◌, ◌^◌, ◌<◌, ◌≤◌, ◌⊎◌, [], ◌∷◌, ◌++◌}
+use Rattle.std.specs.Prelude.{◌≡◌, ◌↔◌, ℕ, ◌+◌, ◌-◌, ◌^◌, ◌<◌, ◌≤◌, ◌⊎◌, [], ◌∷◌, ◌++◌}
 use Rattle.std.specs.Prelude.{Option, Some, length}
 use Rattle.due_model.specs.declared.config.Config.{Config}
 use Rattle.due_model.specs.declared.notice.Notice.{Notice}
@@ -20,6 +20,10 @@ RisesBy more old new =
 abbrev pub TriesFailed : (tries limit size old new : ℕ) → Type 0
 TriesFailed tries limit size old new =
     ((size ≤ limit) × RisesBy tries old new) ⊎ ((limit < size) × (new ≡ old))
+
+-- The bell said that the lane is to close where that is the answer, once, and else it didn't.
+abbrev pub HasRung : (asked : Type 0) → (old new : ℕ) → Type 0
+HasRung asked old new = (asked ↔ (old < new)) × (new ≤ old + 1) × (¬ asked → new ≡ old)
 
 -- how often the bell is asked where so many tries failed: before each of them, and before what comes of the next
 abbrev pub asks_for : Attempted → (failed : ℕ) → ℕ

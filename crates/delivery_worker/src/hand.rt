@@ -5,7 +5,7 @@ ghost use Rattle.std.specs.Prelude.{Some, None, IfErr, IsErrOf, OnErr, OnOk, fal
 ghost use Rattle.std.specs.Option.{option_to_list};
 ghost use Rattle.channel.specs.Channels.{receipt_of};
 ghost use Rattle.channel.specs.Letter.{letter_of};
-ghost use Rattle.delivery_worker.specs.Attempts.{HasFailed, HasTriedLetter, KeepsInHand};
+ghost use Rattle.delivery_worker.specs.Attempts.{HasFailed, HasRung, HasTriedLetter, KeepsInHand};
 ghost use Rattle.delivery_worker.specs.Attempts.{TriesFailed, with_taken};
 
 use crate::laws::attempt;
@@ -60,9 +60,7 @@ pub(crate) fn deliver_hand<B: Bell>(
         (lane.new ≡ record lane.old { taken = lane.old.taken ++ notice ∷ []; hand = None }) }
     ensures kept { OnErr result (taken channel.new ≡ taken channel.old) }
     ensures held { OnErr result (lane.new ≡ lane.old) }
-    ensures asked { IsErrOf result Why.Asked ↔ (B.count bell.old < B.count bell.new) }
-    ensures bell { B.count bell.new ≤ B.count bell.old + 1 }
-    ensures unasked { ¬ IsErrOf result Why.Asked → B.count bell.new ≡ B.count bell.old }
+    ensures bell { HasRung (IsErrOf result Why.Asked) (B.count bell.old) (B.count bell.new) }
     ensures failed { IsErrOf result Why.Failed
         → TriesFailed tries (limit channel.old) (length (letter_of config.now notice))
         (failures channel.old) (failures channel.new) }
@@ -128,9 +126,7 @@ pub(crate) fn serve_notice<B: Bell, G: Gate, R: Wait>(
     ensures settled { OnOk result (lane.new ≡ with_taken notice lane.old) }
     ensures kept { OnErr result (taken channel.new ≡ taken channel.old) }
     ensures hand { IfErr result (λ why. KeepsInHand why notice lane.old lane.new) }
-    ensures asked { IsErrOf result Why.Asked ↔ (B.count bell.old < B.count bell.new) }
-    ensures bell { B.count bell.new ≤ B.count bell.old + 1 }
-    ensures unasked { ¬ IsErrOf result Why.Asked → B.count bell.new ≡ B.count bell.old }
+    ensures bell { HasRung (IsErrOf result Why.Asked) (B.count bell.old) (B.count bell.new) }
     ensures failed { IsErrOf result Why.Failed
         → TriesFailed tries (limit channel.old) (length (letter_of config.now notice))
         (failures channel.old) (failures channel.new) }
@@ -163,9 +159,7 @@ pub(crate) fn try_hand<B: Bell>(
         ≡ record lane.old { taken = lane.old.taken ++ option_to_list lane.old.hand; hand = None }) }
     ensures kept { OnErr result (taken channel.new ≡ taken channel.old) }
     ensures held { OnErr result (lane.new ≡ lane.old) }
-    ensures asked { IsErrOf result Why.Asked ↔ (B.count bell.old < B.count bell.new) }
-    ensures bell { B.count bell.new ≤ B.count bell.old + 1 }
-    ensures unasked { ¬ IsErrOf result Why.Asked → B.count bell.new ≡ B.count bell.old }
+    ensures bell { HasRung (IsErrOf result Why.Asked) (B.count bell.old) (B.count bell.new) }
     ensures failed { IsErrOf result Why.Failed
         → HasFailed tries config.now (limit channel.old) (failures channel.old) (failures channel.new)
         lane.old.hand }
