@@ -267,14 +267,13 @@ def rounds_of(edits):
 
 def try_alone(crate, edit, kept):
     """Tries an edit by itself as `rt ci` does: over what is proved already, and from nothing where that shows nothing. Returns whether it was refused, and what to say."""
-    kind, text = rt.UNSURE, ""
     if kept and os.listdir(kept):
         with tempfile.TemporaryDirectory(prefix=f"rt-edits-{os.getpid()}-") as room:
-            rt.linked(kept, f"{room}/over")
-            kind, text = rt.must_fail(crate, edit.path, ONE_JOB, f"{room}/over")
-    if kind in (rt.UNSURE, rt.MISSED):
-        kind, text = rt.must_fail(crate, edit.path, ONE_JOB)
-    return kind in (rt.REFUSED, rt.AT_LIMIT), text
+            kit.copied(kept, f"{room}/over")
+            is_refused, text = kit.must_fail(crate, edit.path, f"{room}/over")
+        if is_refused and kit.is_sound(crate, kept):
+            return is_refused, text
+    return kit.must_fail(crate, edit.path)
 
 
 def try_all(crate, paths):

@@ -1,9 +1,9 @@
 """What the scripts here ask of the kit: its command `rt`, which is a Python program, loaded as a module; the crates of this repository; and the
 libraries below them, as they were built.
 
-A library that a crate names is read from what a build left of it. `rt ci` builds libraries of its own and keeps them beside the kit, and `rt check` and
-`rt run` build theirs in the clone, in `crates/NAME/out/rlib`. Neither reads the other's, and a mixture of the two can't be used. What a library states
-is the same text in both, wherever the clone stands."""
+A library that a crate names is read from what a build left of it. `rt ci` builds libraries of its own, which some kits keep beside themselves and others leave in the clone, and
+`rt check` and `rt run` build theirs in the clone, in `crates/NAME/out/rlib`. Neither reads the other's, and a mixture of the two can't be used. What a library states is the same
+text in both, wherever the clone stands."""
 import copy
 import functools
 import hashlib
@@ -42,6 +42,34 @@ rt = load()
 rtlib = rt.rtlib
 # What keeps other commands of the kit out of the folders in which this process builds.
 held = []
+
+
+# What differs among kits stands here, up to `identity`. Some keep beside themselves what `rt ci` proved, and share among clones what `rt check` proved; some tell of an edit only
+# whether it was refused, and not whether another trial could say more.
+def share_work():
+    """Takes part in what the clones of a machine share of their checks, where the kit has such work."""
+    if hasattr(rt, "share_work"):
+        rt.share_work(True)
+
+
+def copied(kept, to):
+    """Gives the folder `to` what the folder `kept` holds, so that a check over the one leaves the other as it is."""
+    if hasattr(rt, "linked"):
+        rt.linked(kept, to)
+    else:
+        shutil.copytree(kept, to)
+
+
+def must_fail(crate, edit, kept=None):
+    """Tries an edit by itself as `rt ci` does, over what is kept in that folder, where one is given. Returns whether it was refused, and what to say."""
+    kind, text = rt.must_fail(crate, edit, ONE_JOB, kept)
+    return kind in (rt.REFUSED, rt.AT_LIMIT) if hasattr(rt, "REFUSED") else kind, text
+
+
+@functools.lru_cache(maxsize=None)
+def is_sound(crate, kept):
+    """Returns whether a refusal over what is kept in that folder is one of the edit: the kit tells them apart, or the crate as it stands is proved over it."""
+    return hasattr(rt, "UNSURE") or not rt.checked(crate, {}, ONE_JOB, kept).returncode
 
 
 def begin():
@@ -85,7 +113,9 @@ def stated(built):
 
 def take_kept(libraries, room):
     """Gives each library the one that `rt ci` keeps beside the kit of the same text, over the same libraries, by links in the folder `room`. Returns whether
-    there is one of each; where one is lacking, nothing is changed."""
+    there is one of each; where one is lacking, or the kit keeps none, nothing is changed."""
+    if not hasattr(rt, "Kept"):
+        return False
     rt.Crate.allowed = rt.handles_of(TOP)
     kept, given = rt.Kept(libraries), {}
     for it in libraries:
@@ -124,7 +154,7 @@ def build(libraries, tell):
 
     It is the build of `rt lib` in the lanes of `rt ci`. `tell` is called as each ends, with how many have ended, of how many, the crate, whether it
     is proved, and what was printed of it."""
-    rt.share_work(True)
+    share_work()
     lacking = [it for it in libraries if not it.is_built()]
     # (no other rt works in these folders meanwhile)
     held.extend(rtlib.lock(libraries))
