@@ -166,7 +166,23 @@ class Clock(threading.local):
     seconds = 0.0
 
 
+class Budget:
+    """Processor seconds that checks in several threads may take; none where any number may. A check that began ends, also once they are spent."""
+
+    def __init__(self, seconds=None):
+        self.left, self.taking = seconds, threading.Lock()
+
+    def take(self, seconds):
+        with self.taking:
+            if self.left is not None:
+                self.left -= seconds
+
+    def is_spent(self):
+        return self.left is not None and self.left <= 0
+
+
 clock = Clock()
+budget = Budget()
 
 
 def run_check(crate, texts, words, kept):
@@ -183,6 +199,7 @@ def run_check(crate, texts, words, kept):
         _, status, usage = os.wait4(started.pid, 0)
         started.returncode = -os.WTERMSIG(status) if os.WIFSIGNALED(status) else os.WEXITSTATUS(status)
         clock.seconds += usage.ru_utime + usage.ru_stime
+        budget.take(usage.ru_utime + usage.ru_stime)
         said.seek(0)
         text = said.read().decode("utf-8", "replace")
     return subprocess.CompletedProcess(line, started.returncode, text)
@@ -276,20 +293,34 @@ def try_alone(crate, edit, kept):
     return kit.must_fail(crate, edit.path)
 
 
+class Tried(NamedTuple):
+    """What came of a crate's edits: those that were not refused, each with what to say; how many were tried; the processor seconds; and a line of what was done."""
+
+    lost: list
+    number: int
+    seconds: int
+    done: str
+
+
 def try_all(crate, paths):
-    """Tries all these edits of a crate. Returns those that were not refused, each with what to say, and a line of what was done."""
+    """Tries these edits of a crate, those first that come first, until the budget is spent."""
     clock.seconds, began, checks = 0.0, time.time(), []
     edits = [read(crate, it) for it in paths]
-    alone, refused = [it for it in edits if not it.function], []
+    alone, refused, lost, number = [it for it in edits if not it.function], [], [], 0
     with tempfile.TemporaryDirectory(prefix=f"rt-edits-{os.getpid()}-") as kept:
         for batch in rounds_of([it for it in edits if it.function]):
+            if budget.is_spent():
+                break
             good = try_batch(crate, batch, kept, lambda: checks.append(1))
             refused += good
             alone += [it for it in batch if it not in good]
-        lost = []
         for it in alone:
+            if budget.is_spent():
+                break
+            number += 1
             is_refused, text = try_alone(crate, it, kept)
             if not is_refused:
                 lost.append((it.path, text))
-    done = f"{crate.name}: {len(edits) - len(lost)} of {len(edits)} edits refused, {len(refused)} of them in {len(checks)} checks of many, {len(alone)} tried alone"
-    return lost, round(clock.seconds), f"{done}, {time.time() - began:.0f} s, {clock.seconds:.0f} of a processor"
+    tried = len(refused) + number
+    done = f"{crate.name}: {tried - len(lost)} of {tried} edits refused, {len(refused)} of them in {len(checks)} checks of many, {number} tried alone"
+    return Tried(lost, tried, round(clock.seconds), f"{done}, {time.time() - began:.0f} s, {clock.seconds:.0f} of a processor")

@@ -57,7 +57,7 @@ def table(found, record):
     rows = ["| crate | proof | tests | edits tried | edits in edits/ | their seconds by edits/RECORD |", "|---|---|---|---|---|---|"]
     total = [0, 0, 0, 0, 0]
     for name in names:
-        number, seconds, _ = record.lines.get(name, (0, 0, ""))
+        number, seconds, *_ = record.lines.get(name, (0, 0))
         cells = [*(found.get((name, it), 0) for it in ("proof", "tests", "edits")), number, seconds]
         total = [one + other for one, other in zip(total, cells)]
         rows.append(f"| `{name}` | {' | '.join(f'{it:.0f}' if it else '' for it in cells)} |")

@@ -6,7 +6,6 @@ A library that a crate names is read from what a build left of it. `rt ci` build
 text in both, wherever the clone stands."""
 import copy
 import functools
-import hashlib
 import importlib.machinery
 import importlib.util
 import os
@@ -19,8 +18,6 @@ import threading
 TOP = os.path.dirname(os.path.dirname(os.path.realpath(__file__)))
 # Each check takes one processor, so that as many run side by side as there are.
 ONE_JOB = ["--jobs", "1"]
-# A function's own proof, which no other crate cites.
-OF_FUNCTIONS = ("Answers.antt", "Invariants.antt", "Proof.antt")
 
 
 def load():
@@ -80,8 +77,13 @@ def begin():
 
 
 def identity():
-    """Returns the text that names the kit."""
-    return rtlib.text_of(f"{rt.KIT}/KIT-ID")
+    """Returns the line that names the kit and its logic."""
+    return rtlib.text_of(f"{rt.KIT}/KIT-ID").strip()
+
+
+def logic():
+    """Returns the words that name the kit's logic, which several kits share."""
+    return identity().partition(" logic ")[2] or identity()
 
 
 def crates(top=TOP):
@@ -95,20 +97,6 @@ def libraries_below(some):
     for crate in some:
         found += [it for it in crate.below() if it not in found]
     return found
-
-
-@functools.lru_cache(maxsize=None)
-def stated(built):
-    """Returns a sum of what a library states that was built in this folder: its interface, its code without bodies, its specs and its lemmas."""
-    total = hashlib.sha256()
-    for part in ("interface/lang", "lang/src", "lang/antt"):
-        for at, folders, names in os.walk(f"{built}/{part}"):
-            folders.sort()
-            for name in sorted(names):
-                if name.endswith((".rt", ".antt")) and name not in OF_FUNCTIONS:
-                    path = f"{at}/{name}"
-                    total.update(f"{os.path.relpath(path, built)} {rtlib.sum_of(path)}\n".encode())
-    return total.hexdigest()
 
 
 def take_kept(libraries, room):
@@ -137,15 +125,29 @@ def is_newer(crate):
     return os.path.isfile(made) and all(os.path.getmtime(it) < os.path.getmtime(made) for it in files)
 
 
+def is_left(crate):
+    """Returns whether `rt ci` left the library in the clone, of what stands here."""
+    return is_newer(crate) and not os.path.exists(f"{crate.folder}/out/rlib/stamp")
+
+
 def find_libraries(libraries, room, tell):
     """Finds each of the libraries as it was built, or else builds those that are lacking. Returns whether all are there."""
-    if all(it.is_built() for it in libraries) or take_kept(libraries, room):
-        return True
-    if all(is_newer(it) and not os.path.exists(f"{it.folder}/out/rlib/stamp") for it in libraries):
+    if all(it.is_built() for it in libraries) or take_kept(libraries, room) or all(map(is_left, libraries)):
         return True
     lacking = [it for it in libraries if not it.is_built()]
     tell(f"{len(lacking)} of the {len(libraries)} libraries below aren't built, or not of this text: they are proved and built first, which takes minutes")
     return build(libraries, lambda done, of, crate, is_proved, said: tell(f"{done} of {of}: {crate.name}" if is_proved else f"{crate.name} is not proved:\n{said}"))
+
+
+def over_standing(crates, room):
+    """Returns those of the crates whose libraries all stand as one kind of build left them: the kind of which there are most. Nothing is built."""
+    built = [it for it in crates if all(below.is_built() for below in it.below())]
+    left = [it for it in crates if all(map(is_left, it.below()))]
+    if len(built) < len(crates):
+        kept = crates if take_kept(libraries_below(crates), room) else [it for it in crates if take_kept(it.below(), room)]
+        if kept:
+            return kept
+    return max(built, left, key=len)
 
 
 def build(libraries, tell):
