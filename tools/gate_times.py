@@ -1,8 +1,8 @@
-"""Runs a command, as .ci/run, and writes into a file how many processor seconds each crate took in it: its proof, its tests, and the edits that `rt ci` and tests/wrong-bodies tried.
+"""Runs a command, as `rt ci`, and writes into a file how many processor seconds each crate took in it: its proof, its tests, and its edits. `.ci/run` shows it in its last lines.
 
-  python3 tools/gate_times.py docs/GATE_TIMES.md .ci/run
+  python3 tools/gate_times.py FILE rt ci
 
-It looks at the kit's processes once a second, so what ends within a second is counted short."""
+It ends with the command's status. It looks at the kit's processes once a second, so what ends within a second is counted short."""
 import os
 import subprocess
 import sys
@@ -85,7 +85,7 @@ def main(file, *command):
     head = [
         "# How long a gate takes",
         "",
-        f"Written by `tools/gate_times.py`: processor seconds of each crate in a run of `{' '.join(command)}`, with {kit.identity().split(chr(10))[0]}, {len(os.sched_getaffinity(0))} processors "
+        f"Written by `tools/gate_times.py`: processor seconds of each crate in a run of `{' '.join(command)}`, with {kit.identity()}, {len(os.sched_getaffinity(0))} processors "
         f"and RT_JOBS={os.environ.get('RT_JOBS', 'as the gate sets it')}. It took {took / 60:.0f} minutes ({took:.0f} s). Its last line: `{last}`.",
         "",
     ]

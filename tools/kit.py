@@ -63,6 +63,33 @@ def must_fail(crate, edit, kept=None):
     return kind in (rt.REFUSED, rt.AT_LIMIT) if hasattr(rt, "REFUSED") else kind, text
 
 
+class Stamps(threading.local):
+    """The stamps that were worked out within the call of one, by the folders of their crates."""
+
+    known = None
+
+
+stamps = Stamps()
+stamp_of_kit = rtlib.Crate.stamp
+
+
+def stamp(crate):
+    """Returns the kit's stamp of a crate, with each library below asked once: some kits ask it on each of the many ways that lead to it, which takes minutes."""
+    is_first = stamps.known is None
+    if is_first:
+        stamps.known = {}
+    try:
+        if crate.folder not in stamps.known:
+            stamps.known[crate.folder] = stamp_of_kit(crate)
+        return stamps.known[crate.folder]
+    finally:
+        if is_first:
+            stamps.known = None
+
+
+rtlib.Crate.stamp = stamp
+
+
 @functools.lru_cache(maxsize=None)
 def is_sound(crate, kept):
     """Returns whether a refusal over what is kept in that folder is one of the edit: the kit tells them apart, or the crate as it stands is proved over it."""
