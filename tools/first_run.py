@@ -58,7 +58,7 @@ def main(log):
     kit.begin()
     program = next(it for it in kit.crates() if it.name == PROGRAM)
     libraries = kit.libraries_below([program])
-    lacking = [it for it in libraries if not it.is_built()]
+    lacking = kit.lacking(libraries)
     every, left = len(libraries) + 1, len(lacking) + 1
     say = f"notify-run: {left} of {every} crates are to be proved first: with {rt.processors()} processors some {minutes([*lacking, program], [*libraries, program])} minutes"
     print(f"{say}; what is proved stays, if it is broken off", file=sys.stderr, flush=True)

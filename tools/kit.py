@@ -4,6 +4,7 @@ libraries below them, as they were built.
 A library that a crate names is read from what a build left of it. `rt ci` builds libraries of its own, which some kits keep beside themselves and others leave in the clone, and
 `rt check` and `rt run` build theirs in the clone, in `crates/NAME/out/rlib`. Neither reads the other's, and a mixture of the two can't be used. What a library states is the same
 text in both, wherever the clone stands."""
+import contextlib
 import copy
 import functools
 import importlib.machinery
@@ -64,7 +65,7 @@ def must_fail(crate, edit, kept=None):
 
 
 class Stamps(threading.local):
-    """The stamps that were worked out within the call of one, by the folders of their crates."""
+    """The stamps that were worked out within one look at the crates, by their folders."""
 
     known = None
 
@@ -73,18 +74,25 @@ stamps = Stamps()
 stamp_of_kit = rtlib.Crate.stamp
 
 
-def stamp(crate):
-    """Returns the kit's stamp of a crate, with each library below asked once: some kits ask it on each of the many ways that lead to it, which takes minutes."""
+@contextlib.contextmanager
+def one_look():
+    """Within it each crate's stamp is worked out once: meanwhile nothing changes a text."""
     is_first = stamps.known is None
     if is_first:
         stamps.known = {}
     try:
-        if crate.folder not in stamps.known:
-            stamps.known[crate.folder] = stamp_of_kit(crate)
-        return stamps.known[crate.folder]
+        yield
     finally:
         if is_first:
             stamps.known = None
+
+
+def stamp(crate):
+    """Returns the kit's stamp of a crate, with each library below asked once: some kits ask it on each of the many ways that lead to it, which takes minutes."""
+    with one_look():
+        if crate.folder not in stamps.known:
+            stamps.known[crate.folder] = stamp_of_kit(crate)
+        return stamps.known[crate.folder]
 
 
 rtlib.Crate.stamp = stamp
@@ -157,19 +165,27 @@ def is_left(crate):
     return is_newer(crate) and not os.path.exists(f"{crate.folder}/out/rlib/stamp")
 
 
+def lacking(libraries):
+    """Returns those of the libraries that aren't built in this clone, or not of this text."""
+    with one_look():
+        return [it for it in libraries if not it.is_built()]
+
+
 def find_libraries(libraries, room, tell):
     """Finds each of the libraries as it was built, or else builds those that are lacking. Returns whether all are there."""
-    if all(it.is_built() for it in libraries) or take_kept(libraries, room) or all(map(is_left, libraries)):
+    left = lacking(libraries)
+    if not left or take_kept(libraries, room) or all(map(is_left, libraries)):
         return True
-    lacking = [it for it in libraries if not it.is_built()]
-    tell(f"{len(lacking)} of the {len(libraries)} libraries below aren't built, or not of this text: they are proved and built first, which takes minutes")
+    tell(f"{len(left)} of the {len(libraries)} libraries below aren't built, or not of this text: they are proved and built first, which takes minutes")
     return build(libraries, lambda done, of, crate, is_proved, said: tell(f"{done} of {of}: {crate.name}" if is_proved else f"{crate.name} is not proved:\n{said}"))
 
 
 def over_standing(crates, room):
     """Returns those of the crates whose libraries all stand as one kind of build left them: the kind of which there are most. Nothing is built."""
-    built = [it for it in crates if all(below.is_built() for below in it.below())]
-    left = [it for it in crates if all(map(is_left, it.below()))]
+    absent = lacking(libraries_below(crates))
+    found = [it for it in libraries_below(crates) if is_left(it)]
+    built = [it for it in crates if not any(below in absent for below in it.below())]
+    left = [it for it in crates if all(below in found for below in it.below())]
     if len(built) < len(crates):
         kept = crates if take_kept(libraries_below(crates), room) else [it for it in crates if take_kept(it.below(), room)]
         if kept:
@@ -184,7 +200,7 @@ def build(libraries, tell):
     It is the build of `rt lib` in the lanes of `rt ci`. `tell` is called as each ends, with how many have ended, of how many, the crate, whether it
     is proved, and what was printed of it."""
     share_work()
-    lacking = [it for it in libraries if not it.is_built()]
+    todo = lacking(libraries)
     # (no other rt works in these folders meanwhile)
     held.extend(rtlib.lock(libraries))
     for it in libraries:
@@ -203,12 +219,12 @@ def build(libraries, tell):
             crate.out.seek(0)
             with telling:
                 done.append(crate.name)
-                tell(len(done), len(lacking), crate, not status, crate.out.read())
+                tell(len(done), len(todo), crate, not status, crate.out.read())
         return not status
 
-    tasks, todo = {}, {it.name for it in lacking}
-    for it in lacking:
-        waits = [(below.name, "proof") for below in it.below() if below.name in todo]
+    tasks = {}
+    for it in todo:
+        waits = [(below.name, "proof") for below in it.below() if below in todo]
         tasks[it.name, "proof"] = (waits, it.count(rb"\n"), rt.need(it), lambda given, jobs, it=it: prove(it, given, jobs))
     return all(rt.in_lanes(tasks).values()) if tasks else True
 

@@ -14,8 +14,8 @@ use clap::{Arg, ArgMatches, Command, value_parser};
 use std::alloc::{AllocError, Global};
 use steps::{MAX_BOXES, Settings};
 
-/// What `notify-run --version` says after the name.
-const VERSION: &str = "0.2.0";
+/// What `notify-run --version` says after the name: the version, and the logic of the kit that proved it.
+const VERSION: &str = "0.3.0 (Rattle logic dac8208d650f15bf)";
 
 /// What `notify-run --help` says after its commands.
 const STATUSES: &str = "\

@@ -1,0 +1,28 @@
+# bash completion for notify-run, made by tools/manual.py
+_notify_run() {
+    local word="${COMP_WORDS[COMP_CWORD]}" before="${COMP_WORDS[COMP_CWORD - 1]}" command="" words="" it
+    COMPREPLY=()
+    for it in "${COMP_WORDS[@]:1:COMP_CWORD-1}"; do
+        case "$it" in
+            replay | trace | run)
+                command="$it"
+                break
+                ;;
+        esac
+    done
+    case "$command $before" in
+        "replay --objects" | "replay --zone-file" | "trace --zone-file" | "run --objects" | "run --zone-file")
+            mapfile -t COMPREPLY < <(compgen -f -- "$word")
+            return
+            ;;
+        "replay --zone" | "trace --deciders" | "trace --standbys" | "trace --queue" | "trace --tries" | "trace --zone" | "run --deciders" | "run --queue" | "run --tries" | "run --zone") return ;;
+    esac
+    case "$command" in
+        "") words="replay trace run -h --help -V --version" ;;
+        replay) words="--objects --zone --zone-file -h --help" ;;
+        trace) words="--deciders --standbys --queue --tries --zone --zone-file -h --help" ;;
+        run) words="--objects --deciders --queue --tries --zone --zone-file -h --help" ;;
+    esac
+    mapfile -t COMPREPLY < <(compgen -W "$words" -- "$word")
+}
+complete -o default -F _notify_run notify-run
