@@ -73,7 +73,7 @@ def main(log):
         well = kit.build(libraries, tell)
         kit.release()
         if well:
-            ran = subprocess.run(["rt", "run", "--", "--version"], cwd=program.folder, stdin=subprocess.DEVNULL, stdout=out, stderr=out)
+            ran = subprocess.run([f"{kit.TOP}/tools/rt", "run", "--", "--version"], cwd=program.folder, stdin=subprocess.DEVNULL, stdout=out, stderr=out)
             if os.path.exists(f"{program.folder}/out/{PROGRAM}") and not ran.returncode:
                 progress.one_more()
     progress.end()
