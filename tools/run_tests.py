@@ -52,6 +52,9 @@ def main(lanes, *scripts):
         came = list(pool.map(run, sorted((it for it in scripts if it not in alone), key=place)))
     came += map(run, alone)
     print("seconds: " + ", ".join(f"{os.path.basename(script)} {took:.0f}" for script, took, _, _ in came))
+    for script, _, _, bad in came:
+        if bad:
+            print(f"{script}: {bad} failed")
     failed = sum(it for _, _, _, it in came)
     print(f"{sum(it for _, _, it, _ in came)} passed, {failed} failed")
     return 1 if failed else 0
