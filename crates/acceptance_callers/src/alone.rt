@@ -8,6 +8,7 @@ use due_model::config::Config;
 use std::process::Abort;
 use std::sync::Wait;
 use std::test::Fail;
+use std::time::Clock;
 
 /// The 257th event finds no place, and comes back; nor does the end.
 fn fill(rt: &impl Abort, handles: &mut Vec<FeedHandle>)
@@ -78,7 +79,7 @@ fn send(rt: &impl Abort, handles: &mut Vec<FeedHandle>, caller: u16, count: u64,
 }
 
 /// What is taken is what is wanted, and no more comes when it is asked for again.
-fn takes(rt: &(impl Wait + Abort), config: &Config, intake: Intake, wanted: Wanted) {
+fn takes(rt: &(impl Wait + Clock + Abort), config: &Config, intake: Intake, wanted: Wanted) {
     let mut intake = intake;
     for _time in 0..2 {
         let stop = take_all(rt, config, &mut intake);
@@ -99,7 +100,7 @@ fn takes(rt: &(impl Wait + Abort), config: &Config, intake: Intake, wanted: Want
 
 /// Two callers post, and then their events are taken.
 pub(crate) fn run_alone(
-    rt: &(impl Wait + Abort),
+    rt: &(impl Wait + Clock + Abort),
     config: &Config,
     handles: Vec<FeedHandle>,
     intake: Intake,

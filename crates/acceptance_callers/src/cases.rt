@@ -9,6 +9,7 @@ use std::process::Abort;
 use std::sync::Wait;
 use std::test::Fail;
 use std::thread::Threads;
+use std::time::Clock;
 
 /// What feeds are tried in.
 #[derive(Clone, Copy)]
@@ -21,7 +22,7 @@ enum Case {
 
 /// Makes so many feeds, and tries them.
 fn run(
-    rt: &(impl Threads + Wait + Abort + Sync),
+    rt: &(impl Threads + Wait + Clock + Abort + Sync),
     alloc: Global,
     count: usize,
     most: usize,

@@ -9,13 +9,14 @@ use std::process::Abort;
 use std::sync::Wait;
 use std::thread;
 use std::thread::Threads;
+use std::time::Clock;
 
 /// How many events each caller posts.
 const EVENTS: u64 = 1_000;
 
 /// Each caller posts in a thread of its own, while this thread takes.
 fn run(
-    rt: &(impl Threads + Wait + Abort + Sync),
+    rt: &(impl Threads + Wait + Clock + Abort + Sync),
     config: &Config,
     handles: Vec<FeedHandle>,
     intake: Intake,
@@ -53,7 +54,7 @@ fn run(
 
 /// What so many callers post is taken, of each in its order.
 pub(crate) fn run_crowd(
-    rt: &(impl Threads + Wait + Abort + Sync),
+    rt: &(impl Threads + Wait + Clock + Abort + Sync),
     config: &Config,
     handles: Vec<FeedHandle>,
     intake: Intake,

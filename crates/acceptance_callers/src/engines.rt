@@ -6,7 +6,6 @@ use crate::given::{end, last_handle, post_in_turn};
 use acceptance_inputs::accepted::is_accepted;
 use acceptance_inputs::events::hard;
 use caller_feeds::{FeedEnd, FeedHandle};
-use channel::Channel;
 use channel::memory::MemoryChannel;
 use due_model::config::{Config, LaneId, ObjectId};
 use due_model::event::Event;
@@ -19,6 +18,7 @@ use std::process::Abort;
 use std::sync::Wait;
 use std::thread;
 use std::thread::Threads;
+use std::time::Clock;
 use undelivered::Why;
 
 /// The greatest length of a letter's text.
@@ -45,11 +45,10 @@ pub(crate) fn post_flips(rt: &impl Abort, handle: &mut FeedHandle, object: u16, 
 }
 
 /// A channel in memory, which never fails, for each of so many lanes.
-fn in_memory(alloc: Global, lanes: u8) -> Result<Vec<Post>, AllocError> {
+fn in_memory(alloc: Global, lanes: u8) -> Result<Vec<Post<MemoryChannel>>, AllocError> {
     let mut posts = Vec::new(alloc);
     for lane in 0..lanes {
         let channel = MemoryChannel::new(alloc, LIMIT, &[])?;
-        let channel: Box<dyn Channel> = Box::new(alloc, channel)?;
         posts.push(Post {
             lane: LaneId(lane),
             channel,
@@ -59,7 +58,7 @@ fn in_memory(alloc: Global, lanes: u8) -> Result<Vec<Post>, AllocError> {
 }
 
 /// The end of a run over feeds by so many deciders, where each lane has a channel in memory, and the queue of each holds one notice.
-pub(crate) fn run<R: Abort + Threads + Wait + Sync>(
+pub(crate) fn run<R: Abort + Threads + Wait + Clock + Sync>(
     rt: &R,
     alloc: Global,
     config: &Config,
@@ -74,7 +73,7 @@ pub(crate) fn run<R: Abort + Threads + Wait + Sync>(
     assert!(rt; are_few(&posts), "no lane has too many channels");
     let closers = Closers::new(alloc, lanes)?;
     let settings = Settings::new(deciders, 1, 3).expect(rt, "settings in range");
-    Ok(Engine::run_feeds(
+    let (end, ends, _channels) = Engine::run_feeds(
         rt,
         alloc,
         config,
@@ -84,12 +83,13 @@ pub(crate) fn run<R: Abort + Threads + Wait + Sync>(
         settings,
         &closers,
         &OpenGate,
-    ))
+    );
+    Ok((end, ends))
 }
 
 /// The same, while the callers post, each in a thread of its own: so many events of the host of its number, and its end.
 pub(crate) fn run_beside(
-    rt: &(impl Abort + Threads + Wait + Sync),
+    rt: &(impl Abort + Threads + Wait + Clock + Sync),
     alloc: Global,
     config: &Config,
     handles: Vec<FeedHandle>,

@@ -14,6 +14,7 @@ use due_model::state::State;
 use std::alloc::{AllocError, Global};
 use std::process::Abort;
 use std::sync::Wait;
+use std::time::Clock;
 
 /// How many turns of a wait are too many.
 const MOST_TURNS: u32 = 10_000_000;
@@ -102,7 +103,7 @@ pub(crate) fn end(rt: &impl Abort, handle: &mut FeedHandle)
 
 /// Takes events until no more comes, and tells why.
 pub(crate) fn take_all(
-    rt: &(impl Wait + Abort),
+    rt: &(impl Wait + Clock + Abort),
     config: &Config,
     intake: &mut Intake,
 ) -> IntakeStop {

@@ -16,6 +16,7 @@ use std::process::Abort;
 use std::sync::Wait;
 use std::test::Fail;
 use std::thread::Threads;
+use std::time::Clock;
 use undelivered::Why;
 
 /// How many deciders the runs have.
@@ -50,7 +51,7 @@ fn post_both(rt: &impl Abort, handles: &mut Vec<FeedHandle>, posted: Posted)
 
 /// Both post, and then a run takes what they have posted.
 fn alone(
-    rt: &(impl Abort + Threads + Wait + Sync),
+    rt: &(impl Abort + Threads + Wait + Clock + Sync),
     alloc: Global,
     config: &Config,
     deciders: u8,
@@ -80,7 +81,7 @@ fn alone(
 
 /// Tries what the callers post with each number of deciders.
 fn with_each(
-    rt: &(impl Abort + Threads + Wait + Sync),
+    rt: &(impl Abort + Threads + Wait + Clock + Sync),
     alloc: Global,
     posted: Posted,
 ) -> Result<(), AllocError> {
@@ -129,7 +130,7 @@ fn end_that_is_missing(rt: HostRuntime) -> Result<(), Fail> {
 
 /// So many callers post a thousand events each while a run takes them.
 fn beside(
-    rt: &(impl Abort + Threads + Wait + Sync),
+    rt: &(impl Abort + Threads + Wait + Clock + Sync),
     alloc: Global,
     callers: u16,
 ) -> Result<(), AllocError> {

@@ -1,5 +1,7 @@
 //! Writers and streams that fail when they are told to, and keep what they were given.
 
+use channel_kinds::dialled::Dialer;
+use channel_kinds::stream::AnyStream;
 use std::alloc::Global;
 use std::io::{self, ErrorKind, Read, Write};
 
@@ -104,17 +106,29 @@ impl Write for Peer {
     }
 }
 
-/// A peer that takes all that it is told, and answers `OK` again and again.
+/// A peer that takes all that it is told, and answers `OK` again and again, up to its end.
 #[derive(Drop)]
 pub(crate) struct Agreeing {
     /// How many bytes it has answered.
     pub reads: usize,
+    /// How many it answers at most.
+    pub most: usize,
+}
+
+impl Agreeing {
+    /// One that has no end.
+    pub(crate) fn new() -> Agreeing {
+        Agreeing {
+            reads: 0,
+            most: usize::MAX,
+        }
+    }
 }
 
 impl Read for Agreeing {
     fn read(&mut self, buf: &mut [u8]) -> io::Result<usize> {
         let answer = *b"OK\n";
-        if buf.is_empty() {
+        if buf.is_empty() || self.reads >= self.most {
             return Ok(0);
         }
         buf[0] = answer[self.reads % 3];
@@ -131,4 +145,23 @@ impl Write for Agreeing {
     fn flush(&mut self) -> io::Result<()> {
         Ok(())
     }
+}
+
+/// Agreeing peers, each of which can be had by every other dial.
+#[derive(Drop)]
+pub(crate) struct Peers {
+    /// How often one was dialled.
+    pub dialled: usize,
+}
+
+impl Dialer<AnyStream<Agreeing>> for Peers {
+    fn dial(&mut self) -> Option<AnyStream<Agreeing>> {
+        self.dialled = self.dialled.wrapping_add(1);
+        if self.dialled % 2 == 1 {
+            return None;
+        }
+        Some(AnyStream::new(Agreeing::new()))
+    }
+
+    fn begin(&mut self, _stream: &mut AnyStream<Agreeing>) {}
 }

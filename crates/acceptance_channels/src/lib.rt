@@ -6,6 +6,8 @@ mod boxes;
 #[cfg(test)]
 mod devices;
 #[cfg(test)]
+mod dialled;
+#[cfg(test)]
 mod given;
 #[cfg(test)]
 mod letters;

@@ -23,7 +23,11 @@ fn letter_bytes(rt: HostRuntime) -> Result<(), AllocError> {
         Mailbox::new(AnyOutlet::new(Vec::new(rt.alloc()))),
     );
     takes(&rt, &mut mailbox, &down);
-    let written = mailbox.into_device().close().into_inner();
+    let written = mailbox
+        .into_device()
+        .expect(&rt, "it is open")
+        .close()
+        .into_inner();
     check(&rt, written.len() == 89, "89 bytes");
     check(
         &rt,
@@ -62,7 +66,11 @@ fn letters_one_after_another(rt: HostRuntime) -> Result<(), AllocError> {
         Mailbox::new(AnyOutlet::new(Device::new(rt.alloc()))),
     );
     two_letters(&rt, &mut mailbox, &letters);
-    let device = mailbox.into_device().close().into_inner();
+    let device = mailbox
+        .into_device()
+        .expect(&rt, "it is open")
+        .close()
+        .into_inner();
     check(
         &rt,
         are(&device.held, &[DOWN_TEXT, UP_TEXT, CLOSED]),
@@ -91,7 +99,14 @@ fn try_device(rt: &impl Abort, alloc: Global, device: Device, letter: &Letter, r
     check(rt, keeps(&mailbox, row.answer), "what is kept");
     check(
         rt,
-        holds(&mailbox.into_device().close().into_inner(), row),
+        holds(
+            &mailbox
+                .into_device()
+                .expect(rt, "it is open")
+                .close()
+                .into_inner(),
+            row,
+        ),
         "what the device holds",
     );
 }
@@ -218,7 +233,13 @@ fn try_long(
     check(rt, mailbox.failures() == 0, "no failure");
     check(
         rt,
-        mailbox.into_device().close().into_inner().len() == written,
+        mailbox
+            .into_device()
+            .expect(rt, "it is open")
+            .close()
+            .into_inner()
+            .len()
+            == written,
         "how many bytes",
     );
 }

@@ -30,7 +30,11 @@ fn pager_dialogue(rt: HostRuntime) -> Result<(), AllocError> {
         Pager::new(AnyStream::new(Peer::new(rt.alloc(), b"OK\nNO\n"))),
     );
     talk(&rt, &mut pager, &letters);
-    let peer = pager.into_device().close().into_inner();
+    let peer = pager
+        .into_device()
+        .expect(&rt, "it is open")
+        .close()
+        .into_inner();
     let told = ["PAGE 79\n", DOWN_TEXT, "PAGE 78\n", UP_TEXT, "BYE\n"];
     check(&rt, are(&peer.told.held, &told), "what the peer is told");
     check(
@@ -59,7 +63,11 @@ fn try_peer(
     let mut pager = DeviceChannel::new(alloc, Pager::new(AnyStream::new(peer)));
     answers(rt, &mut pager, letter, answer, "the answer");
     try_again(rt, &mut pager, letter, answer);
-    pager.into_device().close().into_inner()
+    pager
+        .into_device()
+        .expect(rt, "it is open")
+        .close()
+        .into_inner()
 }
 
 /// What is kept of the first letter; after a failure each letter is one failure more.
@@ -183,7 +191,15 @@ fn a_text_that_is_too_long(rt: HostRuntime) -> Result<(), AllocError> {
     try_long(&rt, &mut pager, &too_long, &longest);
     check(
         &rt,
-        pager.into_device().close().into_inner().told.held.len() == 1_038,
+        pager
+            .into_device()
+            .expect(&rt, "it is open")
+            .close()
+            .into_inner()
+            .told
+            .held
+            .len()
+            == 1_038,
         "one page",
     );
     Ok(())

@@ -7,11 +7,12 @@ use channel_kinds::device_channel::DeviceChannel;
 use channel_kinds::spawned::Spawned;
 use std::alloc::AllocError;
 use std::process::{Abort, Processes, SystemProcess};
+use std::time::{Clock, Duration};
 
 const FAILED: Result<(), Fault> = Err(Fault::Device);
 
 /// Gives a letter to a program: the answer. What is kept is compared with it.
-fn run<R: AllocGlobal + Abort + Processes<Started = SystemProcess> + Copy + Send>(
+fn run<R: AllocGlobal + Abort + Processes<Started = SystemProcess> + Clock + Copy + Send>(
     rt: &R,
     program: &str,
     arguments: &[&str],
@@ -75,8 +76,22 @@ fn a_command_that_closes_its_input(rt: HostRuntime) -> Result<(), AllocError> {
     Ok(())
 }
 
+/// A program that is still there after its time was killed, and has failed.
+#[test]
+fn a_program_with_a_time_limit(rt: HostRuntime) -> Result<(), AllocError> {
+    let down = letter(rt.alloc(), DOWN)?;
+    for (seconds, answer) in [("0", Ok(())), ("50", FAILED)] {
+        let device = Spawned::new(rt.alloc(), rt, "/bin/sleep", &[seconds])?;
+        let device = device.within(Duration::from_secs(1));
+        let mut channel = DeviceChannel::new(rt.alloc(), device);
+        let given = give(&rt, &mut channel, &down);
+        check(&rt, given == answer, seconds);
+    }
+    Ok(())
+}
+
 /// The letter of so many bytes, given to a command that counts them.
-fn count<R: AllocGlobal + Abort + Processes<Started = SystemProcess> + Copy + Send>(
+fn count<R: AllocGlobal + Abort + Processes<Started = SystemProcess> + Clock + Copy + Send>(
     rt: &R,
     bytes: usize,
     command: &str,

@@ -5,7 +5,6 @@ use crate::writers::{Counting, Stubborn};
 use acceptance_inputs::accepted::is_accepted;
 use acceptance_inputs::configs::base;
 use acceptance_inputs::readers::Watching;
-use channel::Channel;
 use channel::memory::MemoryChannel;
 use command_output::{CommandFault, Ending, Sink};
 use due_model::config::{Config, LaneId};
@@ -20,6 +19,7 @@ use std::process::Abort;
 use std::sync::Wait;
 use std::test::Fail;
 use std::thread::Threads;
+use std::time::Clock;
 use text_lines::AnyReader;
 
 /// The greatest length of a letter's text.
@@ -30,7 +30,7 @@ type Ended = Result<Ending, CommandFault>;
 
 /// What a test of a run is handed.
 #[derive(Drop)]
-struct Given<'a, T: Abort + Threads + Wait + Sync> {
+struct Given<'a, T: Abort + Threads + Wait + Clock + Sync> {
     rt: &'a T,
     alloc: Global,
     config: &'a Config,
@@ -38,7 +38,7 @@ struct Given<'a, T: Abort + Threads + Wait + Sync> {
 
 /// How a run of a feed ends, where a letter is tried twice at most. The one lane has a channel in memory, which fails at the
 /// calls that are listed, or none.
-fn ends<R: Read + Drop, W: Sink, T: Abort + Threads + Wait + Sync>(
+fn ends<R: Read + Drop, W: Sink, T: Abort + Threads + Wait + Clock + Sync>(
     given: &Given<'_, T>,
     fails: Option<&[u64]>,
     feed: R,
@@ -48,7 +48,7 @@ fn ends<R: Read + Drop, W: Sink, T: Abort + Threads + Wait + Sync>(
 }
 
 /// The same, where somebody watches.
-fn ends_watched<R: Read + Drop, W: Sink, P: Watcher, T: Abort + Threads + Wait + Sync>(
+fn ends_watched<R: Read + Drop, W: Sink, P: Watcher, T: Abort + Threads + Wait + Clock + Sync>(
     given: &Given<'_, T>,
     fails: Option<&[u64]>,
     feed: R,
@@ -61,7 +61,6 @@ fn ends_watched<R: Read + Drop, W: Sink, P: Watcher, T: Abort + Threads + Wait +
     let mut posts = Vec::new(alloc);
     if let Some(fails) = fails {
         let channel = MemoryChannel::new(alloc, LIMIT, fails)?;
-        let channel: Box<dyn Channel> = Box::new(alloc, channel)?;
         posts.push(Post {
             lane: LaneId(0),
             channel,
@@ -71,9 +70,10 @@ fn ends_watched<R: Read + Drop, W: Sink, P: Watcher, T: Abort + Threads + Wait +
     let closers = Closers::new(alloc, 1)?;
     let feed = AnyReader::new(feed);
     let zone = Zone::Utc;
-    Ok(run(
+    let (ended, _channels) = run(
         rt, alloc, config, &zone, settings, posts, feed, out, &closers, &OpenGate, watcher,
-    ))
+    );
+    Ok(ended)
 }
 
 /// A host that is down, and told of again after a minute; in between, one event that is suppressed and one line that is no event.
@@ -85,7 +85,7 @@ const REPORT: &str =
     "R;3;BadStamp\nS;1;1030;web;PROBLEM;DOWN;Interval\nT;mail;0;web;ann\nT;mail;3;web;ann\nZ;mail;FeedOver\n";
 
 /// Nothing is written before the feed is over, and then the whole report.
-fn writes_at_the_end<T: Abort + Threads + Wait + Sync>(
+fn writes_at_the_end<T: Abort + Threads + Wait + Clock + Sync>(
     given: &Given<'_, T>,
 ) -> Result<(), AllocError> {
     let written = Cell::new(0);
@@ -118,7 +118,7 @@ fn at_the_end(rt: HostRuntime) -> Result<(), Fail> {
 }
 
 /// Where the output fails at a call, a front of the report was written.
-fn writes_a_front<T: Abort + Threads + Wait + Sync>(
+fn writes_a_front<T: Abort + Threads + Wait + Clock + Sync>(
     given: &Given<'_, T>,
     calls: usize,
 ) -> Result<(), AllocError> {
@@ -154,7 +154,7 @@ fn output_fails(rt: HostRuntime) -> Result<(), Fail> {
 
 /// A letter that fails once is tried again; one that fails twice is undelivered, and all after it, and the watcher makes way
 /// once.
-fn says_what_failed<T: Abort + Threads + Wait + Sync>(
+fn says_what_failed<T: Abort + Threads + Wait + Clock + Sync>(
     given: &Given<'_, T>,
     fails: &[u64],
     wanted: Ended,

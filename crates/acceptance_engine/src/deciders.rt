@@ -9,6 +9,7 @@ use std::process::Abort;
 use std::sync::Wait;
 use std::test::Fail;
 use std::thread::Threads;
+use std::time::Clock;
 use undelivered::Why;
 
 /// The notices of one object, in their order.
@@ -49,7 +50,7 @@ fn have_taken_the_same(
 }
 
 /// The end of a run of five hosts over a thousand events, by so many deciders.
-fn run_by<R: Abort + Threads + Wait + Sync>(
+fn run_by<R: Abort + Threads + Wait + Clock + Sync>(
     rt: &R,
     alloc: Global,
     config: &Config,

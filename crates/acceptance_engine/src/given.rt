@@ -12,6 +12,7 @@ use std::alloc::{AllocError, Global};
 use std::process::Abort;
 use std::sync::Wait;
 use std::thread::Threads;
+use std::time::Clock;
 use undelivered::Why;
 
 /// The greatest length of a letter's text.
@@ -32,17 +33,17 @@ impl How {
     };
 }
 
-/// The end of a run of a configuration over a feed.
-pub(crate) fn run<G: Gate + Sync, R: Abort + Threads + Wait + Sync>(
+/// The end of a run of a configuration over a feed, and its channels.
+pub(crate) fn run_kept<C: Channel, G: Gate + Sync, R: Abort + Threads + Wait + Clock + Sync>(
     rt: &R,
     alloc: Global,
     config: &Config,
     feed: &[u8],
-    posts: Vec<Post>,
+    posts: Vec<Post<C>>,
     how: How,
     closers: &Closers,
     gate: &G,
-) -> RunEnd {
+) -> (RunEnd, Vec<Vec<C>>) {
     assert!(rt; is_accepted(config), "the configuration is accepted");
     assert!(rt; are_few(&posts), "no lane has too many channels");
     let settings = Settings::new(how.deciders, 1, how.tries).expect(rt, "settings in range");
@@ -59,12 +60,29 @@ pub(crate) fn run<G: Gate + Sync, R: Abort + Threads + Wait + Sync>(
     )
 }
 
+/// The end of a run of a configuration over a feed.
+pub(crate) fn run<C: Channel, G: Gate + Sync, R: Abort + Threads + Wait + Clock + Sync>(
+    rt: &R,
+    alloc: Global,
+    config: &Config,
+    feed: &[u8],
+    posts: Vec<Post<C>>,
+    how: How,
+    closers: &Closers,
+    gate: &G,
+) -> RunEnd {
+    let (end, _channels) = run_kept(rt, alloc, config, feed, posts, how, closers, gate);
+    end
+}
+
 /// A channel in memory for each lane, which fails at the calls that are listed for it.
-pub(crate) fn in_memory(alloc: Global, fails: &[&[u64]]) -> Result<Vec<Post>, AllocError> {
+pub(crate) fn in_memory(
+    alloc: Global,
+    fails: &[&[u64]],
+) -> Result<Vec<Post<MemoryChannel>>, AllocError> {
     let mut posts = Vec::new(alloc);
     for (lane, fails) in (0..=u8::MAX).zip(fails) {
         let channel = MemoryChannel::new(alloc, LIMIT, fails)?;
-        let channel: Box<dyn Channel> = Box::new(alloc, channel)?;
         posts.push(Post {
             lane: LaneId(lane),
             channel,
@@ -74,7 +92,7 @@ pub(crate) fn in_memory(alloc: Global, fails: &[&[u64]]) -> Result<Vec<Post>, Al
 }
 
 /// The end of a run that nobody asks to close a lane, and that no gate holds back, where each lane has a channel in memory.
-pub(crate) fn run_in_memory<R: Abort + Threads + Wait + Sync>(
+pub(crate) fn run_in_memory<R: Abort + Threads + Wait + Clock + Sync>(
     rt: &R,
     alloc: Global,
     config: &Config,

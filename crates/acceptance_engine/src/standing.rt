@@ -4,7 +4,7 @@ ghost use Rattle.std.specs.Prelude.{◌≡◌, ◌↔◌, ◌+◌, ◌<◌, ◌�
 ghost use Rattle.std.specs.Prelude.{OnErr, OnOk};
 ghost use Rattle.channel.specs.Channels.{IsCounted, receipt_of};
 
-use crate::given::{How, are_of_events, flips, has_read, run};
+use crate::given::{How, are_of_events, flips, has_read, run_kept};
 use acceptance_inputs::configs::base;
 use channel::letter::Letter;
 use channel::memory::MemoryChannel;
@@ -17,6 +17,7 @@ use std::sync::atomic::{AtomicU64, Ordering};
 use std::sync::{Arc, Wait};
 use std::test::Fail;
 use std::thread::Threads;
+use std::time::Clock;
 use undelivered::Why;
 
 /// The greatest length of a letter's text.
@@ -45,17 +46,31 @@ impl Drop for Counted {
 }
 
 impl Channel for Counted {
+    ghost use Rattle.channel.specs.Channels.{WasOffered};
+    ghost use Rattle.channel.specs.Memory.{account_of};
+    ghost use Rattle.channel.specs.OfferLaws.{more_offered, none_offered};
     ghost use Rattle.channel.specs.declared.Kind.TheVariants as kinds;
 
-    ghost taken = { λ s. s.kept.kept.taken };
+    ghost account = { λ s. account_of s.kept };
 
     ghost room = { λ s. s.kept.kept.room };
 
-    ghost failures = { λ s. s.kept.kept.failures };
-
-    ghost limit = { λ s. s.kept.limit };
-
     ghost kind = { λ _. kinds.Memory };
+
+    ghost offered = { λ a offers b. WasOffered (account_of a.kept) offers (account_of b.kept) };
+
+    ghost stays = { λ s. none_offered (account_of s.kept) };
+
+    ghost follows = { λ a b c one two.
+        more_offered (account_of a.kept) (account_of b.kept) (account_of c.kept) one two };
+
+    fn number(&self) -> u64 {
+        self.kept.number()
+    }
+
+    fn close(&mut self) {
+        self.kept.close();
+    }
 
     fn kind(&self) -> Kind {
         Kind::Memory
@@ -92,20 +107,43 @@ fn post(
     drops: &Arc<AtomicU64>,
     limit: u64,
     fails: &[u64],
-) -> Result<Post, AllocError> {
+) -> Result<Post<Counted>, AllocError> {
     let channel = Counted {
         kept: MemoryChannel::new(alloc, limit, fails)?,
         drops: Arc::try_clone(drops)?,
     };
-    let channel: Box<dyn Channel> = Box::new(alloc, channel)?;
     Ok(Post {
         lane: LaneId(0),
         channel,
     })
 }
 
-/// The end of a run of one lane whose channels have these limits and fail at these calls; each of them was dropped once.
-fn run_standing<R: Abort + Threads + Wait + Sync>(
+/// Whether a channel that came back has taken what the lane's record of that number says, or nothing where it has none.
+fn is_as_told(channel: &Counted, lane: &LaneEnd, number: usize) -> bool {
+    let told = lane.record(number).unwrap_or(&[]);
+    let taken = channel.taken();
+    taken.len() == told.len()
+        && taken
+            .iter()
+            .zip(told)
+            .all(|(receipt, notice)| receipt.notice == *notice)
+}
+
+/// The channels of the one lane came back, each with what its record says.
+fn are_as_told(rt: &impl Abort, end: &RunEnd, channels: &[Vec<Counted>]) {
+    let lane = only_lane(rt, end);
+    let found = channels.first().expect(rt, "the lane's channels");
+    for (number, channel) in (0..usize::MAX).zip(found) {
+        assert!(rt;
+            is_as_told(channel, lane, number),
+            "what channel {number} has taken"
+        );
+    }
+}
+
+/// The end of a run of one lane whose channels have these limits and fail at these calls. Each of them came back with what its record
+/// says, and was dropped once.
+fn run_standing<R: Abort + Threads + Wait + Clock + Sync>(
     rt: &R,
     alloc: Global,
     config: &Config,
@@ -118,7 +156,9 @@ fn run_standing<R: Abort + Threads + Wait + Sync>(
         posts.push(post(alloc, &drops, *limit, fails)?)?;
     }
     let closers = Closers::new(alloc, 1)?;
-    let end = run(rt, alloc, config, feed, posts, TWICE, &closers, &OpenGate);
+    let (end, given_back) = run_kept(rt, alloc, config, feed, posts, TWICE, &closers, &OpenGate);
+    are_as_told(rt, &end, &given_back);
+    drop(given_back);
     assert!(rt;
         drops.load(Ordering::SeqCst) == channels.len() as u64,
         "each channel is dropped once"
@@ -228,7 +268,7 @@ fn share(rt: &impl Abort, end: &RunEnd, after: [u64; 3]) {
 }
 
 /// A run of three channels that fail after so many letters each.
-fn run_of_three<R: Abort + Threads + Wait + Sync>(
+fn run_of_three<R: Abort + Threads + Wait + Clock + Sync>(
     rt: &R,
     alloc: Global,
     config: &Config,

@@ -15,6 +15,7 @@ use std::sync::Wait;
 use std::test::Fail;
 use std::thread;
 use std::thread::Threads;
+use std::time::Clock;
 
 /// How many notices each decider puts.
 const EVENTS: u64 = 10_000;
@@ -87,7 +88,7 @@ fn pick_all(rt: &impl Abort, queue: &LaneQueue, worker: Pass)
 
 /// Eight deciders put, each in a thread of its own, while this thread picks.
 fn run(
-    rt: &(impl Threads + Wait + Abort + Sync),
+    rt: &(impl Threads + Wait + Clock + Abort + Sync),
     queue: &LaneQueue,
     passes: Vec<Pass>,
     worker: Pass,
@@ -125,7 +126,7 @@ fn run(
 
 /// A queue of so many between nine threads.
 fn run_through(
-    rt: &(impl Threads + Wait + Abort + Sync),
+    rt: &(impl Threads + Wait + Clock + Abort + Sync),
     alloc: Global,
     capacity: usize,
 ) -> Result<(), AllocError>

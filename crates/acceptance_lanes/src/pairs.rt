@@ -7,7 +7,6 @@ ghost use Rattle.acceptance_lanes.specs.Deciders.{AreDeciders};
 use crate::given::{last_pass, no_objects, put_all};
 use crate::serving::one;
 use crate::watched::{Refusing, TrueFrom, Watch, Watched};
-use channel::Channel;
 use channel_queue::{LaneQueue, Pass};
 use delivery_worker::{Served, serve};
 use due_model::config::{Config, ObjectId};
@@ -18,6 +17,7 @@ use std::sync::Wait;
 use std::test::Fail;
 use std::thread;
 use std::thread::Threads;
+use std::time::Clock;
 use undelivered::Why;
 
 /// How many notices each decider puts.
@@ -51,10 +51,10 @@ fn holds_all(rt: &impl Abort, served: &Served, why: Why) {
 
 /// Two deciders put, each in a thread of its own, while this thread serves.
 fn run(
-    rt: &(impl Threads + Wait + Abort + Sync),
+    rt: &(impl Threads + Wait + Clock + Abort + Sync),
     alloc: Global,
     config: &Config,
-    boxes: Vec<Box<dyn Channel>>,
+    boxes: Vec<Watched>,
     queue: &LaneQueue,
     passes: Vec<Pass>,
     worker: Pass,
@@ -90,14 +90,17 @@ fn run(
             }
             let mut bell = TrueFrom::new(0);
             let gate = Refusing::new(0);
-            serve(rt, alloc, config, boxes, 1, queue, worker, &mut bell, &gate)
+            let (served, _channels) = serve(
+                rt, alloc, config, boxes, 1, queue, worker, &mut bell, &gate,
+            );
+            served
         },
     )
 }
 
 /// Serves a lane by a box that is dropped once.
 fn drive(
-    rt: &(impl Threads + Wait + Abort + Sync),
+    rt: &(impl Threads + Wait + Clock + Abort + Sync),
     alloc: Global,
     channel: Watched,
     why: Why,

@@ -6,7 +6,6 @@ ghost use Rattle.channel_queue.specs.Passes.{IsWorker};
 
 use crate::given::{last_pass, no_objects, put_all};
 use crate::watched::{Refusing, TrueFrom, Watch, Watched};
-use channel::Channel;
 use channel_queue::{LaneQueue, Pass};
 use delivery_worker::{Served, serve};
 use due_model::config::Config;
@@ -15,6 +14,7 @@ use std::alloc::{AllocError, Global};
 use std::process::Abort;
 use std::sync::{Arc, Wait};
 use std::test::Fail;
+use std::time::Clock;
 use undelivered::Why;
 
 /// How many notices are in the queue, before the one decider's end.
@@ -77,10 +77,10 @@ fn leaves(rt: &impl Abort, served: &Served, wanted: Wanted) {
 
 /// Serves a lane whose queue holds all that its one decider puts.
 fn drive(
-    rt: &(impl Wait + Abort),
+    rt: &(impl Wait + Clock + Abort),
     alloc: Global,
     config: &Config,
-    boxes: Vec<Box<dyn Channel>>,
+    boxes: Vec<Watched>,
     row: Row,
     wanted: Wanted,
 ) -> Result<u64, AllocError>
@@ -92,7 +92,7 @@ fn drive(
     let _pass = put_all(rt, &queue, pass, 0, NOTICES);
     let mut bell = TrueFrom::new(row.question);
     let gate = Refusing::new(row.refusals);
-    let served = serve(
+    let (served, _channels) = serve(
         rt, alloc, config, boxes, row.tries, &queue, worker, &mut bell, &gate,
     );
     leaves(rt, &served, wanted);
@@ -100,11 +100,10 @@ fn drive(
 }
 
 /// A list of one box.
-pub(crate) fn one(alloc: Global, channel: Watched) -> Result<Vec<Box<dyn Channel>>, AllocError>
+pub(crate) fn one(alloc: Global, channel: Watched) -> Result<Vec<Watched>, AllocError>
     ensures { IfOk result (λ boxes. length boxes.items ≡ 1) }
 {
     let mut boxes = Vec::with_capacity(alloc, 1)?;
-    let channel: Box<dyn Channel> = Box::new(alloc, channel)?;
     boxes.push(channel)?;
     Ok(boxes)
 }
@@ -112,7 +111,7 @@ pub(crate) fn one(alloc: Global, channel: Watched) -> Result<Vec<Box<dyn Channel
 /// Serves a lane by one box, which is dropped once, with so many receipts. How often its device failed, and how often the gate
 /// was asked.
 fn drive_one(
-    rt: &(impl Wait + Abort),
+    rt: &(impl Wait + Clock + Abort),
     alloc: Global,
     watch: &Arc<Watch>,
     channel: Watched,
@@ -189,7 +188,7 @@ fn no_memory(rt: HostRuntime) -> Result<(), Fail> {
     let _pass = put_all(&rt, &queue, pass, 0, NOTICES);
     let gate = Refusing::new(0);
     let mut bell = TrueFrom::new(7);
-    let served = serve(
+    let (served, channels) = serve(
         &rt,
         rt.alloc(),
         &config,
@@ -201,6 +200,7 @@ fn no_memory(rt: HostRuntime) -> Result<(), Fail> {
         &gate,
     );
     refused(&rt, &served);
+    drop(channels);
     assert!(&rt; watch.told() == (1, 0, 3), "{:?}", watch.told());
     Ok(())
 }

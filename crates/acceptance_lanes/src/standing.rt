@@ -6,7 +6,6 @@ use crate::given::{last_pass, no_objects, put_from};
 use crate::serving::{NOTICES, are_of_events};
 use crate::watched::{Refusing, TrueFrom, Watch, Watched};
 use acceptance_inputs::configs::base;
-use channel::Channel;
 use channel_queue::LaneQueue;
 use delivery_worker::{Served, serve};
 use due_model::config::Config;
@@ -14,6 +13,7 @@ use std::alloc::{AllocError, Global};
 use std::process::Abort;
 use std::sync::{Arc, Wait};
 use std::test::Fail;
+use std::time::Clock;
 use undelivered::{RecordParts, Why};
 
 /// A box: how many bytes a letter may have, and at which two calls its device fails, the first of them counted from 1.
@@ -99,7 +99,7 @@ fn boxes(
     alloc: Global,
     watches: &mut Vec<Arc<Watch>>,
     devices: &[Device],
-) -> Result<Vec<Box<dyn Channel>>, AllocError>
+) -> Result<Vec<Watched>, AllocError>
     ensures { IfOk result (λ boxes. length boxes.items ≡ length devices.now) }
 {
     let mut boxes = Vec::with_capacity(alloc, devices.len())?;
@@ -108,8 +108,7 @@ fn boxes(
         let fails = [device.fails, device.fails.saturating_add(1)];
         let watched = Watched::limited(alloc, &watch, device.limit, &fails)?;
         watches.push(watch)?;
-        let channel: Box<dyn Channel> = Box::new(alloc, watched)?;
-        boxes.push(channel)?;
+        boxes.push(watched)?;
     }
     Ok(boxes)
 }
@@ -127,10 +126,10 @@ fn were_dropped(rt: &impl Abort, watches: &[Arc<Watch>], wanted: u64) {
 
 /// Serves a lane by these boxes, each letter tried twice.
 fn drive(
-    rt: &(impl Wait + Abort),
+    rt: &(impl Wait + Clock + Abort),
     alloc: Global,
     config: &Config,
-    boxes: Vec<Box<dyn Channel>>,
+    boxes: Vec<Watched>,
     given: Given,
     wanted: Wanted<'_>,
 ) -> Result<(), AllocError>
@@ -141,7 +140,7 @@ fn drive(
     let _pass = put_from(rt, &queue, pass, 0, given.moment, given.notices);
     let mut bell = TrueFrom::new(given.question);
     let gate = Refusing::new(0);
-    let served = serve(
+    let (served, _channels) = serve(
         rt, alloc, config, boxes, 2, &queue, worker, &mut bell, &gate,
     );
     leaves(rt, &served, wanted, given.notices);
@@ -150,7 +149,7 @@ fn drive(
 
 /// Serves a lane of this configuration by these boxes, of which each is dropped once.
 fn serves(
-    rt: &(impl Wait + Abort),
+    rt: &(impl Wait + Clock + Abort),
     alloc: Global,
     config: &Config,
     devices: &[Device],
@@ -255,7 +254,7 @@ fn reached(one: u64, two: u64, three: u64) -> [u64; 3] {
 
 /// Three boxes come so far: those before one that took the last letter have ended.
 fn three_boxes(
-    rt: &(impl Wait + Abort),
+    rt: &(impl Wait + Clock + Abort),
     alloc: Global,
     config: &Config,
     devices: &[Device],

@@ -113,17 +113,31 @@ impl Drop for Watched {
 }
 
 impl Channel for Watched {
+    ghost use Rattle.channel.specs.Channels.{WasOffered};
+    ghost use Rattle.channel.specs.Memory.{account_of};
+    ghost use Rattle.channel.specs.OfferLaws.{more_offered, none_offered};
     ghost use Rattle.channel.specs.declared.Kind.TheVariants as kinds;
 
-    ghost taken = { λ s. s.kept.kept.taken };
+    ghost account = { λ s. account_of s.kept };
 
     ghost room = { λ s. s.kept.kept.room };
 
-    ghost failures = { λ s. s.kept.kept.failures };
-
-    ghost limit = { λ s. s.kept.limit };
-
     ghost kind = { λ _. kinds.Memory };
+
+    ghost offered = { λ a offers b. WasOffered (account_of a.kept) offers (account_of b.kept) };
+
+    ghost stays = { λ s. none_offered (account_of s.kept) };
+
+    ghost follows = { λ a b c one two.
+        more_offered (account_of a.kept) (account_of b.kept) (account_of c.kept) one two };
+
+    fn number(&self) -> u64 {
+        self.kept.number()
+    }
+
+    fn close(&mut self) {
+        self.kept.close();
+    }
 
     fn kind(&self) -> Kind {
         Kind::Memory

@@ -9,12 +9,13 @@ ghost use Rattle.caller_feeds.specs.Taken.{AreOver, GivesNext, GoesOn, IsTaken, 
 ghost use Rattle.caller_feeds.specs.Taken.{Taking};
 
 use crate::end::FeedEnd;
-use crossbeam_utils::Backoff;
 use due_model::config::Config;
 use due_model::event::Event;
+use idle_pause::Pause;
 use std::alloc::{AllocError, Global};
 use std::marker::Model;
 use std::sync::Wait;
+use std::time::Clock;
 
 /// Why an intake gives no more events.
 #[derive(Clone, Copy, Debug, PartialEq, Eq)]
@@ -133,15 +134,19 @@ impl Intake {
 
     /// Takes the next proper event, passes over the improper ones before it, and waits while no feed has one. An event that
     /// isn't given for want of room stays in its feed.
-    pub fn next_event<R: Wait>(&mut self, rt: &R, config: &Config) -> Result<Event, IntakeStop>
+    pub fn next_event<R: Wait + Clock>(
+        &mut self,
+        rt: &R,
+        config: &Config,
+    ) -> Result<Event, IntakeStop>
         ensures { GivesNext config.now (found_by result) self.old self.new }
     {
-        let backoff = Backoff::new();
+        let mut pause = Pause::new();
         for _turn in rt.forever() {
             if let Some(event) = self.try_event(config)? {
                 return Ok(event);
             }
-            backoff.snooze();
+            pause.rest(rt);
         }
         unreachable!()
     }

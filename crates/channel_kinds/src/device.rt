@@ -3,12 +3,13 @@
 ghost use Rattle.std.specs.Prelude.{◌≡◌, ◌≤◌, length};
 ghost use Rattle.channel_kinds.specs.Device.{kind_of, limit_of, sends_of};
 
+use crate::dialled::{Dialer, DialledPager};
 use crate::mailbox::Mailbox;
-use crate::pager::Pager;
 use crate::spawned::Spawned;
 use crate::stream::{Outlet, Stream};
 use channel::Kind;
 use std::process::{Processes, SystemProcess};
+use std::time::Clock;
 
 /// What takes the texts of letters.
 pub trait TextDevice: Drop {
@@ -39,17 +40,26 @@ pub trait TextDevice: Drop {
         ensures kind { kind self.new ≡ kind self.old };
 }
 
-/// A mailbox over a writer, a pager over a stream, or a program that is started for each letter. It does what the device that
-/// it holds does, and nothing else.
+/// A mailbox over a writer, a pager over the streams of a dialer, or a program that is started for each letter. It does what the
+/// device that it holds does, and nothing else.
 #[derive(Drop)]
-pub enum AnyDevice<W: Outlet, S: Stream, R: Processes<Started = SystemProcess> + Drop> {
+pub enum AnyDevice<
+    W: Outlet,
+    S: Stream,
+    D: Dialer<S>,
+    R: Processes<Started = SystemProcess> + Clock + Drop,
+> {
     Mailbox(Mailbox<W>),
-    Pager(Pager<S>),
+    Pager(DialledPager<S, D>),
     Spawned(Spawned<R>),
 }
 
-impl<W: Outlet, S: Stream, R: Processes<Started = SystemProcess> + Drop> TextDevice
-    for AnyDevice<W, S, R> {
+impl<
+    W: Outlet,
+    S: Stream,
+    D: Dialer<S>,
+    R: Processes<Started = SystemProcess> + Clock + Drop,
+> TextDevice for AnyDevice<W, S, D, R> {
     ghost kind = { kind_of };
 
     ghost limit = { limit_of };

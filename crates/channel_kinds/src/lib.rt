@@ -5,8 +5,10 @@
 mod answer;
 pub mod device;
 pub mod device_channel;
+pub mod dialled;
 pub mod mailbox;
 pub mod pager;
 pub mod spawned;
 pub mod stream;
+pub mod timed;
 mod writing;

@@ -60,6 +60,14 @@ impl<S: Stream> Pager<S> {
         let _swallowed = write_flushed(&mut stream, FAREWELL);
         stream
     }
+
+    /// The stream as it is, without the farewell.
+    pub(crate) fn into_stream(self) -> S
+        ensures { result ≡ self.stream }
+    {
+        let Pager { stream, is_over: _ } = self;
+        stream
+    }
 }
 
 impl<S: Stream> Drop for Pager<S> {

@@ -7,26 +7,32 @@ use crate::device::TextDevice;
 use crate::stream::AnyOutlet;
 use crate::writing::write_whole;
 use channel::Kind;
+use idle_pause::Pause;
 use std::alloc::{AllocError, Global};
+use std::io;
 use std::marker::Model;
-use std::process::{Child, Command, Processes, Stdio, SystemProcess};
+use std::process::{Child, Command, ExitStatus, Processes, Stdio, SystemProcess};
+use std::time::{Clock, Duration};
 
 /// How many bytes a letter to a program has at most.
 const LIMIT: u64 = 16_384;
 
 /// A program with its arguments. For each letter it is started, its output and its errors to nowhere; the text is
-/// written to its input, which is then closed, and its end is waited for. The drop waits for a program whose end
-/// could not be waited for before.
-pub struct Spawned<R: Processes<Started = SystemProcess> + Drop> {
+/// written to its input, which is then closed, and its end is waited for, as long as it takes or within a time limit: one that
+/// has not ended then is killed. What it has started itself isn't waited for. The drop waits for a program whose end could not be
+/// waited for before.
+pub struct Spawned<R: Processes<Started = SystemProcess> + Clock + Drop> {
     alloc: Global,
     processes: R,
     program: String,
     arguments: Vec<String>,
+    /// How long a program may take from its start to its end, if that is limited.
+    limit: Option<Duration>,
     /// A program that is to be waited for.
     left: Option<Child>,
 }
 
-impl<R: Processes<Started = SystemProcess> + Drop> Model for Spawned<R> {
+impl<R: Processes<Started = SystemProcess> + Clock + Drop> Model for Spawned<R> {
     ghost use Rattle.std.specs.Prelude.{map, string_bytes};
     ghost use Rattle.channel_kinds.specs.Spawned.{Started};
 
@@ -38,7 +44,7 @@ impl<R: Processes<Started = SystemProcess> + Drop> Model for Spawned<R> {
     } };
 }
 
-impl<R: Processes<Started = SystemProcess> + Drop> Spawned<R> {
+impl<R: Processes<Started = SystemProcess> + Clock + Drop> Spawned<R> {
     /// A device of a program and its arguments. It starts nothing. A refused growth is
     /// the only error.
     pub fn new(
@@ -56,25 +62,35 @@ impl<R: Processes<Started = SystemProcess> + Drop> Spawned<R> {
             processes,
             program: String::from_str(alloc, program)?,
             arguments: copies_of(alloc, arguments)?,
+            limit: None,
             left: None,
         })
     }
+
+    /// The same device, whose program may take so long from its start to its end.
+    pub fn within(mut self, limit: Duration) -> Spawned<R>
+        ensures { result ≡ self }
+    {
+        self.limit = Some(limit);
+        self
+    }
 }
 
-impl<R: Processes<Started = SystemProcess> + Drop> Drop for Spawned<R> {
+impl<R: Processes<Started = SystemProcess> + Clock + Drop> Drop for Spawned<R> {
     fn drop(self) {
         let Spawned {
             alloc: _,
             processes: _,
             program: _,
             arguments: _,
+            limit: _,
             mut left,
         } = self;
         reap(&mut left);
     }
 }
 
-impl<R: Processes<Started = SystemProcess> + Drop> TextDevice for Spawned<R> {
+impl<R: Processes<Started = SystemProcess> + Clock + Drop> TextDevice for Spawned<R> {
     ghost use Rattle.channel.specs.declared.Kind.TheVariants as kinds;
     ghost use Rattle.channel_kinds.specs.Spawned.{program_limit};
 
@@ -93,10 +109,11 @@ impl<R: Processes<Started = SystemProcess> + Drop> TextDevice for Spawned<R> {
         LIMIT
     }
 
-    /// Starts the program, and takes the text where the program took it whole and ended with status 0. All else is
+    /// Starts the program, and takes the text where the program took it whole and ended with status 0 in time. All else is
     /// a refusal: also a start that finds no memory.
     fn send(&mut self, text: &[u8]) -> bool {
         reap(&mut self.left);
+        let until = end_of_try(&self.processes, self.limit);
         let started = start(
             self.alloc,
             &self.processes,
@@ -104,7 +121,7 @@ impl<R: Processes<Started = SystemProcess> + Drop> TextDevice for Spawned<R> {
             &self.arguments,
         );
         match started {
-            Some(child) => hand_over(child, text, &mut self.left),
+            Some(child) => hand_over(&self.processes, child, text, until, &mut self.left),
             None => false,
         }
     }
@@ -149,20 +166,69 @@ fn start<R: Processes<Started = SystemProcess>>(
     command.spawn(processes).ok()
 }
 
-/// Writes the text to a program's input, closes that, and waits for its end: whether it took the whole text and
-/// ended with status 0. A program whose end can't be waited for is left.
-fn hand_over(mut child: Child, text: &[u8], left: &mut Option<Child>) -> bool {
+/// When a try that begins now is over, in the clock's monotonic time, if it is limited. Where the clock fails, it is over.
+fn end_of_try<C: Clock>(clock: &C, limit: Option<Duration>) -> Option<Duration> {
+    let now = clock.monotonic().unwrap_or(Duration::ZERO);
+    Some(now.saturating_add(limit?))
+}
+
+/// Whether this moment has come. Where the clock fails, it has.
+fn has_come<C: Clock>(clock: &C, until: Duration) -> bool {
+    match clock.monotonic() {
+        Ok(now) => until <= now,
+        Err(_) => true,
+    }
+}
+
+/// Writes the text to a program's input, closes that, and waits for its end: whether it took the whole text and ended with
+/// status 0 before this moment, if there is one. A program whose end can't be waited for is left.
+fn hand_over<C: Clock>(
+    clock: &C,
+    mut child: Child,
+    text: &[u8],
+    until: Option<Duration>,
+    left: &mut Option<Child>,
+) -> bool {
     let is_written = match child.stdin.take() {
         Some(input) => write_whole(&mut AnyOutlet::new(input), text).is_ok(),
         None => false,
     };
-    match child.wait() {
+    match wait_for(clock, &mut child, until) {
         Ok(status) => is_written && status.success(),
         Err(_) => {
             *left = Some(child);
             false
         }
     }
+}
+
+/// Waits for a program's end, and kills it where this moment comes before.
+fn wait_for<C: Clock>(
+    clock: &C,
+    child: &mut Child,
+    until: Option<Duration>,
+) -> io::Result<ExitStatus> {
+    if let Some(until) = until {
+        if !ends_before(clock, child, until)? {
+            child.kill()?;
+        }
+    }
+    child.wait()
+}
+
+/// Waits for a program's end up to this moment: whether it has ended.
+fn ends_before<C: Clock>(clock: &C, child: &mut Child, until: Duration) -> io::Result<bool> {
+    let mut pause = Pause::new();
+    for _ in 0..u64::MAX {
+        if child.try_wait()?.is_some() {
+            return Ok(true);
+        }
+        if has_come(clock, until) {
+            return Ok(false);
+        }
+        pause.rest(clock);
+    }
+    Ok(false)
 }
 
 /// Waits for a program that is left.

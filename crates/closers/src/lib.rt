@@ -4,8 +4,13 @@
 ghost use Rattle.std.specs.Prelude.{◌≡◌, ◌<◌, ◌↔◌, IfOk, IsTrue, vec_len};
 ghost use Rattle.closers.specs.Closers.{lanes_of};
 
+mod patient;
+#[cfg(test)]
+mod tests;
+
 use delivery_worker::Bell;
 use due_model::config::LaneId;
+pub use patient::PatientBell;
 use std::alloc::{AllocError, Global};
 use std::sync::atomic::{AtomicBool, Ordering};
 
@@ -71,6 +76,11 @@ impl<'a> LaneBell<'a> {
             count: 0,
             asks: 0,
         }
+    }
+
+    /// Whether the lane was asked to close. The bell isn't asked by that, and counts nothing.
+    fn is_rung(&self) -> bool {
+        self.closers.is_asked(self.lane)
     }
 }
 

@@ -1,5 +1,5 @@
 -- What the words of a command line ask, and which words there are.
-use Rattle.std.specs.Prelude.{◌≡◌, ℕ, ◌<◌, List, [], ◌∷◌, map, Some, pos, true, false, codes, is_some}
+use Rattle.std.specs.Prelude.{◌≡◌, ℕ, ◌<◌, ◌≤◌, List, [], ◌∷◌, map, Some, pos, true, false, codes, is_some}
 use Rattle.std.specs.Option.{option_copied, option_map}
 use Rattle.std.specs.Str.Parse.{digits_value, IsNumeral, without_leading_plus}
 use Rattle.clap.specs.Lexer.{usize_max}
@@ -12,6 +12,7 @@ use Rattle.steps.specs.declared.settings.Settings.{Settings}
 use Rattle.steps.specs.Settings.{AreSettings, max_boxes}
 use Rattle.clap.specs.declared.builder.value_parser.ValueParser.TheVariants.{Signed}
 use Rattle.command_line.specs.declared.words.Request.{Request}
+use Rattle.command_line.specs.declared.words.TryTimes.{TryTimes}
 use Rattle.command_line.specs.declared.words.ZoneWords.{ZoneWords}
 use Rattle.command_line.specs.declared.words.Request.TheVariants.{Replay, Trace, Run}
 
@@ -19,13 +20,13 @@ use Rattle.command_line.specs.declared.words.Request.TheVariants.{Replay, Trace,
 abbrev pub request_name : Request → List ℕ
 request_name (Replay objects zone) = codes "replay"
 request_name (Trace settings standbys zone) = codes "trace"
-request_name (Run objects settings zone channels) = codes "run"
+request_name (Run objects settings zone channels times) = codes "run"
 
 -- in a trace fewer boxes stand by than a lane may have
 abbrev pub AreSettingsFit : Request → Type 0
 AreSettingsFit (Replay objects zone) = Unit {0}
 AreSettingsFit (Trace settings standbys zone) = standbys < max_boxes
-AreSettingsFit (Run objects settings zone channels) = Unit {0}
+AreSettingsFit (Run objects settings zone channels times) = Unit {0}
 
 -- the texts that the options of a command hold of the zone
 pub record IsZoneOf (options : Found) (words : ZoneWords) : Type 0 where
@@ -55,13 +56,24 @@ TraceLacks options = (deciders standbys : ℕ) → HoldsNumber options (codes "d
     → HoldsNumber options (codes "standbys") standbys → standbys < max_boxes
     → HoldFitting options deciders → ⊥
 
--- The options of `run` make no request: they name no file, or the numbers that they hold are no settings.
+-- the seconds that the options of `run` hold
+pub record HoldTimes (options : Found) (times : TryTimes) : Type 0 where
+  pub timeout : HoldsNumber options (codes "timeout") times.timeout
+  pub pause : HoldsNumber options (codes "pause") times.pause
+
+-- They hold some that are in range.
+abbrev pub HoldSomeTimes : Found → Type 0
+HoldSomeTimes options = (timeout : ℕ) × (pause : ℕ)
+    × HoldsNumber options (codes "timeout") timeout × HoldsNumber options (codes "pause") pause
+    × (timeout ≤ 3600) × (pause ≤ 60)
+
+-- The options of `run` make no request: they name no file, or the numbers that they hold are no settings or no times.
 abbrev pub RunLacks : Found → Type 0
 RunLacks options = (deciders : ℕ) → is_some (first_value options (codes "objects")) ≡ true
-    → HoldsNumber options (codes "deciders") deciders → HoldFitting options deciders → ⊥
+    → HoldsNumber options (codes "deciders") deciders → HoldFitting options deciders → HoldSomeTimes options → ⊥
 
 -- What the options of a command hold: of `replay` the file of the object text, if it is given; of `trace` the settings and
--- how many boxes stand by; of `run` the file, the settings and the channel words; and of each the zone.
+-- how many boxes stand by; of `run` the file, the settings, the times and the channel words; and of each the zone.
 abbrev pub IsRequestOf : Found → Request → Type 0
 IsRequestOf options (Replay objects zone) =
     (option_copied objects ≡ first_value options (codes "objects")) × IsZoneOf options zone
@@ -69,9 +81,10 @@ IsRequestOf options (Trace settings standbys zone) =
     HoldsNumber options (codes "deciders") settings.deciders
     × HoldsNumber options (codes "standbys") standbys
     × HoldSettings options settings × IsZoneOf options zone
-IsRequestOf options (Run objects settings zone channels) =
+IsRequestOf options (Run objects settings zone channels times) =
     (Some objects.now ≡ first_value options (codes "objects"))
     × HoldsNumber options (codes "deciders") settings.deciders × HoldSettings options settings × IsZoneOf options zone
+    × HoldTimes options times
     × (option_map (λ words. map (λ word. word.now) words.now) channels
     ≡ option_map raw_values (matched_of options (codes "channel")))
 
@@ -90,7 +103,7 @@ IsMetWith matches name so = (options : Found)
 abbrev pub request_zone : Request → ZoneWords
 request_zone (Replay objects zone) = zone
 request_zone (Trace settings standbys zone) = zone
-request_zone (Run objects settings zone channels) = zone
+request_zone (Run objects settings zone channels times) = zone
 
 -- it gives a rule and a file
 abbrev pub AreTwo : ZoneWords → Type 0
@@ -141,12 +154,21 @@ trace_words =
     (number_option (codes "deciders") (codes "1") 1 8))
     (number_option (codes "standbys") (codes "0") 0 7)))
 
--- `run` has the file of the object text, which must be given, how many deciders there are, the same options, and the channel words
+-- three say how many tries a message has, how many seconds each takes at most, and how many pass before the second
+abbrev pub with_try_options : App → App
+with_try_options app =
+    with_rule (with_rule (with_rule app (number_option (codes "tries") (codes "3") 1 100))
+    (number_option (codes "timeout") (codes "30") 1 3600))
+    (number_option (codes "pause") (codes "1") 0 60)
+
+-- `run` has the file of the object text, which must be given, how many deciders there are, how many notices a lane's queue holds,
+-- these, and the channel words
 abbrev pub run_words : App
 run_words =
-    with_rule (with_zone (with_lane_options (with_rule (with_rule (new_app (codes "run"))
+    with_rule (with_zone (with_try_options (with_rule (with_rule (with_rule (new_app (codes "run"))
     (record (text_option (codes "objects")) { required = true }))
-    (number_option (codes "deciders") (codes "2") 1 8)))) (word_list (codes "channel"))
+    (number_option (codes "deciders") (codes "2") 1 8))
+    (number_option (codes "queue") (codes "64") 1 1024)))) (word_list (codes "channel"))
 
 -- `notify-run` has these three commands, `--version`, no command `help`, and asks for one of the three
 abbrev pub program_words : App

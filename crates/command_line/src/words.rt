@@ -4,11 +4,12 @@ ghost use Rattle.std.specs.Prelude.{◌≡◌, ◌<◌, ℕ, codes, false, IfNon
 ghost use Rattle.clap.specs.Matches.{found_of};
 ghost use Rattle.clap.specs.Words.{app_of, rule_of, subcommand_name_of};
 ghost use Rattle.command_line.specs.Words.{AreSettingsFit, IsAskedBy, IsRequestOf, IsZoneOf};
-ghost use Rattle.command_line.specs.Words.{HoldFitting, HoldSettings, HoldsNumber, IsMetWith, RunLacks};
+ghost use Rattle.command_line.specs.Words.{HoldFitting, HoldSettings, HoldSomeTimes, HoldTimes, HoldsNumber};
+ghost use Rattle.command_line.specs.Words.{IsMetWith, RunLacks};
 ghost use Rattle.command_line.specs.Words.{TraceLacks};
 ghost use Rattle.command_line.specs.Words.{number_option, program_words, replay_words};
 ghost use Rattle.command_line.specs.Words.{request_name, request_zone, run_words, text_option};
-ghost use Rattle.command_line.specs.Words.{trace_words, with_lane_options, with_zone, word_list};
+ghost use Rattle.command_line.specs.Words.{trace_words, with_lane_options, with_try_options, with_zone, word_list};
 
 use clap::{Arg, ArgMatches, Command, value_parser};
 use std::alloc::{AllocError, Global};
@@ -86,9 +87,10 @@ each notification command go to the channel that a word names for it.
 
 NAME is a command that a contact lists. The program and its arguments are separated by
 spaces; nothing quotes a space. Messages go out as the events come, those of each host or
-service in order. A message that fails is tried again, up to --tries; then the next word of
-the same command takes over with it, of up to eight; after the last, that and all later
-messages of the command stay undelivered. Once the feed is over, standard output gets
+service in order. A message that fails is tried again, up to --tries, after a pause; a pager
+or a program that takes longer than --timeout has failed. Then the next word of the same
+command takes over with it, of up to eight; after the last, that and all later messages of
+the command stay undelivered. Once the feed is over, standard output gets
 
   R;line;fault                                             a refused line of the feed
   S;event;moment;object;kind;state;filter                  what a filter of the object stopped
@@ -110,6 +112,15 @@ pub struct ZoneWords<'a> {
     pub rule: Option<&'a str>,
     /// The path of a zone file (TZif).
     pub file: Option<&'a str>,
+}
+
+/// How long a run waits for its channels.
+#[derive(Clone, Copy, Debug, PartialEq, Eq)]
+pub struct TryTimes {
+    /// How many seconds a try takes at most: 1 to 3,600.
+    pub timeout: u16,
+    /// How many seconds pass before the second try of a message: 0 to 60.
+    pub pause: u8,
 }
 
 /// What the program is asked to do.
@@ -134,6 +145,7 @@ pub enum Request<'m, 'a> {
         zone: ZoneWords<'a>,
         /// The channel words, in order, if there are some.
         channels: Option<&'m [&'a str]>,
+        times: TryTimes,
     },
 }
 
@@ -237,7 +249,7 @@ fn queue_option<'a>(alloc: Global, help: &'a str) -> Arg<'a>
         .help(help)
 }
 
-/// The option that says how often a message is tried.
+/// The option that says how often a trace tries a message.
 fn tries_option<'a>(alloc: Global) -> Arg<'a>
     ensures rule { rule_of result ≡ number_option (codes "tries") (codes "3") 1 10 }
     ensures local { result.global ≡ false }
@@ -248,6 +260,47 @@ fn tries_option<'a>(alloc: Global) -> Arg<'a>
         .value_parser(value_parser!(u8).range(1..=10))
         .default_value("3")
         .help("How often a message is tried, 1 to 10")
+}
+
+/// The option that says how often a run tries a message.
+fn run_tries_option<'a>(alloc: Global) -> Arg<'a>
+    ensures rule { rule_of result ≡ number_option (codes "tries") (codes "3") 1 100 }
+    ensures local { result.global ≡ false }
+{
+    Arg::new(alloc, "tries")
+        .long("tries")
+        .value_name("NUMBER")
+        .value_parser(value_parser!(u8).range(1..=100))
+        .default_value("3")
+        .help("How often a message is tried, 1 to 100")
+}
+
+/// The option that says how long a try may take.
+fn timeout_option<'a>(alloc: Global) -> Arg<'a>
+    ensures rule { rule_of result ≡ number_option (codes "timeout") (codes "30") 1 3600 }
+    ensures local { result.global ≡ false }
+{
+    Arg::new(alloc, "timeout")
+        .long("timeout")
+        .value_name("SECONDS")
+        .value_parser(value_parser!(u16).range(1..=3600))
+        .default_value("30")
+        .help("How long a pager or a program may take for a try, 1 to 3600 seconds")
+}
+
+/// The option that says how long after a failed try the next one comes.
+fn pause_option<'a>(alloc: Global) -> Arg<'a>
+    ensures rule { rule_of result ≡ number_option (codes "pause") (codes "1") 0 60 }
+    ensures local { result.global ≡ false }
+{
+    Arg::new(alloc, "pause")
+        .long("pause")
+        .value_name("SECONDS")
+        .value_parser(value_parser!(u8).range(0..=60))
+        .default_value("1")
+        .help(
+            "How long it waits before a second try, 0 to 60 seconds, and then twice as long each time, 60 at most",
+        )
 }
 
 /// The command `trace` and its options.
@@ -278,6 +331,17 @@ fn with_lane_options<'a>(
         .arg(tries_option(alloc))
 }
 
+/// Adds the options that say how a run tries a message: how often, how long at most, and after which pause.
+fn with_try_options<'a>(alloc: Global, command: Command<'a>) -> Result<Command<'a>, AllocError>
+    ensures words { IfOk result (λ command_with. app_of command_with
+        ≡ with_try_options (app_of command.entry)) }
+{
+    command
+        .arg(run_tries_option(alloc))?
+        .arg(timeout_option(alloc))?
+        .arg(pause_option(alloc))
+}
+
 /// The words of channels, of which there may be any number.
 fn channel_words<'a>(alloc: Global) -> Arg<'a>
     ensures rule { rule_of result ≡ word_list (codes "channel") }
@@ -300,8 +364,9 @@ fn run_command<'a>(alloc: Global) -> Result<Command<'a>, AllocError>
         .arg(objects)?
         .arg(deciders_option(alloc, "2"))?;
     let queue = "How many notices wait at most for a command's channel, 1 to 1024";
-    let with_lanes = with_lane_options(alloc, command, queue)?;
-    let with_options = with_zone(alloc, with_lanes)?;
+    let with_queue = command.arg(queue_option(alloc, queue))?;
+    let with_tries = with_try_options(alloc, with_queue)?;
+    let with_options = with_zone(alloc, with_tries)?;
     with_options.arg(channel_words(alloc))
 }
 
@@ -384,6 +449,17 @@ fn trace_request<'m, 'a>(options: &'m ArgMatches<'a>) -> Option<Request<'m, 'a>>
     })
 }
 
+/// What the options of `run` say of how long it waits. Each has a default, and its range is that of its type or less.
+fn try_times(options: &ArgMatches<'_>) -> Option<TryTimes>
+    ensures held { IfSome result (HoldTimes (found_of options.now)) }
+    ensures lacking { IfNone result (HoldSomeTimes (found_of options.now) → ⊥) }
+{
+    Some(TryTimes {
+        timeout: options.get_one::<u16>("timeout")?,
+        pause: options.get_one::<u8>("pause")?,
+    })
+}
+
 /// What the options of `run` ask.
 fn run_request<'m, 'a>(options: &'m ArgMatches<'a>) -> Option<Request<'m, 'a>>
     ensures named { IfSome result (λ request. request_name request ≡ codes "run") }
@@ -393,11 +469,13 @@ fn run_request<'m, 'a>(options: &'m ArgMatches<'a>) -> Option<Request<'m, 'a>>
 {
     let objects = options.get_str("objects")?;
     let deciders = deciders_of(options)?;
+    let times = try_times(options)?;
     Some(Request::Run {
         objects,
         settings: settings_of(options, deciders)?,
         zone: zone_words(options),
         channels: options.get_strs("channel"),
+        times,
     })
 }
 

@@ -1,5 +1,5 @@
 -- What a decider puts.
-use Rattle.std.proofs.Common.{◌≡◌, ℕ, zero, suc, ◌<◌, ◌≤◌, ◌+◌, List, [], ◌∷◌, ◌++◌, set, get_or, slice_get, length, Some, refl, sym, ap, ◌∙◌, subst, append_assoc, append-nil, drop, arith, ⊎_elim}
+use Rattle.std.proofs.Common.{◌≡◌, ℕ, zero, suc, ◌<◌, ◌≤◌, ◌+◌, List, [], ◌∷◌, ◌++◌, set, get_or, slice_get, length, Some, refl, sym, ap, ◌∙◌, subst, append_assoc, drop, arith, ⊎_elim}
 use Rattle.std.proofs.lemmas.List.{map-append, get_or-set_same, length-set}
 use Rattle.std.proofs.lemmas.Bool.{cases_eq}
 use Rattle.std.proofs.lemmas.Option.{none-some, same_Some, slice_get-get_or, slice_get_within}
@@ -63,18 +63,18 @@ put_one d queues seats waiting later whole l q s s' at_queue at_seat one others 
     (λ (apart : ¬ (k ≡ l)). subst (λ ns. Puts q' d ns (whole k) u.pass) (sym (others k apart)) (puts k q' u queue (sym (set_other seats l k s' apart) ∙ seat)))
     (cases_eq k l)
 
--- nothing waits
-pub none_waits : (d : ℕ) (queues : List LaneQueue) (seats : List Seat) (waiting whole : ℕ → List Notice) → ((l : ℕ) → l < length queues → waiting l ≡ []) → ArePut d queues seats waiting whole → ArePut d queues seats (λ _. []) whole
-none_waits d queues seats waiting whole none puts l q s queue seat = subst (λ ns. Puts q d ns (whole l) s.pass) (none l (slice_get_within queues l q queue)) (puts l q s queue seat)
+-- the same waits
+pub same_waits : (d : ℕ) (queues : List LaneQueue) (seats : List Seat) (before after whole : ℕ → List Notice) → ((l : ℕ) → l < length queues → before l ≡ after l) → ArePut d queues seats before whole → ArePut d queues seats after whole
+same_waits d queues seats before after whole same puts l q s queue seat = subst (λ ns. Puts q d ns (whole l) s.pass) (same l (slice_get_within queues l q queue)) (puts l q s queue seat)
 
 -- more waits
-pub more_waits : (d : ℕ) (queues : List LaneQueue) (seats : List Seat) (gains waiting whole more : ℕ → List Notice) → ((l : ℕ) → l < length queues → waiting l ≡ gains l) → ((l : ℕ) → more l ≡ whole l ++ gains l)
-    → ArePut d queues seats (λ _. []) whole → ArePut d queues seats waiting more
-more_waits d queues seats gains waiting whole more waits grows puts l q s queue seat =
+pub more_waits : (d : ℕ) (queues : List LaneQueue) (seats : List Seat) (gains before after whole more : ℕ → List Notice) → ((l : ℕ) → l < length queues → after l ≡ before l ++ gains l) → ((l : ℕ) → more l ≡ whole l ++ gains l)
+    → ArePut d queues seats before whole → ArePut d queues seats after more
+more_waits d queues seats gains before after whole more waits grows puts l q s queue seat =
     let old = puts l q s queue seat in record {
       put = old.put;
       is = old.is;
-      rest = ap (λ ns. old.put ++ ns) (waits l (slice_get_within queues l q queue)) ∙ ap (λ ns. ns ++ gains l) (sym (append-nil old.put) ∙ old.rest) ∙ sym (grows l);
+      rest = ap (λ ns. old.put ++ ns) (waits l (slice_get_within queues l q queue)) ∙ sym (append_assoc old.put (before l) (gains l)) ∙ ap (λ ns. ns ++ gains l) old.rest ∙ sym (grows l);
     }
 
 -- ---- ends

@@ -6,6 +6,7 @@ use Rattle.rtrb.specs.declared.consumer.Consumer.{Consumer}
 use Rattle.rtrb.specs.Ring.{SameConsumer, received}
 use Rattle.due_model.specs.declared.config.Config.{Config}
 use Rattle.due_model.specs.declared.event.Event.{Event}
+use Rattle.due_model.specs.declared.notice.Notice.{Notice}
 use Rattle.due_model.specs.declared.notice.Suppression.{Suppression}
 use Rattle.due_model.specs.declared.zone.Zone.{Zone}
 use Rattle.decider.specs.declared.share.Share.{Share}
@@ -27,26 +28,27 @@ heard (e ∷ past) = heard past ++ Decides e ∷ []
 abbrev pub IsOlder : (past all : List Event) → Type 0
 IsOlder past all = (newer : List Event) × (newer ++ past ≡ all)
 
--- A decider has decided this past: what it keeps fits it, it has put all that this made due, and its log is all that this
--- suppressed.
+-- A decider has decided this past: what it keeps fits it, of all that this made due it has put a first part of each lane, and the
+-- rest waits; and its log is all that this suppressed.
 pub record Stands (c : Config) (zone : Zone) (share : Share) (queues : List LaneQueue)
-    (past : List Event) (k : Kept) (seats : List Seat) : Type 0 where
+    (past : List Event) (k : Kept) (waiting : ℕ → List Notice) (seats : List Seat) : Type 0 where
   pub fits : Fits k past
   pub settings : settings k ≡ (c, zone, share)
-  pub puts : ArePut share.decider queues seats (λ _. []) (λ l. made_due c zone share l past)
+  pub puts : ArePut share.decider queues seats waiting (λ l. made_due c zone share l past)
   pub log : k.log ≡ suppressed c zone share past
 
 -- A decider has stopped: it has received these signals, has decided the events of a first part of them, all of them where the
--- ring is over, and has put all that these made due.
+-- ring is over, and of all that these made due it has put a first part of each lane, and the rest waits.
 pub record HasStopped (c : Config) (zone : Zone) (share : Share) (queues : List LaneQueue)
-    (over : Bool) (signals : List Signal) (seats_then : List Seat) (lines : List Suppression) : Type 0
+    (over : Bool) (signals : List Signal) (waiting : ℕ → List Notice) (seats_then : List Seat)
+    (lines : List Suppression) : Type 0
   where
     pub past : List Event
     pub all : List Event
     pub older : IsOlder past all
     pub whole : over ≡ true → past ≡ all
     pub heard_all : signals ≡ heard all ++ (if over then Over ∷ [] else [])
-    pub seats : ArePut share.decider queues seats_then (λ _. []) (λ l. made_due c zone share l past)
+    pub seats : ArePut share.decider queues seats_then waiting (λ l. made_due c zone share l past)
     pub log : lines ≡ suppressed c zone share past
 
 -- A decider has received all signals of its ring, has decided the events of a first part of them, all of them where memory didn't

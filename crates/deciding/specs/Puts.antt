@@ -1,9 +1,11 @@
 -- What a decider has put for its lanes.
-use Rattle.std.specs.Prelude.{◌≡◌, ℕ, List, [], ◌∷◌, ◌++◌, map, slice_get, Some}
+use Rattle.std.specs.Prelude.{◌≡◌, ℕ, List, [], ◌∷◌, ◌++◌, length, map, slice_get, sum, Some}
 use Rattle.crossbeam_queue.specs.Passes.{Pass}
 use Rattle.due_model.specs.declared.item.Item.{Item}
 use Rattle.due_model.specs.declared.item.Item.TheVariants as item
 use Rattle.due_model.specs.declared.notice.Notice.{Notice}
+use Rattle.decider.specs.declared.outbox.Outbox.{Outbox}
+use Rattle.decider.specs.Outbox.{lists}
 use Rattle.channel_queue.specs.declared.LaneQueue.{LaneQueue}
 use Rattle.channel_queue.specs.declared.Seen.{Seen}
 use Rattle.channel_queue.specs.Passes.{IsDecider}
@@ -38,3 +40,7 @@ EndedAt d queues seats whole l =
 -- the same of each lane
 abbrev pub HaveEnded : (d : ℕ) → List LaneQueue → List Seat → (whole : ℕ → List Notice) → Type 0
 HaveEnded d queues seats whole = (l : ℕ) → EndedAt d queues seats whole l
+
+-- how many notices wait in all lanes
+abbrev pub waiting_count : Outbox → ℕ
+waiting_count outbox = sum (map length (lists outbox))

@@ -9,7 +9,7 @@ ghost use Rattle.deciding.specs.Puts.{ArePut};
 
 use crate::Signal;
 use crate::events::{decide_events, skip_rest};
-use crate::seats::{Seat, put_ends};
+use crate::seats::{Seat, put_all, put_ends};
 use channel_queue::LaneQueue;
 use decider::{Decider, Outbox, Share};
 use delivery_worker::Gate;
@@ -20,6 +20,7 @@ use rtrb::Consumer;
 use std::alloc::Global;
 use std::sync::Wait;
 use std::sync::atomic::{AtomicBool, Ordering};
+use std::time::Clock;
 
 /// What a decider's thread gives back.
 #[derive(Drop)]
@@ -34,8 +35,9 @@ pub struct DeciderEnd {
     pub memory: bool,
 }
 
-/// Decides the events of a ring, and empties it up to its end. It gives back what was suppressed, and whether memory ran out.
-fn decide_all<G: Gate, R: Wait>(
+/// Decides the events of a ring, and empties it up to its end, and then the outboxes. It gives back what was suppressed, and whether
+/// memory ran out.
+fn decide_all<G: Gate, R: Wait + Clock>(
     rt: &R,
     alloc: Global,
     config: &Config,
@@ -79,13 +81,15 @@ fn decide_all<G: Gate, R: Wait>(
         halt,
     );
     skip_rest(rt, ring, over);
+    put_all(rt, queues, seats, &mut outbox, share.decider);
     (decider.into_log(), !over)
 }
 
-/// Decides the events of a ring for the objects of a share, and puts what they make due into the queues of the lanes; the
-/// outboxes are empty before each event, and the gate is asked then. The decider's end comes last. Where a growth is refused here
-/// or in another thread, which `halt` tells, no further event is decided; the ring is emptied all the same, and the ends are put.
-pub fn decide_ring<G: Gate, R: Wait>(
+/// Decides the events of a ring for the objects of a share, and puts what they make due into the queues of the lanes. What a full
+/// queue doesn't take waits, while further events are decided; with 65,536 notices that wait no event is taken. The gate is asked
+/// before each event. The decider's end comes last. Where a growth is refused here or in another thread, which `halt` tells, no
+/// further event is decided; the ring is emptied all the same, and what waits and the ends are put.
+pub fn decide_ring<G: Gate, R: Wait + Clock>(
     rt: &R,
     alloc: Global,
     config: &Config,

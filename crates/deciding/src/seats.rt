@@ -1,18 +1,22 @@
 //! What a decider puts into the queues of its lanes.
 
-ghost use Rattle.std.specs.Prelude.{◌≡◌, ◌≢◌, ◌<◌, ◌++◌, ◌∷◌, ℕ, List, [], true, length};
+ghost use Rattle.std.specs.Prelude.{◌≡◌, ◌≢◌, ◌↔◌, ◌<◌, ◌≤◌, ◌++◌, ◌∷◌, ℕ, List, [], true, length};
 ghost use Rattle.due_model.specs.declared.notice.Notice.{Notice};
 ghost use Rattle.decider.specs.Outbox.{lists, waiting_at};
-ghost use Rattle.deciding.specs.Puts.{ArePut, HaveEnded, Puts, as_items};
+ghost use Rattle.deciding.specs.Puts.{ArePut, HaveEnded, Puts, as_items, waiting_count};
 ghost use Rattle.channel_queue.specs.Passes.{IsDecider};
 ghost use Rattle.due_model.specs.declared.item.Item.TheVariants.{End};
 
 use channel_queue::{LaneQueue, Pass};
-use crossbeam_utils::Backoff;
 use decider::Outbox;
 use due_model::config::LaneId;
 use due_model::item::Item;
+use idle_pause::Pause;
 use std::sync::Wait;
+use std::time::Clock;
+
+/// With so many notices in its outboxes a decider takes no further event.
+const MOST_WAITING: usize = 65_536;
 
 /// A decider's pass of a lane's queue.
 #[derive(Drop)]
@@ -52,7 +56,12 @@ fn put_front(
 }
 
 /// Puts the front of each lane whose queue isn't full. True: one was put.
-fn put_round(queues: &[LaneQueue], seats: &mut [Seat], outbox: &mut Outbox, decider: u8) -> bool
+pub(crate) fn put_round(
+    queues: &[LaneQueue],
+    seats: &mut [Seat],
+    outbox: &mut Outbox,
+    decider: u8,
+) -> bool
     requires queues { length queues.now ≡ length (lists outbox.old) }
     requires seats { length seats.old ≡ length (lists outbox.old) }
     requires lanes { length (lists outbox.old) < 256 }
@@ -80,6 +89,22 @@ fn put_round(queues: &[LaneQueue], seats: &mut [Seat], outbox: &mut Outbox, deci
     moved
 }
 
+/// Whether so many notices wait that no further event is taken.
+pub(crate) fn is_full(outbox: &Outbox) -> bool
+    requires { length (lists outbox.now) < 256 }
+    ensures { (result ≡ true) ↔ (65_536 ≤ waiting_count outbox.now) }
+{
+    let mut room = MOST_WAITING;
+    for lane in 0..outbox.len() as u8 {
+        let waiting = outbox.waiting(LaneId(lane));
+        if waiting >= room {
+            return true;
+        }
+        room -= waiting;
+    }
+    false
+}
+
 /// Whether nothing waits.
 fn is_empty(outbox: &Outbox) -> bool
     requires { length (lists outbox.now) < 256 }
@@ -94,7 +119,7 @@ fn is_empty(outbox: &Outbox) -> bool
 }
 
 /// Puts all that waits.
-pub(crate) fn put_all<R: Wait>(
+pub(crate) fn put_all<R: Wait + Clock>(
     rt: &R,
     queues: &[LaneQueue],
     seats: &mut [Seat],
@@ -113,38 +138,43 @@ pub(crate) fn put_all<R: Wait>(
     ensures seats { length seats.new ≡ length seats.old }
     ensures lanes { length (lists outbox.new) ≡ length (lists outbox.old) }
 {
-    let backoff = Backoff::new();
+    let mut pause = Pause::new();
     for _ in rt.forever() {
         if is_empty(outbox) {
             return;
         }
         if put_round(queues, seats, outbox, decider) {
-            backoff.reset();
+            pause.reset();
         } else {
-            backoff.snooze();
+            pause.rest(rt);
         }
     }
     unreachable!()
 }
 
 /// Puts the decider's end for a lane.
-fn put_end<R: Wait>(rt: &R, queue: &LaneQueue, seat: &mut Seat, decider: u8)
+fn put_end<R: Wait + Clock>(rt: &R, queue: &LaneQueue, seat: &mut Seat, decider: u8)
     requires { (whole : List Notice) × Puts queue.now decider [] whole seat.old.pass }
     ensures { (whole : List Notice) → Puts queue.now decider [] whole seat.old.pass
         → IsDecider queue.now decider (as_items decider whole ++ End decider ∷ []) seat.new.pass }
 {
-    let backoff = Backoff::new();
+    let mut pause = Pause::new();
     for _ in rt.forever() {
         if queue.offer(&mut seat.pass, Item::End(decider)).is_ok() {
             return;
         }
-        backoff.snooze();
+        pause.rest(rt);
     }
     unreachable!()
 }
 
 /// Puts the decider's end for each lane.
-pub(crate) fn put_ends<R: Wait>(rt: &R, queues: &[LaneQueue], seats: &mut [Seat], decider: u8)
+pub(crate) fn put_ends<R: Wait + Clock>(
+    rt: &R,
+    queues: &[LaneQueue],
+    seats: &mut [Seat],
+    decider: u8,
+)
     requires seats { length seats.old ≡ length queues.now }
     requires puts { (whole : ℕ → List Notice) × ArePut decider queues.now seats.old (λ _. []) whole }
     ensures ended { (whole : ℕ → List Notice) → ArePut decider queues.now seats.old (λ _. []) whole

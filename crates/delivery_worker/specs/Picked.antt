@@ -40,14 +40,15 @@ pub record IsServing (lane : Record) : Type 0 where
   pub nothing : lane.undelivered ≡ []
   pub serving : lane.why ≡ None
 
--- the record with which a box begins: that of the box before has ended, as it stands, unless this is the first
+-- the record with which a channel begins: that of the channel before has ended, as it stands, unless this is the first
 abbrev pub next_record : (first : Bool) → Record → Record
 next_record true lane = lane
 next_record false lane = record lane { ended = lane.ended ++ lane.taken ∷ []; taken = [] }
 
--- The box had the next record, which is what it has taken; or memory ran out before, and neither changed.
-abbrev pub HasOwnRecord : (first : Bool) → Why → (old new : Record) → (before after : List Receipt)
-    → Type 0
-HasOwnRecord first why old new before after =
-    ((new.ended ≡ (next_record first old).ended) × (map receipt_of new.taken ≡ after))
-    ⊎ ((why ≡ NoMemory) × (new ≡ old) × (after ≡ before))
+-- The channel had the next record, which is what it has taken after what it had before, and `made` says what it was offered; or memory
+-- ran out before, and neither changed.
+abbrev pub HasOwnRecord : (first : Bool) → Why → (old new : Record) → (before after : List Receipt) → (failed_old failed_new : ℕ)
+    → (made unoffered : Type 0) → Type 0
+HasOwnRecord first why old new before after failed_old failed_new made unoffered =
+    ((new.ended ≡ (next_record first old).ended) × (after ≡ before ++ map receipt_of new.taken) × made)
+    ⊎ ((why ≡ NoMemory) × (new ≡ old) × (after ≡ before) × (failed_new ≡ failed_old) × unoffered)

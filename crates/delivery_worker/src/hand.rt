@@ -7,20 +7,22 @@ ghost use Rattle.channel.specs.Channels.{receipt_of};
 ghost use Rattle.channel.specs.Letter.{letter_of};
 ghost use Rattle.delivery_worker.specs.Attempts.{HasFailed, HasRung, HasTriedLetter, KeepsInHand};
 ghost use Rattle.delivery_worker.specs.Attempts.{TriesFailed, with_taken};
+ghost use Rattle.delivery_worker.specs.Offers.{Settles, TriesInVain};
 
 use crate::laws::attempt;
 use crate::{Attempted, Bell, Gate};
 use channel::Channel;
 use channel::letter::letter_text;
-use crossbeam_utils::Backoff;
 use due_model::config::Config;
 use due_model::notice::Notice;
+use idle_pause::Pause;
 use std::alloc::{AllocError, Global};
 use std::sync::Wait;
+use std::time::Clock;
 use undelivered::{LaneRecord, Why};
 
 /// Waits until the gate lets a notice by. False: the bell said that the lane is to close.
-pub(crate) fn wait_for_gate<B: Bell, G: Gate, R: Wait>(
+pub(crate) fn wait_for_gate<B: Bell, G: Gate, R: Wait + Clock>(
     rt: &R,
     notice: &Notice,
     bell: &mut B,
@@ -29,7 +31,7 @@ pub(crate) fn wait_for_gate<B: Bell, G: Gate, R: Wait>(
     ensures admitted { result ≡ true → B.count bell.new ≡ B.count bell.old }
     ensures asked { result ≡ false → B.count bell.new ≡ B.count bell.old + 1 }
 {
-    let backoff = Backoff::new();
+    let mut pause = Pause::new();
     for _ in rt.forever() {
         if gate.admit(notice.lane, notice) {
             break;
@@ -37,48 +39,55 @@ pub(crate) fn wait_for_gate<B: Bell, G: Gate, R: Wait>(
         if bell.asked() {
             return false;
         }
-        backoff.snooze();
+        pause.rest(rt);
     }
     true
 }
 
 /// Hands the letter of the notice in hand to the lane's channel, as often as it may be tried. After Ok the channel and the
 /// record have it as the last that was taken; an error says why the lane is to close, and the notice is still in hand.
-pub(crate) fn deliver_hand<B: Bell>(
+pub(crate) fn deliver_hand<C: Channel, B: Bell>(
     alloc: Global,
     config: &Config,
-    channel: &mut Box<dyn Channel>,
+    channel: &mut C,
     lane: &mut LaneRecord,
     notice: Notice,
     tries: u8,
     bell: &mut B,
 ) -> Result<(), Why>
     requires hand { lane.old.hand ≡ Some notice }
-    requires room { 0 < room channel.old }
-    ensures taken { OnOk result (taken channel.new ≡ taken channel.old ++ receipt_of notice ∷ []) }
+    requires room { 0 < C.room channel.old }
+    ensures taken { OnOk result ((C.account channel.new).taken ≡ (C.account channel.old).taken ++ receipt_of notice ∷ []) }
     ensures settled { OnOk result
         (lane.new ≡ record lane.old { taken = lane.old.taken ++ notice ∷ []; hand = None }) }
-    ensures kept { OnErr result (taken channel.new ≡ taken channel.old) }
+    ensures kept { OnErr result ((C.account channel.new).taken ≡ (C.account channel.old).taken) }
     ensures held { OnErr result (lane.new ≡ lane.old) }
     ensures bell { HasRung (IsErrOf result Why.Asked) (B.count bell.old) (B.count bell.new) }
     ensures failed { IsErrOf result Why.Failed
-        → TriesFailed tries (limit channel.old) (length (letter_of config.now notice))
-        (failures channel.old) (failures channel.new) }
+        → TriesFailed tries (C.account channel.old).limit (length (letter_of config.now notice))
+        (C.account channel.old).failures (C.account channel.new).failures }
     // The bell was asked before each try that failed, and once more where that wasn't the end; where memory ran out, it wasn't, and
     // nothing was tried.
     ensures tries_taken { OnOk result
-        (HasTriedLetter Attempted.Settled tries config.now notice (limit channel.old)
-        (failures channel.old) (failures channel.new) (B.asks bell.old) (B.asks bell.new)) }
+        (HasTriedLetter Attempted.Settled tries config.now notice (C.account channel.old).limit
+        (C.account channel.old).failures (C.account channel.new).failures (B.asks bell.old) (B.asks bell.new)) }
     ensures tries_asked { IsErrOf result Why.Asked
-        → HasTriedLetter Attempted.Asked tries config.now notice (limit channel.old)
-        (failures channel.old) (failures channel.new) (B.asks bell.old) (B.asks bell.new) }
+        → HasTriedLetter Attempted.Asked tries config.now notice (C.account channel.old).limit
+        (C.account channel.old).failures (C.account channel.new).failures (B.asks bell.old) (B.asks bell.new) }
     ensures tries_failed { IsErrOf result Why.Failed
-        → HasTriedLetter Attempted.Failed tries config.now notice (limit channel.old)
-        (failures channel.old) (failures channel.new) (B.asks bell.old) (B.asks bell.new) }
+        → HasTriedLetter Attempted.Failed tries config.now notice (C.account channel.old).limit
+        (C.account channel.old).failures (C.account channel.new).failures (B.asks bell.old) (B.asks bell.new) }
+    // The channel was offered its letter, once for each try.
+    ensures offered { OnOk result
+        (Settles C.offered tries config.now (notice ∷ []) channel.old channel.new) }
+    ensures offered_in_vain { IfErr result (λ why.
+        TriesInVain C.offered tries config.now (Some notice) (why ≡ Why.Failed)
+        channel.old channel.new) }
     ensures no_asks { IsErrOf result Why.NoMemory → B.asks bell.new ≡ B.asks bell.old }
-    ensures no_tries { IsErrOf result Why.NoMemory → failures channel.new ≡ failures channel.old }
-    ensures counted { failures channel.old ≤ failures channel.new }
-    ensures limit { limit channel.new ≡ limit channel.old }
+    ensures no_tries { IsErrOf result Why.NoMemory → (C.account channel.new).failures ≡ (C.account channel.old).failures }
+    ensures counted { (C.account channel.old).failures ≤ (C.account channel.new).failures }
+    ensures limit { (C.account channel.new).limit ≡ (C.account channel.old).limit }
+    ensures number { (C.account channel.new).number ≡ (C.account channel.old).number }
     ensures not_over { ¬ IsErrOf result Why.FeedOver }
     ensures has_channel { ¬ IsErrOf result Why.NoChannel }
 {
@@ -96,11 +105,13 @@ pub(crate) fn deliver_hand<B: Bell>(
 }
 
 /// Makes room for one receipt more. A refused growth is the only error; nothing that a letter is tried by changes.
-pub(crate) fn keep_room(channel: &mut Box<dyn Channel>) -> Result<(), AllocError>
-    ensures room { OnOk result (0 < room channel.new) }
-    ensures taken { taken channel.new ≡ taken channel.old }
-    ensures failures { failures channel.new ≡ failures channel.old }
-    ensures limit { limit channel.new ≡ limit channel.old }
+pub(crate) fn keep_room<C: Channel>(channel: &mut C) -> Result<(), AllocError>
+    ensures room { OnOk result (0 < C.room channel.new) }
+    ensures taken { (C.account channel.new).taken ≡ (C.account channel.old).taken }
+    ensures failures { (C.account channel.new).failures ≡ (C.account channel.old).failures }
+    ensures limit { (C.account channel.new).limit ≡ (C.account channel.old).limit }
+    ensures number { (C.account channel.new).number ≡ (C.account channel.old).number }
+    ensures offered { C.offered channel.old [] channel.new }
 {
     channel.reserve()
 }
@@ -108,11 +119,11 @@ pub(crate) fn keep_room(channel: &mut Box<dyn Channel>) -> Result<(), AllocError
 /// Takes a notice up, waits for the gate, and hands the letter to the lane's channel, as often as it may be tried. After Ok the
 /// channel and the record have it as the last that was taken. An error says why the lane is to close; then the notice is in
 /// hand, and only where memory ran out before it was taken up the record is as before.
-pub(crate) fn serve_notice<B: Bell, G: Gate, R: Wait>(
+pub(crate) fn serve_notice<C: Channel, B: Bell, G: Gate, R: Wait + Clock>(
     rt: &R,
     alloc: Global,
     config: &Config,
-    channel: &mut Box<dyn Channel>,
+    channel: &mut C,
     lane: &mut LaneRecord,
     notice: Notice,
     tries: u8,
@@ -121,17 +132,23 @@ pub(crate) fn serve_notice<B: Bell, G: Gate, R: Wait>(
 ) -> Result<(), Why>
     requires idle { lane.old.hand ≡ None }
     requires serving { lane.old.why ≡ None }
-    requires room { 0 < room channel.old }
-    ensures taken { OnOk result (taken channel.new ≡ taken channel.old ++ receipt_of notice ∷ []) }
+    requires room { 0 < C.room channel.old }
+    ensures taken { OnOk result ((C.account channel.new).taken ≡ (C.account channel.old).taken ++ receipt_of notice ∷ []) }
     ensures settled { OnOk result (lane.new ≡ with_taken notice lane.old) }
-    ensures kept { OnErr result (taken channel.new ≡ taken channel.old) }
+    ensures kept { OnErr result ((C.account channel.new).taken ≡ (C.account channel.old).taken) }
     ensures hand { IfErr result (λ why. KeepsInHand why notice lane.old lane.new) }
     ensures bell { HasRung (IsErrOf result Why.Asked) (B.count bell.old) (B.count bell.new) }
     ensures failed { IsErrOf result Why.Failed
-        → TriesFailed tries (limit channel.old) (length (letter_of config.now notice))
-        (failures channel.old) (failures channel.new) }
-    ensures counted { failures channel.old ≤ failures channel.new }
-    ensures limit { limit channel.new ≡ limit channel.old }
+        → TriesFailed tries (C.account channel.old).limit (length (letter_of config.now notice))
+        (C.account channel.old).failures (C.account channel.new).failures }
+    ensures counted { (C.account channel.old).failures ≤ (C.account channel.new).failures }
+    ensures limit { (C.account channel.new).limit ≡ (C.account channel.old).limit }
+    ensures number { (C.account channel.new).number ≡ (C.account channel.old).number }
+    ensures offered { OnOk result
+        (Settles C.offered tries config.now (notice ∷ []) channel.old channel.new) }
+    ensures offered_in_vain { IfErr result (λ why.
+        TriesInVain C.offered tries config.now lane.new.hand (why ≡ Why.Failed)
+        channel.old channel.new) }
     ensures not_over { ¬ IsErrOf result Why.FeedOver }
     ensures has_channel { ¬ IsErrOf result Why.NoChannel }
 {
@@ -145,26 +162,32 @@ pub(crate) fn serve_notice<B: Bell, G: Gate, R: Wait>(
 }
 
 /// Tries the notice that is in hand, if one is.
-pub(crate) fn try_hand<B: Bell>(
+pub(crate) fn try_hand<C: Channel, B: Bell>(
     alloc: Global,
     config: &Config,
-    channel: &mut Box<dyn Channel>,
+    channel: &mut C,
     lane: &mut LaneRecord,
     tries: u8,
     bell: &mut B,
 ) -> Result<(), Why>
     ensures taken { OnOk result
-        (taken channel.new ≡ taken channel.old ++ map receipt_of (option_to_list lane.old.hand)) }
+        ((C.account channel.new).taken ≡ (C.account channel.old).taken ++ map receipt_of (option_to_list lane.old.hand)) }
     ensures settled { OnOk result (lane.new
         ≡ record lane.old { taken = lane.old.taken ++ option_to_list lane.old.hand; hand = None }) }
-    ensures kept { OnErr result (taken channel.new ≡ taken channel.old) }
+    ensures kept { OnErr result ((C.account channel.new).taken ≡ (C.account channel.old).taken) }
     ensures held { OnErr result (lane.new ≡ lane.old) }
     ensures bell { HasRung (IsErrOf result Why.Asked) (B.count bell.old) (B.count bell.new) }
     ensures failed { IsErrOf result Why.Failed
-        → HasFailed tries config.now (limit channel.old) (failures channel.old) (failures channel.new)
+        → HasFailed tries config.now (C.account channel.old).limit (C.account channel.old).failures (C.account channel.new).failures
         lane.old.hand }
-    ensures counted { failures channel.old ≤ failures channel.new }
-    ensures limit { limit channel.new ≡ limit channel.old }
+    ensures counted { (C.account channel.old).failures ≤ (C.account channel.new).failures }
+    ensures limit { (C.account channel.new).limit ≡ (C.account channel.old).limit }
+    ensures number { (C.account channel.new).number ≡ (C.account channel.old).number }
+    ensures offered { OnOk result
+        (Settles C.offered tries config.now (option_to_list lane.old.hand) channel.old channel.new) }
+    ensures offered_in_vain { IfErr result (λ why.
+        TriesInVain C.offered tries config.now lane.new.hand (why ≡ Why.Failed)
+        channel.old channel.new) }
     ensures not_over { ¬ IsErrOf result Why.FeedOver }
     ensures has_channel { ¬ IsErrOf result Why.NoChannel }
 {

@@ -1,12 +1,14 @@
 //! The tries of one letter, and a lane served up to its close.
 
 ghost use Rattle.std.specs.Prelude.{◌≡◌, ◌≢◌, ◌↔◌, ◌+◌, ◌<◌, ◌≤◌, []};
-ghost use Rattle.std.specs.Prelude.{◌∷◌, ◌++◌, length, map, None};
+ghost use Rattle.std.specs.Prelude.{◌∷◌, ◌++◌, length, map, List, None};
 ghost use mathlib.Core.List.{IsPrefix};
 ghost use Rattle.channel.specs.Channels.{receipt_of};
+ghost use Rattle.channel.specs.declared.Receipt.{Receipt};
 ghost use Rattle.channel_queue.specs.Passes.{IsWorker};
 ghost use Rattle.channel_queue.specs.Rule.{joined_of, picked_of};
 ghost use Rattle.delivery_worker.specs.Attempts.{HasFailed, HasTriedAndAsked, TriesFailed};
+ghost use Rattle.delivery_worker.specs.Offers.{GainsByOffers, IsTried};
 ghost use Rattle.delivery_worker.specs.Picked.{AllEnded, AreEnds, IsServing, held};
 ghost use Rattle.due_model.specs.Items.{notices};
 
@@ -16,67 +18,84 @@ use crate::{Attempted, Bell, Gate};
 use channel::letter::Letter;
 use channel::{Channel, Fault};
 use channel_queue::{LaneQueue, Pass};
-use crossbeam_utils::Backoff;
 use due_model::config::Config;
 use due_model::item::Item;
+use idle_pause::Pause;
 use std::alloc::Global;
 use std::sync::Wait;
+use std::time::Clock;
 use undelivered::{LaneRecord, Why};
 
 /// Hands a letter to a channel until it is taken, or as often as it may be tried: `tries` answers that are errors mean
-/// `Failed`, those that the text is too long counted. The bell is asked before each try. While it lasts the channel is given no
-/// other letter. It takes no memory where the channel's `deliver` takes none.
-pub fn attempt<B: Bell>(
-    channel: &mut Box<dyn Channel>,
+/// `Failed`, those that the text is too long counted. The bell is asked before each try, and told where one failed at the device
+/// and another is due. While it lasts the channel is given no other letter. It takes no memory where the channel's `deliver` takes
+/// none.
+pub fn attempt<C: Channel, B: Bell>(
+    channel: &mut C,
     letter: &Letter,
     tries: u8,
     bell: &mut B,
 ) -> Attempted
-    requires { 0 < room channel.old }
+    requires { 0 < C.room channel.old }
     // Settled: the letter's receipt is the last one. Otherwise the channel has taken nothing.
     ensures settled { result ≡ Attempted.Settled
-        → taken channel.new ≡ taken channel.old ++ receipt_of letter.now.notice ∷ [] }
-    ensures kept { result ≢ Attempted.Settled → taken channel.new ≡ taken channel.old }
+        → (C.account channel.new).taken ≡ (C.account channel.old).taken ++ receipt_of letter.now.notice ∷ [] }
+    ensures kept { result ≢ Attempted.Settled → (C.account channel.new).taken ≡ (C.account channel.old).taken }
     // Asked: the bell's count rose, and by one.
     ensures asked { (result ≡ Attempted.Asked) ↔ (B.count bell.old < B.count bell.new) }
     ensures bell { B.count bell.new ≤ B.count bell.old + 1 }
     ensures unasked { result ≢ Attempted.Asked → B.count bell.new ≡ B.count bell.old }
     // It was asked before each try that failed, and once more where that wasn't the end.
-    ensures tries { HasTriedAndAsked result tries (limit channel.old) (length letter.now.text)
-        (failures channel.old) (failures channel.new) (B.asks bell.old) (B.asks bell.new) }
+    ensures tries { HasTriedAndAsked result tries (C.account channel.old).limit (length letter.now.text)
+        (C.account channel.old).failures (C.account channel.new).failures (B.asks bell.old) (B.asks bell.new) }
     // Failed: so many tries failed. Otherwise it was fewer.
     ensures failed { result ≡ Attempted.Failed
-        → TriesFailed tries (limit channel.old) (length letter.now.text)
-        (failures channel.old) (failures channel.new) }
+        → TriesFailed tries (C.account channel.old).limit (length letter.now.text)
+        (C.account channel.old).failures (C.account channel.new).failures }
     ensures sooner { result ≢ Attempted.Failed
-        → failures channel.new < failures channel.old + tries }
-    ensures counted { failures channel.old ≤ failures channel.new }
-    ensures room { result ≢ Attempted.Settled → room channel.new ≡ room channel.old }
-    ensures room_left { room channel.old ≤ room channel.new + 1 }
-    ensures limit { limit channel.new ≡ limit channel.old }
-    ensures kind { kind channel.new ≡ kind channel.old }
+        → (C.account channel.new).failures < (C.account channel.old).failures + tries }
+    ensures counted { (C.account channel.old).failures ≤ (C.account channel.new).failures }
+    ensures room { result ≢ Attempted.Settled → C.room channel.new ≡ C.room channel.old }
+    ensures room_left { C.room channel.old ≤ C.room channel.new + 1 }
+    ensures limit { (C.account channel.new).limit ≡ (C.account channel.old).limit }
+    ensures kind { C.kind channel.new ≡ C.kind channel.old }
+    ensures number { (C.account channel.new).number ≡ (C.account channel.old).number }
+    // It was offered this letter and no other, once for each try.
+    ensures offered { IsTried C.offered letter.now.notice letter.now.text tries result
+        channel.old channel.new }
 {
-    for _failed in 0..tries {
+    for failed in 0..tries {
         if bell.asked() {
             return Attempted::Asked;
         }
         match channel.deliver(letter) {
             Ok(()) => return Attempted::Settled,
-            Err(Fault::Device | Fault::TooLong) => {}
+            Err(Fault::Device) => pause_before_retry(bell, failed + 1, tries),
+            Err(Fault::TooLong) => {}
         }
     }
     Attempted::Failed
+}
+
+/// Tells the bell that so many tries of a letter have failed, where another is due.
+fn pause_before_retry<B: Bell>(bell: &mut B, failed: u8, tries: u8)
+    ensures count { B.count bell.new ≡ B.count bell.old }
+    ensures asks { B.asks bell.new ≡ B.asks bell.old }
+{
+    if failed < tries {
+        bell.before_retry(failed);
+    }
 }
 
 /// Serves a lane up to its close, which it leaves to the caller: it first tries a notice that is in hand, and then picks one
 /// after another. It closes since the end of each decider was picked (`FeedOver`), since the bell said so (`Asked`), since a letter
 /// failed as often as it may be tried (`Failed`), or since a growth was refused (`NoMemory`). The bell is asked before each
 /// pick, after each refusal of the gate and before each try.
-pub fn tend<B: Bell, G: Gate, R: Wait>(
+pub fn tend<C: Channel, B: Bell, G: Gate, R: Wait + Clock>(
     rt: &R,
     alloc: Global,
     config: &Config,
-    channel: &mut Box<dyn Channel>,
+    channel: &mut C,
     lane: &mut LaneRecord,
     tries: u8,
     queue: &LaneQueue,
@@ -98,9 +117,11 @@ pub fn tend<B: Bell, G: Gate, R: Wait>(
     ensures serving { IsServing lane.new }
     ensures order { result.1 ≢ Why.NoMemory → held lane.new ≡ notices (picked_of result.0) }
     ensures front { IsPrefix (held lane.new) (notices (picked_of result.0)) }
-    // Where the box and the record agreed on what was taken, they agree.
-    ensures equal { map receipt_of lane.old.taken ≡ taken channel.old
-        → map receipt_of lane.new.taken ≡ taken channel.new }
+    // What the record gained is what the channel has taken, after what it had before.
+    ensures equal { (before : List Receipt) → (C.account channel.old).taken ≡ before ++ map receipt_of lane.old.taken
+        → (C.account channel.new).taken ≡ before ++ map receipt_of lane.new.taken }
+    // What was held stays, and more comes after it.
+    ensures grows { IsPrefix (held lane.old) (held lane.new) }
     // Each close has its cause.
     ensures over { result.1 ≡ Why.FeedOver
         → (lane.new.hand ≡ None) × AllEnded queue.now.deciders (picked_of result.0) }
@@ -108,18 +129,22 @@ pub fn tend<B: Bell, G: Gate, R: Wait>(
     ensures bell { B.count bell.new ≤ B.count bell.old + 1 }
     ensures unasked { result.1 ≢ Why.Asked → B.count bell.new ≡ B.count bell.old }
     ensures failed { result.1 ≡ Why.Failed
-        → HasFailed tries config.now (limit channel.old) (failures channel.old)
-        (failures channel.new) lane.new.hand }
+        → HasFailed tries config.now (C.account channel.old).limit (C.account channel.old).failures
+        (C.account channel.new).failures lane.new.hand }
     ensures has_channel { result.1 ≢ Why.NoChannel }
-    ensures limit { limit channel.new ≡ limit channel.old }
-    // The records of earlier boxes stay.
+    ensures limit { (C.account channel.new).limit ≡ (C.account channel.old).limit }
+    ensures number { (C.account channel.new).number ≡ (C.account channel.old).number }
+    // The records of earlier channels stay.
     ensures ended { lane.new.ended ≡ lane.old.ended }
+    // It was offered the letters that were taken, each until it was, and then the one in hand as often as that was tried.
+    ensures offered { GainsByOffers C.offered tries config.now lane.old lane.new
+        (result.1 ≡ Why.Failed) channel.old channel.new }
 {
     if let Err(why) = try_hand(alloc, config, channel, lane, tries, bell) {
         return (pass, why);
     }
     let mut pass = pass;
-    let backoff = Backoff::new();
+    let mut pause = Pause::new();
     for _ in rt.forever() {
         if all_ended(ends, queue.deciders()) {
             return (pass, Why::FeedOver);
@@ -133,10 +158,10 @@ pub fn tend<B: Bell, G: Gate, R: Wait>(
         let (next, item) = pick_item(queue, pass, ends);
         pass = next;
         match item {
-            None => backoff.snooze(),
-            Some(Item::End(_)) => backoff.reset(),
+            None => pause.rest(rt),
+            Some(Item::End(_)) => pause.reset(),
             Some(Item::Notice(_, notice)) => {
-                backoff.reset();
+                pause.reset();
                 if let Err(why) = serve_notice(
                     rt, alloc, config, channel, lane, notice, tries, bell, gate,
                 ) {

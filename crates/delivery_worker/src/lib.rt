@@ -12,6 +12,7 @@ mod worker;
 
 use due_model::config::LaneId;
 use due_model::notice::Notice;
+use std::time::Duration;
 pub use worker::{Served, serve, tend_next};
 
 /// What tells a worker that its lane is to close.
@@ -33,6 +34,12 @@ pub trait Bell {
     /// How many true answers there were.
     fn count(&self) -> u64
         ensures { result ≡ count self.now };
+
+    /// Called where so many tries of a letter have failed at the device and another is due: here time may pass. It isn't a question.
+    fn before_retry(&mut self, _failed: u8)
+        ensures count { count self.new ≡ count self.old }
+        ensures asks { asks self.new ≡ asks self.old }
+    {}
 }
 
 /// What holds notices and events back for a while.
@@ -42,6 +49,12 @@ pub trait Gate {
 
     /// Called by a decider before each event.
     fn turn(&self, decider: u8);
+
+    /// How long a lane waits before it tries a letter again of which so many tries have failed at the device. Not at all, unless a
+    /// gate says otherwise.
+    fn retry_after(&self, _lane: LaneId, _failed: u8) -> Duration {
+        Duration::ZERO
+    }
 }
 
 /// What became of a letter that was tried.

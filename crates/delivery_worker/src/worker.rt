@@ -6,6 +6,9 @@ ghost use Rattle.std.specs.Option.{option_to_list};
 ghost use mathlib.Core.List.{IsPrefix};
 ghost use Rattle.channel_queue.specs.Passes.{IsWorker};
 ghost use Rattle.channel_queue.specs.Rule.{joined_of, picked_of};
+ghost use Rattle.delivery_worker.specs.Attempts.{HasFailed};
+ghost use Rattle.delivery_worker.specs.Channels.{HaveServed, records_in};
+ghost use Rattle.delivery_worker.specs.Offers.{TakesOffers};
 ghost use Rattle.delivery_worker.specs.Picked.{AllEnded, AreEnds, HasOwnRecord, IsServing};
 ghost use Rattle.delivery_worker.specs.Picked.{held as held_in, joined, next_record};
 ghost use Rattle.due_model.specs.Items.{notices};
@@ -15,11 +18,12 @@ use crate::queue::{all_ended, pick_item};
 use crate::{Bell, Gate};
 use channel::Channel;
 use channel_queue::{LaneQueue, Pass};
-use crossbeam_utils::Backoff;
 use due_model::config::Config;
 use due_model::item::Item;
+use idle_pause::Pause;
 use std::alloc::{AllocError, Global};
 use std::sync::Wait;
+use std::time::Clock;
 use undelivered::{LaneRecord, Why};
 
 /// What a worker gives back.
@@ -35,7 +39,7 @@ pub struct Served {
 
 /// Picks what is left, up to the end of each decider, and gives it up. False: memory ran out, and from there on nothing was
 /// recorded.
-fn drain<R: Wait>(
+fn drain<R: Wait + Clock>(
     rt: &R,
     lane: &mut LaneRecord,
     recording: bool,
@@ -60,7 +64,7 @@ fn drain<R: Wait>(
 {
     let mut pass = pass;
     let mut recording = recording;
-    let backoff = Backoff::new();
+    let mut pause = Pause::new();
     for _ in rt.forever() {
         if all_ended(ends, queue.deciders()) {
             return (pass, recording);
@@ -69,9 +73,9 @@ fn drain<R: Wait>(
         pass = next;
         recording = give_up(lane, recording, item);
         if item.is_some() {
-            backoff.reset();
+            pause.reset();
         } else {
-            backoff.snooze();
+            pause.rest(rt);
         }
     }
     unreachable!()
@@ -95,7 +99,7 @@ fn give_up(lane: &mut LaneRecord, recording: bool, item: Option<Item>) -> bool
     }
 }
 
-/// Ends the record of the box before, unless this is the first. A refused growth is the only error, and changes nothing.
+/// Ends the record of the channel before, unless this is the first. A refused growth is the only error, and changes nothing.
 fn end_record(lane: &mut LaneRecord, first: bool) -> Result<(), AllocError>
     requires serving { IsServing lane.old }
     requires hand { first ≡ false → IsSome lane.old.hand }
@@ -111,13 +115,13 @@ fn end_record(lane: &mut LaneRecord, first: bool) -> Result<(), AllocError>
     lane.replace()
 }
 
-/// Serves a lane by its first or its next box, which comes with an empty record. Before the next one serves, the record of the
-/// one before ends as it stands; the caller drops each.
-pub fn tend_next<B: Bell, G: Gate, R: Wait>(
+/// Serves a lane by its first or its next channel, and closes that. Before the next one serves, the record of the one before ends as it
+/// stands.
+pub fn tend_next<C: Channel, B: Bell, G: Gate, R: Wait + Clock>(
     rt: &R,
     alloc: Global,
     config: &Config,
-    channel: &mut Box<dyn Channel>,
+    channel: &mut C,
     first: bool,
     lane: &mut LaneRecord,
     tries: u8,
@@ -146,28 +150,44 @@ pub fn tend_next<B: Bell, G: Gate, R: Wait>(
     ensures unasked { result.1 ≢ Why.Asked → B.count bell.new ≡ B.count bell.old }
     ensures failed { result.1 ≡ Why.Failed → IsSome lane.new.hand }
     ensures has_channel { result.1 ≢ Why.NoChannel }
-    // The record of now is what this box has taken, and that of the box before stays as it was.
-    ensures own { taken channel.old ≡ [] → (first ≡ true → lane.old.taken ≡ [])
-        → HasOwnRecord first result.1 lane.old lane.new (taken channel.old) (taken channel.new) }
+    // The record of now is what this channel has taken, and that of the one before stays as it was.
+    ensures own { (first ≡ true → lane.old.taken ≡ [])
+        → HasOwnRecord first result.1 lane.old lane.new
+        (C.account channel.old).taken (C.account channel.new).taken
+        (C.account channel.old).failures (C.account channel.new).failures
+        (TakesOffers C.offered tries config.now lane.new.taken lane.new.hand (result.1 ≡ Why.Failed)
+        channel.old channel.new)
+        (C.offered channel.old [] channel.new) }
+    // A channel fails only once a letter has failed as often as it may be tried.
+    ensures tried { result.1 ≡ Why.Failed
+        → HasFailed tries config.now (C.account channel.old).limit (C.account channel.old).failures
+        (C.account channel.new).failures lane.new.hand }
+    ensures number { (C.account channel.new).number ≡ (C.account channel.old).number }
+    ensures limit { (C.account channel.new).limit ≡ (C.account channel.old).limit }
+    ensures closed { (C.account channel.new).closed ≡ true }
+    ensures grows { IsPrefix (held_in lane.old) (held_in lane.new) }
     ensures records { result.1 ≢ Why.NoMemory
         → length lane.new.ended ≡ length lane.old.ended + (if first then 0 else 1) }
     ensures records_left { length lane.new.ended ≤ length lane.old.ended + (if first then 0 else 1) }
 {
     if end_record(lane, first).is_err() {
+        channel.close();
         return (pass, Why::NoMemory);
     }
-    tend(
+    let served = tend(
         rt, alloc, config, channel, lane, tries, queue, pass, ends, bell, gate,
-    )
+    );
+    channel.close();
+    served
 }
 
-/// Serves a lane by its boxes, one after another, up to the close, which it leaves to the caller. The next box serves where the one
+/// Serves a lane by its channels, one after another, up to the close, which it leaves to the caller. The next serves where the one
 /// before has failed.
-fn tend_boxes<B: Bell, G: Gate, R: Wait>(
+fn tend_boxes<C: Channel, B: Bell, G: Gate, R: Wait + Clock>(
     rt: &R,
     alloc: Global,
     config: &Config,
-    boxes: Vec<Box<dyn Channel>>,
+    boxes: &mut Vec<C>,
     lane: &mut LaneRecord,
     tries: u8,
     queue: &LaneQueue,
@@ -183,6 +203,7 @@ fn tend_boxes<B: Bell, G: Gate, R: Wait>(
     requires order { held_in lane.old ≡ notices (picked_of pass) }
     requires idle { lane.old.hand ≡ None }
     requires first { lane.old.ended ≡ [] }
+    requires fresh { lane.old.taken ≡ [] }
     requires tries { 0 < tries }
     ensures worker { IsWorker queue.now (picked_of result.0) (joined_of pass) result.0 }
     ensures ends { AreEnds (picked_of result.0) ends.new }
@@ -195,22 +216,23 @@ fn tend_boxes<B: Bell, G: Gate, R: Wait>(
     ensures bell { B.count bell.new ≤ B.count bell.old + 1 }
     ensures unasked { result.1 ≢ Why.Asked → B.count bell.new ≡ B.count bell.old }
     ensures failed { result.1 ≡ Why.Failed → IsSome lane.new.hand }
-    ensures no_channel { (result.1 ≡ Why.NoChannel) ↔ (boxes.items ≡ []) }
-    ensures untaken { boxes.items ≡ [] → lane.new ≡ lane.old }
-    ensures each_failed { result.1 ≡ Why.Failed → length lane.new.ended + 1 ≡ length boxes.items }
-    ensures records { boxes.items ≢ [] → length lane.new.ended < length boxes.items }
+    ensures no_channel { (result.1 ≡ Why.NoChannel) ↔ (boxes.old.items ≡ []) }
+    ensures untaken { boxes.old.items ≡ [] → lane.new ≡ lane.old }
+    ensures each_failed { result.1 ≡ Why.Failed → length lane.new.ended + 1 ≡ length boxes.old.items }
+    ensures records { boxes.old.items ≢ [] → length lane.new.ended < length boxes.old.items }
+    // Each channel is where it was, and has taken what its record says.
+    ensures boxes { HaveServed C.account C.offered tries config.now (records_in lane.new) (held_in lane.new)
+        (result.1 ≡ Why.Failed) boxes.old.items boxes.new.items }
 {
     let mut pass = pass;
     let mut why = Why::NoChannel;
-    for channel in boxes {
-        let mut channel = channel;
-        let first = why == Why::NoChannel;
+    for place in 0..boxes.len() {
         let (next, close) = tend_next(
             rt,
             alloc,
             config,
-            &mut channel,
-            first,
+            &mut boxes[place],
+            place == 0,
             lane,
             tries,
             queue,
@@ -219,7 +241,6 @@ fn tend_boxes<B: Bell, G: Gate, R: Wait>(
             bell,
             gate,
         );
-        drop(channel);
         pass = next;
         why = close;
         if why != Why::Failed {
@@ -229,57 +250,61 @@ fn tend_boxes<B: Bell, G: Gate, R: Wait>(
     (pass, why)
 }
 
-/// Serves a lane to its end: up to the close by its boxes, if it has any, and then to the end of each decider. The first box
-/// serves until a letter has failed as often as it may be tried; then the next serves, beginning with that letter. A box is dropped
-/// where the next takes over or at the close, and comes with an empty record.
-pub fn serve<B: Bell, G: Gate, R: Wait>(
+/// Serves a lane to its end: up to the close by its channels, if it has any, and then to the end of each decider. The first
+/// serves until a letter has failed as often as it may be tried; then the next serves, beginning with that letter. A channel is
+/// closed where the next takes over or at the close, and is given back.
+pub fn serve<C: Channel, B: Bell, G: Gate, R: Wait + Clock>(
     rt: &R,
     alloc: Global,
     config: &Config,
-    boxes: Vec<Box<dyn Channel>>,
+    boxes: Vec<C>,
     tries: u8,
     queue: &LaneQueue,
     pass: Pass,
     bell: &mut B,
     gate: &G,
-) -> Served
+) -> (Served, Vec<C>)
     requires boxes { length boxes.items ≤ 8 }
     requires tries { 0 < tries }
     requires deciders { queue.now.deciders ≤ 8 }
     requires worker { IsWorker queue.now [] [] pass }
     // Whatever the cause, the end of each decider was picked.
-    ensures worker { IsWorker queue.now (picked_of result.pass) [] result.pass }
-    ensures ended { AllEnded queue.now.deciders (picked_of result.pass) }
+    ensures worker { IsWorker queue.now (picked_of result.0.pass) [] result.0.pass }
+    ensures ended { AllEnded queue.now.deciders (picked_of result.0.pass) }
     // What was taken and then what was given up is what was picked, in order; where memory ran out, a first part of it.
-    ensures order { result.why ≢ Why.NoMemory → joined result.held ≡ notices (picked_of result.pass) }
-    ensures front { IsPrefix (joined result.held) (notices (picked_of result.pass)) }
+    ensures order { result.0.why ≢ Why.NoMemory → joined result.0.held ≡ notices (picked_of result.0.pass) }
+    ensures front { IsPrefix (joined result.0.held) (notices (picked_of result.0.pass)) }
     // The record is closed, for the same cause unless memory ran out later.
-    ensures hand { result.held.hand ≡ None }
-    ensures closed { IsSome result.held.why }
-    ensures why { result.why ≢ Why.NoMemory → result.held.why ≡ Some result.why }
+    ensures hand { result.0.held.hand ≡ None }
+    ensures closed { IsSome result.0.held.why }
+    ensures why { result.0.why ≢ Why.NoMemory → result.0.held.why ≡ Some result.0.why }
     // The cause of the close.
-    ensures over { result.held.why ≡ Some Why.FeedOver → result.held.undelivered ≡ [] }
-    ensures asked { (result.held.why ≡ Some Why.Asked) ↔ (B.count bell.old < B.count bell.new) }
+    ensures over { result.0.held.why ≡ Some Why.FeedOver → result.0.held.undelivered ≡ [] }
+    ensures asked { (result.0.held.why ≡ Some Why.Asked) ↔ (B.count bell.old < B.count bell.new) }
     ensures bell { B.count bell.new ≤ B.count bell.old + 1 }
-    ensures failed { result.held.why ≡ Some Why.Failed → result.held.undelivered ≢ [] }
-    ensures each_failed { result.held.why ≡ Some Why.Failed
-        → length result.held.ended + 1 ≡ length boxes.items }
-    ensures no_channel { (result.held.why ≡ Some Why.NoChannel) ↔ (boxes.items ≡ []) }
-    ensures untaken { boxes.items ≡ [] → result.held.taken ≡ [] }
-    // There is one record for each box that served.
-    ensures records { boxes.items ≢ [] → length result.held.ended < length boxes.items }
-    ensures no_records { boxes.items ≡ [] → result.held.ended ≡ [] }
+    ensures failed { result.0.held.why ≡ Some Why.Failed → result.0.held.undelivered ≢ [] }
+    ensures each_failed { result.0.held.why ≡ Some Why.Failed
+        → length result.0.held.ended + 1 ≡ length boxes.items }
+    ensures no_channel { (result.0.held.why ≡ Some Why.NoChannel) ↔ (boxes.items ≡ []) }
+    ensures untaken { boxes.items ≡ [] → result.0.held.taken ≡ [] }
+    // There is one record for each channel that served.
+    ensures records { boxes.items ≢ [] → length result.0.held.ended < length boxes.items }
+    ensures no_records { boxes.items ≡ [] → result.0.held.ended ≡ [] }
+    // Each channel is given back, and has taken what its record says.
+    ensures boxes { HaveServed C.account C.offered tries config.now (records_in result.0.held)
+        (joined result.0.held) (result.0.held.why ≡ Some Why.Failed) boxes.items result.1.items }
 {
     let mut held = LaneRecord::new(alloc);
     let mut ends = [false; 8];
+    let mut boxes = boxes;
     let (pass, why) = tend_boxes(
-        rt, alloc, config, boxes, &mut held, tries, queue, pass, &mut ends, bell, gate,
+        rt, alloc, config, &mut boxes, &mut held, tries, queue, pass, &mut ends, bell, gate,
     );
     held.close(why);
     if why == Why::FeedOver {
-        return Served { pass, held, why };
+        return (Served { pass, held, why }, boxes);
     }
     let (pass, recorded) = drain(rt, &mut held, why != Why::NoMemory, queue, pass, &mut ends);
     let why = if recorded { why } else { Why::NoMemory };
-    Served { pass, held, why }
+    (Served { pass, held, why }, boxes)
 }

@@ -1,4 +1,5 @@
 pub mod AlikeLaws
+pub mod ChannelLaws
 pub mod FeedsLaws
 pub mod IntakeLaws
 pub mod LeftLaws

@@ -65,7 +65,7 @@ module _ (can_fail : Bool) (c : Config) (known : Option (List ℕ)) (start : Fee
 -- ---- a lane
 
 -- what it has taken and given up is what its worker kept
-joined_same : (l given : ℕ) (s : Served) (lane : LaneParts) → IsEndOf l given s lane → HasCause given s.held s.why → joined_of s.held ≡ joined lane
+pub joined_same : (l given : ℕ) (s : Served) (lane : LaneParts) → IsEndOf l given s lane → HasCause given s.held s.why → joined_of s.held ≡ joined lane
 joined_same l given s lane e h =
     let same : all_taken s.held ≡ join_lists lane.records = ⊎_elim
     (λ (none : given ≡ 0).

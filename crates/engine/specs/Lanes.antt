@@ -1,8 +1,11 @@
 -- The lanes of a run: their channels, and how each ends.
-use Rattle.std.specs.Prelude.{◌≡◌, ◌≢◌, ◌==◌, ℕ, ◌≤◌, Bool, true, List, [], ◌∷◌, ◌++◌, filter, length, map, Some, if◌then◌else◌}
+use Rattle.std.specs.Prelude.{◌≡◌, ◌≢◌, ◌==◌, ℕ, ◌≤◌, Bool, true, List, [], ◌∷◌, ◌++◌, filter, length, map, slice_get, Some, if◌then◌else◌}
 use Rattle.due_model.specs.declared.config.LaneId.{LaneId}
 use Rattle.due_model.specs.declared.notice.Notice.{Notice}
 use Rattle.delivery_worker.specs.declared.worker.Served.{Served}
+use Rattle.due_model.specs.declared.config.Config.{Config}
+use Rattle.channel.specs.Channels.{Account, Offer}
+use Rattle.delivery_worker.specs.Channels.{HaveServed}
 use Rattle.delivery_worker.specs.Picked.{join_lists}
 use Rattle.undelivered.specs.Record.{Record}
 use Rattle.undelivered.specs.declared.Why.{Why}
@@ -64,3 +67,18 @@ pub record IsEndOf (l given : ℕ) (s : Served) (lane : LaneParts) : Type 0 wher
   pub undelivered : lane.undelivered ≡ s.held.undelivered
   pub unposted : s.held.why ≡ Some NoChannel → lane.why ≡ NoChannel
   pub why : s.held.why ≢ Some NoChannel → lane.why ≡ s.why
+
+-- The channels of a lane at the end, each in its place: each is the one that was given, has taken what its record says and nothing
+-- else, was offered those letters and the next as often as that was tried, and was replaced only since the next had failed as often as
+-- it may be tried.
+abbrev pub HaveTaken : {C : Type 0} → (account : C → Account) → (offered : C → List Offer → C → Type 0) → (tries : ℕ) → Config → LaneParts
+    → (old new : List C) → Type 0
+HaveTaken account offered tries c lane old new =
+    HaveServed account offered tries c lane.records (joined lane) (lane.why ≡ Failed) old new
+
+-- the same of each lane
+abbrev pub AreTold : {C V : Type 0} → (account : C → Account) → (offered : C → List Offer → C → Type 0) → (items : V → List C) → (tries : ℕ)
+    → Config → (given : ℕ → List C) → (channels : List V) → List LaneParts → Type 0
+AreTold {C} {V} account offered items tries c given channels lanes =
+    (l : ℕ) (lane : LaneParts) (cs : V) → slice_get lanes l ≡ Some lane → slice_get channels l ≡ Some cs
+    → HaveTaken account offered tries c lane (given l) (items cs)

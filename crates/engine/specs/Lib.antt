@@ -5,3 +5,4 @@ pub mod Due
 pub mod Alike
 pub mod Feeds
 pub mod Run
+pub mod Unread

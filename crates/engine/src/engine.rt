@@ -1,18 +1,20 @@
 //! The engine.
 
-ghost use Rattle.std.specs.Prelude.{◌≡◌, ◌≢◌, ◌≤◌, ℕ, All, true, false, [], length, reverse, IfSome};
+ghost use Rattle.std.specs.Prelude.{◌≡◌, ◌≢◌, ◌≤◌, ℕ, All, true, false, [], length, reverse, slice_get, IfSome, Some};
 ghost use Rattle.due_model.specs.Accepted.{IsAccepted};
 ghost use Rattle.due_model.specs.Proper.{IsProper};
 ghost use Rattle.engine.specs.Due.{BeginsLog, HaveCauses, IsLog, LanesAreDue, LanesBeginDue};
 ghost use Rattle.engine.specs.Due.{LanesKeepDue};
 ghost use Rattle.engine.specs.Feed.{IsFrontRead, IsWhatWasRead, events_of};
-ghost use Rattle.engine.specs.Lanes.{count_of};
+ghost use Rattle.engine.specs.Lanes.{HaveTaken, boxes_of, count_of};
 ghost use Rattle.engine.specs.Lists.{IsFrontOf};
+ghost use Rattle.engine.specs.Unread.{IsUnread};
 
 use crate::intake::Intake;
 use crate::post::Post;
 use crate::run_end::RunEnd;
 use crate::running::{Ran, run_source};
+use channel::Channel;
 use closers::Closers;
 use delivery_worker::Gate;
 use due_model::config::Config;
@@ -21,6 +23,7 @@ use event_feed::FeedFault;
 use std::alloc::Global;
 use std::sync::Wait;
 use std::thread::Threads;
+use std::time::Clock;
 use steps::Settings;
 use text_lines::{Input, LineReader};
 
@@ -30,66 +33,84 @@ pub struct Engine;
 impl Engine {
     /// Reads a feed to its end, in the calling thread, decides its events in so many deciders, and hands what they make due to the
     /// channels of the lanes, each in a thread of its own. Of the posts of one lane the first serves until a letter has failed as often
-    /// as it may be tried; it is then dropped, and the next serves, beginning with that letter, which so may reach two channels' peers.
+    /// as it may be tried; it is then closed, and the next serves, beginning with that letter, which so may reach two channels' peers.
     /// A lane whose last channel has failed so is closed, and all that comes after is undelivered, in order; so is one that `closers`
-    /// were asked to close; the other lanes go on. A lane without a post has no channel, and all of it is undelivered. `gate` is
-    /// asked before each notice is tried, and by each decider before each event. Where a growth is refused in the intake or a
-    /// decider, no further line is read and no further event is decided; one that is refused in a lane's thread is told when all
-    /// have ended.
-    pub fn run<R: Input + Drop, G: Gate + Sync, T: Threads + Wait + Sync>(
+    /// were asked to close; the other lanes go on. A lane without a post has no channel, and all of it is undelivered. All channels come
+    /// back, lane by lane; one that didn't serve is as it was, and open.
+    ///
+    /// Beyond what the clauses say, and only tested: `gate` is asked before each notice is tried, and by each decider before each event;
+    /// and where a growth is refused in the intake or a decider, no further line is read and no further event is decided. One that is
+    /// refused in a lane's thread is told when all have ended.
+    pub fn run<C: Channel, R: Input + Drop, G: Gate + Sync, T: Threads + Wait + Clock + Sync>(
         rt: &T,
         alloc: Global,
         config: &Config,
         zone: &Zone,
         reader: R,
-        posts: Vec<Post>,
+        posts: Vec<Post<C>>,
         settings: Settings,
         closers: &Closers,
         gate: &G,
-    ) -> RunEnd
+    ) -> (RunEnd, Vec<Vec<C>>)
         requires accepted { IsAccepted config.now }
         // Of each lane there are at most eight posts.
         requires few { (l : ℕ) → count_of (λ post. post.lane.0) posts.items l ≤ 8 }
         // All that was due: of each object, each lane has taken or given up exactly that, in order,
-        ensures due { result.memory ≡ false → LanesAreDue config.now zone.now
-            (reverse result.events.items) result.lanes.items }
+        ensures due { result.0.memory ≡ false → LanesAreDue config.now zone.now
+            (reverse result.0.events.items) result.0.lanes.items }
         // and the log is all that was suppressed.
-        ensures log { result.memory ≡ false
-            → IsLog config.now zone.now (reverse result.events.items) result.log.items }
+        ensures log { result.0.memory ≡ false
+            → IsLog config.now zone.now (reverse result.0.events.items) result.0.log.items }
         // All that was read: the events and the refused lines are those of the bytes.
-        ensures read { IfSome (R.remaining reader) (λ bytes. result.memory ≡ false
+        ensures read { IfSome (R.remaining reader) (λ bytes. result.0.memory ≡ false
             → IsWhatWasRead R.can_fail config.now.objects bytes
-            result.events.items result.refused.items result.cut) }
-        ensures proper { All (IsProper config.now) result.events.items }
-        ensures named { All (λ r. r.fault ≢ FeedFault.NoMemory) result.refused.items }
+            result.0.events.items result.0.refused.items result.0.cut) }
+        ensures proper { All (IsProper config.now) result.0.events.items }
+        ensures named { All (λ r. r.fault ≢ FeedFault.NoMemory) result.0.refused.items }
         // Want of memory: what is there is a front of it,
         ensures front { IfSome (R.remaining reader) (λ bytes.
-            IsFrontOf result.events.items (events_of config.now.objects bytes)) }
-        ensures read_front { IfSome (R.remaining reader) (λ bytes. result.memory ≡ true
-            → IsFrontRead config.now.objects bytes result.events.items result.refused.items) }
-        ensures due_front { LanesBeginDue config.now zone.now (reverse result.events.items)
-            result.lanes.items }
-        ensures log_front { BeginsLog config.now zone.now (reverse result.events.items)
-            result.log.items }
+            IsFrontOf result.0.events.items (events_of config.now.objects bytes)) }
+        ensures read_front { IfSome (R.remaining reader) (λ bytes. result.0.memory ≡ true
+            → IsFrontRead config.now.objects bytes result.0.events.items result.0.refused.items) }
+        ensures due_front { LanesBeginDue config.now zone.now (reverse result.0.events.items)
+            result.0.lanes.items }
+        ensures log_front { BeginsLog config.now zone.now (reverse result.0.events.items)
+            result.0.log.items }
         // a lane whose own memory sufficed has all that was decided,
-        ensures others { LanesKeepDue config.now zone.now (reverse result.events.items)
-            result.lanes.items }
+        ensures others { LanesKeepDue config.now zone.now (reverse result.0.events.items)
+            result.0.lanes.items }
         // every lane is there, where an event was accepted,
-        ensures whole { result.events.items ≢ []
-            → length result.lanes.items ≡ length config.now.lanes }
+        ensures whole { result.0.events.items ≢ []
+            → length result.0.lanes.items ≡ length config.now.lanes }
+        // and wherever the run began; where it didn't, nothing was read, and memory ran out or a thread couldn't be started,
+        ensures all { result.0.started ≡ true
+            → length result.0.lanes.items ≡ length config.now.lanes }
+        ensures unstarted { result.0.started ≡ false
+            → IsUnread result.0.events.items result.0.refused.items result.0.log.items
+            result.0.lanes.items result.0.memory }
         // and the feed is not said to be cut.
-        ensures uncut { result.memory ≡ true → result.cut ≡ false }
+        ensures uncut { result.0.memory ≡ true → result.0.cut ≡ false }
         // A lane is closed for a cause.
         ensures causes { HaveCauses (count_of (λ post. post.lane.0) posts.items)
-            result.memory result.lanes.items }
+            result.0.memory result.0.lanes.items }
+        // Each lane's channels come back, in the order of its posts: each is the one that was given, it has taken what its record says
+        // and nothing else, each letter was offered to it until it was taken, and it was replaced only since the next letter had
+        // failed as often as it may be tried.
+        ensures channels { (l : ℕ) (lane cs : _) → slice_get result.0.lanes.items l ≡ Some lane
+            → slice_get result.1.items l ≡ Some cs
+            → HaveTaken C.account C.offered settings.tries config.now lane
+            (boxes_of (λ post. post.lane.0) (λ post. post.channel) l posts.items) cs.items }
+        ensures places { length result.1.items ≡ length result.0.lanes.items }
     {
         let Ok(lines) = LineReader::new(alloc, reader) else {
-            return RunEnd::unread(alloc);
+            return (RunEnd::unread(alloc), Vec::new(alloc));
         };
         let Ran {
             lanes,
+            channels,
             log,
             memory,
+            started,
             source,
         } = run_source(
             rt,
@@ -103,13 +124,15 @@ impl Engine {
             gate,
         );
         let (events, refused, cut) = source.into_parts(memory);
-        RunEnd {
+        let end = RunEnd {
             events,
             refused,
             log,
             lanes,
             memory,
             cut,
-        }
+            started,
+        };
+        (end, channels)
     }
 }

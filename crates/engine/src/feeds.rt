@@ -1,7 +1,7 @@
 //! Runs over feeds from callers' own threads.
 
 ghost use Rattle.std.specs.Prelude.{◌≡◌, ◌≢◌, ◌≤◌, ℕ, All, [], true, false, length, reverse, None, IfOk};
-ghost use Rattle.std.specs.Prelude.{IsSome};
+ghost use Rattle.std.specs.Prelude.{IsSome, slice_get, Some};
 ghost use Rattle.std.specs.List.{AllZip};
 ghost use Rattle.due_model.specs.declared.config.Config.{Config};
 ghost use Rattle.due_model.specs.Accepted.{IsAccepted};
@@ -11,13 +11,15 @@ ghost use Rattle.caller_feeds.specs.Taken.{AreOver, IsTaken};
 ghost use Rattle.engine.specs.Due.{BeginsLog, HaveCauses, IsLog, LanesAreDue, LanesBeginDue};
 ghost use Rattle.engine.specs.Due.{LanesKeepDue};
 ghost use Rattle.engine.specs.Feeds.{AreCut, AreTaken, FeedsGo};
-ghost use Rattle.engine.specs.Lanes.{count_of};
+ghost use Rattle.engine.specs.Lanes.{HaveTaken, boxes_of, count_of};
+ghost use Rattle.engine.specs.Unread.{IsUnread};
 
 use crate::engine::Engine;
 use crate::post::Post;
 use crate::run_end::RunEnd;
 use crate::running::{Ran, run_source};
 use caller_feeds::{FeedEnd, FeedHandle, Intake, IntakeStop};
+use channel::Channel;
 use closers::Closers;
 use delivery_worker::Gate;
 use due_model::config::Config;
@@ -28,6 +30,7 @@ use engine_threads::{Given, Source};
 use std::alloc::{AllocError, Global};
 use std::sync::Wait;
 use std::thread::Threads;
+use std::time::Clock;
 use steps::Settings;
 
 /// What was taken of callers' feeds.
@@ -119,17 +122,17 @@ impl Engine {
     /// sent its end. It is cut where as many events were taken as can be numbered and one more waits in its feed, and where all that
     /// was posted was taken and each feed whose end is missing has lost its handle: so a handle that is dropped doesn't hold the run
     /// up, and `FeedEnd::is_over` tells which it was. The ends come back in their order, where memory ran out too.
-    pub fn run_feeds<G: Gate + Sync, T: Threads + Wait + Sync>(
+    pub fn run_feeds<C: Channel, G: Gate + Sync, T: Threads + Wait + Clock + Sync>(
         rt: &T,
         alloc: Global,
         config: &Config,
         zone: &Zone,
         ends: Vec<FeedEnd>,
-        posts: Vec<Post>,
+        posts: Vec<Post<C>>,
         settings: Settings,
         closers: &Closers,
         gate: &G,
-    ) -> (RunEnd, Vec<FeedEnd>)
+    ) -> (RunEnd, Vec<FeedEnd>, Vec<Vec<C>>)
         requires accepted { IsAccepted config.now }
         // Of each lane there are at most eight posts.
         requires few { (l : ℕ) → count_of (λ post. post.lane.0) posts.items l ≤ 8 }
@@ -161,14 +164,30 @@ impl Engine {
         // and every lane is there, where an event was accepted.
         ensures whole { result.0.events.items ≢ []
             → length result.0.lanes.items ≡ length config.now.lanes }
+        // Wherever the run began every lane is there; where it didn't, nothing was taken of the feeds.
+        ensures all { result.0.started ≡ true
+            → length result.0.lanes.items ≡ length config.now.lanes }
+        ensures unstarted { result.0.started ≡ false
+            → IsUnread result.0.events.items result.0.refused.items result.0.log.items
+            result.0.lanes.items result.0.memory }
+        ensures untaken { result.0.started ≡ false → result.1.items ≡ ends.items }
         // A lane is closed for a cause.
         ensures causes { HaveCauses (count_of (λ post. post.lane.0) posts.items)
             result.0.memory result.0.lanes.items }
+        // Each lane's channels are given back, in the order of its posts: each is the one that was given, it has taken what its record
+        // says and nothing else, and it was replaced only since a letter had failed as often as it may be tried.
+        ensures channels { (l : ℕ) (lane cs : _) → slice_get result.0.lanes.items l ≡ Some lane
+            → slice_get result.2.items l ≡ Some cs
+            → HaveTaken C.account C.offered settings.tries config.now lane
+            (boxes_of (λ post. post.lane.0) (λ post. post.channel) l posts.items) cs.items }
+        ensures places { length result.2.items ≡ length result.0.lanes.items }
     {
         let Ran {
             lanes,
+            channels,
             log,
             memory,
+            started,
             source,
         } = run_source(
             rt,
@@ -189,7 +208,8 @@ impl Engine {
             lanes,
             memory,
             cut,
+            started,
         };
-        (end, ends)
+        (end, ends, channels)
     }
 }

@@ -1,7 +1,7 @@
 //! The reading of a feed: the events that are accepted, and the lines that are refused.
 
 ghost use Rattle.std.specs.Prelude.{◌≡◌, ◌+◌, ◌<◌, ◌≤◌, ◌++◌, [], ◌∷◌, List, true, false, None};
-ghost use Rattle.std.specs.Prelude.{IfOk, IsSome, OnErr, OnOk, Some};
+ghost use Rattle.std.specs.Prelude.{IfOk, IsNone, IsSome, OnErr, OnOk, Some};
 ghost use Rattle.std.specs.Option.{option_to_list};
 ghost use Rattle.due_model.specs.declared.config.Config.{Config};
 ghost use Rattle.due_model.specs.declared.event.Event.{Event};
@@ -179,6 +179,7 @@ impl<R: Input + Drop> Intake<R> {
     /// to be cut, and the line at which it was is left out.
     pub(crate) fn into_parts(self, memory: bool) -> (Vec<Event>, Vec<RefusedLine>, bool)
         ensures events { result.0.items ≡ self.read.events }
+        ensures refused { IsNone self.over → result.1.items ≡ self.read.refused }
         ensures left { (can_fail : _) (c : Config) (start : Feed) (said : List Answer)
             → HasTaken can_fail c start said self.over self.read
             → (memory ≡ false → IsSome self.over)

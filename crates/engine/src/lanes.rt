@@ -12,7 +12,7 @@ use due_model::config::LaneId;
 use std::alloc::{AllocError, Global};
 
 /// No channel, for each of so many lanes. A refused growth is the only error.
-fn no_boxes(alloc: Global, count: u8) -> Result<Vec<Vec<Box<dyn Channel>>>, AllocError>
+fn no_boxes<C: Channel>(alloc: Global, count: u8) -> Result<Vec<Vec<C>>, AllocError>
     ensures count { IfOk result (λ boxes. length boxes.items ≡ count) }
     ensures none { IfOk result (λ boxes. (l : ℕ) (of_lane : _) → slice_get boxes.items l ≡ Some of_lane
         → of_lane.items ≡ []) }
@@ -26,7 +26,7 @@ fn no_boxes(alloc: Global, count: u8) -> Result<Vec<Vec<Box<dyn Channel>>>, Allo
 
 /// Puts the channel of a post behind those of its lane, and touches no other lane. One of a lane that isn't there is dropped. A
 /// refused growth is the only error.
-fn place(boxes: &mut Vec<Vec<Box<dyn Channel>>>, post: Post) -> Result<(), AllocError>
+fn place<C: Channel>(boxes: &mut Vec<Vec<C>>, post: Post<C>) -> Result<(), AllocError>
     ensures count { OnOk result (length boxes.new.items ≡ length boxes.old.items) }
     ensures placed { OnOk result ((l : ℕ) (a b : _) → slice_get boxes.old.items l ≡ Some a
         → slice_get boxes.new.items l ≡ Some b
@@ -41,11 +41,11 @@ fn place(boxes: &mut Vec<Vec<Box<dyn Channel>>>, post: Post) -> Result<(), Alloc
 }
 
 /// So many lanes' channels, each lane's in the order of its posts. A refused growth is the only error.
-pub(crate) fn channels_of(
+pub(crate) fn channels_of<C: Channel>(
     alloc: Global,
     count: u8,
-    posts: Vec<Post>,
-) -> Result<Vec<Vec<Box<dyn Channel>>>, AllocError>
+    posts: Vec<Post<C>>,
+) -> Result<Vec<Vec<C>>, AllocError>
     ensures count { IfOk result (λ boxes. length boxes.items ≡ count) }
     ensures each { IfOk result (λ boxes. (l : ℕ) (of_lane : _) → slice_get boxes.items l ≡ Some of_lane
         → of_lane.items ≡ boxes_of (λ p. p.lane.0) (λ p. p.channel) l posts.items) }
@@ -58,9 +58,9 @@ pub(crate) fn channels_of(
 }
 
 /// How many channels each lane has. A refused growth is the only error.
-pub(crate) fn counts_of(
+pub(crate) fn counts_of<C: Channel>(
     alloc: Global,
-    boxes: &[Vec<Box<dyn Channel>>],
+    boxes: &[Vec<C>],
 ) -> Result<Vec<usize>, AllocError>
     ensures { IfOk result (λ counts. counts.items ≡ map (λ of_lane. length of_lane.items) boxes.now) }
 {

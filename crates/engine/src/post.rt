@@ -12,13 +12,13 @@ const MOST: usize = 8;
 /// A channel that serves a lane. The caller makes it, and it has taken nothing yet. Of several posts of one lane the first serves,
 /// and each other where the one before has failed.
 #[derive(Drop)]
-pub struct Post {
+pub struct Post<C: Channel> {
     pub lane: LaneId,
-    pub channel: Box<dyn Channel>,
+    pub channel: C,
 }
 
 /// Whether these are eight posts at most. Then no lane has more than eight, as a run asks of its posts.
-pub fn are_few(posts: &[Post]) -> bool
+pub fn are_few<C: Channel>(posts: &[Post<C>]) -> bool
     ensures exact { IsTrue result ↔ (length posts.now ≤ 8) }
     ensures few { result ≡ true → (l : ℕ) → count_of (λ post. post.lane.0) posts.now l ≤ 8 }
 {

@@ -30,6 +30,8 @@ pub struct RunEnd {
     pub memory: bool,
     /// Whether the feed ended before its input: by Cut, Read or Ended. False where memory ran out.
     pub cut: bool,
+    /// Whether the run began. Where it didn't, since memory ran out or a thread couldn't be started, nothing of the feed was read.
+    pub started: bool,
 }
 
 impl RunEnd {
@@ -41,6 +43,7 @@ impl RunEnd {
         ensures lanes { result.lanes.items ≡ [] }
         ensures memory { result.memory ≡ true }
         ensures cut { result.cut ≡ false }
+        ensures started { result.started ≡ false }
     {
         RunEnd {
             events: Vec::new(alloc),
@@ -49,6 +52,7 @@ impl RunEnd {
             lanes: Vec::new(alloc),
             memory: true,
             cut: false,
+            started: false,
         }
     }
 }

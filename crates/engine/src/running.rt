@@ -6,7 +6,7 @@ ghost use Rattle.due_model.specs.declared.config.Config.{Config};
 ghost use Rattle.due_model.specs.declared.event.Event.{Event};
 ghost use Rattle.due_model.specs.declared.zone.Zone.{Zone};
 ghost use Rattle.due_model.specs.Accepted.{IsAccepted};
-ghost use Rattle.engine.specs.Lanes.{boxes_of, count_of};
+ghost use Rattle.engine.specs.Lanes.{HaveTaken, IsEndOf, LaneParts, boxes_of, count_of};
 ghost use Rattle.engine.specs.Run.{AreThreadsEnd, IsRunOf};
 
 use crate::lanes::{channels_of, counts_of, ends_of};
@@ -22,39 +22,54 @@ use engine_threads::{Source, ThreadsEnd, run_threads};
 use std::alloc::{AllocError, Global};
 use std::sync::Wait;
 use std::thread::Threads;
+use std::time::Clock;
 use steps::Settings;
 
 /// What a run leaves, and the source that its events came from.
 #[derive(Drop)]
-pub(crate) struct Ran<S: Source> {
+pub(crate) struct Ran<C: Channel, S: Source> {
     /// Each lane in order; none where memory ran out, or a thread couldn't be started, before the first event was taken.
     pub lanes: Vec<LaneEnd>,
+    /// The channels of each lane that is there, in the order of its posts.
+    pub channels: Vec<Vec<C>>,
     /// What was suppressed, by event, then object, then contact.
     pub log: Vec<Suppression>,
     /// Whether memory ran out in any thread, or one couldn't be started.
     pub memory: bool,
+    /// Whether the run began. Where it didn't, nothing was asked of the source.
+    pub started: bool,
     pub source: S,
 }
 
 /// Takes the events of a source to their end, decides them, and hands what they make due to the channels of the lanes.
-pub(crate) fn run_source<S: Source, G: Gate + Sync, T: Threads + Wait + Sync>(
+pub(crate) fn run_source<C: Channel, S: Source, G: Gate + Sync, T: Threads + Wait + Clock + Sync>(
     rt: &T,
     alloc: Global,
     config: &Config,
     zone: &Zone,
     source: S,
-    posts: Vec<Post>,
+    posts: Vec<Post<C>>,
     settings: Settings,
     closers: &Closers,
     gate: &G,
-) -> Ran<S>
+) -> Ran<C, S>
     requires accepted { IsAccepted config.now }
     requires source { S.given_so_far source ≡ [] }
     requires few { (l : ℕ) → count_of (λ post. post.lane.0) posts.items l ≤ 8 }
     ensures run { IsRunOf config.now zone.now (count_of (λ post. post.lane.0) posts.items)
         (S.given_so_far result.source) result.memory result.lanes.items result.log.items }
+    ensures channels { (l : ℕ) (lane cs : _) → slice_get result.lanes.items l ≡ Some lane
+        → slice_get result.channels.items l ≡ Some cs
+        → HaveTaken C.account C.offered settings.tries config.now lane
+        (boxes_of (λ p. p.lane.0) (λ p. p.channel) l posts.items) cs.items }
+    ensures places { length result.channels.items ≡ length result.lanes.items }
     ensures source { S.goes config.now source result.source }
     ensures over { result.memory ≡ false → S.ended result.source }
+    // Where the run began, every lane is there; where it didn't, the source is as it was.
+    ensures all { result.started ≡ true → length result.lanes.items ≡ length config.now.lanes }
+    ensures unstarted { result.started ≡ false
+        → (result.source ≡ source) × (result.memory ≡ true) × (result.lanes.items ≡ [])
+        × (result.log.items ≡ []) }
 {
     let Ok((boxes, counts, room)) = begin(alloc, config, posts) else {
         return nothing(alloc, source);
@@ -67,11 +82,11 @@ pub(crate) fn run_source<S: Source, G: Gate + Sync, T: Threads + Wait + Sync>(
 
 /// What a run begins with: the channels of each lane, how many these are, and room for what the lanes leave. A refused growth is the
 /// only error.
-fn begin(
+fn begin<C: Channel>(
     alloc: Global,
     config: &Config,
-    posts: Vec<Post>,
-) -> Result<(Vec<Vec<Box<dyn Channel>>>, Vec<usize>, Vec<LaneEnd>), AllocError>
+    posts: Vec<Post<C>>,
+) -> Result<(Vec<Vec<C>>, Vec<usize>, Vec<LaneEnd>), AllocError>
     requires { IsAccepted config.now }
     ensures lanes { IfOk result (λ r. length r.0.items ≡ length config.now.lanes) }
     ensures boxes { IfOk result (λ r. (l : ℕ) (of_lane : _) → slice_get r.0.items l ≡ Some of_lane
@@ -90,22 +105,32 @@ fn begin(
 }
 
 /// A run in which memory ran out before it began.
-fn nothing<S: Source>(alloc: Global, source: S) -> Ran<S>
+fn nothing<C: Channel, S: Source>(alloc: Global, source: S) -> Ran<C, S>
     ensures run { (c : Config) (zone : Zone) (given : ℕ → ℕ) (events : List Event) → events ≡ []
         → IsRunOf c zone given events result.memory result.lanes.items result.log.items }
     ensures source { result.source ≡ source }
     ensures memory { result.memory ≡ true }
+    ensures lanes { result.lanes.items ≡ [] }
+    ensures channels { result.channels.items ≡ [] }
+    ensures log { result.log.items ≡ [] }
+    ensures started { result.started ≡ false }
 {
     Ran {
         lanes: Vec::new(alloc),
+        channels: Vec::new(alloc),
         log: Vec::new(alloc),
         memory: true,
+        started: false,
         source,
     }
 }
 
 /// What the threads left, as what a run leaves.
-fn end_of<S: Source>(left: ThreadsEnd<S>, counts: &[usize], room: Vec<LaneEnd>) -> Ran<S>
+fn end_of<C: Channel, S: Source>(
+    left: ThreadsEnd<C, S>,
+    counts: &[usize],
+    room: Vec<LaneEnd>,
+) -> Ran<C, S>
     requires none { room.items ≡ [] }
     requires room { length left.lanes.items ≤ vec_capacity room }
     requires counts { length left.lanes.items ≤ length counts.now }
@@ -116,17 +141,28 @@ fn end_of<S: Source>(left: ThreadsEnd<S>, counts: &[usize], room: Vec<LaneEnd>) 
         → IsRunOf c zone given events result.memory result.lanes.items result.log.items }
     ensures source { result.source ≡ left.source }
     ensures memory { result.memory ≡ left.memory }
+    ensures count { length result.lanes.items ≡ length left.lanes.items }
+    ensures each { (l n : ℕ) (s : _) (lane : LaneParts) → slice_get counts.now l ≡ Some n
+        → slice_get left.lanes.items l ≡ Some s → slice_get result.lanes.items l ≡ Some lane
+        → IsEndOf l n s lane }
+    ensures channels { result.channels.items ≡ left.boxes.items }
+    ensures log { result.log.items ≡ left.log.items }
+    ensures started { result.started ≡ left.started }
 {
     let ThreadsEnd {
         lanes,
+        boxes,
         log,
         memory,
+        started,
         source,
     } = left;
     Ran {
         lanes: ends_of(lanes, counts, room),
+        channels: boxes,
         log,
         memory,
+        started,
         source,
     }
 }

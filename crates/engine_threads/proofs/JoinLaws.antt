@@ -19,6 +19,12 @@ use Rattle.channel_queue.specs.declared.Seen.TheVariants.{Decider, Worker}
 use Rattle.channel_queue.specs.Passes.{IsDecider, IsWorker}
 use Rattle.channel_queue.specs.Rule.{IsPickedOf, decider_at, decider_seen, joined_of, joined_seen, picked_of, picked_seen, put_of, put_seen}
 use Rattle.delivery_worker.specs.declared.worker.Served.{Served}
+use Rattle.channel.specs.Channels.{Account, Offer}
+use Rattle.delivery_worker.specs.Channels.{HaveServed, records_in}
+use Rattle.delivery_worker.specs.Picked.{joined}
+use Rattle.undelivered.specs.Record.{Record}
+use Rattle.undelivered.specs.declared.Why.TheVariants as why
+use Rattle.engine_threads.specs.Lanes.{HaveTaken}
 use Rattle.engine_threads.specs.Joins.{AreKept, ArePickedBelow, AreWorkers, IsKept, IsMet, IsPicked}
 use Rattle.deciding.specs.Puts.{as_items}
 use Rattle.engine_threads.specs.ListLaws.{set_other, set_same}
@@ -116,3 +122,12 @@ pub kept_self : (a : List Served) → AreKept a a
 kept_self a l s t at_s at_t =
     let same : s ≡ t = same_Some s t (sym at_s ∙ at_t) in
     subst (λ (u : Served). IsKept s u) same (record { held = refl; why = refl; picked = refl })
+
+-- the boxes of a lane are what they were where only its pass was joined
+pub boxes_still : {C : Type 0} (account : C → Account) (offered : C → List Offer → C → Type 0) (tries more : ℕ) (c d : Config) (s t : Served) (old given new : List C) → tries ≡ more → c ≡ d → old ≡ given → IsKept s t
+    → HaveTaken account offered tries c s old new → HaveTaken account offered more d t given new
+boxes_still {C} account offered tries more c d s t old given new same_tries same_config same_boxes kept h =
+    subst (λ (r : Record). HaveServed account offered more d (records_in r) (joined r) (r.why ≡ Some why.Failed) given new) (sym kept.held)
+    (subst (λ (l : List C). HaveTaken account offered more d s l new) same_boxes
+    (subst (λ (k : Config). HaveTaken account offered more k s old new) same_config
+    (subst (λ (n : ℕ). HaveTaken account offered n c s old new) same_tries h)))

@@ -1,12 +1,15 @@
 -- What a worker's thread gives back.
-use Rattle.std.specs.Prelude.{◌≡◌, ◌≢◌, ◌↔◌, ℕ, ◌+◌, ◌<◌, [], length, Some, IsSome}
+use Rattle.std.specs.Prelude.{◌≡◌, ◌≢◌, ◌↔◌, ℕ, ◌+◌, ◌<◌, List, [], length, Some, IsSome}
 use mathlib.Core.List.{IsPrefix}
 use Rattle.due_model.specs.Items.{notices}
 use Rattle.channel_queue.specs.declared.LaneQueue.{LaneQueue}
 use Rattle.channel_queue.specs.Passes.{IsWorker}
 use Rattle.channel_queue.specs.Rule.{picked_of}
 use Rattle.delivery_worker.specs.declared.worker.Served.{Served}
+use Rattle.channel.specs.Channels.{Account, Offer}
+use Rattle.delivery_worker.specs.Channels.{HaveServed, records_in}
 use Rattle.delivery_worker.specs.Picked.{AllEnded, joined}
+use Rattle.due_model.specs.declared.config.Config.{Config}
 use Rattle.undelivered.specs.Record.{Record}
 use Rattle.undelivered.specs.declared.Why.{Why}
 use Rattle.undelivered.specs.declared.Why.TheVariants as why
@@ -32,3 +35,9 @@ pub record IsServed (q : LaneQueue) (boxes : ℕ) (s : Served) : Type 0 where
   pub order : s.why ≢ why.NoMemory → joined s.held ≡ notices (picked_of s.pass)
   pub front : IsPrefix (joined s.held) (notices (picked_of s.pass))
   pub cause : HasCause boxes s.held s.why
+
+-- The channels of a lane that was served, before and after: each has taken what its record says, and failed where it was replaced.
+abbrev pub HaveTaken : {C : Type 0} → (account : C → Account) → (offered : C → List Offer → C → Type 0) → (tries : ℕ) → Config → Served
+    → (old new : List C) → Type 0
+HaveTaken account offered tries c s old new =
+    HaveServed account offered tries c (records_in s.held) (joined s.held) (s.held.why ≡ Some why.Failed) old new

@@ -2,6 +2,7 @@
 -- before it.
 use Rattle.std.proofs.Common.{◌≡◌, ℕ, zero, suc, List, [], ◌∷◌, ◌++◌, length, slice_get, set, Some, refl, sym}
 use Rattle.std.proofs.Common.{ap, ◌∙◌, subst, ⊎_elim, ◌⊎◌, inl, inr, append_assoc, append-nil, length-append, ◌+◌, ◌<◌, arith}
+use Rattle.std.proofs.lemmas.Bool.{cases_eq}
 use Rattle.std.proofs.lemmas.List.{get_or-set_same, length-set}
 use Rattle.std.proofs.lemmas.Option.{none-some, same_Some, slice_get-get_or}
 
@@ -47,6 +48,33 @@ pairs_grow {X} {Y} F xs ys x y same each last i a b at_a at_b = both (place xs x
     both (inr p) (inr q) =
         subst (λ (k : ℕ). F k a b) (sym p.0)
         (subst (λ (u : X). F (length xs) u b) p.1 (subst (λ (v : Y). F (length xs) x v) q.1 last))
+
+-- what stands before the end of a list that has grown, and at it
+stays : {X : Type 0} (l : List X) (a b : X) (j : ℕ) → ¬ (j ≡ length l) → slice_get (l ++ a ∷ []) j ≡ Some b → slice_get l j ≡ Some b
+stays {X} l a b j apart e = ⊎_elim (λ (was : slice_get l j ≡ Some b). was) (λ (is : (j ≡ length l) × (a ≡ b)). absurd (apart is.0)) (place l a b j e)
+
+is_last : {X : Type 0} (l : List X) (a b : X) (j : ℕ) → j ≡ length l → slice_get (l ++ a ∷ []) j ≡ Some b → a ≡ b
+is_last {X} l a b j at e = ⊎_elim
+    (λ (was : slice_get l j ≡ Some b). absurd (no_place l b (subst (λ (k : ℕ). slice_get l k ≡ Some b) at was)))
+    (λ (is : (j ≡ length l) × (a ≡ b)). is.1)
+    (place l a b j e)
+
+-- a relation of the places of three lists of one length stays where all grow
+pub triples_grow : {X Y Z : Type 0} (F : ℕ → X → Y → Z → Type 0) (xs : List X) (ys : List Y) (zs : List Z) (x : X) (y : Y) (z : Z)
+    → length ys ≡ length xs → length zs ≡ length xs
+    → ((i : ℕ) (a : X) (b : Y) (d : Z) → slice_get xs i ≡ Some a → slice_get ys i ≡ Some b → slice_get zs i ≡ Some d → F i a b d)
+    → F (length xs) x y z
+    → (i : ℕ) (a : X) (b : Y) (d : Z) → slice_get (xs ++ x ∷ []) i ≡ Some a → slice_get (ys ++ y ∷ []) i ≡ Some b
+    → slice_get (zs ++ z ∷ []) i ≡ Some d → F i a b d
+triples_grow {X} {Y} {Z} F xs ys zs x y z same_y same_z each last i a b d at_a at_b at_d = ⊎_elim
+    (λ (at : i ≡ length xs).
+    subst (λ (k : ℕ). F k a b d) (sym at)
+    (subst (λ (u : X). F (length xs) u b d) (is_last xs x a i at at_a)
+    (subst (λ (v : Y). F (length xs) x v d) (is_last ys y b i (at ∙ sym same_y) at_b)
+    (subst (λ (w : Z). F (length xs) x y w) (is_last zs z d i (at ∙ sym same_z) at_d) last))))
+    (λ (apart : ¬ (i ≡ length xs)).
+    each i a b d (stays xs x a i apart at_a) (stays ys y b i (λ e. apart (e ∙ same_y)) at_b) (stays zs z d i (λ e. apart (e ∙ same_z)) at_d))
+    (cases_eq i (length xs))
 
 -- two lists of one length that grow
 pub both_longer : {X Y : Type 0} (xs : List X) (ys more : List Y) (x : X) (y : Y) → more ≡ ys ++ y ∷ []

@@ -5,13 +5,14 @@ ghost use Rattle.std.specs.Prelude.{false, true, slice_get, vec_capacity, Some};
 ghost use Rattle.due_model.specs.Accepted.{IsAccepted};
 ghost use Rattle.rtrb.specs.Ring.{IsPair};
 ghost use Rattle.log_merge.specs.Order.{IsInOrder};
+ghost use Rattle.engine_threads.specs.Lanes.{HaveTaken};
 ghost use Rattle.engine_threads.specs.Logs.{AreInOrder, HasEach};
 ghost use Rattle.engine_threads.specs.Run.{AreLaneEnds, IsLogOf};
 ghost use Rattle.engine_threads.specs.Sent.{HaveSent};
 ghost use Rattle.engine_threads.specs.Works.{AreDeciderWorks, AreNewWorkers, HaveDeciders};
 
 use crate::feeding::feed_from;
-use crate::joining::join_all;
+use crate::joining::{join_all, join_lanes};
 use crate::logs::merge_logs;
 use crate::meeting::meet_all;
 use crate::source::Source;
@@ -19,6 +20,7 @@ use crate::starting::{DeciderWork, start_deciders, start_lanes};
 use crate::word::StartWord;
 use crate::working::LaneWork;
 use crate::zone::GivesZone;
+use channel::Channel;
 use channel_queue::LaneQueue;
 use closers::Closers;
 use deciding::laws::made_of_share;
@@ -31,12 +33,15 @@ use std::alloc::Global;
 use std::sync::Wait;
 use std::sync::atomic::AtomicBool;
 use std::thread::{Scope, Threads};
+use std::time::Clock;
 
 /// What the threads of a run gave back.
 #[derive(Drop)]
-pub(crate) struct Driven<S: Source> {
+pub(crate) struct Driven<C: Channel, S: Source> {
     /// Each lane, in order.
     pub served: Vec<Served>,
+    /// The boxes of each, in its place.
+    pub boxes: Vec<Vec<C>>,
     /// What was suppressed, by event, then object, then contact.
     pub log: Vec<Suppression>,
     /// Whether memory ran out in a decider.
@@ -47,13 +52,19 @@ pub(crate) struct Driven<S: Source> {
 }
 
 /// Room for what so many deciders and so many lanes give back, made before they begin. `None`: a growth was refused.
-fn rooms(alloc: Global, deciders: usize, lanes: usize) -> Option<(Vec<DeciderEnd>, Vec<Served>)>
+fn rooms<C: Channel>(
+    alloc: Global,
+    deciders: usize,
+    lanes: usize,
+) -> Option<(Vec<DeciderEnd>, Vec<Served>, Vec<Vec<C>>)>
     ensures deciders { IfSome result (λ r. (r.0.items ≡ []) × (deciders ≤ vec_capacity r.0)) }
     ensures lanes { IfSome result (λ r. (r.1.items ≡ []) × (lanes ≤ vec_capacity r.1)) }
+    ensures boxes { IfSome result (λ r. (r.2.items ≡ []) × (lanes ≤ vec_capacity r.2)) }
 {
     let ended = Vec::with_capacity(alloc, deciders).ok()?;
     let left = Vec::with_capacity(alloc, lanes).ok()?;
-    Some((ended, left))
+    let places = Vec::with_capacity(alloc, lanes).ok()?;
+    Some((ended, left, places))
 }
 
 /// Starts all threads, sends them the events, and puts together what they give back. Where a thread can't be started, or
@@ -61,10 +72,11 @@ fn rooms(alloc: Global, deciders: usize, lanes: usize) -> Option<(Vec<DeciderEnd
 pub(crate) fn drive<
     's,
     E,
+    C: Channel + 's,
     S: Source,
     Z: GivesZone + Sync,
     G: Gate + Sync,
-    R: Threads + Wait + Sync,
+    R: Threads + Wait + Clock + Sync,
 >(
     scope: &'s Scope<'s, E>,
     rt: &'s R,
@@ -73,7 +85,7 @@ pub(crate) fn drive<
     zone: &'s Z,
     source: S,
     halt: &'s AtomicBool,
-    works: Vec<LaneWork>,
+    works: Vec<LaneWork<C>>,
     deciders: Vec<DeciderWork>,
     senders: Vec<Producer<Signal>>,
     tries: u8,
@@ -81,7 +93,7 @@ pub(crate) fn drive<
     closers: &'s Closers,
     gate: &'s G,
     word: &'s StartWord,
-) -> Result<Driven<S>, S>
+) -> Result<Driven<C, S>, S>
     requires accepted { IsAccepted config.now }
     requires tries { 0 < tries }
     requires source { S.given_so_far source ≡ [] }
@@ -103,6 +115,10 @@ pub(crate) fn drive<
     ensures log { IfOk result (λ r.
         IsLogOf config.now (Z.zone zone.now) (reverse (S.given_so_far r.source)) (r.refused || r.memory)
         r.log.items) }
+    ensures boxes { IfOk result (λ r. (l : ℕ) (w s b : _) → slice_get works.items l ≡ Some w
+        → slice_get r.served.items l ≡ Some s → slice_get r.boxes.items l ≡ Some b
+        → HaveTaken C.account C.offered tries config.now s w.boxes.items b.items) }
+    ensures places { IfOk result (λ r. length r.boxes.items ≡ length r.served.items) }
     ensures source { IfOk result (λ r. S.goes config.now source r.source) }
     ensures over { IfOk result (λ r. r.memory ≡ false → S.ended r.source) }
     ensures none { IfErr result (λ s. s ≡ source) }
@@ -119,7 +135,7 @@ pub(crate) fn drive<
         word.leave();
         return Err(source);
     };
-    let Some((ended, left)) = rooms(alloc, ends.len(), lanes.len()) else {
+    let Some((ended, left, places)) = rooms(alloc, ends.len(), lanes.len()) else {
         word.leave();
         return Err(source);
     };
@@ -128,13 +144,14 @@ pub(crate) fn drive<
     let mut source = source;
     let stopped = feed_from(rt, config, &mut senders, &mut source, halt);
     let ends = join_all(rt, ends, ended);
-    let mut served = join_all(rt, lanes, left);
+    let (mut served, boxes) = join_lanes(rt, lanes, left, places);
     made_of_share();
     let (log, unmerged) = merged_log(alloc, &ends);
     let refused = meet_all(queues, &mut served, ends, &mut senders);
     let memory = stopped | unmerged;
     Ok(Driven {
         served,
+        boxes,
         log,
         refused,
         memory,

@@ -8,30 +8,31 @@ ghost use Rattle.engine_threads.specs.Sent.{AreSame, HaveSent};
 ghost use Rattle.deciding.specs.declared.Signal.TheVariants.{Over};
 
 use crate::source::{Given, Source};
-use crossbeam_utils::Backoff;
 use deciding::Signal;
 use due_model::config::Config;
+use idle_pause::Pause;
 use rtrb::Producer;
 use std::sync::Wait;
 use std::sync::atomic::{AtomicBool, Ordering};
+use std::time::Clock;
 
 /// Sends a signal to one decider.
-fn send<R: Wait>(rt: &R, ring: &mut Producer<Signal>, signal: Signal)
+fn send<R: Wait + Clock>(rt: &R, ring: &mut Producer<Signal>, signal: Signal)
     ensures ring { SameProducer ring.old ring.new }
     ensures sent { sent ring.new ≡ sent ring.old ++ signal ∷ [] }
 {
-    let backoff = Backoff::new();
+    let mut pause = Pause::new();
     for _ in rt.forever() {
         if ring.push(signal).is_ok() {
             return;
         }
-        backoff.snooze();
+        pause.rest(rt);
     }
     unreachable!()
 }
 
 /// Sends a signal to all deciders.
-fn send_all<R: Wait>(rt: &R, rings: &mut Vec<Producer<Signal>>, signal: Signal)
+fn send_all<R: Wait + Clock>(rt: &R, rings: &mut Vec<Producer<Signal>>, signal: Signal)
     ensures same { AreSame rings.old.items rings.new.items }
     ensures sent { (signals : List Signal) → HaveSent signals rings.old.items
         → HaveSent (signals ++ signal ∷ []) rings.new.items }
@@ -44,7 +45,7 @@ fn send_all<R: Wait>(rt: &R, rings: &mut Vec<Producer<Signal>>, signal: Signal)
 
 /// Sends the events of a source to all deciders, until it has no more, memory runs out, or a thread asks to halt; and then that there
 /// are no more. True: memory ran out.
-pub(crate) fn feed_from<S: Source, R: Wait>(
+pub(crate) fn feed_from<S: Source, R: Wait + Clock>(
     rt: &R,
     config: &Config,
     rings: &mut Vec<Producer<Signal>>,
@@ -64,7 +65,7 @@ pub(crate) fn feed_from<S: Source, R: Wait>(
 }
 
 /// Sends the events of a source to all deciders. True: memory ran out.
-fn send_each<S: Source, R: Wait>(
+fn send_each<S: Source, R: Wait + Clock>(
     rt: &R,
     config: &Config,
     rings: &mut Vec<Producer<Signal>>,
@@ -78,7 +79,7 @@ fn send_each<S: Source, R: Wait>(
     ensures source { S.goes config.now source.old source.new }
     ensures over { result ≡ false → S.ended source.new }
 {
-    let backoff = Backoff::new();
+    let mut pause = Pause::new();
     for _ in rt.forever() {
         if halt.load(Ordering::SeqCst) {
             return true;
@@ -86,9 +87,9 @@ fn send_each<S: Source, R: Wait>(
         match source.next(config) {
             Err(_) => return true,
             Ok(Given::Over) => return false,
-            Ok(Given::Nothing) => backoff.snooze(),
+            Ok(Given::Nothing) => pause.rest(rt),
             Ok(Given::Event(event)) => {
-                backoff.reset();
+                pause.reset();
                 send_all(rt, rings, Signal::Decides(event));
             }
         }

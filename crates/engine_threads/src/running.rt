@@ -6,6 +6,7 @@ ghost use Rattle.due_model.specs.declared.config.Config.{Config};
 ghost use Rattle.due_model.specs.declared.event.Event.{Event};
 ghost use Rattle.due_model.specs.declared.zone.Zone.{Zone};
 ghost use Rattle.due_model.specs.Accepted.{IsAccepted};
+ghost use Rattle.engine_threads.specs.Lanes.{HaveTaken};
 ghost use Rattle.engine_threads.specs.Run.{AreLaneEnds, IsLogOf, IsRun};
 ghost use Rattle.engine_threads.specs.Works.{AreDeciderWorks, AreNewWorkers, AreRings, HaveDeciders};
 
@@ -30,31 +31,42 @@ use std::sync::Wait;
 use std::sync::atomic::AtomicBool;
 use std::thread;
 use std::thread::Threads;
+use std::time::Clock;
 use steps::Settings;
 use undelivered::Why;
 
 /// What the threads of a run leave.
 #[derive(Drop)]
-pub struct ThreadsEnd<S: Source> {
+pub struct ThreadsEnd<C: Channel, S: Source> {
     /// Each lane in order; none where a thread can't be started or memory ran out before they begin, and then no event was taken.
     pub lanes: Vec<Served>,
+    /// The boxes of each lane that is there, each in its place.
+    pub boxes: Vec<Vec<C>>,
     /// What was suppressed, by event, then object, then contact.
     pub log: Vec<Suppression>,
     /// Whether memory ran out in any thread, or one can't be started.
     pub memory: bool,
+    /// Whether the threads began. Where they didn't, nothing was asked of the source.
+    pub started: bool,
     /// Where the events came from.
     pub source: S,
 }
 
 /// The threads of a run, in a scope.
-fn run_scope<S: Source, Z: GivesZone + Sync, G: Gate + Sync, R: Threads + Wait + Sync>(
+fn run_scope<
+    C: Channel,
+    S: Source,
+    Z: GivesZone + Sync,
+    G: Gate + Sync,
+    R: Threads + Wait + Clock + Sync,
+>(
     rt: &R,
     alloc: Global,
     config: &Config,
     zone: &Z,
     source: S,
     halt: &AtomicBool,
-    works: Vec<LaneWork>,
+    works: Vec<LaneWork<C>>,
     deciders: Vec<DeciderWork>,
     senders: Vec<Producer<Signal>>,
     tries: u8,
@@ -62,7 +74,7 @@ fn run_scope<S: Source, Z: GivesZone + Sync, G: Gate + Sync, R: Threads + Wait +
     closers: &Closers,
     gate: &G,
     word: &StartWord,
-) -> Result<Driven<S>, S>
+) -> Result<Driven<C, S>, S>
     requires accepted { IsAccepted config.now }
     requires tries { 0 < tries }
     requires source { S.given_so_far source ≡ [] }
@@ -82,6 +94,10 @@ fn run_scope<S: Source, Z: GivesZone + Sync, G: Gate + Sync, R: Threads + Wait +
     ensures log { IfOk result (λ r.
         IsLogOf config.now (Z.zone zone.now) (reverse (S.given_so_far r.source)) (r.refused || r.memory)
         r.log.items) }
+    ensures boxes { IfOk result (λ r. (l : ℕ) (w s b : _) → slice_get works.items l ≡ Some w
+        → slice_get r.served.items l ≡ Some s → slice_get r.boxes.items l ≡ Some b
+        → HaveTaken C.account C.offered tries config.now s w.boxes.items b.items) }
+    ensures places { IfOk result (λ r. length r.boxes.items ≡ length r.served.items) }
     ensures source { IfOk result (λ r. S.goes config.now source r.source) }
     ensures over { IfOk result (λ r. r.memory ≡ false → S.ended r.source) }
     ensures none { IfErr result (λ s. s ≡ source) }
@@ -89,7 +105,7 @@ fn run_scope<S: Source, Z: GivesZone + Sync, G: Gate + Sync, R: Threads + Wait +
     thread::scope(
         thread::scope_env(),
         rt,
-        move |scope| -> Result<Driven<S>, S>
+        move |scope| -> Result<Driven<C, S>, S>
             requires { IsAccepted config.now × (0 < tries) × (S.given_so_far source ≡ [])
                 × (0 < length deciders.items) × (length deciders.items ≤ 8)
                 × (length queues.now ≡ length config.now.lanes)
@@ -106,6 +122,10 @@ fn run_scope<S: Source, Z: GivesZone + Sync, G: Gate + Sync, R: Threads + Wait +
             ensures log { IfOk result (λ r.
                 IsLogOf config.entry.now (Z.zone zone.entry.now) (reverse (S.given_so_far r.source))
                 (r.refused || r.memory) r.log.items) }
+            ensures boxes { IfOk result (λ r. (l : ℕ) (w s b : _) → slice_get works.items l ≡ Some w
+                → slice_get r.served.items l ≡ Some s → slice_get r.boxes.items l ≡ Some b
+                → HaveTaken C.account C.offered tries config.entry.now s w.boxes.items b.items) }
+            ensures places { IfOk result (λ r. length r.boxes.items ≡ length r.served.items) }
             ensures source { IfOk result (λ r. S.goes config.entry.now source r.source) }
             ensures over { IfOk result (λ r. r.memory ≡ false → S.ended r.source) }
             ensures none { IfErr result (λ s. s ≡ source) }
@@ -132,22 +152,26 @@ fn any_refused(lanes: &[Served]) -> bool
 }
 
 /// A run in which memory ran out, or a thread couldn't be started, before it began.
-fn nothing<S: Source>(alloc: Global, source: S) -> ThreadsEnd<S>
+fn nothing<C: Channel, S: Source>(alloc: Global, source: S) -> ThreadsEnd<C, S>
     ensures lanes { result.lanes.items ≡ [] }
+    ensures boxes { result.boxes.items ≡ [] }
     ensures log { result.log.items ≡ [] }
     ensures memory { result.memory ≡ true }
+    ensures started { result.started ≡ false }
     ensures source { result.source ≡ source }
 {
     ThreadsEnd {
         lanes: Vec::new(alloc),
+        boxes: Vec::new(alloc),
         log: Vec::new(alloc),
         memory: true,
+        started: false,
         source,
     }
 }
 
 /// What the threads left, as a run's end.
-fn end_of<S: Source>(driven: Driven<S>) -> ThreadsEnd<S>
+fn end_of<C: Channel, S: Source>(driven: Driven<C, S>) -> ThreadsEnd<C, S>
     ensures run { (c : Config) (zone : Zone) (boxes : ℕ → ℕ) (past : List Event)
         → AreLaneEnds c zone boxes past driven.refused driven.served.items
         → IsLogOf c zone past (driven.refused || driven.memory) driven.log.items
@@ -155,9 +179,12 @@ fn end_of<S: Source>(driven: Driven<S>) -> ThreadsEnd<S>
     ensures source { result.source ≡ driven.source }
     ensures memory { result.memory ≡ false → driven.memory ≡ false }
     ensures lanes { result.lanes.items ≡ driven.served.items }
+    ensures boxes { result.boxes.items ≡ driven.boxes.items }
+    ensures started { result.started ≡ true }
 {
     let Driven {
         served,
+        boxes,
         log,
         refused,
         memory,
@@ -166,8 +193,10 @@ fn end_of<S: Source>(driven: Driven<S>) -> ThreadsEnd<S>
     let memory = (refused | memory) | any_refused(&served);
     ThreadsEnd {
         lanes: served,
+        boxes,
         log,
         memory,
+        started: true,
         source,
     }
 }
@@ -176,17 +205,17 @@ fn end_of<S: Source>(driven: Driven<S>) -> ThreadsEnd<S>
 /// which each has a worker; all in threads of their own. Of a lane's boxes, at most eight, the first serves, and each other where
 /// the one before has failed, beginning with the letter in hand. Each thread waits for a word first: where one can't be started, none
 /// begins. Where a growth is refused in the source or a decider, no further event is taken or decided.
-pub fn run_threads<S: Source, G: Gate + Sync, R: Threads + Wait + Sync>(
+pub fn run_threads<C: Channel, S: Source, G: Gate + Sync, R: Threads + Wait + Clock + Sync>(
     rt: &R,
     alloc: Global,
     config: &Config,
     zone: &Zone,
     source: S,
-    slots: Vec<Vec<Box<dyn Channel>>>,
+    slots: Vec<Vec<C>>,
     settings: Settings,
     closers: &Closers,
     gate: &G,
-) -> ThreadsEnd<S>
+) -> ThreadsEnd<C, S>
     requires accepted { IsAccepted config.now }
     requires source { S.given_so_far source ≡ [] }
     requires lanes { length slots.items ≡ length config.now.lanes }
@@ -195,11 +224,21 @@ pub fn run_threads<S: Source, G: Gate + Sync, R: Threads + Wait + Sync>(
         → ((l : ℕ) (c : _) → slice_get slots.items l ≡ Some c → length c.items ≡ boxes l)
         → IsRun config.now zone.now boxes (reverse (S.given_so_far result.source)) result.memory
         result.lanes.items result.log.items }
+    // Each lane's boxes are given back in their places, and each has taken what its record says.
+    ensures boxes { (l : ℕ) (c s b : _) → slice_get slots.items l ≡ Some c
+        → slice_get result.lanes.items l ≡ Some s → slice_get result.boxes.items l ≡ Some b
+        → HaveTaken C.account C.offered settings.tries config.now s c.items b.items }
+    ensures places { length result.boxes.items ≡ length result.lanes.items }
     ensures source { S.goes config.now source result.source }
     ensures over { result.memory ≡ false → S.ended result.source }
     ensures few { length result.lanes.items ≤ length config.now.lanes }
     ensures whole { S.given_so_far result.source ≢ []
         → length result.lanes.items ≡ length config.now.lanes }
+    // Where the threads began, every lane is there; where they didn't, the source is as it was.
+    ensures all { result.started ≡ true → length result.lanes.items ≡ length config.now.lanes }
+    ensures unstarted { result.started ≡ false
+        → (result.source ≡ source) × (result.memory ≡ true) × (result.lanes.items ≡ [])
+        × (result.log.items ≡ []) }
 {
     let capacity = usize::from(settings.queue);
     let Ok(setting) = set_all(alloc, slots, settings.deciders, capacity) else {

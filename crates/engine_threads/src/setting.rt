@@ -64,15 +64,15 @@ fn add_seats(
 
 /// All that the threads begin with.
 #[derive(Drop)]
-pub(crate) struct Setting {
+pub(crate) struct Setting<C: Channel> {
     pub queues: Vec<LaneQueue>,
-    pub works: Vec<LaneWork>,
+    pub works: Vec<LaneWork<C>>,
     pub deciders: Vec<DeciderWork>,
     pub senders: Vec<Producer<Signal>>,
 }
 
 /// What a worker begins with.
-fn lane_work(lane: LaneId, boxes: Vec<Box<dyn Channel>>, pass: Pass) -> LaneWork
+fn lane_work<C: Channel>(lane: LaneId, boxes: Vec<C>, pass: Pass) -> LaneWork<C>
     requires { length boxes.items ≤ 8 }
     ensures lane { result.lane ≡ lane }
     ensures boxes { result.boxes ≡ boxes }
@@ -83,12 +83,12 @@ fn lane_work(lane: LaneId, boxes: Vec<Box<dyn Channel>>, pass: Pass) -> LaneWork
 
 /// Makes all that the threads begin with: a lane for each slot, with its boxes, with a queue for so many items, and so many
 /// deciders. A refused growth is the only error.
-pub(crate) fn set_all(
+pub(crate) fn set_all<C: Channel>(
     alloc: Global,
-    slots: Vec<Vec<Box<dyn Channel>>>,
+    slots: Vec<Vec<C>>,
     deciders: u8,
     capacity: usize,
-) -> Result<Setting, AllocError>
+) -> Result<Setting<C>, AllocError>
     requires capacity { 0 < capacity }
     requires lanes { length slots.items < 256 }
     requires few { (l : ℕ) (c : _) → slice_get slots.items l ≡ Some c → length c.items ≤ 8 }

@@ -6,13 +6,14 @@ ghost use Rattle.decider.specs.Share.{IsShare};
 ghost use Rattle.channel_queue.specs.Passes.{IsWorker};
 ghost use Rattle.rtrb.specs.Ring.{received};
 ghost use Rattle.deciding.specs.Decided.{HasDecided};
-ghost use Rattle.engine_threads.specs.Lanes.{IsServed};
+ghost use Rattle.engine_threads.specs.Lanes.{HaveTaken, IsServed};
 ghost use Rattle.deciding.specs.Puts.{ArePut};
 ghost use Rattle.engine_threads.specs.Works.{AreDeciderWorks, AreNewWorkers};
 
 use crate::word::StartWord;
 use crate::working::{LaneWork, serve_lane};
 use crate::zone::GivesZone;
+use channel::Channel;
 use channel_queue::LaneQueue;
 use closers::Closers;
 use decider::Share;
@@ -25,47 +26,62 @@ use std::snapshot::Snapshot;
 use std::sync::Wait;
 use std::sync::atomic::AtomicBool;
 use std::thread::{Promise, PromisedHandle, Scope};
+use std::time::Clock;
 
 /// What the thread of a lane promises of what it gives back, unless it leaves.
-#[derive(Clone, Copy)]
-pub(crate) struct ServesLane<'s> {
-    queue: &'s LaneQueue,
-    boxes: usize,
+#[derive(Drop)]
+pub(crate) struct ServesLane<'s, C: Channel> {
+    pub queue: &'s LaneQueue,
+    pub boxes: usize,
+    pub config: &'s Config,
+    pub tries: u8,
+    pub given: Snapshot<Vec<C>>,
 }
 
-impl<'s> Promise<Option<Served>> for ServesLane<'s> {
+impl<'s, C: Channel> Promise<Option<(Served, Vec<C>)>> for ServesLane<'s, C> {
     ghost use Rattle.std.specs.Prelude.{IfSome};
-    ghost use Rattle.engine_threads.specs.Lanes.{IsServed};
+    ghost use Rattle.engine_threads.specs.Lanes.{HaveTaken, IsServed};
 
-    ghost kept_by = { λ p r. IfSome r (λ s. IsServed p.queue.now p.boxes s) };
+    ghost kept_by = { λ p r. IfSome r (λ e. IsServed p.queue.now p.boxes e.0
+        × HaveTaken C.account C.offered p.tries p.config.now e.0 p.given.value.items e.1.items) };
 }
 
 /// Starts the thread of a lane. `None`: it can't be started.
-pub(crate) fn start_lane<'s, E, G: Gate + Sync, R: Wait + Sync>(
+pub(crate) fn start_lane<'s, E, C: Channel + 's, G: Gate + Sync, R: Wait + Clock + Sync>(
     scope: &'s Scope<'s, E>,
     rt: &'s R,
     alloc: Global,
     config: &'s Config,
-    work: LaneWork,
+    work: LaneWork<C>,
     tries: u8,
     queue: &'s LaneQueue,
     closers: &'s Closers,
     gate: &'s G,
     word: &'s StartWord,
-) -> Option<PromisedHandle<Option<Served>, ServesLane<'s>>>
+) -> Option<PromisedHandle<Option<(Served, Vec<C>)>, ServesLane<'s, C>>>
     requires tries { 0 < tries }
     requires deciders { queue.now.deciders ≤ 8 }
     requires worker { IsWorker queue.now [] [] work.pass }
     ensures queue { IfSome result (λ h. h.promise.queue.now ≡ queue.entry.now) }
     ensures boxes { IfSome result (λ h. h.promise.boxes ≡ length work.boxes.items) }
+    ensures config { IfSome result (λ h. h.promise.config.now ≡ config.entry.now) }
+    ensures tries { IfSome result (λ h. h.promise.tries ≡ tries) }
+    ensures given { IfSome result (λ h. h.promise.given.value ≡ work.boxes) }
 {
     let boxes = work.boxes.len();
-    let promise = ServesLane { queue, boxes };
+    let promise = ServesLane {
+        queue,
+        boxes,
+        config,
+        tries,
+        given: Snapshot::of(&work.boxes),
+    };
     let started = scope.spawn_with(
         promise,
-        move || -> Option<Served>
+        move || -> Option<(Served, Vec<C>)>
             requires { (0 < tries) × (queue.now.deciders ≤ 8) × IsWorker queue.now [] [] work.pass }
-            ensures { IfSome result (λ s. IsServed queue.entry.now (length work.boxes.items) s) }
+            ensures { IfSome result (λ e. IsServed queue.entry.now (length work.boxes.items) e.0
+                × HaveTaken C.account C.offered tries config.entry.now e.0 work.boxes.items e.1.items) }
         {
             if !word.wait(rt) {
                 return None;
@@ -80,18 +96,18 @@ pub(crate) fn start_lane<'s, E, G: Gate + Sync, R: Wait + Sync>(
 }
 
 /// Starts the threads of all lanes. `None`: one can't be started, or a growth was refused.
-pub(crate) fn start_lanes<'s, E, G: Gate + Sync, R: Wait + Sync>(
+pub(crate) fn start_lanes<'s, E, C: Channel + 's, G: Gate + Sync, R: Wait + Clock + Sync>(
     scope: &'s Scope<'s, E>,
     rt: &'s R,
     alloc: Global,
     config: &'s Config,
-    works: Vec<LaneWork>,
+    works: Vec<LaneWork<C>>,
     tries: u8,
     queues: &'s [LaneQueue],
     closers: &'s Closers,
     gate: &'s G,
     word: &'s StartWord,
-) -> Option<Vec<PromisedHandle<Option<Served>, ServesLane<'s>>>>
+) -> Option<Vec<PromisedHandle<Option<(Served, Vec<C>)>, ServesLane<'s, C>>>>
     requires tries { 0 < tries }
     requires count { length works.items ≡ length queues.now }
     requires deciders { (l : ℕ) (q : _) → slice_get queues.now l ≡ Some q → q.deciders ≤ 8 }
@@ -100,7 +116,9 @@ pub(crate) fn start_lanes<'s, E, G: Gate + Sync, R: Wait + Sync>(
     ensures each { IfSome result (λ hs. (l : ℕ) (w : _) (h : _)
         → slice_get works.items l ≡ Some w → slice_get hs.items l ≡ Some h
         → (slice_get queues.now l ≡ Some h.promise.queue.now)
-        × (h.promise.boxes ≡ length w.boxes.items)) }
+        × (h.promise.boxes ≡ length w.boxes.items)
+        × (h.promise.config.now ≡ config.now) × (h.promise.tries ≡ tries)
+        × (h.promise.given.value ≡ w.boxes)) }
 {
     let Ok(mut handles) = Vec::with_capacity(alloc, works.len()) else {
         return None;
@@ -143,7 +161,7 @@ impl<'s, Z: GivesZone> Promise<Option<DeciderEnd>> for Decides<'s, Z> {
 }
 
 /// Starts the thread of a decider. `None`: it can't be started.
-fn start_decider<'s, E, Z: GivesZone + Sync, G: Gate + Sync, R: Wait + Sync>(
+fn start_decider<'s, E, Z: GivesZone + Sync, G: Gate + Sync, R: Wait + Clock + Sync>(
     scope: &'s Scope<'s, E>,
     rt: &'s R,
     alloc: Global,
@@ -210,7 +228,7 @@ fn start_decider<'s, E, Z: GivesZone + Sync, G: Gate + Sync, R: Wait + Sync>(
 }
 
 /// Starts the threads of all deciders. `None`: one can't be started, or a growth was refused.
-pub(crate) fn start_deciders<'s, E, Z: GivesZone + Sync, G: Gate + Sync, R: Wait + Sync>(
+pub(crate) fn start_deciders<'s, E, Z: GivesZone + Sync, G: Gate + Sync, R: Wait + Clock + Sync>(
     scope: &'s Scope<'s, E>,
     rt: &'s R,
     alloc: Global,

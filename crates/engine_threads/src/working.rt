@@ -2,43 +2,45 @@
 
 ghost use Rattle.std.specs.Prelude.{◌≡◌, ◌<◌, ◌≤◌, [], length};
 ghost use Rattle.channel_queue.specs.Passes.{IsWorker};
-ghost use Rattle.engine_threads.specs.Lanes.{IsServed};
+ghost use Rattle.engine_threads.specs.Lanes.{HaveTaken, IsServed};
 
 use channel::Channel;
 use channel_queue::{LaneQueue, Pass};
-use closers::{Closers, LaneBell};
+use closers::{Closers, LaneBell, PatientBell};
 use delivery_worker::{Gate, Served, serve};
 use due_model::config::{Config, LaneId};
 use std::alloc::Global;
 use std::sync::Wait;
+use std::time::Clock;
 
 /// What a worker begins with: its lane's boxes, of which the first serves, and its pass.
 #[derive(Drop)]
-pub(crate) struct LaneWork {
+pub(crate) struct LaneWork<C: Channel> {
     pub lane: LaneId,
-    pub boxes: Vec<Box<dyn Channel>>,
+    pub boxes: Vec<C>,
     pub pass: Pass,
     pub ghost few: { length boxes.items ≤ 8 },
 }
 
 /// The work of a lane's thread.
-pub(crate) fn serve_lane<G: Gate, R: Wait>(
+pub(crate) fn serve_lane<C: Channel, G: Gate, R: Wait + Clock>(
     rt: &R,
     alloc: Global,
     config: &Config,
-    work: LaneWork,
+    work: LaneWork<C>,
     tries: u8,
     queue: &LaneQueue,
     closers: &Closers,
     gate: &G,
-) -> Served
+) -> (Served, Vec<C>)
     requires tries { 0 < tries }
     requires deciders { queue.now.deciders ≤ 8 }
     requires worker { IsWorker queue.now [] [] work.pass }
-    ensures { IsServed queue.now (length work.boxes.items) result }
+    ensures served { IsServed queue.now (length work.boxes.items) result.0 }
+    ensures boxes { HaveTaken C.account C.offered tries config.now result.0 work.boxes.items result.1.items }
 {
     let LaneWork { lane, boxes, pass } = work;
-    let mut bell = LaneBell::new(closers, lane);
+    let mut bell = PatientBell::new(LaneBell::new(closers, lane), rt, gate);
     serve(
         rt, alloc, config, boxes, tries, queue, pass, &mut bell, gate,
     )

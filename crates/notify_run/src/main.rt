@@ -18,7 +18,7 @@ use command_output::{AnyWriter, CommandFault, Ending, exit_status};
 use due_model::zone::Zone;
 use progress::{ProgressLine, Watcher};
 use replay::{replay_files, replay_in};
-use sending::{RunFault, do_run};
+use sending::{RunFault, RunSettings, do_run};
 use std::alloc::AllocError;
 use std::env;
 use std::fs::File;
@@ -26,6 +26,7 @@ use std::io::IsTerminal;
 use std::process::ExitCode;
 use std::sync::Wait;
 use std::thread::Threads;
+use std::time::Clock;
 use steps::Settings;
 use text_lines::AnyReader;
 use trace::trace_in;
@@ -138,7 +139,7 @@ fn status_of_run<R: Eprint>(rt: &R, outcome: Result<Ending, RunFault<'_>>) -> Ex
 
 /// Does what is asked, and gives the exit status. The zone is read before anything else. The handle is of the machine, and again
 /// that by which threads are started.
-fn status_of_request<T: Threads + Wait + Sync>(
+fn status_of_request<T: Threads + Wait + Clock + Sync>(
     rt: &HostRuntime,
     threads: &T,
     request: Request<'_, '_>,
@@ -163,8 +164,14 @@ fn status_of_request<T: Threads + Wait + Sync>(
             objects,
             settings,
             channels,
+            times,
             ..
         } => {
+            let settings = RunSettings {
+                settings,
+                timeout: times.timeout,
+                pause: times.pause,
+            };
             let feed = AnyReader::new(rt.stdin());
             let mut writer = AnyWriter::new(rt.stdout());
             let outcome = do_run(
@@ -177,7 +184,7 @@ fn status_of_request<T: Threads + Wait + Sync>(
                 feed,
                 &mut writer,
             );
-            return status_of_run(rt, outcome);
+            return status_of_run(rt, outcome.map(|done| done.ending));
         }
     };
     status_of(rt, outcome)

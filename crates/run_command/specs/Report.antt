@@ -76,28 +76,29 @@ ending_of end =
 
 -- ---- what is written
 
--- A run of a feed whose bytes are known or not has left this, where each lane was given so many channels.
+-- A run of a feed whose bytes are known or not has left this, where each lane was given so many channels, of which this is known.
 abbrev pub IsRun : (can_fail : Bool) → Config → Zone → (given : ℕ → ℕ)
-    → (known : Option (List ℕ)) → RunEnd → Type 0
-IsRun can_fail c zone given known end =
+    → (tie : List LaneParts → Type 0) → (known : Option (List ℕ)) → RunEnd → Type 0
+IsRun can_fail c zone given tie known end =
     IsRunOf c zone given end.events.items end.memory end.lanes.items end.log.items
     × IsReadOf can_fail c known end.memory end.events.items end.refused.items end.cut
+    × tie end.lanes.items
 
 -- the report of a run of this feed was written, for which there was memory, and it ended so
 abbrev pub WritesReport : (can_fail : Bool) → Config → Zone → (given : ℕ → ℕ)
-    → (known : Option (List ℕ)) → Ending → (before after : Option (List ℕ)) → Type 0
-WritesReport can_fail c zone given known ending before after =
+    → (tie : List LaneParts → Type 0) → (known : Option (List ℕ)) → Ending → (before after : Option (List ℕ)) → Type 0
+WritesReport can_fail c zone given tie known ending before after =
     (end : RunEnd)
-    × IsRun can_fail c zone given known end
+    × IsRun can_fail c zone given tie known end
     × (end.memory ≡ false) × (ending ≡ ending_of end)
     × Writes before after (report_text c end)
 
 -- a front of it was; where that was the output's fault, there was memory for the run
 abbrev pub WritesReportFront : (can_fail : Bool) → Config → Zone → (given : ℕ → ℕ)
-    → (known : Option (List ℕ)) → Result Ending CommandFault → (before after : Option (List ℕ))
+    → (tie : List LaneParts → Type 0) → (known : Option (List ℕ)) → Result Ending CommandFault → (before after : Option (List ℕ))
     → Type 0
-WritesReportFront can_fail c zone given known result before after =
+WritesReportFront can_fail c zone given tie known result before after =
     (end : RunEnd)
-    × IsRun can_fail c zone given known end
+    × IsRun can_fail c zone given tie known end
     × (IsErrOf result Output → end.memory ≡ false)
     × WritesFront before after (report_text c end)

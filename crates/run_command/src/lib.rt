@@ -4,7 +4,7 @@
 ghost use Rattle.std.specs.Prelude.{◌≡◌, ◌≤◌, ℕ, [], false, IsOk};
 ghost use Rattle.std.specs.Prelude.{IfErr, IfOk, IsErrOf, OnOk, ◌⊎◌};
 ghost use Rattle.due_model.specs.Accepted.{IsAccepted};
-ghost use Rattle.engine.specs.Lanes.{count_of};
+ghost use Rattle.engine.specs.Lanes.{AreTold, boxes_of, count_of};
 ghost use Rattle.command_output.specs.Outcome.{IsWriteFault};
 ghost use Rattle.written.specs.Written.{Writes, WritesFront};
 ghost use Rattle.run_command.specs.Report.{WritesReport, WritesReportFront, ending_of, report_text};
@@ -12,6 +12,7 @@ ghost use Rattle.run_command.specs.Report.{WritesReport, WritesReportFront, endi
 mod feed_lines;
 mod lanes;
 
+use channel::Channel;
 use command_output::{CommandFault, Ending, Lines, Sink};
 use due_model::config::Config;
 use due_model::zone::Zone;
@@ -22,6 +23,7 @@ use progress::Watcher;
 use std::alloc::Global;
 use std::sync::Wait;
 use std::thread::Threads;
+use std::time::Clock;
 use text_lines::Input;
 
 /// Reads a feed to its end, hands what its events make due to the channels of the lanes, in threads, and writes the report of
@@ -30,40 +32,56 @@ use text_lines::Input;
 /// order, where it was given several channels the `G` lines of how many each that served has taken, and its `Z` line. Where the output fails, a front of the report was written. Where memory runs out in the run it reads
 /// no further, and what is there is told. The watcher is told before lines are written. `Undelivered` says that a lane gave
 /// something up, `Short` that the feed ended before its input; of both, the latter is said.
-pub fn run<R: Input + Drop, W: Sink, G: Gate + Sync, P: Watcher, T: Threads + Wait + Sync>(
+pub fn run<
+    C: Channel,
+    R: Input + Drop,
+    W: Sink,
+    G: Gate + Sync,
+    P: Watcher,
+    T: Threads + Wait + Clock + Sync,
+>(
     rt: &T,
     alloc: Global,
     config: &Config,
     zone: &Zone,
     settings: Settings,
-    posts: Vec<Post>,
+    posts: Vec<Post<C>>,
     feed: R,
     writer: &mut W,
     closers: &Closers,
     gate: &G,
     watcher: &mut P,
-) -> Result<Ending, CommandFault>
+) -> (Result<Ending, CommandFault>, Vec<Vec<C>>)
     requires accepted { IsAccepted config.now }
     // Of each lane there are at most eight posts.
     requires few { (l : ℕ) → count_of (λ post. post.lane.0) posts.items l ≤ 8 }
     // What is written is the report of a run of the feed, and nothing else.
-    ensures report { IfOk result (λ ending. WritesReport R.can_fail config.now zone.now
-        (count_of (λ post. post.lane.0) posts.items) (R.remaining feed) ending
+    ensures report { IfOk result.0 (λ ending. WritesReport R.can_fail config.now zone.now
+        (count_of (λ post. post.lane.0) posts.items)
+        (AreTold C.account C.offered (λ cs. cs.items) settings.tries config.now
+        (λ l. boxes_of (λ post. post.lane.0) (λ post. post.channel) l posts.items) result.1.items)
+        (R.remaining feed) ending
         (W.contents writer.old) (W.contents writer.new)) }
     // Or a front of it.
     ensures front { WritesReportFront R.can_fail config.now zone.now
-        (count_of (λ post. post.lane.0) posts.items) (R.remaining feed) result
+        (count_of (λ post. post.lane.0) posts.items)
+        (AreTold C.account C.offered (λ cs. cs.items) settings.tries config.now
+        (λ l. boxes_of (λ post. post.lane.0) (λ post. post.channel) l posts.items) result.1.items)
+        (R.remaining feed) result.0
         (W.contents writer.old) (W.contents writer.new) }
-    ensures fault { IfErr result (λ fault. IsWriteFault W.can_fail fault) }
+    ensures fault { IfErr result.0 (λ fault. IsWriteFault W.can_fail fault) }
 {
     let room = Lines::new(alloc);
-    let end = Engine::run(
+    let (end, channels) = Engine::run(
         rt, alloc, config, zone, feed, posts, settings, closers, gate,
     );
     watcher.make_way();
     match room {
-        Ok(lines) => outcome_of(&end, tell(lines, writer, config, &end)),
-        Err(_) => Err(CommandFault::NoMemory),
+        Ok(lines) => (
+            outcome_of(&end, tell(lines, writer, config, &end)),
+            channels,
+        ),
+        Err(_) => (Err(CommandFault::NoMemory), channels),
     }
 }
 

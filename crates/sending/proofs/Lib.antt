@@ -1,1 +1,2 @@
 mod PostLaws
+mod PauseLaws

@@ -1,10 +1,9 @@
 -- The channels that the words of a command line ask for.
-use Rattle.std.specs.Prelude.{ℕ, List, [], ◌∷◌, Contains, ⊤}
+use Rattle.std.specs.Prelude.{ℕ, ◌+◌, Bool, true, List, [], ◌∷◌, Contains, Option, None, Some, is_some, ⊤}
 use Rattle.channel.specs.declared.Kind.{Kind}
 use Rattle.channel.specs.declared.Kind.TheVariants as kinds
 use Rattle.channel_kinds.specs.declared.device.AnyDevice.{AnyDevice}
 use Rattle.channel_kinds.specs.declared.device.AnyDevice.TheVariants as device
-use Rattle.channel_kinds.specs.Device.{kind_of}
 use Rattle.channel_kinds.specs.DeviceChannel.{Held}
 use Rattle.channel_words.specs.declared.fault.ChannelFault.{ChannelFault}
 use Rattle.channel_words.specs.declared.fault.ChannelFault.TheVariants as fault
@@ -27,29 +26,41 @@ asked_words (Pager address) = []
 asked_words (Command line) = words_in line.now
 
 -- the program that an opened device starts, and its arguments
-abbrev pub program_words : {W S R : Type 0} → AnyDevice W S R → List (List ℕ)
+abbrev pub program_words : {W S D R : Type 0} → AnyDevice W S D R → List (List ℕ)
 program_words (device.Mailbox mailbox) = []
 program_words (device.Pager pager) = []
 program_words (device.Spawned started) = started.program ∷ started.arguments
 
--- a channel as it was opened: its kind, its program's words, what it has taken, and how often it failed
+-- the same where there may be no device
+abbrev pub opened_words : {W S D R : Type 0} → Option (AnyDevice W S D R) → List (List ℕ)
+opened_words None = []
+opened_words (Some device) = program_words device
+
+-- a channel as it was opened: its number, whether it has a device, the kind of that, its program's words, what it has taken, and how
+-- often it failed
 pub record Opened : Type 0 where
+  pub number : ℕ
+  pub is_open : Bool
   pub kind : Kind
   pub words : List (List ℕ)
   pub taken : List Receipt
   pub failures : ℕ
 
-abbrev pub opened : {W S R : Type 0} → Held (AnyDevice W S R) → Opened
+abbrev pub opened : {W S D R : Type 0} → Held (AnyDevice W S D R) → Opened
 opened channel = record {
-  kind = kind_of channel.device;
-  words = program_words channel.device;
+  number = channel.number;
+  is_open = is_some channel.device;
+  kind = channel.kind;
+  words = opened_words channel.device;
   taken = channel.kept.taken;
   failures = channel.kept.failures;
 }
 
--- as a device is asked for: it has taken nothing, and didn't fail
-abbrev pub asked_of : Device → Opened
-asked_of device = record {
+-- as a device is asked for, with this number: it has taken nothing, and didn't fail
+abbrev pub asked_of : (number : ℕ) → Device → Opened
+asked_of number device = record {
+  number = number;
+  is_open = true;
   kind = device_kind device;
   words = asked_words device;
   taken = [];
@@ -57,8 +68,18 @@ asked_of device = record {
 }
 
 -- as a word asks for it
-abbrev pub asked : ChannelWord → Opened
-asked word = asked_of word.device
+abbrev pub asked : (number : ℕ) → ChannelWord → Opened
+asked number word = asked_of number word.device
+
+-- as words ask for them, numbered by their places from this one
+abbrev pub asked_from : (number : ℕ) → List ChannelWord → List Opened
+asked_from number [] = []
+asked_from number (word ∷ words) = asked number word ∷ asked_from (number + 1) words
+
+-- these channels, numbered by their places from this one
+abbrev pub numbered_from : {D : Type 0} → (number : ℕ) → List (Held D) → List (Held D)
+numbered_from number [] = []
+numbered_from number (channel ∷ channels) = record channel { number = number } ∷ numbered_from (number + 1) channels
 
 -- one of these channels isn't opened, or memory ran out
 abbrev pub IsOpeningFault : (names : List (List ℕ)) → ChannelFault → Type 0

@@ -4,6 +4,7 @@ ghost use Rattle.std.specs.Prelude.{◌≡◌, ◌↔◌, ◌+◌, ◌<◌, ◌�
 ghost use Rattle.std.specs.Prelude.{OnErr, OnOk};
 ghost use Rattle.channel.specs.Channels.{IsCounted, receipt_of};
 
+use crate::settings::pause_after;
 use channel::letter::Letter;
 use channel::{Channel, Fault, Kind, Receipt};
 use due_model::config::LaneId;
@@ -12,17 +13,21 @@ use engine::Gate;
 use progress::Counts;
 use std::alloc::{AllocError, Global};
 use std::sync::Arc;
+use std::time::Duration;
 
-/// A gate that admits all, and counts the events: those that the first decider comes to.
+/// A gate that admits all, counts the events, those that the first decider comes to, and says how long a lane waits before it tries
+/// a letter again.
 #[derive(Drop)]
 pub struct CountingGate {
     counts: Arc<Counts, Global>,
+    /// How many seconds pass before the second try of a letter.
+    pause: u8,
 }
 
 impl CountingGate {
-    /// A gate that counts there.
-    pub fn new(counts: Arc<Counts, Global>) -> CountingGate {
-        CountingGate { counts }
+    /// A gate that counts there, and before the second try of a letter has so many seconds pass.
+    pub fn new(counts: Arc<Counts, Global>, pause: u8) -> CountingGate {
+        CountingGate { counts, pause }
     }
 }
 
@@ -35,6 +40,10 @@ impl Gate for CountingGate {
         if decider == 0 {
             self.counts.count_event();
         }
+    }
+
+    fn retry_after(&self, _lane: LaneId, failed: u8) -> Duration {
+        Duration::from_secs(u64::from(pause_after(self.pause, failed)))
     }
 }
 
@@ -55,15 +64,17 @@ impl<C: Channel> CountedChannel<C> {
 }
 
 impl<C: Channel> Channel for CountedChannel<C> {
-    ghost taken = { λ s. C.taken s.channel };
+    ghost account = { λ s. C.account s.channel };
 
     ghost room = { λ s. C.room s.channel };
 
-    ghost failures = { λ s. C.failures s.channel };
-
-    ghost limit = { λ s. C.limit s.channel };
-
     ghost kind = { λ s. C.kind s.channel };
+
+    ghost offered = { λ a offers b. C.offered a.channel offers b.channel };
+
+    ghost stays = { λ s. C.stays s.channel };
+
+    ghost follows = { λ a b c one two. C.follows a.channel b.channel c.channel one two };
 
     fn kind(&self) -> Kind {
         self.channel.kind()
@@ -71,6 +82,10 @@ impl<C: Channel> Channel for CountedChannel<C> {
 
     fn limit(&self) -> u64 {
         self.channel.limit()
+    }
+
+    fn number(&self) -> u64 {
+        self.channel.number()
     }
 
     fn failures(&self) -> u64 {
@@ -89,9 +104,15 @@ impl<C: Channel> Channel for CountedChannel<C> {
         self.channel.reserve()
     }
 
+    fn close(&mut self) {
+        self.channel.close();
+    }
+
     fn deliver(&mut self, letter: &Letter) -> Result<(), Fault> {
-        self.channel.deliver(letter)?;
-        self.counts.count_message();
-        Ok(())
+        let outcome = self.channel.deliver(letter);
+        if outcome.is_ok() {
+            self.counts.count_message();
+        }
+        outcome
     }
 }

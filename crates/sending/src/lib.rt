@@ -5,7 +5,9 @@ pub mod channels;
 pub mod counting;
 pub mod fault;
 pub mod run;
+pub mod settings;
 mod watching;
 
 pub use fault::RunFault;
 pub use run::do_run;
+pub use settings::RunSettings;

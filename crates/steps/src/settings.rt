@@ -8,7 +8,7 @@ use due_model::limits::MAX_DECIDERS;
 pub const MAX_QUEUE: u16 = 1_024;
 
 /// How often a channel may be tried with one letter.
-pub const MAX_TRIES: u8 = 10;
+pub const MAX_TRIES: u8 = 100;
 
 /// How many boxes a lane may have: one serves, and the others stand by.
 pub const MAX_BOXES: u8 = 8;

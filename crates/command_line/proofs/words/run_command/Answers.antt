@@ -2,7 +2,7 @@ use Rattle.std.proofs.Common.{ap, ap₂, ◌≡◌, ◌∙◌, codes, true}
 use Rattle.std.proofs.lemmas.Result.{IfOk-weaker}
 use Rattle.clap.specs.Simple.{app_of_fields}
 use Rattle.clap.specs.Words.{Rule, app_of, new_app, rule_of, with_rule}
-use Rattle.command_line.specs.Words.{number_option, text_option, with_lane_options, with_zone}
+use Rattle.command_line.specs.Words.{number_option, text_option, with_try_options, with_zone}
 use Rattle.command_line.proofs.RuleLemmas.{is_global}
 use Rattle.command_line.proofs.words.run_command.Goals as goal
 
@@ -16,8 +16,10 @@ returns c =
     c.in_ok-arg.ensures.shape local ∙ ap₂ with_rule bare objects in
     let two : app_of c.in_ok-command.command ≡ with_rule (with_rule (new_app (codes "run")) (record (text_option (codes "objects")) { required = true })) (number_option (codes "deciders") (codes "2") 1 8) =
     c.in_ok-command.ensures.shape c.deciders_option.ensures.local ∙ ap₂ with_rule one c.deciders_option.ensures.rule in
-    let laned : app_of c.in_ok-with_lanes.with_lanes ≡ with_lane_options (with_rule (with_rule (new_app (codes "run")) (record (text_option (codes "objects")) { required = true })) (number_option (codes "deciders") (codes "2") 1 8)) =
-    c.in_ok-with_lanes.ensures.words ∙ ap with_lane_options two in
-    let zoned : app_of c.in_ok-with_options.with_options ≡ with_zone (with_lane_options (with_rule (with_rule (new_app (codes "run")) (record (text_option (codes "objects")) { required = true })) (number_option (codes "deciders") (codes "2") 1 8))) =
-    c.in_ok-with_options.ensures.words ∙ ap with_zone laned in
-    record { words = IfOk-weaker c.arg-3.result _ _ (λ r h. h.shape c.channel_words.ensures.local ∙ ap₂ with_rule zoned c.channel_words.ensures.rule) c.arg-3.ensures }
+    let queued : app_of c.in_ok-with_queue.with_queue ≡ with_rule (with_rule (with_rule (new_app (codes "run")) (record (text_option (codes "objects")) { required = true })) (number_option (codes "deciders") (codes "2") 1 8)) (number_option (codes "queue") (codes "64") 1 1024) =
+    c.in_ok-with_queue.ensures.shape c.queue_option.ensures.local ∙ ap₂ with_rule two c.queue_option.ensures.rule in
+    let tried : app_of c.in_ok-with_tries.with_tries ≡ with_try_options (with_rule (with_rule (with_rule (new_app (codes "run")) (record (text_option (codes "objects")) { required = true })) (number_option (codes "deciders") (codes "2") 1 8)) (number_option (codes "queue") (codes "64") 1 1024)) =
+    c.in_ok-with_tries.ensures.words ∙ ap with_try_options queued in
+    let zoned : app_of c.in_ok-with_options.with_options ≡ with_zone (with_try_options (with_rule (with_rule (with_rule (new_app (codes "run")) (record (text_option (codes "objects")) { required = true })) (number_option (codes "deciders") (codes "2") 1 8)) (number_option (codes "queue") (codes "64") 1 1024))) =
+    c.in_ok-with_options.ensures.words ∙ ap with_zone tried in
+    record { words = IfOk-weaker c.arg-4.result _ _ (λ r h. h.shape c.channel_words.ensures.local ∙ ap₂ with_rule zoned c.channel_words.ensures.rule) c.arg-4.ensures }

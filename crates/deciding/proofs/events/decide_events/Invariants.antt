@@ -1,4 +1,4 @@
-use Rattle.std.proofs.Common.{◌≡◌, ◌<◌, [], ℕ, List, length}
+use Rattle.std.proofs.Common.{◌≡◌, [], List, length}
 use Rattle.due_model.specs.declared.event.Event.{Event}
 use Rattle.due_model.specs.declared.zone.Zone.{Zone}
 use Rattle.rtrb.specs.Ring.{SameConsumer, received}
@@ -10,8 +10,7 @@ use Rattle.deciding.proofs.events.decide_events.Given as goal
 abbrev pub invariant-loop : goal.invariant-loop
 invariant-loop g l =
     SameConsumer l.fn.ring l.ring
-    × ((zone : Zone) → Stands l.config zone l.share l.queues [] (kept l.fn.decider) l.fn.seats
-    → (past : List Event) × (received l.ring ≡ heard past) × Stands l.config zone l.share l.queues past (kept l.decider) l.seats)
-    × ((k : ℕ) → k < length (lists l.outbox) → waiting_at l.outbox k ≡ [])
+    × ((zone : Zone) → Stands l.config zone l.share l.queues [] (kept l.fn.decider) (waiting_at l.fn.outbox) l.fn.seats
+    → (past : List Event) × (received l.ring ≡ heard past) × Stands l.config zone l.share l.queues past (kept l.decider) (waiting_at l.outbox) l.seats)
     × (length l.seats ≡ length l.fn.seats)
     × (length (lists l.outbox) ≡ length (lists l.fn.outbox))

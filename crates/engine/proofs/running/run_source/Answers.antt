@@ -1,6 +1,9 @@
-use Rattle.std.proofs.Common.{arith, ◌≡◌, ◌≤◌, ◌∙◌, List, ap, length, reverse, slice_get, Some, subst, sym, ℕ}
+use Rattle.std.proofs.Common.{arith, ◌≡◌, ◌<◌, ◌≤◌, ◌∙◌, List, ap, length, reverse, slice_get, Some, subst, sym, ℕ}
 use Rattle.due_model.specs.declared.event.Event.{Event}
-use Rattle.engine.specs.Lanes.{count_of}
+use Rattle.std.proofs.lemmas.Option.{slice_get_within}
+use Rattle.lemmas.proofs.Lists.{some_at}
+use Rattle.engine.specs.Lanes.{HaveTaken, IsEndOf, boxes_of, count_of}
+use Rattle.engine.proofs.ChannelLaws.{channels_told, no_channels}
 use Rattle.engine.specs.Run.{IsRunOf}
 use Rattle.engine.proofs.PostLaws.{boxes_count}
 use Rattle.engine.proofs.running.run_source.Goals as goal
@@ -34,3 +37,25 @@ returns-clause-run g c =
       whole = threads.whole;
     }) in
     subst (λ (es : List Event). IsRunOf c.args.config.now c.args.zone.now given es end.memory end.lanes.items end.log.items) (ap (λ s. g.S.Source.given_so_far s) (sym c.end_of.ensures.source)) run
+
+pub returns-in_default-clause-channels : goal.returns-in_default-clause-channels
+returns-in_default-clause-channels g c = λ l lane cs at_lane at_cs. absurd (no_channels c.nothing.result.lanes.items l lane c.nothing.ensures.lanes at_lane)
+
+pub returns-clause-channels : goal.returns-clause-channels
+returns-clause-channels g c = λ l lane cs at_lane at_cs.
+    let given = count_of (λ post. post.lane.0) c.args.posts.items in
+    let threads = c.run_threads-left.ensures in
+    let left = c.run_threads-left.result in
+    let boxes = c.in-Ok.ensures.boxes in
+    let count : (k : ℕ) (of_lane : _) → slice_get c.in-Ok.boxes.items k ≡ Some of_lane → length of_lane.items ≡ given k = λ k of_lane at. ap (λ bs. length bs) (boxes k of_lane at) ∙ boxes_count (λ p. p.lane.0) (λ p. p.channel) k c.args.posts.items in
+    let run = threads.run given count in
+    let below : l < length left.lanes.items = subst (λ n. l < n) c.end_of.ensures.count (slice_get_within c.end_of.result.lanes.items l lane at_lane) in
+    let s = some_at left.lanes.items l below in
+    let few = threads.few in
+    let of_lane = some_at c.in-Ok.boxes.items l (let n = c.in-Ok.ensures.lanes in omega (arith, below, few, n)) in
+    let n = some_at c.in-Ok.counts.items l (let m = c.in-Ok.ensures.counts in omega (arith, below, few, m)) in
+    let end = c.end_of.ensures.each l n.0 s.0 lane (subst (λ ns. slice_get ns l ≡ Some n.0) (sym c.deref.ensures.value) n.1) s.1 at_lane in
+    let end_given = subst (λ k. IsEndOf l k s.0 lane) (c.in-Ok.ensures.each l n.0 n.1) end in
+    let tie = threads.boxes l of_lane.0 s.0 cs of_lane.1 s.1 (subst (λ bs. slice_get bs l ≡ Some cs) c.end_of.ensures.channels at_cs) in
+    subst (λ (old : List g.row.C.Denot). HaveTaken g.C.Channel.account g.C.Channel.offered c.args.settings.tries c.args.config.now lane old cs.items) (boxes l of_lane.0 of_lane.1)
+    (channels_told _ _ _ _ l (given l) s.0 lane of_lane.0.items cs.items end_given (run.causes l s.0 s.1) (count l of_lane.0 of_lane.1) tie)

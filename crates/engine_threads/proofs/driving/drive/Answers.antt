@@ -14,7 +14,7 @@ use Rattle.engine_threads.specs.Joins.{AreEnds}
 use Rattle.engine_threads.specs.Lanes.{IsServed}
 use Rattle.engine_threads.specs.Logs.{AreInOrder, HasEach}
 use Rattle.engine_threads.proofs.DueLaws.{share_of}
-use Rattle.engine_threads.proofs.JoinLaws.{neither_first, own_worker}
+use Rattle.engine_threads.proofs.JoinLaws.{boxes_still, neither_first, own_worker}
 use Rattle.lemmas.proofs.Lists.{some_at}
 use Rattle.engine_threads.proofs.RunLaws.{Laws, decided_of, decided_older, lane_end, log_any, log_end}
 use Rattle.engine_threads.proofs.SentLaws.{pair_still}
@@ -26,7 +26,7 @@ meet_all-refused-requires-clause-workers g c = λ l q s at_q at_s.
     let below = slice_get_within c.args.queues.now l q at_q in
     let w = some_at c.args.works.items l (subst (λ n. l < n) (sym c.requires.works) below) in
     let h = some_at c.in-Some.lanes.items l (subst (λ n. l < n) long below) in
-    let kept : IsServed h.0.promise.queue.now h.0.promise.boxes s = c.join_all-served.ensures.each l h.0 s h.1 at_s in
+    let kept : IsServed h.0.promise.queue.now h.0.promise.boxes s = c.join_lanes-served.ensures.each l h.0 s h.1 at_s in
     let its = c.in-Some.ensures.each l w.0 h.0 w.1 h.1 in
     let same : h.0.promise.queue.now ≡ q = same_Some _ _ (sym its.0 ∙ at_q) in
     own_worker q (picked_of s.pass) [] s.pass (subst (λ (r : LaneQueue). IsWorker r (picked_of s.pass) [] s.pass) same kept.worker)
@@ -94,23 +94,23 @@ returns-clause-lanes g c = λ boxes slots.
       pair = pair_still p0.0 p h.0.promise.ring.value e.ring (subst (λ r. IsPair p0.0 r) (sym its.4) pair) (c.feed_from-stopped.ensures.same d p0.0 p p0.1 at_p) mine.ring_same;
       sent_all = c.feed_from-stopped.ensures.sent d p at_p;
     } in
-    let long : length c.join_all-served.result.items ≡ length c.args.queues.now = c.join_all-served.ensures.count ∙ c.in-Some.ensures.count ∙ c.requires.works in
+    let long : length c.join_lanes-served.result.0.items ≡ length c.args.queues.now = c.join_lanes-served.ensures.count ∙ c.in-Some.ensures.count ∙ c.requires.works in
     let all_met = c.meet_all-refused.ensures.met config zone past ends_are in
     let some = subst (λ m. 0 < m) (sym count) c.requires.some in record {
-      decided = decided_of config zone n c.args.queues.now past c.meet_all-refused.result c.join_all-served.result.items c.join_all-ends.result.items refl all_met;
-      older = decided_older config zone n c.args.queues.now past c.meet_all-refused.result c.join_all-served.result.items c.join_all-ends.result.items refl all_met some;
+      decided = decided_of config zone n c.args.queues.now past c.meet_all-refused.result c.join_lanes-served.result.0.items c.join_all-ends.result.items refl all_met;
+      older = decided_older config zone n c.args.queues.now past c.meet_all-refused.result c.join_lanes-served.result.0.items c.join_all-ends.result.items refl all_met some;
       count = c.meet_all-refused.ensures.served ∙ long ∙ c.requires.lanes;
       each = λ l t at_t.
           let below : l < length c.args.queues.now = subst (λ m. l < m) (c.meet_all-refused.ensures.served ∙ long) (slice_get_within c.meet_all-refused.new.served.items l t at_t) in
           let q = some_at c.args.queues.now l below in
-          let s = some_at c.join_all-served.result.items l (subst (λ m. l < m) (sym long) below) in
+          let s = some_at c.join_lanes-served.result.0.items l (subst (λ m. l < m) (sym long) below) in
           let w = some_at c.args.works.items l (subst (λ m. l < m) (sym c.requires.works) below) in
           let h = some_at c.in-Some.lanes.items l (subst (λ m. l < m) (sym (c.in-Some.ensures.count ∙ c.requires.works)) below) in
-          let kept : IsServed h.0.promise.queue.now h.0.promise.boxes s.0 = c.join_all-served.ensures.each l h.0 s.0 h.1 s.1 in
+          let kept : IsServed h.0.promise.queue.now h.0.promise.boxes s.0 = c.join_lanes-served.ensures.each l h.0 s.0 h.1 s.1 in
           let its = c.in-Some.ensures.each l w.0 h.0 w.1 h.1 in
           let same : h.0.promise.queue.now ≡ q.0 = same_Some _ _ (sym its.0 ∙ q.1) in
           let served : IsServed q.0 (boxes l) s.0 = subst (λ (b : ℕ). IsServed q.0 b s.0) (its.1 ∙ slots l w.0 w.1) (subst (λ (r : LaneQueue). IsServed r h.0.promise.boxes s.0) same kept) in
-          lane_end laws config zone n l q.0 c.args.queues.now past c.meet_all-refused.result c.join_all-served.result.items c.join_all-ends.result.items s.0 refl q.1 s.1
+          lane_end laws config zone n l q.0 c.args.queues.now past c.meet_all-refused.result c.join_lanes-served.result.0.items c.join_all-ends.result.items s.0 refl q.1 s.1
           all_met (boxes l) t
           some (c.requires.queues l q.0 q.1 ∙ sym count) served (c.meet_all-refused.ensures.kept l s.0 t s.1 at_t);
     }
@@ -155,9 +155,18 @@ returns-clause-log g c =
     let merged : c.deref.result.now ≡ c.join_all-ends.result.items = search rules in
     let order = subst (λ (es : List DeciderEnd). AreInOrder es → IsInOrder log) merged c.merged_log-log.ensures.order in
     log_any config zone past c.meet_all-refused.result c.feed_from-stopped.result c.merged_log-log.result.1 c.merged_log-log.result.0.items
-    (λ whole. log_end laws config zone n c.args.queues.now past c.meet_all-refused.result c.join_all-served.result.items c.join_all-ends.result.items c.merged_log-log.result.0.items c.requires.accepted
+    (λ whole. log_end laws config zone n c.args.queues.now past c.meet_all-refused.result c.join_lanes-served.result.0.items c.join_all-ends.result.items c.merged_log-log.result.0.items c.requires.accepted
     (subst (λ m. 0 < m) (sym count) c.requires.some) refl (c.meet_all-refused.ensures.met config zone past ends_are) order (subst (λ (es : List DeciderEnd). HasEach es log) merged (c.merged_log-log.ensures.each whole)))
     c.merged_log-log.ensures.none
 
 pub returns-clause-over : goal.returns-clause-over
 returns-clause-over g c = λ m. c.feed_from-stopped.ensures.over (neither_first c.feed_from-stopped.result c.merged_log-log.result.1 m)
+
+pub returns-clause-boxes : goal.returns-clause-boxes
+returns-clause-boxes g c = λ l w s b at_w at_s at_b.
+    let long : length c.join_lanes-served.result.0.items ≡ length c.args.queues.now = c.join_lanes-served.ensures.count ∙ c.in-Some.ensures.count ∙ c.requires.works in
+    let below : l < length c.args.queues.now = subst (λ m. l < m) (c.meet_all-refused.ensures.served ∙ long) (slice_get_within c.meet_all-refused.new.served.items l s at_s) in
+    let s0 = some_at c.join_lanes-served.result.0.items l (subst (λ m. l < m) (sym long) below) in
+    let h = some_at c.in-Some.lanes.items l (subst (λ m. l < m) (sym (c.in-Some.ensures.count ∙ c.requires.works)) below) in
+    let its = c.in-Some.ensures.each l w h.0 at_w h.1 in
+    boxes_still _ _ _ _ _ _ s0.0 s _ _ b.items its.3 its.2 (ap (λ v. v.items) its.4) (c.meet_all-refused.ensures.kept l s0.0 s s0.1 at_s) (c.join_lanes-served.ensures.boxes l h.0 s0.0 b h.1 s0.1 at_b)

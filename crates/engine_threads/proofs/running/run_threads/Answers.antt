@@ -1,9 +1,10 @@
-use Rattle.std.proofs.Common.{arith, ◌≡◌, ◌<◌, ◌∙◌, ℕ, List, length, slice_get, Some, ap, subst, sym, reverse}
-use Rattle.std.proofs.lemmas.Option.{slice_get_within}
+use Rattle.std.proofs.Common.{arith, ◌≡◌, ◌<◌, ◌∙◌, ℕ, List, length, slice_get, Some, ap, refl, subst, sym, reverse}
+use Rattle.std.proofs.lemmas.Option.{none-some, slice_get_within}
 use Rattle.due_model.specs.declared.event.Event.{Event}
 use Rattle.delivery_worker.specs.declared.worker.Served.{Served}
 use Rattle.engine_threads.specs.Run.{IsRun}
 use Rattle.lemmas.proofs.Lists.{some_at}
+use Rattle.engine_threads.proofs.JoinLaws.{boxes_still}
 use Rattle.engine_threads.proofs.RunLaws.{run_of_none}
 use Rattle.engine_threads.proofs.WorkLaws.{number_at, number_of}
 use Rattle.engine_threads.proofs.running.run_threads.Goals as goal
@@ -48,3 +49,24 @@ returns-in-Ok-run_scope-clause-few g c =
     let lanes = c.in-Ok-run_scope.ensures.lanes (number_of works (λ w. length w.boxes.items)) (number_at works (λ w. length w.boxes.items)) in
     let same = ap (λ (ss : List Served). length ss) c.end_of.ensures.lanes in
     omega (arith, same, lanes.count)
+
+pub returns-in_default-clause-boxes : goal.returns-in_default-clause-boxes
+returns-in_default-clause-boxes g c = λ l slot s b at_c at_s at_b. absurd (none-some s (subst (λ (ss : List Served). slice_get ss l ≡ Some s) c.nothing.ensures.lanes at_s))
+
+pub returns-clause-boxes : goal.returns-clause-boxes
+returns-clause-boxes g c = λ l slot s b at_c at_s at_b. absurd (none-some s (subst (λ (ss : List Served). slice_get ss l ≡ Some s) c.nothing-in-Err.ensures.lanes at_s))
+
+pub returns-in-Ok-run_scope-clause-boxes : goal.returns-in-Ok-run_scope-clause-boxes
+returns-in-Ok-run_scope-clause-boxes g c = λ l slot s b at_c at_s at_b.
+    let set = c.in-Ok.ensures in
+    let w = some_at c.in-Ok.setting.works.items l (subst (λ n. l < n) (sym set.works) (slice_get_within c.args.slots.items l slot at_c)) in
+    let same = (set.slots l w.0 slot at_c w.1).0 in
+    let at_served = subst (λ (ss : List Served). slice_get ss l ≡ Some s) c.end_of.ensures.lanes at_s in
+    let at_boxes = subst (λ bs. slice_get bs l ≡ Some b) c.end_of.ensures.boxes at_b in
+    boxes_still _ _ _ _ _ _ s s _ _ b.items refl refl (ap (λ v. v.items) same) (record { held = refl; why = refl; picked = refl }) (c.in-Ok-run_scope.ensures.boxes l w.0 s b w.1 at_served at_boxes)
+
+pub returns-in-Ok-run_scope-clause-all : goal.returns-in-Ok-run_scope-clause-all
+returns-in-Ok-run_scope-clause-all g c = λ began.
+    let works = c.in-Ok.setting.works.items in
+    let lanes = c.in-Ok-run_scope.ensures.lanes (number_of works (λ w. length w.boxes.items)) (number_at works (λ w. length w.boxes.items)) in
+    subst (λ (ss : List Served). length ss ≡ length c.args.config.now.lanes) (sym c.end_of.ensures.lanes) (lanes.count)

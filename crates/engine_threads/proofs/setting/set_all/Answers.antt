@@ -10,9 +10,11 @@ use Rattle.engine_threads.proofs.WorkLaws.{rings_longer, works_longer}
 use Rattle.engine_threads.proofs.setting.set_all.Goals as goal
 
 pub lane_work-requires : goal.lane_work-requires
-lane_work-requires g c =
-    c.requires.few (length c.loop-slot.yielded) c.in-Some.slot
-    (next_at c.loop-slot.yielded c.in-Some.slot (into_iter_items c.loop-slot.slot-iterator) (into_iter_items c.next.new.self) c.args.slots.items c.in-Some.ensures.steps.0 c.loop-slot.invariant.2)
+lane_work-requires g c = (
+  c.type_bounds.send-C,
+  c.requires.few (length c.loop-slot.yielded) c.in-Some.slot
+      (next_at c.loop-slot.yielded c.in-Some.slot (into_iter_items c.loop-slot.slot-iterator) (into_iter_items c.next.new.self) c.args.slots.items c.in-Some.ensures.steps.0 c.loop-slot.invariant.2),
+)
 
 pub loop-slot-preserved : goal.loop-slot-preserved
 loop-slot-preserved g c =

@@ -34,10 +34,13 @@ loop-work-preserved g c =
     let queue = slice_get_read c.args.queues.now c.len-in-loop-work.result c.index-queues-len.result below c.index-queues-len.is in
     let items : c.push.new.self.items ≡ c.loop-work.handles.items ++ c.in_ok-handle.handle ∷ [] = search rules in
     let boxes : c.in_ok-handle.handle.promise.boxes ≡ length c.in-Some.work.boxes.items = search rules in
+    let config : c.in_ok-handle.handle.promise.config.now ≡ c.args.config.now = search rules in
+    let tries : c.in_ok-handle.handle.promise.tries ≡ c.args.tries = search rules in
+    let given : c.in_ok-handle.handle.promise.given.value ≡ c.in-Some.work.boxes = search rules in
     let its : c.in_ok-handle.handle.promise.queue.now ≡ c.index-queues-len.result = search rules in
     let at : slice_get c.args.queues.now (length c.loop-work.yielded) ≡ Some c.in_ok-handle.handle.promise.queue.now = subst (λ k. slice_get c.args.queues.now k ≡ Some c.in_ok-handle.handle.promise.queue.now) (sym len) (queue ∙ ap (λ q. Some q) (sym its)) in (
       both_longer c.loop-work.yielded c.loop-work.handles.items c.push.new.self.items c.in-Some.work c.in_ok-handle.handle items inv.0,
-      rw items (pairs_grow (λ i w h. (slice_get c.args.queues.now i ≡ Some h.promise.queue.now) × (h.promise.boxes ≡ length w.boxes.items)) c.loop-work.yielded c.loop-work.handles.items c.in-Some.work c.in_ok-handle.handle inv.0 inv.1 (at, boxes)),
+      rw items (pairs_grow (λ i w h. (slice_get c.args.queues.now i ≡ Some h.promise.queue.now) × (h.promise.boxes ≡ length w.boxes.items) × (h.promise.config.now ≡ c.args.config.now) × (h.promise.tries ≡ c.args.tries) × (h.promise.given.value ≡ w.boxes)) c.loop-work.yielded c.loop-work.handles.items c.in-Some.work c.in_ok-handle.handle inv.0 inv.1 (at, boxes, config, tries, given)),
       next_rest c.loop-work.yielded c.in-Some.work (into_iter_items c.loop-work.work-iterator) (into_iter_items c.next.new.self) c.args.works.items c.in-Some.ensures.steps.0 inv.2,
     )
 

@@ -6,5 +6,6 @@ abbrev pub invariant-loop-work : goal.invariant-loop-work
 invariant-loop-work g l =
     (length l.handles.items ≡ length l.yielded)
     × ((i : ℕ) (w : _) (h : _) → slice_get l.yielded i ≡ Some w → slice_get l.handles.items i ≡ Some h
-    → (slice_get l.queues i ≡ Some h.promise.queue.now) × (h.promise.boxes ≡ length w.boxes.items))
+    → (slice_get l.queues i ≡ Some h.promise.queue.now) × (h.promise.boxes ≡ length w.boxes.items)
+    × (h.promise.config.now ≡ l.config) × (h.promise.tries ≡ l.tries) × (h.promise.given.value ≡ w.boxes))
     × (l.yielded ++ into_iter_items l.work-iterator ≡ l.fn.works.items)

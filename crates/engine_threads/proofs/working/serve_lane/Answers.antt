@@ -2,8 +2,8 @@ use Rattle.std.proofs.Common.{ap, length}
 use Rattle.std.proofs.lemmas.List.{nil_from_length}
 use Rattle.engine_threads.proofs.working.serve_lane.Goals as goal
 
-pub returns : goal.returns
-returns g c =
+pub returns-clause-served : goal.returns-clause-served
+returns-clause-served g c =
     let s = c.serve.ensures in
     let boxes = c.args.work.boxes.items in record {
       worker = s.worker;

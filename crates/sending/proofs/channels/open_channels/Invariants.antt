@@ -5,4 +5,4 @@ use Rattle.sending.proofs.channels.open_channels.Given as goal
 -- the channels so far are as the first words ask for them
 abbrev pub invariant-loop-word : goal.invariant-loop-word
 invariant-loop-word l =
-    map opened l.channels.items ≡ map asked (take l.word-index l.words)
+    map opened l.channels.items ≡ map (asked 0) (take l.word-index l.words)

@@ -1,8 +1,9 @@
-use Rattle.std.proofs.Common.{◌≤◌, ◌∙◌, List, ap, length, rules, subst, sym}
+use Rattle.std.proofs.Common.{◌≤◌, ◌∙◌, List, ap, length, map, rules, subst, sym}
+use Rattle.std.proofs.lemmas.Simd.{map-map}
 use Rattle.channel_words.specs.Lanes.{boxes_for}
 use Rattle.due_model.specs.declared.config.LaneId.{LaneId}
-use Rattle.run_command.specs.Report.{WritesReport}
-use Rattle.sending.proofs.PostLaws.{command_fails}
+use Rattle.sending.specs.Channels.{opened}
+use Rattle.sending.proofs.PostLaws.{command_fails, opened_same}
 use Rattle.sending.proofs.run.do_run.Goals as goal
 
 pub run_through-requires-clause-each : goal.run_through-requires-clause-each
@@ -10,18 +11,21 @@ run_through-requires-clause-each g c κs within = c.in_ok-config.ensures.each �
 
 pub run_through-requires-clause-few : goal.run_through-requires-clause-few
 run_through-requires-clause-few g c κs within =
-    λ l. subst (λ (lanes : List LaneId). boxes_for lanes l ≤ 8) (sym c.deref.ensures.value) (c.in_ok-config.ensures.right.lanes_are.few_lanes l)
+    λ l. subst (λ (lanes : List LaneId). boxes_for lanes l ≤ 8) (sym c.deref.ensures.value) (c.in_ok-config.ensures.right.right.lanes_are.few_lanes l)
 
-pub returns-in_err-ending-clause-fault : goal.returns-in_err-ending-clause-fault
-returns-in_err-ending-clause-fault g c =
-    let fails = command_fails _ c.in_err-ending.field-0.0 c.in_ok-config.config c.in_ok-config.lanes.items c.in_ok-config.ensures.right c.in_err-ending.ensures.fault in
+pub returns-in_err-done-clause-fault : goal.returns-in_err-done-clause-fault
+returns-in_err-done-clause-fault g c =
+    let fails = command_fails _ c.in_err-done.field-0.0 c.in_ok-config.config c.in_ok-config.lanes.items c.in_ok-config.ensures.right.right c.in_err-done.ensures.fault in
     search rules
 
 pub returns-clause-ok : goal.returns-clause-ok
-returns-clause-ok g c = record {
-  config = c.in_ok-config.config;
-  lanes = c.in_ok-config.lanes.items;
-  right = c.in_ok-config.ensures.right;
-  report = subst (λ (lanes : List LaneId). WritesReport g.R.Input.can_fail c.in_ok-config.config c.args.zone.now (boxes_for lanes) (g.R.Read.remaining c.args.feed) c.in_ok-ending.ending
-      (g.W.Write.contents c.args.writer.now) (g.W.Write.contents c.run_through.new.writer)) c.deref.ensures.value c.in_ok-ending.ensures.report;
-}
+returns-clause-ok g c =
+    let done = c.in_ok-done.ensures.report in
+    record {
+      config = c.in_ok-config.config;
+      lanes = c.in_ok-config.lanes.items;
+      posts = done.0;
+      posted = done.1 ∙ c.deref.ensures.value;
+      right = opened_same c.in_ok-config.ensures.right (ap (map opened) (sym done.2) ∙ map-map opened (λ post. post.channel.channel) done.0);
+      report = done.3;
+    }

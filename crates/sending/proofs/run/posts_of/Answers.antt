@@ -1,13 +1,12 @@
-use Rattle.channel_words.specs.Lanes.{boxes_for}
-use Rattle.engine.specs.Lanes.{count_of}
-use Rattle.std.proofs.Common.{rules, ◌≡◌, ◌<◌, ◌≤◌, sym, ◌++◌, ◌∷◌, [], length, subst}
+use Rattle.std.proofs.Common.{rules, ◌≡◌, ◌<◌, ◌∙◌, ap, append-nil, sym, ◌++◌, ◌∷◌, [], length, subst}
 use Rattle.std.proofs.lemmas.List.{nil_from_length}
 use Rattle.std.specs.Vec.Iter.{into_iter_items}
-use Rattle.sending.proofs.PostLaws.{all_posted, longer, next_rest, posted_on, report_posted, same_posted, within}
-use Rattle.sending.proofs.run.run_posted.Goals as goal
+use Rattle.sending.specs.Channels.{numbered_from}
+use Rattle.sending.proofs.PostLaws.{all_posted, longer, next_rest, numbers_more, posted_on, within}
+use Rattle.sending.proofs.run.posts_of.Goals as goal
 
 pub bounds-lanes-len : goal.bounds-lanes-len
-bounds-lanes-len g c =
+bounds-lanes-len c =
     let inv = c.loop-channel.invariant in
     let len : length c.loop-channel.yielded ≡ c.len.result = search rules in
     subst (λ n. n < length c.args.lanes.now) len
@@ -15,7 +14,7 @@ bounds-lanes-len g c =
     c.in-Some.channel (into_iter_items c.next.new.self) c.in-Some.ensures.steps.0)
 
 pub loop-channel-preserved : goal.loop-channel-preserved
-loop-channel-preserved g c =
+loop-channel-preserved c =
     let inv = c.loop-channel.invariant in
     let len : length c.loop-channel.yielded ≡ c.len.result = search rules in
     let items : c.push.new.self.items ≡ c.loop-channel.posts.items ++ _ ∷ [] = c.in_ok-push.ensures.items in (
@@ -25,22 +24,19 @@ loop-channel-preserved g c =
           c.in-Some.channel (into_iter_items c.next.new.self) c.in-Some.ensures.steps.0 c.loop-channel.posts.items c.push.new.self.items _ items inv.1,
       next_rest c.loop-channel.yielded (into_iter_items c.loop-channel.channel-iterator) c.args.channels.items c.args.lanes.now inv.2 c.requires.each
           c.in-Some.channel (into_iter_items c.next.new.self) c.in-Some.ensures.steps.0,
+      numbers_more (λ post. post.channel.channel) c.loop-channel.posts.items c.push.new.self.items _ c.loop-channel.yielded c.in-Some.channel items (search rules) inv.3,
     )
 
-pub run-requires-clause-few : goal.run-requires-clause-few
-run-requires-clause-few g c κs within =
+pub returns-clause-lanes : goal.returns-clause-lanes
+returns-clause-lanes c =
     let inv = c.loop-channel.invariant in
     let none : into_iter_items c.loop-channel.channel-iterator ≡ [] = nil_from_length (into_iter_items c.loop-channel.channel-iterator) (search rules) in
-    let lanes_are = all_posted c.loop-channel.yielded (into_iter_items c.loop-channel.channel-iterator) c.args.channels.items c.args.lanes.now inv.2 c.requires.each
-    (λ post. post.lane) c.loop-channel.posts.items none inv.0 in
-    λ l. subst (λ n. n ≤ 8) (sym (same_posted (λ post. post.lane) c.loop-channel.posts.items c.args.lanes.now lanes_are l)) (c.requires.few l)
+    all_posted c.loop-channel.yielded (into_iter_items c.loop-channel.channel-iterator) c.args.channels.items c.args.lanes.now inv.2 c.requires.each
+    (λ post. post.lane) c.loop-channel.posts.items none inv.0
 
-pub returns-clause-report : goal.returns-clause-report
-returns-clause-report g c =
+pub returns-clause-channels : goal.returns-clause-channels
+returns-clause-channels c =
     let inv = c.loop-channel.invariant in
     let none : into_iter_items c.loop-channel.channel-iterator ≡ [] = nil_from_length (into_iter_items c.loop-channel.channel-iterator) (search rules) in
-    let lanes_are = all_posted c.loop-channel.yielded (into_iter_items c.loop-channel.channel-iterator) c.args.channels.items c.args.lanes.now inv.2 c.requires.each
-    (λ post. post.lane) c.loop-channel.posts.items none inv.0 in
-    report_posted g.R.Input.can_fail c.args.config.now c.args.zone.now (count_of (λ post. post.lane.0) c.loop-channel.posts.items) (boxes_for c.args.lanes.now)
-    (g.R.Read.remaining c.args.feed) (g.W.Write.contents c.args.writer.now) (g.W.Write.contents c.run.new.writer) c.in_ok-ending.ending
-    (same_posted (λ post. post.lane) c.loop-channel.posts.items c.args.lanes.now lanes_are) c.in_ok-ending.ensures.report
+    let all = sym (append-nil c.loop-channel.yielded) ∙ ap (λ rest. c.loop-channel.yielded ++ rest) (sym none) ∙ inv.2 in
+    inv.3 ∙ ap (numbered_from 0) all

@@ -1,0 +1,12 @@
+-- What a run leaves that didn't begin.
+use Rattle.std.specs.Prelude.{◌≡◌, List, [], Bool, true}
+use Rattle.due_model.specs.declared.event.Event.{Event}
+use Rattle.due_model.specs.declared.notice.Suppression.{Suppression}
+use Rattle.event_feed.specs.declared.fault.RefusedLine.{RefusedLine}
+use Rattle.engine.specs.Lanes.{LaneParts}
+
+-- nothing is there, for want of memory or of a thread
+abbrev pub IsUnread : (events : List Event) → (refused : List RefusedLine) → (log : List Suppression) → (lanes : List LaneParts)
+    → (memory : Bool) → Type 0
+IsUnread events refused log lanes memory =
+    (events ≡ []) × (refused ≡ []) × (log ≡ []) × (lanes ≡ []) × (memory ≡ true)
