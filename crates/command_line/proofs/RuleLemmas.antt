@@ -5,7 +5,8 @@ use Rattle.clap.specs.Words.{new_rule, Rule, signed_between}
 use Rattle.clap.specs.declared.builder.arg.Arg.{Arg}
 use Rattle.clap.specs.declared.builder.value_parser.ValueParser.{ValueParser}
 use Rattle.clap.specs.declared.builder.value_parser.ValueParser.TheVariants.{Signed}
-use Rattle.command_line.specs.Words.{number_option, text_option}
+use Rattle.clap.specs.declared.builder.action.ArgAction.TheVariants.{SetTrue}
+use Rattle.command_line.specs.Words.{flag_option, number_option, text_option}
 
 abbrev pub is_global : Arg → Bool
 is_global a = a.global
@@ -25,3 +26,9 @@ pub number-rule : (name default : List ℕ) (least most : ℕ) (named parsed def
     → parser ≡ Some (Signed (pos least) (pos most)) → defaulted ≡ record parsed { defaults = default ∷ [] } → defaulted ≡ number_option name default least most
 number-rule name default least most named parsed defaulted parser is is_parsed is_parser is_defaulted =
     is_defaulted ∙ ap (λ (r : Rule). record r { defaults = default ∷ [] }) (is_parsed ∙ ap₂ (λ (r : Rule) (p : Option ValueParser). record r { parser = p }) is is_parser)
+
+-- `made`, with its long name, and then with the action of a flag
+pub flag-rule : (name : List ℕ) (made long acted : Rule) → made ≡ new_rule name → long ≡ record made { long = Some name } → acted ≡ record long { action = Some SetTrue }
+    → acted ≡ flag_option name
+flag-rule name made long acted is is_long is_acted =
+    is_acted ∙ ap (λ (r : Rule). record r { action = Some SetTrue }) (is_long ∙ ap (λ (r : Rule). record r { long = Some name }) is)

@@ -1,5 +1,5 @@
 -- What the words of a command line ask, and which words there are.
-use Rattle.std.specs.Prelude.{◌≡◌, ℕ, ◌<◌, ◌≤◌, List, [], ◌∷◌, map, Some, pos, true, false, codes, is_some}
+use Rattle.std.specs.Prelude.{◌≡◌, ℕ, ◌<◌, ◌≤◌, Bool, List, [], ◌∷◌, map, None, Some, pos, true, false, codes, is_some}
 use Rattle.std.specs.Option.{option_copied, option_map}
 use Rattle.std.specs.Str.Parse.{digits_value, IsNumeral, without_leading_plus}
 use Rattle.clap.specs.Lexer.{usize_max}
@@ -10,6 +10,7 @@ use Rattle.clap.specs.Words.{App, Rule, new_app, new_rule, rows_of, subcommand_r
 use Rattle.clap.specs.Words.{with_rule}
 use Rattle.steps.specs.declared.settings.Settings.{Settings}
 use Rattle.steps.specs.Settings.{AreSettings, max_boxes}
+use Rattle.clap.specs.declared.builder.action.ArgAction.TheVariants.{SetTrue}
 use Rattle.clap.specs.declared.builder.value_parser.ValueParser.TheVariants.{Signed}
 use Rattle.command_line.specs.declared.words.Request.{Request}
 use Rattle.command_line.specs.declared.words.TryTimes.{TryTimes}
@@ -20,13 +21,13 @@ use Rattle.command_line.specs.declared.words.Request.TheVariants.{Replay, Trace,
 abbrev pub request_name : Request → List ℕ
 request_name (Replay objects zone) = codes "replay"
 request_name (Trace settings standbys zone) = codes "trace"
-request_name (Run objects settings zone channels times) = codes "run"
+request_name (Run objects settings zone channels times quiet) = codes "run"
 
 -- in a trace fewer boxes stand by than a lane may have
 abbrev pub AreSettingsFit : Request → Type 0
 AreSettingsFit (Replay objects zone) = Unit {0}
 AreSettingsFit (Trace settings standbys zone) = standbys < max_boxes
-AreSettingsFit (Run objects settings zone channels times) = Unit {0}
+AreSettingsFit (Run objects settings zone channels times quiet) = Unit {0}
 
 -- the texts that the options of a command hold of the zone
 pub record IsZoneOf (options : Found) (words : ZoneWords) : Type 0 where
@@ -38,6 +39,12 @@ abbrev pub HoldsNumber : Found → (name : List ℕ) → (number : ℕ) → Type
 HoldsNumber options name number = (text : List ℕ) × (one_text options name ≡ Some text)
     × IsNumeral 10 (without_leading_plus text)
     × (number ≡ digits_value 10 (without_leading_plus text))
+
+-- A flag is on where it is given, and off where it isn't.
+pub record IsFlag (options : Found) (name : List ℕ) (flag : Bool) : Type 0 where
+  pub left_out : one_text options name ≡ None → flag ≡ false
+  pub on : one_text options name ≡ Some (codes "true") → flag ≡ true
+  pub off : one_text options name ≡ Some (codes "false") → flag ≡ false
 
 -- the numbers that the options of a command hold of a lane
 pub record HoldSettings (options : Found) (settings : Settings) : Type 0 where
@@ -81,10 +88,10 @@ IsRequestOf options (Trace settings standbys zone) =
     HoldsNumber options (codes "deciders") settings.deciders
     × HoldsNumber options (codes "standbys") standbys
     × HoldSettings options settings × IsZoneOf options zone
-IsRequestOf options (Run objects settings zone channels times) =
+IsRequestOf options (Run objects settings zone channels times quiet) =
     (Some objects.now ≡ first_value options (codes "objects"))
     × HoldsNumber options (codes "deciders") settings.deciders × HoldSettings options settings × IsZoneOf options zone
-    × HoldTimes options times
+    × HoldTimes options times × IsFlag options (codes "quiet") quiet
     × (option_map (λ words. map (λ word. word.now) words.now) channels
     ≡ option_map raw_values (matched_of options (codes "channel")))
 
@@ -103,7 +110,7 @@ IsMetWith matches name so = (options : Found)
 abbrev pub request_zone : Request → ZoneWords
 request_zone (Replay objects zone) = zone
 request_zone (Trace settings standbys zone) = zone
-request_zone (Run objects settings zone channels times) = zone
+request_zone (Run objects settings zone channels times quiet) = zone
 
 -- it gives a rule and a file
 abbrev pub AreTwo : ZoneWords → Type 0
@@ -123,6 +130,13 @@ abbrev pub text_option : List ℕ → Rule
 text_option name = record (new_rule name) {
   long = Some name;
   value_names = 1;
+}
+
+-- `--NAME`, which may be left out
+abbrev pub flag_option : List ℕ → Rule
+flag_option name = record (new_rule name) {
+  long = Some name;
+  action = Some SetTrue;
 }
 
 -- words without an option, of which there may be any number
@@ -162,13 +176,13 @@ with_try_options app =
     (number_option (codes "pause") (codes "1") 0 60)
 
 -- `run` has the file of the object text, which must be given, how many deciders there are, how many notices a lane's queue holds,
--- these, and the channel words
+-- these, `--quiet`, and the channel words
 abbrev pub run_words : App
 run_words =
-    with_rule (with_zone (with_try_options (with_rule (with_rule (with_rule (new_app (codes "run"))
+    with_rule (with_zone (with_rule (with_try_options (with_rule (with_rule (with_rule (new_app (codes "run"))
     (record (text_option (codes "objects")) { required = true }))
     (number_option (codes "deciders") (codes "2") 1 8))
-    (number_option (codes "queue") (codes "64") 1 1024)))) (word_list (codes "channel"))
+    (number_option (codes "queue") (codes "64") 1 1024))) (flag_option (codes "quiet")))) (word_list (codes "channel"))
 
 -- `notify-run` has these three commands, `--version`, no command `help`, and asks for one of the three
 abbrev pub program_words : App

@@ -5,13 +5,13 @@ ghost use Rattle.clap.specs.Matches.{found_of};
 ghost use Rattle.clap.specs.Words.{app_of, rule_of, subcommand_name_of};
 ghost use Rattle.command_line.specs.Words.{AreSettingsFit, IsAskedBy, IsRequestOf, IsZoneOf};
 ghost use Rattle.command_line.specs.Words.{HoldFitting, HoldSettings, HoldSomeTimes, HoldTimes, HoldsNumber};
-ghost use Rattle.command_line.specs.Words.{IsMetWith, RunLacks};
+ghost use Rattle.command_line.specs.Words.{IsMetWith, RunLacks, flag_option};
 ghost use Rattle.command_line.specs.Words.{TraceLacks};
 ghost use Rattle.command_line.specs.Words.{number_option, program_words, replay_words};
 ghost use Rattle.command_line.specs.Words.{request_name, request_zone, run_words, text_option};
 ghost use Rattle.command_line.specs.Words.{trace_words, with_lane_options, with_try_options, with_zone, word_list};
 
-use clap::{Arg, ArgMatches, Command, value_parser};
+use clap::{Arg, ArgAction, ArgMatches, Command, value_parser};
 use std::alloc::{AllocError, Global};
 use steps::{MAX_BOXES, Settings};
 
@@ -90,7 +90,8 @@ spaces; nothing quotes a space. Messages go out as the events come, those of eac
 service in order. A message that fails is tried again, up to --tries, after a pause; a pager
 or a program that takes longer than --timeout has failed. Then the next word of the same
 command takes over with it, of up to eight; after the last, that and all later messages of
-the command stay undelivered. Once the feed is over, standard output gets
+the command stay undelivered. What fails is said on standard error as it goes, without
+--quiet. Once the feed is over, standard output gets
 
   R;line;fault                                             a refused line of the feed
   S;event;moment;object;kind;state;filter                  what a filter of the object stopped
@@ -146,6 +147,8 @@ pub enum Request<'m, 'a> {
         /// The channel words, in order, if there are some.
         channels: Option<&'m [&'a str]>,
         times: TryTimes,
+        /// Whether nothing is said of it before its report.
+        quiet: bool,
     },
 }
 
@@ -331,6 +334,17 @@ fn with_lane_options<'a>(
         .arg(tries_option(alloc))
 }
 
+/// The option that leaves out what a run says before its report.
+fn quiet_option<'a>(alloc: Global) -> Arg<'a>
+    ensures rule { rule_of result ≡ flag_option (codes "quiet") }
+    ensures local { result.global ≡ false }
+{
+    Arg::new(alloc, "quiet")
+        .long("quiet")
+        .action(ArgAction::SetTrue)
+        .help("Says nothing on standard error of what fails as it goes")
+}
+
 /// Adds the options that say how a run tries a message: how often, how long at most, and after which pause.
 fn with_try_options<'a>(alloc: Global, command: Command<'a>) -> Result<Command<'a>, AllocError>
     ensures words { IfOk result (λ command_with. app_of command_with
@@ -366,7 +380,8 @@ fn run_command<'a>(alloc: Global) -> Result<Command<'a>, AllocError>
     let queue = "How many notices wait at most for a command's channel, 1 to 1024";
     let with_queue = command.arg(queue_option(alloc, queue))?;
     let with_tries = with_try_options(alloc, with_queue)?;
-    let with_options = with_zone(alloc, with_tries)?;
+    let with_quiet = with_tries.arg(quiet_option(alloc))?;
+    let with_options = with_zone(alloc, with_quiet)?;
     with_options.arg(channel_words(alloc))
 }
 
@@ -476,6 +491,7 @@ fn run_request<'m, 'a>(options: &'m ArgMatches<'a>) -> Option<Request<'m, 'a>>
         zone: zone_words(options),
         channels: options.get_strs("channel"),
         times,
+        quiet: options.get_flag("quiet"),
     })
 }
 

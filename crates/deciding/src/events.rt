@@ -121,6 +121,7 @@ pub(crate) fn decide_events<G: Gate, R: Wait + Clock>(
                 }
                 if !decide_event(config, event, decider, outbox) {
                     halt.store(true, Ordering::SeqCst);
+                    gate.wanting();
                     return false;
                 }
             }

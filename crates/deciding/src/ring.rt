@@ -65,6 +65,7 @@ fn decide_all<G: Gate, R: Wait + Clock>(
         Outbox::new(alloc, config.lanes.len()),
     ) else {
         halt.store(true, Ordering::SeqCst);
+        gate.wanting();
         skip_rest(rt, ring, false);
         return (Vec::new(alloc), true);
     };

@@ -50,6 +50,12 @@ pub trait Gate {
     /// Called by a decider before each event.
     fn turn(&self, decider: u8);
 
+    /// Called by the intake of a feed for each line that it refuses, with the line's number and the fault's name.
+    fn refused(&self, _line: u64, _fault: &str) {}
+
+    /// Called by the intake, a decider or a worker that ends since a growth was refused, at once.
+    fn wanting(&self) {}
+
     /// How long a lane waits before it tries a letter again of which so many tries have failed at the device. Not at all, unless a
     /// gate says otherwise.
     fn retry_after(&self, _lane: LaneId, _failed: u8) -> Duration {

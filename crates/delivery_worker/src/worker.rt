@@ -250,6 +250,13 @@ fn tend_boxes<C: Channel, B: Bell, G: Gate, R: Wait + Clock>(
     (pass, why)
 }
 
+/// Tells the gate of a close for want of memory.
+fn tell_close<G: Gate>(why: Why, gate: &G) {
+    if why == Why::NoMemory {
+        gate.wanting();
+    }
+}
+
 /// Serves a lane to its end: up to the close by its channels, if it has any, and then to the end of each decider. The first
 /// serves until a letter has failed as often as it may be tried; then the next serves, beginning with that letter. A channel is
 /// closed where the next takes over or at the close, and is given back.
@@ -301,6 +308,7 @@ pub fn serve<C: Channel, B: Bell, G: Gate, R: Wait + Clock>(
         rt, alloc, config, &mut boxes, &mut held, tries, queue, pass, &mut ends, bell, gate,
     );
     held.close(why);
+    tell_close(why, gate);
     if why == Why::FeedOver {
         return (Served { pass, held, why }, boxes);
     }

@@ -89,7 +89,7 @@ impl Source for Feeds {
       taken = λ taken. two.taken (one.taken taken);
     } };
 
-    fn next(&mut self, config: &Config) -> Result<Given, AllocError> {
+    fn next<G: Gate>(&mut self, config: &Config, _gate: &G) -> Result<Given, AllocError> {
         if self.over.is_some() {
             return Ok(Given::Over);
         }

@@ -9,6 +9,7 @@ ghost use Rattle.event_feed.specs.Feed.{Answer, Feed, feed_limit, feed_of};
 ghost use Rattle.engine.specs.Feed.{Follows, Goes, HasRead, HasTaken, IsLeft, Offers, accepts};
 ghost use Rattle.engine.specs.Feed.{goes_on};
 
+use delivery_worker::Gate;
 use due_model::config::Config;
 use due_model::event::Event;
 use due_model::limits::MAX_EVENTS;
@@ -157,8 +158,13 @@ impl<R: Input + Drop> Intake<R> {
         }
     }
 
-    /// Reads on to the next event that is accepted, or to the end of the feed. A refused growth is the only error.
-    fn next_event(&mut self, config: &Config) -> Result<Option<Event>, AllocError>
+    /// Reads on to the next event that is accepted, or to the end of the feed. A refused growth is the only error. The gate is told of
+    /// each line that is refused before that.
+    fn next_event<G: Gate>(
+        &mut self,
+        config: &Config,
+        gate: &G,
+    ) -> Result<Option<Event>, AllocError>
         ensures goes { Goes R.can_fail config.now self.old self.new }
         ensures ok { IfOk result (λ event.
             self.new.read.events ≡ self.old.read.events ++ option_to_list event) }
@@ -168,8 +174,11 @@ impl<R: Input + Drop> Intake<R> {
         while self.over.is_none() {
             match self.take_line(config)? {
                 Next::Accepts(event) => return Ok(Some(event)),
-                Next::Refused => {}
-                Next::Over(_) => return Ok(None),
+                Next::Refused => tell_last(&self.refused, gate),
+                Next::Over(cut) => {
+                    tell_cut(cut, &self.refused, gate);
+                    return Ok(None);
+                }
             }
         }
         Ok(None)
@@ -202,6 +211,20 @@ impl<R: Input + Drop> Intake<R> {
     }
 }
 
+/// Tells a gate of the line at which a feed was cut, if it was.
+fn tell_cut<G: Gate>(cut: bool, refused: &[RefusedLine], gate: &G) {
+    if cut {
+        tell_last(refused, gate);
+    }
+}
+
+/// Tells a gate of the line that was refused last.
+fn tell_last<G: Gate>(refused: &[RefusedLine], gate: &G) {
+    if let Some(last) = refused.last() {
+        gate.refused(last.line, last.fault.name());
+    }
+}
+
 impl<R: Input + Drop> Source for Intake<R> {
     ghost use Rattle.std.specs.Prelude.{IsSome};
     ghost use Rattle.engine.specs.Feed.{Goes};
@@ -217,8 +240,8 @@ impl<R: Input + Drop> Source for Intake<R> {
     ghost follows = { λ c a b d one two start said taken.
         two start (one start said taken).0 (one start said taken).1 };
 
-    fn next(&mut self, config: &Config) -> Result<Given, AllocError> {
-        match self.next_event(config)? {
+    fn next<G: Gate>(&mut self, config: &Config, gate: &G) -> Result<Given, AllocError> {
+        match self.next_event(config, gate)? {
             Some(event) => Ok(Given::Event(event)),
             None => Ok(Given::Over),
         }

@@ -142,7 +142,7 @@ pub(crate) fn drive<
     word.go();
     let mut senders = senders;
     let mut source = source;
-    let stopped = feed_from(rt, config, &mut senders, &mut source, halt);
+    let stopped = feed_from(rt, config, &mut senders, &mut source, gate, halt);
     let ends = join_all(rt, ends, ended);
     let (mut served, boxes) = join_lanes(rt, lanes, left, places);
     made_of_share();

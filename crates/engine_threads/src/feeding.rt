@@ -9,6 +9,7 @@ ghost use Rattle.deciding.specs.declared.Signal.TheVariants.{Over};
 
 use crate::source::{Given, Source};
 use deciding::Signal;
+use delivery_worker::Gate;
 use due_model::config::Config;
 use idle_pause::Pause;
 use rtrb::Producer;
@@ -45,11 +46,12 @@ fn send_all<R: Wait + Clock>(rt: &R, rings: &mut Vec<Producer<Signal>>, signal: 
 
 /// Sends the events of a source to all deciders, until it has no more, memory runs out, or a thread asks to halt; and then that there
 /// are no more. True: memory ran out.
-pub(crate) fn feed_from<S: Source, R: Wait + Clock>(
+pub(crate) fn feed_from<S: Source, G: Gate, R: Wait + Clock>(
     rt: &R,
     config: &Config,
     rings: &mut Vec<Producer<Signal>>,
     source: &mut S,
+    gate: &G,
     halt: &AtomicBool,
 ) -> bool
     requires { HaveSent (heard (reverse (S.given_so_far source.old))) rings.old.items }
@@ -59,17 +61,18 @@ pub(crate) fn feed_from<S: Source, R: Wait + Clock>(
     ensures source { S.goes config.now source.old source.new }
     ensures over { result ≡ false → S.ended source.new }
 {
-    let memory = send_each(rt, config, rings, source, halt);
+    let memory = send_each(rt, config, rings, source, gate, halt);
     send_all(rt, rings, Signal::Over);
     memory
 }
 
 /// Sends the events of a source to all deciders. True: memory ran out.
-fn send_each<S: Source, R: Wait + Clock>(
+fn send_each<S: Source, G: Gate, R: Wait + Clock>(
     rt: &R,
     config: &Config,
     rings: &mut Vec<Producer<Signal>>,
     source: &mut S,
+    gate: &G,
     halt: &AtomicBool,
 ) -> bool
     requires { HaveSent (heard (reverse (S.given_so_far source.old))) rings.old.items }
@@ -84,8 +87,11 @@ fn send_each<S: Source, R: Wait + Clock>(
         if halt.load(Ordering::SeqCst) {
             return true;
         }
-        match source.next(config) {
-            Err(_) => return true,
+        match source.next(config, gate) {
+            Err(_) => {
+                gate.wanting();
+                return true;
+            }
             Ok(Given::Over) => return false,
             Ok(Given::Nothing) => pause.rest(rt),
             Ok(Given::Event(event)) => {

@@ -1,5 +1,6 @@
 //! Where a run takes its events from.
 
+use delivery_worker::Gate;
 use due_model::config::Config;
 use due_model::event::Event;
 use std::alloc::AllocError;
@@ -37,8 +38,8 @@ pub trait Source: Drop {
     ghost follows: { (config : Config) (a b c : Self) → goes config a b → goes config b c
         → goes config a c };
 
-    /// What comes next. A refused growth is the only error, and gives no event.
-    fn next(&mut self, config: &Config) -> Result<Given, AllocError>
+    /// What comes next. A refused growth is the only error, and gives no event. The gate is told of what is refused.
+    fn next<G: Gate>(&mut self, config: &Config, gate: &G) -> Result<Given, AllocError>
         ensures ok { IfOk result (λ given.
             given_so_far self.new ≡ given_so_far self.old ++ event_in given) }
         ensures err { OnErr result (given_so_far self.new ≡ given_so_far self.old) }

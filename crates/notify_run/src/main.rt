@@ -165,12 +165,14 @@ fn status_of_request<T: Threads + Wait + Clock + Sync>(
             settings,
             channels,
             times,
+            quiet,
             ..
         } => {
             let settings = RunSettings {
                 settings,
                 timeout: times.timeout,
                 pause: times.pause,
+                quiet,
             };
             let feed = AnyReader::new(rt.stdin());
             let mut writer = AnyWriter::new(rt.stdout());

@@ -15,6 +15,8 @@ pub struct Counts {
     events: AtomicU64,
     messages: AtomicU64,
     is_over: AtomicBool,
+    /// Whether a line was said since it was last shown what is counted.
+    is_said: AtomicBool,
 }
 
 impl Counts {
@@ -24,6 +26,7 @@ impl Counts {
             events: AtomicU64::new(0),
             messages: AtomicU64::new(0),
             is_over: AtomicBool::new(false),
+            is_said: AtomicBool::new(false),
         }
     }
 
@@ -42,6 +45,11 @@ impl Counts {
         self.is_over.store(true, Ordering::SeqCst);
     }
 
+    /// A line was said where it is shown what is counted, and stands in the place of that.
+    pub fn say(&self) {
+        self.is_said.store(true, Ordering::SeqCst);
+    }
+
     /// What is counted now.
     pub fn progress(&self) -> Progress {
         Progress {
@@ -51,12 +59,16 @@ impl Counts {
     }
 }
 
-/// Shows on standard error what is counted, as long as there may be more; then the line is taken away.
+/// Shows on standard error what is counted, as long as there may be more, and again after a line that was said there; then the line
+/// is taken away.
 pub fn show<E: Eprint + Clock>(errors: &E, counts: &Counts) {
     let mut line = ProgressLine::new(errors, true);
     for _ in 0..u64::MAX {
         if counts.is_over.load(Ordering::SeqCst) {
             break;
+        }
+        if counts.is_said.swap(false, Ordering::SeqCst) {
+            line.was_taken();
         }
         line.tell(counts.progress());
         thread::sleep(errors, Duration::from_millis(STEP));

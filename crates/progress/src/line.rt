@@ -53,6 +53,13 @@ impl<'a, E: Eprint> ProgressLine<'a, E> {
         self.finish();
     }
 
+    /// Another line has taken its place, and it stands no more.
+    pub(crate) fn was_taken(&mut self)
+        ensures { self.new.stands ≡ false }
+    {
+        self.stands = false;
+    }
+
     /// Writes the line.
     fn write(&mut self, progress: Progress) {
         let Progress { events, messages } = progress;

@@ -5,6 +5,7 @@ ghost use Rattle.std.specs.Prelude.{OnErr, OnOk};
 ghost use Rattle.channel.specs.Channels.{IsCounted, receipt_of};
 
 use crate::settings::pause_after;
+use crate::telling::{LaneTeller, Teller};
 use channel::letter::Letter;
 use channel::{Channel, Fault, Kind, Receipt};
 use due_model::config::LaneId;
@@ -20,14 +21,23 @@ use std::time::Duration;
 #[derive(Drop)]
 pub struct CountingGate {
     counts: Arc<Counts, Global>,
+    teller: Arc<Teller, Global>,
     /// How many seconds pass before the second try of a letter.
     pause: u8,
 }
 
 impl CountingGate {
-    /// A gate that counts there, and before the second try of a letter has so many seconds pass.
-    pub fn new(counts: Arc<Counts, Global>, pause: u8) -> CountingGate {
-        CountingGate { counts, pause }
+    /// A gate that counts there, says what is refused, and before the second try of a letter has so many seconds pass.
+    pub fn new(
+        counts: Arc<Counts, Global>,
+        teller: Arc<Teller, Global>,
+        pause: u8,
+    ) -> CountingGate {
+        CountingGate {
+            counts,
+            teller,
+            pause,
+        }
     }
 }
 
@@ -42,24 +52,37 @@ impl Gate for CountingGate {
         }
     }
 
+    fn refused(&self, line: u64, fault: &str) {
+        self.teller.say(format_args!("line {line}: {fault}"));
+    }
+
+    fn wanting(&self) {
+        self.teller.say_wanting();
+    }
+
     fn retry_after(&self, _lane: LaneId, failed: u8) -> Duration {
         Duration::from_secs(u64::from(pause_after(self.pause, failed)))
     }
 }
 
-/// A channel that hands all to another, and counts the letters that this has taken.
+/// A channel that hands all to another, counts the letters that this has taken, and says where it failed for good.
 #[derive(Drop)]
 pub struct CountedChannel<C: Channel> {
     channel: C,
     counts: Arc<Counts, Global>,
+    teller: LaneTeller,
 }
 
 impl<C: Channel> CountedChannel<C> {
     /// This channel, of which nothing is counted yet.
-    pub fn new(channel: C, counts: Arc<Counts, Global>) -> CountedChannel<C>
+    pub fn new(channel: C, counts: Arc<Counts, Global>, teller: LaneTeller) -> CountedChannel<C>
         ensures { result.channel ≡ channel }
     {
-        CountedChannel { channel, counts }
+        CountedChannel {
+            channel,
+            counts,
+            teller,
+        }
     }
 }
 
@@ -106,12 +129,16 @@ impl<C: Channel> Channel for CountedChannel<C> {
 
     fn close(&mut self) {
         self.channel.close();
+        self.teller.closed();
     }
 
     fn deliver(&mut self, letter: &Letter) -> Result<(), Fault> {
         let outcome = self.channel.deliver(letter);
         if outcome.is_ok() {
             self.counts.count_message();
+            self.teller.taken();
+        } else {
+            self.teller.failed(letter);
         }
         outcome
     }

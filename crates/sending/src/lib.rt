@@ -6,6 +6,7 @@ pub mod counting;
 pub mod fault;
 pub mod run;
 pub mod settings;
+pub mod telling;
 mod watching;
 
 pub use fault::RunFault;

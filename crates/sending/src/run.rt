@@ -12,6 +12,7 @@ use crate::channels::{OpenedChannel, open_channels};
 use crate::counting::{CountedChannel, CountingGate};
 use crate::fault::RunFault;
 use crate::settings::RunSettings;
+use crate::telling::{Teller, teller_of};
 use crate::watching::RunWatcher;
 use channel::Channel;
 use channel_words::{ChannelWord, lanes_of, read_words};
@@ -127,13 +128,15 @@ fn checked<'a, O: Input + Drop>(
     Ok((config, lanes))
 }
 
-/// The posts of these channels, one each on these lanes in order. Each channel is numbered by its place, and counts what it takes. A
-/// refused growth is the only error.
+/// The posts of these channels, one each on these lanes in order. Each channel is numbered by its place, counts what it takes, and says
+/// where it failed for good. A refused growth is the only error.
 fn posts_of(
     alloc: Global,
+    config: &Config,
     lanes: &[LaneId],
     channels: Vec<OpenedChannel>,
     counts: &Arc<Counts, Global>,
+    teller: &Arc<Teller, Global>,
 ) -> Result<Vec<Post<SentChannel>>, AllocError>
     requires each { length channels.items ≡ length lanes.now }
     ensures lanes { IfOk result (λ posts. map (λ post. post.lane) posts.items ≡ lanes.now) }
@@ -144,7 +147,8 @@ fn posts_of(
     for channel in channels {
         let lane = lanes[posts.len()];
         let channel = channel.numbered(posts.len() as u64);
-        let channel = CountedChannel::new(channel, Arc::try_clone(counts)?);
+        let teller = teller_of(alloc, config, lanes, posts.len(), Arc::try_clone(teller)?)?;
+        let channel = CountedChannel::new(channel, Arc::try_clone(counts)?, teller);
         posts.push(Post { lane, channel })?;
     }
     Ok(posts)
@@ -186,8 +190,17 @@ fn run_through<'a, T: Threads + Wait + Clock + Sync, R: Input + Drop, W: Sink>(
     let alloc = rt.alloc();
     let (counts, mut watcher) = watch(rt, threads)?;
     let closers = Closers::new(alloc, config.lanes.len() as u8)?;
-    let gate = CountingGate::new(Arc::try_clone(&counts)?, settings.pause);
-    let posts = posts_of(alloc, lanes, channels, &counts)?;
+    let teller = Arc::new(
+        alloc,
+        Teller::new(rt, Arc::try_clone(&counts)?, settings.quiet),
+    )?;
+    let gate = CountingGate::new(
+        Arc::try_clone(&counts)?,
+        Arc::try_clone(&teller)?,
+        settings.pause,
+    );
+    let posts = posts_of(alloc, config, lanes, channels, &counts, &teller)?;
+    teller.say_unserved(config, lanes);
     let (outcome, channels) = run(
         threads,
         alloc,

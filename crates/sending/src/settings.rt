@@ -17,6 +17,8 @@ pub struct RunSettings {
     pub timeout: u16,
     /// How many seconds pass before the second try of a letter: at most 60.
     pub pause: u8,
+    /// Whether nothing is said on standard error before the report.
+    pub quiet: bool,
 }
 
 impl RunSettings {

@@ -1,0 +1,209 @@
+//! What a run says at once on standard error: a line of the feed that is refused, a channel that failed for good, a lane that
+//! closed since its last channel has, or that has none, and want of memory.
+
+use channel::letter::Letter;
+use due_model::config::{Config, LaneId};
+use notice_text::texts::lane_name;
+use progress::Counts;
+use std::alloc::{AllocError, Global};
+use std::fmt::Display;
+use std::io::{Eprint, IsTerminal};
+use std::sync::Arc;
+use std::sync::atomic::{AtomicBool, Ordering};
+
+/// What takes the line that shows how far a run is away.
+const EMPTY: &str = "\r\x1b[K";
+
+/// What is said where memory ran out.
+const WANTING: &str = "notify-run: memory: some of what comes now stays undecided or undelivered\n";
+
+/// What says lines on standard error, from any thread, and each by one call. What can't be written is left out.
+#[derive(Drop)]
+pub struct Teller {
+    rt: HostRuntime,
+    counts: Arc<Counts, Global>,
+    /// Whether nothing is said.
+    is_quiet: bool,
+    /// What stands before each line.
+    begin: &'static str,
+    /// Whether it was said that memory ran out.
+    was_wanting: AtomicBool,
+}
+
+impl Teller {
+    /// A teller beside what shows these counts, or one that says nothing.
+    pub fn new(rt: &HostRuntime, counts: Arc<Counts, Global>, is_quiet: bool) -> Teller {
+        let begin = if rt.stderr().is_terminal() { EMPTY } else { "" };
+        Teller {
+            rt: *rt,
+            counts,
+            is_quiet,
+            begin,
+            was_wanting: AtomicBool::new(false),
+        }
+    }
+
+    /// Says a line.
+    pub(crate) fn say<D: Display + Drop>(&self, line: D) {
+        if self.is_quiet {
+            return;
+        }
+        let begin = self.begin;
+        let Ok(text) = format!(in self.rt.alloc(); "{begin}notify-run: {line}\n") else {
+            return;
+        };
+        let _ = self.rt.eprint(text.as_str());
+        self.counts.say();
+    }
+
+    /// Says once that memory ran out. It takes none.
+    pub(crate) fn say_wanting(&self) {
+        if self.is_quiet || self.was_wanting.swap(true, Ordering::SeqCst) {
+            return;
+        }
+        let _ = self.rt.eprint(self.begin);
+        let _ = self.rt.eprint(WANTING);
+        self.counts.say();
+    }
+
+    /// Says which commands of a site no channel is for, where channels are for these lanes.
+    pub(crate) fn say_unserved(&self, config: &Config, lanes: &[LaneId]) {
+        for at in 0..config.lanes.len() {
+            let lane = LaneId(at as u8);
+            if !is_among(lanes, lane) {
+                let name = name_of(config, lane);
+                self.say(format_args!(
+                    "{name}: closed (NoChannel): all its letters are undelivered"
+                ));
+            }
+        }
+    }
+}
+
+/// Whether a lane is one of these.
+fn is_among(lanes: &[LaneId], lane: LaneId) -> bool {
+    let mut is_found = false;
+    for other in lanes {
+        is_found = is_found || other.0 == lane.0;
+    }
+    is_found
+}
+
+/// The name of a lane's command.
+fn name_of(config: &Config, lane: LaneId) -> &str {
+    std::str::from_utf8(lane_name(config, lane)).unwrap_or("")
+}
+
+/// What is said of the channel at a place, which is for the lane at that place: of those for that lane it comes after those at earlier
+/// places. A refused growth is the only error.
+pub(crate) fn teller_of(
+    alloc: Global,
+    config: &Config,
+    lanes: &[LaneId],
+    place: usize,
+    teller: Arc<Teller, Global>,
+) -> Result<LaneTeller, AllocError> {
+    let lane = lanes.get(place).copied().unwrap_or(LaneId(0));
+    let mut before = 0usize;
+    let mut has_next = false;
+    for (at, other) in lanes.iter().enumerate() {
+        if other.0 == lane.0 && at < place {
+            before = before.saturating_add(1);
+        }
+        if other.0 == lane.0 && at > place {
+            has_next = true;
+        }
+    }
+    let name = String::from_str(alloc, name_of(config, lane))?;
+    Ok(LaneTeller::new(teller, name, before, has_next))
+}
+
+/// What is said of one channel of a lane.
+#[derive(Drop)]
+pub struct LaneTeller {
+    teller: Arc<Teller, Global>,
+    /// The name of its command.
+    lane: String,
+    /// Which channel of the lane it is, the first 0.
+    place: usize,
+    /// Whether another stands by.
+    has_next: bool,
+    /// The letter that failed last, unless one was taken since, or there was no memory for it.
+    failed: Option<String>,
+}
+
+impl LaneTeller {
+    /// Of a channel that has taken nothing.
+    pub fn new(
+        teller: Arc<Teller, Global>,
+        lane: String,
+        place: usize,
+        has_next: bool,
+    ) -> LaneTeller {
+        LaneTeller {
+            teller,
+            lane,
+            place,
+            has_next,
+            failed: None,
+        }
+    }
+
+    /// A letter was taken.
+    pub(crate) fn taken(&mut self) {
+        self.failed = None;
+    }
+
+    /// A try of a letter has failed.
+    pub(crate) fn failed(&mut self, letter: &Letter) {
+        if self.failed.is_none() {
+            self.failed = named(self.teller.rt.alloc(), letter);
+        }
+    }
+
+    /// The channel is closed: where its last letter failed, that is said, and what becomes of it.
+    pub(crate) fn closed(&mut self) {
+        if let Some(letter) = self.failed.take() {
+            self.say_end(letter.as_str());
+        }
+    }
+
+    /// Says that the channel failed for good at that letter, and what becomes of this.
+    fn say_end(&self, letter: &str) {
+        let LaneTeller {
+            teller,
+            lane,
+            place,
+            has_next,
+            ..
+        } = self;
+        if *has_next {
+            let next = place.saturating_add(1);
+            teller.say(format_args!(
+                "{lane}: channel {place} failed, channel {next} takes over with {letter}"
+            ));
+        } else {
+            teller.say(format_args!(
+                "{lane}: closed (Failed): {letter} and all later ones are undelivered"
+            ));
+        }
+    }
+}
+
+/// A letter as lines name it: `event 12 of web for ann`. None where a growth is refused.
+fn named(alloc: Global, letter: &Letter) -> Option<String> {
+    let text = letter.text.as_slice();
+    let contact = value_after(text, b"To: ")?;
+    let object = value_after(text, b"\nObject: ")?;
+    let event = letter.notice.event;
+    format!(in alloc; "event {event} of {object} for {contact}").ok()
+}
+
+/// What follows these bytes in a text, up to the end of the line.
+fn value_after<'a>(text: &'a [u8], front: &[u8]) -> Option<&'a str> {
+    let text = std::str::from_utf8(text).ok()?;
+    let front = std::str::from_utf8(front).ok()?;
+    let (_before, after) = text.split_once(front)?;
+    let (value, _rest) = after.split_once('\n')?;
+    Some(value)
+}
