@@ -2,7 +2,7 @@
 #![tactic(auto)]
 
 #[cfg(test)]
-mod boxes;
+mod channels;
 #[cfg(test)]
 mod devices;
 #[cfg(test)]

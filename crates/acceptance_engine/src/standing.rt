@@ -185,12 +185,12 @@ fn has_taken(rt: &impl Abort, lane: &LaneEnd, number: usize, from: u64, to: u64)
 fn ends(
     rt: &impl Abort,
     lane: &LaneEnd,
-    boxes: usize,
+    channels: usize,
     served: usize,
     undelivered: (u64, u64),
     why: Why,
 ) {
-    assert!(rt; lane.boxes() == boxes, "its channels");
+    assert!(rt; lane.channels() == channels, "its channels");
     assert!(rt; lane.served() == served, "those that served");
     assert!(rt; lane.record(served).is_none(), "no record of any other");
     let (from, to) = undelivered;

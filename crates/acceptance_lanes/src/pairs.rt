@@ -54,12 +54,12 @@ fn run(
     rt: &(impl Threads + Wait + Clock + Abort + Sync),
     alloc: Global,
     config: &Config,
-    boxes: Vec<Watched>,
+    channels: Vec<Watched>,
     queue: &LaneQueue,
     passes: Vec<Pass>,
     worker: Pass,
 ) -> Served
-    requires boxes { length boxes.items ≤ 1 }
+    requires channels { length channels.items ≤ 1 }
     requires queue { queue.now.deciders ≤ 8 }
     requires deciders { AreDeciders queue.now passes.items }
     requires count { length passes.items ≤ 2 }
@@ -69,7 +69,7 @@ fn run(
         thread::scope_env(),
         rt,
         move |scope| -> Served
-            requires { (length boxes.items ≤ 1) × (queue.now.deciders ≤ 8) × AreDeciders queue.now passes.items
+            requires { (length channels.items ≤ 1) × (queue.now.deciders ≤ 8) × AreDeciders queue.now passes.items
                 × (length passes.items ≤ 2) × IsWorker queue.now [] [] worker }
         {
             let mut passes = passes;
@@ -91,14 +91,14 @@ fn run(
             let mut bell = TrueFrom::new(0);
             let gate = Refusing::new(0);
             let (served, _channels) = serve(
-                rt, alloc, config, boxes, 1, queue, worker, &mut bell, &gate,
+                rt, alloc, config, channels, 1, queue, worker, &mut bell, &gate,
             );
             served
         },
     )
 }
 
-/// Serves a lane by a box that is dropped once.
+/// Serves a lane by a channel that is dropped once.
 fn drive(
     rt: &(impl Threads + Wait + Clock + Abort + Sync),
     alloc: Global,
@@ -106,9 +106,9 @@ fn drive(
     why: Why,
 ) -> Result<(), AllocError> {
     let config = no_objects(alloc)?;
-    let boxes = one(alloc, channel)?;
+    let channels = one(alloc, channel)?;
     let (queue, passes, worker) = LaneQueue::new(alloc, 1, 2)?;
-    let served = run(rt, alloc, &config, boxes, &queue, passes, worker);
+    let served = run(rt, alloc, &config, channels, &queue, passes, worker);
     holds_all(rt, &served, why);
     Ok(())
 }

@@ -1,4 +1,4 @@
-//! A lane served to its end, in one thread: each cause of a close, the gate, the bell, and the drop of its box.
+//! A lane served to its end, in one thread: each cause of a close, the gate, the bell, and the drop of its channel.
 
 ghost use Rattle.std.specs.Prelude.{◌≡◌, ◌≤◌, ◌<◌, [], length};
 ghost use Rattle.std.specs.Prelude.{IfOk};
@@ -72,7 +72,7 @@ fn leaves(rt: &impl Abort, served: &Served, wanted: Wanted) {
     );
     assert!(rt; parts.why == Some(wanted.why), "closed for {:?}", parts.why);
     assert!(rt; served.why == wanted.why, "told as {:?}", served.why);
-    assert!(rt; parts.ended.is_empty(), "one box at most has served");
+    assert!(rt; parts.ended.is_empty(), "one channel at most has served");
 }
 
 /// Serves a lane whose queue holds all that its one decider puts.
@@ -80,11 +80,11 @@ fn drive(
     rt: &(impl Wait + Clock + Abort),
     alloc: Global,
     config: &Config,
-    boxes: Vec<Watched>,
+    channels: Vec<Watched>,
     row: Row,
     wanted: Wanted,
 ) -> Result<u64, AllocError>
-    requires boxes { length boxes.items ≤ 1 }
+    requires channels { length channels.items ≤ 1 }
     requires tries { 0 < row.tries }
 {
     let (queue, mut passes, worker) = LaneQueue::new(alloc, 8, 1)?;
@@ -93,22 +93,22 @@ fn drive(
     let mut bell = TrueFrom::new(row.question);
     let gate = Refusing::new(row.refusals);
     let (served, _channels) = serve(
-        rt, alloc, config, boxes, row.tries, &queue, worker, &mut bell, &gate,
+        rt, alloc, config, channels, row.tries, &queue, worker, &mut bell, &gate,
     );
     leaves(rt, &served, wanted);
     Ok(gate.asks())
 }
 
-/// A list of one box.
+/// A list of one channel.
 pub(crate) fn one(alloc: Global, channel: Watched) -> Result<Vec<Watched>, AllocError>
-    ensures { IfOk result (λ boxes. length boxes.items ≡ 1) }
+    ensures { IfOk result (λ channels. length channels.items ≡ 1) }
 {
-    let mut boxes = Vec::with_capacity(alloc, 1)?;
-    boxes.push(channel)?;
-    Ok(boxes)
+    let mut channels = Vec::with_capacity(alloc, 1)?;
+    channels.push(channel)?;
+    Ok(channels)
 }
 
-/// Serves a lane by one box, which is dropped once, with so many receipts. How often its device failed, and how often the gate
+/// Serves a lane by one channel, which is dropped once, with so many receipts. How often its device failed, and how often the gate
 /// was asked.
 fn drive_one(
     rt: &(impl Wait + Clock + Abort),
@@ -121,11 +121,11 @@ fn drive_one(
     requires tries { 0 < row.tries }
 {
     let config = no_objects(alloc)?;
-    let boxes = one(alloc, channel)?;
-    let asks = drive(rt, alloc, &config, boxes, row, wanted)?;
+    let channels = one(alloc, channel)?;
+    let asks = drive(rt, alloc, &config, channels, row, wanted)?;
     let (drops, failures, taken) = watch.told();
     assert!(rt; drops == 1, "dropped {drops} times");
-    assert!(rt; taken == wanted.taken, "the box has {taken} receipts");
+    assert!(rt; taken == wanted.taken, "the channel has {taken} receipts");
     Ok((failures, asks))
 }
 
@@ -175,14 +175,14 @@ fn device_that_recovers(rt: HostRuntime) -> Result<(), Fail> {
     Ok(())
 }
 
-/// The box has room for three receipts, and then a growth is refused: before the bell is asked, which would be true, and so
+/// The channel has room for three receipts, and then a growth is refused: before the bell is asked, which would be true, and so
 /// before the fourth notice is picked.
 #[test]
 fn no_memory(rt: HostRuntime) -> Result<(), Fail> {
     let watch = Watch::new(rt.alloc())?;
     let channel = Watched::new(rt.alloc(), &watch, &[])?.with_room(3);
     let config = no_objects(rt.alloc())?;
-    let boxes = one(rt.alloc(), channel)?;
+    let channels = one(rt.alloc(), channel)?;
     let (queue, mut passes, worker) = LaneQueue::new(rt.alloc(), 8, 1)?;
     let pass = last_pass(&rt, &queue, &mut passes);
     let _pass = put_all(&rt, &queue, pass, 0, NOTICES);
@@ -192,7 +192,7 @@ fn no_memory(rt: HostRuntime) -> Result<(), Fail> {
         &rt,
         rt.alloc(),
         &config,
-        boxes,
+        channels,
         2,
         &queue,
         worker,
@@ -220,7 +220,7 @@ fn refused(rt: &impl Abort, served: &Served) {
     );
 }
 
-/// A lane without a box gives all up.
+/// A lane without a channel gives all up.
 #[test]
 fn no_channel(rt: HostRuntime) -> Result<(), Fail> {
     let config = no_objects(rt.alloc())?;
@@ -228,8 +228,8 @@ fn no_channel(rt: HostRuntime) -> Result<(), Fail> {
         taken: 0,
         why: Why::NoChannel,
     };
-    let boxes = Vec::new(rt.alloc());
-    let asks = drive(&rt, rt.alloc(), &config, boxes, Row::PLAIN, wanted)?;
+    let channels = Vec::new(rt.alloc());
+    let asks = drive(&rt, rt.alloc(), &config, channels, Row::PLAIN, wanted)?;
     assert!(&rt; asks == 0, "the gate wasn't asked");
     Ok(())
 }

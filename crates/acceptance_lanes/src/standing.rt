@@ -1,4 +1,4 @@
-//! A lane of several boxes: where one fails, the next takes over with the letter still in hand.
+//! A lane of several channels: where one fails, the next takes over with the letter still in hand.
 
 ghost use Rattle.std.specs.Prelude.{◌≡◌, ◌≤◌, length, IfOk};
 
@@ -16,7 +16,7 @@ use std::test::Fail;
 use std::time::Clock;
 use undelivered::{RecordParts, Why};
 
-/// A box: how many bytes a letter may have, and at which two calls its device fails, the first of them counted from 1.
+/// A channel: how many bytes a letter may have, and at which two calls its device fails, the first of them counted from 1.
 #[derive(Clone, Copy)]
 struct Device {
     limit: u64,
@@ -42,7 +42,7 @@ const fn small(limit: u64) -> Device {
     Device { limit, fails: 100 }
 }
 
-/// What a lane is given beside its boxes: how many notices, from which moment on, and the question from which on the bell
+/// What a lane is given beside its channels: how many notices, from which moment on, and the question from which on the bell
 /// is true; 0 is none.
 #[derive(Clone, Copy)]
 struct Given {
@@ -57,7 +57,7 @@ const FIVE: Given = Given {
     question: 0,
 };
 
-/// What the boxes leave: up to which event each earlier record goes, and the last, and why the lane is closed.
+/// What the channels leave: up to which event each earlier record goes, and the last, and why the lane is closed.
 #[derive(Clone, Copy)]
 struct Wanted<'a> {
     ended: &'a [u64],
@@ -94,26 +94,26 @@ fn leaves(rt: &impl Abort, served: &Served, wanted: Wanted<'_>, notices: u64) {
     assert!(rt; served.why == wanted.why, "told as {:?}", served.why);
 }
 
-/// These boxes, each with its own watch, which are kept in order.
-fn boxes(
+/// These channels, each with its own watch, which are kept in order.
+fn channels(
     alloc: Global,
     watches: &mut Vec<Arc<Watch>>,
     devices: &[Device],
 ) -> Result<Vec<Watched>, AllocError>
-    ensures { IfOk result (λ boxes. length boxes.items ≡ length devices.now) }
+    ensures { IfOk result (λ channels. length channels.items ≡ length devices.now) }
 {
-    let mut boxes = Vec::with_capacity(alloc, devices.len())?;
+    let mut channels = Vec::with_capacity(alloc, devices.len())?;
     for device in devices {
         let watch = Watch::new(alloc)?;
         let fails = [device.fails, device.fails.saturating_add(1)];
         let watched = Watched::limited(alloc, &watch, device.limit, &fails)?;
         watches.push(watch)?;
-        boxes.push(watched)?;
+        channels.push(watched)?;
     }
-    Ok(boxes)
+    Ok(channels)
 }
 
-/// Each box was dropped once, and together they had so many receipts.
+/// Each channel was dropped once, and together they had so many receipts.
 fn were_dropped(rt: &impl Abort, watches: &[Arc<Watch>], wanted: u64) {
     let mut receipts: u64 = 0;
     for watch in watches {
@@ -121,19 +121,19 @@ fn were_dropped(rt: &impl Abort, watches: &[Arc<Watch>], wanted: u64) {
         assert!(rt; drops == 1, "dropped {drops} times");
         receipts = receipts.saturating_add(taken);
     }
-    assert!(rt; receipts == wanted, "the boxes have {receipts} receipts");
+    assert!(rt; receipts == wanted, "the channels have {receipts} receipts");
 }
 
-/// Serves a lane by these boxes, each letter tried twice.
+/// Serves a lane by these channels, each letter tried twice.
 fn drive(
     rt: &(impl Wait + Clock + Abort),
     alloc: Global,
     config: &Config,
-    boxes: Vec<Watched>,
+    channels: Vec<Watched>,
     given: Given,
     wanted: Wanted<'_>,
 ) -> Result<(), AllocError>
-    requires { length boxes.items ≤ 8 }
+    requires { length channels.items ≤ 8 }
 {
     let (queue, mut passes, worker) = LaneQueue::new(alloc, 8, 1)?;
     let pass = last_pass(rt, &queue, &mut passes);
@@ -141,13 +141,13 @@ fn drive(
     let mut bell = TrueFrom::new(given.question);
     let gate = Refusing::new(0);
     let (served, _channels) = serve(
-        rt, alloc, config, boxes, 2, &queue, worker, &mut bell, &gate,
+        rt, alloc, config, channels, 2, &queue, worker, &mut bell, &gate,
     );
     leaves(rt, &served, wanted, given.notices);
     Ok(())
 }
 
-/// Serves a lane of this configuration by these boxes, of which each is dropped once.
+/// Serves a lane of this configuration by these channels, of which each is dropped once.
 fn serves(
     rt: &(impl Wait + Clock + Abort),
     alloc: Global,
@@ -159,13 +159,13 @@ fn serves(
     requires { length devices.now ≤ 8 }
 {
     let mut watches = Vec::new(alloc);
-    let boxes = boxes(alloc, &mut watches, devices)?;
-    drive(rt, alloc, config, boxes, given, wanted)?;
+    let channels = channels(alloc, &mut watches, devices)?;
+    drive(rt, alloc, config, channels, given, wanted)?;
     were_dropped(rt, watches.as_slice(), wanted.taken);
     Ok(())
 }
 
-/// The third letter fails at the first box, and the second takes it and all others.
+/// The third letter fails at the first channel, and the second takes it and all others.
 #[test]
 fn failing_device(rt: HostRuntime) -> Result<(), Fail> {
     let config = no_objects(rt.alloc())?;
@@ -179,7 +179,7 @@ fn failing_device(rt: HostRuntime) -> Result<(), Fail> {
     Ok(())
 }
 
-/// The second box fails with it too, and nothing overtakes it.
+/// The second channel fails with it too, and nothing overtakes it.
 #[test]
 fn both_fail(rt: HostRuntime) -> Result<(), Fail> {
     let config = no_objects(rt.alloc())?;
@@ -193,7 +193,7 @@ fn both_fail(rt: HostRuntime) -> Result<(), Fail> {
     Ok(())
 }
 
-/// The letter of one host that is down has 79 bytes, one too many for the first box.
+/// The letter of one host that is down has 79 bytes, one too many for the first channel.
 #[test]
 fn too_long_for_the_first(rt: HostRuntime) -> Result<(), Fail> {
     let config = base(rt.alloc())?;
@@ -212,7 +212,7 @@ fn too_long_for_the_first(rt: HostRuntime) -> Result<(), Fail> {
     Ok(())
 }
 
-/// A box that stands by and is too small for the letter is passed over, as one that fails is.
+/// A channel that stands by and is too small for the letter is passed over, as one that fails is.
 #[test]
 fn too_long_for_the_second(rt: HostRuntime) -> Result<(), Fail> {
     let config = no_objects(rt.alloc())?;
@@ -226,7 +226,7 @@ fn too_long_for_the_second(rt: HostRuntime) -> Result<(), Fail> {
     Ok(())
 }
 
-/// The bell is asked before the first try at the second box: that is its fourth question.
+/// The bell is asked before the first try at the second channel: that is its fourth question.
 #[test]
 fn asked_at_the_second(rt: HostRuntime) -> Result<(), Fail> {
     let config = no_objects(rt.alloc())?;
@@ -244,7 +244,7 @@ fn asked_at_the_second(rt: HostRuntime) -> Result<(), Fail> {
     Ok(())
 }
 
-/// Up to which event three boxes come, each of which takes so many letters and then fails.
+/// Up to which event three channels come, each of which takes so many letters and then fails.
 fn reached(one: u64, two: u64, three: u64) -> [u64; 3] {
     let first = one.min(NOTICES);
     let second = first.saturating_add(two).min(NOTICES);
@@ -252,8 +252,8 @@ fn reached(one: u64, two: u64, three: u64) -> [u64; 3] {
     [first, second, third]
 }
 
-/// Three boxes come so far: those before one that took the last letter have ended.
-fn three_boxes(
+/// Three channels come so far: those before one that took the last letter have ended.
+fn three_channels(
     rt: &(impl Wait + Clock + Abort),
     alloc: Global,
     config: &Config,
@@ -287,7 +287,7 @@ fn three_boxes(
     serves(rt, alloc, config, devices, FIVE, wanted)
 }
 
-/// Each of three boxes fails after each number of letters, from none to all.
+/// Each of three channels fails after each number of letters, from none to all.
 #[test]
 fn each_fails_anywhere(rt: HostRuntime) -> Result<(), Fail> {
     let config = no_objects(rt.alloc())?;
@@ -295,7 +295,7 @@ fn each_fails_anywhere(rt: HostRuntime) -> Result<(), Fail> {
         let (one, two, three) = (turn / 36, turn / 6 % 6, turn % 6);
         let devices = [failing_after(one), failing_after(two), failing_after(three)];
         let ends = reached(one, two, three);
-        three_boxes(&rt, rt.alloc(), &config, &devices, ends)?;
+        three_channels(&rt, rt.alloc(), &config, &devices, ends)?;
     }
     Ok(())
 }

@@ -2,7 +2,7 @@
 
 ghost use Rattle.std.specs.Prelude.{◌≡◌, ◌<◌, ◌≤◌, All, IsTrue, length};
 ghost use Rattle.due_model.specs.Accepted.{IsAccepted};
-ghost use Rattle.steps.specs.Settings.{max_boxes};
+ghost use Rattle.steps.specs.Settings.{max_channels};
 ghost use Rattle.world_steps.specs.Steps.{IsProperStep};
 ghost use Rattle.world_steps.specs.Views.{world_setup};
 
@@ -17,7 +17,7 @@ use due_model::state::State;
 use due_model::zone::Zone;
 use std::alloc::{AllocError, Global};
 use std::process::Abort;
-use world_steps::{LaneStep, MAX_BOXES, Settings, Step, StepFault, World};
+use world_steps::{LaneStep, MAX_CHANNELS, Settings, Step, StepFault, World};
 
 /// Whether the step posts what may be posted, if it posts.
 fn is_proper_step(config: &Config, step: Step) -> bool
@@ -118,44 +118,44 @@ fn has_line(
     Ok(())
 }
 
-/// A world of this configuration, whose lane has so many boxes, refuses these of the steps, and its line is then this, part by part.
+/// A world of this configuration, whose lane has so many channels, refuses these of the steps, and its line is then this, part by part.
 fn plays_in(
     rt: &impl Abort,
     alloc: Global,
     config: &Config,
-    boxes: u8,
+    channels: u8,
     steps: &[Step],
     places: &[usize],
     line: [&[u64]; 3],
 ) -> Result<(), AllocError>
     requires accepted { IsAccepted config.now }
-    requires boxes { boxes ≤ max_boxes }
+    requires channels { channels ≤ max_channels }
     requires lanes { length config.now.lanes ≡ 1 }
     requires objects { 0 < length config.now.objects }
 {
     let zone = Zone::Utc;
-    let mut world = World::new(alloc, config, &zone, TWO_TRIES, &[boxes])?;
+    let mut world = World::new(alloc, config, &zone, TWO_TRIES, &[channels])?;
     refuses(rt, config, &mut world, steps, places);
     has_line(rt, alloc, &world, line)
 }
 
-/// A world of one host with one decider and so many boxes refuses these of the steps, and its line is then this, part by part.
+/// A world of one host with one decider and so many channels refuses these of the steps, and its line is then this, part by part.
 fn plays_with(
     rt: &impl Abort,
     alloc: Global,
-    boxes: u8,
+    channels: u8,
     steps: &[Step],
     places: &[usize],
     line: [&[u64]; 3],
 ) -> Result<(), AllocError>
-    requires { boxes ≤ max_boxes }
+    requires { channels ≤ max_channels }
 {
     let config = base(alloc)?;
     assert!(rt; is_accepted(&config) && config.lanes.len() == 1 && config.objects.len() > 0);
-    plays_in(rt, alloc, &config, boxes, steps, places, line)
+    plays_in(rt, alloc, &config, channels, steps, places, line)
 }
 
-/// The same with one box.
+/// The same with one channel.
 fn plays(
     rt: &impl Abort,
     alloc: Global,
@@ -225,7 +225,7 @@ const TRIED_TWICE: [Step; 9] = [
     Step::Lane(MAIL, LaneStep::Close),
 ];
 
-/// The letter in hand fails at the first box, and the second takes it.
+/// The letter in hand fails at the first channel, and the second takes it.
 const REPLACED: [Step; 10] = [
     GOES_DOWN,
     Step::Decide(0),
@@ -239,7 +239,7 @@ const REPLACED: [Step; 10] = [
     Step::Lane(MAIL, LaneStep::Settle),
 ];
 
-/// The first of two boxes takes a letter and then fails, the second takes the next, and no box is left for the third.
+/// The first of two channels takes a letter and then fails, the second takes the next, and no channel is left for the third.
 const REPLACED_AND_CLOSED: [Step; 27] = [
     GOES_DOWN,
     COMES_UP,
@@ -270,7 +270,7 @@ const REPLACED_AND_CLOSED: [Step; 27] = [
     Step::Lane(MAIL, LaneStep::Replace),
 ];
 
-/// A lane that is asked to close isn't given another box.
+/// A lane that is asked to close isn't given another channel.
 const ASKED_IN_FAILURE: [Step; 9] = [
     GOES_DOWN,
     Step::Decide(0),
@@ -453,7 +453,7 @@ fn last_lane_is_full(
     requires objects { length config.now.objects ≡ 8 }
 {
     let zone = Zone::Utc;
-    let mut world = World::new(alloc, config, &zone, MOST, &[MAX_BOXES; 16])?;
+    let mut world = World::new(alloc, config, &zone, MOST, &[MAX_CHANNELS; 16])?;
     runs(rt, config, &mut world, steps);
     refuses(rt, config, &mut world, &[Step::Put(7, LAST)], &[1]);
     has_waiting(rt, alloc, &world, ObjectId(0), &[0], &[])?;

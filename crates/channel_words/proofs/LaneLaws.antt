@@ -10,7 +10,7 @@ use Rattle.std.specs.Str.{bytes_eq}
 use Rattle.due_model.specs.declared.config.Config.{Config}
 use Rattle.due_model.specs.declared.config.LaneId.{LaneId}
 use Rattle.channel_words.specs.declared.word.ChannelWord.{ChannelWord}
-use Rattle.channel_words.specs.Lanes.{AreFew, IsFirstNinth, IsUnknown, boxes_for, count_of, earlier_of, lane_named, names_of}
+use Rattle.channel_words.specs.Lanes.{AreFew, IsFirstNinth, IsUnknown, channels_for, count_of, earlier_of, lane_named, names_of}
 use Rattle.channel_words.specs.Words.{IsFirst}
 use Rattle.channel_words.proofs.ListLaws.{all_more, is_first, map_more}
 
@@ -119,7 +119,7 @@ own_name name_at (x ∷ xs) name l at =
 
 -- lane l has no more words than its name
 lanes_below : (c : Config) (l : ℕ) (own : List ℕ) → ((name : List ℕ) → lane_named c name ≡ Some l → own ≡ name)
-    → (names : List (List ℕ)) (lanes : List LaneId) → map (lane_named c) names ≡ map number_of lanes → boxes_for lanes l ≤ count_of own names
+    → (names : List (List ℕ)) (lanes : List LaneId) → map (lane_named c) names ≡ map number_of lanes → channels_for lanes l ≤ count_of own names
 lanes_below c l own is [] [] same = omega arith
 lanes_below c l own is [] (lane ∷ lanes) same = absurd (let none : [] ≡ Some lane.0 ∷ map number_of lanes = same in cc)
 lanes_below c l own is (name ∷ names) [] same = absurd (let none : lane_named c name ∷ map (lane_named c) names ≡ [] = same in cc)
@@ -144,9 +144,9 @@ lanes_below c l own is (name ∷ names) (lane ∷ lanes) same =
     (cases_Bool (bytes_eq name own)))
     (cases_Bool (eqb lane.0 l))
 
-pub few_boxes : (c : Config) (names : List (List ℕ)) (lanes : List LaneId) → map (lane_named c) names ≡ map number_of lanes → AreFew names
-    → (l : ℕ) → boxes_for lanes l ≤ 8
-few_boxes c names lanes same few l =
+pub few_channels : (c : Config) (names : List (List ℕ)) (lanes : List LaneId) → map (lane_named c) names ≡ map number_of lanes → AreFew names
+    → (l : ℕ) → channels_for lanes l ≤ 8
+few_channels c names lanes same few l =
     let own = get_or (map (λ lane. lane.name) c.lanes) l [] in
     let below = lanes_below c l own (λ name at. own_name (λ lane. lane.name) c.lanes name l at) names lanes same in
     let most = few_names names few own in

@@ -41,14 +41,14 @@ pub record IsFirstNinth (name : List ℕ) (names : List (List ℕ)) : Type 0 whe
   pub earlier : (k : ℕ) → k < place → earlier_of names k < 8
 
 -- how many of these lanes are lane l
-abbrev pub boxes_for : List LaneId → (l : ℕ) → ℕ
-boxes_for lanes l = length (filter (λ lane. lane.0 == l) lanes)
+abbrev pub channels_for : List LaneId → (l : ℕ) → ℕ
+channels_for lanes l = length (filter (λ lane. lane.0 == l) lanes)
 
 -- The lanes are those that the names name, one for each in order; no name, and so no lane, stands more than eight times.
 pub record AreLanesOf (c : Config) (names : List (List ℕ)) (lanes : List LaneId) : Type 0 where
   pub each : map (lane_named c) names ≡ map (λ lane. Some lane.0) lanes
   pub few : AreFew names
-  pub few_lanes : (l : ℕ) → boxes_for lanes l ≤ 8
+  pub few_lanes : (l : ℕ) → channels_for lanes l ≤ 8
 
 -- What a fault says of the names: the first that no lane has, or where there is none the first that stands a ninth time, or nothing.
 abbrev pub NamesFail : Config → List (List ℕ) → ChannelFault → Type 0

@@ -9,7 +9,7 @@ use Rattle.clap.specs.declared.parser.matches.Found.{Found}
 use Rattle.clap.specs.Words.{App, Rule, new_app, new_rule, rows_of, subcommand_rows_of}
 use Rattle.clap.specs.Words.{with_rule}
 use Rattle.steps.specs.declared.settings.Settings.{Settings}
-use Rattle.steps.specs.Settings.{AreSettings, max_boxes}
+use Rattle.steps.specs.Settings.{AreSettings, max_channels}
 use Rattle.clap.specs.declared.builder.action.ArgAction.TheVariants.{SetTrue}
 use Rattle.clap.specs.declared.builder.value_parser.ValueParser.TheVariants.{Signed}
 use Rattle.command_line.specs.declared.words.Request.{Request}
@@ -23,10 +23,10 @@ request_name (Replay objects zone) = codes "replay"
 request_name (Trace settings standbys zone) = codes "trace"
 request_name (Run objects settings zone channels times quiet) = codes "run"
 
--- in a trace fewer boxes stand by than a lane may have
+-- in a trace fewer channels stand by than a lane may have
 abbrev pub AreSettingsFit : Request → Type 0
 AreSettingsFit (Replay objects zone) = Unit {0}
-AreSettingsFit (Trace settings standbys zone) = standbys < max_boxes
+AreSettingsFit (Trace settings standbys zone) = standbys < max_channels
 AreSettingsFit (Run objects settings zone channels times quiet) = Unit {0}
 
 -- the texts that the options of a command hold of the zone
@@ -57,10 +57,10 @@ HoldFitting options deciders = (queue : ℕ) × (tries : ℕ)
     × HoldsNumber options (codes "queue") queue × HoldsNumber options (codes "tries") tries
     × AreSettings deciders queue tries
 
--- The options of `trace` make no request: the numbers that they hold are no settings, or too many boxes stand by.
+-- The options of `trace` make no request: the numbers that they hold are no settings, or too many channels stand by.
 abbrev pub TraceLacks : Found → Type 0
 TraceLacks options = (deciders standbys : ℕ) → HoldsNumber options (codes "deciders") deciders
-    → HoldsNumber options (codes "standbys") standbys → standbys < max_boxes
+    → HoldsNumber options (codes "standbys") standbys → standbys < max_channels
     → HoldFitting options deciders → ⊥
 
 -- the seconds that the options of `run` hold
@@ -80,7 +80,7 @@ RunLacks options = (deciders : ℕ) → is_some (first_value options (codes "obj
     → HoldsNumber options (codes "deciders") deciders → HoldFitting options deciders → HoldSomeTimes options → ⊥
 
 -- What the options of a command hold: of `replay` the file of the object text, if it is given; of `trace` the settings and
--- how many boxes stand by; of `run` the file, the settings, the times and the channel words; and of each the zone.
+-- how many channels stand by; of `run` the file, the settings, the times and the channel words; and of each the zone.
 abbrev pub IsRequestOf : Found → Request → Type 0
 IsRequestOf options (Replay objects zone) =
     (option_copied objects ≡ first_value options (codes "objects")) × IsZoneOf options zone
@@ -161,7 +161,7 @@ with_lane_options app =
     with_rule (with_rule app (number_option (codes "queue") (codes "64") 1 1024))
     (number_option (codes "tries") (codes "3") 1 10)
 
--- `trace` has these, and how many deciders there are, and how many boxes of each lane stand by
+-- `trace` has these, and how many deciders there are, and how many channels of each lane stand by
 abbrev pub trace_words : App
 trace_words =
     with_zone (with_lane_options (with_rule (with_rule (new_app (codes "trace"))

@@ -13,7 +13,7 @@ ghost use Rattle.command_line.specs.Words.{trace_words, with_lane_options, with_
 
 use clap::{Arg, ArgAction, ArgMatches, Command, value_parser};
 use std::alloc::{AllocError, Global};
-use steps::{MAX_BOXES, Settings};
+use steps::{MAX_CHANNELS, Settings};
 
 /// What `notify-run --version` says after the name: the version, and the logic of the kit that proved it.
 const VERSION: &str = "0.3.0 (Rattle logic dac8208d650f15bf)";
@@ -63,7 +63,7 @@ from standard input, one step a line, and does them one by one:
   settle LANE     the lane's channel takes the message in hand
   fail LANE       the lane's channel doesn't take it
   ask LANE        the lane is asked to close
-  replace LANE    a box that stands by takes over, the message still in hand
+  replace LANE    a channel that stands by takes over, the message still in hand
   close LANE      the lane is shut
   drain LANE      the front of a shut lane's queue is given up
 
@@ -135,7 +135,7 @@ pub enum Request<'m, 'a> {
     /// A trace.
     Trace {
         settings: Settings,
-        /// How many boxes of each lane stand by.
+        /// How many channels of each lane stand by.
         standbys: u8,
         zone: ZoneWords<'a>,
     },
@@ -226,7 +226,7 @@ fn deciders_option<'a>(alloc: Global, default: &'a str) -> Arg<'a>
         .help("How many deciders share the objects, 1 to 8")
 }
 
-/// The option that says how many boxes of each lane stand by.
+/// The option that says how many channels of each lane stand by.
 fn standbys_option<'a>(alloc: Global) -> Arg<'a>
     ensures rule { rule_of result ≡ number_option (codes "standbys") (codes "0") 0 7 }
     ensures local { result.global ≡ false }
@@ -236,7 +236,7 @@ fn standbys_option<'a>(alloc: Global) -> Arg<'a>
         .value_name("NUMBER")
         .value_parser(value_parser!(u8).range(0..=7))
         .default_value("0")
-        .help("How many boxes of each lane stand by, 0 to 7")
+        .help("How many channels of each lane stand by, 0 to 7")
 }
 
 /// The option that says how many notices a lane's queue holds.
@@ -454,7 +454,7 @@ fn trace_request<'m, 'a>(options: &'m ArgMatches<'a>) -> Option<Request<'m, 'a>>
 {
     let deciders = options.get_one::<u8>("deciders")?;
     let standbys = options.get_one::<u8>("standbys")?;
-    if standbys >= MAX_BOXES {
+    if standbys >= MAX_CHANNELS {
         return None;
     }
     Some(Request::Trace {

@@ -6,7 +6,7 @@ use Rattle.messages.specs.declared.entries.Entry.TheVariants.{Sent, Withheld}
 use Rattle.command_output.specs.declared.output_line.OutputLine.{OutputLine}
 use Rattle.command_output.specs.declared.output_line.OutputLine.TheVariants as line
 use Rattle.command_output.specs.ReportLine.{notice_line, refused_line, suppression_line}
-use Rattle.command_output.specs.RunLine.{box_line, closed_line, taken_line, undelivered_line}
+use Rattle.command_output.specs.RunLine.{channel_line, closed_line, taken_line, undelivered_line}
 use Rattle.command_output.specs.TraceLine.{lane_line, refused_step_line}
 
 abbrev pub line_text : Config → OutputLine → List ℕ
@@ -17,7 +17,7 @@ line_text c (line.RefusedStep number refusal) = refused_step_line number refusal
 line_text c (line.Held held) = lane_line c held
 line_text c (line.Taken lane n) = taken_line c lane.0 n
 line_text c (line.Undelivered lane n) = undelivered_line c lane.0 n
-line_text c (line.Box lane number count) = box_line c lane.0 number count
+line_text c (line.Box lane number count) = channel_line c lane.0 number count
 line_text c (line.Closed lane why) = closed_line c lane.0 why
 
 -- ---- the entries of an event

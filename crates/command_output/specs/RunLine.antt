@@ -22,8 +22,8 @@ abbrev pub undelivered_line : Config → (l : ℕ) → Notice → List ℕ
 undelivered_line c l n = letter_line 85 c l n
 
 -- how many a channel of lane l has taken, by its number among the lane's: G;lane;number;count
-abbrev pub box_line : Config → (l number count : ℕ) → List ℕ
-box_line c l number count =
+abbrev pub channel_line : Config → (l number count : ℕ) → List ℕ
+channel_line c l number count =
     codes "G" ++ field (lane_text c l) ++ field (decimal number) ++ field (decimal count) ++ 10 ∷ []
 
 abbrev pub why_name : Why → List ℕ

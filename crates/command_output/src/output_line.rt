@@ -6,7 +6,7 @@ ghost use Rattle.command_output.specs.OutputLine.{entries_text, line_text};
 
 use crate::line_head::{entry_head, make_head, push_head};
 use crate::report_line::{push_entry, push_entry_after, push_refused};
-use crate::run_line::{push_box, push_closed, push_letter};
+use crate::run_line::{push_channel, push_closed, push_letter};
 use crate::trace_line::{LaneLine, StepRefusal, push_held};
 use due_model::config::{Config, LaneId};
 use due_model::notice::{Notice, Suppression};
@@ -82,7 +82,7 @@ pub(crate) fn push_line(
             lane,
             number,
             count,
-        } => push_box(text, config, *lane, *number, *count),
+        } => push_channel(text, config, *lane, *number, *count),
         OutputLine::Closed { lane, why } => push_closed(text, config, *lane, *why),
     }
 }

@@ -2,7 +2,7 @@
 //! closed.
 
 ghost use Rattle.std.specs.Prelude.{◌≡◌, [], ◌∷◌, ◌++◌, OnOk};
-ghost use Rattle.command_output.specs.RunLine.{box_line, closed_line, letter_line, why_name};
+ghost use Rattle.command_output.specs.RunLine.{channel_line, closed_line, letter_line, why_name};
 
 use crate::fields::{push_contact, push_field, push_lane, push_number, push_object};
 use due_model::config::{Config, LaneId};
@@ -59,7 +59,7 @@ pub(crate) fn push_closed(
 }
 
 /// Adds the line of how many notices a channel of a lane has taken, by its number among the lane's.
-pub(crate) fn push_box(
+pub(crate) fn push_channel(
     line: &mut Vec<u8>,
     config: &Config,
     lane: LaneId,
@@ -67,7 +67,7 @@ pub(crate) fn push_box(
     count: u64,
 ) -> Result<(), AllocError>
     ensures { OnOk result
-        (line.new.items ≡ line.old.items ++ box_line config.now lane.0 number count) }
+        (line.new.items ≡ line.old.items ++ channel_line config.now lane.0 number count) }
 {
     line.extend_from_slice(b"G")?;
     push_lane(line, config, lane)?;

@@ -419,9 +419,9 @@ one_more k true before lane new start next is = let e = (start refl).0 in let n 
 one_more k false before lane new start next is = let e = (next refl).0 in omega (arith, e, is)
 
 -- where each that had its turn has a record, or there is none at all
-pub as_many : {B : Type 0} (k : ℕ) (lane : Record) (boxes : List B) → (k ≢ 0 → length lane.ended + 1 ≡ k) → (k ≡ 0 → length boxes ≡ 0) → (length (records_in lane) ≤ k) ⊎ (boxes ≡ [])
-as_many {B} k lane boxes some none = ⊎_elim
-    (λ (zero : k ≡ 0). inr (nothing boxes (none zero)))
+pub as_many : {B : Type 0} (k : ℕ) (lane : Record) (channels : List B) → (k ≢ 0 → length lane.ended + 1 ≡ k) → (k ≡ 0 → length channels ≡ 0) → (length (records_in lane) ≤ k) ⊎ (channels ≡ [])
+as_many {B} k lane channels some none = ⊎_elim
+    (λ (zero : k ≡ 0). inr (nothing channels (none zero)))
     (λ (more : ¬ (k ≡ 0)). inl (let l = length-append lane.ended (lane.taken ∷ []) in let e = some more in omega (arith, l, e)))
     (cases_eq k 0)
   where

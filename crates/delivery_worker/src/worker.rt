@@ -183,11 +183,11 @@ pub fn tend_next<C: Channel, B: Bell, G: Gate, R: Wait + Clock>(
 
 /// Serves a lane by its channels, one after another, up to the close, which it leaves to the caller. The next serves where the one
 /// before has failed.
-fn tend_boxes<C: Channel, B: Bell, G: Gate, R: Wait + Clock>(
+fn tend_channels<C: Channel, B: Bell, G: Gate, R: Wait + Clock>(
     rt: &R,
     alloc: Global,
     config: &Config,
-    boxes: &mut Vec<C>,
+    channels: &mut Vec<C>,
     lane: &mut LaneRecord,
     tries: u8,
     queue: &LaneQueue,
@@ -216,22 +216,22 @@ fn tend_boxes<C: Channel, B: Bell, G: Gate, R: Wait + Clock>(
     ensures bell { B.count bell.new ≤ B.count bell.old + 1 }
     ensures unasked { result.1 ≢ Why.Asked → B.count bell.new ≡ B.count bell.old }
     ensures failed { result.1 ≡ Why.Failed → IsSome lane.new.hand }
-    ensures no_channel { (result.1 ≡ Why.NoChannel) ↔ (boxes.old.items ≡ []) }
-    ensures untaken { boxes.old.items ≡ [] → lane.new ≡ lane.old }
-    ensures each_failed { result.1 ≡ Why.Failed → length lane.new.ended + 1 ≡ length boxes.old.items }
-    ensures records { boxes.old.items ≢ [] → length lane.new.ended < length boxes.old.items }
+    ensures no_channel { (result.1 ≡ Why.NoChannel) ↔ (channels.old.items ≡ []) }
+    ensures untaken { channels.old.items ≡ [] → lane.new ≡ lane.old }
+    ensures each_failed { result.1 ≡ Why.Failed → length lane.new.ended + 1 ≡ length channels.old.items }
+    ensures records { channels.old.items ≢ [] → length lane.new.ended < length channels.old.items }
     // Each channel is where it was, and has taken what its record says.
-    ensures boxes { HaveServed C.account C.offered tries config.now (records_in lane.new) (held_in lane.new)
-        (result.1 ≡ Why.Failed) boxes.old.items boxes.new.items }
+    ensures channels { HaveServed C.account C.offered tries config.now (records_in lane.new) (held_in lane.new)
+        (result.1 ≡ Why.Failed) channels.old.items channels.new.items }
 {
     let mut pass = pass;
     let mut why = Why::NoChannel;
-    for place in 0..boxes.len() {
+    for place in 0..channels.len() {
         let (next, close) = tend_next(
             rt,
             alloc,
             config,
-            &mut boxes[place],
+            &mut channels[place],
             place == 0,
             lane,
             tries,
@@ -264,14 +264,14 @@ pub fn serve<C: Channel, B: Bell, G: Gate, R: Wait + Clock>(
     rt: &R,
     alloc: Global,
     config: &Config,
-    boxes: Vec<C>,
+    channels: Vec<C>,
     tries: u8,
     queue: &LaneQueue,
     pass: Pass,
     bell: &mut B,
     gate: &G,
 ) -> (Served, Vec<C>)
-    requires boxes { length boxes.items ≤ 8 }
+    requires channels { length channels.items ≤ 8 }
     requires tries { 0 < tries }
     requires deciders { queue.now.deciders ≤ 8 }
     requires worker { IsWorker queue.now [] [] pass }
@@ -291,28 +291,38 @@ pub fn serve<C: Channel, B: Bell, G: Gate, R: Wait + Clock>(
     ensures bell { B.count bell.new ≤ B.count bell.old + 1 }
     ensures failed { result.0.held.why ≡ Some Why.Failed → result.0.held.undelivered ≢ [] }
     ensures each_failed { result.0.held.why ≡ Some Why.Failed
-        → length result.0.held.ended + 1 ≡ length boxes.items }
-    ensures no_channel { (result.0.held.why ≡ Some Why.NoChannel) ↔ (boxes.items ≡ []) }
-    ensures untaken { boxes.items ≡ [] → result.0.held.taken ≡ [] }
+        → length result.0.held.ended + 1 ≡ length channels.items }
+    ensures no_channel { (result.0.held.why ≡ Some Why.NoChannel) ↔ (channels.items ≡ []) }
+    ensures untaken { channels.items ≡ [] → result.0.held.taken ≡ [] }
     // There is one record for each channel that served.
-    ensures records { boxes.items ≢ [] → length result.0.held.ended < length boxes.items }
-    ensures no_records { boxes.items ≡ [] → result.0.held.ended ≡ [] }
+    ensures records { channels.items ≢ [] → length result.0.held.ended < length channels.items }
+    ensures no_records { channels.items ≡ [] → result.0.held.ended ≡ [] }
     // Each channel is given back, and has taken what its record says.
-    ensures boxes { HaveServed C.account C.offered tries config.now (records_in result.0.held)
-        (joined result.0.held) (result.0.held.why ≡ Some Why.Failed) boxes.items result.1.items }
+    ensures channels { HaveServed C.account C.offered tries config.now (records_in result.0.held)
+        (joined result.0.held) (result.0.held.why ≡ Some Why.Failed) channels.items result.1.items }
 {
     let mut held = LaneRecord::new(alloc);
     let mut ends = [false; 8];
-    let mut boxes = boxes;
-    let (pass, why) = tend_boxes(
-        rt, alloc, config, &mut boxes, &mut held, tries, queue, pass, &mut ends, bell, gate,
+    let mut channels = channels;
+    let (pass, why) = tend_channels(
+        rt,
+        alloc,
+        config,
+        &mut channels,
+        &mut held,
+        tries,
+        queue,
+        pass,
+        &mut ends,
+        bell,
+        gate,
     );
     held.close(why);
     tell_close(why, gate);
     if why == Why::FeedOver {
-        return (Served { pass, held, why }, boxes);
+        return (Served { pass, held, why }, channels);
     }
     let (pass, recorded) = drain(rt, &mut held, why != Why::NoMemory, queue, pass, &mut ends);
     let why = if recorded { why } else { Why::NoMemory };
-    (Served { pass, held, why }, boxes)
+    (Served { pass, held, why }, channels)
 }

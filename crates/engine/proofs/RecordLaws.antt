@@ -21,35 +21,35 @@ last_at {X} xs x i is = subst (λ (k : ℕ). slice_get (xs ++ x ∷ []) k ≡ So
     at_end [] = refl
     at_end (y ∷ ys) = at_end ys
 
-module _ (boxes : ℕ) (held : Record) where
+module _ (channels : ℕ) (held : Record) where
   -- a lane that was given no channel has no record
-  pub records_none : boxes ≡ 0 → records_of boxes held ≡ []
-  records_none none = ap (λ (b : Bool). cond b [] (held.ended ++ held.taken ∷ [])) (eq-eqb boxes 0 none)
+  pub records_none : channels ≡ 0 → records_of channels held ≡ []
+  records_none none = ap (λ (b : Bool). cond b [] (held.ended ++ held.taken ∷ [])) (eq-eqb channels 0 none)
 
   -- any other has one for each that served
-  pub records_some : boxes ≢ 0 → records_of boxes held ≡ held.ended ++ held.taken ∷ []
-  records_some some = ap (λ (b : Bool). cond b [] (held.ended ++ held.taken ∷ [])) (ne_eqb boxes 0 some)
+  pub records_some : channels ≢ 0 → records_of channels held ≡ held.ended ++ held.taken ∷ []
+  records_some some = ap (λ (b : Bool). cond b [] (held.ended ++ held.taken ∷ [])) (ne_eqb channels 0 some)
 
-  pub count_none : boxes ≡ 0 → 0 ≡ length (records_of boxes held)
+  pub count_none : channels ≡ 0 → 0 ≡ length (records_of channels held)
   count_none none = sym (ap length (records_none none))
 
-  pub count_some : boxes ≢ 0 → (n : ℕ) → n ≡ length held.ended → n + 1 ≡ length (records_of boxes held)
+  pub count_some : channels ≢ 0 → (n : ℕ) → n ≡ length held.ended → n + 1 ≡ length (records_of channels held)
   count_some some n is = ap (λ (k : ℕ). k + 1) is ∙ sym (ap length (records_some some) ∙ length-append held.ended (held.taken ∷ []))
 
-  pub record_of_none : boxes ≡ 0 → (i : ℕ) → None ≡ slice_get (records_of boxes held) i
+  pub record_of_none : channels ≡ 0 → (i : ℕ) → None ≡ slice_get (records_of channels held) i
   record_of_none none i = sym (ap (λ (rs : List (List Notice)). slice_get rs i) (records_none none))
 
-  module _ (some : boxes ≢ 0) (i : ℕ) where
-    at_place : (found : _) → slice_get (held.ended ++ held.taken ∷ []) i ≡ found → found ≡ slice_get (records_of boxes held) i
+  module _ (some : channels ≢ 0) (i : ℕ) where
+    at_place : (found : _) → slice_get (held.ended ++ held.taken ∷ []) i ≡ found → found ≡ slice_get (records_of channels held) i
     at_place found at = sym (ap (λ (rs : List (List Notice)). slice_get rs i) (records_some some) ∙ at)
 
-    pub record_ended : (taken : List Notice) → slice_get held.ended i ≡ Some taken → Some taken ≡ slice_get (records_of boxes held) i
+    pub record_ended : (taken : List Notice) → slice_get held.ended i ≡ Some taken → Some taken ≡ slice_get (records_of channels held) i
     record_ended taken at = at_place (Some taken) (front_at held.ended (held.taken ∷ []) i taken at)
 
-    pub record_last : i ≡ length held.ended → Some held.taken ≡ slice_get (records_of boxes held) i
+    pub record_last : i ≡ length held.ended → Some held.taken ≡ slice_get (records_of channels held) i
     record_last is = at_place (Some held.taken) (last_at held.ended held.taken i is)
 
-    pub record_past : length held.ended < i → None ≡ slice_get (records_of boxes held) i
+    pub record_past : length held.ended < i → None ≡ slice_get (records_of channels held) i
     record_past past = at_place None (slice_get_past (held.ended ++ held.taken ∷ []) i (let long = length-append held.ended (held.taken ∷ []) in omega (arith, long, past)))
 
 -- ---- records as one list

@@ -87,7 +87,7 @@ cause_of l given memory s lane e cause out = ⊎_elim unposted posted (cases_eq 
         let closed : s.held.why ≡ Some why.NoChannel = cause.no_channel.1 none in
         let is : lane.why ≡ why.NoChannel = e.unposted closed in
         let long : length lane.records ≡ 0 = ap length (e.records ∙ records_none given s.held none) in record {
-          boxes = e.boxes;
+          channels = e.channels;
           some = λ some. absurd (some none);
           most = omega (arith, long);
           over = λ w. absurd (cc (sym is ∙ w));
@@ -105,7 +105,7 @@ cause_of l given memory s lane e cause out = ⊎_elim unposted posted (cases_eq 
         let first : (w : Why) → w ≢ why.NoMemory → lane.why ≡ w → s.held.why ≡ Some w = λ w apart at. cause.cause (λ m. apart (sym at ∙ is ∙ m)) ∙ ap (λ (v : Why). Some v) (sym is ∙ at) in
         let long : length lane.records ≡ length s.held.ended + 1 = ap length (e.records ∙ records_some given s.held some) ∙ length-append s.held.ended (s.held.taken ∷ []) in
         let most = cause.records some in record {
-          boxes = e.boxes;
+          channels = e.channels;
           some = λ _ none. let short : length lane.records ≡ 0 = ap length none in omega (arith, long, short);
           most = omega (arith, long, most);
           over = λ w. e.undelivered ∙ cause.over (first why.FeedOver (λ m. cc) w);

@@ -6,8 +6,8 @@ use Rattle.due_model.specs.declared.event.Event.{Event}
 use Rattle.due_model.specs.declared.notice.Suppression.{Suppression}
 use Rattle.due_model.specs.declared.zone.Zone.{Zone}
 use Rattle.due_model.specs.Due.{due, sup}
-use Rattle.deciding.specs.Decided.{IsOlder}
-use Rattle.deciding.specs.Laws.{of_object}
+use Rattle.decider_thread.specs.Decided.{IsOlder}
+use Rattle.decider_thread.specs.Laws.{of_object}
 use Rattle.engine_threads.specs.Run.{IsNamed}
 use Rattle.log_merge.specs.Order.{IsInOrder}
 use Rattle.steps.specs.Lanes.{about}

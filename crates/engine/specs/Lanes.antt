@@ -14,8 +14,8 @@ use Rattle.undelivered.specs.declared.Why.TheVariants.{FeedOver, Failed, NoMemor
 -- ---- their channels
 
 -- the channels of lane l: those of its posts, in the order of the posts
-abbrev pub boxes_of : {P X : Type 0} → (lane : P → ℕ) → (channel : P → X) → (l : ℕ) → List P → List X
-boxes_of lane channel l posts = map channel (filter (λ post. lane post == l) posts)
+abbrev pub channels_on : {P X : Type 0} → (lane : P → ℕ) → (channel : P → X) → (l : ℕ) → List P → List X
+channels_on lane channel l posts = map channel (filter (λ post. lane post == l) posts)
 
 -- how many there are
 abbrev pub count_of : {P : Type 0} → (lane : P → ℕ) → List P → (l : ℕ) → ℕ
@@ -27,7 +27,7 @@ count_of lane posts l = length (filter (λ post. lane post == l) posts)
 -- is closed
 pub record LaneParts : Type 0 where
   pub lane : LaneId
-  pub boxes : ℕ
+  pub channels : ℕ
   pub records : List (List Notice)
   pub undelivered : List Notice
   pub why : Why
@@ -44,7 +44,7 @@ joined lane = taken lane ++ lane.undelivered
 -- undelivered; a lane that failed gave something up, and each of its channels has served and failed; a lane has no channel, and then
 -- no record, exactly where none was given; and memory ran out only where the run says so.
 pub record IsCause (given : ℕ) (memory : Bool) (lane : LaneParts) : Type 0 where
-  pub boxes : lane.boxes ≡ given
+  pub channels : lane.channels ≡ given
   pub some : given ≢ 0 → lane.records ≢ []
   pub most : length lane.records ≤ given
   pub over : lane.why ≡ FeedOver → lane.undelivered ≡ []
@@ -55,14 +55,14 @@ pub record IsCause (given : ℕ) (memory : Bool) (lane : LaneParts) : Type 0 whe
   pub ran_out : lane.why ≡ NoMemory → memory ≡ true
 
 -- what each channel that served has taken, of so many: a lane that was given none has no record
-abbrev pub records_of : (boxes : ℕ) → Record → List (List Notice)
-records_of boxes held = if boxes == 0 then [] else held.ended ++ held.taken ∷ []
+abbrev pub records_of : (channels : ℕ) → Record → List (List Notice)
+records_of channels held = if channels == 0 then [] else held.ended ++ held.taken ∷ []
 
 -- Lane l ends as its worker says: what each of its channels has taken, what was given up, and why it was closed; a lane without a
 -- channel for that, whatever came after.
 pub record IsEndOf (l given : ℕ) (s : Served) (lane : LaneParts) : Type 0 where
   pub number : lane.lane.0 ≡ l
-  pub boxes : lane.boxes ≡ given
+  pub channels : lane.channels ≡ given
   pub records : lane.records ≡ records_of given s.held
   pub undelivered : lane.undelivered ≡ s.held.undelivered
   pub unposted : s.held.why ≡ Some NoChannel → lane.why ≡ NoChannel

@@ -6,14 +6,14 @@ ghost use Rattle.due_model.specs.Proper.{IsProper};
 ghost use Rattle.engine.specs.Due.{BeginsLog, HaveCauses, IsLog, LanesAreDue, LanesBeginDue};
 ghost use Rattle.engine.specs.Due.{LanesKeepDue};
 ghost use Rattle.engine.specs.Feed.{IsFrontRead, IsWhatWasRead, events_of};
-ghost use Rattle.engine.specs.Lanes.{HaveTaken, boxes_of, count_of};
+ghost use Rattle.engine.specs.Lanes.{HaveTaken, channels_on, count_of};
 ghost use Rattle.engine.specs.Lists.{IsFrontOf};
 ghost use Rattle.engine.specs.Unread.{IsUnread};
 
 use crate::intake::Intake;
 use crate::post::Post;
 use crate::run_end::RunEnd;
-use crate::running::{Ran, run_source};
+use crate::source_run::{Ran, run_source};
 use channel::Channel;
 use closers::Closers;
 use delivery_worker::Gate;
@@ -99,7 +99,7 @@ impl Engine {
         ensures channels { (l : ℕ) (lane cs : _) → slice_get result.0.lanes.items l ≡ Some lane
             → slice_get result.1.items l ≡ Some cs
             → HaveTaken C.account C.offered settings.tries config.now lane
-            (boxes_of (λ post. post.lane.0) (λ post. post.channel) l posts.items) cs.items }
+            (channels_on (λ post. post.lane.0) (λ post. post.channel) l posts.items) cs.items }
         ensures places { length result.1.items ≡ length result.0.lanes.items }
     {
         let Ok(lines) = LineReader::new(alloc, reader) else {

@@ -11,13 +11,13 @@ ghost use Rattle.caller_feeds.specs.Taken.{AreOver, IsTaken};
 ghost use Rattle.engine.specs.Due.{BeginsLog, HaveCauses, IsLog, LanesAreDue, LanesBeginDue};
 ghost use Rattle.engine.specs.Due.{LanesKeepDue};
 ghost use Rattle.engine.specs.Feeds.{AreCut, AreTaken, FeedsGo};
-ghost use Rattle.engine.specs.Lanes.{HaveTaken, boxes_of, count_of};
+ghost use Rattle.engine.specs.Lanes.{HaveTaken, channels_on, count_of};
 ghost use Rattle.engine.specs.Unread.{IsUnread};
 
 use crate::engine::Engine;
 use crate::post::Post;
 use crate::run_end::RunEnd;
-use crate::running::{Ran, run_source};
+use crate::source_run::{Ran, run_source};
 use caller_feeds::{FeedEnd, FeedHandle, Intake, IntakeStop};
 use channel::Channel;
 use closers::Closers;
@@ -179,7 +179,7 @@ impl Engine {
         ensures channels { (l : ℕ) (lane cs : _) → slice_get result.0.lanes.items l ≡ Some lane
             → slice_get result.2.items l ≡ Some cs
             → HaveTaken C.account C.offered settings.tries config.now lane
-            (boxes_of (λ post. post.lane.0) (λ post. post.channel) l posts.items) cs.items }
+            (channels_on (λ post. post.lane.0) (λ post. post.channel) l posts.items) cs.items }
         ensures places { length result.2.items ≡ length result.0.lanes.items }
     {
         let Ran {

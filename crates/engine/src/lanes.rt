@@ -2,7 +2,7 @@
 
 ghost use Rattle.std.specs.Prelude.{◌≡◌, ◌<◌, ◌≤◌, ◌∷◌, ◌++◌, ℕ, [], length, map, slice_get};
 ghost use Rattle.std.specs.Prelude.{vec_capacity, IfOk, OnOk, Some};
-ghost use Rattle.engine.specs.Lanes.{IsEndOf, LaneParts, boxes_of};
+ghost use Rattle.engine.specs.Lanes.{IsEndOf, LaneParts, channels_on};
 
 use crate::post::Post;
 use crate::run_end::LaneEnd;
@@ -12,30 +12,30 @@ use due_model::config::LaneId;
 use std::alloc::{AllocError, Global};
 
 /// No channel, for each of so many lanes. A refused growth is the only error.
-fn no_boxes<C: Channel>(alloc: Global, count: u8) -> Result<Vec<Vec<C>>, AllocError>
-    ensures count { IfOk result (λ boxes. length boxes.items ≡ count) }
-    ensures none { IfOk result (λ boxes. (l : ℕ) (of_lane : _) → slice_get boxes.items l ≡ Some of_lane
+fn empty_lanes<C: Channel>(alloc: Global, count: u8) -> Result<Vec<Vec<C>>, AllocError>
+    ensures count { IfOk result (λ channels. length channels.items ≡ count) }
+    ensures none { IfOk result (λ channels. (l : ℕ) (of_lane : _) → slice_get channels.items l ≡ Some of_lane
         → of_lane.items ≡ []) }
 {
-    let mut boxes = Vec::with_capacity(alloc, usize::from(count))?;
+    let mut channels = Vec::with_capacity(alloc, usize::from(count))?;
     for _lane in 0..count {
-        boxes.push(Vec::new(alloc))?;
+        channels.push(Vec::new(alloc))?;
     }
-    Ok(boxes)
+    Ok(channels)
 }
 
 /// Puts the channel of a post behind those of its lane, and touches no other lane. One of a lane that isn't there is dropped. A
 /// refused growth is the only error.
-fn place<C: Channel>(boxes: &mut Vec<Vec<C>>, post: Post<C>) -> Result<(), AllocError>
-    ensures count { OnOk result (length boxes.new.items ≡ length boxes.old.items) }
-    ensures placed { OnOk result ((l : ℕ) (a b : _) → slice_get boxes.old.items l ≡ Some a
-        → slice_get boxes.new.items l ≡ Some b
-        → b.items ≡ a.items ++ boxes_of (λ p. p.lane.0) (λ p. p.channel) l (post ∷ [])) }
+fn place<C: Channel>(channels: &mut Vec<Vec<C>>, post: Post<C>) -> Result<(), AllocError>
+    ensures count { OnOk result (length channels.new.items ≡ length channels.old.items) }
+    ensures placed { OnOk result ((l : ℕ) (a b : _) → slice_get channels.old.items l ≡ Some a
+        → slice_get channels.new.items l ≡ Some b
+        → b.items ≡ a.items ++ channels_on (λ p. p.lane.0) (λ p. p.channel) l (post ∷ [])) }
 {
     let Post { lane, channel } = post;
     let place = usize::from(lane.0);
-    if place < boxes.len() {
-        boxes[place].push(channel)?;
+    if place < channels.len() {
+        channels[place].push(channel)?;
     }
     Ok(())
 }
@@ -46,26 +46,26 @@ pub(crate) fn channels_of<C: Channel>(
     count: u8,
     posts: Vec<Post<C>>,
 ) -> Result<Vec<Vec<C>>, AllocError>
-    ensures count { IfOk result (λ boxes. length boxes.items ≡ count) }
-    ensures each { IfOk result (λ boxes. (l : ℕ) (of_lane : _) → slice_get boxes.items l ≡ Some of_lane
-        → of_lane.items ≡ boxes_of (λ p. p.lane.0) (λ p. p.channel) l posts.items) }
+    ensures count { IfOk result (λ channels. length channels.items ≡ count) }
+    ensures each { IfOk result (λ channels. (l : ℕ) (of_lane : _) → slice_get channels.items l ≡ Some of_lane
+        → of_lane.items ≡ channels_on (λ p. p.lane.0) (λ p. p.channel) l posts.items) }
 {
-    let mut boxes = no_boxes(alloc, count)?;
+    let mut channels = empty_lanes(alloc, count)?;
     for post in posts {
-        place(&mut boxes, post)?;
+        place(&mut channels, post)?;
     }
-    Ok(boxes)
+    Ok(channels)
 }
 
 /// How many channels each lane has. A refused growth is the only error.
 pub(crate) fn counts_of<C: Channel>(
     alloc: Global,
-    boxes: &[Vec<C>],
+    channels: &[Vec<C>],
 ) -> Result<Vec<usize>, AllocError>
-    ensures { IfOk result (λ counts. counts.items ≡ map (λ of_lane. length of_lane.items) boxes.now) }
+    ensures { IfOk result (λ counts. counts.items ≡ map (λ of_lane. length of_lane.items) channels.now) }
 {
-    let mut counts = Vec::with_capacity(alloc, boxes.len())?;
-    for of_lane in boxes {
+    let mut counts = Vec::with_capacity(alloc, channels.len())?;
+    for of_lane in channels {
         counts.push(of_lane.len())?;
     }
     Ok(counts)

@@ -11,7 +11,7 @@ mod lanes;
 mod open_gate;
 mod post;
 mod run_end;
-mod running;
+mod source_run;
 
 pub use alike::runs_are_alike;
 pub use caller_feeds::{EndFull, FeedEnd, FeedHandle, Full};

@@ -62,7 +62,7 @@ impl RunEnd {
 #[derive(Drop)]
 pub struct LaneEnd {
     lane: LaneId,
-    boxes: usize,
+    channels: usize,
     held: LaneRecord,
     why: Why,
 }
@@ -75,8 +75,8 @@ impl Model for LaneEnd {
 
     ghost view = { λ s. record {
       lane = s.lane;
-      boxes = s.boxes;
-      records = records_of s.boxes s.held;
+      channels = s.channels;
+      records = records_of s.channels s.held;
       undelivered = s.held.undelivered;
       why = s.why;
     } };
@@ -85,8 +85,8 @@ impl Model for LaneEnd {
 impl LaneEnd {
     /// What a lane leaves that was given so many channels and served to its end. Where memory ran out after its close, that is why it
     /// is closed, unless it has no channel.
-    pub(crate) fn of_served(lane: LaneId, boxes: usize, served: Served) -> LaneEnd
-        ensures { IsEndOf lane.0 boxes served result }
+    pub(crate) fn of_served(lane: LaneId, channels: usize, served: Served) -> LaneEnd
+        ensures { IsEndOf lane.0 channels served result }
     {
         let Served { pass: _, held, why } = served;
         let why = if held.parts().why == Some(Why::NoChannel) {
@@ -96,7 +96,7 @@ impl LaneEnd {
         };
         LaneEnd {
             lane,
-            boxes,
+            channels,
             held,
             why,
         }
@@ -110,17 +110,17 @@ impl LaneEnd {
     }
 
     /// How many channels the lane was given.
-    pub fn boxes(&self) -> usize
-        ensures { result ≡ self.now.boxes }
+    pub fn channels(&self) -> usize
+        ensures { result ≡ self.now.channels }
     {
-        self.boxes
+        self.channels
     }
 
     /// How many of them served.
     pub fn served(&self) -> usize
         ensures { result ≡ length self.now.records }
     {
-        if self.boxes == 0 {
+        if self.channels == 0 {
             0
         } else {
             self.held.parts().ended.len() + 1
@@ -131,7 +131,7 @@ impl LaneEnd {
     pub fn record(&self, number: usize) -> Option<&[Notice]>
         ensures { option_map (λ taken. taken.now) result ≡ slice_get self.now.records number }
     {
-        if self.boxes == 0 {
+        if self.channels == 0 {
             return None;
         }
         let parts = self.held.parts();

@@ -11,8 +11,8 @@ use Rattle.due_model.specs.Items.{decider_of, notices}
 use Rattle.due_model.specs.LaneFits.{of}
 use Rattle.decider.specs.declared.share.Share.{Share}
 use Rattle.channel_queue.specs.Rule.{IsPickedOf}
-use Rattle.deciding.specs.Laws.{IsMade}
-use Rattle.deciding.specs.Puts.{as_items}
+use Rattle.decider_thread.specs.Laws.{IsMade}
+use Rattle.decider_thread.specs.Puts.{as_items}
 use Rattle.delivery_worker.specs.Picked.{AllEnded}
 use Rattle.steps.specs.Lanes.{about}
 use Rattle.engine_threads.specs.Run.{IsNamed}

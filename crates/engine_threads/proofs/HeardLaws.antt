@@ -2,9 +2,9 @@
 use Rattle.std.proofs.Common.{◌≡◌, List, [], ◌∷◌, ◌++◌, refl, sym, ap, ◌∙◌, append_assoc, append-nil, reverse}
 use Rattle.std.proofs.lemmas.List.{reverse-append, reverse-reverse}
 use Rattle.due_model.specs.declared.event.Event.{Event}
-use Rattle.deciding.specs.declared.Signal.{Signal}
-use Rattle.deciding.specs.declared.Signal.TheVariants.{Decides, Over}
-use Rattle.deciding.specs.Decided.{heard}
+use Rattle.decider_thread.specs.declared.Signal.{Signal}
+use Rattle.decider_thread.specs.declared.Signal.TheVariants.{Decides, Over}
+use Rattle.decider_thread.specs.Decided.{heard}
 
 -- the events before the end
 abbrev before_end : List Signal → List Event

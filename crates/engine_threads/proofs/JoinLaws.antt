@@ -4,7 +4,7 @@ use Rattle.std.proofs.lemmas.Bool.{cases_eq}
 use Rattle.std.proofs.lemmas.Option.{same_Some, slice_get-get_or, slice_get_within}
 use Rattle.due_model.specs.declared.config.Config.{Config}
 use Rattle.due_model.specs.declared.event.Event.{Event}
-use Rattle.deciding.specs.Made.{made_due}
+use Rattle.decider_thread.specs.Made.{made_due}
 use Rattle.crossbeam_queue.specs.Passes.{Pass}
 use Rattle.due_model.specs.declared.item.Item.{Item}
 use Rattle.due_model.specs.declared.item.Item.TheVariants as item
@@ -26,7 +26,7 @@ use Rattle.undelivered.specs.Record.{Record}
 use Rattle.undelivered.specs.declared.Why.TheVariants as why
 use Rattle.engine_threads.specs.Lanes.{HaveTaken}
 use Rattle.engine_threads.specs.Joins.{AreKept, ArePickedBelow, AreWorkers, IsKept, IsMet, IsPicked}
-use Rattle.deciding.specs.Puts.{as_items}
+use Rattle.decider_thread.specs.Puts.{as_items}
 use Rattle.engine_threads.specs.ListLaws.{set_other, set_same}
 
 -- a pass knows what it has
@@ -123,11 +123,11 @@ kept_self a l s t at_s at_t =
     let same : s ≡ t = same_Some s t (sym at_s ∙ at_t) in
     subst (λ (u : Served). IsKept s u) same (record { held = refl; why = refl; picked = refl })
 
--- the boxes of a lane are what they were where only its pass was joined
-pub boxes_still : {C : Type 0} (account : C → Account) (offered : C → List Offer → C → Type 0) (tries more : ℕ) (c d : Config) (s t : Served) (old given new : List C) → tries ≡ more → c ≡ d → old ≡ given → IsKept s t
+-- the channels of a lane are what they were where only its pass was joined
+pub channels_still : {C : Type 0} (account : C → Account) (offered : C → List Offer → C → Type 0) (tries more : ℕ) (c d : Config) (s t : Served) (old given new : List C) → tries ≡ more → c ≡ d → old ≡ given → IsKept s t
     → HaveTaken account offered tries c s old new → HaveTaken account offered more d t given new
-boxes_still {C} account offered tries more c d s t old given new same_tries same_config same_boxes kept h =
+channels_still {C} account offered tries more c d s t old given new same_tries same_config same_channels kept h =
     subst (λ (r : Record). HaveServed account offered more d (records_in r) (joined r) (r.why ≡ Some why.Failed) given new) (sym kept.held)
-    (subst (λ (l : List C). HaveTaken account offered more d s l new) same_boxes
+    (subst (λ (l : List C). HaveTaken account offered more d s l new) same_channels
     (subst (λ (k : Config). HaveTaken account offered more k s old new) same_config
     (subst (λ (n : ℕ). HaveTaken account offered n c s old new) same_tries h)))

@@ -16,10 +16,10 @@ use Rattle.decider.specs.declared.share.Share.{Share}
 use Rattle.decider.specs.Decider.{gained, suppressed_gained}
 use Rattle.channel_queue.specs.declared.LaneQueue.{LaneQueue}
 use Rattle.channel_queue.specs.Rule.{picked_of}
-use Rattle.deciding.specs.declared.ring.DeciderEnd.{DeciderEnd}
-use Rattle.deciding.specs.Decided.{IsOlder}
-use Rattle.deciding.specs.Laws.{MadeIsDue, MadeIsOwn, SuppressedIsInOrder, SuppressedIsNamed, SuppressedIsOwn, SuppressedIsSup, of_object}
-use Rattle.deciding.specs.Made.{made_due, suppressed}
+use Rattle.decider_thread.specs.declared.ring.DeciderEnd.{DeciderEnd}
+use Rattle.decider_thread.specs.Decided.{IsOlder}
+use Rattle.decider_thread.specs.Laws.{MadeIsDue, MadeIsOwn, SuppressedIsInOrder, SuppressedIsNamed, SuppressedIsOwn, SuppressedIsSup, of_object}
+use Rattle.decider_thread.specs.Made.{made_due, suppressed}
 use Rattle.delivery_worker.specs.declared.worker.Served.{Served}
 use Rattle.delivery_worker.specs.Picked.{AllEnded, joined}
 use Rattle.lemmas.proofs.Lists.{AllPairs-nil, some_at}
@@ -123,8 +123,8 @@ module _ (laws : Laws) (c : Config) (zone : Zone) (n l : ℕ) (q : LaneQueue) (q
     made = λ d lt. laws.own c zone (share_of n d) l (chosen d).0;
   }
 
-  pub lane_end : (boxes : ℕ) (t : Served) → 0 < n → q.deciders ≡ n → IsServed q boxes s → IsKept s t → IsLaneEnd c zone l boxes past refused (decided_of c zone n queues past refused served ends long met) t
-  lane_end boxes t some count is kept =
+  pub lane_end : (channels : ℕ) (t : Served) → 0 < n → q.deciders ≡ n → IsServed q channels s → IsKept s t → IsLaneEnd c zone l channels past refused (decided_of c zone n queues past refused served ends long met) t
+  lane_end channels t some count is kept =
       let read = lane_read some count in
       let due_of : (o : ℕ) → o < length c.objects → about o (put (o % n)) ≡ due c zone o l (chosen (o % n)).0 = λ o within. laws.due c zone (share_of n (o % n)) l o (chosen (o % n)).0 (owns_it n o) within in
       let same : joined t.held ≡ joined s.held = ap joined kept.held in record {
@@ -144,7 +144,7 @@ module _ (laws : Laws) (c : Config) (zone : Zone) (n l : ℕ) (q : LaneQueue) (q
             (subst (λ (ns : List Notice). IsPrefix ns (due c zone o l past)) (sym (due_of o within))
             (subst (λ (es : List Event). IsPrefix (due c zone o l (chosen (o % n)).0) (due c zone o l es)) older.1 (due_older laws c zone n o within l older.0 (chosen (o % n)).0)))));
         named = subst (All (IsNamed c l)) (sym same) (front_all (IsNamed c l) (joined s.held) (notices (picked_of s.pass)) is.front (lane_named c n l (picked_of s.pass) put read));
-        cause = subst (λ (r : Record). HasCause boxes r t.why) (sym kept.held) (subst (λ (w : Why). HasCause boxes s.held w) (sym kept.why) is.cause);
+        cause = subst (λ (r : Record). HasCause channels r t.why) (sym kept.held) (subst (λ (w : Why). HasCause channels s.held w) (sym kept.why) is.cause);
       }
     where
       first_part : (P : Notice → Type 0) (xs rest : List Notice) → All P (xs ++ rest) → All P xs
@@ -190,10 +190,10 @@ log_or c zone past refused more log less is = record {
   order = is.order;
 }
 
-pub run_of : (c : Config) (zone : Zone) (boxes : ℕ → ℕ) (past : List Event) (refused rest any : Bool) (lanes : List Served) (log : List Suppression)
+pub run_of : (c : Config) (zone : Zone) (channels : ℕ → ℕ) (past : List Event) (refused rest any : Bool) (lanes : List Served) (log : List Suppression)
     → (any ≡ false → (l : ℕ) (s : Served) → slice_get lanes l ≡ Some s → s.why ≢ NoMemory)
-    → AreLaneEnds c zone boxes past refused lanes → IsLogOf c zone past (refused || rest) log → IsRun c zone boxes past ((refused || rest) || any) lanes log
-run_of c zone boxes past refused rest any lanes log none ends log_is = record {
+    → AreLaneEnds c zone channels past refused lanes → IsLogOf c zone past (refused || rest) log → IsRun c zone channels past ((refused || rest) || any) lanes log
+run_of c zone channels past refused rest any lanes log none ends log_is = record {
   count = λ _. ends.count;
   all_due = λ m l s at. (ends.each l s at).all_due (neither_first refused rest (neither_first (refused || rest) any m)) (none (neither_second (refused || rest) any m) l s at);
   decided = ends.decided;
@@ -222,8 +222,8 @@ no_lane : (lanes : List Served) (l : ℕ) (s : Served) → lanes ≡ [] → slic
 no_lane [] l s none at = none-some s at
 no_lane (x ∷ lanes) l s none at = absurd (omega (arith, ap length none))
 
-pub run_of_none : (c : Config) (zone : Zone) (boxes : ℕ → ℕ) (past : List Event) (memory : Bool) (lanes : List Served) (log : List Suppression) → lanes ≡ [] → log ≡ [] → memory ≡ true → IsRun c zone boxes past memory lanes log
-run_of_none c zone boxes past memory lanes log none no_log out = record {
+pub run_of_none : (c : Config) (zone : Zone) (channels : ℕ → ℕ) (past : List Event) (memory : Bool) (lanes : List Served) (log : List Suppression) → lanes ≡ [] → log ≡ [] → memory ≡ true → IsRun c zone channels past memory lanes log
+run_of_none c zone channels past memory lanes log none no_log out = record {
   count = λ m. absurd (true≢false (sym out ∙ m));
   all_due = λ m. absurd (true≢false (sym out ∙ m));
   decided = λ o. past;

@@ -5,13 +5,13 @@ use Rattle.std.proofs.lemmas.Bool.{cases_eq}
 use Rattle.std.proofs.lemmas.Option.{same_Some, slice_get_within, slice_get-get_or}
 use Rattle.std.proofs.lemmas.List.{reverse-append, take_more}
 use Rattle.due_model.specs.declared.event.Event.{Event}
-use Rattle.deciding.specs.Decided.{heard}
-use Rattle.deciding.specs.declared.Signal.TheVariants.{Decides}
+use Rattle.decider_thread.specs.Decided.{heard}
+use Rattle.decider_thread.specs.declared.Signal.TheVariants.{Decides}
 use Rattle.rtrb.specs.declared.AnyItems.{AnyItems}
 use Rattle.rtrb.specs.declared.producer.Producer.{Producer}
 use Rattle.rtrb.specs.declared.consumer.Consumer.{Consumer}
 use Rattle.rtrb.specs.Ring.{IsPair, SameConsumer, SameProducer, sent}
-use Rattle.deciding.specs.declared.Signal.{Signal}
+use Rattle.decider_thread.specs.declared.Signal.{Signal}
 use Rattle.engine_threads.specs.Sent.{AreSame, HaveSent}
 use Rattle.engine_threads.specs.ListLaws.{set_other, set_same}
 

@@ -9,10 +9,10 @@ use Rattle.rtrb.specs.declared.AnyItems.{AnyItems}
 use Rattle.rtrb.specs.declared.producer.Producer.{Producer}
 use Rattle.rtrb.specs.Ring.{IsPair, received, sent}
 use Rattle.channel_queue.specs.declared.LaneQueue.{LaneQueue}
-use Rattle.deciding.specs.declared.Signal.{Signal}
-use Rattle.deciding.specs.declared.seats.Seat.{Seat}
-use Rattle.engine_threads.specs.declared.starting.DeciderWork.{DeciderWork}
-use Rattle.deciding.specs.Puts.{ArePut, Puts}
+use Rattle.decider_thread.specs.declared.Signal.{Signal}
+use Rattle.decider_thread.specs.declared.seats.Seat.{Seat}
+use Rattle.engine_threads.specs.declared.starts.DeciderWork.{DeciderWork}
+use Rattle.decider_thread.specs.Puts.{ArePut, Puts}
 use Rattle.engine_threads.specs.Works.{AreDeciderWorks, AreLonger, AreRings, IsDeciderWork, IsLonger}
 
 pub rings_grow : (ws : List DeciderWork) (ps : List (Producer Signal Global AnyItems)) (w : DeciderWork) (p : Producer Signal Global AnyItems) → length ps ≡ length ws → sent p ≡ [] → IsPair p w.ring

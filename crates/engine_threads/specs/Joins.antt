@@ -16,12 +16,12 @@ use Rattle.rtrb.specs.Ring.{IsPair, sent}
 use Rattle.due_model.specs.declared.config.Config.{Config}
 use Rattle.due_model.specs.declared.event.Event.{Event}
 use Rattle.due_model.specs.declared.zone.Zone.{Zone}
-use Rattle.deciding.specs.Made.{made_due, suppressed}
-use Rattle.deciding.specs.declared.Signal.{Signal}
-use Rattle.deciding.specs.declared.Signal.TheVariants.{Over}
-use Rattle.deciding.specs.declared.ring.DeciderEnd.{DeciderEnd}
-use Rattle.deciding.specs.Decided.{HasDecided, IsOlder, heard}
-use Rattle.deciding.specs.Puts.{as_items}
+use Rattle.decider_thread.specs.Made.{made_due, suppressed}
+use Rattle.decider_thread.specs.declared.Signal.{Signal}
+use Rattle.decider_thread.specs.declared.Signal.TheVariants.{Over}
+use Rattle.decider_thread.specs.declared.ring.DeciderEnd.{DeciderEnd}
+use Rattle.decider_thread.specs.Decided.{HasDecided, IsOlder, heard}
+use Rattle.decider_thread.specs.Puts.{as_items}
 
 -- all but what was joined to its pass is as it was
 pub record IsKept (old new : Served) : Type 0 where

@@ -14,27 +14,27 @@ use Rattle.undelivered.specs.Record.{Record}
 use Rattle.undelivered.specs.declared.Why.{Why}
 use Rattle.undelivered.specs.declared.Why.TheVariants as why
 
--- A lane that had so many boxes was closed for a cause, as this record and what the worker says of it tell. There is one record for
--- each box that served, and a lane that failed had no box left.
-pub record HasCause (boxes : ℕ) (held : Record) (told : Why) : Type 0 where
+-- A lane that had so many channels was closed for a cause, as this record and what the worker says of it tell. There is one record for
+-- each channel that served, and a lane that failed had no channel left.
+pub record HasCause (channels : ℕ) (held : Record) (told : Why) : Type 0 where
   pub closed : IsSome held.why
   pub cause : told ≢ why.NoMemory → held.why ≡ Some told
   pub over : held.why ≡ Some why.FeedOver → held.undelivered ≡ []
   pub failed : held.why ≡ Some why.Failed → held.undelivered ≢ []
-  pub each_failed : held.why ≡ Some why.Failed → length held.ended + 1 ≡ boxes
-  pub no_channel : (held.why ≡ Some why.NoChannel) ↔ (boxes ≡ 0)
-  pub untaken : boxes ≡ 0 → held.taken ≡ []
-  pub records : boxes ≢ 0 → length held.ended < boxes
-  pub no_records : boxes ≡ 0 → held.ended ≡ []
+  pub each_failed : held.why ≡ Some why.Failed → length held.ended + 1 ≡ channels
+  pub no_channel : (held.why ≡ Some why.NoChannel) ↔ (channels ≡ 0)
+  pub untaken : channels ≡ 0 → held.taken ≡ []
+  pub records : channels ≢ 0 → length held.ended < channels
+  pub no_records : channels ≡ 0 → held.ended ≡ []
 
--- A lane was served to its end, by so many boxes at most.
-pub record IsServed (q : LaneQueue) (boxes : ℕ) (s : Served) : Type 0 where
+-- A lane was served to its end, by so many channels at most.
+pub record IsServed (q : LaneQueue) (channels : ℕ) (s : Served) : Type 0 where
   pub worker : IsWorker q (picked_of s.pass) [] s.pass
   pub ended : AllEnded q.deciders (picked_of s.pass)
   -- what was taken and then what was given up is what was picked, in order; where memory ran out, a first part of it
   pub order : s.why ≢ why.NoMemory → joined s.held ≡ notices (picked_of s.pass)
   pub front : IsPrefix (joined s.held) (notices (picked_of s.pass))
-  pub cause : HasCause boxes s.held s.why
+  pub cause : HasCause channels s.held s.why
 
 -- The channels of a lane that was served, before and after: each has taken what its record says, and failed where it was replaced.
 abbrev pub HaveTaken : {C : Type 0} → (account : C → Account) → (offered : C → List Offer → C → Type 0) → (tries : ℕ) → Config → Served

@@ -1,7 +1,7 @@
 -- The logs of the deciders, and the one that they make.
 use Rattle.std.specs.Prelude.{◌≡◌, ℕ, Bool, List, [], filter, slice_get, Some}
 use Rattle.due_model.specs.declared.notice.Suppression.{Suppression}
-use Rattle.deciding.specs.declared.ring.DeciderEnd.{DeciderEnd}
+use Rattle.decider_thread.specs.declared.ring.DeciderEnd.{DeciderEnd}
 use Rattle.log_merge.specs.Order.{IsInOrder}
 
 -- each stands by event, then object

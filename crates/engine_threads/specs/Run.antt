@@ -7,8 +7,8 @@ use Rattle.due_model.specs.declared.notice.Notice.{Notice}
 use Rattle.due_model.specs.declared.notice.Suppression.{Suppression}
 use Rattle.due_model.specs.declared.zone.Zone.{Zone}
 use Rattle.due_model.specs.Due.{due, sup}
-use Rattle.deciding.specs.Decided.{IsOlder}
-use Rattle.deciding.specs.Laws.{of_object}
+use Rattle.decider_thread.specs.Decided.{IsOlder}
+use Rattle.decider_thread.specs.Laws.{of_object}
 use Rattle.delivery_worker.specs.declared.worker.Served.{Served}
 use Rattle.delivery_worker.specs.Picked.{joined}
 use Rattle.log_merge.specs.Order.{IsInOrder}
@@ -23,7 +23,7 @@ IsNamed c l n = (n.object.0 < length c.objects) × (n.lane.0 ≡ l)
 -- Lane l at the end, of these events, the newest first: of each object, what was taken and then what was given up is what is due,
 -- where memory ran out in no thread; where it didn't run out in the lane's own, what is due of the events that the object's decider
 -- has decided; and a first part of it in any case. It was closed for a cause.
-pub record IsLaneEnd (c : Config) (zone : Zone) (l : ℕ) (boxes : ℕ) (past : List Event)
+pub record IsLaneEnd (c : Config) (zone : Zone) (l : ℕ) (channels : ℕ) (past : List Event)
     (refused : Bool) (decided : ℕ → List Event) (s : Served) : Type 0 where
   pub all_due : refused ≡ false → s.why ≢ why.NoMemory
       → (o : ℕ) → o < length c.objects → about o (joined s.held) ≡ due c zone o l past
@@ -32,16 +32,16 @@ pub record IsLaneEnd (c : Config) (zone : Zone) (l : ℕ) (boxes : ℕ) (past : 
   pub front : (o : ℕ) → o < length c.objects
       → IsPrefix (about o (joined s.held)) (due c zone o l past)
   pub named : All (IsNamed c l) (joined s.held)
-  pub cause : HasCause boxes s.held s.why
+  pub cause : HasCause channels s.held s.why
 
 -- the same of each lane; what is decided of an object is the same for all of them
-pub record AreLaneEnds (c : Config) (zone : Zone) (boxes : ℕ → ℕ) (past : List Event)
+pub record AreLaneEnds (c : Config) (zone : Zone) (channels : ℕ → ℕ) (past : List Event)
     (refused : Bool) (served : List Served) : Type 0 where
   pub decided : ℕ → List Event
   pub older : (o : ℕ) → IsOlder (decided o) past
   pub count : length served ≡ length c.lanes
   pub each : (l : ℕ) (s : Served) → slice_get served l ≡ Some s
-      → IsLaneEnd c zone l (boxes l) past refused decided s
+      → IsLaneEnd c zone l (channels l) past refused decided s
 
 -- The log of a run: where memory ran out in no thread, of each object all that is suppressed of it, and a first part of it in any
 -- case; of objects of the configuration, and by event, then object.
@@ -55,7 +55,7 @@ pub record IsLogOf (c : Config) (zone : Zone) (past : List Event) (refused : Boo
 
 -- What a run leaves, of these events, the newest first: where memory ran out nowhere, each lane with all that is due; and of each
 -- lane that is there a first part of it. A lane whose own memory sufficed has all that was decided, whatever became of the others.
-pub record IsRun (c : Config) (zone : Zone) (boxes : ℕ → ℕ) (past : List Event)
+pub record IsRun (c : Config) (zone : Zone) (channels : ℕ → ℕ) (past : List Event)
     (memory : Bool) (served : List Served) (log : List Suppression) : Type 0 where
   pub count : memory ≡ false → length served ≡ length c.lanes
   pub all_due : memory ≡ false → (l : ℕ) (s : Served) → slice_get served l ≡ Some s
@@ -70,5 +70,5 @@ pub record IsRun (c : Config) (zone : Zone) (boxes : ℕ → ℕ) (past : List E
   pub memory_is : memory ≡ false → (l : ℕ) (s : Served) → slice_get served l ≡ Some s
       → s.why ≢ why.NoMemory
   pub causes : (l : ℕ) (s : Served) → slice_get served l ≡ Some s
-      → HasCause (boxes l) s.held s.why
+      → HasCause (channels l) s.held s.why
   pub log_is : IsLogOf c zone past memory log

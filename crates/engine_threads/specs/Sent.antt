@@ -4,7 +4,7 @@ use Rattle.std.specs.declared.alloc.Global.{Global}
 use Rattle.rtrb.specs.declared.AnyItems.{AnyItems}
 use Rattle.rtrb.specs.declared.producer.Producer.{Producer}
 use Rattle.rtrb.specs.Ring.{SameProducer, sent}
-use Rattle.deciding.specs.declared.Signal.{Signal}
+use Rattle.decider_thread.specs.declared.Signal.{Signal}
 
 -- each ring has been sent these
 abbrev pub HaveSent : List Signal → List (Producer Signal Global AnyItems) → Type 0

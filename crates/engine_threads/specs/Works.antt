@@ -8,12 +8,12 @@ use Rattle.crossbeam_queue.specs.Passes.{Pass}
 use Rattle.due_model.specs.declared.item.Item.{Item}
 use Rattle.channel_queue.specs.declared.Seen.{Seen}
 use Rattle.channel_queue.specs.Passes.{IsDecider, IsWorker}
-use Rattle.deciding.specs.declared.Signal.{Signal}
-use Rattle.deciding.specs.declared.seats.Seat.{Seat}
+use Rattle.decider_thread.specs.declared.Signal.{Signal}
+use Rattle.decider_thread.specs.declared.seats.Seat.{Seat}
 use Rattle.engine_threads.specs.Sent.{HaveSent}
 use Rattle.channel_queue.specs.declared.LaneQueue.{LaneQueue}
-use Rattle.engine_threads.specs.declared.starting.DeciderWork.{DeciderWork}
-use Rattle.deciding.specs.Puts.{ArePut}
+use Rattle.engine_threads.specs.declared.starts.DeciderWork.{DeciderWork}
+use Rattle.decider_thread.specs.Puts.{ArePut}
 
 -- each of these queues is of so many deciders
 abbrev pub HaveDeciders : ℕ → List LaneQueue → Type 0

@@ -2,18 +2,18 @@
 //! have ended, what they gave back is put together: of each lane what was taken and then what was given up is what was due.
 #![tactic(auto)]
 
-mod driving;
-mod feeding;
-mod joining;
+mod ends;
+mod joins;
+mod lane_work;
 mod logs;
-mod meeting;
-mod running;
-mod setting;
+mod prepared;
+mod run;
+mod signals;
 mod source;
-mod starting;
+mod starts;
+mod threads;
 mod word;
-mod working;
 mod zone;
 
-pub use running::{ThreadsEnd, run_threads};
+pub use run::{ThreadsEnd, run_threads};
 pub use source::{Given, Source};

@@ -4,7 +4,7 @@ ghost use Rattle.std.specs.Prelude.{IfOk};
 ghost use Rattle.log_merge.specs.Order.{IsInOrder};
 ghost use Rattle.engine_threads.specs.Logs.{AreInOrder, HasEach};
 
-use deciding::DeciderEnd;
+use decider_thread::DeciderEnd;
 use due_model::notice::Suppression;
 use log_merge::merge;
 use std::alloc::{AllocError, Global};

@@ -8,8 +8,8 @@ ghost use Rattle.command_output.specs.Outcome.{outcome_status};
 ghost use Rattle.command_line.specs.Words.{AreSettingsFit, AreTwo, request_zone};
 ghost use Rattle.notify_run.specs.Refusal.{refusal_status};
 ghost use Rattle.notify_run.specs.Zones.{IsBadRule, zone_fault_status};
-ghost use Rattle.sending.specs.Fault.{run_status};
-ghost use Rattle.steps.specs.Settings.{max_boxes};
+ghost use Rattle.run_devices.specs.Fault.{run_status};
+ghost use Rattle.steps.specs.Settings.{max_channels};
 
 use clap::error::ErrorKind;
 use command_input::zone_of;
@@ -18,7 +18,7 @@ use command_output::{AnyWriter, CommandFault, Ending, exit_status};
 use due_model::zone::Zone;
 use progress::{ProgressLine, Watcher};
 use replay::{replay_files, replay_in};
-use sending::{RunFault, RunSettings, do_run};
+use run_devices::{RunFault, RunSettings, do_run};
 use std::alloc::AllocError;
 use std::env;
 use std::fs::File;
@@ -116,7 +116,7 @@ fn do_trace(
     settings: Settings,
     standbys: u8,
 ) -> Result<Ending, CommandFault>
-    requires { standbys < max_boxes }
+    requires { standbys < max_channels }
 {
     let input = AnyReader::new(rt.stdin());
     let mut writer = AnyWriter::new(rt.stdout());

@@ -18,7 +18,7 @@ use Rattle.command_output.specs.Outcome.{IsWriteFault}
 use Rattle.written.specs.Written.{Leaves, Writes, WritesFront}
 use Rattle.written.specs.WrittenLaws.{front_begun, front_less, front_longer, front_on, leaves_less, leaves_on}
 use Rattle.command_output.specs.RunLine.{closed_line, undelivered_line}
-use Rattle.run_command.specs.Report.{IsRun, WritesReport, box_lines, boxes_text, ending_of, letters_text, report_text}
+use Rattle.run_command.specs.Report.{IsRun, WritesReport, channel_lines, channels_text, ending_of, letters_text, report_text}
 
 module _ {X : Type 0} (f : X → List ℕ) (old mid new : Option (List ℕ)) (held now : List ℕ) (xs : List X) (i : ℕ) (d : X) (within : i < length xs)
     (before : Leaves old mid (held ++ flat_map f (take i xs)) now) where
@@ -144,8 +144,8 @@ module _ (old m1 : Option (List ℕ)) (held t u g z : List ℕ) where
       both = part_on old m1 m2 held t u h1 h2 a b
 
       -- of the third
-      pub boxes_cut : (m3 : Option (List ℕ)) → WritesFront m2 m3 (h2 ++ g) → WritesFront old m3 (held ++ (((t ++ u) ++ g) ++ z))
-      boxes_cut m3 h = part_begun old m3 held ((t ++ u) ++ g) z (part_cut old m2 m3 held (t ++ u) g h2 both h)
+      pub channels_cut : (m3 : Option (List ℕ)) → WritesFront m2 m3 (h2 ++ g) → WritesFront old m3 (held ++ (((t ++ u) ++ g) ++ z))
+      channels_cut m3 h = part_begun old m3 held ((t ++ u) ++ g) z (part_cut old m2 m3 held (t ++ u) g h2 both h)
 
       module _ (m3 : Option (List ℕ)) (h3 : List ℕ) (d : Leaves m2 m3 (h2 ++ g) h3) where
         all_three : Leaves old m3 (held ++ ((t ++ u) ++ g)) h3
@@ -174,8 +174,8 @@ pub record_at : {X : Type 0} (xs : List X) (i : ℕ) (x d : X) → slice_get xs 
 record_at xs i x d at = same_Some x (get_or xs i d) (sym at ∙ slice_get-get_or xs i d (slice_get_within xs i x at))
 
 -- the lines of several channels, or of one
-pub boxes_several : (c : Config) (lane : LaneParts) → 1 < lane.boxes → boxes_text c lane ≡ box_lines c lane
-boxes_several c lane some = ap (λ (b : Bool). cond b (box_lines c lane) []) (lt-ltb 1 lane.boxes some)
+pub channels_several : (c : Config) (lane : LaneParts) → 1 < lane.channels → channels_text c lane ≡ channel_lines c lane
+channels_several c lane some = ap (λ (b : Bool). cond b (channel_lines c lane) []) (lt-ltb 1 lane.channels some)
 
-pub boxes_single : (c : Config) (lane : LaneParts) → lane.boxes ≤ 1 → boxes_text c lane ≡ []
-boxes_single c lane few = ap (λ (b : Bool). cond b (box_lines c lane) []) (le-ltb 1 lane.boxes few)
+pub channels_single : (c : Config) (lane : LaneParts) → lane.channels ≤ 1 → channels_text c lane ≡ []
+channels_single c lane few = ap (λ (b : Bool). cond b (channel_lines c lane) []) (le-ltb 1 lane.channels few)

@@ -15,7 +15,7 @@ use Rattle.command_output.specs.declared.outcome.Ending.{Ending}
 use Rattle.command_output.specs.declared.outcome.Ending.TheVariants.{Whole, Short, Undelivered}
 use Rattle.written.specs.Written.{Writes, WritesFront}
 use Rattle.command_output.specs.ReportLine.{refused_line, suppression_line}
-use Rattle.command_output.specs.RunLine.{box_line, closed_line, taken_line, undelivered_line}
+use Rattle.command_output.specs.RunLine.{channel_line, closed_line, taken_line, undelivered_line}
 
 -- ---- its parts
 
@@ -36,21 +36,21 @@ abbrev pub taken_text : Config → LaneParts → List ℕ
 taken_text c lane = flat_map (letters_text (taken_line c lane.lane.0)) lane.records
 
 -- how many each channel of a lane that served has taken, in order
-abbrev pub box_lines : Config → LaneParts → List ℕ
-box_lines c lane =
-    flat_map (λ n. box_line c lane.lane.0 n (length (slice_index_or lane.records n [])))
+abbrev pub channel_lines : Config → LaneParts → List ℕ
+channel_lines c lane =
+    flat_map (λ n. channel_line c lane.lane.0 n (length (slice_index_or lane.records n [])))
     (range_with_len 0 (length lane.records))
 
 -- the same, where it was given several
-abbrev pub boxes_text : Config → LaneParts → List ℕ
-boxes_text c lane = if ltb 1 lane.boxes then box_lines c lane else []
+abbrev pub channels_text : Config → LaneParts → List ℕ
+channels_text c lane = if ltb 1 lane.channels then channel_lines c lane else []
 
 -- of a lane what its channels have taken, what it gave up, how many each of several channels has taken, and why it is closed
 abbrev pub lane_lines : Config → LaneParts → List ℕ
 lane_lines c lane =
     taken_text c lane
     ++ letters_text (undelivered_line c lane.lane.0) lane.undelivered
-    ++ boxes_text c lane
+    ++ channels_text c lane
     ++ closed_line c lane.lane.0 lane.why
 
 -- the lines of each lane, in order

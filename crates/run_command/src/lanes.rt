@@ -3,7 +3,7 @@
 ghost use Rattle.std.specs.Prelude.{◌≡◌, ◌++◌, IfErr, OnOk};
 ghost use Rattle.command_output.specs.Outcome.{IsWriteFault};
 ghost use Rattle.written.specs.Written.{Leaves, WritesFront};
-ghost use Rattle.run_command.specs.Report.{box_lines, boxes_text, has_undelivered, lane_lines};
+ghost use Rattle.run_command.specs.Report.{channel_lines, channels_text, has_undelivered, lane_lines};
 ghost use Rattle.run_command.specs.Report.{lanes_text, letters_text, taken_text};
 ghost use Rattle.command_output.specs.RunLine.{taken_line, undelivered_line};
 
@@ -50,7 +50,7 @@ fn write_lane<W: Sink>(
     let why = lane.why();
     write_records(lines, writer, config, lane)?;
     write_undelivered(lines, writer, config, number, undelivered)?;
-    write_boxes(lines, writer, config, lane)?;
+    write_channels(lines, writer, config, lane)?;
     let closed = OutputLine::Closed { lane: number, why };
     lines.write(writer, config, &closed)?;
     Ok(())
@@ -80,36 +80,36 @@ fn write_records<W: Sink>(
 }
 
 /// Makes the lines of how many each channel of a lane has taken, where it was given several.
-fn write_boxes<W: Sink>(
+fn write_channels<W: Sink>(
     lines: &mut Lines,
     writer: &mut W,
     config: &Config,
     lane: &LaneEnd,
 ) -> Result<(), CommandFault>
     ensures ok { OnOk result (Leaves (W.contents writer.old) (W.contents writer.new)
-        (lines.old ++ boxes_text config.now lane.now) lines.new) }
+        (lines.old ++ channels_text config.now lane.now) lines.new) }
     ensures front { WritesFront (W.contents writer.old) (W.contents writer.new)
-        (lines.old ++ boxes_text config.now lane.now) }
+        (lines.old ++ channels_text config.now lane.now) }
     ensures fault { IfErr result (λ fault. IsWriteFault W.can_fail fault) }
 {
-    if lane.boxes() > 1 {
-        write_each_box(lines, writer, config, lane)
+    if lane.channels() > 1 {
+        write_each_channel(lines, writer, config, lane)
     } else {
         Ok(())
     }
 }
 
 /// Makes the line of each channel of a lane that served.
-fn write_each_box<W: Sink>(
+fn write_each_channel<W: Sink>(
     lines: &mut Lines,
     writer: &mut W,
     config: &Config,
     lane: &LaneEnd,
 ) -> Result<(), CommandFault>
     ensures ok { OnOk result (Leaves (W.contents writer.old) (W.contents writer.new)
-        (lines.old ++ box_lines config.now lane.now) lines.new) }
+        (lines.old ++ channel_lines config.now lane.now) lines.new) }
     ensures front { WritesFront (W.contents writer.old) (W.contents writer.new)
-        (lines.old ++ box_lines config.now lane.now) }
+        (lines.old ++ channel_lines config.now lane.now) }
     ensures fault { IfErr result (λ fault. IsWriteFault W.can_fail fault) }
 {
     let of_lane = lane.lane();

@@ -4,7 +4,7 @@
 ghost use Rattle.std.specs.Prelude.{◌≡◌, ◌≤◌, ℕ, [], false, IsOk};
 ghost use Rattle.std.specs.Prelude.{IfErr, IfOk, IsErrOf, OnOk, ◌⊎◌};
 ghost use Rattle.due_model.specs.Accepted.{IsAccepted};
-ghost use Rattle.engine.specs.Lanes.{AreTold, boxes_of, count_of};
+ghost use Rattle.engine.specs.Lanes.{AreTold, channels_on, count_of};
 ghost use Rattle.command_output.specs.Outcome.{IsWriteFault};
 ghost use Rattle.written.specs.Written.{Writes, WritesFront};
 ghost use Rattle.run_command.specs.Report.{WritesReport, WritesReportFront, ending_of, report_text};
@@ -59,14 +59,14 @@ pub fn run<
     ensures report { IfOk result.0 (λ ending. WritesReport R.can_fail config.now zone.now
         (count_of (λ post. post.lane.0) posts.items)
         (AreTold C.account C.offered (λ cs. cs.items) settings.tries config.now
-        (λ l. boxes_of (λ post. post.lane.0) (λ post. post.channel) l posts.items) result.1.items)
+        (λ l. channels_on (λ post. post.lane.0) (λ post. post.channel) l posts.items) result.1.items)
         (R.remaining feed) ending
         (W.contents writer.old) (W.contents writer.new)) }
     // Or a front of it.
     ensures front { WritesReportFront R.can_fail config.now zone.now
         (count_of (λ post. post.lane.0) posts.items)
         (AreTold C.account C.offered (λ cs. cs.items) settings.tries config.now
-        (λ l. boxes_of (λ post. post.lane.0) (λ post. post.channel) l posts.items) result.1.items)
+        (λ l. channels_on (λ post. post.lane.0) (λ post. post.channel) l posts.items) result.1.items)
         (R.remaining feed) result.0
         (W.contents writer.old) (W.contents writer.new) }
     ensures fault { IfErr result.0 (λ fault. IsWriteFault W.can_fail fault) }

@@ -7,8 +7,8 @@ use Rattle.steps.specs.declared.lane.KeptLane.{KeptLane}
 use Rattle.steps.specs.declared.step.LaneStep.{LaneStep}
 use Rattle.steps.specs.declared.step.LaneStep.TheVariants.{Pick, Settle, Fail, Ask, Replace, Close, Drain}
 
--- a lane: the records of its boxes that were replaced, what the box of now has taken, the message in hand (at most one),
--- what is given up, and what waits; then the tries that failed for the message in hand, how many boxes stand by, whether
+-- a lane: the records of its channels that were replaced, what the channel of now has taken, the message in hand (at most one),
+-- what is given up, and what waits; then the tries that failed for the message in hand, how many channels stand by, whether
 -- it is asked to close, and whether it is shut
 pub record LaneState : Type 0 where
   pub ended : List (List Notice)
@@ -21,18 +21,18 @@ pub record LaneState : Type 0 where
   pub asked : Bool
   pub shut : Bool
 
--- a lane with nothing in it and so many boxes: one serves and the others stand by, and without any it is shut
-abbrev pub new_lane : (boxes : ℕ) → LaneState
-new_lane boxes = record {
+-- a lane with nothing in it and so many channels: one serves and the others stand by, and without any it is shut
+abbrev pub new_lane : (channels : ℕ) → LaneState
+new_lane channels = record {
   ended = [];
   taken = [];
   hand = [];
   undelivered = [];
   queue = [];
   failures = 0;
-  standbys = boxes - 1;
+  standbys = channels - 1;
   asked = false;
-  shut = boxes == 0;
+  shut = channels == 0;
 }
 
 -- a lane that isn't there
@@ -81,14 +81,14 @@ pub record CanAsk (lane : LaneState) : Type 0 where
   pub serving : lane.shut ≡ false
   pub not_asked : lane.asked ≡ false
 
--- it serves and isn't asked to close, no try is left, and a box stands by
+-- it serves and isn't asked to close, no try is left, and a channel stands by
 pub record CanReplace (tries : ℕ) (lane : LaneState) : Type 0 where
   pub serving : lane.shut ≡ false
   pub not_asked : lane.asked ≡ false
   pub failures : lane.failures ≡ tries
   pub standby : 0 < lane.standbys
 
--- it serves, and is asked to close, or no try is left and no box stands by
+-- it serves, and is asked to close, or no try is left and no channel stands by
 pub record CanClose (tries : ℕ) (lane : LaneState) : Type 0 where
   pub serving : lane.shut ≡ false
   pub cause : (lane.asked ≡ true) ⊎ ((lane.failures ≡ tries) × (lane.standbys ≡ 0))
@@ -102,7 +102,7 @@ pub record CanDrain (lane : LaneState) : Type 0 where
 abbrev pub picked : LaneState → LaneState
 picked lane = record lane { hand = take 1 lane.queue; queue = drop 1 lane.queue }
 
--- the box of now has taken the message in hand
+-- the channel of now has taken the message in hand
 abbrev pub settled : LaneState → LaneState
 settled lane = record lane { taken = lane.taken ++ lane.hand; hand = []; failures = 0 }
 
@@ -114,7 +114,7 @@ failed lane = record lane { failures = lane.failures + 1 }
 abbrev pub asked : LaneState → LaneState
 asked lane = record lane { asked = true }
 
--- the record of the box of now ends, and that of the next begins with the message still in hand
+-- the record of the channel of now ends, and that of the next begins with the message still in hand
 abbrev pub replaced : LaneState → LaneState
 replaced lane = record lane {
   ended = lane.ended ++ lane.taken ∷ [];
@@ -168,7 +168,7 @@ about o notices = filter (λ n. n.object.0 == o) notices
 abbrev pub join_records : List (List Notice) → List Notice
 join_records records = flat_map (λ notices. notices) records
 
--- what the channel of a lane has taken: the records of its boxes, joined in order
+-- what the channel of a lane has taken: the records of its channels, joined in order
 abbrev pub all_taken : LaneState → List Notice
 all_taken lane = join_records lane.ended ++ lane.taken
 

@@ -1,4 +1,4 @@
-//! A lane: its queue, the message in hand, and what its boxes have taken or not. One box serves, and others stand by.
+//! A lane: its queue, the message in hand, and what its channels have taken or not. One channel serves, and others stand by.
 
 ghost use Rattle.std.specs.Prelude.{◌≡◌, map, IfOk};
 ghost use Rattle.steps.specs.Lanes.{lane_state, new_lane};
@@ -14,9 +14,9 @@ use std::mem;
 /// What is kept of a lane of the configuration.
 #[derive(Drop)]
 pub struct KeptLane {
-    /// What each box has taken that was replaced, in order.
+    /// What each channel has taken that was replaced, in order.
     ended: Vec<Vec<Notice>>,
-    /// What the box of now has taken, the oldest first.
+    /// What the channel of now has taken, the oldest first.
     taken: Vec<Notice>,
     /// The message in hand.
     hand: Option<Notice>,
@@ -26,7 +26,7 @@ pub struct KeptLane {
     queue: VecDeque<Notice>,
     /// How often the message in hand wasn't taken.
     failures: u8,
-    /// How many boxes stand by.
+    /// How many channels stand by.
     standbys: u8,
     /// Whether it is asked to close.
     asked: bool,
@@ -39,9 +39,9 @@ impl KeptLane {
     ghost use Rattle.steps.specs.Lanes.{Can, CanSettle, about, all_taken, closed};
     ghost use Rattle.steps.specs.Lanes.{does, drained, queued, replaced, settled};
 
-    /// A lane with nothing in it and so many boxes.
-    pub(crate) fn new(alloc: Global, boxes: u8) -> Self
-        ensures { lane_state result ≡ new_lane boxes }
+    /// A lane with nothing in it and so many channels.
+    pub(crate) fn new(alloc: Global, channels: u8) -> Self
+        ensures { lane_state result ≡ new_lane channels }
     {
         KeptLane {
             ended: Vec::new(alloc),
@@ -50,9 +50,9 @@ impl KeptLane {
             undelivered: Vec::new(alloc),
             queue: VecDeque::new(alloc),
             failures: 0,
-            standbys: boxes.saturating_sub(1),
+            standbys: channels.saturating_sub(1),
             asked: false,
-            shut: boxes == 0,
+            shut: channels == 0,
         }
     }
 
@@ -81,7 +81,7 @@ impl KeptLane {
         }
     }
 
-    /// The box of now has taken the message in hand. A refused growth changes nothing.
+    /// The channel of now has taken the message in hand. A refused growth changes nothing.
     fn settle(&mut self) -> Result<(), AllocError>
         requires { CanSettle (lane_state self.old) }
         ensures ok { OnOk result (lane_state self.new ≡ settled (lane_state self.old)) }
@@ -95,7 +95,7 @@ impl KeptLane {
         Ok(())
     }
 
-    /// The record of the box of now ends, and that of the next begins with the message still in hand. A refused growth
+    /// The record of the channel of now ends, and that of the next begins with the message still in hand. A refused growth
     /// changes nothing.
     fn replace(&mut self) -> Result<(), AllocError>
         requires { 0 < (lane_state self.old).standbys }
@@ -198,13 +198,13 @@ impl KeptLane {
     }
 }
 
-/// A lane for each of these, with nothing in it and so many boxes. A refused growth is the only error.
+/// A lane for each of these, with nothing in it and so many channels. A refused growth is the only error.
 pub fn new_lanes(alloc: Global, served: &[u8]) -> Result<Vec<KeptLane>, AllocError>
     ensures { IfOk result (λ lanes. map lane_state lanes.items ≡ map new_lane served.now) }
 {
     let mut made = Vec::with_capacity(alloc, served.len())?;
-    for boxes in served {
-        made.push(KeptLane::new(alloc, *boxes))?;
+    for channels in served {
+        made.push(KeptLane::new(alloc, *channels))?;
     }
     Ok(made)
 }

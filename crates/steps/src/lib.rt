@@ -8,5 +8,5 @@ mod step;
 
 pub use lane::{KeptLane, new_lanes};
 pub use line::LineParts;
-pub use settings::{MAX_BOXES, Settings};
+pub use settings::{MAX_CHANNELS, Settings};
 pub use step::{LaneStep, Step, StepFault, Stopped};

@@ -12,7 +12,7 @@ use std::collections::VecDeque;
 /// What a lane holds of one object, part by part, each with the oldest notice first.
 #[derive(Drop)]
 pub struct LineParts {
-    /// What the lane's channel has taken: what each of its boxes has, in order.
+    /// What the lane's channel has taken: what each of its channels has, in order.
     pub taken: Vec<Notice>,
     /// The message in hand: at most one.
     pub hand: Vec<Notice>,
@@ -55,7 +55,7 @@ fn append_about(
     Ok(())
 }
 
-/// The notices of an object among what the boxes of a lane have taken: the records that ended, and then the last.
+/// The notices of an object among what the channels of a lane have taken: the records that ended, and then the last.
 /// A refused growth is the only error.
 pub(crate) fn about_in_records(
     alloc: Global,

@@ -10,8 +10,8 @@ pub const MAX_QUEUE: u16 = 1_024;
 /// How often a channel may be tried with one letter.
 pub const MAX_TRIES: u8 = 100;
 
-/// How many boxes a lane may have: one serves, and the others stand by.
-pub const MAX_BOXES: u8 = 8;
+/// How many channels a lane may have: one serves, and the others stand by.
+pub const MAX_CHANNELS: u8 = 8;
 
 /// How many deciders a world has, how many notices a queue holds, and how many tries a message has.
 #[derive(Clone, Copy, Debug, PartialEq, Eq)]

@@ -27,18 +27,18 @@ pub enum LaneStep {
     /// The front of the queue goes into the hand. Enabled where the lane is serving and not asked to close, its
     /// hand is empty and its queue isn't.
     Pick,
-    /// The box that serves takes the message in hand. Enabled where the lane is serving, with a message in hand.
+    /// The channel that serves takes the message in hand. Enabled where the lane is serving, with a message in hand.
     Settle,
-    /// The box that serves doesn't take the message in hand. Enabled where the lane is serving, with a message in hand
+    /// The channel that serves doesn't take the message in hand. Enabled where the lane is serving, with a message in hand
     /// and fewer failures than tries.
     Fail,
     /// The lane is asked to close. Enabled where it is serving and wasn't asked.
     Ask,
-    /// The box that serves is replaced by the next that stands by, and the message stays in hand. Enabled where the
-    /// lane is serving and not asked to close, with as many failures as tries and a box that stands by.
+    /// The channel that serves is replaced by the next that stands by, and the message stays in hand. Enabled where the
+    /// lane is serving and not asked to close, with as many failures as tries and a channel that stands by.
     Replace,
     /// The lane is shut, and a message in hand is given up. Enabled where it is serving, and asked, or with as
-    /// many failures as tries and no box that stands by.
+    /// many failures as tries and no channel that stands by.
     Close,
     /// The front of the queue is given up. Enabled where the lane is shut and its queue isn't empty.
     Drain,

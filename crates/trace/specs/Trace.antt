@@ -75,7 +75,7 @@ EndFront can_fail c deciders s start over end rest before after held =
     (text : List ℕ) × BeginsEnd can_fail c deciders s start over end rest text
     × WritesFront before after (held ++ text)
 
--- the world in which a trace begins: all its lanes serve, each with so many boxes that stand by
+-- the world in which a trace begins: all its lanes serve, each with so many channels that stand by
 abbrev pub trace_setup : Config → Zone → Settings → Setup
 trace_setup c zone settings = setup_for c zone settings
 

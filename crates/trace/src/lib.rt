@@ -5,7 +5,7 @@ ghost use Rattle.std.specs.Prelude.{◌≡◌, ◌<◌, false, IfErr, IfOk, IfSo
 ghost use Rattle.due_model.specs.Accepted.{IsAccepted};
 ghost use Rattle.due_model.specs.declared.zone.Zone.{Zone};
 ghost use Rattle.command_output.specs.Outcome.{IsWriteFault};
-ghost use Rattle.steps.specs.Settings.{max_boxes};
+ghost use Rattle.steps.specs.Settings.{max_channels};
 ghost use Rattle.text_lines.specs.LineReader.{to_come};
 ghost use Rattle.trace.specs.Trace.{FailsWith, Traces, TracesFeed, TracesFront, TracesIn};
 
@@ -30,7 +30,7 @@ use text_lines::{Input, LineReader};
 use world_steps::{Settings, World};
 
 /// Reads object text up to a line `%events`, a feed up to a line `%steps`, and step lines, and does the steps in a
-/// world in which all lanes serve, each with so many boxes that stand by: fewer than `MAX_BOXES`. It writes the refused lines of the feed, then those of the steps, and then what
+/// world in which all lanes serve, each with so many channels that stand by: fewer than `MAX_CHANNELS`. It writes the refused lines of the feed, then those of the steps, and then what
 /// each lane holds of each object. A feed ends as a replay's does, and where it or the step lines can't be read to
 /// their end, what the lanes hold isn't written. Where the object text is refused nothing is written; where the output
 /// fails or memory runs out, a front of all that was.
@@ -41,7 +41,7 @@ pub fn trace<R: Input + Drop, W: Sink>(
     reader: R,
     writer: &mut W,
 ) -> Result<Ending, CommandFault>
-    requires standbys { standbys < max_boxes }
+    requires standbys { standbys < max_channels }
     // What is written is what the input makes of the steps, and nothing else.
     ensures traces { IfSome (R.remaining reader) (λ bytes. IfOk result (λ ending.
         Traces R.can_fail settings standbys bytes ending (W.contents writer.old) (W.contents writer.new))) }
@@ -65,7 +65,7 @@ pub fn trace_in<R: Input + Drop, W: Sink>(
     reader: R,
     writer: &mut W,
 ) -> Result<Ending, CommandFault>
-    requires standbys { standbys < max_boxes }
+    requires standbys { standbys < max_channels }
     ensures traces { IfSome (R.remaining reader) (λ bytes. IfOk result (λ ending.
         TracesIn R.can_fail zone.now settings standbys bytes ending
         (W.contents writer.old) (W.contents writer.new))) }
@@ -90,7 +90,7 @@ fn trace_feed<R: Input + Drop, W: Sink>(
     writer: &mut W,
 ) -> Result<Ending, CommandFault>
     requires accepted { IsAccepted config.now }
-    requires standbys { standbys < max_boxes }
+    requires standbys { standbys < max_channels }
     ensures traces { IfOk result (λ ending. IfSome (to_come source) (λ bytes.
         TracesFeed R.can_fail config.now zone.now settings standbys bytes ending
         (W.contents writer.old) (W.contents writer.new))) }

@@ -9,4 +9,4 @@ pub mod RunLaws
 pub mod StepLaws
 mod LineLaws
 pub mod OrderLaws
-pub mod BoxLaws
+pub mod ChannelLaws

@@ -31,10 +31,10 @@ module _ (s : Setup) (served : List ℕ) where
   ]
 
   -- a lane of a new world, or one that isn't there
-  pub lane_is : (P : LaneState → Type 0) → ((boxes : ℕ) → P (new_lane boxes)) → (all : List ℕ) (l : ℕ) → P (get_or (map new_lane all) l empty_lane)
+  pub lane_is : (P : LaneState → Type 0) → ((channels : ℕ) → P (new_lane channels)) → (all : List ℕ) (l : ℕ) → P (get_or (map new_lane all) l empty_lane)
   lane_is P new [] l = new 1
-  lane_is P new (boxes ∷ all) zero = new boxes
-  lane_is P new (boxes ∷ all) (suc l) = lane_is P new all l
+  lane_is P new (channels ∷ all) zero = new channels
+  lane_is P new (channels ∷ all) (suc l) = lane_is P new all l
 
   pub no_outbox : (d l : ℕ) → outbox_at (new_world s served) d l ≡ []
   no_outbox d l = decider_is (λ x. get_or x.outboxes l [] ≡ [])

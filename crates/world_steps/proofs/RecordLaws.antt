@@ -1,4 +1,4 @@
--- The records of boxes that were replaced, over a step.
+-- The records of channels that were replaced, over a step.
 use Rattle.std.proofs.Common.{◌≡◌, ◌≢◌, ℕ, ◌<◌, ◌==◌, ◌⊎◌, Bool, if◌then◌else◌, List, [], ◌++◌, length, take, refl, sym, ap, ◌∙◌, eq-eqb, inl, inr, get_or-set_same, get_or-set_other}
 use Rattle.std.proofs.lemmas.Bool.{cases_eq, ne_eqb}
 use Rattle.std.proofs.lemmas.List.{append-nil}

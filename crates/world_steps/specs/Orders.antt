@@ -57,7 +57,7 @@ OutboxesFit = (s : Setup) (served : List ℕ) (steps : List Step) (d l : ℕ)
     ++ outbox_at (after_all s (new_world s served) steps) d l
     ≡ gains s d l (past_of (after_all s (new_world s served) steps) d)
 
--- the record that a step of a lane ends: that of the box which is replaced, as it stands
+-- the record that a step of a lane ends: that of the channel which is replaced, as it stands
 abbrev pub ends_record : LaneStep → LaneState → List (List Notice)
 ends_record Pick lane = []
 ends_record Settle lane = []
@@ -74,7 +74,7 @@ ended_by w (Decide d) l = []
 ended_by w (Put d m) l = []
 ended_by w (Lane m step) l = if m.0 == l then ends_record step (lane_at w l) else []
 
--- A box that was replaced takes nothing more: a replacement ends the record of the box of now, as it stands, and no step
+-- A channel that was replaced takes nothing more: a replacement ends the record of the channel of now, as it stands, and no step
 -- changes one that has ended.
 abbrev pub RecordsStay : Type 0
 RecordsStay = (s : Setup) (w : WorldState) (step : Step) (l : ℕ) → IsEnabled s w step

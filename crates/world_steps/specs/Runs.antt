@@ -9,7 +9,7 @@ use Rattle.steps.specs.Lanes.{LaneState, new_lane}
 use Rattle.world_steps.specs.Worlds.{WorldState, Setup, new_decider, lane_at}
 use Rattle.world_steps.specs.Steps.{IsEnabled, after}
 
--- a new world, with so many boxes for each lane: nothing is posted, decided, held or asked, and exactly the lanes that have
+-- a new world, with so many channels for each lane: nothing is posted, decided, held or asked, and exactly the lanes that have
 -- none are shut
 abbrev pub new_world : Setup → (served : List ℕ) → WorldState
 new_world s served = record {
@@ -53,6 +53,6 @@ abbrev pub ShutTakesNothing : WorldState → WorldState → Type 0
 ShutTakesNothing before then =
     (l : ℕ) → (lane_at before l).shut ≡ true → StaysShut (lane_at before l) (lane_at then l)
 
--- a box that was replaced before has taken nothing more: its record stands where it stood, as it was
+-- a channel that was replaced before has taken nothing more: its record stands where it stood, as it was
 abbrev pub ReplacedTakeNothing : WorldState → WorldState → Type 0
 ReplacedTakeNothing before then = (l : ℕ) → IsPrefix (lane_at before l).ended (lane_at then l).ended

@@ -1,4 +1,4 @@
-//! The order in which a lane holds what each decider has put for it, and what becomes of the record of a box that is replaced.
+//! The order in which a lane holds what each decider has put for it, and what becomes of the record of a channel that is replaced.
 
 ghost use Rattle.world_steps.specs.Orders.{LanesFit, OutboxesFit, RecordsStay};
 
@@ -13,7 +13,7 @@ pub fn lanes_fit()
     tell_of_events();
 }
 
-/// In every world the record of a box that was replaced stays as it is: a replacement ends the record of the box that served, and
+/// In every world the record of a channel that was replaced stays as it is: a replacement ends the record of the channel that served, and
 /// no step changes one that has ended.
 pub fn records_stay()
     ensures { RecordsStay }

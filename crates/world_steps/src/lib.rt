@@ -7,5 +7,5 @@ pub mod laws;
 mod line;
 mod world;
 
-pub use steps::{LaneStep, LineParts, MAX_BOXES, Settings, Step, StepFault, Stopped};
+pub use steps::{LaneStep, LineParts, MAX_CHANNELS, Settings, Step, StepFault, Stopped};
 pub use world::World;

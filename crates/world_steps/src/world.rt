@@ -40,14 +40,14 @@ impl<'a> World<'a> {
     ghost use Rattle.world_steps.specs.Steps.{CanDecide, CanPut, IsEnabled, IsProperStep, after};
     ghost use Rattle.world_steps.specs.Steps.{past_of};
     ghost use Rattle.steps.specs.Lanes.{about, all_taken};
-    ghost use Rattle.steps.specs.Settings.{max_boxes};
+    ghost use Rattle.steps.specs.Settings.{max_channels};
     ghost use Rattle.world_steps.specs.Lines.{decider_of, line, LinesAreDue, NoticesStandOnce};
     ghost use Rattle.world_steps.specs.Runs.{new_world, LeadsTo, StopsAt};
     ghost use Rattle.world_steps.specs.Runs.{ReplacedTakeNothing, ShutTakesNothing};
     ghost use Rattle.world_steps.specs.Views.{world_state, world_setup, joined};
 
-    /// A world of this configuration in which nothing has happened. `served` says of each lane how many boxes its
-    /// channel has, up to `MAX_BOXES`: one serves, and the others stand by. A lane without any is shut. A refused growth
+    /// A world of this configuration in which nothing has happened. `served` says of each lane how many channels its
+    /// channel has, up to `MAX_CHANNELS`: one serves, and the others stand by. A lane without any is shut. A refused growth
     /// is the only error.
     pub fn new(
         alloc: Global,
@@ -58,7 +58,7 @@ impl<'a> World<'a> {
     ) -> Result<World<'a>, AllocError>
         requires accepted { IsAccepted config.now }
         requires served { length served.now ≡ length config.now.lanes }
-        requires boxes { All (λ boxes. boxes ≤ max_boxes) served.now }
+        requires channels { All (λ channels. channels ≤ max_channels) served.now }
         ensures setup { IfOk result (λ world.
             world_setup world ≡ setup_for config.now zone.now settings) }
         ensures state { IfOk result (λ world.
@@ -305,7 +305,7 @@ impl<'a> World<'a> {
         ensures once { NoticesStandOnce (world_setup self.new) (world_state self.new) }
         // a closed channel takes nothing.
         ensures shut { ShutTakesNothing (world_state self.old) (world_state self.new) }
-        // Nor does a box that was replaced.
+        // Nor does a channel that was replaced.
         ensures replaced { ReplacedTakeNothing (world_state self.old) (world_state self.new) }
     {
         // A law: what is due has no notice twice.

@@ -1,7 +1,7 @@
 use Rattle.std.proofs.Common.{◌≡◌, ◌+◌, ◌≤◌, false, List, ℕ, length, replicate, refl, ap, ◌∙◌, arith}
 use Rattle.std.proofs.lemmas.List.Elements.{All-same, All-replicate}
 use Rattle.event_feed.specs.Feed.{Feed}
-use Rattle.steps.specs.Settings.{max_boxes}
+use Rattle.steps.specs.Settings.{max_channels}
 use Rattle.text_lines.specs.LineReader.{to_come}
 use Rattle.text_lines.specs.Lines.{Known}
 use Rattle.world_steps.specs.Runs.{new_world}
@@ -85,8 +85,8 @@ returns-in_err-flush-clause-front g c =
     on_err_always _ (front_of_flush g.R.Input.can_fail _ _ _ _ _ _ _ _ _ _ _ (begun g here) (read g here _ (fresh g past.After-new-feeder) c.in_ok-after.ensures.feed)
     c.in_ok-ending.ending _ (g.W.Write.contents c.flush.new.writer) c.write_end.new.lines c.flush.ensures.front c.in_ok-ending.ensures.ok)
 
-pub new-requires-clause-boxes : goal.new-requires-clause-boxes
-new-requires-clause-boxes g c =
-    let few : c.args.standbys + 1 ≤ max_boxes = omega (arith, c.requires.standbys) in
-    All-same (λ (n : ℕ). n ≤ max_boxes) c.deref.result.now (replicate c.len.result (c.args.standbys + 1)) (c.deref.ensures.value ∙ c.in_ok-served.ensures.items_if_clones_equal (λ y e. e))
-    (All-replicate (λ (n : ℕ). n ≤ max_boxes) c.len.result (c.args.standbys + 1) few)
+pub new-requires-clause-channels : goal.new-requires-clause-channels
+new-requires-clause-channels g c =
+    let few : c.args.standbys + 1 ≤ max_channels = omega (arith, c.requires.standbys) in
+    All-same (λ (n : ℕ). n ≤ max_channels) c.deref.result.now (replicate c.len.result (c.args.standbys + 1)) (c.deref.ensures.value ∙ c.in_ok-served.ensures.items_if_clones_equal (λ y e. e))
+    (All-replicate (λ (n : ℕ). n ≤ max_channels) c.len.result (c.args.standbys + 1) few)

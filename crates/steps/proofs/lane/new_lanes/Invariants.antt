@@ -2,6 +2,6 @@ use Rattle.std.proofs.Common.{◌≡◌, ◌++◌, drop, map}
 use Rattle.steps.specs.Lanes.{lane_state, new_lane}
 use Rattle.steps.proofs.lane.new_lanes.Given as goal
 
-abbrev pub invariant-loop-boxes : goal.invariant-loop-boxes
-invariant-loop-boxes l =
-    map lane_state l.made.items ++ map new_lane (drop l.boxes-index l.served) ≡ map new_lane l.served
+abbrev pub invariant-loop-channels : goal.invariant-loop-channels
+invariant-loop-channels l =
+    map lane_state l.made.items ++ map new_lane (drop l.channels-index l.served) ≡ map new_lane l.served

@@ -1,5 +1,5 @@
 use Rattle.std.proofs.Common.{◌≤◌, arith}
-use Rattle.world_steps.proofs.BoxLaws.{boxes_kept}
+use Rattle.world_steps.proofs.ChannelLaws.{channels_kept}
 use Rattle.world_steps.proofs.OrderLaws.{order_kept}
 use Rattle.world_steps.proofs.laws.lanes_fit.Goals as goal
 
@@ -9,4 +9,4 @@ returns-clause-lanes c = λ s served steps l long can.
     (order_kept c.tell_of_events.ensures.events s served steps l long can, λ k d within. omega (arith, some))
 
 pub returns-clause-outboxes : goal.returns-clause-outboxes
-returns-clause-outboxes c = boxes_kept c.tell_of_events.ensures.events
+returns-clause-outboxes c = channels_kept c.tell_of_events.ensures.events

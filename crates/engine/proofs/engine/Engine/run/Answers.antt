@@ -1,7 +1,7 @@
 use Rattle.std.proofs.Common.{rules, ◌≡◌, ◌∙◌, ap, length, Bool, List, Option, is_some, subst, sym, true, false, true≢false, ℕ}
 use Rattle.due_model.specs.declared.event.Event.{Event}
 use Rattle.engine.specs.Feed.{IsStart}
-use Rattle.engine.specs.Lanes.{boxes_of, count_of}
+use Rattle.engine.specs.Lanes.{channels_on, count_of}
 use Rattle.engine.proofs.ChannelLaws.{none_told}
 use Rattle.engine.specs.Run.{IsRunOf}
 use Rattle.engine.specs.Unread.{IsUnread}
@@ -15,7 +15,7 @@ returns-in_default g c =
     let end = c.unread.result in
     let run = none_ran c.args.config.now c.args.zone.now (count_of (λ post. post.lane.0) c.args.posts.items) end.events.items end.memory end.lanes.items end.log.items e.events e.lanes e.log e.memory in
     let read = unread_is g.R.Input.can_fail c.args.config.now (g.R.Read.remaining c.args.reader) end.memory end.events.items end.refused.items end.cut e.events e.refused e.memory e.cut in
-    let channels = none_told {C = g.row.C.Denot} g.C.Channel.account g.C.Channel.offered c.args.settings.tries c.args.config.now end.lanes.items c.new-in_default.result.items (λ cs. cs.items) (λ l. boxes_of (λ post. post.lane.0) (λ post. post.channel) l c.args.posts.items) e.lanes in
+    let channels = none_told {C = g.row.C.Denot} g.C.Channel.account g.C.Channel.offered c.args.settings.tries c.args.config.now end.lanes.items c.new-in_default.result.items (λ cs. cs.items) (λ l. channels_on (λ post. post.lane.0) (λ post. post.channel) l c.args.posts.items) e.lanes in
     let places : length c.new-in_default.result.items ≡ length end.lanes.items = ap length c.new-in_default.ensures.items ∙ sym (ap length e.lanes) in
     let all : end.started ≡ true → length end.lanes.items ≡ length c.args.config.now.lanes = λ yes. absurd (true≢false (sym yes ∙ e.started)) in
     let unstarted : end.started ≡ false → IsUnread end.events.items end.refused.items end.log.items end.lanes.items end.memory = λ no. (e.events, e.refused, e.log, e.lanes, e.memory) in

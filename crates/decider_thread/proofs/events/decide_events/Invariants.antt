@@ -1,0 +1,16 @@
+use Rattle.std.proofs.Common.{◌≡◌, [], List, length}
+use Rattle.due_model.specs.declared.event.Event.{Event}
+use Rattle.due_model.specs.declared.zone.Zone.{Zone}
+use Rattle.rtrb.specs.Ring.{SameConsumer, received}
+use Rattle.decider.specs.Fits.{kept}
+use Rattle.decider.specs.Outbox.{lists, waiting_at}
+use Rattle.decider_thread.specs.Decided.{Stands, heard}
+use Rattle.decider_thread.proofs.events.decide_events.Given as goal
+
+abbrev pub invariant-loop : goal.invariant-loop
+invariant-loop g l =
+    SameConsumer l.fn.ring l.ring
+    × ((zone : Zone) → Stands l.config zone l.share l.queues [] (kept l.fn.decider) (waiting_at l.fn.outbox) l.fn.seats
+    → (past : List Event) × (received l.ring ≡ heard past) × Stands l.config zone l.share l.queues past (kept l.decider) (waiting_at l.outbox) l.seats)
+    × (length l.seats ≡ length l.fn.seats)
+    × (length (lists l.outbox) ≡ length (lists l.fn.outbox))

@@ -1,0 +1,152 @@
+//! The events of a decider's ring: decided one by one, or passed over.
+
+ghost use Rattle.std.specs.Prelude.{◌≡◌, ◌<◌, ◌++◌, ◌∷◌, List, [], true, false, length, IfNone, IfSome};
+ghost use Rattle.due_model.specs.declared.event.Event.{Event};
+ghost use Rattle.due_model.specs.declared.zone.Zone.{Zone};
+ghost use Rattle.decider.specs.Fits.{kept, settings};
+ghost use Rattle.decider.specs.declared.share.Share.{Share};
+ghost use Rattle.decider.specs.Outbox.{lists, waiting_at};
+ghost use Rattle.rtrb.specs.Ring.{SameConsumer, received};
+ghost use Rattle.channel_queue.specs.declared.LaneQueue.{LaneQueue};
+ghost use Rattle.decider_thread.specs.declared.seats.Seat.{Seat};
+ghost use Rattle.decider_thread.specs.Decided.{HasStopped, Stands, heard};
+ghost use Rattle.decider_thread.specs.Puts.{waiting_count};
+ghost use Rattle.decider_thread.specs.declared.Signal.TheVariants.{Over};
+
+use crate::Signal;
+use crate::seats::{Seat, is_full, put_round};
+use channel_queue::LaneQueue;
+use decider::{Decider, Outbox, Share};
+use delivery_worker::Gate;
+use due_model::config::Config;
+use due_model::event::Event;
+use due_model::proper::is_proper;
+use idle_pause::Pause;
+use rtrb::Consumer;
+use std::sync::Wait;
+use std::sync::atomic::{AtomicBool, Ordering};
+use std::time::Clock;
+
+/// Decides one event; what it makes due waits in the outboxes. False: it isn't decided, and nothing has changed. The feed gives
+/// proper events alone, and one that isn't is not decided.
+fn decide_event(
+    config: &Config,
+    event: Event,
+    decider: &mut Decider<'_>,
+    outbox: &mut Outbox,
+) -> bool
+    requires lanes { length (lists outbox.old) ≡ length config.now.lanes }
+    requires few { waiting_count outbox.old < 65_536 }
+    requires stands { (zone : Zone) × (share : Share) × (queues : List LaneQueue) × (seats : List Seat)
+        × (past : List Event)
+        × Stands config.now zone share queues past (kept decider.old) (waiting_at outbox.old) seats }
+    ensures decided { result ≡ true → (zone : Zone) (share : Share) (queues : List LaneQueue)
+        (seats : List Seat) (past : List Event) → length queues ≡ length (lists outbox.old)
+        → Stands config.now zone share queues past (kept decider.old) (waiting_at outbox.old) seats
+        → Stands config.now zone share queues (event ∷ past) (kept decider.new) (waiting_at outbox.new)
+        seats }
+    ensures kept { result ≡ false → (lists outbox.new ≡ lists outbox.old)
+        × (kept decider.new ≡ kept decider.old) }
+    ensures lanes { length (lists outbox.new) ≡ length (lists outbox.old) }
+{
+    if !is_proper(config, &event) {
+        return false;
+    }
+    if decider.decide(event, outbox).is_err() {
+        return false;
+    }
+    true
+}
+
+/// The next signal of a ring. `None`: there is none now, or so many notices wait that none is taken.
+fn next_signal(ring: &mut Consumer<Signal>, outbox: &Outbox) -> Option<Signal>
+    requires { length (lists outbox.now) < 256 }
+    ensures ring { SameConsumer ring.old ring.new }
+    ensures some { IfSome result (λ signal. received ring.new ≡ received ring.old ++ signal ∷ []) }
+    ensures few { IfSome result (λ signal. waiting_count outbox.now < 65_536) }
+    ensures none { IfNone result (received ring.new ≡ received ring.old) }
+{
+    if is_full(outbox) {
+        return None;
+    }
+    ring.pop().ok()
+}
+
+/// Decides the events of a ring until it is over, while what waits is put into the queues as they have room. False: an event wasn't
+/// decided, and the ring isn't over.
+pub(crate) fn decide_events<G: Gate, R: Wait + Clock>(
+    rt: &R,
+    config: &Config,
+    share: Share,
+    ring: &mut Consumer<Signal>,
+    decider: &mut Decider<'_>,
+    outbox: &mut Outbox,
+    queues: &[LaneQueue],
+    seats: &mut [Seat],
+    gate: &G,
+    halt: &AtomicBool,
+) -> bool
+    requires fresh { received ring.old ≡ [] }
+    requires queues { length queues.now ≡ length (lists outbox.old) }
+    requires seats { length seats.old ≡ length (lists outbox.old) }
+    requires lanes { length (lists outbox.old) ≡ length config.now.lanes }
+    requires range { length (lists outbox.old) < 256 }
+    requires stands { (zone : Zone) × Stands config.now zone share queues.now [] (kept decider.old)
+        (waiting_at outbox.old) seats.old }
+    ensures ring { SameConsumer ring.old ring.new }
+    ensures stopped { (zone : Zone) → Stands config.now zone share queues.now [] (kept decider.old)
+        (waiting_at outbox.old) seats.old
+        → HasStopped config.now zone share queues.now result (received ring.new) (waiting_at outbox.new)
+        seats.new (kept decider.new).log }
+    ensures seats { length seats.new ≡ length seats.old }
+    ensures lanes { length (lists outbox.new) ≡ length (lists outbox.old) }
+{
+    let mut pause = Pause::new();
+    for _ in rt.forever() {
+        let moved = put_round(queues, seats, outbox, share.decider);
+        match next_signal(ring, outbox) {
+            None => {
+                if moved {
+                    pause.reset();
+                } else {
+                    pause.rest(rt);
+                }
+            }
+            Some(Signal::Over) => return true,
+            Some(Signal::Decides(event)) => {
+                pause.reset();
+                gate.turn(share.decider);
+                if halt.load(Ordering::SeqCst) {
+                    return false;
+                }
+                if !decide_event(config, event, decider, outbox) {
+                    halt.store(true, Ordering::SeqCst);
+                    gate.wanting();
+                    return false;
+                }
+            }
+        }
+    }
+    unreachable!()
+}
+
+/// Empties a ring up to its end, unless that has come.
+pub(crate) fn skip_rest<R: Wait + Clock>(rt: &R, ring: &mut Consumer<Signal>, over: bool)
+    ensures ring { SameConsumer ring.old ring.new }
+    ensures over { over ≡ true → received ring.new ≡ received ring.old }
+    ensures heard { over ≡ false → (past : List Event) → received ring.old ≡ heard past
+        → (newer : List Event) × (received ring.new ≡ heard (newer ++ past) ++ Over ∷ []) }
+{
+    if over {
+        return;
+    }
+    let mut pause = Pause::new();
+    for _ in rt.forever() {
+        match ring.pop() {
+            Err(_) => pause.rest(rt),
+            Ok(Signal::Over) => return,
+            Ok(Signal::Decides(_)) => pause.reset(),
+        }
+    }
+    unreachable!()
+}

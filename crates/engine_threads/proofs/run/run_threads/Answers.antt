@@ -1,0 +1,72 @@
+use Rattle.std.proofs.Common.{arith, ◌≡◌, ◌<◌, ◌∙◌, ℕ, List, length, slice_get, Some, ap, refl, subst, sym, reverse}
+use Rattle.std.proofs.lemmas.Option.{none-some, slice_get_within}
+use Rattle.due_model.specs.declared.event.Event.{Event}
+use Rattle.delivery_worker.specs.declared.worker.Served.{Served}
+use Rattle.engine_threads.specs.Run.{IsRun}
+use Rattle.lemmas.proofs.Lists.{some_at}
+use Rattle.engine_threads.proofs.JoinLaws.{channels_still}
+use Rattle.engine_threads.proofs.RunLaws.{run_of_none}
+use Rattle.engine_threads.proofs.WorkLaws.{number_at, number_of}
+use Rattle.engine_threads.proofs.run.run_threads.Goals as goal
+
+pub returns-in_default-clause-run : goal.returns-in_default-clause-run
+returns-in_default-clause-run g c = λ channels given.
+    let end = c.nothing.result in
+    let none = c.nothing.ensures in
+    run_of_none c.args.config.now c.args.zone.now channels (reverse (g.S.Source.given_so_far end.source)) end.memory end.lanes.items end.log.items none.lanes none.log none.memory
+
+pub returns-clause-run : goal.returns-clause-run
+returns-clause-run g c = λ channels given.
+    let end = c.nothing-in-Err.result in
+    let none = c.nothing-in-Err.ensures in
+    run_of_none c.args.config.now c.args.zone.now channels (reverse (g.S.Source.given_so_far end.source)) end.memory end.lanes.items end.log.items none.lanes none.log none.memory
+
+pub returns-in-Ok-run_scope-clause-run : goal.returns-in-Ok-run_scope-clause-run
+returns-in-Ok-run_scope-clause-run g c = λ channels given.
+    let set = c.in-Ok.ensures in
+    let works : (l : ℕ) (w : _) → slice_get c.in-Ok.prepared.works.items l ≡ Some w → length w.channels.items ≡ channels l = λ l w at.
+    let s = some_at c.args.given.items l (subst (λ n. l < n) set.works (slice_get_within c.in-Ok.prepared.works.items l w at)) in
+    ap (λ bs. length bs.items) (set.given l w s.0 s.1 at).0 ∙ given l s.0 s.1 in
+    let run = c.end_of.ensures.run c.args.config.now c.args.zone.now channels (reverse (g.S.Source.given_so_far c.in-Ok-run_scope.driven.source)) (c.in-Ok-run_scope.ensures.lanes channels works) c.in-Ok-run_scope.ensures.log in
+    let past = ap (λ s. reverse (g.S.Source.given_so_far s)) (sym c.end_of.ensures.source) in
+    subst (λ (es : List Event). IsRun c.args.config.now c.args.zone.now channels es c.end_of.result.memory c.end_of.result.lanes.items c.end_of.result.log.items) past run
+
+pub returns-in-Ok-run_scope-clause-whole : goal.returns-in-Ok-run_scope-clause-whole
+returns-in-Ok-run_scope-clause-whole g c = λ some.
+    let works = c.in-Ok.prepared.works.items in
+    let lanes = c.in-Ok-run_scope.ensures.lanes (number_of works (λ w. length w.channels.items)) (number_at works (λ w. length w.channels.items)) in
+    subst (λ (ss : List Served). length ss ≡ length c.args.config.now.lanes) (sym c.end_of.ensures.lanes) (lanes.count)
+
+pub returns-in_default-clause-few : goal.returns-in_default-clause-few
+returns-in_default-clause-few g c = let none = ap (λ (ss : List Served). length ss) c.nothing.ensures.lanes in omega (arith, none)
+
+pub returns-clause-few : goal.returns-clause-few
+returns-clause-few g c = let none = ap (λ (ss : List Served). length ss) c.nothing-in-Err.ensures.lanes in omega (arith, none)
+
+pub returns-in-Ok-run_scope-clause-few : goal.returns-in-Ok-run_scope-clause-few
+returns-in-Ok-run_scope-clause-few g c =
+    let works = c.in-Ok.prepared.works.items in
+    let lanes = c.in-Ok-run_scope.ensures.lanes (number_of works (λ w. length w.channels.items)) (number_at works (λ w. length w.channels.items)) in
+    let same = ap (λ (ss : List Served). length ss) c.end_of.ensures.lanes in
+    omega (arith, same, lanes.count)
+
+pub returns-in_default-clause-channels : goal.returns-in_default-clause-channels
+returns-in_default-clause-channels g c = λ l of_lane s b at_c at_s at_b. absurd (none-some s (subst (λ (ss : List Served). slice_get ss l ≡ Some s) c.nothing.ensures.lanes at_s))
+
+pub returns-clause-channels : goal.returns-clause-channels
+returns-clause-channels g c = λ l of_lane s b at_c at_s at_b. absurd (none-some s (subst (λ (ss : List Served). slice_get ss l ≡ Some s) c.nothing-in-Err.ensures.lanes at_s))
+
+pub returns-in-Ok-run_scope-clause-channels : goal.returns-in-Ok-run_scope-clause-channels
+returns-in-Ok-run_scope-clause-channels g c = λ l of_lane s b at_c at_s at_b.
+    let set = c.in-Ok.ensures in
+    let w = some_at c.in-Ok.prepared.works.items l (subst (λ n. l < n) (sym set.works) (slice_get_within c.args.given.items l of_lane at_c)) in
+    let same = (set.given l w.0 of_lane at_c w.1).0 in
+    let at_served = subst (λ (ss : List Served). slice_get ss l ≡ Some s) c.end_of.ensures.lanes at_s in
+    let at_channels = subst (λ bs. slice_get bs l ≡ Some b) c.end_of.ensures.channels at_b in
+    channels_still _ _ _ _ _ _ s s _ _ b.items refl refl (ap (λ v. v.items) same) (record { held = refl; why = refl; picked = refl }) (c.in-Ok-run_scope.ensures.channels l w.0 s b w.1 at_served at_channels)
+
+pub returns-in-Ok-run_scope-clause-all : goal.returns-in-Ok-run_scope-clause-all
+returns-in-Ok-run_scope-clause-all g c = λ began.
+    let works = c.in-Ok.prepared.works.items in
+    let lanes = c.in-Ok-run_scope.ensures.lanes (number_of works (λ w. length w.channels.items)) (number_at works (λ w. length w.channels.items)) in
+    subst (λ (ss : List Served). length ss ≡ length c.args.config.now.lanes) (sym c.end_of.ensures.lanes) (lanes.count)

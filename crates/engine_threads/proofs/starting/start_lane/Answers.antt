@@ -1,7 +1,0 @@
-use Rattle.std.proofs.Common.{rules, ◌≡◌, length}
-use Rattle.engine_threads.proofs.starting.start_lane.Goals as goal
-
-pub spawn_with-started-requires-clause-keeps : goal.spawn_with-started-requires-clause-keeps
-spawn_with-started-requires-clause-keeps g c κs within =
-    let count : c.len-boxes.result ≡ length c.args.work.boxes.items = search rules in
-    λ r done. rw (count, c.of.ensures) done

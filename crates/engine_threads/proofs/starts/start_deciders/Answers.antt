@@ -1,0 +1,28 @@
+use Rattle.std.proofs.Common.{rules, ◌≡◌, ℕ, ◌++◌, ◌∷◌, [], length, ap, ◌∙◌}
+use Rattle.std.specs.Vec.Iter.{into_iter_items}
+use Rattle.decider.specs.declared.share.Share.{Share}
+use Rattle.engine_threads.specs.ListLaws.{both_longer, next_rest, pairs_grow}
+use Rattle.engine_threads.proofs.starts.start_deciders.Goals as goal
+
+abbrev made_share : ℕ → ℕ → Share
+made_share d n = record { decider = d; deciders = n }
+
+share_is : (d n e m : ℕ) → d ≡ e → n ≡ m → made_share d n ≡ made_share e m
+share_is d n e m one two = ap (λ k. made_share k n) one ∙ ap (λ k. made_share e k) two
+
+pub loop-work-preserved : goal.loop-work-preserved
+loop-work-preserved g c =
+    let inv = c.loop-work.invariant in
+    let items : c.push.new.self.items ≡ c.loop-work.handles.items ++ c.in_ok-handle.handle ∷ [] = search rules in
+    let config : c.in_ok-handle.handle.promise.config.now ≡ c.args.config.now = search rules in
+    let zone : c.in_ok-handle.handle.promise.zone.now ≡ c.args.zone.now = search rules in
+    let queues : c.in_ok-handle.handle.promise.queues.now ≡ c.args.queues.now = search rules in
+    let made : c.in_ok-handle.handle.promise.share ≡ record { decider = c.len-in-loop-work.result; deciders = c.len-deciders.result } = search rules in
+    let number : c.len-in-loop-work.result ≡ length c.loop-work.yielded = search rules in
+    let count : c.len-deciders.result ≡ length c.args.works.items = search rules in
+    let share = made ∙ share_is c.len-in-loop-work.result c.len-deciders.result (length c.loop-work.yielded) (length c.args.works.items) number count in
+    let ring : c.in_ok-handle.handle.promise.ring.value ≡ c.in-Some.work.ring = search rules in (
+      both_longer c.loop-work.yielded c.loop-work.handles.items c.push.new.self.items c.in-Some.work c.in_ok-handle.handle items inv.0,
+      rw items (pairs_grow (λ d w h. (h.promise.config.now ≡ c.args.config.now) × (h.promise.zone.now ≡ c.args.zone.now) × (h.promise.queues.now ≡ c.args.queues.now) × (h.promise.share ≡ record { decider = d; deciders = length c.args.works.items }) × (h.promise.ring.value ≡ w.ring)) c.loop-work.yielded c.loop-work.handles.items c.in-Some.work c.in_ok-handle.handle inv.0 inv.1 (config, zone, queues, share, ring)),
+      next_rest c.loop-work.yielded c.in-Some.work (into_iter_items c.loop-work.work-iterator) (into_iter_items c.next.new.self) c.args.works.items c.in-Some.ensures.steps.0 inv.2,
+    )

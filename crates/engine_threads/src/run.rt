@@ -1,0 +1,274 @@
+//! A run of all threads.
+
+ghost use Rattle.std.specs.Prelude.{◌≡◌, ◌≢◌, ◌||◌, ◌<◌, ◌≤◌, ℕ, List, [], IfErr, IfOk, false};
+ghost use Rattle.std.specs.Prelude.{true, length, reverse, slice_get, Some};
+ghost use Rattle.due_model.specs.declared.config.Config.{Config};
+ghost use Rattle.due_model.specs.declared.event.Event.{Event};
+ghost use Rattle.due_model.specs.declared.zone.Zone.{Zone};
+ghost use Rattle.due_model.specs.Accepted.{IsAccepted};
+ghost use Rattle.engine_threads.specs.Lanes.{HaveTaken};
+ghost use Rattle.engine_threads.specs.Run.{AreLaneEnds, IsLogOf, IsRun};
+ghost use Rattle.engine_threads.specs.Works.{AreDeciderWorks, AreNewWorkers, AreRings, HaveDeciders};
+
+use crate::lane_work::LaneWork;
+use crate::prepared::{Prepared, prepare_all};
+use crate::source::Source;
+use crate::starts::DeciderWork;
+use crate::threads::{Driven, drive};
+use crate::word::StartWord;
+use crate::zone::GivesZone;
+use channel::Channel;
+use channel_queue::LaneQueue;
+use closers::Closers;
+use decider_thread::Signal;
+use delivery_worker::{Gate, Served};
+use due_model::config::Config;
+use due_model::notice::Suppression;
+use due_model::zone::Zone;
+use rtrb::Producer;
+use std::alloc::Global;
+use std::sync::Wait;
+use std::sync::atomic::AtomicBool;
+use std::thread;
+use std::thread::Threads;
+use std::time::Clock;
+use steps::Settings;
+use undelivered::Why;
+
+/// What the threads of a run leave.
+#[derive(Drop)]
+pub struct ThreadsEnd<C: Channel, S: Source> {
+    /// Each lane in order; none where a thread can't be started or memory ran out before they begin, and then no event was taken.
+    pub lanes: Vec<Served>,
+    /// The channels of each lane that is there, each in its place.
+    pub channels: Vec<Vec<C>>,
+    /// What was suppressed, by event, then object, then contact.
+    pub log: Vec<Suppression>,
+    /// Whether memory ran out in any thread, or one can't be started.
+    pub memory: bool,
+    /// Whether the threads began. Where they didn't, nothing was asked of the source.
+    pub started: bool,
+    /// Where the events came from.
+    pub source: S,
+}
+
+/// The threads of a run, in a scope.
+fn run_scope<
+    C: Channel,
+    S: Source,
+    Z: GivesZone + Sync,
+    G: Gate + Sync,
+    R: Threads + Wait + Clock + Sync,
+>(
+    rt: &R,
+    alloc: Global,
+    config: &Config,
+    zone: &Z,
+    source: S,
+    halt: &AtomicBool,
+    works: Vec<LaneWork<C>>,
+    deciders: Vec<DeciderWork>,
+    senders: Vec<Producer<Signal>>,
+    tries: u8,
+    queues: &[LaneQueue],
+    closers: &Closers,
+    gate: &G,
+    word: &StartWord,
+) -> Result<Driven<C, S>, S>
+    requires accepted { IsAccepted config.now }
+    requires tries { 0 < tries }
+    requires source { S.given_so_far source ≡ [] }
+    requires some { 0 < length deciders.items }
+    requires most { length deciders.items ≤ 8 }
+    requires lanes { length queues.now ≡ length config.now.lanes }
+    requires queues { HaveDeciders (length deciders.items) queues.now }
+    requires works { length works.items ≡ length queues.now }
+    requires workers { AreNewWorkers (λ w. w.pass) queues.now works.items }
+    requires deciders { AreDeciderWorks queues.now deciders.items }
+    requires senders { length senders.items ≡ length deciders.items }
+    requires rings { AreRings deciders.items senders.items }
+    ensures lanes { IfOk result (λ r. (channels : ℕ → ℕ)
+        → ((l : ℕ) (w : _) → slice_get works.items l ≡ Some w → length w.channels.items ≡ channels l)
+        → AreLaneEnds config.now (Z.zone zone.now) channels (reverse (S.given_so_far r.source)) r.refused
+        r.served.items) }
+    ensures log { IfOk result (λ r.
+        IsLogOf config.now (Z.zone zone.now) (reverse (S.given_so_far r.source)) (r.refused || r.memory)
+        r.log.items) }
+    ensures channels { IfOk result (λ r. (l : ℕ) (w s b : _) → slice_get works.items l ≡ Some w
+        → slice_get r.served.items l ≡ Some s → slice_get r.channels.items l ≡ Some b
+        → HaveTaken C.account C.offered tries config.now s w.channels.items b.items) }
+    ensures places { IfOk result (λ r. length r.channels.items ≡ length r.served.items) }
+    ensures source { IfOk result (λ r. S.goes config.now source r.source) }
+    ensures over { IfOk result (λ r. r.memory ≡ false → S.ended r.source) }
+    ensures none { IfErr result (λ s. s ≡ source) }
+{
+    thread::scope(
+        thread::scope_env(),
+        rt,
+        move |scope| -> Result<Driven<C, S>, S>
+            requires { IsAccepted config.now × (0 < tries) × (S.given_so_far source ≡ [])
+                × (0 < length deciders.items) × (length deciders.items ≤ 8)
+                × (length queues.now ≡ length config.now.lanes)
+                × HaveDeciders (length deciders.items) queues.now
+                × (length works.items ≡ length queues.now)
+                × AreNewWorkers (λ w. w.pass) queues.now works.items
+                × AreDeciderWorks queues.now deciders.items
+                × (length senders.items ≡ length deciders.items)
+                × AreRings deciders.items senders.items }
+            ensures lanes { IfOk result (λ r. (channels : ℕ → ℕ)
+                → ((l : ℕ) (w : _) → slice_get works.items l ≡ Some w → length w.channels.items ≡ channels l)
+                → AreLaneEnds config.entry.now (Z.zone zone.entry.now) channels
+                (reverse (S.given_so_far r.source)) r.refused r.served.items) }
+            ensures log { IfOk result (λ r.
+                IsLogOf config.entry.now (Z.zone zone.entry.now) (reverse (S.given_so_far r.source))
+                (r.refused || r.memory) r.log.items) }
+            ensures channels { IfOk result (λ r. (l : ℕ) (w s b : _) → slice_get works.items l ≡ Some w
+                → slice_get r.served.items l ≡ Some s → slice_get r.channels.items l ≡ Some b
+                → HaveTaken C.account C.offered tries config.entry.now s w.channels.items b.items) }
+            ensures places { IfOk result (λ r. length r.channels.items ≡ length r.served.items) }
+            ensures source { IfOk result (λ r. S.goes config.entry.now source r.source) }
+            ensures over { IfOk result (λ r. r.memory ≡ false → S.ended r.source) }
+            ensures none { IfErr result (λ s. s ≡ source) }
+        {
+            drive(
+                scope, rt, alloc, config, zone, source, halt, works, deciders, senders, tries,
+                queues, closers, gate, word,
+            )
+        },
+    )
+}
+
+/// Whether memory ran out in a worker.
+fn any_refused(lanes: &[Served]) -> bool
+    ensures { result ≡ false → (l : ℕ) (s : _) → slice_get lanes.now l ≡ Some s
+        → s.why ≢ Why.NoMemory }
+{
+    for lane in lanes {
+        if lane.why == Why::NoMemory {
+            return true;
+        }
+    }
+    false
+}
+
+/// A run in which memory ran out, or a thread couldn't be started, before it began.
+fn nothing<C: Channel, S: Source>(alloc: Global, source: S) -> ThreadsEnd<C, S>
+    ensures lanes { result.lanes.items ≡ [] }
+    ensures channels { result.channels.items ≡ [] }
+    ensures log { result.log.items ≡ [] }
+    ensures memory { result.memory ≡ true }
+    ensures started { result.started ≡ false }
+    ensures source { result.source ≡ source }
+{
+    ThreadsEnd {
+        lanes: Vec::new(alloc),
+        channels: Vec::new(alloc),
+        log: Vec::new(alloc),
+        memory: true,
+        started: false,
+        source,
+    }
+}
+
+/// What the threads left, as a run's end.
+fn end_of<C: Channel, S: Source>(driven: Driven<C, S>) -> ThreadsEnd<C, S>
+    ensures run { (c : Config) (zone : Zone) (channels : ℕ → ℕ) (past : List Event)
+        → AreLaneEnds c zone channels past driven.refused driven.served.items
+        → IsLogOf c zone past (driven.refused || driven.memory) driven.log.items
+        → IsRun c zone channels past result.memory result.lanes.items result.log.items }
+    ensures source { result.source ≡ driven.source }
+    ensures memory { result.memory ≡ false → driven.memory ≡ false }
+    ensures lanes { result.lanes.items ≡ driven.served.items }
+    ensures channels { result.channels.items ≡ driven.channels.items }
+    ensures started { result.started ≡ true }
+{
+    let Driven {
+        served,
+        channels,
+        log,
+        refused,
+        memory,
+        source,
+    } = driven;
+    let memory = (refused | memory) | any_refused(&served);
+    ThreadsEnd {
+        lanes: served,
+        channels,
+        log,
+        memory,
+        started: true,
+        source,
+    }
+}
+
+/// Takes the events of a source to their end, decides each by all deciders, and hands what is due to the channels of the lanes, of
+/// which each has a worker; all in threads of their own. Of a lane's channels, at most eight, the first serves, and each other where
+/// the one before has failed, beginning with the letter in hand. Each thread waits for a word first: where one can't be started, none
+/// begins. Where a growth is refused in the source or a decider, no further event is taken or decided.
+pub fn run_threads<C: Channel, S: Source, G: Gate + Sync, R: Threads + Wait + Clock + Sync>(
+    rt: &R,
+    alloc: Global,
+    config: &Config,
+    zone: &Zone,
+    source: S,
+    given: Vec<Vec<C>>,
+    settings: Settings,
+    closers: &Closers,
+    gate: &G,
+) -> ThreadsEnd<C, S>
+    requires accepted { IsAccepted config.now }
+    requires source { S.given_so_far source ≡ [] }
+    requires lanes { length given.items ≡ length config.now.lanes }
+    requires few { (l : ℕ) (c : _) → slice_get given.items l ≡ Some c → length c.items ≤ 8 }
+    ensures run { (channels : ℕ → ℕ)
+        → ((l : ℕ) (c : _) → slice_get given.items l ≡ Some c → length c.items ≡ channels l)
+        → IsRun config.now zone.now channels (reverse (S.given_so_far result.source)) result.memory
+        result.lanes.items result.log.items }
+    // Each lane's channels are given back in their places, and each has taken what its record says.
+    ensures channels { (l : ℕ) (c s b : _) → slice_get given.items l ≡ Some c
+        → slice_get result.lanes.items l ≡ Some s → slice_get result.channels.items l ≡ Some b
+        → HaveTaken C.account C.offered settings.tries config.now s c.items b.items }
+    ensures places { length result.channels.items ≡ length result.lanes.items }
+    ensures source { S.goes config.now source result.source }
+    ensures over { result.memory ≡ false → S.ended result.source }
+    ensures few { length result.lanes.items ≤ length config.now.lanes }
+    ensures whole { S.given_so_far result.source ≢ []
+        → length result.lanes.items ≡ length config.now.lanes }
+    // Where the threads began, every lane is there; where they didn't, the source is as it was.
+    ensures all { result.started ≡ true → length result.lanes.items ≡ length config.now.lanes }
+    ensures unstarted { result.started ≡ false
+        → (result.source ≡ source) × (result.memory ≡ true) × (result.lanes.items ≡ [])
+        × (result.log.items ≡ []) }
+{
+    let capacity = usize::from(settings.queue);
+    let Ok(prepared) = prepare_all(alloc, given, settings.deciders, capacity) else {
+        return nothing(alloc, source);
+    };
+    let Prepared {
+        queues,
+        works,
+        deciders,
+        senders,
+    } = prepared;
+    let word = StartWord::new();
+    let halt = AtomicBool::new(false);
+    match run_scope(
+        rt,
+        alloc,
+        config,
+        zone,
+        source,
+        &halt,
+        works,
+        deciders,
+        senders,
+        settings.tries,
+        queues.as_slice(),
+        closers,
+        gate,
+        &word,
+    ) {
+        Ok(driven) => end_of(driven),
+        Err(source) => nothing(alloc, source),
+    }
+}

@@ -1,0 +1,272 @@
+//! The start of the threads.
+
+ghost use Rattle.std.specs.Prelude.{◌≡◌, ◌<◌, ◌≤◌, [], ℕ, IfSome, length, slice_get, Some};
+ghost use Rattle.due_model.specs.Accepted.{IsAccepted};
+ghost use Rattle.decider.specs.Share.{IsShare};
+ghost use Rattle.channel_queue.specs.Passes.{IsWorker};
+ghost use Rattle.rtrb.specs.Ring.{received};
+ghost use Rattle.decider_thread.specs.Decided.{HasDecided};
+ghost use Rattle.engine_threads.specs.Lanes.{HaveTaken, IsServed};
+ghost use Rattle.decider_thread.specs.Puts.{ArePut};
+ghost use Rattle.engine_threads.specs.Works.{AreDeciderWorks, AreNewWorkers};
+
+use crate::lane_work::{LaneWork, serve_lane};
+use crate::word::StartWord;
+use crate::zone::GivesZone;
+use channel::Channel;
+use channel_queue::LaneQueue;
+use closers::Closers;
+use decider::Share;
+use decider_thread::{DeciderEnd, Seat, Signal, decide_ring};
+use delivery_worker::{Gate, Served};
+use due_model::config::Config;
+use rtrb::Consumer;
+use std::alloc::Global;
+use std::snapshot::Snapshot;
+use std::sync::Wait;
+use std::sync::atomic::AtomicBool;
+use std::thread::{Promise, PromisedHandle, Scope};
+use std::time::Clock;
+
+/// What the thread of a lane promises of what it gives back, unless it leaves.
+#[derive(Drop)]
+pub(crate) struct ServesLane<'s, C: Channel> {
+    pub queue: &'s LaneQueue,
+    pub channels: usize,
+    pub config: &'s Config,
+    pub tries: u8,
+    pub given: Snapshot<Vec<C>>,
+}
+
+impl<'s, C: Channel> Promise<Option<(Served, Vec<C>)>> for ServesLane<'s, C> {
+    ghost use Rattle.std.specs.Prelude.{IfSome};
+    ghost use Rattle.engine_threads.specs.Lanes.{HaveTaken, IsServed};
+
+    ghost kept_by = { λ p r. IfSome r (λ e. IsServed p.queue.now p.channels e.0
+        × HaveTaken C.account C.offered p.tries p.config.now e.0 p.given.value.items e.1.items) };
+}
+
+/// Starts the thread of a lane. `None`: it can't be started.
+pub(crate) fn start_lane<'s, E, C: Channel + 's, G: Gate + Sync, R: Wait + Clock + Sync>(
+    scope: &'s Scope<'s, E>,
+    rt: &'s R,
+    alloc: Global,
+    config: &'s Config,
+    work: LaneWork<C>,
+    tries: u8,
+    queue: &'s LaneQueue,
+    closers: &'s Closers,
+    gate: &'s G,
+    word: &'s StartWord,
+) -> Option<PromisedHandle<Option<(Served, Vec<C>)>, ServesLane<'s, C>>>
+    requires tries { 0 < tries }
+    requires deciders { queue.now.deciders ≤ 8 }
+    requires worker { IsWorker queue.now [] [] work.pass }
+    ensures queue { IfSome result (λ h. h.promise.queue.now ≡ queue.entry.now) }
+    ensures channels { IfSome result (λ h. h.promise.channels ≡ length work.channels.items) }
+    ensures config { IfSome result (λ h. h.promise.config.now ≡ config.entry.now) }
+    ensures tries { IfSome result (λ h. h.promise.tries ≡ tries) }
+    ensures given { IfSome result (λ h. h.promise.given.value ≡ work.channels) }
+{
+    let channels = work.channels.len();
+    let promise = ServesLane {
+        queue,
+        channels,
+        config,
+        tries,
+        given: Snapshot::of(&work.channels),
+    };
+    let started = scope.spawn_with(
+        promise,
+        move || -> Option<(Served, Vec<C>)>
+            requires { (0 < tries) × (queue.now.deciders ≤ 8) × IsWorker queue.now [] [] work.pass }
+            ensures { IfSome result (λ e. IsServed queue.entry.now (length work.channels.items) e.0
+                × HaveTaken C.account C.offered tries config.entry.now e.0 work.channels.items e.1.items) }
+        {
+            if !word.wait(rt) {
+                return None;
+            }
+            Some(serve_lane(rt, alloc, config, work, tries, queue, closers, gate))
+        },
+    );
+    match started {
+        Ok(handle) => Some(handle),
+        Err(_) => None,
+    }
+}
+
+/// Starts the threads of all lanes. `None`: one can't be started, or a growth was refused.
+pub(crate) fn start_lanes<'s, E, C: Channel + 's, G: Gate + Sync, R: Wait + Clock + Sync>(
+    scope: &'s Scope<'s, E>,
+    rt: &'s R,
+    alloc: Global,
+    config: &'s Config,
+    works: Vec<LaneWork<C>>,
+    tries: u8,
+    queues: &'s [LaneQueue],
+    closers: &'s Closers,
+    gate: &'s G,
+    word: &'s StartWord,
+) -> Option<Vec<PromisedHandle<Option<(Served, Vec<C>)>, ServesLane<'s, C>>>>
+    requires tries { 0 < tries }
+    requires count { length works.items ≡ length queues.now }
+    requires deciders { (l : ℕ) (q : _) → slice_get queues.now l ≡ Some q → q.deciders ≤ 8 }
+    requires workers { AreNewWorkers (λ w. w.pass) queues.now works.items }
+    ensures count { IfSome result (λ hs. length hs.items ≡ length works.items) }
+    ensures each { IfSome result (λ hs. (l : ℕ) (w : _) (h : _)
+        → slice_get works.items l ≡ Some w → slice_get hs.items l ≡ Some h
+        → (slice_get queues.now l ≡ Some h.promise.queue.now)
+        × (h.promise.channels ≡ length w.channels.items)
+        × (h.promise.config.now ≡ config.now) × (h.promise.tries ≡ tries)
+        × (h.promise.given.value ≡ w.channels)) }
+{
+    let Ok(mut handles) = Vec::with_capacity(alloc, works.len()) else {
+        return None;
+    };
+    for work in works {
+        let queue = &queues[handles.len()];
+        let handle = start_lane(
+            scope, rt, alloc, config, work, tries, queue, closers, gate, word,
+        )?;
+        if handles.push(handle).is_err() {
+            return None;
+        }
+    }
+    Some(handles)
+}
+
+/// What a decider begins with: its end of a ring, and its passes.
+#[derive(Drop)]
+pub(crate) struct DeciderWork {
+    pub ring: Consumer<Signal>,
+    pub seats: Vec<Seat>,
+}
+
+/// What the thread of a decider promises of what it gives back, unless it leaves.
+#[derive(Drop)]
+pub(crate) struct Decides<'s, Z: GivesZone> {
+    config: &'s Config,
+    zone: &'s Z,
+    queues: &'s [LaneQueue],
+    share: Share,
+    ring: Snapshot<Consumer<Signal>>,
+}
+
+impl<'s, Z: GivesZone> Promise<Option<DeciderEnd>> for Decides<'s, Z> {
+    ghost use Rattle.std.specs.Prelude.{IfSome};
+    ghost use Rattle.decider_thread.specs.Decided.{HasDecided};
+
+    ghost kept_by = { λ p r. IfSome r (λ end.
+        HasDecided p.config.now (Z.zone p.zone.now) p.share p.queues.now p.ring.value end) };
+}
+
+/// Starts the thread of a decider. `None`: it can't be started.
+fn start_decider<'s, E, Z: GivesZone + Sync, G: Gate + Sync, R: Wait + Clock + Sync>(
+    scope: &'s Scope<'s, E>,
+    rt: &'s R,
+    alloc: Global,
+    config: &'s Config,
+    zone: &'s Z,
+    share: Share,
+    work: DeciderWork,
+    queues: &'s [LaneQueue],
+    gate: &'s G,
+    halt: &'s AtomicBool,
+    word: &'s StartWord,
+) -> Option<PromisedHandle<Option<DeciderEnd>, Decides<'s, Z>>>
+    requires accepted { IsAccepted config.now }
+    requires share { IsShare share }
+    requires fresh { received work.ring ≡ [] }
+    requires queues { length queues.now ≡ length config.now.lanes }
+    requires seats { length work.seats.items ≡ length queues.now }
+    requires puts { ArePut share.decider queues.now work.seats.items (λ _. []) (λ _. []) }
+    ensures config { IfSome result (λ h. h.promise.config.now ≡ config.entry.now) }
+    ensures zone { IfSome result (λ h. h.promise.zone.now ≡ zone.entry.now) }
+    ensures queues { IfSome result (λ h. h.promise.queues.now ≡ queues.entry.now) }
+    ensures share { IfSome result (λ h. h.promise.share ≡ share) }
+    ensures ring { IfSome result (λ h. h.promise.ring.value ≡ work.ring) }
+{
+    let promise = Decides {
+        config,
+        zone,
+        queues,
+        share,
+        ring: Snapshot::of(&work.ring),
+    };
+    let started = scope.spawn_with(
+        promise,
+        move || -> Option<DeciderEnd>
+            requires { IsAccepted config.now × IsShare share × (received work.ring ≡ [])
+                × (length queues.now ≡ length config.now.lanes)
+                × (length work.seats.items ≡ length queues.now)
+                × ArePut share.decider queues.now work.seats.items (λ _. []) (λ _. []) }
+            ensures { IfSome result (λ end.
+                HasDecided config.entry.now (Z.zone zone.entry.now) share queues.entry.now work.ring end) }
+        {
+            if !word.wait(rt) {
+                return None;
+            }
+            let DeciderWork { ring, seats } = work;
+            Some(decide_ring(
+                rt,
+                alloc,
+                config,
+                zone.zone(),
+                share,
+                ring,
+                queues,
+                seats,
+                gate,
+                halt,
+            ))
+        },
+    );
+    match started {
+        Ok(handle) => Some(handle),
+        Err(_) => None,
+    }
+}
+
+/// Starts the threads of all deciders. `None`: one can't be started, or a growth was refused.
+pub(crate) fn start_deciders<'s, E, Z: GivesZone + Sync, G: Gate + Sync, R: Wait + Clock + Sync>(
+    scope: &'s Scope<'s, E>,
+    rt: &'s R,
+    alloc: Global,
+    config: &'s Config,
+    zone: &'s Z,
+    works: Vec<DeciderWork>,
+    queues: &'s [LaneQueue],
+    gate: &'s G,
+    halt: &'s AtomicBool,
+    word: &'s StartWord,
+) -> Option<Vec<PromisedHandle<Option<DeciderEnd>, Decides<'s, Z>>>>
+    requires accepted { IsAccepted config.now }
+    requires deciders { length works.items ≤ 8 }
+    requires queues { length queues.now ≡ length config.now.lanes }
+    requires works { AreDeciderWorks queues.now works.items }
+    ensures count { IfSome result (λ hs. length hs.items ≡ length works.items) }
+    ensures each { IfSome result (λ hs. (d : ℕ) (w : _) (h : _)
+        → slice_get works.items d ≡ Some w → slice_get hs.items d ≡ Some h
+        → (h.promise.config.now ≡ config.now) × (h.promise.zone.now ≡ zone.now)
+        × (h.promise.queues.now ≡ queues.now)
+        × (h.promise.share ≡ record { decider = d; deciders = length works.items })
+        × (h.promise.ring.value ≡ w.ring)) }
+{
+    let deciders = works.len() as u8;
+    let Ok(mut handles) = Vec::with_capacity(alloc, works.len()) else {
+        return None;
+    };
+    for work in works {
+        let share = Share {
+            decider: handles.len() as u8,
+            deciders,
+        };
+        let handle = start_decider(
+            scope, rt, alloc, config, zone, share, work, queues, gate, halt, word,
+        )?;
+        if handles.push(handle).is_err() {
+            return None;
+        }
+    }
+    Some(handles)
+}

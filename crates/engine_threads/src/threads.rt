@@ -1,0 +1,172 @@
+//! The threads from their start to their end.
+
+ghost use Rattle.std.specs.Prelude.{◌≡◌, ◌||◌, ◌<◌, ◌≤◌, ℕ, List, [], IfErr, IfOk, IfSome, length, reverse};
+ghost use Rattle.std.specs.Prelude.{false, true, slice_get, vec_capacity, Some};
+ghost use Rattle.due_model.specs.Accepted.{IsAccepted};
+ghost use Rattle.rtrb.specs.Ring.{IsPair};
+ghost use Rattle.log_merge.specs.Order.{IsInOrder};
+ghost use Rattle.engine_threads.specs.Lanes.{HaveTaken};
+ghost use Rattle.engine_threads.specs.Logs.{AreInOrder, HasEach};
+ghost use Rattle.engine_threads.specs.Run.{AreLaneEnds, IsLogOf};
+ghost use Rattle.engine_threads.specs.Sent.{HaveSent};
+ghost use Rattle.engine_threads.specs.Works.{AreDeciderWorks, AreNewWorkers, HaveDeciders};
+
+use crate::ends::meet_all;
+use crate::joins::{join_all, join_lanes};
+use crate::lane_work::LaneWork;
+use crate::logs::merge_logs;
+use crate::signals::feed_from;
+use crate::source::Source;
+use crate::starts::{DeciderWork, start_deciders, start_lanes};
+use crate::word::StartWord;
+use crate::zone::GivesZone;
+use channel::Channel;
+use channel_queue::LaneQueue;
+use closers::Closers;
+use decider_thread::laws::made_of_share;
+use decider_thread::{DeciderEnd, Signal};
+use delivery_worker::{Gate, Served};
+use due_model::config::Config;
+use due_model::notice::Suppression;
+use rtrb::Producer;
+use std::alloc::Global;
+use std::sync::Wait;
+use std::sync::atomic::AtomicBool;
+use std::thread::{Scope, Threads};
+use std::time::Clock;
+
+/// What the threads of a run gave back.
+#[derive(Drop)]
+pub(crate) struct Driven<C: Channel, S: Source> {
+    /// Each lane, in order.
+    pub served: Vec<Served>,
+    /// The channels of each, in its place.
+    pub channels: Vec<Vec<C>>,
+    /// What was suppressed, by event, then object, then contact.
+    pub log: Vec<Suppression>,
+    /// Whether memory ran out in a decider.
+    pub refused: bool,
+    /// Whether it ran out in the intake, or for the log.
+    pub memory: bool,
+    pub source: S,
+}
+
+/// Room for what so many deciders and so many lanes give back, made before they begin. `None`: a growth was refused.
+fn rooms<C: Channel>(
+    alloc: Global,
+    deciders: usize,
+    lanes: usize,
+) -> Option<(Vec<DeciderEnd>, Vec<Served>, Vec<Vec<C>>)>
+    ensures deciders { IfSome result (λ r. (r.0.items ≡ []) × (deciders ≤ vec_capacity r.0)) }
+    ensures lanes { IfSome result (λ r. (r.1.items ≡ []) × (lanes ≤ vec_capacity r.1)) }
+    ensures channels { IfSome result (λ r. (r.2.items ≡ []) × (lanes ≤ vec_capacity r.2)) }
+{
+    let ended = Vec::with_capacity(alloc, deciders).ok()?;
+    let left = Vec::with_capacity(alloc, lanes).ok()?;
+    let places = Vec::with_capacity(alloc, lanes).ok()?;
+    Some((ended, left, places))
+}
+
+/// Starts all threads, sends them the events, and puts together what they give back. Where a thread can't be started, or
+/// a growth is refused before they begin, the source comes back as it was.
+pub(crate) fn drive<
+    's,
+    E,
+    C: Channel + 's,
+    S: Source,
+    Z: GivesZone + Sync,
+    G: Gate + Sync,
+    R: Threads + Wait + Clock + Sync,
+>(
+    scope: &'s Scope<'s, E>,
+    rt: &'s R,
+    alloc: Global,
+    config: &'s Config,
+    zone: &'s Z,
+    source: S,
+    halt: &'s AtomicBool,
+    works: Vec<LaneWork<C>>,
+    deciders: Vec<DeciderWork>,
+    senders: Vec<Producer<Signal>>,
+    tries: u8,
+    queues: &'s [LaneQueue],
+    closers: &'s Closers,
+    gate: &'s G,
+    word: &'s StartWord,
+) -> Result<Driven<C, S>, S>
+    requires accepted { IsAccepted config.now }
+    requires tries { 0 < tries }
+    requires source { S.given_so_far source ≡ [] }
+    requires some { 0 < length deciders.items }
+    requires most { length deciders.items ≤ 8 }
+    requires lanes { length queues.now ≡ length config.now.lanes }
+    requires queues { HaveDeciders (length deciders.items) queues.now }
+    requires works { length works.items ≡ length queues.now }
+    requires workers { AreNewWorkers (λ w. w.pass) queues.now works.items }
+    requires deciders { AreDeciderWorks queues.now deciders.items }
+    requires senders { length senders.items ≡ length deciders.items }
+    requires unsent { HaveSent [] senders.items }
+    requires pairs { (d : ℕ) (w : _) (p : _) → slice_get deciders.items d ≡ Some w
+        → slice_get senders.items d ≡ Some p → IsPair p w.ring }
+    ensures lanes { IfOk result (λ r. (channels : ℕ → ℕ)
+        → ((l : ℕ) (w : _) → slice_get works.items l ≡ Some w → length w.channels.items ≡ channels l)
+        → AreLaneEnds config.now (Z.zone zone.now) channels (reverse (S.given_so_far r.source)) r.refused
+        r.served.items) }
+    ensures log { IfOk result (λ r.
+        IsLogOf config.now (Z.zone zone.now) (reverse (S.given_so_far r.source)) (r.refused || r.memory)
+        r.log.items) }
+    ensures channels { IfOk result (λ r. (l : ℕ) (w s b : _) → slice_get works.items l ≡ Some w
+        → slice_get r.served.items l ≡ Some s → slice_get r.channels.items l ≡ Some b
+        → HaveTaken C.account C.offered tries config.now s w.channels.items b.items) }
+    ensures places { IfOk result (λ r. length r.channels.items ≡ length r.served.items) }
+    ensures source { IfOk result (λ r. S.goes config.now source r.source) }
+    ensures over { IfOk result (λ r. r.memory ≡ false → S.ended r.source) }
+    ensures none { IfErr result (λ s. s ≡ source) }
+{
+    let Some(lanes) = start_lanes(
+        scope, rt, alloc, config, works, tries, queues, closers, gate, word,
+    ) else {
+        word.leave();
+        return Err(source);
+    };
+    let Some(ends) = start_deciders(
+        scope, rt, alloc, config, zone, deciders, queues, gate, halt, word,
+    ) else {
+        word.leave();
+        return Err(source);
+    };
+    let Some((ended, left, places)) = rooms(alloc, ends.len(), lanes.len()) else {
+        word.leave();
+        return Err(source);
+    };
+    word.go();
+    let mut senders = senders;
+    let mut source = source;
+    let stopped = feed_from(rt, config, &mut senders, &mut source, gate, halt);
+    let ends = join_all(rt, ends, ended);
+    let (mut served, channels) = join_lanes(rt, lanes, left, places);
+    made_of_share();
+    let (log, unmerged) = merged_log(alloc, &ends);
+    let refused = meet_all(queues, &mut served, ends, &mut senders);
+    let memory = stopped | unmerged;
+    Ok(Driven {
+        served,
+        channels,
+        log,
+        refused,
+        memory,
+        source,
+    })
+}
+
+/// The logs of all deciders as one, and whether memory ran out for it; then it is empty.
+fn merged_log(alloc: Global, ends: &[DeciderEnd]) -> (Vec<Suppression>, bool)
+    ensures order { AreInOrder ends.now → IsInOrder result.0.items }
+    ensures each { result.1 ≡ false → HasEach ends.now result.0.items }
+    ensures none { result.1 ≡ true → result.0.items ≡ [] }
+{
+    match merge_logs(alloc, ends) {
+        Ok(log) => (log, false),
+        Err(_) => (Vec::new(alloc), true),
+    }
+}

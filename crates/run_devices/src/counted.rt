@@ -1,0 +1,145 @@
+//! What counts the events and the letters of a run as it goes.
+
+ghost use Rattle.std.specs.Prelude.{◌≡◌, ◌↔◌, ◌+◌, ◌<◌, ◌≤◌, ◌∷◌, ◌++◌, [], length, IsTrue, IsErrOf};
+ghost use Rattle.std.specs.Prelude.{OnErr, OnOk};
+ghost use Rattle.channel.specs.Channels.{IsCounted, receipt_of};
+
+use crate::settings::pause_after;
+use crate::teller::{LaneTeller, Teller};
+use channel::letter::Letter;
+use channel::{Channel, Fault, Kind, Receipt};
+use due_model::config::LaneId;
+use due_model::notice::Notice;
+use engine::Gate;
+use progress::Counts;
+use std::alloc::{AllocError, Global};
+use std::sync::Arc;
+use std::time::Duration;
+
+/// A gate that admits all, counts the events, those that the first decider comes to, and says how long a lane waits before it tries
+/// a letter again.
+#[derive(Drop)]
+pub struct CountingGate {
+    counts: Arc<Counts, Global>,
+    teller: Arc<Teller, Global>,
+    /// How many seconds pass before the second try of a letter.
+    pause: u8,
+}
+
+impl CountingGate {
+    /// A gate that counts there, says what is refused, and before the second try of a letter has so many seconds pass.
+    pub fn new(
+        counts: Arc<Counts, Global>,
+        teller: Arc<Teller, Global>,
+        pause: u8,
+    ) -> CountingGate {
+        CountingGate {
+            counts,
+            teller,
+            pause,
+        }
+    }
+}
+
+impl Gate for CountingGate {
+    fn admit(&self, _lane: LaneId, _notice: &Notice) -> bool {
+        true
+    }
+
+    fn turn(&self, decider: u8) {
+        if decider == 0 {
+            self.counts.count_event();
+        }
+    }
+
+    fn refused(&self, line: u64, fault: &str) {
+        self.teller.say(format_args!("line {line}: {fault}"));
+    }
+
+    fn wanting(&self) {
+        self.teller.say_wanting();
+    }
+
+    fn retry_after(&self, _lane: LaneId, failed: u8) -> Duration {
+        Duration::from_secs(u64::from(pause_after(self.pause, failed)))
+    }
+}
+
+/// A channel that hands all to another, counts the letters that this has taken, and says where it failed for good.
+#[derive(Drop)]
+pub struct CountedChannel<C: Channel> {
+    channel: C,
+    counts: Arc<Counts, Global>,
+    teller: LaneTeller,
+}
+
+impl<C: Channel> CountedChannel<C> {
+    /// This channel, of which nothing is counted yet.
+    pub fn new(channel: C, counts: Arc<Counts, Global>, teller: LaneTeller) -> CountedChannel<C>
+        ensures { result.channel ≡ channel }
+    {
+        CountedChannel {
+            channel,
+            counts,
+            teller,
+        }
+    }
+}
+
+impl<C: Channel> Channel for CountedChannel<C> {
+    ghost account = { λ s. C.account s.channel };
+
+    ghost room = { λ s. C.room s.channel };
+
+    ghost kind = { λ s. C.kind s.channel };
+
+    ghost offered = { λ a offers b. C.offered a.channel offers b.channel };
+
+    ghost stays = { λ s. C.stays s.channel };
+
+    ghost follows = { λ a b c one two. C.follows a.channel b.channel c.channel one two };
+
+    fn kind(&self) -> Kind {
+        self.channel.kind()
+    }
+
+    fn limit(&self) -> u64 {
+        self.channel.limit()
+    }
+
+    fn number(&self) -> u64 {
+        self.channel.number()
+    }
+
+    fn failures(&self) -> u64 {
+        self.channel.failures()
+    }
+
+    fn room(&self) -> bool {
+        self.channel.room()
+    }
+
+    fn taken(&self) -> &[Receipt] {
+        self.channel.taken()
+    }
+
+    fn reserve(&mut self) -> Result<(), AllocError> {
+        self.channel.reserve()
+    }
+
+    fn close(&mut self) {
+        self.channel.close();
+        self.teller.closed();
+    }
+
+    fn deliver(&mut self, letter: &Letter) -> Result<(), Fault> {
+        let outcome = self.channel.deliver(letter);
+        if outcome.is_ok() {
+            self.counts.count_message();
+            self.teller.taken();
+        } else {
+            self.teller.failed(letter);
+        }
+        outcome
+    }
+}

@@ -1,0 +1,14 @@
+//! A run over the devices of the machine: the channels that words name are opened, and the feed is read.
+#![tactic(auto)]
+
+pub mod channels;
+pub mod counted;
+pub mod fault;
+pub mod run;
+pub mod settings;
+pub mod teller;
+mod watcher;
+
+pub use fault::RunFault;
+pub use run::do_run;
+pub use settings::RunSettings;
