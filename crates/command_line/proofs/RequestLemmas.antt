@@ -1,7 +1,7 @@
 -- The command that was met, by its name and its rows.
 use Rattle.std.proofs.Common.{◌≡◌, ◌∙◌, List, [], Option, Some, None, ap, ap₂, sym, IfNone, IfSome}
 use Rattle.std.specs.Prelude.{option_map, unwrap_or}
-use Rattle.std.specs.Box.{channel_value}
+use Rattle.std.specs.Box.{box_value}
 use Rattle.clap.specs.Matches.{found_of, subcommand_name_of}
 use Rattle.clap.specs.Words.{Row, rows_of, subcommand_rows_of, Text}
 use Rattle.clap.specs.declared.parser.matches.ArgMatches.{ArgMatches}
@@ -26,7 +26,7 @@ pub is-asked : (matches : ArgMatches) (options : Found) (name : Text) (request :
     → Some (rows_of options) ≡ option_map (λ (p : Text × List Row). p.1) (subcommand_rows_of matches) → request_name request ≡ name → IsRequestOf options request → IsAskedBy matches request
 is-asked matches options name request named rowed same is = (
   options,
-  met (λ b. (out-SubCommand (channel_value b)).name.now) (λ b. rows_of (found_of (out-SubCommand (channel_value b)).matches)) (out-ArgMatches matches).subcommand name (rows_of options) named rowed
+  met (λ b. (out-SubCommand (box_value b)).name.now) (λ b. rows_of (found_of (out-SubCommand (box_value b)).matches)) (out-ArgMatches matches).subcommand name (rows_of options) named rowed
       ∙ ap (λ (n : Text). Some (n, rows_of options)) (sym same),
   is,
 )
@@ -45,6 +45,6 @@ pub none-asked : (matches : ArgMatches) (options : Found) (name : Text) (found :
 none-asked matches options name (Some request) so named rowed is = is
 none-asked matches options name None so named rowed is = λ _. (
   options,
-  met (λ b. (out-SubCommand (channel_value b)).name.now) (λ b. rows_of (found_of (out-SubCommand (channel_value b)).matches)) (out-ArgMatches matches).subcommand name (rows_of options) named rowed,
+  met (λ b. (out-SubCommand (box_value b)).name.now) (λ b. rows_of (found_of (out-SubCommand (box_value b)).matches)) (out-ArgMatches matches).subcommand name (rows_of options) named rowed,
   is,
 )
