@@ -4,7 +4,7 @@ use acceptance_inputs::readers::{Exes, Pieces, in_pieces};
 use acceptance_inputs::rows::{Rows, config_of};
 use due_model::config::Config;
 use due_model::event::{Event, EventKind};
-use event_feed::{FeedFault, Feeder, stop_fault};
+use event_feed::{FeedFault, Feeder, Horizon, OpenHorizon, stop_fault};
 use std::alloc::{AllocError, Global};
 use std::io::Read;
 use std::process::Abort;
@@ -286,6 +286,76 @@ fn stops_at_lines_without_end(rt: HostRuntime) -> Result<(), Fail> {
     try_case(&rt, rt.alloc(), Case::WithoutEnd)
 }
 
+/// A horizon at a moment.
+#[derive(Clone, Copy)]
+struct Until(u64);
+
+impl Horizon for Until {
+    ghost use Rattle.std.specs.Prelude.{◌≡◌, Some, false};
+
+    ghost is_open = { λ s. false };
+
+    ghost says = { λ s latest. latest ≡ Some s.0 };
+
+    fn latest(&self) -> Option<u64> {
+        Some(self.0)
+    }
+}
+
+/// The next answer of a feed whose stamps may be as late as a horizon says.
+fn next_within<R: Input + Drop, H: Horizon>(
+    config: &Config,
+    feeder: &mut Feeder<R>,
+    horizon: &H,
+) -> Option<Answer> {
+    match feeder.next_within(config, horizon) {
+        Ok(None) => None,
+        Ok(Some(event)) => Some((feeder.line(), Ok(event))),
+        Err(fault) => Some((fault.line, Err(fault.fault))),
+    }
+}
+
+/// The answer of a line that tells the time.
+fn clock(line: u64, moment: u64) -> Answer {
+    let kind = EventKind::Clock;
+    (line, Ok(Event { moment, kind }))
+}
+
+/// Stamps up to a horizon at 100, past it, and back; once more with a nearer one, which isn't asked of a raised stamp.
+fn far_lines_are_refused(rt: &impl Abort, alloc: Global, config: &Config) -> Result<(), Fail> {
+    let feed =
+        b"[99] CLOCK\n[101] CLOCK\n[5] CLOCK\n[100] CLOCK\n[101] NOPE\n[7] CLOCK\n[8] CLOCK\n";
+    let mut feeder = Feeder::new(LineReader::new(alloc, AnyReader::new(in_pieces(feed, 3)))?);
+    let answers = [
+        clock(1, 99),
+        (2, Err(FeedFault::Ahead)),
+        clock(3, 99),
+        clock(4, 100),
+        (5, Err(FeedFault::UnknownKind)),
+    ];
+    for answer in &answers {
+        assert_eq!(rt;
+            next_within(config, &mut feeder, &Until(100)),
+            Some(*answer)
+        );
+    }
+    assert_eq!(rt;
+        next_within(config, &mut feeder, &Until(7)),
+        Some(clock(6, 100))
+    );
+    assert_eq!(rt;
+        next_within(config, &mut feeder, &Until(7)),
+        Some((7, Err(FeedFault::Ahead)))
+    );
+    assert_eq!(rt; next_within(config, &mut feeder, &OpenHorizon), None);
+    Ok(())
+}
+
+#[test]
+fn refuses_far_lines(rt: HostRuntime) -> Result<(), Fail> {
+    try_case(&rt, rt.alloc(), Case::Far)
+}
+
 /// Compares the line that a feeder read last, and whether one more is at hand.
 fn is_at<R: Input + Drop>(rt: &impl Abort, feeder: &Feeder<R>, line: u64, text: &[u8], more: bool) {
     assert_eq!(rt;
@@ -354,6 +424,7 @@ enum Case {
     Fails,
     WithoutEnd,
     Texts,
+    Far,
 }
 
 /// Tries one case.
@@ -364,6 +435,7 @@ fn try_in(rt: &impl Abort, alloc: Global, config: &Config, case: Case) -> Result
         Case::Fails => fails_at_each(rt, alloc, config)?,
         Case::WithoutEnd => each_long_gives(rt, alloc, config)?,
         Case::Texts => gives_all_texts(rt, alloc, config)?,
+        Case::Far => far_lines_are_refused(rt, alloc, config)?,
     }
     Ok(())
 }

@@ -6,7 +6,7 @@ use Rattle.clap.specs.declared.builder.arg.Arg.{Arg}
 use Rattle.clap.specs.declared.builder.value_parser.ValueParser.{ValueParser}
 use Rattle.clap.specs.declared.builder.value_parser.ValueParser.TheVariants.{Signed}
 use Rattle.clap.specs.declared.builder.action.ArgAction.TheVariants.{SetTrue}
-use Rattle.command_line.specs.Words.{flag_option, number_option, text_option}
+use Rattle.command_line.specs.Words.{bare_number_option, flag_option, number_option, text_option}
 
 abbrev pub is_global : Arg → Bool
 is_global a = a.global
@@ -26,6 +26,12 @@ pub number-rule : (name default : List ℕ) (least most : ℕ) (named parsed def
     → parser ≡ Some (Signed (pos least) (pos most)) → defaulted ≡ record parsed { defaults = default ∷ [] } → defaulted ≡ number_option name default least most
 number-rule name default least most named parsed defaulted parser is is_parsed is_parser is_defaulted =
     is_defaulted ∙ ap (λ (r : Rule). record r { defaults = default ∷ [] }) (is_parsed ∙ ap₂ (λ (r : Rule) (p : Option ValueParser). record r { parser = p }) is is_parser)
+
+-- with a parser alone
+pub bare_number-rule : (name : List ℕ) (least most : ℕ) (named parsed : Rule) (parser : Option ValueParser) → named ≡ text_option name → parsed ≡ record named { parser = parser }
+    → parser ≡ Some (Signed (pos least) (pos most)) → parsed ≡ bare_number_option name least most
+bare_number-rule name least most named parsed parser is is_parsed is_parser =
+    is_parsed ∙ ap₂ (λ (r : Rule) (p : Option ValueParser). record r { parser = p }) is is_parser
 
 -- `made`, with its long name, and then with the action of a flag
 pub flag-rule : (name : List ℕ) (made long acted : Rule) → made ≡ new_rule name → long ≡ record made { long = Some name } → acted ≡ record long { action = Some SetTrue }

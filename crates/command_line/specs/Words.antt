@@ -1,5 +1,5 @@
 -- What the words of a command line ask, and which words there are.
-use Rattle.std.specs.Prelude.{◌≡◌, ℕ, ◌<◌, ◌≤◌, Bool, List, [], ◌∷◌, map, None, Some, pos, true, false, codes, is_some}
+use Rattle.std.specs.Prelude.{◌≡◌, ℕ, ◌<◌, ◌≤◌, ◌^◌, Bool, List, [], ◌∷◌, map, Option, None, Some, pos, true, false, codes, is_some}
 use Rattle.std.specs.Option.{option_copied, option_map}
 use Rattle.std.specs.Str.Parse.{digits_value, IsNumeral, without_leading_plus}
 use Rattle.clap.specs.Lexer.{usize_max}
@@ -21,13 +21,13 @@ use Rattle.command_line.specs.declared.words.Request.TheVariants.{Replay, Trace,
 abbrev pub request_name : Request → List ℕ
 request_name (Replay objects zone) = codes "replay"
 request_name (Trace settings standbys zone) = codes "trace"
-request_name (Run objects settings zone channels times quiet) = codes "run"
+request_name (Run objects settings zone channels times quiet ahead) = codes "run"
 
 -- in a trace fewer channels stand by than a lane may have
 abbrev pub AreSettingsFit : Request → Type 0
 AreSettingsFit (Replay objects zone) = Unit {0}
 AreSettingsFit (Trace settings standbys zone) = standbys < max_channels
-AreSettingsFit (Run objects settings zone channels times quiet) = Unit {0}
+AreSettingsFit (Run objects settings zone channels times quiet ahead) = Unit {0}
 
 -- the texts that the options of a command hold of the zone
 pub record IsZoneOf (options : Found) (words : ZoneWords) : Type 0 where
@@ -39,6 +39,12 @@ abbrev pub HoldsNumber : Found → (name : List ℕ) → (number : ℕ) → Type
 HoldsNumber options name number = (text : List ℕ) × (one_text options name ≡ Some text)
     × IsNumeral 10 (without_leading_plus text)
     × (number ≡ digits_value 10 (without_leading_plus text))
+
+-- An option holds the number, if one is given that four bytes hold.
+abbrev pub HoldsAnyNumber : Found → (name : List ℕ) → (number : Option ℕ) → Type 0
+HoldsAnyNumber options name (Some number) = HoldsNumber options name number
+HoldsAnyNumber options name None =
+    (number : ℕ) → HoldsNumber options name number → number < 2 ^ 32 → ⊥
 
 -- A flag is on where it is given, and off where it isn't.
 pub record IsFlag (options : Found) (name : List ℕ) (flag : Bool) : Type 0 where
@@ -80,7 +86,8 @@ RunLacks options = (deciders : ℕ) → is_some (first_value options (codes "obj
     → HoldsNumber options (codes "deciders") deciders → HoldFitting options deciders → HoldSomeTimes options → ⊥
 
 -- What the options of a command hold: of `replay` the file of the object text, if it is given; of `trace` the settings and
--- how many channels stand by; of `run` the file, the settings, the times and the channel words; and of each the zone.
+-- how many channels stand by; of `run` the file, the settings, the times, how far ahead a stamp may be, and the channel words; and
+-- of each the zone.
 abbrev pub IsRequestOf : Found → Request → Type 0
 IsRequestOf options (Replay objects zone) =
     (option_copied objects ≡ first_value options (codes "objects")) × IsZoneOf options zone
@@ -88,10 +95,11 @@ IsRequestOf options (Trace settings standbys zone) =
     HoldsNumber options (codes "deciders") settings.deciders
     × HoldsNumber options (codes "standbys") standbys
     × HoldSettings options settings × IsZoneOf options zone
-IsRequestOf options (Run objects settings zone channels times quiet) =
+IsRequestOf options (Run objects settings zone channels times quiet ahead) =
     (Some objects.now ≡ first_value options (codes "objects"))
     × HoldsNumber options (codes "deciders") settings.deciders × HoldSettings options settings × IsZoneOf options zone
     × HoldTimes options times × IsFlag options (codes "quiet") quiet
+    × HoldsAnyNumber options (codes "ahead") ahead
     × (option_map (λ words. map (λ word. word.now) words.now) channels
     ≡ option_map raw_values (matched_of options (codes "channel")))
 
@@ -110,7 +118,7 @@ IsMetWith matches name so = (options : Found)
 abbrev pub request_zone : Request → ZoneWords
 request_zone (Replay objects zone) = zone
 request_zone (Trace settings standbys zone) = zone
-request_zone (Run objects settings zone channels times quiet) = zone
+request_zone (Run objects settings zone channels times quiet ahead) = zone
 
 -- it gives a rule and a file
 abbrev pub AreTwo : ZoneWords → Type 0
@@ -122,6 +130,14 @@ number_option name default least most = record (new_rule name) {
   long = Some name;
   value_names = 1;
   defaults = default ∷ [];
+  parser = Some (Signed (pos least) (pos most));
+}
+
+-- `--NAME NUMBER`, with a number from `least` to `most`, which may be left out
+abbrev pub bare_number_option : (name : List ℕ) → (least most : ℕ) → Rule
+bare_number_option name least most = record (new_rule name) {
+  long = Some name;
+  value_names = 1;
   parser = Some (Signed (pos least) (pos most));
 }
 
@@ -176,13 +192,15 @@ with_try_options app =
     (number_option (codes "pause") (codes "1") 0 60)
 
 -- `run` has the file of the object text, which must be given, how many deciders there are, how many notices a lane's queue holds,
--- these, `--quiet`, and the channel words
+-- these, how far ahead a stamp may be, `--quiet`, and the channel words
 abbrev pub run_words : App
 run_words =
-    with_rule (with_zone (with_rule (with_try_options (with_rule (with_rule (with_rule (new_app (codes "run"))
+    with_rule (with_zone (with_rule (with_rule (with_try_options (with_rule (with_rule (with_rule (new_app (codes "run"))
     (record (text_option (codes "objects")) { required = true }))
     (number_option (codes "deciders") (codes "2") 1 8))
-    (number_option (codes "queue") (codes "64") 1 1024))) (flag_option (codes "quiet")))) (word_list (codes "channel"))
+    (number_option (codes "queue") (codes "64") 1 1024)))
+    (bare_number_option (codes "ahead") 0 4294967295))
+    (flag_option (codes "quiet")))) (word_list (codes "channel"))
 
 -- `notify-run` has these three commands, `--version`, no command `help`, and asks for one of the three
 abbrev pub program_words : App

@@ -4,7 +4,8 @@ ghost use Rattle.std.specs.Prelude.{◌≡◌, ◌<◌, ℕ, codes, false, IfNon
 ghost use Rattle.clap.specs.Matches.{found_of};
 ghost use Rattle.clap.specs.Words.{app_of, rule_of, subcommand_name_of};
 ghost use Rattle.command_line.specs.Words.{AreSettingsFit, IsAskedBy, IsRequestOf, IsZoneOf};
-ghost use Rattle.command_line.specs.Words.{HoldFitting, HoldSettings, HoldSomeTimes, HoldTimes, HoldsNumber};
+ghost use Rattle.command_line.specs.Words.{HoldFitting, HoldSettings, HoldSomeTimes, HoldTimes};
+ghost use Rattle.command_line.specs.Words.{HoldsAnyNumber, HoldsNumber, bare_number_option};
 ghost use Rattle.command_line.specs.Words.{IsMetWith, RunLacks, flag_option};
 ghost use Rattle.command_line.specs.Words.{TraceLacks};
 ghost use Rattle.command_line.specs.Words.{number_option, program_words, replay_words};
@@ -91,7 +92,9 @@ service in order. A message that fails is tried again, up to --tries, after a pa
 or a program that takes longer than --timeout has failed. Then the next word of the same
 command takes over with it, of up to eight; after the last, that and all later messages of
 the command stay undelivered. What fails is said on standard error as it goes, without
---quiet. Once the feed is over, standard output gets
+--quiet. With --ahead a line whose stamp is more than so many seconds past this machine's
+clock is refused, since no later message could have an earlier moment. Once the feed is
+over, standard output gets
 
   R;line;fault                                             a refused line of the feed
   S;event;moment;object;kind;state;filter                  what a filter of the object stopped
@@ -149,6 +152,8 @@ pub enum Request<'m, 'a> {
         times: TryTimes,
         /// Whether nothing is said of it before its report.
         quiet: bool,
+        /// How many seconds past the machine's clock the stamp of a line may be at most, if there is a limit.
+        ahead: Option<u32>,
     },
 }
 
@@ -334,6 +339,20 @@ fn with_lane_options<'a>(
         .arg(tries_option(alloc))
 }
 
+/// The option that says how far past the machine's clock the stamp of a line may be.
+fn ahead_option<'a>(alloc: Global) -> Arg<'a>
+    ensures rule { rule_of result ≡ bare_number_option (codes "ahead") 0 4294967295 }
+    ensures local { result.global ≡ false }
+{
+    Arg::new(alloc, "ahead")
+        .long("ahead")
+        .value_name("SECONDS")
+        .value_parser(value_parser!(u32).range(0..=4_294_967_295))
+        .help(
+            "How far past this machine's clock the stamp of a line may be, at most, in seconds; a line past that is refused. Any, where it is left out",
+        )
+}
+
 /// The option that leaves out what a run says before its report.
 fn quiet_option<'a>(alloc: Global) -> Arg<'a>
     ensures rule { rule_of result ≡ flag_option (codes "quiet") }
@@ -380,7 +399,8 @@ fn run_command<'a>(alloc: Global) -> Result<Command<'a>, AllocError>
     let queue = "How many notices wait at most for a command's channel, 1 to 1024";
     let with_queue = command.arg(queue_option(alloc, queue))?;
     let with_tries = with_try_options(alloc, with_queue)?;
-    let with_quiet = with_tries.arg(quiet_option(alloc))?;
+    let with_ahead = with_tries.arg(ahead_option(alloc))?;
+    let with_quiet = with_ahead.arg(quiet_option(alloc))?;
     let with_options = with_zone(alloc, with_quiet)?;
     with_options.arg(channel_words(alloc))
 }
@@ -475,6 +495,13 @@ fn try_times(options: &ArgMatches<'_>) -> Option<TryTimes>
     })
 }
 
+/// What the options of `run` say of how far ahead a stamp may be.
+fn ahead_of(options: &ArgMatches<'_>) -> Option<u32>
+    ensures { HoldsAnyNumber (found_of options.now) (codes "ahead") result }
+{
+    options.get_one::<u32>("ahead")
+}
+
 /// What the options of `run` ask.
 fn run_request<'m, 'a>(options: &'m ArgMatches<'a>) -> Option<Request<'m, 'a>>
     ensures named { IfSome result (λ request. request_name request ≡ codes "run") }
@@ -492,6 +519,7 @@ fn run_request<'m, 'a>(options: &'m ArgMatches<'a>) -> Option<Request<'m, 'a>>
         channels: options.get_strs("channel"),
         times,
         quiet: options.get_flag("quiet"),
+        ahead: ahead_of(options),
     })
 }
 

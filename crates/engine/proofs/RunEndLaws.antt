@@ -17,7 +17,7 @@ use Rattle.engine_threads.specs.Lanes.{HasCause}
 use Rattle.engine_threads.specs.Run.{IsNamed, IsRun}
 use Rattle.event_feed.specs.declared.fault.FeedFault.TheVariants as fault
 use Rattle.event_feed.specs.declared.fault.RefusedLine.{RefusedLine}
-use Rattle.event_feed.specs.Feed.{Answer, AreGiven, Feed, answers}
+use Rattle.event_feed.specs.Feed.{Answer, AreGiven, Feed, answers_within}
 use Rattle.lemmas.proofs.Lists.{AllPairs-nil, some_at}
 use Rattle.log_merge.specs.Order.{place}
 use Rattle.steps.specs.Lanes.{about}
@@ -33,33 +33,33 @@ use Rattle.engine.specs.Run.{AreThreadsEnd, IsReadOf, IsRunOf}
 
 -- ---- of a feed of which nothing was read before
 
-module _ (can_fail : Bool) (c : Config) (known : Option (List ℕ)) (start : Feed) (s : IsFirst known start) (memory : Bool) (events : List Event) (refused : List RefusedLine) (cut : Bool) (r : IsLeft can_fail c start memory events refused cut) where
+module _ (far : ℕ → Bool) (can_fail : Bool) (c : Config) (known : Option (List ℕ)) (start : Feed) (s : IsFirst known start) (memory : Bool) (events : List Event) (refused : List RefusedLine) (cut : Bool) (r : IsLeft far can_fail c start memory events refused cut) where
   abbrev first_answers : (line last : ℕ) → Bool → List ℕ → List Answer
-  first_answers line last stopped bytes = cond stopped [] (answers c.objects line last (pieces bytes))
+  first_answers line last stopped bytes = cond stopped [] (answers_within far c.objects line last (pieces bytes))
 
   -- a fact of the bytes and the answers, seen from the start
-  from_start : (P : List ℕ → List Answer → ℕ → Type 0) → IfSome start.bytes (λ bytes. P bytes (first_answers start.line start.last (is_some start.stop) bytes) start.line) → IfSome known (λ bytes. P bytes (answers c.objects 0 0 (pieces bytes)) 0)
+  from_start : (P : List ℕ → List Answer → ℕ → Type 0) → IfSome start.bytes (λ bytes. P bytes (first_answers start.line start.last (is_some start.stop) bytes) start.line) → IfSome known (λ bytes. P bytes (answers_within far c.objects 0 0 (pieces bytes)) 0)
   from_start P h =
-      subst (λ (b : Option (List ℕ)). IfSome b (λ bytes. P bytes (answers c.objects 0 0 (pieces bytes)) 0)) s.bytes
-      (subst (λ (n : ℕ). IfSome start.bytes (λ bytes. P bytes (answers c.objects n 0 (pieces bytes)) n)) s.line
-      (subst (λ (n : ℕ). IfSome start.bytes (λ bytes. P bytes (answers c.objects start.line n (pieces bytes)) start.line)) s.last
+      subst (λ (b : Option (List ℕ)). IfSome b (λ bytes. P bytes (answers_within far c.objects 0 0 (pieces bytes)) 0)) s.bytes
+      (subst (λ (n : ℕ). IfSome start.bytes (λ bytes. P bytes (answers_within far c.objects n 0 (pieces bytes)) n)) s.line
+      (subst (λ (n : ℕ). IfSome start.bytes (λ bytes. P bytes (answers_within far c.objects start.line n (pieces bytes)) start.line)) s.last
       (subst (λ (b : Bool). IfSome start.bytes (λ bytes. P bytes (first_answers start.line start.last b bytes) start.line)) (ap is_some s.goes_on) h)))
 
   later : (b : Bool) (k : Option (List ℕ)) (P : List ℕ → Type 0) → (memory ≡ b → IfSome k P) → IfSome k (λ bytes. memory ≡ b → P bytes)
   later b None P h = tt
   later b (Some bytes) P h = h
 
-  pub what_was_read : IfSome known (λ bytes. memory ≡ false → IsWhatWasRead can_fail c.objects bytes events refused cut)
+  pub what_was_read : IfSome known (λ bytes. memory ≡ false → IsWhatWasRead far can_fail c.objects bytes events refused cut)
   what_was_read =
-      later false known (λ bytes. IsWhatWasRead can_fail c.objects bytes events refused cut)
+      later false known (λ bytes. IsWhatWasRead far can_fail c.objects bytes events refused cut)
       (λ none. let all = r.read none in IfSome_then known (from_start (λ bytes answers line. AreGiven can_fail all.0 answers line (pieces bytes)) all.1) (λ bytes of. (all.0, of, all.2)))
 
-  pub events_front : IfSome known (λ bytes. IsFrontOf events (events_of c.objects bytes))
+  pub events_front : IfSome known (λ bytes. IsFrontOf events (events_of far c.objects bytes))
   events_front = from_start (λ bytes all line. IsFrontOf events (events_in (taken_after 0 all))) r.front
 
-  pub front_read : IfSome known (λ bytes. memory ≡ true → IsFrontRead c.objects bytes events refused)
+  pub front_read : IfSome known (λ bytes. memory ≡ true → IsFrontRead far c.objects bytes events refused)
   front_read =
-      later true known (λ bytes. IsFrontRead c.objects bytes events refused)
+      later true known (λ bytes. IsFrontRead far c.objects bytes events refused)
       (λ out. let all = r.read_front out in IfSome_then known (from_start (λ bytes answers line. IsFrontOf all.0 (taken_after 0 answers)) all.1) (λ bytes first. (all.0, first, all.2, all.3)))
 
 -- ---- a lane
@@ -185,14 +185,14 @@ run_is c zone given events memory served log lanes threads long each = record {
   causes = lanes_have_causes c zone given (reverse events) memory served log lanes threads.run long each;
 }
 
-pub read_is : (can_fail : Bool) (c : Config) (known : Option (List ℕ)) (start : Feed) (memory : Bool) (events : List Event) (refused : List RefusedLine) (cut : Bool) → IsFirst known start
-    → IsLeft can_fail c start memory events refused cut → IsReadOf can_fail c known memory events refused cut
-read_is can_fail c known start memory events refused cut first left = record {
-  read = what_was_read can_fail c known start first memory events refused cut left;
+pub read_is : (far : ℕ → Bool) (can_fail : Bool) (c : Config) (known : Option (List ℕ)) (start : Feed) (memory : Bool) (events : List Event) (refused : List RefusedLine) (cut : Bool) → IsFirst known start
+    → IsLeft far can_fail c start memory events refused cut → IsReadOf far can_fail c known memory events refused cut
+read_is far can_fail c known start memory events refused cut first left = record {
+  read = what_was_read far can_fail c known start first memory events refused cut left;
   proper = left.proper;
   named = left.named;
-  front = events_front can_fail c known start first memory events refused cut left;
-  read_front = front_read can_fail c known start first memory events refused cut left;
+  front = events_front far can_fail c known start first memory events refused cut left;
+  read_front = front_read far can_fail c known start first memory events refused cut left;
   uncut = left.uncut;
 }
 
@@ -206,10 +206,10 @@ no_front : (known : Option (List ℕ)) (f : List ℕ → List Event) (events : L
 no_front None f events none = tt
 no_front (Some bytes) f events none = (f bytes, ap (λ (xs : List Event). xs ++ f bytes) (sym none))
 
-unread_read : (c : Config) (known : Option (List ℕ)) (memory : Bool) (events : List Event) (refused : List RefusedLine) → events ≡ [] → refused ≡ []
-    → IfSome known (λ bytes. memory ≡ true → IsFrontRead c.objects bytes events refused)
-unread_read c None memory events refused no_events no_refused = tt
-unread_read c (Some bytes) memory events refused no_events no_refused = λ out. ([], (taken_after 0 (answers c.objects 0 0 (pieces bytes)), refl), no_events, no_refused)
+unread_read : (far : ℕ → Bool) (c : Config) (known : Option (List ℕ)) (memory : Bool) (events : List Event) (refused : List RefusedLine) → events ≡ [] → refused ≡ []
+    → IfSome known (λ bytes. memory ≡ true → IsFrontRead far c.objects bytes events refused)
+unread_read far c None memory events refused no_events no_refused = tt
+unread_read far c (Some bytes) memory events refused no_events no_refused = λ out. ([], (taken_after 0 (answers_within far c.objects 0 0 (pieces bytes)), refl), no_events, no_refused)
 
 no_log : (c : Config) (zone : Zone) (past : List Event) (log : List Suppression) → log ≡ [] → BeginsLog c zone past log
 no_log c zone past log none = subst (BeginsLog c zone past) (sym none) (record {
@@ -222,14 +222,14 @@ no_lane : (lanes : List LaneParts) (l : ℕ) (lane : LaneParts) → lanes ≡ []
 no_lane [] l lane none found = cc
 no_lane (x ∷ lanes) l lane none found = cc
 
-pub unread_is : (can_fail : Bool) (c : Config) (known : Option (List ℕ)) (memory : Bool) (events : List Event) (refused : List RefusedLine) (cut : Bool) → events ≡ [] → refused ≡ []
-    → memory ≡ true → cut ≡ false → IsReadOf can_fail c known memory events refused cut
-unread_is can_fail c known memory events refused cut no_events no_refused out uncut = record {
-  read = unread known memory (λ bytes. IsWhatWasRead can_fail c.objects bytes events refused cut) out;
+pub unread_is : (far : ℕ → Bool) (can_fail : Bool) (c : Config) (known : Option (List ℕ)) (memory : Bool) (events : List Event) (refused : List RefusedLine) (cut : Bool) → events ≡ [] → refused ≡ []
+    → memory ≡ true → cut ≡ false → IsReadOf far can_fail c known memory events refused cut
+unread_is far can_fail c known memory events refused cut no_events no_refused out uncut = record {
+  read = unread known memory (λ bytes. IsWhatWasRead far can_fail c.objects bytes events refused cut) out;
   proper = All-same (IsProper c) events [] no_events (All-nil (IsProper c));
   named = All-same (λ (r : RefusedLine). r.fault ≢ fault.NoMemory) refused [] no_refused (All-nil (λ (r : RefusedLine). r.fault ≢ fault.NoMemory));
-  front = no_front known (events_of c.objects) events no_events;
-  read_front = unread_read c known memory events refused no_events no_refused;
+  front = no_front known (events_of far c.objects) events no_events;
+  read_front = unread_read far c known memory events refused no_events no_refused;
   uncut = λ _. uncut;
 }
 

@@ -1,5 +1,5 @@
 -- What a run takes of a feed.
-use Rattle.std.specs.Prelude.{◌≡◌, ◌≢◌, ℕ, ◌+◌, ◌≤◌, Bool, false, true, ◌==◌, All, List, [], ◌∷◌, ◌++◌, length, flat_map, Option, None, Some, IfSome, Result, Ok, Err, if◌then◌else◌}
+use Rattle.std.specs.Prelude.{◌≡◌, ◌≢◌, ℕ, ◌+◌, ◌≤◌, Bool, false, true, ◌==◌, ◌&&◌, All, List, [], ◌∷◌, ◌++◌, length, flat_map, Option, None, Some, IfSome, Result, Ok, Err, if◌then◌else◌}
 use Rattle.std.specs.List.{list_any}
 use Rattle.due_model.specs.declared.config.Config.{Config}
 use Rattle.due_model.specs.declared.config.Object.{Object}
@@ -9,7 +9,8 @@ use Rattle.due_model.specs.Proper.{IsProper}
 use Rattle.event_feed.specs.declared.fault.FeedFault.{FeedFault}
 use Rattle.event_feed.specs.declared.fault.FeedFault.TheVariants.{Ended, NoMemory}
 use Rattle.event_feed.specs.declared.fault.RefusedLine.{RefusedLine}
-use Rattle.event_feed.specs.Feed.{Answer, AreGiven, AreGivenBy, Feed, GivesEvent, PassesLines, answers, answers_from, ends_feed, refusal}
+use Rattle.event_feed.specs.Fault.{is_ahead}
+use Rattle.event_feed.specs.Feed.{Answer, AreGiven, AreGivenByWithin, Feed, GivesEventWithin, PassesLines, answers_from_within, answers_within, ends_feed, refusal}
 use Rattle.text_lines.specs.Lines.{Known, pieces}
 use Rattle.engine.specs.declared.intake.Next.{Next}
 use Rattle.engine.specs.declared.intake.Next.TheVariants.{Accepts, Refused, Over}
@@ -54,6 +55,21 @@ refusals_in given = flat_map (λ answer. refused_in answer.line answer.given) gi
 abbrev pub is_cut : List Answer → Bool
 is_cut given = list_any (λ answer. ends_feed answer.given) given
 
+-- ---- of the lines that are too far ahead
+
+-- whether a line is refused as Ahead among these
+abbrev pub ahead_in : List RefusedLine → (line : ℕ) → Bool
+ahead_in refused line = list_any (λ r. (r.line == line) && is_ahead r.fault) refused
+
+-- whether an answer is that
+abbrev pub is_held_back : Result Event FeedFault → Bool
+is_held_back (Ok e) = false
+is_held_back (Err fault) = is_ahead fault
+
+-- of the lines of these answers just those are too far ahead that are refused so
+abbrev pub AreHeldBack : (far : ℕ → Bool) → List Answer → Type 0
+AreHeldBack far given = All (λ answer. far answer.line ≡ is_held_back answer.given) given
+
 -- ---- of a feed
 
 -- these events and refused lines were taken of these answers, and the feed was cut or not
@@ -63,29 +79,33 @@ pub record AreTaken (given : List Answer) (events : List Event) (refused : List 
   pub refused_are : refused ≡ refusals_in (taken_after 0 given)
   pub cut_is : cut ≡ is_cut (taken_after 0 given)
 
--- The events and the refused lines are those of the bytes, up to the end of them; or up to the line of the last that is
--- refused, where the feed was cut: it ended within a line, an event can't be numbered, or the reading broke off.
-abbrev pub IsWhatWasRead : (can_fail : Bool) → List Object → (bytes : List ℕ) → List Event
-    → List RefusedLine → (cut : Bool) → Type 0
-IsWhatWasRead can_fail objects bytes events refused cut =
+-- The events and the refused lines are those of the bytes, of whose lines these are too far ahead, up to the end of them; or up
+-- to the line of the last that is refused, where the feed was cut: it ended within a line, an event can't be numbered, or the
+-- reading broke off.
+abbrev pub IsWhatWasRead : (far : ℕ → Bool) → (can_fail : Bool) → List Object → (bytes : List ℕ)
+    → List Event → List RefusedLine → (cut : Bool) → Type 0
+IsWhatWasRead far can_fail objects bytes events refused cut =
     (given : List Answer)
-    × AreGiven can_fail given (answers objects 0 0 (pieces bytes)) 0 (pieces bytes)
+    × AreGiven can_fail given (answers_within far objects 0 0 (pieces bytes)) 0 (pieces bytes)
     × AreTaken given events refused cut
 
 -- all the events that the bytes give
-abbrev pub events_of : List Object → (bytes : List ℕ) → List Event
-events_of objects bytes = events_in (taken_after 0 (answers objects 0 0 (pieces bytes)))
+abbrev pub events_of : (far : ℕ → Bool) → List Object → (bytes : List ℕ) → List Event
+events_of far objects bytes =
+    events_in (taken_after 0 (answers_within far objects 0 0 (pieces bytes)))
 
 -- these answers are a front of all that is taken of the bytes
-abbrev pub IsFrontTaken : List Object → (bytes : List ℕ) → (said : List Answer) → Type 0
-IsFrontTaken objects bytes said =
-    IsFrontOf said (taken_after 0 (answers objects 0 0 (pieces bytes)))
+abbrev pub IsFrontTaken : (far : ℕ → Bool) → List Object → (bytes : List ℕ)
+    → (said : List Answer) → Type 0
+IsFrontTaken far objects bytes said =
+    IsFrontOf said (taken_after 0 (answers_within far objects 0 0 (pieces bytes)))
 
 -- The events and the refused lines are those of a front of what the bytes give, as far as memory sufficed.
-abbrev pub IsFrontRead : List Object → (bytes : List ℕ) → List Event → List RefusedLine → Type 0
-IsFrontRead objects bytes events refused =
+abbrev pub IsFrontRead : (far : ℕ → Bool) → List Object → (bytes : List ℕ) → List Event
+    → List RefusedLine → Type 0
+IsFrontRead far objects bytes events refused =
     (said : List Answer)
-    × IsFrontTaken objects bytes said
+    × IsFrontTaken far objects bytes said
     × (events ≡ events_in said) × (refused ≡ refusals_in said)
 
 -- ---- while it is read
@@ -96,21 +116,25 @@ pub record Intake : Type 0 where
   pub events : List Event
   pub refused : List RefusedLine
 
--- the same; whether it is over, and then whether it was cut; and for how many more events and lines there is room
+-- the same; whether no line is too far ahead for it; whether it is over, and then whether it was cut; and for how many more events
+-- and lines there is room
 pub record Kept : Type 0 where
   pub read : Intake
+  pub is_open : Bool
   pub over : Option Bool
   pub events_room : ℕ
   pub refused_room : ℕ
 
--- These came first of a feed's answers, none of them ends the feed, and it goes on after them; what was taken of them, and of
--- any that come after them, is these events and refused lines first.
+-- These came first of a feed's answers, whatever lines after them are too far ahead, none of them ends the feed, and it goes on
+-- after them; what was taken of them, and of any that come after them, is these events and refused lines first.
 pub record CameFirst (c : Config) (start : Feed) (given : List Answer) (now : Feed)
     (events : List Event) (refused : List RefusedLine) : Type 0 where
-  pub answers : Known start.bytes now.bytes
-      (λ bytes rest. answers_from c.objects start bytes ≡ given ++ answers_from c.objects now rest)
+  pub answers : (far : ℕ → Bool) → AreHeldBack far given → Known start.bytes now.bytes
+      (λ bytes rest. answers_from_within far c.objects start bytes
+      ≡ given ++ answers_from_within far c.objects now rest)
   pub line : start.line ≤ now.line
   pub earlier : All (λ answer. answer.line ≤ now.line) given
+  pub held_back : AreHeldBack (ahead_in (refusals_in given)) given
   pub read_on : All (λ answer. ends_feed answer.given ≡ false) given
   pub lines : PassesLines start now
   pub events_are : events ≡ events_in given
@@ -136,29 +160,30 @@ pub record Offers (c : Config) (start : Feed) (said : List Answer) (event : Even
     (now : Intake) : Type 0 where
   pub before : Feed
   pub read : HasRead c start said (record now { feed = before })
-  pub gives : GivesEvent c before event now.feed
+  pub gives : (far : ℕ → Bool) → far now.feed.line ≡ false
+      → GivesEventWithin far c before event now.feed
 
 -- the reading is over: these answers are all that was taken
 pub record HasEnded (can_fail : Bool) (c : Config) (start : Feed) (said : List Answer) (cut : Bool)
     (now : Intake) : Type 0 where
-  pub given : List Answer
-  pub of_feed : AreGivenBy can_fail c.objects start given
-  pub said_is : said ≡ taken_after 0 given
-  pub taken : AreTaken given now.events now.refused cut
+  pub given : (far : ℕ → Bool) → AreHeldBack far said → (given : List Answer)
+      × AreGivenByWithin far can_fail c.objects start given × (said ≡ taken_after 0 given)
+  pub held_back : AreHeldBack (ahead_in (refusals_in said)) said
+  pub events_are : now.events ≡ events_in said
+  pub refused_are : now.refused ≡ refusals_in said
+  pub cut_is : cut ≡ is_cut said
   pub proper : All (IsProper c) now.events
   pub named : All (λ r. r.fault ≢ NoMemory) now.refused
 
 -- the events are a front of those that the feed gives
-abbrev pub IsFrontOfFeed : Config → Feed → List Event → Type 0
-IsFrontOfFeed c start events =
-    IfSome start.bytes
-    (λ bytes. IsFrontOf events (events_in (taken_after 0 (answers_from c.objects start bytes))))
+abbrev pub IsFrontOfFeed : (far : ℕ → Bool) → Config → Feed → List Event → Type 0
+IsFrontOfFeed far c start events = IfSome start.bytes (λ bytes.
+    IsFrontOf events (events_in (taken_after 0 (answers_from_within far c.objects start bytes))))
 
 -- and the answers are a front of what is taken of it
-abbrev pub AreFrontOfFeed : Config → Feed → (said : List Answer) → Type 0
-AreFrontOfFeed c start said =
-    IfSome start.bytes
-    (λ bytes. IsFrontOf said (taken_after 0 (answers_from c.objects start bytes)))
+abbrev pub AreFrontOfFeed : (far : ℕ → Bool) → Config → Feed → (said : List Answer) → Type 0
+AreFrontOfFeed far c start said = IfSome start.bytes
+    (λ bytes. IsFrontOf said (taken_after 0 (answers_from_within far c.objects start bytes)))
 
 -- The reading is over, and the feed was cut or not. The answers but the last, where it was cut, are a front of what is taken of it.
 pub record IsOver (can_fail : Bool) (c : Config) (start : Feed) (said : List Answer) (cut : Bool)
@@ -166,7 +191,9 @@ pub record IsOver (can_fail : Bool) (c : Config) (start : Feed) (said : List Ans
   pub ended : HasEnded can_fail c start said cut now
   pub before : List Answer
   pub last : List RefusedLine
-  pub front : AreFrontOfFeed c start before
+  pub begins : (far : ℕ → Bool) → AreHeldBack far said → AreHeldBack far before
+  pub held_back : AreHeldBack (ahead_in (refusals_in before)) before
+  pub front : (far : ℕ → Bool) → AreHeldBack far before → AreFrontOfFeed far c start before
   pub events_are : now.events ≡ events_in before
   pub refused_are : now.refused ≡ refusals_in before ++ last
   pub one : length last ≡ (if cut then 1 else 0)
@@ -177,11 +204,21 @@ abbrev pub HasTaken : (can_fail : Bool) → Config → (start : Feed) → (said 
 HasTaken can_fail c start said None now = HasRead c start said now
 HasTaken can_fail c start said (Some cut) now = IsOver can_fail c start said cut now
 
+-- no line was refused as Ahead
+abbrev pub NoneIsAhead : List RefusedLine → Type 0
+NoneIsAhead refused = All (λ r. is_ahead r.fault ≡ false) refused
+
+-- none was where none is too far ahead
+abbrev pub StaysOpen : (old new : Kept) → Type 0
+StaysOpen old new = (old.is_open ≡ true → NoneIsAhead old.read.refused → NoneIsAhead new.read.refused)
+    × (new.is_open ≡ old.is_open)
+
 -- of a feed of which answers were taken, others are taken then
 abbrev pub Goes : (can_fail : Bool) → Config → (old new : Kept) → Type 0
-Goes can_fail c old new = (start : Feed) (said : List Answer)
+Goes can_fail c old new = ((start : Feed) (said : List Answer)
     → HasTaken can_fail c start said old.over old.read
-    → (all : List Answer) × HasTaken can_fail c start all new.over new.read
+    → (all : List Answer) × HasTaken can_fail c start all new.over new.read)
+    × StaysOpen old new
 
 -- what the next line of the feed makes of a run that has taken these answers
 abbrev pub Follows : (can_fail : Bool) → Config → (start : Feed) → (said : List Answer) → Next
@@ -231,15 +268,16 @@ pub record IsStart (known : Option (List ℕ)) (now : Kept) : Type 0 where
   pub no_refused : now.read.refused ≡ []
   pub not_over : now.over ≡ None
 
--- What a run leaves of a feed: all that was taken of it, or, where memory ran out, a front of that; then it isn't said to be cut.
-pub record IsLeft (can_fail : Bool) (c : Config) (start : Feed) (memory : Bool)
+-- What a run leaves of a feed of whose lines these are too far ahead: all that was taken of it, or, where memory ran out, a front
+-- of that; then it isn't said to be cut.
+pub record IsLeft (far : ℕ → Bool) (can_fail : Bool) (c : Config) (start : Feed) (memory : Bool)
     (events : List Event) (refused : List RefusedLine) (cut : Bool) : Type 0 where
   pub read : memory ≡ false → (given : List Answer)
-      × AreGivenBy can_fail c.objects start given
+      × AreGivenByWithin far can_fail c.objects start given
       × AreTaken given events refused cut
-  pub front : IsFrontOfFeed c start events
+  pub front : IsFrontOfFeed far c start events
   pub read_front : memory ≡ true → (said : List Answer)
-      × AreFrontOfFeed c start said
+      × AreFrontOfFeed far c start said
       × (events ≡ events_in said) × (refused ≡ refusals_in said)
   pub uncut : memory ≡ true → cut ≡ false
   pub proper : All (IsProper c) events

@@ -1,6 +1,7 @@
 pub mod Lists
 pub mod Lanes
 pub mod Feed
+pub mod FeedLaws
 pub mod Due
 pub mod Alike
 pub mod Feeds

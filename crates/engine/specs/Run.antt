@@ -30,18 +30,18 @@ pub record IsRunOf (c : Config) (zone : Zone) (given : ℕ → ℕ) (events : Li
   -- a lane is closed for a cause
   pub causes : HaveCauses given memory lanes
 
--- All that it promises of what was read of a feed whose bytes are known or not.
-pub record IsReadOf (can_fail : Bool) (c : Config) (known : Option (List ℕ)) (memory : Bool)
+-- All that it promises of what was read of a feed, of whose lines these are too far ahead, and whose bytes are known or not.
+pub record IsReadOf (far : ℕ → Bool) (can_fail : Bool) (c : Config) (known : Option (List ℕ)) (memory : Bool)
     (events : List Event) (refused : List RefusedLine) (cut : Bool) : Type 0 where
   -- the events and the refused lines of the bytes
   pub read : IfSome known (λ bytes. memory ≡ false
-      → IsWhatWasRead can_fail c.objects bytes events refused cut)
+      → IsWhatWasRead far can_fail c.objects bytes events refused cut)
   pub proper : All (IsProper c) events
   pub named : All (λ r. r.fault ≢ fault.NoMemory) refused
   -- where memory ran out, a front of that
-  pub front : IfSome known (λ bytes. IsFrontOf events (events_of c.objects bytes))
+  pub front : IfSome known (λ bytes. IsFrontOf events (events_of far c.objects bytes))
   pub read_front : IfSome known (λ bytes. memory ≡ true
-      → IsFrontRead c.objects bytes events refused)
+      → IsFrontRead far c.objects bytes events refused)
   -- and the feed isn't said to be cut
   pub uncut : memory ≡ true → cut ≡ false
 

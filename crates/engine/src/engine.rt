@@ -1,14 +1,17 @@
 //! The engine.
 
-ghost use Rattle.std.specs.Prelude.{◌≡◌, ◌≢◌, ◌≤◌, ℕ, All, true, false, [], length, reverse, slice_get, IfSome, Some};
+ghost use Rattle.std.specs.Prelude.{◌≡◌, ◌≢◌, ◌≤◌, ℕ, All, Bool, true, false, [], length, reverse, slice_get, IfSome, Some};
 ghost use Rattle.due_model.specs.Accepted.{IsAccepted};
 ghost use Rattle.due_model.specs.Proper.{IsProper};
 ghost use Rattle.engine.specs.Due.{BeginsLog, HaveCauses, IsLog, LanesAreDue, LanesBeginDue};
 ghost use Rattle.engine.specs.Due.{LanesKeepDue};
-ghost use Rattle.engine.specs.Feed.{IsFrontRead, IsWhatWasRead, events_of};
+ghost use Rattle.engine.specs.Feed.{IsFrontRead, IsWhatWasRead, NoneIsAhead, ahead_in};
+ghost use Rattle.engine.specs.Feed.{events_of};
 ghost use Rattle.engine.specs.Lanes.{HaveTaken, channels_on, count_of};
 ghost use Rattle.engine.specs.Lists.{IsFrontOf};
+ghost use Rattle.engine.specs.Run.{IsReadOf, IsRunOf};
 ghost use Rattle.engine.specs.Unread.{IsUnread};
+ghost use Rattle.event_feed.specs.Feed.{no_line};
 
 use crate::intake::Intake;
 use crate::post::Post;
@@ -19,7 +22,7 @@ use closers::Closers;
 use delivery_worker::Gate;
 use due_model::config::Config;
 use due_model::zone::Zone;
-use event_feed::FeedFault;
+use event_feed::{FeedFault, Horizon, OpenHorizon};
 use std::alloc::Global;
 use std::sync::Wait;
 use std::thread::Threads;
@@ -63,15 +66,17 @@ impl Engine {
             → IsLog config.now zone.now (reverse result.0.events.items) result.0.log.items }
         // All that was read: the events and the refused lines are those of the bytes.
         ensures read { IfSome (R.remaining reader) (λ bytes. result.0.memory ≡ false
-            → IsWhatWasRead R.can_fail config.now.objects bytes
+            → IsWhatWasRead no_line R.can_fail config.now.objects bytes
             result.0.events.items result.0.refused.items result.0.cut) }
         ensures proper { All (IsProper config.now) result.0.events.items }
         ensures named { All (λ r. r.fault ≢ FeedFault.NoMemory) result.0.refused.items }
+        ensures near { NoneIsAhead result.0.refused.items }
         // Want of memory: what is there is a front of it,
         ensures front { IfSome (R.remaining reader) (λ bytes.
-            IsFrontOf result.0.events.items (events_of config.now.objects bytes)) }
+            IsFrontOf result.0.events.items (events_of no_line config.now.objects bytes)) }
         ensures read_front { IfSome (R.remaining reader) (λ bytes. result.0.memory ≡ true
-            → IsFrontRead config.now.objects bytes result.0.events.items result.0.refused.items) }
+            → IsFrontRead no_line config.now.objects bytes
+            result.0.events.items result.0.refused.items) }
         ensures due_front { LanesBeginDue config.now zone.now (reverse result.0.events.items)
             result.0.lanes.items }
         ensures log_front { BeginsLog config.now zone.now (reverse result.0.events.items)
@@ -102,37 +107,133 @@ impl Engine {
             (channels_on (λ post. post.lane.0) (λ post. post.channel) l posts.items) cs.items }
         ensures places { length result.1.items ≡ length result.0.lanes.items }
     {
-        let Ok(lines) = LineReader::new(alloc, reader) else {
-            return (RunEnd::unread(alloc), Vec::new(alloc));
-        };
-        let Ran {
-            lanes,
-            channels,
-            log,
-            memory,
-            started,
-            source,
-        } = run_source(
+        run_feed(
             rt,
             alloc,
             config,
             zone,
-            Intake::new(alloc, lines),
+            reader,
+            &OpenHorizon,
             posts,
             settings,
             closers,
             gate,
-        );
-        let (events, refused, cut) = source.into_parts(memory);
-        let end = RunEnd {
-            events,
-            refused,
-            log,
-            lanes,
-            memory,
-            cut,
-            started,
-        };
-        (end, channels)
+        )
     }
+
+    /// The same, where a line whose stamp is past what the gate says as a horizon is refused as `Ahead`. It is asked in the calling
+    /// thread, once for each line that would give an event, after the line was read.
+    pub fn run_within<
+        C: Channel,
+        R: Input + Drop,
+        G: Gate + Horizon + Sync,
+        T: Threads + Wait + Clock + Sync,
+    >(
+        rt: &T,
+        alloc: Global,
+        config: &Config,
+        zone: &Zone,
+        reader: R,
+        posts: Vec<Post<C>>,
+        settings: Settings,
+        closers: &Closers,
+        gate: &G,
+    ) -> (RunEnd, Vec<Vec<C>>)
+        requires accepted { IsAccepted config.now }
+        requires few { (l : ℕ) → count_of (λ post. post.lane.0) posts.items l ≤ 8 }
+        // Of the events that were taken, the same is promised of the lanes and the log;
+        ensures run { IsRunOf config.now zone.now (count_of (λ post. post.lane.0) posts.items)
+            result.0.events.items result.0.memory result.0.lanes.items result.0.log.items }
+        // and they and the refused lines are those of the bytes, of whose lines just those are too far ahead that are refused so.
+        ensures read { IsReadOf (ahead_in result.0.refused.items) R.can_fail config.now
+            (R.remaining reader) result.0.memory
+            result.0.events.items result.0.refused.items result.0.cut }
+        ensures near { G.is_open gate.now ≡ true → NoneIsAhead result.0.refused.items }
+        ensures all { result.0.started ≡ true
+            → length result.0.lanes.items ≡ length config.now.lanes }
+        ensures unstarted { result.0.started ≡ false
+            → IsUnread result.0.events.items result.0.refused.items result.0.log.items
+            result.0.lanes.items result.0.memory }
+        ensures channels { (l : ℕ) (lane cs : _) → slice_get result.0.lanes.items l ≡ Some lane
+            → slice_get result.1.items l ≡ Some cs
+            → HaveTaken C.account C.offered settings.tries config.now lane
+            (channels_on (λ post. post.lane.0) (λ post. post.channel) l posts.items) cs.items }
+        ensures places { length result.1.items ≡ length result.0.lanes.items }
+    {
+        run_feed(
+            rt, alloc, config, zone, reader, gate, posts, settings, closers, gate,
+        )
+    }
+}
+
+/// A run of a feed, where a line whose stamp is past what a horizon says is refused.
+fn run_feed<
+    C: Channel,
+    R: Input + Drop,
+    H: Horizon,
+    G: Gate + Sync,
+    T: Threads + Wait + Clock + Sync,
+>(
+    rt: &T,
+    alloc: Global,
+    config: &Config,
+    zone: &Zone,
+    reader: R,
+    horizon: &H,
+    posts: Vec<Post<C>>,
+    settings: Settings,
+    closers: &Closers,
+    gate: &G,
+) -> (RunEnd, Vec<Vec<C>>)
+    requires accepted { IsAccepted config.now }
+    requires few { (l : ℕ) → count_of (λ post. post.lane.0) posts.items l ≤ 8 }
+    ensures run { IsRunOf config.now zone.now (count_of (λ post. post.lane.0) posts.items)
+        result.0.events.items result.0.memory result.0.lanes.items result.0.log.items }
+    ensures read { (far : ℕ → Bool) → ((line : ℕ) → far line ≡ ahead_in result.0.refused.items line)
+        → IsReadOf far R.can_fail config.now (R.remaining reader) result.0.memory
+        result.0.events.items result.0.refused.items result.0.cut }
+    ensures near { H.is_open horizon.now ≡ true → NoneIsAhead result.0.refused.items }
+    ensures all { result.0.started ≡ true
+        → length result.0.lanes.items ≡ length config.now.lanes }
+    ensures unstarted { result.0.started ≡ false
+        → IsUnread result.0.events.items result.0.refused.items result.0.log.items
+        result.0.lanes.items result.0.memory }
+    ensures channels { (l : ℕ) (lane cs : _) → slice_get result.0.lanes.items l ≡ Some lane
+        → slice_get result.1.items l ≡ Some cs
+        → HaveTaken C.account C.offered settings.tries config.now lane
+        (channels_on (λ post. post.lane.0) (λ post. post.channel) l posts.items) cs.items }
+    ensures places { length result.1.items ≡ length result.0.lanes.items }
+{
+    let Ok(lines) = LineReader::new(alloc, reader) else {
+        return (RunEnd::unread(alloc), Vec::new(alloc));
+    };
+    let Ran {
+        lanes,
+        channels,
+        log,
+        memory,
+        started,
+        source,
+    } = run_source(
+        rt,
+        alloc,
+        config,
+        zone,
+        Intake::new(alloc, lines, horizon),
+        posts,
+        settings,
+        closers,
+        gate,
+    );
+    let (events, refused, cut) = source.into_parts(memory);
+    let end = RunEnd {
+        events,
+        refused,
+        log,
+        lanes,
+        memory,
+        cut,
+        started,
+    };
+    (end, channels)
 }

@@ -1,20 +1,20 @@
 //! The reading of a feed: the events that are accepted, and the lines that are refused.
 
-ghost use Rattle.std.specs.Prelude.{◌≡◌, ◌+◌, ◌<◌, ◌≤◌, ◌++◌, [], ◌∷◌, List, true, false, None};
-ghost use Rattle.std.specs.Prelude.{IfOk, IsNone, IsSome, OnErr, OnOk, Some};
+ghost use Rattle.std.specs.Prelude.{◌≡◌, ◌+◌, ◌<◌, ◌≤◌, ◌++◌, [], ◌∷◌, ℕ, Bool, List, true, false};
+ghost use Rattle.std.specs.Prelude.{IfOk, IsNone, IsSome, None, OnErr, OnOk, Some};
 ghost use Rattle.std.specs.Option.{option_to_list};
 ghost use Rattle.due_model.specs.declared.config.Config.{Config};
 ghost use Rattle.due_model.specs.declared.event.Event.{Event};
 ghost use Rattle.event_feed.specs.Feed.{Answer, Feed, feed_limit, feed_of};
-ghost use Rattle.engine.specs.Feed.{Follows, Goes, HasRead, HasTaken, IsLeft, Offers, accepts};
-ghost use Rattle.engine.specs.Feed.{goes_on};
+ghost use Rattle.engine.specs.Feed.{Follows, Goes, HasRead, HasTaken, IsLeft, NoneIsAhead, Offers};
+ghost use Rattle.engine.specs.Feed.{StaysOpen, accepts, ahead_in, goes_on};
 
 use delivery_worker::Gate;
 use due_model::config::Config;
 use due_model::event::Event;
 use due_model::limits::MAX_EVENTS;
 use engine_threads::{Given, Source};
-use event_feed::{FeedFault, Feeder, RefusedLine};
+use event_feed::{FeedFault, Feeder, Horizon, RefusedLine};
 use std::alloc::{AllocError, Global};
 use std::io::Read;
 use std::marker::Model;
@@ -31,10 +31,13 @@ pub(crate) enum Next {
     Over(bool),
 }
 
-/// What was read of a feed. Contracts see the feed, the events, the refused lines, whether it is over, and the room for more.
+/// What was read of a feed. Contracts see the feed, the events, the refused lines, whether no line is too far ahead for it, whether it
+/// is over, and the room for more.
 #[derive(Drop)]
-pub(crate) struct Intake<R: Read> {
+pub(crate) struct Intake<'h, R: Read, H: Horizon> {
     feeder: Feeder<R>,
+    /// What says how late the stamp of a line may be.
+    horizon: &'h H,
     /// The events that were accepted.
     events: Vec<Event>,
     /// The lines that were refused.
@@ -43,7 +46,7 @@ pub(crate) struct Intake<R: Read> {
     over: Option<bool>,
 }
 
-impl<R: Read> Model for Intake<R> {
+impl<'h, R: Read, H: Horizon> Model for Intake<'h, R, H> {
     ghost use Rattle.std.specs.Prelude.{◌-◌, vec_len, vec_capacity};
     ghost use Rattle.engine.specs.Feed.{Kept};
 
@@ -55,21 +58,24 @@ impl<R: Read> Model for Intake<R> {
         events = s.events.items;
         refused = s.refused.items;
       };
+      is_open = H.is_open s.horizon.now;
       over = s.over;
       events_room = vec_capacity s.events - vec_len s.events;
       refused_room = vec_capacity s.refused - vec_len s.refused;
     } };
 }
 
-impl<R: Input + Drop> Intake<R> {
+impl<'h, R: Input + Drop, H: Horizon> Intake<'h, R, H> {
     /// Nothing was read of the feed whose first line is the next of this reader. It takes no memory.
-    pub(crate) fn new(alloc: Global, lines: LineReader<R>) -> Self
+    pub(crate) fn new(alloc: Global, lines: LineReader<R>, horizon: &'h H) -> Self
         ensures read { result.read
             ≡ record { feed = feed_of lines 0 0 None; events = []; refused = [] } }
+        ensures is_open { result.is_open ≡ H.is_open horizon.now }
         ensures over { result.over ≡ None }
     {
         Intake {
             feeder: Feeder::new(lines),
+            horizon,
             events: Vec::new(alloc),
             refused: Vec::new(alloc),
             over: None,
@@ -91,10 +97,11 @@ impl<R: Input + Drop> Intake<R> {
         ensures events { self.new.read.events ≡ self.old.read.events }
         ensures over { self.new.over ≡ self.old.over }
         ensures err { OnErr result (self.new.read ≡ self.old.read) }
+        ensures near { StaysOpen self.old self.new }
     {
         self.events.reserve(1)?;
         self.refused.reserve(1)?;
-        match self.feeder.next(config) {
+        match self.feeder.next_within(config, self.horizon) {
             Ok(None) => Ok(Next::Over(false)),
             Ok(Some(event)) => Ok(Next::Accepts(event)),
             Err(refusal) => {
@@ -120,6 +127,7 @@ impl<R: Input + Drop> Intake<R> {
         ensures goes_on { goes_on result ≡ true → self.new.over ≡ None }
         ensures over { goes_on result ≡ false → IsSome self.new.over }
         ensures feed { self.new.read.feed ≡ self.old.read.feed }
+        ensures near { StaysOpen self.old self.new }
     {
         if self.events.len() as u64 == MAX_EVENTS {
             let refusal = RefusedLine {
@@ -189,13 +197,17 @@ impl<R: Input + Drop> Intake<R> {
     pub(crate) fn into_parts(self, memory: bool) -> (Vec<Event>, Vec<RefusedLine>, bool)
         ensures events { result.0.items ≡ self.read.events }
         ensures refused { IsNone self.over → result.1.items ≡ self.read.refused }
+        // Just those lines are too far ahead that are refused so.
         ensures left { (can_fail : _) (c : Config) (start : Feed) (said : List Answer)
-            → HasTaken can_fail c start said self.over self.read
+            (far : ℕ → Bool) → HasTaken can_fail c start said self.over self.read
             → (memory ≡ false → IsSome self.over)
-            → IsLeft can_fail c start memory result.0.items result.1.items result.2 }
+            → ((line : ℕ) → far line ≡ ahead_in result.1.items line)
+            → IsLeft far can_fail c start memory result.0.items result.1.items result.2 }
+        ensures near { NoneIsAhead self.read.refused → NoneIsAhead result.1.items }
     {
         let Intake {
             feeder: _,
+            horizon: _,
             events,
             mut refused,
             over,
@@ -225,20 +237,20 @@ fn tell_last<G: Gate>(refused: &[RefusedLine], gate: &G) {
     }
 }
 
-impl<R: Input + Drop> Source for Intake<R> {
+impl<'h, R: Input + Drop, H: Horizon> Source for Intake<'h, R, H> {
     ghost use Rattle.std.specs.Prelude.{IsSome};
     ghost use Rattle.engine.specs.Feed.{Goes};
+    ghost use Rattle.engine.specs.FeedLaws.{goes_nowhere, goes_then};
 
     ghost given_so_far = { λ s. s.read.events };
 
     ghost goes = { λ c a b. Goes R.can_fail c a b };
 
-    ghost stays = { λ c s start said taken. (said, taken) };
+    ghost stays = { λ c s. goes_nowhere R.can_fail c s };
 
     ghost ended = { λ s. IsSome s.over };
 
-    ghost follows = { λ c a b d one two start said taken.
-        two start (one start said taken).0 (one start said taken).1 };
+    ghost follows = { λ c a b d one two. goes_then R.can_fail c a b d one two };
 
     fn next<G: Gate>(&mut self, config: &Config, gate: &G) -> Result<Given, AllocError> {
         match self.next_event(config, gate)? {

@@ -18,6 +18,7 @@ pub use caller_feeds::{EndFull, FeedEnd, FeedHandle, Full};
 pub use closers::Closers;
 pub use delivery_worker::Gate;
 pub use engine::Engine;
+pub use event_feed::{Horizon, OpenHorizon};
 pub use open_gate::OpenGate;
 pub use post::{Post, are_few};
 pub use run_end::{LaneEnd, RunEnd};

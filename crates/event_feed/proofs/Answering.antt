@@ -7,7 +7,7 @@ use Rattle.std.proofs.lemmas.List.{take-append-drop}
 use Rattle.std.proofs.lemmas.Bool.{lt-ltb, le-ltb, lt-leb, le-leb, or_right, or_left, ne_eqb, eq-eqb, cond_both, true≢false}
 use Rattle.std.proofs.lemmas.List.{length-append, length-replicate, nil_from_length, replicate-append-replicate}
 use Rattle.std.proofs.lemmas.List.Elements.{All-nil}
-use Rattle.event_feed.specs.Fault.{stop_fault}
+use Rattle.event_feed.specs.Fault.{is_ahead, is_line_fault, stop_fault}
 use Rattle.std.proofs.lemmas.List.Splits.{slice_split_at, slice_split_none}
 use Rattle.due_model.specs.Proper.{IsProper}
 use Rattle.due_model.specs.Limits.{last_moment}
@@ -15,7 +15,7 @@ use Rattle.due_model.specs.declared.config.Config.{Config}
 use Rattle.due_model.specs.declared.config.Object.{Object}
 use Rattle.due_model.specs.declared.event.Event.{Event}
 use Rattle.event_feed.specs.declared.fault.FeedFault.{FeedFault}
-use Rattle.event_feed.specs.declared.fault.FeedFault.TheVariants.{LineTooLong, Cut, Read}
+use Rattle.event_feed.specs.declared.fault.FeedFault.TheVariants.{Ahead, LineTooLong, Cut, Read}
 use Rattle.text_lines.specs.declared.line_reader.Stop.{Stop}
 use Rattle.text_lines.specs.declared.line_reader.Stop.TheVariants.{InputEnded, CutLine, ReaderFailed, TooManyCalls, TooManyBytes, TooManyLines}
 use Rattle.text_lines.specs.declared.line_reader.NextLine.{NextLine}
@@ -24,7 +24,7 @@ use Rattle.event_feed.specs.Line.{line_reading}
 use Rattle.text_lines.specs.Lines.{is_newline, IsUnbroken, BeginsWithLine, pieces, Known, has_newline, has_line}
 use Rattle.text_lines.specs.CountedReader.{calls_after}
 use Rattle.text_lines.specs.LineReader.{Reading, to_come, line_limit, byte_limit, call_limit, CallsFit, ReadsFrom, ReadsLine, ReadsHeld}
-use Rattle.event_feed.specs.Feed.{Answer, AreGiven, AreGivenBy, HasLong, ends_feed, least_at_read, refusal, answers, feed_limit, is_stopped, text_reading, moment_after, AreFromLine, ComesNext, ComesLong, ComesWithin, ComesTo, GivesEvent, GivesFault, feed_of, lines_asked, raised}
+use Rattle.event_feed.specs.Feed.{Answer, AreGiven, AreGivenByWithin, HasLong, ends_feed, least_at_read, refusal, answers_within, feed_limit, held_back, is_stopped, text_reading_within, moment_after, AreFromLine, ComesNext, ComesLong, ComesWithin, ComesTo, GivesEventWithin, GivesFaultWithin, feed_of, lines_asked, raised}
 use Rattle.event_feed.specs.Feeder.{LineAnswers, GoesToLine, CountsLine, begun_lines}
 use Rattle.lemmas.proofs.Lists.{HasFirst, slice_split-first}
 use Rattle.event_feed.proofs.ProperLines.{line_reading-fault}
@@ -54,81 +54,96 @@ pieces-unbroken (byte ∷ text) more unbroken =
 not_stopped : (from : ℕ) (text : List ℕ) → from < feed_limit → length text ≤ byte_limit → is_stopped from text ≡ false
 not_stopped from text few short = let early : leb feed_limit from ≡ false = lt-leb feed_limit from few in rw early (le-ltb byte_limit (length text) short)
 
-answers-stopped : (objects : List Object) (from last : ℕ) (text : List ℕ) (others : List (List ℕ)) → is_stopped from text ≡ true
-    → answers objects from last (text ∷ others) ≡ record { line = from + 1; given = Err Read } ∷ []
-answers-stopped objects from last text [] stopped = rw stopped refl
-answers-stopped objects from last text (next ∷ more) stopped = rw stopped refl
+answers-stopped : (far : ℕ → Bool) (objects : List Object) (from last : ℕ) (text : List ℕ) (others : List (List ℕ)) → is_stopped from text ≡ true
+    → answers_within far objects from last (text ∷ others) ≡ record { line = from + 1; given = Err Read } ∷ []
+answers-stopped far objects from last text [] stopped = rw stopped refl
+answers-stopped far objects from last text (next ∷ more) stopped = rw stopped refl
 
-answers-empty : (objects : List Object) (from last : ℕ) (text : List ℕ) (others : List (List ℕ)) → HasFirst others → is_stopped from text ≡ false → length text ≡ 0
-    → answers objects from last (text ∷ others) ≡ answers objects (from + 1) last others
-answers-empty objects from last text others first on none = let nothing : eqb (length text) 0 ≡ true = eq-eqb (length text) 0 none in rw first.are (rw (on, nothing) refl)
+answers-empty : (far : ℕ → Bool) (objects : List Object) (from last : ℕ) (text : List ℕ) (others : List (List ℕ)) → HasFirst others → is_stopped from text ≡ false → length text ≡ 0
+    → answers_within far objects from last (text ∷ others) ≡ answers_within far objects (from + 1) last others
+answers-empty far objects from last text others first on none = let nothing : eqb (length text) 0 ≡ true = eq-eqb (length text) 0 none in rw first.are (rw (on, nothing) refl)
 
-answers-text : (objects : List Object) (from last : ℕ) (text : List ℕ) (others : List (List ℕ)) → HasFirst others → is_stopped from text ≡ false → 0 < length text
-    → answers objects from last (text ∷ others)
-    ≡ record { line = from + 1; given = text_reading objects last text }
-    ∷ answers objects (from + 1) (moment_after last (text_reading objects last text)) others
-answers-text objects from last text others first on some =
+answers-text : (far : ℕ → Bool) (objects : List Object) (from last : ℕ) (text : List ℕ) (others : List (List ℕ)) → HasFirst others → is_stopped from text ≡ false → 0 < length text
+    → answers_within far objects from last (text ∷ others)
+    ≡ record { line = from + 1; given = text_reading_within (far (from + 1)) objects last text }
+    ∷ answers_within far objects (from + 1) (moment_after last (text_reading_within (far (from + 1)) objects last text)) others
+answers-text far objects from last text others first on some =
     let something : eqb (length text) 0 ≡ false = ne_eqb (length text) 0 (λ none. absurd (omega (arith, none))) in rw first.are (rw (on, something) refl)
 
 from_head : (line : ℕ) (answer : Answer) (others : List Answer) → line ≤ answer.line → AreFromLine line (answer ∷ others)
 from_head line answer others late = let no : ltb answer.line line ≡ false = le-ltb answer.line line late in rw no refl
 
 -- no answer is of a line that was read
-pub answers-from : (objects : List Object) (from last : ℕ) (texts : List (List ℕ)) (line : ℕ) → line ≤ from + 1 → AreFromLine line (answers objects from last texts)
-answers-from objects from last [] line early = refl
-answers-from objects from last (text ∷ []) line early =
+pub answers-from : (far : ℕ → Bool) (objects : List Object) (from last : ℕ) (texts : List (List ℕ)) (line : ℕ) → line ≤ from + 1 → AreFromLine line (answers_within far objects from last texts)
+answers-from far objects from last [] line early = refl
+answers-from far objects from last (text ∷ []) line early =
     cond_both (is_stopped from text) (record { line = from + 1; given = Err Read } ∷ []) (cond (eqb (length text) 0) [] (record { line = from + 1; given = Err Cut } ∷ [])) (AreFromLine line)
     (λ _. from_head line (record { line = from + 1; given = Err Read }) [] early)
     (λ _. cond_both (eqb (length text) 0) [] (record { line = from + 1; given = Err Cut } ∷ []) (AreFromLine line) (λ _. refl)
     (λ _. from_head line (record { line = from + 1; given = Err Cut }) [] early))
-answers-from objects from last (text ∷ next ∷ more) line early =
-    let skipped : List Answer = answers objects (from + 1) last (next ∷ more) in
-    let said : List Answer = record { line = from + 1; given = text_reading objects last text }
-    ∷ answers objects (from + 1) (moment_after last (text_reading objects last text)) (next ∷ more) in
+answers-from far objects from last (text ∷ next ∷ more) line early =
+    let skipped : List Answer = answers_within far objects (from + 1) last (next ∷ more) in
+    let said : List Answer = record { line = from + 1; given = text_reading_within (far (from + 1)) objects last text }
+    ∷ answers_within far objects (from + 1) (moment_after last (text_reading_within (far (from + 1)) objects last text)) (next ∷ more) in
     cond_both (is_stopped from text) (record { line = from + 1; given = Err Read } ∷ []) (cond (eqb (length text) 0) skipped said) (AreFromLine line)
     (λ _. from_head line (record { line = from + 1; given = Err Read }) [] early)
     (λ _. cond_both (eqb (length text) 0) skipped said (AreFromLine line)
-    (λ _. answers-from objects (from + 1) last (next ∷ more) line (omega arith))
-    (λ _. from_head line (record { line = from + 1; given = text_reading objects last text })
-    (answers objects (from + 1) (moment_after last (text_reading objects last text)) (next ∷ more)) early))
+    (λ _. answers-from far objects (from + 1) last (next ∷ more) line (omega arith))
+    (λ _. from_head line (record { line = from + 1; given = text_reading_within (far (from + 1)) objects last text })
+    (answers_within far objects (from + 1) (moment_after last (text_reading_within (far (from + 1)) objects last text)) (next ∷ more)) early))
+
+-- ---- a line that is too far ahead
+
+-- a line that says no event is refused by what it says
+held-err : (far : Bool) (read : Result Event FeedFault) (fault : FeedFault) → read ≡ Err fault → held_back far read ≡ Err fault
+held-err false read fault is = is
+held-err true (Ok event) fault is = cc
+held-err true (Err found) fault is = is
+
+held-fits : (far : Bool) (read : Result Event FeedFault) (fault : FeedFault) → ((found : FeedFault) → read ≡ Err found → is_line_fault found ≡ true) → held_back far read ≡ Err fault → is_line_fault fault ≡ true
+held-fits false read fault fits is = fits fault is
+held-fits true (Ok event) fault fits is = let same : Ahead ≡ fault = cc in ap is_line_fault (sym same)
+held-fits true (Err found) fault fits is = fits fault is
 
 -- ---- one line read
 
-pub LineAnswers-read : (objects : List Object) (last from : ℕ) (bytes : List ℕ) (how : NextLine) (text rest : List ℕ) → from < feed_limit
+pub LineAnswers-read : (far : ℕ → Bool) (objects : List Object) (last from : ℕ) (bytes : List ℕ) (how : NextLine) (text rest : List ℕ) → from < feed_limit
     → ReadsFrom bytes how text rest → (how ≡ Line → 0 < length text)
-    → LineAnswers objects last how text (from + 1) rest (answers objects from last (pieces bytes))
-LineAnswers-read objects last from bytes Line text rest few reads full =
-    ap (λ (texts : List (List ℕ)). answers objects from last texts) (pieces-line bytes text rest reads.0)
-    ∙ answers-text objects from last text (pieces rest) (slice_split-first is_newline rest) (not_stopped from text few (omega (arith, reads.1))) (full refl)
-LineAnswers-read objects last from bytes Long text rest few reads full =
+    → LineAnswers far objects last how text (from + 1) rest (answers_within far objects from last (pieces bytes))
+LineAnswers-read far objects last from bytes Line text rest few reads full =
+    ap (λ (texts : List (List ℕ)). answers_within far objects from last texts) (pieces-line bytes text rest reads.0)
+    ∙ answers-text far objects from last text (pieces rest) (slice_split-first is_newline rest) (not_stopped from text few (omega (arith, reads.1))) (full refl)
+LineAnswers-read far objects last from bytes Long text rest few reads full =
     let over : ltb line_limit (length reads.0) ≡ true = lt-ltb line_limit (length reads.0) reads.2 in
-    let reading : text_reading objects last reads.0 ≡ Err LineTooLong = rw over refl in
-    ap (λ (texts : List (List ℕ)). answers objects from last texts) (pieces-line bytes reads.0 rest reads.1)
-    ∙ answers-text objects from last reads.0 (pieces rest) (slice_split-first is_newline rest) (not_stopped from reads.0 few reads.3) (omega (arith, reads.2))
+    let said : line_reading objects reads.0 ≡ Err LineTooLong = rw over refl in
+    let reading : text_reading_within (far (from + 1)) objects last reads.0 ≡ Err LineTooLong =
+    ap (λ (r : Result Event FeedFault). raised last r) (held-err (far (from + 1)) (line_reading objects reads.0) LineTooLong said) in
+    ap (λ (texts : List (List ℕ)). answers_within far objects from last texts) (pieces-line bytes reads.0 rest reads.1)
+    ∙ answers-text far objects from last reads.0 (pieces rest) (slice_split-first is_newline rest) (not_stopped from reads.0 few reads.3) (omega (arith, reads.2))
     ∙ rw reading refl
-LineAnswers-read objects last from bytes (Over InputEnded) text rest few reads full =
+LineAnswers-read far objects last from bytes (Over InputEnded) text rest few reads full =
     let on : is_stopped from [] ≡ false = not_stopped from [] few (omega arith) in
-    ap (λ (all : List ℕ). answers objects from last (pieces all)) reads.0 ∙ rw on refl
-LineAnswers-read objects last from bytes (Over CutLine) text rest few reads full =
+    ap (λ (all : List ℕ). answers_within far objects from last (pieces all)) reads.0 ∙ rw on refl
+LineAnswers-read far objects last from bytes (Over CutLine) text rest few reads full =
     let on : is_stopped from bytes ≡ false = not_stopped from bytes few reads.2 in
     let some : eqb (length bytes) 0 ≡ false = ne_eqb (length bytes) 0 (λ none. absurd (omega (arith, none, reads.1))) in
-    ap (λ (texts : List (List ℕ)). answers objects from last texts) (slice_split_none is_newline bytes reads.0) ∙ rw (on, some) refl
-LineAnswers-read objects last from bytes (Over ReaderFailed) text rest few reads full = answers-from objects from last (pieces bytes) (from + 1) (omega arith)
-LineAnswers-read objects last from bytes (Over TooManyCalls) text rest few reads full = answers-from objects from last (pieces bytes) (from + 1) (omega arith)
-LineAnswers-read objects last from bytes (Over TooManyBytes) text rest few reads full =
+    ap (λ (texts : List (List ℕ)). answers_within far objects from last texts) (slice_split_none is_newline bytes reads.0) ∙ rw (on, some) refl
+LineAnswers-read far objects last from bytes (Over ReaderFailed) text rest few reads full = answers-from far objects from last (pieces bytes) (from + 1) (omega arith)
+LineAnswers-read far objects last from bytes (Over TooManyCalls) text rest few reads full = answers-from far objects from last (pieces bytes) (from + 1) (omega arith)
+LineAnswers-read far objects last from bytes (Over TooManyBytes) text rest few reads full =
     let fronted = pieces-unbroken reads.0 reads.1 reads.2 in
     let long : ltb byte_limit (length (reads.0 ++ fronted.first)) ≡ true = lt-ltb byte_limit _ (rw length-append (omega (arith, reads.4))) in
-    ap (λ (all : List ℕ). answers objects from last (pieces all)) reads.3
-    ∙ ap (λ (texts : List (List ℕ)). answers objects from last texts) fronted.are
-    ∙ answers-stopped objects from last (reads.0 ++ fronted.first) fronted.others (or_right _ _ long)
-LineAnswers-read objects last from bytes (Over TooManyLines) text rest few reads full = absurd reads
+    ap (λ (all : List ℕ). answers_within far objects from last (pieces all)) reads.3
+    ∙ ap (λ (texts : List (List ℕ)). answers_within far objects from last texts) fronted.are
+    ∙ answers-stopped far objects from last (reads.0 ++ fronted.first) fronted.others (or_right _ _ long)
+LineAnswers-read far objects last from bytes (Over TooManyLines) text rest few reads full = absurd reads
 
 -- an empty line answers nothing
-pub answers-skipped : (objects : List Object) (last from : ℕ) (bytes text rest : List ℕ) → from < feed_limit → ReadsFrom bytes Line text rest → length text ≡ 0
-    → answers objects from last (pieces bytes) ≡ answers objects (from + 1) last (pieces rest)
-answers-skipped objects last from bytes text rest few reads none =
-    ap (λ (texts : List (List ℕ)). answers objects from last texts) (pieces-line bytes text rest reads.0)
-    ∙ answers-empty objects from last text (pieces rest) (slice_split-first is_newline rest) (not_stopped from text few (omega (arith, reads.1))) none
+pub answers-skipped : (far : ℕ → Bool) (objects : List Object) (last from : ℕ) (bytes text rest : List ℕ) → from < feed_limit → ReadsFrom bytes Line text rest → length text ≡ 0
+    → answers_within far objects from last (pieces bytes) ≡ answers_within far objects (from + 1) last (pieces rest)
+answers-skipped far objects last from bytes text rest few reads none =
+    ap (λ (texts : List (List ℕ)). answers_within far objects from last texts) (pieces-line bytes text rest reads.0)
+    ∙ answers-empty far objects from last text (pieces rest) (slice_split-first is_newline rest) (not_stopped from text few (omega (arith, reads.1))) none
 
 -- ---- where a line stands
 
@@ -203,11 +218,11 @@ comes-to from to bytes now (Over TooManyLines) text rest goes reads full other =
 -- empty lines were read
 pub record Skips (old : Reading) (from : ℕ) (now : Reading) (read : ℕ) : Type 0 where
   pub answering : Known (to_come old) (to_come now) (λ bytes rest.
-      ((objects : List Object) (last : ℕ) → answers objects from last (pieces bytes) ≡ answers objects read last (pieces rest))
+      ((far : ℕ → Bool) (objects : List Object) (last : ℕ) → answers_within far objects from last (pieces bytes) ≡ answers_within far objects read last (pieces rest))
       × Goes from read (pieces bytes) (pieces rest))
 
 pub Skips-none : (old : Reading) (from : ℕ) → Skips old from old from
-Skips-none old from = record { answering = known_same (to_come old) _ (λ bytes. (λ objects last. refl, goes-none from (pieces bytes))) }
+Skips-none old from = record { answering = known_same (to_come old) _ (λ bytes. (λ far objects last. refl, goes-none from (pieces bytes))) }
 
 pub Known-then : (a b c : Option (List ℕ)) (P Q S : List ℕ → List ℕ → Type 0) → Known a b P → Known b c Q
     → ((x y z : List ℕ) → P x y → Q y z → S x z) → Known a c S
@@ -221,7 +236,7 @@ pub Skips-more : (old now new : Reading) (from read : ℕ) → Skips old from no
 Skips-more old now new from read skips few reads none =
     record {
       answering = Known-then (to_come old) (to_come now) (to_come new) _ _ _ skips.answering reads (λ bytes between rest first line. (
-        λ objects last. first.0 objects last ∙ answers-skipped objects last read between new.line rest few line none,
+        λ far objects last. first.0 far objects last ∙ answers-skipped far objects last read between new.line rest few line none,
         goes-more from read (pieces bytes) (pieces rest)
             (subst (λ (others : List (List ℕ)). Goes from read (pieces bytes) others) (pieces-line between new.line rest line.0 ∙ ap (λ (text : List ℕ). text ∷ pieces rest) (nil_from_length new.line none)) first.1),
       ));
@@ -231,8 +246,8 @@ pub GoesToLine-from : (old now new : Reading) (from read : ℕ) (how : NextLine)
     → (how ≡ Line → 0 < length new.line) → (how ≡ Over InputEnded → ⊥) → GoesToLine old from how new (read + 1)
 GoesToLine-from old now new from read how skips few reads full other =
     Known-then (to_come old) (to_come now) (to_come new) _ _ _ skips.answering reads (λ bytes between rest first line. (
-      λ objects last. subst (λ (all : List Answer). LineAnswers objects last how new.line (read + 1) rest all) (sym (first.0 objects last))
-          (LineAnswers-read objects last read between how new.line rest few line full),
+      λ far objects last. subst (λ (all : List Answer). LineAnswers far objects last how new.line (read + 1) rest all) (sym (first.0 far objects last))
+          (LineAnswers-read far objects last read between how new.line rest few line full),
       comes-to from read bytes between how new.line rest first.1 line full other,
     ))
 
@@ -240,7 +255,7 @@ pub GoesToLine-end : (old now new : Reading) (from read : ℕ) → Skips old fro
     → GoesToLine old from (Over InputEnded) new read
 GoesToLine-end old now new from read skips few reads =
     Known-then (to_come old) (to_come now) (to_come new) _ _ _ skips.answering reads (λ bytes between rest first line. (
-      λ objects last. first.0 objects last ∙ LineAnswers-read objects last read between (Over InputEnded) new.line rest few line (λ is. absurd (cc)),
+      λ far objects last. first.0 far objects last ∙ LineAnswers-read far objects last read between (Over InputEnded) new.line rest few line (λ is. absurd (cc)),
       (
         comes from read (pieces bytes) [] [] (subst (λ (now : List ℕ). Goes from read (pieces bytes) (pieces now)) line.0 first.1),
         line.1,
@@ -251,10 +266,10 @@ pub GoesToLine-many : (old now : Reading) (from : ℕ) (read : ℕ) → Skips ol
 GoesToLine-many old now from read skips all =
     Known-then (to_come old) (to_come now) (to_come now) _ (λ _ _. Unit {0}) _ skips.answering (known_same (to_come now) (λ _ _. Unit {0}) (λ _. tt)) (λ bytes between rest first _.
     let split = slice_split-first is_newline between in (
-      λ objects last.
-          first.0 objects last
-          ∙ ap (λ (texts : List (List ℕ)). answers objects read last texts) split.are
-          ∙ answers-stopped objects read last split.first split.others (or_left _ _ (le-leb feed_limit read (omega (arith, all)))),
+      λ far objects last.
+          first.0 far objects last
+          ∙ ap (λ (texts : List (List ℕ)). answers_within far objects read last texts) split.are
+          ∙ answers-stopped far objects read last split.first split.others (or_left _ _ (le-leb feed_limit read (omega (arith, all)))),
       (
         (split.first, split.others, comes from read (pieces bytes) split.first split.others (subst (λ (others : List (List ℕ)). Goes from read (pieces bytes) others) split.are first.1), omega arith),
         omega (arith, all),
@@ -289,19 +304,20 @@ Known-map None b P Q known each = tt
 Known-map (Some x) None P Q known each = known
 Known-map (Some x) (Some y) P Q known each = each x y known
 
-pub GivesEvent-line : (c : Config) (before after : Reading) (line last line' : ℕ) (stop : Option Stop) (event given : Event) → is_some stop ≡ false
-    → GoesToLine before line Line after line' → CountsLine line Line line' → Ok event ≡ line_reading c.objects after.line → IsProper c event
-    → Ok given ≡ raised last (Ok event) → last ≤ last_moment
-    → GivesEvent c (feed_of before line last stop) given (feed_of after line' given.moment stop)
-GivesEvent-line c before after line last line' (Some stop) event given goes_on goes counts reading proper raise early = absurd (true≢false goes_on)
-GivesEvent-line c before after line last line' None event given goes_on goes counts reading proper raise early =
-    let text : text_reading c.objects last after.line ≡ Ok given = ap (λ (r : Result Event FeedFault). raised last r) (sym reading) ∙ sym raise in
+pub GivesEvent-line : (far : ℕ → Bool) (c : Config) (before after : Reading) (line last line' : ℕ) (stop : Option Stop) (event given : Event) → is_some stop ≡ false
+    → GoesToLine before line Line after line' → CountsLine line Line line' → line_reading c.objects after.line ≡ Ok event → IsProper c event
+    → Ok given ≡ raised last (Ok event) → last ≤ last_moment → far line' ≡ false
+    → GivesEventWithin far c (feed_of before line last stop) given (feed_of after line' given.moment stop)
+GivesEvent-line far c before after line last line' (Some stop) event given goes_on goes counts reading proper raise early near = absurd (true≢false goes_on)
+GivesEvent-line far c before after line last line' None event given goes_on goes counts reading proper raise early near =
+    let said : raised last (line_reading c.objects after.line) ≡ Ok given = ap (λ (r : Result Event FeedFault). raised last r) reading ∙ sym raise in
+    let text : raised last (held_back (far line') (line_reading c.objects after.line)) ≡ Ok given = ap (λ (b : Bool). raised last (held_back b (line_reading c.objects after.line))) near ∙ said in
     let same : given ≡ record event { moment = max last event.moment } = cc in
     record {
       answers = Known-map (to_come before) (to_come after) _ _ goes (λ bytes rest answers.
-          answers.0 c.objects last ∙ rw text refl);
+          answers.0 far c.objects last ∙ rw text refl);
       place = Known-map (to_come before) (to_come after) _ _ goes (λ bytes rest answers. answers.1);
-      said = text;
+      said = said;
       proper = subst (IsProper c) (sym same) (record { stamp = omega (arith, proper.stamp); kind = proper.kind });
       later = rw same (omega arith);
       last = refl;
@@ -309,42 +325,44 @@ GivesEvent-line c before after line last line' None event given goes_on goes cou
       goes_on = refl;
     }
 
-pub GivesFault-line : (c : Config) (before after : Reading) (line last line' : ℕ) (stop : Option Stop) (fault : FeedFault) → is_some stop ≡ false
-    → GoesToLine before line Line after line' → CountsLine line Line line' → Err fault ≡ line_reading c.objects after.line
-    → GivesFault c.objects (feed_of before line last stop) (record { line = line'; fault = fault }) (feed_of after line' last stop)
-GivesFault-line c before after line last line' (Some stop) fault goes_on goes counts reading = absurd (true≢false goes_on)
-GivesFault-line c before after line last line' None fault goes_on goes counts reading =
-    let text : text_reading c.objects last after.line ≡ Err fault = ap (λ (r : Result Event FeedFault). raised last r) (sym reading) in
+pub GivesFault-line : (far : ℕ → Bool) (c : Config) (before after : Reading) (line last line' : ℕ) (stop : Option Stop) (fault : FeedFault) → is_some stop ≡ false
+    → GoesToLine before line Line after line' → CountsLine line Line line' → held_back (is_ahead fault) (line_reading c.objects after.line) ≡ Err fault → far line' ≡ is_ahead fault
+    → GivesFaultWithin far c.objects (feed_of before line last stop) (record { line = line'; fault = fault }) (feed_of after line' last stop)
+GivesFault-line far c before after line last line' (Some stop) fault goes_on goes counts reading same = absurd (true≢false goes_on)
+GivesFault-line far c before after line last line' None fault goes_on goes counts reading same =
+    let said : held_back (far line') (line_reading c.objects after.line) ≡ Err fault = ap (λ (b : Bool). held_back b (line_reading c.objects after.line)) same ∙ reading in
+    let text : raised last (held_back (far line') (line_reading c.objects after.line)) ≡ Err fault = ap (λ (r : Result Event FeedFault). raised last r) said in
     record {
-      answers = Known-map (to_come before) (to_come after) _ _ goes (λ bytes rest answers. answers.0 c.objects last ∙ rw text refl);
+      answers = Known-map (to_come before) (to_come after) _ _ goes (λ bytes rest answers. answers.0 far c.objects last ∙ rw text refl);
       place = Known-map (to_come before) (to_come after) _ _ goes (λ bytes rest answers. record {
         text = after.line;
         next = answers.1.0;
         some = answers.1.1;
-        reading = sym reading;
+        reading = said;
         stays = λ _. refl;
       });
-      fits = line_reading-fault c after.line fault (sym reading);
-      said = λ _ _. sym reading;
+      fits = held-fits (is_ahead fault) (line_reading c.objects after.line) fault (λ found is. line_reading-fault c after.line found is) reading;
+      said = λ _ _. said;
       number = refl;
       last = refl;
       line = counts.0;
     }
 
-pub GivesFault-long : (objects : List Object) (before after : Reading) (line last line' : ℕ) (stop : Option Stop) → is_some stop ≡ false
+pub GivesFault-long : (far : ℕ → Bool) (objects : List Object) (before after : Reading) (line last line' : ℕ) (stop : Option Stop) → is_some stop ≡ false
     → GoesToLine before line Long after line' → CountsLine line Long line'
-    → GivesFault objects (feed_of before line last stop) (record { line = line'; fault = LineTooLong }) (feed_of after line' last stop)
-GivesFault-long objects before after line last line' (Some stop) goes_on goes counts = absurd (true≢false goes_on)
-GivesFault-long objects before after line last line' None goes_on goes counts =
+    → GivesFaultWithin far objects (feed_of before line last stop) (record { line = line'; fault = LineTooLong }) (feed_of after line' last stop)
+GivesFault-long far objects before after line last line' (Some stop) goes_on goes counts = absurd (true≢false goes_on)
+GivesFault-long far objects before after line last line' None goes_on goes counts =
     record {
-      answers = Known-map (to_come before) (to_come after) _ _ goes (λ bytes rest answers. answers.0 objects last);
+      answers = Known-map (to_come before) (to_come after) _ _ goes (λ bytes rest answers. answers.0 far objects last);
       place = Known-map (to_come before) (to_come after) _ _ goes (λ bytes rest answers.
           let over : ltb line_limit (length answers.1.0) ≡ true = lt-ltb line_limit (length answers.1.0) answers.1.2 in
+          let said : line_reading objects answers.1.0 ≡ Err LineTooLong = rw over refl in
           record {
             text = answers.1.0;
             next = answers.1.1;
             some = omega (arith, answers.1.2);
-            reading = rw over refl;
+            reading = held-err (far line') (line_reading objects answers.1.0) LineTooLong said;
             stays = λ short. absurd (short refl);
           });
       fits = refl;
@@ -403,31 +421,31 @@ least_called : (can_fail : Bool) → least_at_read can_fail ≤ call_limit
 least_called true = omega arith
 least_called false = omega arith
 
-given_at : (can_fail : Bool) (objects : List Object) (last from : ℕ) (how : Stop) (text : List ℕ) (line : ℕ) (bytes rest : List ℕ) (fault : FeedFault)
-    → LineAnswers objects last (Over how) text line rest (answers objects from last (pieces bytes)) → ComesTo (Over how) from bytes line text rest
+given_at : (far : ℕ → Bool) (can_fail : Bool) (objects : List Object) (last from : ℕ) (how : Stop) (text : List ℕ) (line : ℕ) (bytes rest : List ℕ) (fault : FeedFault)
+    → LineAnswers far objects last (Over how) text line rest (answers_within far objects from last (pieces bytes)) → ComesTo (Over how) from bytes line text rest
     → (can_fail ≡ false → Over how ≢ Over ReaderFailed) → stop_fault how ≡ Some fault
-    → AreGiven can_fail (record { line = line; given = Err fault } ∷ []) (answers objects from last (pieces bytes)) from (pieces bytes)
-given_at can_fail objects last from InputEnded text line bytes rest fault answer comes sure is = absurd (cc)
-given_at can_fail objects last from CutLine text line bytes rest fault answer comes sure is = ends_with can_fail _ [] from (pieces bytes) line fault Cut is answer
-given_at can_fail objects last from ReaderFailed text line bytes rest fault answer comes sure is =
+    → AreGiven can_fail (record { line = line; given = Err fault } ∷ []) (answers_within far objects from last (pieces bytes)) from (pieces bytes)
+given_at far can_fail objects last from InputEnded text line bytes rest fault answer comes sure is = absurd (cc)
+given_at far can_fail objects last from CutLine text line bytes rest fault answer comes sure is = ends_with can_fail _ [] from (pieces bytes) line fault Cut is answer
+given_at far can_fail objects last from ReaderFailed text line bytes rest fault answer comes sure is =
     breaks_off can_fail _ from (pieces bytes) line fault is (has_long from (pieces bytes) line 0 (least_at_read can_fail) (least_failed can_fail sure) (within-long from (pieces bytes) line (pieces rest) comes)) answer
-given_at can_fail objects last from TooManyCalls text line bytes rest fault answer comes sure is =
+given_at far can_fail objects last from TooManyCalls text line bytes rest fault answer comes sure is =
     breaks_off can_fail _ from (pieces bytes) line fault is (has_long from (pieces bytes) line call_limit (least_at_read can_fail) (least_called can_fail) comes) answer
-given_at can_fail objects last from TooManyBytes text line bytes rest fault answer comes sure is = ends_with can_fail _ [] from (pieces bytes) line fault Read is answer
-given_at can_fail objects last from TooManyLines text line bytes rest fault answer comes sure is = ends_with can_fail _ [] from (pieces bytes) line fault Read is answer
+given_at far can_fail objects last from TooManyBytes text line bytes rest fault answer comes sure is = ends_with can_fail _ [] from (pieces bytes) line fault Read is answer
+given_at far can_fail objects last from TooManyLines text line bytes rest fault answer comes sure is = ends_with can_fail _ [] from (pieces bytes) line fault Read is answer
 
 given_known : (a b : Option (List ℕ)) (P : List ℕ → List ℕ → Type 0) (Q : List ℕ → Type 0) → Known a b P → ((x y : List ℕ) → P x y → Q x) → IfSome a Q
 given_known None b P Q known each = tt
 given_known (Some x) None P Q known each = absurd known
 given_known (Some x) (Some y) P Q known each = each x y known
 
-pub AreGiven-stop : (can_fail : Bool) (objects : List Object) (before after : Reading) (line last line' : ℕ) (stop : Option Stop) (how : Stop) (fault : FeedFault) → is_some stop ≡ false
+pub AreGiven-stop : (far : ℕ → Bool) (can_fail : Bool) (objects : List Object) (before after : Reading) (line last line' : ℕ) (stop : Option Stop) (how : Stop) (fault : FeedFault) → is_some stop ≡ false
     → GoesToLine before line (Over how) after line' → (can_fail ≡ false → Over how ≢ Over ReaderFailed) → stop_fault how ≡ Some fault
-    → AreGivenBy can_fail objects (feed_of before line last stop) (refusal (record { line = line'; fault = fault }) ∷ [])
-AreGiven-stop can_fail objects before after line last line' (Some stop) how fault goes_on goes sure is = absurd (true≢false goes_on)
-AreGiven-stop can_fail objects before after line last line' None how fault goes_on goes sure is =
+    → AreGivenByWithin far can_fail objects (feed_of before line last stop) (refusal (record { line = line'; fault = fault }) ∷ [])
+AreGiven-stop far can_fail objects before after line last line' (Some stop) how fault goes_on goes sure is = absurd (true≢false goes_on)
+AreGiven-stop far can_fail objects before after line last line' None how fault goes_on goes sure is =
     given_known (to_come before) (to_come after) _ _ goes
-    (λ bytes rest both. given_at can_fail objects last line how after.line line' bytes rest fault (both.0 objects last) both.1 sure is)
+    (λ bytes rest both. given_at far can_fail objects last line how after.line line' bytes rest fault (both.0 far objects last) both.1 sure is)
 
 -- ---- a line that is held
 

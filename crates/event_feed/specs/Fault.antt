@@ -3,7 +3,7 @@ use Rattle.std.specs.Prelude.{ℕ, Bool, true, false, List, codes, Option, None,
 use Rattle.event_feed.specs.declared.fault.FeedFault.{FeedFault}
 use Rattle.text_lines.specs.declared.line_reader.Stop.{Stop}
 use Rattle.text_lines.specs.declared.line_reader.Stop.TheVariants.{InputEnded, CutLine, ReaderFailed, TooManyCalls, TooManyBytes, TooManyLines}
-use Rattle.event_feed.specs.declared.fault.FeedFault.TheVariants.{BadStamp, UnknownKind, UnknownObject, BadState, LineTooLong, NotUtf8, Cut, Read, NoMemory, Ended}
+use Rattle.event_feed.specs.declared.fault.FeedFault.TheVariants.{BadStamp, UnknownKind, UnknownObject, BadState, LineTooLong, NotUtf8, Ahead, Cut, Read, NoMemory, Ended}
 
 -- the name, as reports print it
 abbrev pub fault_name : FeedFault → List ℕ
@@ -13,6 +13,7 @@ fault_name UnknownObject = codes "UnknownObject"
 fault_name BadState = codes "BadState"
 fault_name LineTooLong = codes "LineTooLong"
 fault_name NotUtf8 = codes "NotUtf8"
+fault_name Ahead = codes "Ahead"
 fault_name Cut = codes "Cut"
 fault_name Read = codes "Read"
 fault_name NoMemory = codes "NoMemory"
@@ -26,10 +27,25 @@ is_line_fault UnknownObject = true
 is_line_fault BadState = true
 is_line_fault LineTooLong = true
 is_line_fault NotUtf8 = true
+is_line_fault Ahead = true
 is_line_fault Cut = false
 is_line_fault Read = false
 is_line_fault NoMemory = false
 is_line_fault Ended = false
+
+-- the fault of a line whose stamp is too far ahead
+abbrev pub is_ahead : FeedFault → Bool
+is_ahead BadStamp = false
+is_ahead UnknownKind = false
+is_ahead UnknownObject = false
+is_ahead BadState = false
+is_ahead LineTooLong = false
+is_ahead NotUtf8 = false
+is_ahead Ahead = true
+is_ahead Cut = false
+is_ahead Read = false
+is_ahead NoMemory = false
+is_ahead Ended = false
 
 -- the fault that a stop is reported as
 abbrev pub stop_fault : Stop → Option FeedFault

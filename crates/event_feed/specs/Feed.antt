@@ -5,7 +5,7 @@ use Rattle.due_model.specs.declared.config.Config.{Config}
 use Rattle.due_model.specs.declared.config.Object.{Object}
 use Rattle.due_model.specs.declared.event.Event.{Event}
 use Rattle.event_feed.specs.declared.fault.FeedFault.{FeedFault}
-use Rattle.event_feed.specs.declared.fault.FeedFault.TheVariants.{Cut, LineTooLong, Read}
+use Rattle.event_feed.specs.declared.fault.FeedFault.TheVariants.{Ahead, Cut, LineTooLong, Read}
 use Rattle.event_feed.specs.declared.fault.RefusedLine.{RefusedLine}
 use Rattle.event_feed.specs.Fault.{is_line_fault, stop_fault}
 use Rattle.event_feed.specs.Line.{line_reading}
@@ -35,29 +35,63 @@ abbrev pub moment_after : ℕ → Result Event FeedFault → ℕ
 moment_after last (Ok event) = event.moment
 moment_after last (Err fault) = last
 
--- what a whole line that isn't empty says, its stamp raised
+-- no line is too far ahead
+abbrev pub no_line : ℕ → Bool
+no_line line = false
+
+-- whether the stamp of an event is past the latest moment that it may have, where there is one
+abbrev pub is_past : (latest : Option ℕ) → Result Event FeedFault → Bool
+is_past None reading = false
+is_past (Some latest) (Ok event) = nat_lt latest event.moment
+is_past (Some latest) (Err fault) = false
+
+-- of what may be said of the latest moment, something was by which a line is too far ahead
+abbrev pub IsFar : (says : Option ℕ → Type 0) → Result Event FeedFault → Type 0
+IsFar says reading = (latest : Option ℕ) × says latest × (is_past latest reading ≡ true)
+
+-- or isn't
+abbrev pub IsNear : (says : Option ℕ → Type 0) → Result Event FeedFault → Type 0
+IsNear says reading = (latest : Option ℕ) × says latest × (is_past latest reading ≡ false)
+
+-- a line that is too far ahead gives no event
+abbrev pub held_back : (far : Bool) → Result Event FeedFault → Result Event FeedFault
+held_back false reading = reading
+held_back true (Ok event) = Err Ahead
+held_back true (Err fault) = Err fault
+
+-- what a whole line that isn't empty gives, which is too far ahead or isn't, its stamp raised
+abbrev pub text_reading_within : (far : Bool) → List Object → ℕ → List ℕ → Result Event FeedFault
+text_reading_within far objects last text =
+    raised last (held_back far (line_reading objects text))
+
+-- what it says
 abbrev pub text_reading : List Object → ℕ → List ℕ → Result Event FeedFault
-text_reading objects last text = raised last (line_reading objects text)
+text_reading objects last text = text_reading_within false objects last text
 
 -- the reading stops at a line: as many lines were read as a feed may have, or the line is too long to be
 -- read over
 abbrev pub is_stopped : ℕ → List ℕ → Bool
 is_stopped from text = nat_le feed_limit from || nat_lt byte_limit (length text)
 
--- What a feed answers, given the lines read so far, the last moment and the pieces of the bytes to come:
--- each line that isn't empty answers its event or its fault, in order; no newline follows the last piece,
--- and if it isn't empty the feed was cut.
-abbrev pub answers : List Object → ℕ → ℕ → List (List ℕ) → List Answer
-answers objects from last [] = []
-answers objects from last (text ∷ []) =
+-- What a feed answers of which these lines, by number, are too far ahead, given the lines read so far, the last moment and the
+-- pieces of the bytes to come: each line that isn't empty answers its event or its fault, in order; no newline follows the last
+-- piece, and if it isn't empty the feed was cut.
+abbrev pub answers_within : (far : ℕ → Bool) → List Object → ℕ → ℕ → List (List ℕ) → List Answer
+answers_within far objects from last [] = []
+answers_within far objects from last (text ∷ []) =
     if is_stopped from text then record { line = from + 1; given = Err Read } ∷ []
     else if length text == 0 then []
     else record { line = from + 1; given = Err Cut } ∷ []
-answers objects from last (text ∷ next ∷ more) =
+answers_within far objects from last (text ∷ next ∷ more) =
     if is_stopped from text then record { line = from + 1; given = Err Read } ∷ []
-    else if length text == 0 then answers objects (from + 1) last (next ∷ more)
-    else record { line = from + 1; given = text_reading objects last text }
-    ∷ answers objects (from + 1) (moment_after last (text_reading objects last text)) (next ∷ more)
+    else if length text == 0 then answers_within far objects (from + 1) last (next ∷ more)
+    else record { line = from + 1; given = text_reading_within (far (from + 1)) objects last text }
+    ∷ answers_within far objects (from + 1)
+    (moment_after last (text_reading_within (far (from + 1)) objects last text)) (next ∷ more)
+
+-- what it answers where no line is
+abbrev pub answers : List Object → ℕ → ℕ → List (List ℕ) → List Answer
+answers objects from last texts = answers_within no_line objects from last texts
 
 -- A feed that is being read: the bytes to come, where they are known; those of them that are held, so that no call of
 -- the reader is needed for them; the text and the number of the last line read; the calls of the reader; the last
@@ -84,29 +118,31 @@ feed_of reading line last stop = record {
 }
 
 -- what the feed answers from here on, given the bytes to come
-abbrev pub answers_from : List Object → Feed → List ℕ → List Answer
-answers_from objects feed bytes =
-    if is_some feed.stop then [] else answers objects feed.line feed.last (pieces bytes)
+abbrev pub answers_from_within : (far : ℕ → Bool) → List Object → Feed → List ℕ → List Answer
+answers_from_within far objects feed bytes =
+    if is_some feed.stop then []
+    else answers_within far objects feed.line feed.last (pieces bytes)
 
 -- where the bytes are known, the answer is the next, and the feed goes on after it
-abbrev pub AnswersNext : List Object → Feed → Answer → Feed → Type 0
-AnswersNext objects old answer new =
-    Known old.bytes new.bytes
-    (λ bytes rest. answers_from objects old bytes ≡ answer ∷ answers_from objects new rest)
+abbrev pub AnswersNextWithin : (far : ℕ → Bool) → List Object → Feed → Answer → Feed → Type 0
+AnswersNextWithin far objects old answer new =
+    Known old.bytes new.bytes (λ bytes rest. answers_from_within far objects old bytes
+    ≡ answer ∷ answers_from_within far objects new rest)
 
 -- where the bytes are known, there is no answer to come
-abbrev pub AnswersNone : List Object → Feed → Feed → Type 0
-AnswersNone objects old new =
-    Known old.bytes new.bytes (λ bytes rest. answers_from objects old bytes ≡ [])
+abbrev pub AnswersNoneWithin : (far : ℕ → Bool) → List Object → Feed → Feed → Type 0
+AnswersNoneWithin far objects old new =
+    Known old.bytes new.bytes (λ bytes rest. answers_from_within far objects old bytes ≡ [])
 
 -- no answer is of a line before this one
 abbrev pub AreFromLine : ℕ → List Answer → Type 0
 AreFromLine line given = take_while (λ answer. nat_lt answer.line line) given ≡ []
 
 -- where the bytes are known, no answer to come is of a line before this one
-abbrev pub AnswersLater : List Object → Feed → ℕ → Feed → Type 0
-AnswersLater objects old line new =
-    Known old.bytes new.bytes (λ bytes rest. AreFromLine line (answers_from objects old bytes))
+abbrev pub AnswersLaterWithin : (far : ℕ → Bool) → List Object → Feed → ℕ → Feed → Type 0
+AnswersLaterWithin far objects old line new =
+    Known old.bytes new.bytes
+    (λ bytes rest. AreFromLine line (answers_from_within far objects old bytes))
 
 -- `from` lines come before these pieces. The first of them are empty lines, then comes the line of this number, with
 -- this text, and then the others.
@@ -155,36 +191,41 @@ abbrev pub FeedComesTo : NextLine → Feed → Feed → Type 0
 FeedComesTo how old new =
     Known old.bytes new.bytes (λ bytes rest. ComesTo how old.line bytes new.line new.text rest)
 
--- the next line that isn't empty is refused by what it says, and its text stays unless it is too long
-pub record RefusesLine (objects : List Object) (from : ℕ) (bytes : List ℕ) (fault : RefusedLine)
-    (kept rest : List ℕ) : Type 0 where
+-- the next line that isn't empty is refused by what it says, or since it is too far ahead, and its text stays unless it is too
+-- long
+pub record RefusesLineWithin (far : ℕ → Bool) (objects : List Object) (from : ℕ) (bytes : List ℕ)
+    (fault : RefusedLine) (kept rest : List ℕ) : Type 0 where
   pub text : List ℕ
   pub next : ComesNext from (pieces bytes) fault.line text (pieces rest)
   pub some : 0 < length text
-  pub reading : line_reading objects text ≡ Err fault.fault
+  pub reading : held_back (far fault.line) (line_reading objects text) ≡ Err fault.fault
   pub stays : fault.fault ≢ LineTooLong → kept ≡ text
 
 -- where the line of a fault stands in the bytes, where they are known
-abbrev pub FaultComesTo : List Object → Feed → RefusedLine → Option Stop → Feed → Type 0
-FaultComesTo objects old fault None new =
-    Known old.bytes new.bytes (λ bytes rest. RefusesLine objects old.line bytes fault new.text rest)
-FaultComesTo objects old fault (Some stop) new = FeedComesTo (Over stop) old new
+abbrev pub FaultComesToWithin : (far : ℕ → Bool) → List Object → Feed → RefusedLine → Option Stop
+    → Feed → Type 0
+FaultComesToWithin far objects old fault None new = Known old.bytes new.bytes
+    (λ bytes rest. RefusesLineWithin far objects old.line bytes fault new.text rest)
+FaultComesToWithin far objects old fault (Some stop) new = FeedComesTo (Over stop) old new
 
 -- What a fault says of a feed whose bytes are known. A line that is read over, a cut and a limit on bytes or
 -- lines are the next answer of the feed. Where the reader failed or took too many calls, which the bytes
 -- don't tell, the feed ends before the answers of that line.
-abbrev pub FaultAnswers : List Object → Feed → RefusedLine → Option Stop → Feed → Type 0
-FaultAnswers objects old fault None new =
-    AnswersNext objects old (record { line = fault.line; given = Err fault.fault }) new
-FaultAnswers objects old fault (Some InputEnded) new = ⊥
-FaultAnswers objects old fault (Some CutLine) new =
-    AnswersNext objects old (record { line = fault.line; given = Err fault.fault }) new
-FaultAnswers objects old fault (Some ReaderFailed) new = AnswersLater objects old fault.line new
-FaultAnswers objects old fault (Some TooManyCalls) new = AnswersLater objects old fault.line new
-FaultAnswers objects old fault (Some TooManyBytes) new =
-    AnswersNext objects old (record { line = fault.line; given = Err fault.fault }) new
-FaultAnswers objects old fault (Some TooManyLines) new =
-    AnswersNext objects old (record { line = fault.line; given = Err fault.fault }) new
+abbrev pub FaultAnswersWithin : (far : ℕ → Bool) → List Object → Feed → RefusedLine → Option Stop
+    → Feed → Type 0
+FaultAnswersWithin far objects old fault None new =
+    AnswersNextWithin far objects old (record { line = fault.line; given = Err fault.fault }) new
+FaultAnswersWithin far objects old fault (Some InputEnded) new = ⊥
+FaultAnswersWithin far objects old fault (Some CutLine) new =
+    AnswersNextWithin far objects old (record { line = fault.line; given = Err fault.fault }) new
+FaultAnswersWithin far objects old fault (Some ReaderFailed) new =
+    AnswersLaterWithin far objects old fault.line new
+FaultAnswersWithin far objects old fault (Some TooManyCalls) new =
+    AnswersLaterWithin far objects old fault.line new
+FaultAnswersWithin far objects old fault (Some TooManyBytes) new =
+    AnswersNextWithin far objects old (record { line = fault.line; given = Err fault.fault }) new
+FaultAnswersWithin far objects old fault (Some TooManyLines) new =
+    AnswersNextWithin far objects old (record { line = fault.line; given = Err fault.fault }) new
 
 -- ---- what is given of a feed, where its reader may fail
 
@@ -229,11 +270,10 @@ abbrev pub AreGiven : (can_fail : Bool) → (given all : List Answer) → (from 
 AreGiven can_fail given all from texts = (given ≡ all) ⊎ BreaksOff can_fail given all from texts
 
 -- the same of a feed whose bytes are known
-abbrev pub AreGivenBy : (can_fail : Bool) → List Object → Feed → List Answer → Type 0
-AreGivenBy can_fail objects feed given =
-    IfSome feed.bytes
-    (λ bytes. AreGiven can_fail given (answers_from objects feed bytes) feed.line
-    (pieces bytes))
+abbrev pub AreGivenByWithin : (far : ℕ → Bool) → (can_fail : Bool) → List Object → Feed
+    → List Answer → Type 0
+AreGivenByWithin far can_fail objects feed given = IfSome feed.bytes (λ bytes.
+    AreGiven can_fail given (answers_from_within far objects feed bytes) feed.line (pieces bytes))
 
 -- the answer of a refused line
 abbrev pub refusal : RefusedLine → Answer
@@ -247,8 +287,10 @@ FaultFits fault (Some stop) = stop_fault stop ≡ Some fault
 
 -- the feed gives an event: proper, its moment no earlier than the last; it is what the text of the last line read says,
 -- and that is the next line that isn't empty
-pub record GivesEvent (c : Config) (old : Feed) (event : Event) (new : Feed) : Type 0 where
-  pub answers : AnswersNext c.objects old (record { line = new.line; given = Ok event }) new
+pub record GivesEventWithin (far : ℕ → Bool) (c : Config) (old : Feed) (event : Event)
+    (new : Feed) : Type 0 where
+  pub answers : AnswersNextWithin far c.objects old
+      (record { line = new.line; given = Ok event }) new
   pub place : FeedComesTo Line old new
   pub said : text_reading c.objects old.last new.text ≡ Ok event
   pub proper : IsProper c event
@@ -258,8 +300,8 @@ pub record GivesEvent (c : Config) (old : Feed) (event : Event) (new : Feed) : T
   pub goes_on : new.stop ≡ None
 
 -- the feed is over
-pub record GivesNone (objects : List Object) (old new : Feed) : Type 0 where
-  pub answers : AnswersNone objects old new
+pub record GivesNoneWithin (far : ℕ → Bool) (objects : List Object) (old new : Feed) : Type 0 where
+  pub answers : AnswersNoneWithin far objects old new
   pub last : new.last ≡ old.last
   pub line : old.line ≤ new.line
   pub over : IsSome new.stop
@@ -270,14 +312,14 @@ pub record ComesToEnd (old new : Feed) : Type 0 where
   pub place : FeedComesTo (Over InputEnded) old new
 
 -- a line, the last one read, gives no event
-pub record GivesFault (objects : List Object) (old : Feed) (fault : RefusedLine)
-    (new : Feed) : Type 0 where
-  pub answers : FaultAnswers objects old fault new.stop new
-  pub place : FaultComesTo objects old fault new.stop new
+pub record GivesFaultWithin (far : ℕ → Bool) (objects : List Object) (old : Feed)
+    (fault : RefusedLine) (new : Feed) : Type 0 where
+  pub answers : FaultAnswersWithin far objects old fault new.stop new
+  pub place : FaultComesToWithin far objects old fault new.stop new
   pub fits : FaultFits fault.fault new.stop
-  -- a line that isn't too long is refused by what it says
+  -- a line that isn't too long is refused by what it says, or since it is too far ahead
   pub said : new.stop ≡ None → fault.fault ≢ LineTooLong
-      → line_reading objects new.text ≡ Err fault.fault
+      → held_back (far fault.line) (line_reading objects new.text) ≡ Err fault.fault
   pub number : fault.line ≡ new.line
   pub last : new.last ≡ old.last
   pub line : old.line < new.line
@@ -294,3 +336,34 @@ lines_asked stop passed = passed
 abbrev pub PassesLines : Feed → Feed → Type 0
 PassesLines old new = Known old.bytes new.bytes (λ bytes rest. (before : List (List ℕ))
     × (pieces bytes ≡ before ++ pieces rest) × (new.line ≡ old.line + length before))
+
+-- ---- of a feed of which no line is too far ahead
+
+abbrev pub answers_from : List Object → Feed → List ℕ → List Answer
+answers_from objects feed bytes = answers_from_within no_line objects feed bytes
+
+abbrev pub AnswersNext : List Object → Feed → Answer → Feed → Type 0
+AnswersNext objects old answer new = AnswersNextWithin no_line objects old answer new
+
+abbrev pub AnswersNone : List Object → Feed → Feed → Type 0
+AnswersNone objects old new = AnswersNoneWithin no_line objects old new
+
+abbrev pub FaultComesTo : List Object → Feed → RefusedLine → Option Stop → Feed → Type 0
+FaultComesTo objects old fault stop new =
+    FaultComesToWithin no_line objects old fault stop new
+
+abbrev pub FaultAnswers : List Object → Feed → RefusedLine → Option Stop → Feed → Type 0
+FaultAnswers objects old fault stop new =
+    FaultAnswersWithin no_line objects old fault stop new
+
+abbrev pub AreGivenBy : (can_fail : Bool) → List Object → Feed → List Answer → Type 0
+AreGivenBy can_fail objects feed given = AreGivenByWithin no_line can_fail objects feed given
+
+abbrev pub GivesEvent : Config → Feed → Event → Feed → Type 0
+GivesEvent c old event new = GivesEventWithin no_line c old event new
+
+abbrev pub GivesNone : List Object → Feed → Feed → Type 0
+GivesNone objects old new = GivesNoneWithin no_line objects old new
+
+abbrev pub GivesFault : List Object → Feed → RefusedLine → Feed → Type 0
+GivesFault objects old fault new = GivesFaultWithin no_line objects old fault new

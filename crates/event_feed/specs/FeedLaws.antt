@@ -10,7 +10,7 @@ use Rattle.event_feed.specs.declared.fault.RefusedLine.{RefusedLine}
 use Rattle.text_lines.specs.declared.line_reader.Stop.{Stop}
 use Rattle.text_lines.specs.declared.line_reader.Stop.TheVariants.{InputEnded, CutLine, ReaderFailed, TooManyCalls, TooManyBytes, TooManyLines}
 use Rattle.event_feed.specs.Fault.{is_line_fault, stop_fault}
-use Rattle.event_feed.specs.Feed.{Answer, AnswersNext, AnswersNone, AreGiven, AreGivenBy, ComesNext, FaultAnswers, FaultComesTo, FaultFits, Feed, GivesEvent, GivesFault, HasLong, PassesLines, answers_from, ends_feed, least_at_read, refusal}
+use Rattle.event_feed.specs.Feed.{Answer, AnswersNext, AnswersNextWithin, AnswersNone, AnswersNoneWithin, AreGiven, AreGivenBy, AreGivenByWithin, ComesNext, FaultAnswersWithin, FaultComesToWithin, FaultFits, Feed, GivesEvent, GivesEventWithin, GivesFault, GivesFaultWithin, HasLong, PassesLines, answers_from, answers_from_within, ends_feed, least_at_read, no_line, refusal}
 use Rattle.text_lines.specs.Lines.{Known, pieces}
 
 pub known_same : (bytes : Option (List ℕ)) (P : List ℕ → List ℕ → Type 0)
@@ -61,51 +61,55 @@ passed from texts line text others next = (
   ),
 )
 
-pub event_passes : (c : Config) (old : Feed) (event : Event) (new : Feed)
-    → GivesEvent c old event new → PassesLines old new
-event_passes c old event new gives =
+pub event_passes_within : (far : ℕ → Bool) (c : Config) (old : Feed) (event : Event) (new : Feed)
+    → GivesEventWithin far c old event new → PassesLines old new
+event_passes_within far c old event new gives =
     known_weaker old.bytes new.bytes _ _ gives.place
     (λ xs ys h. passed old.line (pieces xs) new.line new.text (pieces ys) h.0)
 
-pub fault_passes : (objects : List Object) (old : Feed) (fault : RefusedLine) (new : Feed)
-    → new.stop ≡ None → GivesFault objects old fault new → PassesLines old new
-fault_passes objects old fault new e gives =
-    let place : FaultComesTo objects old fault None new =
-    subst (λ s. FaultComesTo objects old fault s new) e gives.place in
+pub fault_passes_within : (far : ℕ → Bool) (objects : List Object) (old : Feed)
+    (fault : RefusedLine) (new : Feed) → new.stop ≡ None
+    → GivesFaultWithin far objects old fault new → PassesLines old new
+fault_passes_within far objects old fault new e gives =
+    let place : FaultComesToWithin far objects old fault None new =
+    subst (λ s. FaultComesToWithin far objects old fault s new) e gives.place in
     known_weaker old.bytes new.bytes _ _ place
     (λ xs ys h. let p = passed old.line (pieces xs) fault.line h.text (pieces ys) h.next in
     (p.0, p.1, sym gives.number ∙ p.2))
 
 -- one answer, and those after it
-pub next_by : (can_fail : Bool) (objects : List Object) (old new : Feed) (answer : Answer)
-    (bytes rest : Option (List ℕ))
-    → Known bytes rest (λ before after. answers_from objects old before
-    ≡ answer ∷ answers_from objects new after)
+pub next_by : (far : ℕ → Bool) (can_fail : Bool) (objects : List Object) (old new : Feed)
+    (answer : Answer) (bytes rest : Option (List ℕ))
+    → Known bytes rest (λ before after. answers_from_within far objects old before
+    ≡ answer ∷ answers_from_within far objects new after)
     → (more : List Answer) × IfSome bytes (λ before. AreGiven can_fail (answer ∷ more)
-    (answers_from objects old before) old.line (pieces before))
-next_by can_fail objects old new answer None rest h = ([], tt)
-next_by can_fail objects old new answer (Some before) None h = absurd h
-next_by can_fail objects old new answer (Some before) (Some after) h =
-    (answers_from objects new after, inl (sym h))
+    (answers_from_within far objects old before) old.line (pieces before))
+next_by far can_fail objects old new answer None rest h = ([], tt)
+next_by far can_fail objects old new answer (Some before) None h = absurd h
+next_by far can_fail objects old new answer (Some before) (Some after) h =
+    (answers_from_within far objects new after, inl (sym h))
 
-pub next_given : (can_fail : Bool) (objects : List Object) (old new : Feed) (answer : Answer)
-    → AnswersNext objects old answer new → (more : List Answer)
-    × AreGivenBy can_fail objects old (answer ∷ more)
-next_given can_fail objects old new answer h =
-    next_by can_fail objects old new answer old.bytes new.bytes h
+pub next_given_within : (far : ℕ → Bool) (can_fail : Bool) (objects : List Object)
+    (old new : Feed) (answer : Answer) → AnswersNextWithin far objects old answer new
+    → (more : List Answer) × AreGivenByWithin far can_fail objects old (answer ∷ more)
+next_given_within far can_fail objects old new answer h =
+    next_by far can_fail objects old new answer old.bytes new.bytes h
 
 -- no answer
-pub none_by : (can_fail : Bool) (objects : List Object) (old : Feed)
-    (bytes rest : Option (List ℕ)) → Known bytes rest (λ before after. answers_from objects old before ≡ [])
-    → IfSome bytes (λ before. AreGiven can_fail [] (answers_from objects old before) old.line
-    (pieces before))
-none_by can_fail objects old None rest h = tt
-none_by can_fail objects old (Some before) None h = absurd h
-none_by can_fail objects old (Some before) (Some after) h = inl (sym h)
+pub none_by : (far : ℕ → Bool) (can_fail : Bool) (objects : List Object) (old : Feed)
+    (bytes rest : Option (List ℕ))
+    → Known bytes rest (λ before after. answers_from_within far objects old before ≡ [])
+    → IfSome bytes (λ before. AreGiven can_fail [] (answers_from_within far objects old before)
+    old.line (pieces before))
+none_by far can_fail objects old None rest h = tt
+none_by far can_fail objects old (Some before) None h = absurd h
+none_by far can_fail objects old (Some before) (Some after) h = inl (sym h)
 
-pub none_given : (can_fail : Bool) (objects : List Object) (old new : Feed)
-    → AnswersNone objects old new → AreGivenBy can_fail objects old []
-none_given can_fail objects old new h = none_by can_fail objects old old.bytes new.bytes h
+pub none_given_within : (far : ℕ → Bool) (can_fail : Bool) (objects : List Object)
+    (old new : Feed) → AnswersNoneWithin far objects old new
+    → AreGivenByWithin far can_fail objects old []
+none_given_within far can_fail objects old new h =
+    none_by far can_fail objects old old.bytes new.bytes h
 
 -- Cut and Read come with a stop
 pub short_by : (fault : RefusedLine) (stop : Stop) → stop_fault stop ≡ Some fault.fault
@@ -123,45 +127,36 @@ short_by fault TooManyLines e = let same : Read ≡ fault.fault = cc in
     ap (λ f. not (is_line_fault f)) (sym same)
 
 -- the refusal of a line that ends the feed
-pub fault_last : (can_fail : Bool) (objects : List Object) (old new : Feed) (fault : RefusedLine)
-    (stop : Stop) → new.stop ≡ Some stop → GivesFault objects old fault new
-    → (IsSome new.stop → AreGivenBy can_fail objects old (refusal fault ∷ []))
-    → AreGivenBy can_fail objects old (refusal fault ∷ []) × (ends_feed (Err fault.fault) ≡ true)
-fault_last can_fail objects old new fault stop e h last =
+pub fault_last_within : (far : ℕ → Bool) (can_fail : Bool) (objects : List Object)
+    (old new : Feed) (fault : RefusedLine) (stop : Stop) → new.stop ≡ Some stop
+    → GivesFaultWithin far objects old fault new
+    → (IsSome new.stop → AreGivenByWithin far can_fail objects old (refusal fault ∷ []))
+    → AreGivenByWithin far can_fail objects old (refusal fault ∷ [])
+    × (ends_feed (Err fault.fault) ≡ true)
+fault_last_within far can_fail objects old new fault stop e h last =
     (last (rw e refl), short_by fault stop (subst (λ s. FaultFits fault.fault s) e h.fits))
 
 -- a line that is read over
-pub fault_next : (objects : List Object) (old new : Feed) (fault : RefusedLine)
-    → new.stop ≡ None → GivesFault objects old fault new
-    → AnswersNext objects old (refusal fault) new × (ends_feed (Err fault.fault) ≡ false)
-fault_next objects old new fault e h = (
-  subst (λ s. FaultAnswers objects old fault s new) e h.answers,
+pub fault_next_within : (far : ℕ → Bool) (objects : List Object) (old new : Feed)
+    (fault : RefusedLine) → new.stop ≡ None → GivesFaultWithin far objects old fault new
+    → AnswersNextWithin far objects old (refusal fault) new
+    × (ends_feed (Err fault.fault) ≡ false)
+fault_next_within far objects old new fault e h = (
+  subst (λ s. FaultAnswersWithin far objects old fault s new) e h.answers,
   ap not (line_fault (subst (λ s. FaultFits fault.fault s) e h.fits)),
 )
   where
     line_fault : IsTrue (is_line_fault fault.fault) → is_line_fault fault.fault ≡ true
     line_fault h = h
 
--- either way it is the next that is given
-pub fault_given : (can_fail : Bool) (objects : List Object) (old new : Feed)
-    (fault : RefusedLine) → GivesFault objects old fault new
-    → (IsSome new.stop → AreGivenBy can_fail objects old (refusal fault ∷ []))
-    → (more : List Answer) × AreGivenBy can_fail objects old (refusal fault ∷ more)
-fault_given can_fail objects old new fault h last = by_stop new.stop refl
-  where
-    by_stop : (stop : Option Stop) → new.stop ≡ stop
-        → (more : List Answer) × AreGivenBy can_fail objects old (refusal fault ∷ more)
-    by_stop None e = next_given can_fail objects old new (refusal fault)
-        (fault_next objects old new fault e h).0
-    by_stop (Some stop) e = ([], last (rw e refl))
-
 -- an event is an answer
-pub event_answers : (c : Config) (old new : Feed) (event : Event) (line : ℕ) → line ≡ new.line
-    → GivesEvent c old event new
-    → AnswersNext c.objects old (record { line = line; given = Ok event }) new
-event_answers c old new event line e gives =
-    subst (λ n. AnswersNext c.objects old (record { line = n; given = Ok event }) new) (sym e)
-    gives.answers
+pub event_answers_within : (far : ℕ → Bool) (c : Config) (old new : Feed) (event : Event)
+    (line : ℕ) → line ≡ new.line → GivesEventWithin far c old event new
+    → AnswersNextWithin far c.objects old (record { line = line; given = Ok event }) new
+event_answers_within far c old new event line e gives =
+    subst
+    (λ n. AnswersNextWithin far c.objects old (record { line = n; given = Ok event }) new)
+    (sym e) gives.answers
 
 pub earlier_more : (given : List Answer) (answer : Answer) (line line' : ℕ) → line ≤ line'
     → answer.line ≤ line' → All (λ a. a.line ≤ line) given
@@ -191,21 +186,21 @@ earlier_below given front line later below h k =
     All-append (λ a. a.line < later) given front (All-weaker (λ a. a.line ≤ line)
     (λ a. a.line < later) (λ a le. omega (arith, le, below)) given h) k
 
-pub then_by : (can_fail : Bool) (c : Config) (start now : Feed) (given others : List Answer)
+pub then_by_within : (far : ℕ → Bool) (can_fail : Bool) (c : Config) (start now : Feed) (given others : List Answer)
     (bytes rest : Option (List ℕ)) → start.line ≤ now.line → All (λ a. a.line ≤ now.line) given
     → All (λ a. ends_feed a.given ≡ false) given
-    → Known bytes rest (λ before after. answers_from c.objects start before
-    ≡ given ++ answers_from c.objects now after)
+    → Known bytes rest (λ before after. answers_from_within far c.objects start before
+    ≡ given ++ answers_from_within far c.objects now after)
     → Known bytes rest (λ before after. Passed start.line (pieces before) now.line (pieces after))
-    → IfSome rest (λ after. AreGiven can_fail others (answers_from c.objects now after) now.line
+    → IfSome rest (λ after. AreGiven can_fail others (answers_from_within far c.objects now after) now.line
     (pieces after))
     → IfSome bytes (λ before. AreGiven can_fail (given ++ others)
-    (answers_from c.objects start before) start.line (pieces before))
-then_by can_fail c start now given others None rest line earlier on f l h = tt
-then_by can_fail c start now given others (Some before) None line earlier on f l h = absurd f
-then_by can_fail c start now given others (Some before) (Some after) line earlier on f l (inl same) =
+    (answers_from_within far c.objects start before) start.line (pieces before))
+then_by_within far can_fail c start now given others None rest line earlier on f l h = tt
+then_by_within far can_fail c start now given others (Some before) None line earlier on f l h = absurd f
+then_by_within far can_fail c start now given others (Some before) (Some after) line earlier on f l (inl same) =
     inl (ap (λ more. given ++ more) same ∙ sym f)
-then_by can_fail c start now given others (Some before) (Some after) line earlier on f l (inr fails) =
+then_by_within far can_fail c start now given others (Some before) (Some after) line earlier on f l (inr fails) =
     let first : now.line < fails.line = omega (arith, fails.place.number) in
     inr (record {
       front = given ++ fails.front;
@@ -222,3 +217,63 @@ then_by can_fail c start now given others (Some before) (Some after) line earlie
           ∙ sym (append_assoc given fails.front
           (record { line = fails.line; given = Err Read } ∷ []));
     })
+
+-- ---- of a feed of which no line is too far ahead
+
+pub event_passes : (c : Config) (old : Feed) (event : Event) (new : Feed)
+    → GivesEvent c old event new → PassesLines old new
+event_passes = event_passes_within no_line
+
+pub fault_passes : (objects : List Object) (old : Feed) (fault : RefusedLine) (new : Feed)
+    → new.stop ≡ None → GivesFault objects old fault new → PassesLines old new
+fault_passes = fault_passes_within no_line
+
+pub next_given : (can_fail : Bool) (objects : List Object) (old new : Feed) (answer : Answer)
+    → AnswersNext objects old answer new → (more : List Answer)
+    × AreGivenBy can_fail objects old (answer ∷ more)
+next_given = next_given_within no_line
+
+pub none_given : (can_fail : Bool) (objects : List Object) (old new : Feed)
+    → AnswersNone objects old new → AreGivenBy can_fail objects old []
+none_given = none_given_within no_line
+
+pub fault_last : (can_fail : Bool) (objects : List Object) (old new : Feed) (fault : RefusedLine)
+    (stop : Stop) → new.stop ≡ Some stop → GivesFault objects old fault new
+    → (IsSome new.stop → AreGivenBy can_fail objects old (refusal fault ∷ []))
+    → AreGivenBy can_fail objects old (refusal fault ∷ []) × (ends_feed (Err fault.fault) ≡ true)
+fault_last = fault_last_within no_line
+
+pub fault_next : (objects : List Object) (old new : Feed) (fault : RefusedLine)
+    → new.stop ≡ None → GivesFault objects old fault new
+    → AnswersNext objects old (refusal fault) new × (ends_feed (Err fault.fault) ≡ false)
+fault_next = fault_next_within no_line
+
+-- either way it is the next that is given
+pub fault_given : (can_fail : Bool) (objects : List Object) (old new : Feed)
+    (fault : RefusedLine) → GivesFault objects old fault new
+    → (IsSome new.stop → AreGivenBy can_fail objects old (refusal fault ∷ []))
+    → (more : List Answer) × AreGivenBy can_fail objects old (refusal fault ∷ more)
+fault_given can_fail objects old new fault h last = by_stop new.stop refl
+  where
+    by_stop : (stop : Option Stop) → new.stop ≡ stop
+        → (more : List Answer) × AreGivenBy can_fail objects old (refusal fault ∷ more)
+    by_stop None e = next_given can_fail objects old new (refusal fault)
+        (fault_next objects old new fault e h).0
+    by_stop (Some stop) e = ([], last (rw e refl))
+
+pub event_answers : (c : Config) (old new : Feed) (event : Event) (line : ℕ) → line ≡ new.line
+    → GivesEvent c old event new
+    → AnswersNext c.objects old (record { line = line; given = Ok event }) new
+event_answers = event_answers_within no_line
+
+pub then_by : (can_fail : Bool) (c : Config) (start now : Feed) (given others : List Answer)
+    (bytes rest : Option (List ℕ)) → start.line ≤ now.line → All (λ a. a.line ≤ now.line) given
+    → All (λ a. ends_feed a.given ≡ false) given
+    → Known bytes rest (λ before after. answers_from c.objects start before
+    ≡ given ++ answers_from c.objects now after)
+    → Known bytes rest (λ before after. Passed start.line (pieces before) now.line (pieces after))
+    → IfSome rest (λ after. AreGiven can_fail others (answers_from c.objects now after) now.line
+    (pieces after))
+    → IfSome bytes (λ before. AreGiven can_fail (given ++ others)
+    (answers_from c.objects start before) start.line (pieces before))
+then_by = then_by_within no_line

@@ -22,6 +22,9 @@ pub enum FeedFault {
     LineTooLong,
     /// The line isn't UTF-8.
     NotUtf8,
+    /// The line gives an event whose stamp is too far ahead of the machine's clock, for whoever sets such a limit. Only a line that
+    /// would give an event else is refused so.
+    Ahead,
     /// The input ended within the line. The feed is over.
     Cut,
     /// The reading stopped: the reader failed, or the line or the feed is past a limit. The feed is over.
@@ -44,6 +47,7 @@ impl FeedFault {
             FeedFault::BadState => "BadState",
             FeedFault::LineTooLong => "LineTooLong",
             FeedFault::NotUtf8 => "NotUtf8",
+            FeedFault::Ahead => "Ahead",
             FeedFault::Cut => "Cut",
             FeedFault::Read => "Read",
             FeedFault::NoMemory => "NoMemory",

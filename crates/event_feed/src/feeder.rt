@@ -1,16 +1,22 @@
 //! The events of a feed, in order, from a reader of lines.
 
-ghost use Rattle.std.specs.Prelude.{◌≡◌, ◌≢◌, ◌+◌, ◌-◌, ◌*◌};
-ghost use Rattle.std.specs.Prelude.{◌≤◌, ◌∷◌, [], false, IsSome};
-ghost use Rattle.std.specs.Prelude.{None, Some, Ok, IfOk, IfErr, IfSome, IfNone, OnSome, IsTrue};
+ghost use Rattle.std.specs.Prelude.{◌≡◌, ◌≢◌, ◌+◌, ◌-◌, ◌*◌, ℕ, Bool};
+ghost use Rattle.std.specs.Prelude.{◌≤◌, ◌∷◌, [], false, true, IsSome};
+ghost use Rattle.std.specs.Prelude.{None, Some, Ok, Err, IfOk, IfErr, IfSome, IfNone, OnSome, IsTrue};
+ghost use Rattle.due_model.specs.Proper.{IsProper};
+ghost use Rattle.event_feed.specs.Fault.{is_ahead};
 ghost use Rattle.event_feed.specs.Feed.{AreGivenBy, ComesToEnd, GivesEvent, GivesFault, GivesNone};
+ghost use Rattle.event_feed.specs.Feed.{AreGivenByWithin, GivesEventWithin, GivesFaultWithin};
+ghost use Rattle.event_feed.specs.Feed.{GivesNoneWithin, IsFar, IsNear, held_back};
 ghost use Rattle.event_feed.specs.Feed.{feed_limit, feed_of, lines_asked, raised, refusal};
 ghost use Rattle.event_feed.specs.Feeder.{CountsLine, GoesToLine, begun_lines, stop_of};
+ghost use Rattle.event_feed.specs.Line.{line_reading};
 ghost use Rattle.text_lines.specs.CountedReader.{calls_after};
 ghost use Rattle.text_lines.specs.LineReader.{call_limit};
 ghost use Rattle.text_lines.specs.Lines.{has_line};
 
 use crate::fault::{FeedFault, RefusedLine, stop_fault};
+use crate::horizon::{Horizon, OpenHorizon};
 use crate::line::read_line;
 use due_model::config::Config;
 use due_model::event::Event;
@@ -122,13 +128,53 @@ impl<R: Input + Drop> Feeder<R> {
         ensures sure { R.can_fail ≡ false
             → IfNone self.old.stop (self.new.stop ≢ Some Stop.ReaderFailed) }
     {
+        self.next_within(config, &OpenHorizon)
+    }
+
+    /// The same, but a line that would give an event is refused as `Ahead` where its stamp is past what the horizon says once the
+    /// line was read. It is read over, and raises no later stamp. Of a line that gives no event the horizon isn't asked.
+    pub fn next_within<H: Horizon>(
+        &mut self,
+        config: &Config,
+        horizon: &H,
+    ) -> Result<Option<Event>, RefusedLine>
+        ensures over { OnSome self.old.stop ((result ≡ Ok None) × (self.new ≡ self.old)) }
+        // It answers as a feed does, of whose lines this one is too far ahead just where it is refused as Ahead;
+        ensures event { IfOk result (λ found. IfSome found (λ event. (far : ℕ → Bool)
+            → far self.new.line ≡ false
+            → GivesEventWithin far config.now self.old event self.new)) }
+        ensures none { IfOk result (λ found. IfNone found ((far : ℕ → Bool)
+            → GivesNoneWithin far config.now.objects self.old self.new)) }
+        ensures ended { IfNone self.old.stop (IfOk result (λ found.
+            IfNone found (ComesToEnd self.old self.new))) }
+        ensures fault { IfErr result (λ fault. (far : ℕ → Bool)
+            → far fault.line ≡ is_ahead fault.fault
+            → GivesFaultWithin far config.now.objects self.old fault self.new) }
+        ensures last { IfErr result (λ fault. IsSome self.new.stop → (far : ℕ → Bool)
+            → AreGivenByWithin far R.can_fail config.now.objects self.old (refusal fault ∷ [])) }
+        // and that is where its stamp, which isn't raised yet, is past what the horizon says.
+        ensures near { IfOk result (λ found. IfSome found (λ event.
+            IsNear (H.says horizon.now) (line_reading config.now.objects self.new.text))) }
+        ensures far { IfErr result (λ fault. is_ahead fault.fault ≡ true
+            → IsFar (H.says horizon.now) (line_reading config.now.objects self.new.text)) }
+        ensures no_limit { IfErr result (λ fault. H.is_open horizon.now ≡ true
+            → is_ahead fault.fault ≡ false) }
+        ensures limit { self.new.line ≤ feed_limit + 1 }
+        ensures held { IsTrue (has_line self.old.held) → self.new.calls ≡ self.old.calls }
+        ensures few { self.new.calls ≤ self.old.calls
+            + call_limit * lines_asked self.new.stop (self.new.line - self.old.line) }
+        ensures many { IfNone self.old.stop (self.new.stop ≡ Some Stop.TooManyCalls
+            → calls_after self.old.calls call_limit ≤ self.new.calls) }
+        ensures sure { R.can_fail ≡ false
+            → IfNone self.old.stop (self.new.stop ≢ Some Stop.ReaderFailed) }
+    {
         if self.stop.is_some() {
             return Ok(None);
         }
         let how = next_line(&mut self.lines, &mut self.line);
         let line = self.line;
         match how {
-            NextLine::Line => match read_line(config, self.lines.line()) {
+            NextLine::Line => match read_within(config, self.lines.line(), horizon) {
                 Ok(event) => {
                     let event = raise(event, self.last);
                     self.last = event.moment;
@@ -148,6 +194,26 @@ impl<R: Input + Drop> Feeder<R> {
                 }
             }
         }
+    }
+}
+
+/// The event that a line says, where its stamp isn't past what a horizon says, or the first reason why it gives none.
+fn read_within<H: Horizon>(config: &Config, line: &[u8], horizon: &H) -> Result<Event, FeedFault>
+    ensures event { IfOk result (λ event. line_reading config.now.objects line.now ≡ Ok event) }
+    ensures proper { IfOk result (IsProper config.now) }
+    ensures fault { IfErr result (λ fault.
+        held_back (is_ahead fault) (line_reading config.now.objects line.now) ≡ Err fault) }
+    ensures near { IfOk result (λ event.
+        IsNear (H.says horizon.now) (line_reading config.now.objects line.now)) }
+    ensures far { IfErr result (λ fault. is_ahead fault ≡ true
+        → IsFar (H.says horizon.now) (line_reading config.now.objects line.now)) }
+    ensures no_limit { IfErr result (λ fault. H.is_open horizon.now ≡ true
+        → is_ahead fault ≡ false) }
+{
+    let event = read_line(config, line)?;
+    match horizon.latest() {
+        Some(latest) if event.moment > latest => Err(FeedFault::Ahead),
+        _ => Ok(event),
     }
 }
 

@@ -4,9 +4,11 @@
 
 pub mod fault;
 pub mod feeder;
+pub mod horizon;
 pub mod laws;
 pub mod line;
 
 pub use fault::{FeedFault, RefusedLine, stop_fault};
 pub use feeder::{FEED_LIMIT, Feeder};
+pub use horizon::{Horizon, OpenHorizon};
 pub use line::{read_line, read_number};

@@ -166,6 +166,7 @@ fn status_of_request<T: Threads + Wait + Clock + Sync>(
             channels,
             times,
             quiet,
+            ahead,
             ..
         } => {
             let settings = RunSettings {
@@ -173,6 +174,7 @@ fn status_of_request<T: Threads + Wait + Clock + Sync>(
                 timeout: times.timeout,
                 pause: times.pause,
                 quiet,
+                ahead,
             };
             let feed = AnyReader::new(rt.stdin());
             let mut writer = AnyWriter::new(rt.stdout());

@@ -110,13 +110,13 @@ module _ (old m1 : Option (List ℕ)) (a b d held h1 : List ℕ) (empty : held �
 -- ---- how a run ended
 
 -- where it ended its report was written
-pub if_told : {E : Type 0} (can_fail : Bool) (c : Config) (zone : Zone) (given : ℕ → ℕ) (tie : List LaneParts → Type 0) (known before after : Option (List ℕ)) (end : RunEnd) (told : Result Unit E) (result : Result Ending CommandFault)
-    → IsRun can_fail c zone given tie known end → OnOk told (Writes before after (report_text c end))
+pub if_told : {E : Type 0} (can_fail is_open : Bool) (c : Config) (zone : Zone) (given : ℕ → ℕ) (tie : List LaneParts → Type 0) (known before after : Option (List ℕ)) (end : RunEnd) (told : Result Unit E) (result : Result Ending CommandFault)
+    → IsRun can_fail is_open c zone given tie known end → OnOk told (Writes before after (report_text c end))
     → IfOk result (λ ending. (end.memory ≡ false) × (ending ≡ ending_of end) × IsOk told)
-    → IfOk result (λ ending. WritesReport can_fail c zone given tie known ending before after)
-if_told can_fail c zone given tie known before after end told (Err fault) run wrote ended = tt
-if_told can_fail c zone given tie known before after end (Ok x) (Ok ending) run wrote ended = (end, run, ended.0, ended.1, wrote)
-if_told can_fail c zone given tie known before after end (Err e) (Ok ending) run wrote ended = let never = ended.2 in absurd (cc)
+    → IfOk result (λ ending. WritesReport can_fail is_open c zone given tie known ending before after)
+if_told can_fail is_open c zone given tie known before after end told (Err fault) run wrote ended = tt
+if_told can_fail is_open c zone given tie known before after end (Ok x) (Ok ending) run wrote ended = (end, run, ended.0, ended.1, wrote)
+if_told can_fail is_open c zone given tie known before after end (Err e) (Ok ending) run wrote ended = let never = ended.2 in absurd (cc)
 
 -- a fault is of the writing, or it is want of memory
 pub if_faulted : {A : Type 0} (can_fail : Bool) (told : Result Unit CommandFault) (result : Result A CommandFault) → IfErr told (IsWriteFault can_fail)

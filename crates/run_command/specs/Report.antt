@@ -1,5 +1,5 @@
 -- The report of a run: what its feed gives, and then what became of the messages of each lane.
-use Rattle.std.specs.Prelude.{◌≡◌, ℕ, Bool, false, not, ltb, ◌==◌, List, [], ◌++◌, flat_map, length, slice_index_or, Option, Result, IsErrOf, if◌then◌else◌}
+use Rattle.std.specs.Prelude.{◌≡◌, ℕ, Bool, false, true, not, ltb, ◌==◌, List, [], ◌++◌, flat_map, length, slice_index_or, Option, Result, IsErrOf, if◌then◌else◌}
 use Rattle.std.specs.List.{list_any, range_with_len}
 use Rattle.due_model.specs.declared.config.Config.{Config}
 use Rattle.due_model.specs.declared.notice.Notice.{Notice}
@@ -8,6 +8,7 @@ use Rattle.due_model.specs.declared.zone.Zone.{Zone}
 use Rattle.event_feed.specs.declared.fault.RefusedLine.{RefusedLine}
 use Rattle.engine.specs.declared.run_end.RunEnd.{RunEnd}
 use Rattle.engine.specs.Lanes.{LaneParts}
+use Rattle.engine.specs.Feed.{NoneIsAhead, ahead_in}
 use Rattle.engine.specs.Run.{IsReadOf, IsRunOf}
 use Rattle.command_output.specs.declared.outcome.CommandFault.{CommandFault}
 use Rattle.command_output.specs.declared.outcome.CommandFault.TheVariants.{Output}
@@ -76,29 +77,31 @@ ending_of end =
 
 -- ---- what is written
 
--- A run of a feed whose bytes are known or not has left this, where each lane was given so many channels, of which this is known.
-abbrev pub IsRun : (can_fail : Bool) → Config → Zone → (given : ℕ → ℕ)
+-- A run of a feed whose bytes are known or not, and of whose lines none is refused as Ahead where no stamp is too late, has left this,
+-- where each lane was given so many channels, of which this is known.
+abbrev pub IsRun : (can_fail is_open : Bool) → Config → Zone → (given : ℕ → ℕ)
     → (tie : List LaneParts → Type 0) → (known : Option (List ℕ)) → RunEnd → Type 0
-IsRun can_fail c zone given tie known end =
+IsRun can_fail is_open c zone given tie known end =
     IsRunOf c zone given end.events.items end.memory end.lanes.items end.log.items
-    × IsReadOf can_fail c known end.memory end.events.items end.refused.items end.cut
+    × IsReadOf (ahead_in end.refused.items) can_fail c known end.memory end.events.items end.refused.items end.cut
+    × (is_open ≡ true → NoneIsAhead end.refused.items)
     × tie end.lanes.items
 
 -- the report of a run of this feed was written, for which there was memory, and it ended so
-abbrev pub WritesReport : (can_fail : Bool) → Config → Zone → (given : ℕ → ℕ)
+abbrev pub WritesReport : (can_fail is_open : Bool) → Config → Zone → (given : ℕ → ℕ)
     → (tie : List LaneParts → Type 0) → (known : Option (List ℕ)) → Ending → (before after : Option (List ℕ)) → Type 0
-WritesReport can_fail c zone given tie known ending before after =
+WritesReport can_fail is_open c zone given tie known ending before after =
     (end : RunEnd)
-    × IsRun can_fail c zone given tie known end
+    × IsRun can_fail is_open c zone given tie known end
     × (end.memory ≡ false) × (ending ≡ ending_of end)
     × Writes before after (report_text c end)
 
 -- a front of it was; where that was the output's fault, there was memory for the run
-abbrev pub WritesReportFront : (can_fail : Bool) → Config → Zone → (given : ℕ → ℕ)
+abbrev pub WritesReportFront : (can_fail is_open : Bool) → Config → Zone → (given : ℕ → ℕ)
     → (tie : List LaneParts → Type 0) → (known : Option (List ℕ)) → Result Ending CommandFault → (before after : Option (List ℕ))
     → Type 0
-WritesReportFront can_fail c zone given tie known result before after =
+WritesReportFront can_fail is_open c zone given tie known result before after =
     (end : RunEnd)
-    × IsRun can_fail c zone given tie known end
+    × IsRun can_fail is_open c zone given tie known end
     × (IsErrOf result Output → end.memory ≡ false)
     × WritesFront before after (report_text c end)

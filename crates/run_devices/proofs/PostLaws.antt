@@ -70,9 +70,9 @@ same_posted {P} lane_of posts lanes is l = by_post posts ∙ ap (λ (ls : List L
         (cases_Bool ((lane_of post).0 == l))
 
 -- what is so of a run with so many channels for each lane is so of one with as many
-run_posted : (can_fail : Bool) (c : Config) (zone : Zone) (given same : ℕ → ℕ) (tie : List LaneParts → Type 0) (known : Option (List ℕ)) (end : RunEnd) → ((l : ℕ) → given l ≡ same l)
-    → IsRun can_fail c zone given tie known end → IsRun can_fail c zone same tie known end
-run_posted can_fail c zone given same tie known end is (run, read, tied) = (
+run_posted : (can_fail is_open : Bool) (c : Config) (zone : Zone) (given same : ℕ → ℕ) (tie : List LaneParts → Type 0) (known : Option (List ℕ)) (end : RunEnd) → ((l : ℕ) → given l ≡ same l)
+    → IsRun can_fail is_open c zone given tie known end → IsRun can_fail is_open c zone same tie known end
+run_posted can_fail is_open c zone given same tie known end is (run, read, near, tied) = (
   record {
     due = run.due;
     log = run.log;
@@ -83,12 +83,13 @@ run_posted can_fail c zone given same tie known end is (run, read, tied) = (
     causes = λ l lane at. subst (λ (n : ℕ). IsCause n end.memory lane) (is l) (run.causes l lane at);
   },
   read,
+  near,
   tied,
 )
 
-pub report_posted : (can_fail : Bool) (c : Config) (zone : Zone) (given same : ℕ → ℕ) (tie : List LaneParts → Type 0) (known before after : Option (List ℕ)) (ending : Ending) → ((l : ℕ) → given l ≡ same l)
-    → WritesReport can_fail c zone given tie known ending before after → WritesReport can_fail c zone same tie known ending before after
-report_posted can_fail c zone given same tie known before after ending is wrote = (wrote.0, run_posted can_fail c zone given same tie known wrote.0 is wrote.1, wrote.2, wrote.3, wrote.4)
+pub report_posted : (can_fail is_open : Bool) (c : Config) (zone : Zone) (given same : ℕ → ℕ) (tie : List LaneParts → Type 0) (known before after : Option (List ℕ)) (ending : Ending) → ((l : ℕ) → given l ≡ same l)
+    → WritesReport can_fail is_open c zone given tie known ending before after → WritesReport can_fail is_open c zone same tie known ending before after
+report_posted can_fail is_open c zone given same tie known before after ending is wrote = (wrote.0, run_posted can_fail is_open c zone given same tie known wrote.0 is wrote.1, wrote.2, wrote.3, wrote.4)
 
 -- ---- the words
 

@@ -15,22 +15,22 @@ use Rattle.run_devices.specs.Fault.{AreRight}
 -- The report of a run of the feed was written, with these channels, each on its lane; and lane by lane, what it tells is what the
 -- channels that came back have taken.
 abbrev pub WritesRun : {C V : Type 0} → (account : C → Account) → (offered : C → List Offer → C → Type 0) → (items : V → List C)
-    → (can_fail : Bool) → Config → Zone → (tries : ℕ) → (posts : List (Post C)) → (given_back : List V) → (known : Option (List ℕ))
+    → (can_fail is_open : Bool) → Config → Zone → (tries : ℕ) → (posts : List (Post C)) → (given_back : List V) → (known : Option (List ℕ))
     → Ending → (before after : Option (List ℕ)) → Type 0
-WritesRun account offered items can_fail c zone tries posts given_back known ending before after =
-    WritesReport can_fail c zone (channels_for (map (λ post. post.lane) posts))
+WritesRun account offered items can_fail is_open c zone tries posts given_back known ending before after =
+    WritesReport can_fail is_open c zone (channels_for (map (λ post. post.lane) posts))
     (AreTold account offered items tries c (λ l. channels_on (λ post. post.lane.0) (λ post. post.channel) l posts) given_back)
     known ending before after
 
 -- The same of these channels, in the order of their lanes.
 abbrev pub RunsWith : {C D V : Type 0} → (account : C → Account) → (offered : C → List Offer → C → Type 0) → (items : V → List C)
-    → (channel_of : C → D) → (can_fail : Bool) → Config → Zone → (tries : ℕ) → (lanes : List LaneId) → (channels : List D)
+    → (channel_of : C → D) → (can_fail is_open : Bool) → Config → Zone → (tries : ℕ) → (lanes : List LaneId) → (channels : List D)
     → (given_back : List V) → (known : Option (List ℕ)) → Ending → (before after : Option (List ℕ)) → Type 0
-RunsWith {C} account offered items channel_of can_fail c zone tries lanes channels given_back known ending before after =
+RunsWith {C} account offered items channel_of can_fail is_open c zone tries lanes channels given_back known ending before after =
     (posts : List (Post C))
     × (map (λ post. post.lane) posts ≡ lanes)
     × (map (λ post. channel_of post.channel) posts ≡ channels)
-    × WritesRun account offered items can_fail c zone tries posts given_back known ending before after
+    × WritesRun account offered items can_fail is_open c zone tries posts given_back known ending before after
 
 -- All checks of the words of these texts went well: they name these lanes by an accepted configuration, and the channels are opened as
 -- they ask for them, in their order.
@@ -41,11 +41,11 @@ pub record AreOpened (texts : List (List ℕ)) (config : Config) (lanes : List L
 -- All checks of the words of these texts went well, their channels were opened, and the report of a run of the feed was written: by an
 -- accepted configuration, each channel on the lane that its word names.
 pub record IsDone {C V : Type 0} (account : C → Account) (offered : C → List Offer → C → Type 0) (items : V → List C)
-    (opened : C → Opened) (texts : List (List ℕ)) (can_fail : Bool) (zone : Zone) (tries : ℕ) (given_back : List V)
+    (opened : C → Opened) (texts : List (List ℕ)) (can_fail is_open : Bool) (zone : Zone) (tries : ℕ) (given_back : List V)
     (known : Option (List ℕ)) (ending : Ending) (before after : Option (List ℕ)) : Type 0 where
   pub config : Config
   pub lanes : List LaneId
   pub posts : List (Post C)
   pub posted : map (λ post. post.lane) posts ≡ lanes
   pub right : AreOpened texts config lanes (map (λ post. opened post.channel) posts)
-  pub report : WritesRun account offered items can_fail config zone tries posts given_back known ending before after
+  pub report : WritesRun account offered items can_fail is_open config zone tries posts given_back known ending before after

@@ -1,6 +1,6 @@
 //! A run: its checks in their order, its channels, and the feed.
 
-ghost use Rattle.std.specs.Prelude.{◌≡◌, ◌≤◌, ℕ, [], length, map, unwrap_or, IfErr, IfOk};
+ghost use Rattle.std.specs.Prelude.{◌≡◌, ◌≤◌, ℕ, [], is_none, length, map, unwrap_or, IfErr, IfOk};
 ghost use Rattle.std.specs.Option.{option_map};
 ghost use Rattle.channel_words.specs.Lanes.{channels_for, names_of};
 ghost use Rattle.due_model.specs.Accepted.{IsAccepted};
@@ -61,7 +61,7 @@ pub fn do_run<'a, T: Threads + Wait + Clock + Sync, R: Input + Drop, W: Sink>(
         (unwrap_or (option_map (λ given. given.now) channels.entry) [])
         in IfOk result (λ done. IsDone ⟦<CountedChannel<OpenedChannel> as Channel>⟧.account
         ⟦<CountedChannel<OpenedChannel> as Channel>⟧.offered (λ cs. cs.items) (λ c. opened c.channel)
-        texts R.can_fail zone.now settings.settings.tries done.channels.items (R.remaining feed) done.ending
+        texts R.can_fail (is_none settings.ahead) zone.now settings.settings.tries done.channels.items (R.remaining feed) done.ending
         (W.contents writer.old) (W.contents writer.new)) }
     // What it fails with, and that the earlier checks went well.
     ensures fault { let texts = map (λ text. text.now)
@@ -182,7 +182,7 @@ fn run_through<'a, T: Threads + Wait + Clock + Sync, R: Input + Drop, W: Sink>(
     requires few { (l : ℕ) → channels_for lanes.now l ≤ 8 }
     ensures report { IfOk result (λ done. RunsWith ⟦<CountedChannel<OpenedChannel> as Channel>⟧.account
         ⟦<CountedChannel<OpenedChannel> as Channel>⟧.offered (λ cs. cs.items) (λ c. c.channel)
-        R.can_fail config.now zone.now settings.settings.tries lanes.now
+        R.can_fail (is_none settings.ahead) config.now zone.now settings.settings.tries lanes.now
         (numbered_from 0 channels.items) done.channels.items
         (R.remaining feed) done.ending (W.contents writer.old) (W.contents writer.new)) }
     ensures fault { IfErr result IsCommandFault }
@@ -195,9 +195,10 @@ fn run_through<'a, T: Threads + Wait + Clock + Sync, R: Input + Drop, W: Sink>(
         Teller::new(rt, Arc::try_clone(&counts)?, settings.quiet),
     )?;
     let gate = CountingGate::new(
+        rt,
         Arc::try_clone(&counts)?,
         Arc::try_clone(&teller)?,
-        settings.pause,
+        settings,
     );
     let posts = posts_of(alloc, config, lanes, channels, &counts, &teller)?;
     teller.say_unserved(config, lanes);

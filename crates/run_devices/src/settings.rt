@@ -19,6 +19,8 @@ pub struct RunSettings {
     pub pause: u8,
     /// Whether nothing is said on standard error before the report.
     pub quiet: bool,
+    /// How many seconds past the machine's clock the stamp of a line of the feed may be at most, if there is a limit.
+    pub ahead: Option<u32>,
 }
 
 impl RunSettings {

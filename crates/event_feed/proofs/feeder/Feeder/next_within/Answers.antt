@@ -3,8 +3,8 @@ use Rattle.text_lines.specs.CountedReader.{calls_after}
 use Rattle.text_lines.specs.LineReader.{call_limit}
 use Rattle.text_lines.specs.declared.line_reader.Stop.TheVariants.{ReaderFailed, TooManyCalls}
 use Rattle.event_feed.proofs.Answering.{AreGiven-stop, GivesEvent-line, GivesFault-line, GivesFault-long, few-going, not_over, on_some, over_so}
-use Rattle.event_feed.proofs.feeder.Feeder.next.Goals as goal
-use Rattle.event_feed.proofs.feeder.Feeder.next.Goals.{in-None, in-Some}
+use Rattle.event_feed.proofs.feeder.Feeder.next_within.Goals as goal
+use Rattle.event_feed.proofs.feeder.Feeder.next_within.Goals.{in-None, in-Some}
 
 pub returns-then-is_some-clause-over : goal.returns-then-is_some-clause-over
 returns-then-is_some-clause-over g c = on_some c.args.self.now.stop _ (refl, refl)
@@ -17,19 +17,19 @@ returns-then-is_some-clause-last g c = tt
 
 pub returns-in-Ok-clause-event : goal.returns-in-Ok-clause-event
 returns-in-Ok-clause-event g c =
-    rw (← c.self.view_is) (GivesEvent-line c.args.config.now c.self.inside.lines c.next_line-how.new.lines c.self.inside.line c.self.inside.last c.next_line-how.new.line
+    λ far near. rw (← c.self.view_is) (GivesEvent-line far c.args.config.now c.self.inside.lines c.next_line-how.new.lines c.self.inside.line c.self.inside.last c.next_line-how.new.line
     c.self.inside.stop c.in-Ok.event c.raise-event.result (sym c.is_some.ensures ∙ c.if-is_some.false) c.in-Line.ensures.goes c.in-Line.ensures.counts
-    (rw (← c.line.ensures) c.in-Ok.ensures.reading) c.in-Ok.ensures.proper c.raise-event.ensures (omega arith))
+    (rw (← c.line.ensures) c.in-Ok.ensures.event) c.in-Ok.ensures.proper c.raise-event.ensures (omega arith) near)
 
 pub returns-in-Err-clause-fault : goal.returns-in-Err-clause-fault
 returns-in-Err-clause-fault g c =
-    rw (← c.self.view_is) (GivesFault-line c.args.config.now c.self.inside.lines c.next_line-how.new.lines c.self.inside.line c.self.inside.last c.next_line-how.new.line
+    λ far same. rw (← c.self.view_is) (GivesFault-line far c.args.config.now c.self.inside.lines c.next_line-how.new.lines c.self.inside.line c.self.inside.last c.next_line-how.new.line
     c.self.inside.stop c.in-Err.fault (sym c.is_some.ensures ∙ c.if-is_some.false) c.in-Line.ensures.goes c.in-Line.ensures.counts
-    (rw (← c.line.ensures) c.in-Err.ensures.reading))
+    (rw (← c.line.ensures) c.in-Err.ensures.fault) same)
 
 pub returns-in-Long-clause-fault : goal.returns-in-Long-clause-fault
 returns-in-Long-clause-fault g c =
-    rw (← c.self.view_is) (GivesFault-long c.args.config.now.objects c.self.inside.lines c.next_line-how.new.lines c.self.inside.line c.self.inside.last c.next_line-how.new.line
+    λ far same. rw (← c.self.view_is) (GivesFault-long far c.args.config.now.objects c.self.inside.lines c.next_line-how.new.lines c.self.inside.line c.self.inside.last c.next_line-how.new.line
     c.self.inside.stop (sym c.is_some.ensures ∙ c.if-is_some.false) c.in-Long.ensures.goes c.in-Long.ensures.counts)
 
 pub returns-after-stop_fault-clause-last : goal.returns-after-stop_fault-clause-last
@@ -37,7 +37,7 @@ returns-after-stop_fault-clause-last g c =
     elim c.match-stop_fault.branch [
       | in-None w ↦ rw w.result-is tt
       | in-Some w ↦
-          rw w.result-is (λ _. rw (← c.self.view_is) (AreGiven-stop g.R.Input.can_fail c.args.config.now.objects c.self.inside.lines c.next_line-how.new.lines c.self.inside.line c.self.inside.last
+          rw w.result-is (λ _ far. rw (← c.self.view_is) (AreGiven-stop far g.R.Input.can_fail c.args.config.now.objects c.self.inside.lines c.next_line-how.new.lines c.self.inside.line c.self.inside.last
           c.next_line-how.new.line c.self.inside.stop c.in-Over.stop w.in-Some.fault (sym c.is_some.ensures ∙ c.if-is_some.false) c.in-Over.ensures.goes c.in-Over.ensures.sure
           (sym c.stop_fault.ensures ∙ w.in-Some.is)))
     ]
