@@ -9,7 +9,7 @@ use channel::memory::MemoryChannel;
 use command_output::{CommandFault, Ending, Sink};
 use due_model::config::{Config, LaneId};
 use due_model::zone::Zone;
-use engine::{Closers, OpenGate, Post, Settings, are_few};
+use engine::{Closers, LimitedFeed, OpenGate, OpenHorizon, Post, Settings, are_few};
 use progress::{Unwatched, Watcher};
 use run_command::run;
 use std::alloc::{AllocError, Global};
@@ -70,6 +70,10 @@ fn ends_watched<R: Read + Drop, W: Sink, P: Watcher, T: Abort + Threads + Wait +
     let closers = Closers::new(alloc, 1)?;
     let feed = AnyReader::new(feed);
     let zone = Zone::Utc;
+    let feed = LimitedFeed {
+        reader: feed,
+        horizon: OpenHorizon,
+    };
     let (ended, _channels) = run(
         rt, alloc, config, &zone, settings, posts, feed, out, &closers, &OpenGate, watcher,
     );

@@ -14,6 +14,7 @@ ghost use Rattle.engine.specs.Unread.{IsUnread};
 ghost use Rattle.event_feed.specs.Feed.{no_line};
 
 use crate::intake::Intake;
+use crate::limited_feed::LimitedFeed;
 use crate::post::Post;
 use crate::run_end::RunEnd;
 use crate::source_run::{Ran, run_source};
@@ -107,33 +108,29 @@ impl Engine {
             (channels_on (λ post. post.lane.0) (λ post. post.channel) l posts.items) cs.items }
         ensures places { length result.1.items ≡ length result.0.lanes.items }
     {
-        run_feed(
-            rt,
-            alloc,
-            config,
-            zone,
+        let feed = LimitedFeed {
             reader,
-            &OpenHorizon,
-            posts,
-            settings,
-            closers,
-            gate,
+            horizon: OpenHorizon,
+        };
+        Engine::run_within(
+            rt, alloc, config, zone, feed, posts, settings, closers, gate,
         )
     }
 
-    /// The same, where a line whose stamp is past what the gate says as a horizon is refused as `Ahead`. It is asked in the calling
-    /// thread, once for each line that would give an event, after the line was read.
+    /// The same, where a line whose stamp is past what a horizon says is refused as `Ahead`. It is asked in the calling thread, once
+    /// for each line that would give an event, after the line was read.
     pub fn run_within<
         C: Channel,
         R: Input + Drop,
-        G: Gate + Horizon + Sync,
+        H: Horizon + Drop,
+        G: Gate + Sync,
         T: Threads + Wait + Clock + Sync,
     >(
         rt: &T,
         alloc: Global,
         config: &Config,
         zone: &Zone,
-        reader: R,
+        feed: LimitedFeed<R, H>,
         posts: Vec<Post<C>>,
         settings: Settings,
         closers: &Closers,
@@ -145,10 +142,11 @@ impl Engine {
         ensures run { IsRunOf config.now zone.now (count_of (λ post. post.lane.0) posts.items)
             result.0.events.items result.0.memory result.0.lanes.items result.0.log.items }
         // and they and the refused lines are those of the bytes, of whose lines just those are too far ahead that are refused so.
-        ensures read { IsReadOf (ahead_in result.0.refused.items) R.can_fail config.now
-            (R.remaining reader) result.0.memory
+        ensures read { (far : ℕ → Bool)
+            → ((line : ℕ) → far line ≡ ahead_in result.0.refused.items line)
+            → IsReadOf far R.can_fail config.now (R.remaining feed.reader) result.0.memory
             result.0.events.items result.0.refused.items result.0.cut }
-        ensures near { G.is_open gate.now ≡ true → NoneIsAhead result.0.refused.items }
+        ensures near { H.is_open feed.horizon ≡ true → NoneIsAhead result.0.refused.items }
         ensures all { result.0.started ≡ true
             → length result.0.lanes.items ≡ length config.now.lanes }
         ensures unstarted { result.0.started ≡ false
@@ -160,80 +158,38 @@ impl Engine {
             (channels_on (λ post. post.lane.0) (λ post. post.channel) l posts.items) cs.items }
         ensures places { length result.1.items ≡ length result.0.lanes.items }
     {
-        run_feed(
-            rt, alloc, config, zone, reader, gate, posts, settings, closers, gate,
-        )
+        let LimitedFeed { reader, horizon } = feed;
+        let Ok(lines) = LineReader::new(alloc, reader) else {
+            return (RunEnd::unread(alloc), Vec::new(alloc));
+        };
+        let Ran {
+            lanes,
+            channels,
+            log,
+            memory,
+            started,
+            source,
+        } = run_source(
+            rt,
+            alloc,
+            config,
+            zone,
+            Intake::new(alloc, lines, horizon),
+            posts,
+            settings,
+            closers,
+            gate,
+        );
+        let (events, refused, cut) = source.into_parts(memory);
+        let end = RunEnd {
+            events,
+            refused,
+            log,
+            lanes,
+            memory,
+            cut,
+            started,
+        };
+        (end, channels)
     }
-}
-
-/// A run of a feed, where a line whose stamp is past what a horizon says is refused.
-fn run_feed<
-    C: Channel,
-    R: Input + Drop,
-    H: Horizon,
-    G: Gate + Sync,
-    T: Threads + Wait + Clock + Sync,
->(
-    rt: &T,
-    alloc: Global,
-    config: &Config,
-    zone: &Zone,
-    reader: R,
-    horizon: &H,
-    posts: Vec<Post<C>>,
-    settings: Settings,
-    closers: &Closers,
-    gate: &G,
-) -> (RunEnd, Vec<Vec<C>>)
-    requires accepted { IsAccepted config.now }
-    requires few { (l : ℕ) → count_of (λ post. post.lane.0) posts.items l ≤ 8 }
-    ensures run { IsRunOf config.now zone.now (count_of (λ post. post.lane.0) posts.items)
-        result.0.events.items result.0.memory result.0.lanes.items result.0.log.items }
-    ensures read { (far : ℕ → Bool) → ((line : ℕ) → far line ≡ ahead_in result.0.refused.items line)
-        → IsReadOf far R.can_fail config.now (R.remaining reader) result.0.memory
-        result.0.events.items result.0.refused.items result.0.cut }
-    ensures near { H.is_open horizon.now ≡ true → NoneIsAhead result.0.refused.items }
-    ensures all { result.0.started ≡ true
-        → length result.0.lanes.items ≡ length config.now.lanes }
-    ensures unstarted { result.0.started ≡ false
-        → IsUnread result.0.events.items result.0.refused.items result.0.log.items
-        result.0.lanes.items result.0.memory }
-    ensures channels { (l : ℕ) (lane cs : _) → slice_get result.0.lanes.items l ≡ Some lane
-        → slice_get result.1.items l ≡ Some cs
-        → HaveTaken C.account C.offered settings.tries config.now lane
-        (channels_on (λ post. post.lane.0) (λ post. post.channel) l posts.items) cs.items }
-    ensures places { length result.1.items ≡ length result.0.lanes.items }
-{
-    let Ok(lines) = LineReader::new(alloc, reader) else {
-        return (RunEnd::unread(alloc), Vec::new(alloc));
-    };
-    let Ran {
-        lanes,
-        channels,
-        log,
-        memory,
-        started,
-        source,
-    } = run_source(
-        rt,
-        alloc,
-        config,
-        zone,
-        Intake::new(alloc, lines, horizon),
-        posts,
-        settings,
-        closers,
-        gate,
-    );
-    let (events, refused, cut) = source.into_parts(memory);
-    let end = RunEnd {
-        events,
-        refused,
-        log,
-        lanes,
-        memory,
-        cut,
-        started,
-    };
-    (end, channels)
 }

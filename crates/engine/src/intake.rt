@@ -34,10 +34,10 @@ pub(crate) enum Next {
 /// What was read of a feed. Contracts see the feed, the events, the refused lines, whether no line is too far ahead for it, whether it
 /// is over, and the room for more.
 #[derive(Drop)]
-pub(crate) struct Intake<'h, R: Read, H: Horizon> {
+pub(crate) struct Intake<R: Read, H: Horizon> {
     feeder: Feeder<R>,
     /// What says how late the stamp of a line may be.
-    horizon: &'h H,
+    horizon: H,
     /// The events that were accepted.
     events: Vec<Event>,
     /// The lines that were refused.
@@ -46,7 +46,7 @@ pub(crate) struct Intake<'h, R: Read, H: Horizon> {
     over: Option<bool>,
 }
 
-impl<'h, R: Read, H: Horizon> Model for Intake<'h, R, H> {
+impl<R: Read, H: Horizon> Model for Intake<R, H> {
     ghost use Rattle.std.specs.Prelude.{◌-◌, vec_len, vec_capacity};
     ghost use Rattle.engine.specs.Feed.{Kept};
 
@@ -58,19 +58,19 @@ impl<'h, R: Read, H: Horizon> Model for Intake<'h, R, H> {
         events = s.events.items;
         refused = s.refused.items;
       };
-      is_open = H.is_open s.horizon.now;
+      is_open = H.is_open s.horizon;
       over = s.over;
       events_room = vec_capacity s.events - vec_len s.events;
       refused_room = vec_capacity s.refused - vec_len s.refused;
     } };
 }
 
-impl<'h, R: Input + Drop, H: Horizon> Intake<'h, R, H> {
+impl<R: Input + Drop, H: Horizon + Drop> Intake<R, H> {
     /// Nothing was read of the feed whose first line is the next of this reader. It takes no memory.
-    pub(crate) fn new(alloc: Global, lines: LineReader<R>, horizon: &'h H) -> Self
+    pub(crate) fn new(alloc: Global, lines: LineReader<R>, horizon: H) -> Self
         ensures read { result.read
             ≡ record { feed = feed_of lines 0 0 None; events = []; refused = [] } }
-        ensures is_open { result.is_open ≡ H.is_open horizon.now }
+        ensures is_open { result.is_open ≡ H.is_open horizon }
         ensures over { result.over ≡ None }
     {
         Intake {
@@ -101,7 +101,7 @@ impl<'h, R: Input + Drop, H: Horizon> Intake<'h, R, H> {
     {
         self.events.reserve(1)?;
         self.refused.reserve(1)?;
-        match self.feeder.next_within(config, self.horizon) {
+        match self.feeder.next_within(config, &self.horizon) {
             Ok(None) => Ok(Next::Over(false)),
             Ok(Some(event)) => Ok(Next::Accepts(event)),
             Err(refusal) => {
@@ -237,7 +237,7 @@ fn tell_last<G: Gate>(refused: &[RefusedLine], gate: &G) {
     }
 }
 
-impl<'h, R: Input + Drop, H: Horizon> Source for Intake<'h, R, H> {
+impl<R: Input + Drop, H: Horizon + Drop> Source for Intake<R, H> {
     ghost use Rattle.std.specs.Prelude.{IsSome};
     ghost use Rattle.engine.specs.Feed.{Goes};
     ghost use Rattle.engine.specs.FeedLaws.{goes_nowhere, goes_then};

@@ -16,7 +16,7 @@ use channel::Channel;
 use command_output::{CommandFault, Ending, Lines, Sink};
 use due_model::config::Config;
 use due_model::zone::Zone;
-use engine::{Closers, Engine, Gate, Horizon, Post, RunEnd, Settings};
+use engine::{Closers, Engine, Gate, Horizon, LimitedFeed, Post, RunEnd, Settings};
 use feed_lines::{write_log, write_refused};
 use lanes::{has_undelivered, write_lanes};
 use progress::Watcher;
@@ -30,14 +30,15 @@ use text_lines::Input;
 /// that once the feed is over and all lanes are closed: the `R` lines of refused lines of the feed; the `S` and `C` lines of
 /// what was suppressed; and lane by lane the `T` lines of what its channels have taken, the `U` lines of what it gave up, each in
 /// order, where it was given several channels the `G` lines of how many each that served has taken, and its `Z` line. Where the output fails, a front of the report was written. Where memory runs out in the run it reads
-/// no further, and what is there is told. A line whose stamp is past what the gate says as a horizon is refused as `Ahead`. The
+/// no further, and what is there is told. A line whose stamp is past the feed's horizon is refused as `Ahead`. The
 /// watcher is told before lines are written. `Undelivered` says that a lane gave
 /// something up, `Short` that the feed ended before its input; of both, the latter is said.
 pub fn run<
     C: Channel,
     R: Input + Drop,
     W: Sink,
-    G: Gate + Horizon + Sync,
+    H: Horizon + Drop,
+    G: Gate + Sync,
     P: Watcher,
     T: Threads + Wait + Clock + Sync,
 >(
@@ -47,7 +48,7 @@ pub fn run<
     zone: &Zone,
     settings: Settings,
     posts: Vec<Post<C>>,
-    feed: R,
+    feed: LimitedFeed<R, H>,
     writer: &mut W,
     closers: &Closers,
     gate: &G,
@@ -57,18 +58,18 @@ pub fn run<
     // Of each lane there are at most eight posts.
     requires few { (l : ℕ) → count_of (λ post. post.lane.0) posts.items l ≤ 8 }
     // What is written is the report of a run of the feed, and nothing else.
-    ensures report { IfOk result.0 (λ ending. WritesReport R.can_fail (G.is_open gate.now) config.now zone.now
+    ensures report { IfOk result.0 (λ ending. WritesReport R.can_fail (H.is_open feed.horizon) config.now zone.now
         (count_of (λ post. post.lane.0) posts.items)
         (AreTold C.account C.offered (λ cs. cs.items) settings.tries config.now
         (λ l. channels_on (λ post. post.lane.0) (λ post. post.channel) l posts.items) result.1.items)
-        (R.remaining feed) ending
+        (R.remaining feed.reader) ending
         (W.contents writer.old) (W.contents writer.new)) }
     // Or a front of it.
-    ensures front { WritesReportFront R.can_fail (G.is_open gate.now) config.now zone.now
+    ensures front { WritesReportFront R.can_fail (H.is_open feed.horizon) config.now zone.now
         (count_of (λ post. post.lane.0) posts.items)
         (AreTold C.account C.offered (λ cs. cs.items) settings.tries config.now
         (λ l. channels_on (λ post. post.lane.0) (λ post. post.channel) l posts.items) result.1.items)
-        (R.remaining feed) result.0
+        (R.remaining feed.reader) result.0
         (W.contents writer.old) (W.contents writer.new) }
     ensures fault { IfErr result.0 (λ fault. IsWriteFault W.can_fail fault) }
 {

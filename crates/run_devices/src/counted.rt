@@ -1,86 +1,44 @@
 //! What counts the events and the letters of a run as it goes.
 
-ghost use Rattle.std.specs.Prelude.{◌≡◌, ◌↔◌, ◌+◌, ◌<◌, ◌≤◌, ◌∷◌, ◌++◌, [], length, min, IsTrue, IsErrOf};
+ghost use Rattle.std.specs.Prelude.{◌≡◌, ◌↔◌, ◌+◌, ◌<◌, ◌≤◌, ◌∷◌, ◌++◌, [], length, IsTrue, IsErrOf};
 ghost use Rattle.std.specs.Prelude.{OnErr, OnOk};
 ghost use Rattle.channel.specs.Channels.{IsCounted, receipt_of};
 
-use crate::settings::{RunSettings, pause_after};
+use crate::settings::pause_after;
 use crate::teller::{LaneTeller, Teller};
 use channel::letter::Letter;
 use channel::{Channel, Fault, Kind, Receipt};
 use due_model::config::LaneId;
 use due_model::notice::Notice;
-use engine::{Gate, Horizon};
+use engine::Gate;
 use progress::Counts;
 use std::alloc::{AllocError, Global};
 use std::sync::Arc;
-use std::time::{Duration, SystemTime};
+use std::time::Duration;
 
 /// A gate that admits all, counts the events, those that the first decider comes to, and says how long a lane waits before it tries
-/// a letter again, and how late the stamp of a line may be.
+/// a letter again.
 #[derive(Drop)]
 pub struct CountingGate {
-    rt: HostRuntime,
     counts: Arc<Counts, Global>,
     teller: Arc<Teller, Global>,
     /// How many seconds pass before the second try of a letter.
     pause: u8,
-    /// How many seconds past the machine's clock the stamp of a line may be at most, if there is a limit.
-    ahead: Option<u32>,
 }
 
 impl CountingGate {
-    /// A gate that counts there, says what is refused, and has as many seconds pass before the second try of a letter, and lets a
-    /// stamp be as far ahead, as a run's settings say.
+    /// A gate that counts there, says what is refused, and before the second try of a letter has so many seconds pass.
     pub fn new(
-        rt: &HostRuntime,
         counts: Arc<Counts, Global>,
         teller: Arc<Teller, Global>,
-        settings: RunSettings,
-    ) -> CountingGate
-        ensures { result.ahead ≡ settings.ahead }
-    {
+        pause: u8,
+    ) -> CountingGate {
         CountingGate {
-            rt: *rt,
             counts,
             teller,
-            pause: settings.pause,
-            ahead: settings.ahead,
+            pause,
         }
     }
-}
-
-impl Horizon for CountingGate {
-    ghost use Rattle.std.specs.Prelude.{is_none};
-    ghost use Rattle.run_devices.specs.Ahead.{SaysAhead};
-
-    ghost is_open = { λ s. is_none s.ahead };
-
-    ghost says = { λ s latest. SaysAhead s.ahead latest };
-
-    // Where the machine's clock can't be read there is no limit.
-    fn latest(&self) -> Option<u64> {
-        let ahead = self.ahead?;
-        let Ok(now) = SystemTime::now(&self.rt) else {
-            return None;
-        };
-        Some(latest_of(seconds_of(now), ahead))
-    }
-}
-
-/// The seconds from the epoch to then.
-fn seconds_of(time: SystemTime) -> u64 {
-    match time.duration_since(SystemTime::UNIX_EPOCH) {
-        Ok(since) => since.as_secs(),
-        Err(_) => 0,
-    }
-}
-
-/// So many seconds later.
-fn latest_of(now: u64, ahead: u32) -> u64
-    ensures { result ≡ min (now + ahead) 18446744073709551615 }
-{
-    now.saturating_add(u64::from(ahead))
 }
 
 impl Gate for CountingGate {

@@ -4,6 +4,7 @@
 pub mod channels;
 pub mod counted;
 pub mod fault;
+pub mod horizon;
 pub mod run;
 pub mod settings;
 pub mod teller;

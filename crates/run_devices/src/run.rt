@@ -11,6 +11,7 @@ ghost use Rattle.run_devices.specs.Fault.{AreChecked, ChecksFail, IsCommandFault
 use crate::channels::{OpenedChannel, open_channels};
 use crate::counted::{CountedChannel, CountingGate};
 use crate::fault::RunFault;
+use crate::horizon::ClockHorizon;
 use crate::settings::RunSettings;
 use crate::teller::{Teller, teller_of};
 use crate::watcher::RunWatcher;
@@ -20,7 +21,7 @@ use command_input::read_object_file;
 use command_output::{CommandFault, Ending, Sink};
 use due_model::config::{Config, LaneId};
 use due_model::zone::Zone;
-use engine::{Closers, Post};
+use engine::{Closers, LimitedFeed, Post};
 use progress::Counts;
 use run_command::run;
 use std::alloc::{AllocError, Global};
@@ -195,10 +196,9 @@ fn run_through<'a, T: Threads + Wait + Clock + Sync, R: Input + Drop, W: Sink>(
         Teller::new(rt, Arc::try_clone(&counts)?, settings.quiet),
     )?;
     let gate = CountingGate::new(
-        rt,
         Arc::try_clone(&counts)?,
         Arc::try_clone(&teller)?,
-        settings,
+        settings.pause,
     );
     let posts = posts_of(alloc, config, lanes, channels, &counts, &teller)?;
     teller.say_unserved(config, lanes);
@@ -209,7 +209,13 @@ fn run_through<'a, T: Threads + Wait + Clock + Sync, R: Input + Drop, W: Sink>(
         zone,
         settings.settings,
         posts,
-        feed,
+        LimitedFeed {
+            reader: feed,
+            horizon: ClockHorizon {
+                rt: *rt,
+                ahead: settings.ahead,
+            },
+        },
         writer,
         &closers,
         &gate,

@@ -13,7 +13,7 @@ run-outcome-requires-clause-few g c κs within =
 pub returns-clause-report : goal.returns-clause-report
 returns-clause-report g c =
     let posts = c.in_ok-posts.posts.items in
-    let report = rw c.new-gate.ensures at c.run-outcome.ensures.report in (
+    let report = c.run-outcome.ensures.report in (
       posts,
       c.in_ok-posts.ensures.lanes,
       c.in_ok-posts.ensures.channels,

@@ -1,5 +1,8 @@
-use Rattle.std.proofs.Common.{rules, ◌≡◌, ◌∙◌, ◌-◌, Bool, None, Option, Some, IsSome, ap, length, subst, sym, take, true, true≢false}
-use Rattle.engine.specs.Feed.{HasRead, Intake, IsOver, Kept}
+use Rattle.std.proofs.Common.{rules, ◌≡◌, ◌∙◌, ◌-◌, Bool, None, Option, Some, IsSome, ap, false, length, subst, sym, take, true, true≢false}
+use Rattle.std.proofs.lemmas.List.Elements.{All-take}
+use Rattle.event_feed.specs.Fault.{is_ahead}
+use Rattle.event_feed.specs.declared.fault.RefusedLine.{RefusedLine}
+use Rattle.engine.specs.Feed.{HasRead, Intake, IsOver, Kept, NoneIsAhead}
 use Rattle.engine.proofs.IntakeLaws.{has_read, taken_over}
 use Rattle.engine.proofs.LeftLaws.{left_cut, left_on, left_over}
 use Rattle.engine.proofs.intake.Intake.into_parts.Goals.{else-memory-via-else-memory, else-memory-via-then-memory+else-cut}
@@ -37,3 +40,9 @@ returns-clause-left g c = λ can_fail config start said far taken some same_far.
       | else-memory-via-then-memory+else-cut w ↦ w.if-cut.false
       | else-memory-via-else-memory w ↦ absurd (true≢false (sym m ∙ w.if-memory.false))
     ]) same_far
+
+pub returns-then-cut-clause-near : goal.returns-then-cut-clause-near
+returns-then-cut-clause-near g c = λ none.
+    let all : NoneIsAhead c.self.inside.refused.items = subst NoneIsAhead (sym (ap (λ (k : Kept). k.read.refused) c.self.view_is)) none in
+    let left : c.pop-line.new.self.items ≡ take (length c.self.inside.refused.items - 1) c.self.inside.refused.items = search rules in
+    subst NoneIsAhead (sym left) (All-take (λ (r : RefusedLine). is_ahead r.fault ≡ false) (length c.self.inside.refused.items - 1) c.self.inside.refused.items all)

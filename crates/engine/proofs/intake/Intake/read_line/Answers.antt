@@ -1,5 +1,6 @@
-use Rattle.std.proofs.Common.{rules, ◌≡◌, ◌∙◌, [], ◌∷◌, ◌++◌, List, None, Some, ap, subst, sym}
-use Rattle.event_feed.specs.Feed.{Answer, Feed, refusal}
+use Rattle.std.proofs.Common.{rules, ◌≡◌, ◌∙◌, ◌<◌, ℕ, [], ◌∷◌, ◌++◌, List, None, Some, ap, refl, subst, sym}
+use Rattle.event_feed.specs.Fault.{is_ahead}
+use Rattle.event_feed.specs.Feed.{Answer, Feed, no_line, refusal}
 use Rattle.engine.specs.Feed.{HasRead, Intake, Kept}
 use Rattle.engine.proofs.IntakeLaws.{none_more, over_cut, over_whole, refused_more}
 use Rattle.engine.proofs.intake.Intake.read_line.Given.{Over}
@@ -46,12 +47,25 @@ returns-in_default-clause-next g c = λ start said h.
 
 pub returns-in-Some-clause-near : goal.returns-in-Some-clause-near
 returns-in-Some-clause-near g c =
-    let opened : g.H.Horizon.is_open c.self.inside.horizon.now ≡ c.args.self.now.is_open = ap (λ (k : Kept). k.is_open) c.self.view_is in
+    let opened : g.H.Horizon.is_open c.self.inside.horizon ≡ c.args.self.now.is_open = ap (λ (k : Kept). k.is_open) c.self.view_is in
     let refused : c.push-room.new.self.items ≡ c.args.self.now.read.refused ++ c.in-Err.refusal ∷ [] = search rules in
     ((λ is none. none_more c.args.self.now.read.refused c.push-room.new.self.items c.in-Err.refusal refused (c.in-Err.ensures.no_limit (opened ∙ is)) none), opened)
 
 pub returns-in_default-clause-near : goal.returns-in_default-clause-near
 returns-in_default-clause-near g c =
-    let opened : g.H.Horizon.is_open c.self.inside.horizon.now ≡ c.args.self.now.is_open = ap (λ (k : Kept). k.is_open) c.self.view_is in
+    let opened : g.H.Horizon.is_open c.self.inside.horizon ≡ c.args.self.now.is_open = ap (λ (k : Kept). k.is_open) c.self.view_is in
     let refused : c.push-room.new.self.items ≡ c.args.self.now.read.refused ++ c.in-Err.refusal ∷ [] = search rules in
     ((λ is none. none_more c.args.self.now.read.refused c.push-room.new.self.items c.in-Err.refusal refused (c.in-Err.ensures.no_limit (opened ∙ is)) none), opened)
+
+-- ---- the line is after those that were read
+
+pub returns-in-Ok-Some-clause-line : goal.returns-in-Ok-Some-clause-line
+returns-in-Ok-Some-clause-line g c = λ _.
+    let gives = rw c.in-Ok-Some.field-0-is at c.in-Ok-Some.ensures.event in
+    let line : c.self.inside.feeder.line < c.next_within.new.self.line = (gives no_line refl).line in
+    subst (λ (n : ℕ). n < c.next_within.new.self.line) (ap (λ (k : Kept). k.read.feed.line) c.self.view_is) line
+
+pub returns-in_default-clause-line : goal.returns-in_default-clause-line
+returns-in_default-clause-line g c = λ _.
+    let line : c.self.inside.feeder.line < c.next_within.new.self.line = (c.in-Err.ensures.fault (λ _. is_ahead c.in-Err.refusal.fault) refl).line in
+    subst (λ (n : ℕ). n < c.next_within.new.self.line) (ap (λ (k : Kept). k.read.feed.line) c.self.view_is) line
