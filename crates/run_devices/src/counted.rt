@@ -53,7 +53,7 @@ impl Gate for CountingGate {
     }
 
     fn refused(&self, line: u64, fault: &str) {
-        self.teller.say(format_args!("line {line}: {fault}"));
+        self.teller.say_refused(line, fault);
     }
 
     fn wanting(&self) {

@@ -6,7 +6,6 @@ use due_model::config::{Config, LaneId};
 use notice_text::texts::lane_name;
 use progress::Counts;
 use std::alloc::{AllocError, Global};
-use std::fmt::Display;
 use std::io::{Eprint, IsTerminal};
 use std::sync::Arc;
 use std::sync::atomic::{AtomicBool, Ordering};
@@ -44,16 +43,33 @@ impl Teller {
     }
 
     /// Says a line.
-    pub(crate) fn say<D: Display + Drop>(&self, line: D) {
+    fn say(&self, text: &str) {
         if self.is_quiet {
             return;
         }
         let begin = self.begin;
-        let Ok(text) = format!(in self.rt.alloc(); "{begin}notify-run: {line}\n") else {
+        let Ok(line) = format!(in self.rt.alloc(); "{begin}notify-run: {text}\n") else {
             return;
         };
-        let _ = self.rt.eprint(text.as_str());
+        let _ = self.rt.eprint(line.as_str());
         self.counts.say();
+    }
+
+    /// Says that a line of the feed is refused.
+    pub(crate) fn say_refused(&self, line: u64, fault: &str) {
+        if let Ok(text) = format!(in self.rt.alloc(); "line {line}: {fault}") {
+            self.say(text.as_str());
+        }
+    }
+
+    /// Says that no channel is for a lane.
+    fn say_without_channel(&self, lane: &str) {
+        let text = format!(in self.rt.alloc();
+            "{lane}: closed (NoChannel): all its letters are undelivered"
+        );
+        if let Ok(text) = text {
+            self.say(text.as_str());
+        }
     }
 
     /// Says once that memory ran out. It takes none.
@@ -68,13 +84,11 @@ impl Teller {
 
     /// Says which commands of a site no channel is for, where channels are for these lanes.
     pub(crate) fn say_unserved(&self, config: &Config, lanes: &[LaneId]) {
-        for at in 0..config.lanes.len() {
-            let lane = LaneId(at as u8);
-            if !is_among(lanes, lane) {
-                let name = name_of(config, lane);
-                self.say(format_args!(
-                    "{name}: closed (NoChannel): all its letters are undelivered"
-                ));
+        for number in 0..=u8::MAX {
+            let lane = LaneId(number);
+            let is_there = usize::from(number) < config.lanes.len();
+            if is_there && !is_among(lanes, lane) {
+                self.say_without_channel(name_of(config, lane));
             }
         }
     }
@@ -164,29 +178,27 @@ impl LaneTeller {
     /// The channel is closed: where its last letter failed, that is said, and what becomes of it.
     pub(crate) fn closed(&mut self) {
         if let Some(letter) = self.failed.take() {
-            self.say_end(letter.as_str());
+            let _ = self.say_end(letter.as_str());
         }
     }
 
-    /// Says that the channel failed for good at that letter, and what becomes of this.
-    fn say_end(&self, letter: &str) {
-        let LaneTeller {
-            teller,
-            lane,
-            place,
-            has_next,
-            ..
-        } = self;
-        if *has_next {
-            let next = place.saturating_add(1);
-            teller.say(format_args!(
+    /// Says that the channel failed for good at that letter, and what becomes of this. A refused growth is the only error.
+    fn say_end(&self, letter: &str) -> Result<(), AllocError> {
+        let alloc = self.teller.rt.alloc();
+        let lane = self.lane.as_str();
+        let place = self.place;
+        let next = place.saturating_add(1);
+        let text = if self.has_next {
+            format!(in alloc;
                 "{lane}: channel {place} failed, channel {next} takes over with {letter}"
-            ));
+            )?
         } else {
-            teller.say(format_args!(
+            format!(in alloc;
                 "{lane}: closed (Failed): {letter} and all later ones are undelivered"
-            ));
-        }
+            )?
+        };
+        self.teller.say(text.as_str());
+        Ok(())
     }
 }
 
