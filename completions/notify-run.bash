@@ -15,13 +15,13 @@ _notify_run() {
             mapfile -t COMPREPLY < <(compgen -f -- "$word")
             return
             ;;
-        "replay --zone" | "trace --deciders" | "trace --standbys" | "trace --queue" | "trace --tries" | "trace --zone" | "run --deciders" | "run --queue" | "run --tries" | "run --zone") return ;;
+        "replay --zone" | "trace --deciders" | "trace --standbys" | "trace --queue" | "trace --tries" | "trace --zone" | "run --deciders" | "run --queue" | "run --tries" | "run --timeout" | "run --pause" | "run --ahead" | "run --zone") return ;;
     esac
     case "$command" in
         "") words="replay trace run -h --help -V --version" ;;
         replay) words="--objects --zone --zone-file -h --help" ;;
         trace) words="--deciders --standbys --queue --tries --zone --zone-file -h --help" ;;
-        run) words="--objects --deciders --queue --tries --zone --zone-file -h --help" ;;
+        run) words="--objects --deciders --queue --tries --timeout --pause --ahead --quiet --zone --zone-file -h --help" ;;
     esac
     mapfile -t COMPREPLY < <(compgen -W "$words" -- "$word")
 }
