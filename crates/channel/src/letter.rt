@@ -1,7 +1,8 @@
 //! The letter of a notice.
 
 ghost use Rattle.std.specs.Prelude.{◌≡◌, ◌++◌, decimal, IfOk, OnOk};
-ghost use Rattle.channel.specs.Letter.{IsLetter, letter_of, line, number_lines, subject_lines};
+ghost use Rattle.channel.specs.Letter.{AgainIsALine, IsLetter, again_of, letter_of, line, number_lines};
+ghost use Rattle.channel.specs.Letter.{subject_lines};
 ghost use Rattle.notice_text.specs.Texts.{number_text, object_text};
 
 use due_model::config::{Config, ObjectId};
@@ -12,7 +13,7 @@ use notice_text::names::{kind_name, state_name};
 use notice_text::texts;
 use std::alloc::{AllocError, Global};
 
-/// What a channel is given: a notice, and the text that tells it. No letter says anything else.
+/// What a channel is given: a notice, and the text that tells it. No letter says anything else, but that it goes out again.
 #[derive(Drop)]
 pub struct Letter {
     pub notice: Notice,
@@ -37,6 +38,40 @@ pub fn letter_text(alloc: Global, config: &Config, notice: Notice) -> Result<Let
         text: Sequence::new(text),
     })
 }
+
+/// The line that a letter has before its empty line where it may have gone out before, and the empty line.
+const AGAIN: &[u8] = b"Again: yes\n\n";
+
+impl Letter {
+    /// The same letter, for who hands it over again that may have gone out before: one line more says so. A refused growth is the
+    /// only error.
+    pub fn again(&self, alloc: Global) -> Result<Letter, AllocError>
+        ensures notice { IfOk result (λ letter. letter.notice ≡ self.now.notice) }
+        ensures text { IfOk result (λ letter. letter.text ≡ again_of self.now.text) }
+    {
+        let text = again_text(alloc, self.text.as_slice())?;
+        Ok(Letter {
+            notice: self.notice,
+            text: Sequence::new(text),
+        })
+    }
+}
+
+/// A text with the line more.
+fn again_text(alloc: Global, text: &[u8]) -> Result<Vec<u8>, AllocError>
+    ensures { IfOk result (λ found. found.items ≡ again_of text.now) }
+{
+    let front = &text[..text.len().saturating_sub(1)];
+    let mut again = Vec::with_capacity(alloc, front.len().saturating_add(AGAIN.len()))?;
+    again.extend_from_slice(front)?;
+    again.extend_from_slice(AGAIN)?;
+    Ok(again)
+}
+
+/// A letter that goes out again says one line more, and nothing else.
+pub fn again_is_a_line()
+    ensures { AgainIsALine }
+{}
 
 /// A letter without names, as long as one can be.
 const LONGEST: &str =
