@@ -1,25 +1,20 @@
 //! Each kind of channel, as one of several.
 
-use crate::devices::{Agreeing, Peers};
-use crate::given::{DOWN, DOWN_TEXT, are, are_receipts, check, letter};
+use crate::devices::{Agreeing, Device, Peers};
+use crate::given::{DOWN, Letters, UP, answers, are_receipts, check, has, letter};
 use channel::either::Either;
 use channel::letter::Letter;
 use channel::memory::MemoryChannel;
-use channel::{Channel, Kind};
+use channel::{Channel, Fault, Kind};
 use channel_kinds::device::AnyDevice;
 use channel_kinds::device_channel::DeviceChannel;
 use channel_kinds::dialled::DialledPager;
 use channel_kinds::mailbox::Mailbox;
-use channel_kinds::pager::Pager;
 use channel_kinds::spawned::Spawned;
 use channel_kinds::stream::{AnyOutlet, AnyStream};
-use std::alloc::Global;
-use std::io::{self, PipeReader, PipeWriter, Read};
-use std::process::Abort;
-use std::test::Fail;
-
-/// A channel of this kind, or one in memory.
-type Mixed<C> = Either<C, MemoryChannel>;
+use std::alloc::AllocError;
+use std::process::{Abort, Processes, SystemProcess};
+use std::time::{Clock, Duration};
 
 /// A new channel takes a letter.
 fn takes<C: Channel>(channel: &mut C, letter: &Letter) -> bool {
@@ -48,101 +43,75 @@ fn drive<C: Channel>(rt: &impl Abort, channel: &mut C, letter: &Letter, kind: Ki
     check(
         rt,
         are_receipts(channel.taken(), &[DOWN]),
-        "what it has taken stays",
+        "what it took stays",
     );
-}
-
-#[test]
-fn a_channel_in_memory(rt: HostRuntime) -> Result<(), Fail> {
-    let down = letter(rt.alloc(), DOWN)?;
-    let channel = MemoryChannel::new(rt.alloc(), 79, &[])?;
-    let mut channel: Mixed<MemoryChannel> = Either::Right(channel);
-    drive(&rt, &mut channel, &down, Kind::Memory, 79);
-    Ok(())
-}
-
-#[test]
-fn a_pager(rt: HostRuntime) -> Result<(), Fail> {
-    let down = letter(rt.alloc(), DOWN)?;
-    let channel = DeviceChannel::new(rt.alloc(), Pager::new(AnyStream::new(Agreeing::new())));
-    let mut channel: Mixed<_> = Either::Left(channel);
-    drive(&rt, &mut channel, &down, Kind::Pager, 1_024);
-    Ok(())
-}
-
-#[test]
-fn a_program(rt: HostRuntime) -> Result<(), Fail> {
-    let down = letter(rt.alloc(), DOWN)?;
-    let device = Spawned::new(rt.alloc(), rt, "/bin/cat", &[])?;
-    let channel = DeviceChannel::new(rt.alloc(), device);
-    let mut channel: Mixed<_> = Either::Left(channel);
-    drive(&rt, &mut channel, &down, Kind::Spawned, 16_384);
-    Ok(())
-}
-
-/// The rest of a pipe is the letter and the closing line.
-fn check_written(rt: &impl Abort, alloc: Global, mut reader: PipeReader) -> io::Result<()> {
-    let mut written = Vec::new(alloc);
-    reader.read_to_end(&mut written)?;
-    check(
-        rt,
-        are(&written, &[DOWN_TEXT, "-- closed\n"]),
-        "what was written",
-    );
-    Ok(())
-}
-
-/// A mailbox over a pipe, which its close writes the closing line to.
-#[test]
-fn a_mailbox(rt: HostRuntime) -> Result<(), Fail> {
-    let down = letter(rt.alloc(), DOWN)?;
-    let (reader, writer) = io::pipe(&rt)?;
-    let channel = DeviceChannel::new(rt.alloc(), Mailbox::new(AnyOutlet::new(writer)));
-    let mut channel: Mixed<_> = Either::Left(channel);
-    drive(&rt, &mut channel, &down, Kind::Mailbox, 65_536);
-    check_written(&rt, rt.alloc(), reader)?;
-    Ok(())
 }
 
 /// A device of one of the three kinds.
-type OneOfThree<R> = AnyDevice<AnyOutlet<PipeWriter>, AnyStream<Agreeing>, Peers, R>;
+type OneOfThree<R> = AnyDevice<AnyOutlet<Device>, AnyStream<Agreeing>, Peers, R>;
 
-#[test]
-fn a_mailbox_as_one_of_three(rt: HostRuntime) -> Result<(), Fail> {
-    let down = letter(rt.alloc(), DOWN)?;
-    let (reader, writer) = io::pipe(&rt)?;
-    let device: OneOfThree<HostRuntime> = AnyDevice::Mailbox(Mailbox::new(AnyOutlet::new(writer)));
-    let channel = DeviceChannel::new(rt.alloc(), device);
-    let mut channel: Mixed<_> = Either::Left(channel);
-    drive(&rt, &mut channel, &down, Kind::Mailbox, 65_536);
-    check_written(&rt, rt.alloc(), reader)?;
-    Ok(())
+/// A channel over a device, or one in memory.
+type Mixed<R> = Either<DeviceChannel<OneOfThree<R>>, MemoryChannel>;
+
+/// A channel of each kind.
+fn each<R: AllocGlobal + Abort + Processes<Started = SystemProcess> + Clock + Copy + Send>(
+    rt: &R,
+    number: usize,
+) -> Result<(Mixed<R>, Kind, u64), AllocError> {
+    let alloc = rt.alloc();
+    let (device, kind, limit) = match number {
+        0 => {
+            let mailbox = Mailbox::new(AnyOutlet::new(Device::new(alloc)));
+            (AnyDevice::Mailbox(mailbox), Kind::Mailbox, 65_536)
+        }
+        1 => {
+            let stream = AnyStream::new(Agreeing::new());
+            let pager = DialledPager::new(Peers { dialled: 0 }, stream);
+            (AnyDevice::Pager(pager), Kind::Pager, 1_024)
+        }
+        2 => {
+            let program = Spawned::new(alloc, *rt, "/bin/cat", &[])?;
+            let program = program.within(Duration::from_secs(60));
+            (AnyDevice::Spawned(program), Kind::Spawned, 16_384)
+        }
+        _ => {
+            let channel = MemoryChannel::new(alloc, 79, &[])?;
+            return Ok((Either::Right(channel), Kind::Memory, 79));
+        }
+    };
+    let channel = DeviceChannel::new(alloc, device);
+    Ok((Either::Left(channel), kind, limit))
 }
 
 #[test]
-fn a_pager_as_one_of_three(rt: HostRuntime) -> Result<(), Fail> {
+fn a_channel_of_each_kind(rt: HostRuntime) -> Result<(), AllocError> {
     let down = letter(rt.alloc(), DOWN)?;
-    let device: OneOfThree<HostRuntime> = AnyDevice::Pager(DialledPager::new(
-        Peers { dialled: 0 },
-        AnyStream::new(Agreeing::new()),
-    ));
-    let channel = DeviceChannel::new(rt.alloc(), device);
-    let mut channel: Mixed<_> = Either::Left(channel);
-    drive(&rt, &mut channel, &down, Kind::Pager, 1_024);
+    for number in 0..4 {
+        let (mut channel, kind, limit) = each(&rt, number)?;
+        drive(&rt, &mut channel, &down, kind, limit);
+    }
     Ok(())
 }
 
+/// What the calls of a channel in memory answer, in order, where the second and the fourth fail and a text has 78 bytes at most: the
+/// letter is the shorter one or the longer one.
+const ANSWERS: [(bool, Result<(), Fault>); 6] = [
+    (true, Ok(())),
+    (true, Err(Fault::Device)),
+    (false, Err(Fault::TooLong)),
+    (false, Err(Fault::TooLong)),
+    (true, Ok(())),
+    (true, Ok(())),
+];
+
 #[test]
-fn a_program_as_one_of_three(rt: HostRuntime) -> Result<(), Fail> {
-    let down = letter(rt.alloc(), DOWN)?;
-    let device: OneOfThree<HostRuntime> = AnyDevice::Spawned(Spawned::new(
-        rt.alloc(),
-        rt,
-        "/bin/cat",
-        &[],
-    )?);
-    let channel = DeviceChannel::new(rt.alloc(), device);
-    let mut channel: Mixed<_> = Either::Left(channel);
-    drive(&rt, &mut channel, &down, Kind::Spawned, 16_384);
+fn memory_fails_at_the_listed_calls(rt: HostRuntime) -> Result<(), AllocError> {
+    let letters = Letters::new(rt.alloc())?;
+    let mut channel = MemoryChannel::new(rt.alloc(), 78, &[2, 4])?;
+    for (is_short, answer) in ANSWERS {
+        let letter = if is_short { &letters.up } else { &letters.down };
+        answers(&rt, &mut channel, letter, answer, "the answer of a call");
+    }
+    check(&rt, has(&channel, &[UP, UP, UP], 1), "three, and a failure");
     Ok(())
 }

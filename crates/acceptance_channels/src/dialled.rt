@@ -4,7 +4,7 @@ use crate::devices::{Agreeing, Peers};
 use crate::given::{DOWN, Letters, UP, answers, check, has};
 use channel::Fault;
 use channel_kinds::device_channel::DeviceChannel;
-use channel_kinds::dialled::{Dialer, DialledPager};
+use channel_kinds::dialled::DialledPager;
 use channel_kinds::stream::AnyStream;
 use std::alloc::AllocError;
 
@@ -23,12 +23,4 @@ fn dials_again(rt: HostRuntime) -> Result<(), AllocError> {
     answers(&rt, &mut pager, &letters.up, Ok(()), "over another");
     check(&rt, has(&pager, &[DOWN, UP], 2), "what is kept");
     Ok(())
-}
-
-/// A pager at whose first dial nobody is there, and then a peer.
-#[test]
-fn peers_are_dialled(rt: HostRuntime) {
-    let mut peers = Peers { dialled: 0 };
-    check(&rt, peers.dial().is_none(), "nobody");
-    check(&rt, peers.dial().is_some(), "a peer");
 }

@@ -5,11 +5,8 @@ use channel::letter::{Letter, letter_text};
 use channel::{Channel, Fault, Receipt};
 use due_model::config::{ContactId, LaneId, ObjectId};
 use due_model::notice::{Kind, Notice};
-use due_model::sequence::Sequence;
-use due_model::short_list::Text;
 use due_model::state::State;
 use std::alloc::{AllocError, Global};
-use std::mem::replace;
 use std::process::Abort;
 
 /// Web is down at event 0.
@@ -48,23 +45,6 @@ pub(crate) const UP_TEXT: &str =
 pub(crate) fn letter(alloc: Global, notice: Notice) -> Result<Letter, AllocError> {
     let config = base(alloc)?;
     letter_text(alloc, &config, notice)
-}
-
-/// How many bytes the letter of `DOWN` has beside the contact's name.
-const BESIDE_NAME: usize = 76;
-
-/// A letter of so many bytes, at least 76: that of `DOWN` to a contact whose name is as long as that takes.
-pub(crate) fn long_letter(alloc: Global, count: usize) -> Result<Letter, AllocError> {
-    let mut config = base(alloc)?;
-    let nobody = Sequence::new(Vec::new(alloc));
-    let mut contacts = replace(&mut config.contacts, nobody).into_vec();
-    if let Some(contact) = contacts.first_mut() {
-        let mut name = Vec::new(alloc);
-        name.resize(count.saturating_sub(BESIDE_NAME), b'x')?;
-        contact.name = Text::new(alloc, name.as_slice())?;
-    }
-    config.contacts = Sequence::new(contacts);
-    letter_text(alloc, &config, DOWN)
 }
 
 /// The letters of both.

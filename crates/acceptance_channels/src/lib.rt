@@ -1,4 +1,4 @@
-//! Tests of channels: the text of a letter, and what each kind of channel does with a letter. There is no code here.
+//! Tests of channels over devices of the tests: what each kind does where a call fails, and what it says of itself. There is no code here.
 #![tactic(auto)]
 
 #[cfg(test)]
@@ -10,14 +10,6 @@ mod dialled;
 #[cfg(test)]
 mod given;
 #[cfg(test)]
-mod letters;
-#[cfg(test)]
 mod mailboxes;
 #[cfg(test)]
-mod memory;
-#[cfg(test)]
 mod pagers;
-#[cfg(test)]
-mod programs;
-#[cfg(test)]
-mod sockets;
