@@ -1,18 +1,22 @@
-//! Tests of object text: how it is read, what its templates give, the members of service groups, and of what escalations and
-//! dependencies speak; on values from outside. There is no code here.
+//! Tests of object text: how it is read, what its templates give, what its lists and values say, its periods and names, and of what
+//! escalations and dependencies speak; on values from outside. There is no code here.
 #![tactic(auto)]
 
 #[cfg(test)]
-mod dependencies;
+mod blocks;
 #[cfg(test)]
-mod escalated;
+mod groups;
 #[cfg(test)]
 mod inheritance;
 #[cfg(test)]
-mod members;
+mod of_services;
 #[cfg(test)]
-mod numbers;
+mod periods;
 #[cfg(test)]
-mod object_text;
+mod services;
 #[cfg(test)]
 mod shown;
+#[cfg(test)]
+mod spoken_of;
+#[cfg(test)]
+mod values;
