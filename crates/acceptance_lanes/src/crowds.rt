@@ -137,20 +137,11 @@ fn run_through(
     Ok(())
 }
 
+/// Through one place, two, and many.
 #[test]
-fn eight_threads_through_one_place(rt: HostRuntime) -> Result<(), Fail> {
+fn eight_threads(rt: HostRuntime) -> Result<(), Fail> {
     run_through(&rt, rt.alloc(), 1)?;
-    Ok(())
-}
-
-#[test]
-fn eight_threads_through_two_places(rt: HostRuntime) -> Result<(), Fail> {
     run_through(&rt, rt.alloc(), 2)?;
-    Ok(())
-}
-
-#[test]
-fn eight_threads_through_many_places(rt: HostRuntime) -> Result<(), Fail> {
     run_through(&rt, rt.alloc(), 1_024)?;
     Ok(())
 }

@@ -34,39 +34,24 @@ pub(crate) fn no_objects(alloc: Global) -> Result<Config, AllocError> {
     })
 }
 
-/// An object is down at an event of this number.
-pub(crate) fn notice(object: u16, event: u64) -> Notice {
-    notice_at(object, event, event)
-}
-
-/// The same at a moment.
-fn notice_at(object: u16, event: u64, moment: u64) -> Notice {
-    Notice {
-        event,
-        moment,
-        object: ObjectId(object),
-        kind: Kind::Problem,
-        state: State::Down,
-        number: 1,
-        contact: ContactId(0),
-        lane: LaneId(0),
-    }
-}
-
-/// A decider's notice of its first object.
+/// A decider's notice: the object of its number is down at an event.
 pub(crate) fn item(decider: u8, event: u64) -> Item
     ensures decider { decider_of result ≡ decider }
     ensures notice { is_end result ≡ false }
 {
-    item_at(decider, event, event)
-}
-
-/// The same at a moment.
-fn item_at(decider: u8, event: u64, moment: u64) -> Item
-    ensures decider { decider_of result ≡ decider }
-    ensures notice { is_end result ≡ false }
-{
-    Item::Notice(decider, notice_at(u16::from(decider), event, moment))
+    Item::Notice(
+        decider,
+        Notice {
+            event,
+            moment: event,
+            object: ObjectId(u16::from(decider)),
+            kind: Kind::Problem,
+            state: State::Down,
+            number: 1,
+            contact: ContactId(0),
+            lane: LaneId(0),
+        },
+    )
 }
 
 /// Takes the pass of the last decider out.
@@ -108,24 +93,9 @@ pub(crate) fn put_all(
     requires { IsDecider queue.now decider [] pass }
     ensures { HavePut queue.now result }
 {
-    put_from(rt, queue, pass, decider, 0, events)
-}
-
-/// The same from a moment on.
-pub(crate) fn put_from(
-    rt: &impl Abort,
-    queue: &LaneQueue,
-    pass: Pass,
-    decider: u8,
-    moment: u64,
-    events: u64,
-) -> Pass
-    requires { IsDecider queue.now decider [] pass }
-    ensures { HavePut queue.now result }
-{
     let mut pass = pass;
     for event in 0..events {
-        let item = item_at(decider, event, moment.saturating_add(event));
+        let item = item(decider, event);
         pass = put_in_turn(rt, queue, pass, item);
     }
     put_in_turn(rt, queue, pass, Item::End(decider))

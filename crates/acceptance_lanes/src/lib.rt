@@ -12,6 +12,4 @@ mod queues;
 #[cfg(test)]
 mod serving;
 #[cfg(test)]
-mod standing;
-#[cfg(test)]
 mod watched;

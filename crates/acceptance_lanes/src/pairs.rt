@@ -1,11 +1,10 @@
 //! A lane with two deciders and a worker, in three threads, through a queue of one item.
 
-ghost use Rattle.std.specs.Prelude.{◌≡◌, ◌≤◌, [], length};
+ghost use Rattle.std.specs.Prelude.{◌≡◌, ◌≤◌, [], length, IfOk};
 ghost use Rattle.channel_queue.specs.Passes.{IsDecider, IsWorker};
 ghost use Rattle.acceptance_lanes.specs.Deciders.{AreDeciders};
 
 use crate::given::{last_pass, no_objects, put_all};
-use crate::serving::one;
 use crate::watched::{Refusing, TrueFrom, Watch, Watched};
 use channel_queue::{LaneQueue, Pass};
 use delivery_worker::{Served, serve};
@@ -21,7 +20,7 @@ use std::time::Clock;
 use undelivered::Why;
 
 /// How many notices each decider puts.
-const EVENTS: u64 = 500;
+const EVENTS: u64 = 200;
 
 /// The event that comes next of an object after these notices, of which each of the object's is the next in its order.
 fn next_after(rt: &impl Abort, notices: &[Notice], object: u16, first: u64) -> u64 {
@@ -98,7 +97,16 @@ fn run(
     )
 }
 
-/// Serves a lane by a channel that is dropped once.
+/// A list of one channel.
+fn one(alloc: Global, channel: Watched) -> Result<Vec<Watched>, AllocError>
+    ensures { IfOk result (λ channels. length channels.items ≡ 1) }
+{
+    let mut channels = Vec::with_capacity(alloc, 1)?;
+    channels.push(channel)?;
+    Ok(channels)
+}
+
+/// Serves a lane by a channel.
 fn drive(
     rt: &(impl Threads + Wait + Clock + Abort + Sync),
     alloc: Global,
@@ -113,30 +121,23 @@ fn drive(
     Ok(())
 }
 
-#[test]
-fn fast_channel(rt: HostRuntime) -> Result<(), Fail> {
-    let watch = Watch::new(rt.alloc())?;
-    let channel = Watched::new(rt.alloc(), &watch, &[])?;
-    drive(&rt, rt.alloc(), channel, Why::FeedOver)?;
-    assert!(&rt; watch.told() == (1, 0, 1_000), "{:?}", watch.told());
-    Ok(())
-}
+/// How often a channel yields before it takes a letter, and the call at which it fails; why the lane is closed; how many channels were
+/// dropped, how often their devices failed, and how many receipts they had.
+type Row = (u32, u64, Why, (u64, u64, u64));
+
+const ROWS: [Row; 3] = [
+    (0, 0, Why::FeedOver, (1, 0, 400)),
+    (20, 0, Why::FeedOver, (1, 0, 400)),
+    (0, 160, Why::Failed, (1, 1, 159)),
+];
 
 #[test]
-fn slow_channel(rt: HostRuntime) -> Result<(), Fail> {
-    let watch = Watch::new(rt.alloc())?;
-    let channel = Watched::new(rt.alloc(), &watch, &[])?.with_turns(20);
-    drive(&rt, rt.alloc(), channel, Why::FeedOver)?;
-    assert!(&rt; watch.told() == (1, 0, 1_000), "{:?}", watch.told());
-    Ok(())
-}
-
-/// It fails at its 400th letter, and takes nothing from there on.
-#[test]
-fn failing_channel(rt: HostRuntime) -> Result<(), Fail> {
-    let watch = Watch::new(rt.alloc())?;
-    let channel = Watched::new(rt.alloc(), &watch, &[400])?;
-    drive(&rt, rt.alloc(), channel, Why::Failed)?;
-    assert!(&rt; watch.told() == (1, 1, 399), "{:?}", watch.told());
+fn fast_slow_and_failing(rt: HostRuntime) -> Result<(), Fail> {
+    for (turns, fails, why, told) in ROWS {
+        let watch = Watch::new(rt.alloc())?;
+        let channel = Watched::limited(rt.alloc(), &watch, 65_536, &[fails])?;
+        drive(&rt, rt.alloc(), channel.with_turns(turns), why)?;
+        assert!(&rt; watch.told() == told, "{:?}", watch.told());
+    }
     Ok(())
 }

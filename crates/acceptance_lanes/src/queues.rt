@@ -1,12 +1,10 @@
-//! A lane's queue in one thread: when it is full and when nothing is there, ends, and the order of joins.
+//! A lane's queue in one thread: when it is full and when nothing is there, and its end.
 
-ghost use Rattle.std.specs.Prelude.{◌≡◌, ◌≤◌, ◌<◌, All, length};
-ghost use Rattle.std.specs.Prelude.{IfOk, []};
+ghost use Rattle.std.specs.Prelude.{◌<◌, []};
 ghost use Rattle.channel_queue.specs.Passes.{IsDecider, IsWorker};
 ghost use Rattle.channel_queue.specs.Rule.{IsOpen, joined_of, picked_of, put_of};
-ghost use Rattle.acceptance_lanes.specs.Deciders.{AreDeciders, HavePut};
 
-use crate::given::{item, last_pass, put_all};
+use crate::given::{item, last_pass};
 use channel_queue::{LaneQueue, Pass};
 use due_model::item::Item;
 use std::alloc::{AllocError, Global};
@@ -85,84 +83,6 @@ fn fill_and_empty(rt: &impl Abort, alloc: Global, capacity: u16) -> Result<(), A
 #[test]
 fn full_and_empty(rt: HostRuntime) -> Result<(), Fail> {
     fill_and_empty(&rt, rt.alloc(), 1)?;
-    fill_and_empty(&rt, rt.alloc(), 3)?;
     fill_and_empty(&rt, rt.alloc(), 1_024)?;
-    Ok(())
-}
-
-/// Each decider puts a notice and its end, the last decider first.
-fn put_each(
-    rt: &impl Abort,
-    alloc: Global,
-    queue: &LaneQueue,
-    passes: Vec<Pass>,
-) -> Result<Vec<Pass>, AllocError>
-    requires deciders { AreDeciders queue.now passes.items }
-    requires count { length passes.items ≤ 8 }
-    ensures { IfOk result (λ passes. All (HavePut queue.now) passes.items) }
-{
-    let mut passes = passes;
-    let mut done = Vec::with_capacity(alloc, passes.len())?;
-    for _ in 0..8 {
-        if passes.is_empty() {
-            break;
-        }
-        let pass = last_pass(rt, queue, &mut passes);
-        let decider = passes.len() as u8;
-        done.push(put_all(rt, queue, pass, decider, 1))?;
-    }
-    Ok(done)
-}
-
-/// Picks what eight deciders have put, one after another, the last first.
-fn pick_each(rt: &impl Abort, queue: &LaneQueue, worker: Pass) -> Pass
-    requires { IsWorker queue.now [] [] worker }
-    ensures { IsWorker queue.now (picked_of result) [] result }
-{
-    let mut worker = pick(rt, queue, worker, Some(item(7, 0)));
-    worker = pick(rt, queue, worker, Some(Item::End(7)));
-    for place in 1..8 {
-        let decider = 7 - place;
-        worker = pick(rt, queue, worker, Some(item(decider, 0)));
-        worker = pick(rt, queue, worker, Some(Item::End(decider)));
-    }
-    worker
-}
-
-/// Joins the deciders' passes to the worker's, in the order of this number among all orders.
-fn join_each(queue: &LaneQueue, worker: Pass, passes: Vec<Pass>, order: usize)
-    requires worker { IsWorker queue.now (picked_of worker) (joined_of worker) worker }
-    requires deciders { All (HavePut queue.now) passes.items }
-{
-    let mut worker = worker;
-    let mut passes = passes;
-    let mut order = order;
-    for _ in 0..8 {
-        let left = passes.len();
-        if left == 0 {
-            break;
-        }
-        let pass = passes.swap_remove(order % left);
-        worker = queue.join(worker, pass);
-        order /= left;
-    }
-}
-
-/// Eight deciders' passes are joined in the order of this number, after all was picked.
-fn join_in_order(rt: &impl Abort, alloc: Global, order: usize) -> Result<(), AllocError> {
-    let (queue, passes, worker) = LaneQueue::new(alloc, 16, 8)?;
-    let passes = put_each(rt, alloc, &queue, passes)?;
-    let worker = pick_each(rt, &queue, worker);
-    join_each(&queue, worker, passes, order);
-    assert!(rt; queue.deciders() == 8, "how many deciders there are");
-    Ok(())
-}
-
-/// Each of the 40,320 orders of eight.
-#[test]
-fn every_order_of_joins(rt: HostRuntime) -> Result<(), Fail> {
-    for order in 0..40_320 {
-        join_in_order(&rt, rt.alloc(), order)?;
-    }
     Ok(())
 }

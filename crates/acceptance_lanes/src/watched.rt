@@ -57,15 +57,6 @@ pub(crate) struct Watched {
 }
 
 impl Watched {
-    /// A channel that fails at these calls.
-    pub(crate) fn new(
-        alloc: Global,
-        watch: &Arc<Watch>,
-        fails: &[u64],
-    ) -> Result<Watched, AllocError> {
-        Watched::limited(alloc, watch, 65_536, fails)
-    }
-
     /// A channel that takes letters of so many bytes at most, and fails at these calls.
     pub(crate) fn limited(
         alloc: Global,
