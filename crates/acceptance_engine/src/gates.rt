@@ -65,34 +65,21 @@ impl Meeting {
     }
 }
 
-/// The kth notice of each lane waits for the kth of every other.
+/// The kth notice of each lane waits for the kth of every other, and the kth turn of each decider for that of every other.
 #[derive(Drop)]
-pub(crate) struct LanesMeet {
-    pub(crate) meeting: Meeting,
+pub(crate) struct AllMeet {
+    pub(crate) lanes: Meeting,
+    pub(crate) deciders: Meeting,
 }
 
-impl Gate for LanesMeet {
+impl Gate for AllMeet {
     fn admit(&self, lane: LaneId, _notice: &Notice) -> bool {
-        self.meeting.come(lane.0);
-        true
-    }
-
-    fn turn(&self, _decider: u8) {}
-}
-
-/// The kth turn of each decider waits for the kth of every other.
-#[derive(Drop)]
-pub(crate) struct DecidersMeet {
-    pub(crate) meeting: Meeting,
-}
-
-impl Gate for DecidersMeet {
-    fn admit(&self, _lane: LaneId, _notice: &Notice) -> bool {
+        self.lanes.come(lane.0);
         true
     }
 
     fn turn(&self, decider: u8) {
-        self.meeting.come(decider);
+        self.deciders.come(decider);
     }
 }
 

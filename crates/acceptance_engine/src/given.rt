@@ -7,7 +7,7 @@ use channel::memory::MemoryChannel;
 use due_model::config::{Config, ContactId, LaneId};
 use due_model::notice::Notice;
 use due_model::zone::Zone;
-use engine::{Closers, Engine, Gate, LaneEnd, OpenGate, Post, RunEnd, Settings, are_few};
+use engine::{Closers, Engine, Gate, LaneEnd, Post, RunEnd, Settings, are_few};
 use std::alloc::{AllocError, Global};
 use std::process::Abort;
 use std::sync::Wait;
@@ -25,16 +25,8 @@ pub(crate) struct How {
     pub(crate) tries: u8,
 }
 
-impl How {
-    /// One decider and three tries.
-    pub(crate) const PLAIN: How = How {
-        deciders: 1,
-        tries: 3,
-    };
-}
-
 /// The end of a run of a configuration over a feed, and its channels.
-pub(crate) fn run_kept<C: Channel, G: Gate + Sync, R: Abort + Threads + Wait + Clock + Sync>(
+pub(crate) fn run<C: Channel, G: Gate + Sync, R: Abort + Threads + Wait + Clock + Sync>(
     rt: &R,
     alloc: Global,
     config: &Config,
@@ -60,49 +52,20 @@ pub(crate) fn run_kept<C: Channel, G: Gate + Sync, R: Abort + Threads + Wait + C
     )
 }
 
-/// The end of a run of a configuration over a feed.
-pub(crate) fn run<C: Channel, G: Gate + Sync, R: Abort + Threads + Wait + Clock + Sync>(
-    rt: &R,
-    alloc: Global,
-    config: &Config,
-    feed: &[u8],
-    posts: Vec<Post<C>>,
-    how: How,
-    closers: &Closers,
-    gate: &G,
-) -> RunEnd {
-    let (end, _channels) = run_kept(rt, alloc, config, feed, posts, how, closers, gate);
-    end
-}
-
-/// A channel in memory for each lane, which fails at the calls that are listed for it.
+/// Channels in memory, each for this lane, which fail at these calls.
 pub(crate) fn in_memory(
     alloc: Global,
-    fails: &[&[u64]],
+    channels: &[(u8, &[u64])],
 ) -> Result<Vec<Post<MemoryChannel>>, AllocError> {
     let mut posts = Vec::new(alloc);
-    for (lane, fails) in (0..=u8::MAX).zip(fails) {
+    for (lane, fails) in channels {
         let channel = MemoryChannel::new(alloc, LIMIT, fails)?;
         posts.push(Post {
-            lane: LaneId(lane),
+            lane: LaneId(*lane),
             channel,
         })?;
     }
     Ok(posts)
-}
-
-/// The end of a run that nobody asks to close a lane, and that no gate holds back, where each lane has a channel in memory.
-pub(crate) fn run_in_memory<R: Abort + Threads + Wait + Clock + Sync>(
-    rt: &R,
-    alloc: Global,
-    config: &Config,
-    feed: &[u8],
-    fails: &[&[u64]],
-    how: How,
-) -> Result<RunEnd, AllocError> {
-    let posts = in_memory(alloc, fails)?;
-    let closers = Closers::new(alloc, (config.lanes.len() % 256) as u8)?;
-    Ok(run(rt, alloc, config, feed, posts, how, &closers, &OpenGate))
 }
 
 /// The feed was read to its end, and gave so many events and refused lines.
@@ -201,36 +164,4 @@ pub(crate) fn on_two_lanes(alloc: Global) -> Result<Config, AllocError> {
             ..Rows::NONE
         },
     )
-}
-
-/// The names of five hosts.
-const NAMES: [&str; 5] = ["web", "db", "mail", "dns", "time"];
-
-/// Five hosts, whose contact is told by mail and by pager; of the fourth nobody is notified.
-pub(crate) fn five_hosts(alloc: Global) -> Result<Config, AllocError> {
-    let silent = ObjectRow {
-        enabled: false,
-        ..host("dns")
-    };
-    config_of(
-        alloc,
-        Rows {
-            lanes: 2,
-            contacts: &[ANN],
-            objects: &[host("web"), host("db"), host("mail"), silent, host("time")],
-            ..Rows::NONE
-        },
-    )
-}
-
-/// The lines of five hosts that are down one after another, and then up, and so on, so many: event i at moment i.
-pub(crate) fn rounds(alloc: Global, count: u64) -> Result<Vec<u8>, AllocError> {
-    let mut feed = Vec::new(alloc);
-    for moment in 0..count {
-        let state = if (moment / 5) % 2 == 0 { "DOWN" } else { "UP" };
-        let name = NAMES[(moment % 5) as usize];
-        let line = format!(in alloc; "[{moment}] HOST_STATE;{name};{state}\n")?;
-        feed.extend_from_slice(line.as_bytes())?;
-    }
-    Ok(feed)
 }

@@ -1,15 +1,10 @@
-//! Tests of whole runs of the engine, with channels in memory. There is no code here.
+//! Tests of whole runs of the engine, with channels in memory, and of what the program can't be told: when threads meet, when a lane is
+//! asked to close, how many deciders there are. There is no code here.
 #![tactic(auto)]
 
-#[cfg(test)]
-mod asks;
-#[cfg(test)]
-mod deciders;
 #[cfg(test)]
 mod gates;
 #[cfg(test)]
 mod given;
 #[cfg(test)]
 mod runs;
-#[cfg(test)]
-mod standing;
