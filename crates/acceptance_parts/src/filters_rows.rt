@@ -66,168 +66,6 @@ const ALL: [Kind; 7] = [
     Kind::DowntimeCancelled,
 ];
 
-/// A view, the kinds that this filter stops there, and kinds that nothing stops.
-struct Only {
-    view: View,
-    filter: Filter,
-    stopped: &'static [Kind],
-    passed: &'static [Kind],
-}
-
-/// Views that one filter alone refuses, or that it lets pass.
-const ONLY: [Only; 13] = [
-    Only {
-        view: View {
-            program: false,
-            ..OPEN
-        },
-        filter: Filter::Program,
-        stopped: &ALL,
-        passed: &[],
-    },
-    Only {
-        view: View {
-            enabled: false,
-            ..OPEN
-        },
-        filter: Filter::Disabled,
-        stopped: &ALL,
-        passed: &[],
-    },
-    Only {
-        view: View { down: true, ..OPEN },
-        filter: Filter::Downtime,
-        stopped: &[
-            Kind::Problem,
-            Kind::Recovery,
-            Kind::FlappingStart,
-            Kind::FlappingStop,
-        ],
-        passed: &[
-            Kind::DowntimeStart,
-            Kind::DowntimeEnd,
-            Kind::DowntimeCancelled,
-        ],
-    },
-    Only {
-        view: View {
-            flapping: true,
-            ..OPEN
-        },
-        filter: Filter::Flapping,
-        stopped: &OF_PROBLEM,
-        passed: &OTHERS,
-    },
-    Only {
-        view: View {
-            options: NO_LETTER,
-            ..OPEN
-        },
-        filter: Filter::Options,
-        stopped: &ALL,
-        passed: &[],
-    },
-    Only {
-        view: View { sent: 0, ..OPEN },
-        filter: Filter::NoProblem,
-        stopped: &[Kind::Recovery],
-        passed: &[
-            Kind::Problem,
-            Kind::FlappingStart,
-            Kind::FlappingStop,
-            Kind::DowntimeStart,
-            Kind::DowntimeEnd,
-            Kind::DowntimeCancelled,
-        ],
-    },
-    Only {
-        view: View {
-            period: NEVER,
-            ..OPEN
-        },
-        filter: Filter::Period,
-        stopped: &ALL,
-        passed: &[],
-    },
-    Only {
-        view: View {
-            depends: true,
-            ..OPEN
-        },
-        filter: Filter::Dependency,
-        stopped: &OF_PROBLEM,
-        passed: &OTHERS,
-    },
-    Only {
-        view: View {
-            acknowledged: true,
-            ..OPEN
-        },
-        filter: Filter::Acknowledged,
-        stopped: &[Kind::Problem],
-        passed: &NOT_PROBLEM,
-    },
-    Only {
-        view: View {
-            sent: 0,
-            delay: 16,
-            last: None,
-            ..OPEN
-        },
-        filter: Filter::FirstDelay,
-        stopped: &[Kind::Problem],
-        passed: &OTHERS,
-    },
-    Only {
-        view: View { delay: 16, ..OPEN },
-        filter: Filter::FirstDelay,
-        stopped: &[],
-        passed: &ALL,
-    },
-    Only {
-        view: View {
-            last: Some(Last {
-                state: State::Down,
-                moment: 941,
-                gap: 60,
-            }),
-            ..OPEN
-        },
-        filter: Filter::Interval,
-        stopped: &[Kind::Problem],
-        passed: &NOT_PROBLEM,
-    },
-    Only {
-        view: View {
-            period: None,
-            ..OPEN
-        },
-        filter: Filter::Interval,
-        stopped: &[],
-        passed: &ALL,
-    },
-];
-
-const OF_PROBLEM: [Kind; 2] = [Kind::Problem, Kind::Recovery];
-
-/// The kinds that aren't about a problem.
-const OTHERS: [Kind; 5] = [
-    Kind::FlappingStart,
-    Kind::FlappingStop,
-    Kind::DowntimeStart,
-    Kind::DowntimeEnd,
-    Kind::DowntimeCancelled,
-];
-
-const NOT_PROBLEM: [Kind; 6] = [
-    Kind::Recovery,
-    Kind::FlappingStart,
-    Kind::FlappingStop,
-    Kind::DowntimeStart,
-    Kind::DowntimeEnd,
-    Kind::DowntimeCancelled,
-];
-
 // Views that a filter and each later one refuse.
 const FROM_INTERVAL: View = View {
     last: Some(Last {
@@ -322,8 +160,8 @@ const PASSES: Case = Case {
     found: None,
 };
 
-/// Moments at which a filter begins or ends to stop a problem, the last moments of all, and another state.
-const MOMENTS: [Case; 9] = [
+/// Moments at which a filter begins or ends to stop a problem, the last moment of all, and another state.
+const MOMENTS: [Case; 6] = [
     Case {
         view: FROM_FIRST_DELAY,
         moment: 1_059,
@@ -333,6 +171,16 @@ const MOMENTS: [Case; 9] = [
     Case {
         view: FROM_FIRST_DELAY,
         moment: 1_060,
+        ..PASSES
+    },
+    Case {
+        view: FROM_INTERVAL,
+        moment: 1_001,
+        ..PASSES
+    },
+    Case {
+        view: FROM_INTERVAL,
+        state: State::Unreachable,
         ..PASSES
     },
     Case {
@@ -348,104 +196,10 @@ const MOMENTS: [Case; 9] = [
         ..PASSES
     },
     Case {
-        view: FROM_INTERVAL,
-        moment: 1_001,
-        ..PASSES
-    },
-    Case {
-        view: FROM_INTERVAL,
-        state: State::Unreachable,
-        ..PASSES
-    },
-    Case {
-        view: View {
-            last: Some(Last {
-                state: State::Down,
-                moment: 100,
-                gap: 0,
-            }),
-            period: None,
-            ..OPEN
-        },
-        moment: LAST_MOMENT,
-        found: Some(Filter::Interval),
-        ..PASSES
-    },
-    Case {
-        view: View {
-            last: Some(Last {
-                state: State::Down,
-                moment: LAST_MOMENT,
-                gap: 60_000_000,
-            }),
-            period: None,
-            ..OPEN
-        },
-        moment: LAST_MOMENT,
-        found: Some(Filter::Interval),
-        ..PASSES
-    },
-    Case {
-        moment: 86_399,
-        ..PASSES
-    },
-    Case {
         moment: 86_400,
         found: Some(Filter::Period),
         ..PASSES
     },
-];
-
-/// One letter each.
-const LETTERS: [OptionLetters; 8] = [
-    OptionLetters {
-        down: true,
-        ..NO_LETTER
-    },
-    OptionLetters {
-        unreachable: true,
-        ..NO_LETTER
-    },
-    OptionLetters {
-        warning: true,
-        ..NO_LETTER
-    },
-    OptionLetters {
-        unknown: true,
-        ..NO_LETTER
-    },
-    OptionLetters {
-        critical: true,
-        ..NO_LETTER
-    },
-    OptionLetters {
-        recovery: true,
-        ..NO_LETTER
-    },
-    OptionLetters {
-        flapping: true,
-        ..NO_LETTER
-    },
-    OptionLetters {
-        downtime: true,
-        ..NO_LETTER
-    },
-];
-
-/// A notification that is attempted, and the place of its letter among `LETTERS`.
-const BY_LETTER: [(Kind, State, usize); 12] = [
-    (Kind::Problem, State::Down, 0),
-    (Kind::Problem, State::Unreachable, 1),
-    (Kind::Problem, State::Warning, 2),
-    (Kind::Problem, State::Unknown, 3),
-    (Kind::Problem, State::Critical, 4),
-    (Kind::Recovery, State::Up, 5),
-    (Kind::Recovery, State::Fine, 5),
-    (Kind::FlappingStart, State::Down, 6),
-    (Kind::FlappingStop, State::Fine, 6),
-    (Kind::DowntimeStart, State::Pending, 7),
-    (Kind::DowntimeEnd, State::Critical, 7),
-    (Kind::DowntimeCancelled, State::Up, 7),
 ];
 
 /// What a contact has for one kind of object, and the first filter that stops a problem there, or another kind
@@ -467,22 +221,10 @@ const FREE: Held = Held {
     other: None,
 };
 
-const HELD: [Held; 9] = [
-    FREE,
+/// The first of several filters is named, and options let kinds through one by one.
+const HELD: [Held; 4] = [
     Held {
         period: THURSDAYS,
-        ..FREE
-    },
-    Held {
-        enabled: false,
-        problem: Some(Filter::ContactDisabled),
-        other: Some(Filter::ContactDisabled),
-        ..FREE
-    },
-    Held {
-        options: NO_LETTER,
-        problem: Some(Filter::ContactOptions),
-        other: Some(Filter::ContactOptions),
         ..FREE
     },
     Held {
@@ -491,22 +233,6 @@ const HELD: [Held; 9] = [
             ..NO_LETTER
         },
         other: Some(Filter::ContactOptions),
-        ..FREE
-    },
-    Held {
-        options: OptionLetters {
-            recovery: true,
-            flapping: true,
-            downtime: true,
-            ..NO_LETTER
-        },
-        problem: Some(Filter::ContactOptions),
-        ..FREE
-    },
-    Held {
-        period: NEVER,
-        problem: Some(Filter::ContactPeriod),
-        other: Some(Filter::ContactPeriod),
         ..FREE
     },
     Held {
@@ -566,72 +292,6 @@ fn gives(rt: &impl Abort, periods: &[Compiled], case: Case) {
     );
 }
 
-/// Compares what stops attempts of these kinds.
-fn kinds_give(
-    rt: &impl Abort,
-    periods: &[Compiled],
-    view: View,
-    kinds: &[Kind],
-    found: Option<Filter>,
-) {
-    for kind in kinds {
-        let case = Case {
-            view,
-            kind: *kind,
-            found,
-            ..PASSES
-        };
-        gives(rt, periods, case);
-    }
-}
-
-/// Compares which sets of one letter let an attempt through: that of its letter alone.
-fn letter_gives(rt: &impl Abort, periods: &[Compiled], kind: Kind, state: State, own: usize) {
-    for (place, options) in LETTERS.iter().enumerate() {
-        let found = if place == own {
-            None
-        } else {
-            Some(Filter::Options)
-        };
-        let view = View {
-            options: *options,
-            ..OPEN
-        };
-        let case = Case {
-            view,
-            kind,
-            state,
-            moment: MOMENT,
-            found,
-        };
-        gives(rt, periods, case);
-    }
-}
-
-/// Views that one filter alone refuses.
-fn only_one_filter(rt: &impl Abort, periods: &[Compiled]) {
-    for only in &ONLY {
-        kinds_give(rt, periods, only.view, only.stopped, Some(only.filter));
-        kinds_give(rt, periods, only.view, only.passed, None);
-    }
-}
-
-/// Views that several refuse.
-fn first_of_several(rt: &impl Abort, periods: &[Compiled]) {
-    for row in &CHAIN {
-        let (view, kind, found) = *row;
-        kinds_give(rt, periods, view, &[kind], found);
-    }
-}
-
-/// The letter of each attempt.
-fn letters(rt: &impl Abort, periods: &[Compiled]) {
-    for row in &BY_LETTER {
-        let (kind, state, own) = *row;
-        letter_gives(rt, periods, kind, state, own);
-    }
-}
-
 /// The periods of `PERIODS`, worked out.
 fn worked_out(alloc: Global) -> Result<Vec<Compiled>, AllocError> {
     let config = periods(alloc, &PERIODS)?;
@@ -641,11 +301,17 @@ fn worked_out(alloc: Global) -> Result<Vec<Compiled>, AllocError> {
 #[test]
 fn filters_of_objects(rt: HostRuntime) -> Result<(), Fail> {
     let all = worked_out(rt.alloc())?;
-    only_one_filter(&rt, all.as_slice());
-    first_of_several(&rt, all.as_slice());
-    letters(&rt, all.as_slice());
-    for case in &MOMENTS {
-        gives(&rt, all.as_slice(), *case);
+    for (view, kind, found) in CHAIN {
+        let case = Case {
+            view,
+            kind,
+            found,
+            ..PASSES
+        };
+        gives(&rt, all.as_slice(), case);
+    }
+    for case in MOMENTS {
+        gives(&rt, all.as_slice(), case);
     }
     Ok(())
 }

@@ -13,67 +13,14 @@ use std::test::Fail;
 /// How many nodes the long chain has.
 const LONG: u32 = 100_000;
 
-/// Edges between five nodes, a number, and the first node on a loop, if it is below that number.
-struct Below {
-    edges: &'static [(u32, u32)],
-    count: u32,
-    first: Option<u32>,
-}
-
-const BELOW: [Below; 9] = [
-    // a loop that no node below the number leads to
-    Below {
-        edges: &[(0, 1), (3, 4), (4, 3)],
-        count: 3,
-        first: None,
-    },
-    // node 0 leads to a loop of 3 and 4
-    Below {
-        edges: &[(0, 3), (3, 4), (4, 3)],
-        count: 3,
-        first: None,
-    },
-    // a loop of 1 and 3
-    Below {
-        edges: &[(1, 3), (3, 1)],
-        count: 2,
-        first: Some(1),
-    },
-    // of two loops the one of 1, though 0 leads to the other
-    Below {
-        edges: &[(0, 2), (2, 2), (1, 4), (4, 1)],
-        count: 3,
-        first: Some(1),
-    },
-    // 0 leads to a loop of 4, and 1 is on another
-    Below {
-        edges: &[(0, 4), (4, 4), (1, 1)],
-        count: 2,
-        first: Some(1),
-    },
-    // the number itself is not below it, and the one before is
-    Below {
-        edges: &[(2, 2)],
-        count: 2,
-        first: None,
-    },
-    Below {
-        edges: &[(2, 2)],
-        count: 3,
-        first: Some(2),
-    },
-    // no node is below 0
-    Below {
-        edges: &[(0, 0)],
-        count: 0,
-        first: None,
-    },
-    // more than there are nodes
-    Below {
-        edges: &[(4, 4)],
-        count: u32::MAX,
-        first: Some(4),
-    },
+/// Edges between five nodes, a number, and the first node on a loop, if it is below that number: node 0 leads to a loop of others; of two
+/// loops the one of 1, though 0 leads to the other; the number itself is not below it, and the one before is; more than there are nodes.
+const BELOW: [(&[(u32, u32)], u32, Option<u32>); 5] = [
+    (&[(0, 3), (3, 4), (4, 3)], 3, None),
+    (&[(0, 2), (2, 2), (1, 4), (4, 1)], 3, Some(1)),
+    (&[(2, 2)], 2, None),
+    (&[(2, 2)], 3, Some(2)),
+    (&[(4, 4)], u32::MAX, Some(4)),
 ];
 
 /// The graph of these edges.
@@ -109,12 +56,6 @@ fn gives(
     Ok(())
 }
 
-/// Compares the first node on a loop, if it is below the row's number.
-fn gives_below(rt: &impl Abort, alloc: Global, graph: &Graph, row: &Below) -> Result<(), Fail> {
-    assert_eq!(rt; first_on_loop_below(alloc, graph, row.count)?, row.first);
-    Ok(())
-}
-
 /// Compares what a node reaches, beside what was found before.
 fn reaches(rt: &impl Abort, reach: &mut Reach, graph: &Graph, from: u32, nodes: &[u32])
     requires same { length graph.now ≡ reach.old.nodes }
@@ -139,22 +80,6 @@ fn long_chain(alloc: Global, back: Option<u32>) -> Result<Graph, AllocError>
         edges.push(Edge { from: LONG - 1, to })?;
     }
     Graph::new(alloc, LONG, edges.as_slice())
-}
-
-#[test]
-fn empty_graph(rt: HostRuntime) -> Result<(), Fail> {
-    let graph = graph_of(&rt, rt.alloc(), 0, &[])?;
-    assert_eq!(rt; graph.node_count(), 0);
-    gives(&rt, rt.alloc(), &graph, Some(&[]), None)
-}
-
-#[test]
-fn edge_to_itself(rt: HostRuntime) -> Result<(), Fail> {
-    let graph = graph_of(&rt, rt.alloc(), 1, &[(0, 0)])?;
-    gives(&rt, rt.alloc(), &graph, None, Some(0))?;
-    let mut reach = Reach::new(rt.alloc(), 1)?;
-    reaches(&rt, &mut reach, &graph, 0, &[0]);
-    Ok(())
 }
 
 /// Node 0 only leads to a loop; 1 is the first that lies on one.
@@ -192,9 +117,9 @@ fn long_chain_in_order(rt: HostRuntime) -> Result<(), Fail> {
 
 #[test]
 fn first_on_a_loop_below_a_number(rt: HostRuntime) -> Result<(), Fail> {
-    for row in &BELOW {
-        let graph = graph_of(&rt, rt.alloc(), 5, row.edges)?;
-        gives_below(&rt, rt.alloc(), &graph, row)?;
+    for (edges, count, first) in BELOW {
+        let graph = graph_of(&rt, rt.alloc(), 5, edges)?;
+        assert_eq!(rt; first_on_loop_below(rt.alloc(), &graph, count)?, first);
     }
     Ok(())
 }

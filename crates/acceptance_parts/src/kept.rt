@@ -4,6 +4,7 @@ use due_model::config::{ContactId, LaneId, ObjectId};
 use due_model::notice::{Filter, Kind, Notice, Suppression};
 use due_model::state::State;
 use due_times::Index;
+use std::alloc::AllocError;
 use std::process::Abort;
 use std::test::Fail;
 use suppression_log::Log;
@@ -86,5 +87,27 @@ fn due_times_in_order(rt: HostRuntime) -> Result<(), Fail> {
     assert!(rt; index.pop_due(200) == Some(ObjectId(0)));
     assert!(rt; index.pop_due(200) == None);
     assert_eq!(rt; index.examined(), 3);
+    Ok(())
+}
+
+/// Objects 1, 4 and 6 are due at 60, 50 and 70.
+fn three_due(index: &mut Index) -> Result<(), AllocError> {
+    index.reserve(8)?;
+    index.set(ObjectId(4), Some(50))?;
+    index.set(ObjectId(1), Some(60))?;
+    index.set(ObjectId(6), Some(70))
+}
+
+#[test]
+fn due_objects_in_order(rt: HostRuntime) -> Result<(), Fail> {
+    let mut index = Index::new(rt.alloc());
+    three_due(&mut index)?;
+    assert!(rt; index.next_due(0, 49) == None);
+    assert!(rt; index.next_due(0, 60) == Some(ObjectId(1)));
+    assert!(rt; index.next_due(2, 60) == Some(ObjectId(4)));
+    assert!(rt; index.next_due(5, 69) == None);
+    index.take_due(60);
+    assert_eq!(rt; index.examined(), 2);
+    assert!(rt; index.next_due(0, 70) == Some(ObjectId(6)));
     Ok(())
 }

@@ -3,8 +3,6 @@
 #![tactic(auto)]
 
 #[cfg(test)]
-mod due_scan;
-#[cfg(test)]
 mod filters_rows;
 #[cfg(test)]
 mod graphs;

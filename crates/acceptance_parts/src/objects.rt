@@ -57,11 +57,3 @@ fn finds_by_name(rt: HostRuntime) -> Result<(), Fail> {
     }
     Ok(())
 }
-
-#[test]
-fn finds_nothing_in_an_empty_list(rt: HostRuntime) -> Result<(), Fail> {
-    let objects = objects(&rt, rt.alloc(), &[])?;
-    assert_eq!(rt; objects.find(b"web", None), None);
-    assert_eq!(rt; objects.len(), 0);
-    Ok(())
-}
