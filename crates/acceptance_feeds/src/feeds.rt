@@ -14,11 +14,6 @@ use text_lines::{AnyReader, Input, LineReader, NextLine, Stop};
 /// The number of a line, and what it gives.
 type Answer = (u64, Result<Event, FeedFault>);
 
-/// A configuration without objects.
-fn config(alloc: Global) -> Result<Config, AllocError> {
-    config_of(alloc, Rows::NONE)
-}
-
 /// The next answer of a feed, if it isn't over.
 fn next_answer<R: Input + Drop>(config: &Config, feeder: &mut Feeder<R>) -> Option<Answer> {
     match feeder.next(config) {
@@ -105,7 +100,7 @@ const MIXED_ANSWERS: [Answer; 7] = [
 
 /// The mixed feed in pieces of several sizes.
 fn pieces_give(rt: &impl Abort, alloc: Global, config: &Config, feed: &[u8]) -> Result<(), Fail> {
-    for size in [1usize, 2, 3, 7, 4096, 100_000] {
+    for size in [1usize, 7, 100_000] {
         let reader = in_pieces(feed, size);
         gives(rt, alloc, config, reader, &MIXED_ANSWERS, Stop::InputEnded)?;
     }
@@ -116,11 +111,6 @@ fn pieces_give(rt: &impl Abort, alloc: Global, config: &Config, feed: &[u8]) -> 
 fn mixed_gives(rt: &impl Abort, alloc: Global, config: &Config) -> Result<(), Fail> {
     let feed = mixed_feed(alloc)?;
     pieces_give(rt, alloc, config, feed.as_slice())
-}
-
-#[test]
-fn reads_in_any_pieces(rt: HostRuntime) -> Result<(), Fail> {
-    try_case(&rt, rt.alloc(), Case::Mixed)
 }
 
 const SHORT_FEED: &[u8] = b"[5] CLOCK\n\n[4] NOPE\n[3] CLOCK\n";
@@ -144,8 +134,8 @@ const SHORT_ANSWERS: [Answer; 3] = [
     ),
 ];
 
-/// Of the short feed, where so many of its bytes come: how many answers whole lines give, and the number of the line
-/// that is then begun or comes next.
+/// Of the short feed, where so many of its bytes come: how many answers whole lines give, and the number of the line that is then begun or
+/// comes next.
 fn short_places(count: usize) -> (usize, u64) {
     match count {
         0..10 => (0, 1),
@@ -156,113 +146,41 @@ fn short_places(count: usize) -> (usize, u64) {
     }
 }
 
-/// Whether so many bytes of the short feed end within a line.
-fn is_begun(count: usize) -> bool {
-    !matches!(count, 0 | 10 | 11 | 20 | 30)
-}
-
-/// Compares the answers of the short feed, where so many of its bytes come.
-fn short_answers_are<R: Input + Drop>(
+/// Compares the answers of the short feed, whose reader fails after so many bytes.
+fn fails_in<R: Input + Drop>(
     rt: &impl Abort,
     config: &Config,
     feeder: &mut Feeder<R>,
     count: usize,
-    last: Option<FeedFault>,
 ) {
     let (whole, line) = short_places(count);
-    let answers = &SHORT_ANSWERS[..whole.min(SHORT_ANSWERS.len())];
-    answers_are(rt, config, feeder, answers);
-    if let Some(fault) = last {
-        assert_eq!(rt; next_answer(config, feeder), Some((line, Err(fault))));
-    }
+    answers_are(rt, config, feeder, &SHORT_ANSWERS[..whole.min(3)]);
+    let last = Some((line, Err(FeedFault::Read)));
+    assert_eq!(rt; next_answer(config, feeder), last);
+    is_over(rt, config, feeder, Stop::ReaderFailed);
 }
 
-/// The same of a reader, with the fault that comes last, if one does, and why the feed is over.
-fn short_gives(
-    rt: &impl Abort,
-    alloc: Global,
-    config: &Config,
-    reader: Pieces<'_>,
-    count: usize,
-    last: Option<FeedFault>,
-    why: Stop,
-) -> Result<(), Fail> {
-    let mut feeder = Feeder::new(LineReader::new(alloc, AnyReader::new(reader))?);
-    short_answers_are(rt, config, &mut feeder, count, last);
-    is_over(rt, config, &mut feeder, why);
-    Ok(())
-}
-
-/// The short feed ends after so many bytes: after a whole line, or within one.
-fn ends_at(rt: &impl Abort, alloc: Global, config: &Config, count: usize) -> Result<(), Fail> {
-    let reader = in_pieces(&SHORT_FEED[..count.min(SHORT_FEED.len())], 1);
-    let (last, why) = if is_begun(count) {
-        (Some(FeedFault::Cut), Stop::CutLine)
-    } else {
-        (None, Stop::InputEnded)
-    };
-    short_gives(rt, alloc, config, reader, count, last, why)
-}
-
-/// The same after each number of bytes.
-fn ends_at_each(rt: &impl Abort, alloc: Global, config: &Config) -> Result<(), Fail> {
-    for count in 0..31usize {
-        ends_at(rt, alloc, config, count)?;
-    }
-    Ok(())
-}
-
-#[test]
-fn ends_at_each_place(rt: HostRuntime) -> Result<(), Fail> {
-    try_case(&rt, rt.alloc(), Case::Ends)
-}
-
-/// The reader of the short feed fails after so many bytes.
-fn fails_at(rt: &impl Abort, alloc: Global, config: &Config, calls: usize) -> Result<(), Fail> {
-    let reader = Pieces {
-        bytes: SHORT_FEED,
-        size: 1,
-        calls,
-    };
-    let last = Some(FeedFault::Read);
-    short_gives(rt, alloc, config, reader, calls, last, Stop::ReaderFailed)
-}
-
-/// The same after each number of bytes.
+/// The reader of the short feed fails after each number of bytes.
 fn fails_at_each(rt: &impl Abort, alloc: Global, config: &Config) -> Result<(), Fail> {
     for calls in 0..31usize {
-        fails_at(rt, alloc, config, calls)?;
+        let reader = Pieces {
+            bytes: SHORT_FEED,
+            size: 1,
+            calls,
+        };
+        let mut feeder = Feeder::new(LineReader::new(alloc, AnyReader::new(reader))?);
+        fails_in(rt, config, &mut feeder, calls);
     }
     Ok(())
-}
-
-#[test]
-fn fails_at_each_place(rt: HostRuntime) -> Result<(), Fail> {
-    try_case(&rt, rt.alloc(), Case::Fails)
 }
 
 /// So many bytes, what comes after them, how many come at a call; the fault, and why the feed is over.
 type Long = (usize, &'static [u8], usize, FeedFault, Stop);
 
-const LONG_LINES: [Long; 7] = [
+const LONG_LINES: [Long; 4] = [
     (usize::MAX, b"\n", 1, FeedFault::Read, Stop::TooManyCalls),
     (usize::MAX, b"\n", 4096, FeedFault::Read, Stop::TooManyBytes),
-    (
-        1_048_577,
-        b"\n",
-        100_000,
-        FeedFault::Read,
-        Stop::TooManyBytes,
-    ),
-    (
-        1_048_576,
-        b"\n",
-        100_000,
-        FeedFault::LineTooLong,
-        Stop::InputEnded,
-    ),
     (4097, b"\n", 4096, FeedFault::LineTooLong, Stop::InputEnded),
-    (4096, b"\n", 4096, FeedFault::BadStamp, Stop::InputEnded),
     (1_048_576, b"", 4096, FeedFault::Cut, Stop::CutLine),
 ];
 
@@ -279,11 +197,6 @@ fn each_long_gives(rt: &impl Abort, alloc: Global, config: &Config) -> Result<()
         long_gives(rt, alloc, config, *long)?;
     }
     Ok(())
-}
-
-#[test]
-fn stops_at_lines_without_end(rt: HostRuntime) -> Result<(), Fail> {
-    try_case(&rt, rt.alloc(), Case::WithoutEnd)
 }
 
 /// A horizon at a moment.
@@ -351,11 +264,6 @@ fn far_lines_are_refused(rt: &impl Abort, alloc: Global, config: &Config) -> Res
     Ok(())
 }
 
-#[test]
-fn refuses_far_lines(rt: HostRuntime) -> Result<(), Fail> {
-    try_case(&rt, rt.alloc(), Case::Far)
-}
-
 /// Compares the line that a feeder read last, and whether one more is at hand.
 fn is_at<R: Input + Drop>(rt: &impl Abort, feeder: &Feeder<R>, line: u64, text: &[u8], more: bool) {
     assert_eq!(rt;
@@ -411,39 +319,20 @@ fn gives_all_texts(rt: &impl Abort, alloc: Global, config: &Config) -> Result<()
     Ok(())
 }
 
+/// Feeds of a configuration: in any pieces, of a reader that fails, without an end, with their texts, and past a horizon.
+fn all_give(rt: &impl Abort, alloc: Global, config: &Config) -> Result<(), Fail> {
+    mixed_gives(rt, alloc, config)?;
+    fails_at_each(rt, alloc, config)?;
+    each_long_gives(rt, alloc, config)?;
+    gives_all_texts(rt, alloc, config)?;
+    far_lines_are_refused(rt, alloc, config)
+}
+
+/// This function alone owns a configuration: each that does takes long to prove.
 #[test]
-fn gives_each_line_and_text(rt: HostRuntime) -> Result<(), Fail> {
-    try_case(&rt, rt.alloc(), Case::Texts)
-}
-
-/// What a test tries of a configuration.
-#[derive(Clone, Copy)]
-enum Case {
-    Mixed,
-    Ends,
-    Fails,
-    WithoutEnd,
-    Texts,
-    Far,
-}
-
-/// Tries one case.
-fn try_in(rt: &impl Abort, alloc: Global, config: &Config, case: Case) -> Result<(), Fail> {
-    match case {
-        Case::Mixed => mixed_gives(rt, alloc, config)?,
-        Case::Ends => ends_at_each(rt, alloc, config)?,
-        Case::Fails => fails_at_each(rt, alloc, config)?,
-        Case::WithoutEnd => each_long_gives(rt, alloc, config)?,
-        Case::Texts => gives_all_texts(rt, alloc, config)?,
-        Case::Far => far_lines_are_refused(rt, alloc, config)?,
-    }
-    Ok(())
-}
-
-/// Tries one case with the configuration. This function alone owns one: each that does takes long to prove.
-fn try_case(rt: &impl Abort, alloc: Global, case: Case) -> Result<(), Fail> {
-    let config = config(alloc)?;
-    try_in(rt, alloc, &config, case)
+fn feeds(rt: HostRuntime) -> Result<(), Fail> {
+    let config = config_of(rt.alloc(), Rows::NONE)?;
+    all_give(&rt, rt.alloc(), &config)
 }
 
 #[test]

@@ -3,8 +3,6 @@
 #![tactic(auto)]
 
 #[cfg(test)]
-mod channel_names;
-#[cfg(test)]
 mod feeds;
 #[cfg(test)]
 mod lines;
