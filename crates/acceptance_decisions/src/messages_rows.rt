@@ -6,9 +6,7 @@ ghost use Rattle.outcomes.specs.Outcome.{IsInRange};
 ghost use Rattle.outcomes.specs.Rules.{AreRules};
 
 use acceptance_inputs::accepted::is_accepted;
-use acceptance_inputs::rows::{
-    ContactRow, EscalationRow, NO_LETTER, ObjectRow, PeriodRow, Rows, config_of,
-};
+use acceptance_inputs::rows::{ContactRow, EscalationRow, ObjectRow, PeriodRow, Rows, config_of};
 use due_model::config::{Config, ContactId, LaneId, ObjectId, PeriodId, Range};
 use due_model::notice::{Filter, Kind, Notice, Outcome, Suppression};
 use due_model::options::OptionLetters;
@@ -29,42 +27,22 @@ const MOMENT: u64 = 1_000;
 /// The number of their event.
 const EVENT: u64 = 7;
 
-/// Ann uses both lanes, bob the second, and is told of a host that is down alone; of cat's period no moment here is.
-const PEOPLE: &[ContactRow] = &[
-    ContactRow {
-        name: "ann",
-        lanes: &[LaneId(1), LaneId(0)],
-        ..ContactRow::FREE
-    },
-    ContactRow {
-        name: "bob",
-        options: OptionLetters {
-            down: true,
-            ..NO_LETTER
-        },
-        lanes: &[LaneId(1)],
-        ..ContactRow::FREE
-    },
-    ContactRow {
-        name: "cat",
-        period: Some(PeriodId(0)),
-        ..ContactRow::FREE
-    },
-];
-
-/// Web tells bob and ann, and of its second notification cat and bob.
+/// Ann uses both lanes; of bob's period no moment here is. Web tells ann, and of its second notification both.
 const WEB: Rows<'static> = Rows {
     lanes: 2,
-    contacts: PEOPLE,
+    contacts: &[
+        ContactRow {
+            lanes: &[LaneId(1), LaneId(0)],
+            ..ContactRow::FREE
+        },
+        ContactRow {
+            period: Some(PeriodId(0)),
+            ..ContactRow::FREE
+        },
+    ],
     objects: &[ObjectRow {
-        name: "web",
-        host: None,
-        enabled: true,
-        options: OptionLetters::ALL,
-        period: None,
-        interval: 1,
-        delay: 0,
-        contacts: &[ContactId(1), ContactId(0)],
+        contacts: &[ContactId(0)],
+        ..ObjectRow::PLAIN
     }],
     periods: &[PeriodRow {
         range: Range {
@@ -80,9 +58,9 @@ const WEB: Rows<'static> = Rows {
         interval: 1,
         period: None,
         options: OptionLetters::ALL,
-        contacts: &[ContactId(2), ContactId(1)],
+        contacts: &[ContactId(1), ContactId(0)],
     }],
-    dependencies: &[],
+    ..Rows::NONE
 };
 
 /// What becomes of one message.
@@ -104,56 +82,17 @@ struct Case {
     said: &'static [Said],
 }
 
-const CASES: [Case; 6] = [
-    Case {
-        kind: Kind::Problem,
-        state: State::Down,
-        number: 1,
-        stopped: None,
-        said: &[Said::Told(0, 0), Said::Told(0, 1), Said::Told(1, 1)],
-    },
+/// A problem's second notice, and the same where a filter of the object stops it. The others are rows of `tests/rows`.
+const CASES: [Case; 2] = [
     Case {
         kind: Kind::Problem,
         state: State::Down,
         number: 2,
         stopped: None,
         said: &[
-            Said::Told(1, 1),
-            Said::Stopped(Some(2), Filter::ContactPeriod),
-        ],
-    },
-    // The recovery after two notices goes to those that the second reached.
-    Case {
-        kind: Kind::Recovery,
-        state: State::Up,
-        number: 3,
-        stopped: None,
-        said: &[
-            Said::Stopped(Some(1), Filter::ContactOptions),
-            Said::Stopped(Some(2), Filter::ContactPeriod),
-        ],
-    },
-    // The recovery after one notice goes to the object's own contacts, though the second would reach others.
-    Case {
-        kind: Kind::Recovery,
-        state: State::Up,
-        number: 2,
-        stopped: None,
-        said: &[
             Said::Told(0, 0),
             Said::Told(0, 1),
-            Said::Stopped(Some(1), Filter::ContactOptions),
-        ],
-    },
-    Case {
-        kind: Kind::FlappingStart,
-        state: State::Down,
-        number: 2,
-        stopped: None,
-        said: &[
-            Said::Told(0, 0),
-            Said::Told(0, 1),
-            Said::Stopped(Some(1), Filter::ContactOptions),
+            Said::Stopped(Some(1), Filter::ContactPeriod),
         ],
     },
     Case {
@@ -282,12 +221,10 @@ fn messages_of_outcomes(rt: HostRuntime) -> Result<(), AllocError> {
 
 #[test]
 fn counts_of_entries(rt: HostRuntime) {
-    let mut entries = [entry(CASES[1], Said::Told(1, 1)); 4];
-    entries[1] = entry(CASES[1], Said::Told(0, 0));
-    entries[2] = entry(CASES[1], Said::Stopped(Some(2), Filter::ContactPeriod));
-    let first = notices_for(&entries, 0);
-    let second = notices_for(&entries, 1);
-    let third = notices_for(&entries, 2);
-    let counts = (first, second, third, suppressions(&entries));
-    assert!(&rt; counts == (1, 2, 0, 1), "{counts:?}");
+    let mut entries = [entry(CASES[0], Said::Told(1, 1)); 4];
+    entries[1] = entry(CASES[0], Said::Told(0, 0));
+    entries[2] = entry(CASES[0], Said::Stopped(Some(1), Filter::ContactPeriod));
+    let counts = (notices_for(&entries, 0), notices_for(&entries, 1));
+    assert!(&rt; counts == (1, 2), "{counts:?}");
+    assert!(&rt; suppressions(&entries) == 1, "one is withheld");
 }
