@@ -1,6 +1,6 @@
 //! How many problems the clock judges: those that are ready, and no other.
 
-ghost use Rattle.std.specs.Prelude.{All, IfOk};
+ghost use Rattle.std.specs.Prelude.{All};
 ghost use Rattle.due_model.specs.Accepted.{IsAccepted};
 ghost use Rattle.due_model.specs.Proper.{IsProper};
 ghost use Rattle.decider.specs.Share.{IsShare};
@@ -12,7 +12,6 @@ use acceptance_inputs::rows::{ContactRow, ObjectRow, Rows, config_of};
 use decider::Share;
 use due_model::config::{Config, ContactId, ObjectId};
 use due_model::event::{Event, EventKind};
-use due_model::options::OptionLetters;
 use due_model::state::State;
 use std::alloc::{AllocError, Global};
 use std::process::Abort;
@@ -24,29 +23,21 @@ const SLOW_HOSTS: u16 = 1_000;
 /// The clock's moments.
 const MOMENTS: [u64; 3] = [60, 119, 120];
 
-/// How many problems were judged after each of them: that of the one host at 60 and at 120.
-const JUDGED: [u64; 3] = [1, 1, 2];
-
-/// One decider.
-const SOLE: Share = Share {
-    decider: 0,
-    deciders: 1,
-};
-
-/// How many deciders share the objects.
-const DECIDERS: u8 = 8;
+/// How many of them come, a decider of so many, and how many problems it has judged then: that of the one host, object 0, at 60 and at 120.
+const CASES: [(usize, u8, u8, u64); 5] = [
+    (1, 0, 1, 1),
+    (2, 0, 1, 1),
+    (3, 0, 1, 2),
+    (3, 0, 8, 2),
+    (3, 7, 8, 0),
+];
 
 /// A host that is told of again after so many minutes.
 fn host(interval: u32) -> ObjectRow {
     ObjectRow {
-        name: "host",
-        host: None,
-        enabled: true,
-        options: OptionLetters::ALL,
-        period: None,
         interval,
-        delay: 0,
         contacts: &[ContactId(0)],
+        ..ObjectRow::PLAIN
     }
 }
 
@@ -67,9 +58,7 @@ fn config(alloc: Global) -> Result<Config, AllocError> {
         lanes: 1,
         contacts: &[ContactRow::FREE],
         objects: objects.as_slice(),
-        periods: &[],
-        escalations: &[],
-        dependencies: &[],
+        ..Rows::NONE
     };
     config_of(alloc, rows)
 }
@@ -116,34 +105,18 @@ fn judges(
     clocks: usize,
     share: Share,
     judged: u64,
-) -> Result<(), Fail>
-    requires share { IsShare share }
-{
+) -> Result<(), Fail> {
     let events = events(alloc, clocks)?;
-    assert!(rt; is_accepted(config));
+    assert!(rt; is_accepted(config) && share.decider < share.deciders && share.deciders <= 8);
     has_judged(rt, alloc, config, events.as_slice(), share, judged)
 }
 
 #[test]
 fn clock_judges_what_is_ready(rt: HostRuntime) -> Result<(), Fail> {
     let config = config(rt.alloc())?;
-    for (clocks, judged) in JUDGED.iter().enumerate() {
-        judges(&rt, rt.alloc(), &config, clocks + 1, SOLE, *judged)?;
-    }
-    Ok(())
-}
-
-/// The one host is object 0, in the first share.
-#[test]
-fn clock_judges_its_share(rt: HostRuntime) -> Result<(), Fail> {
-    let config = config(rt.alloc())?;
-    for decider in 0..DECIDERS {
-        let share = Share {
-            decider,
-            deciders: DECIDERS,
-        };
-        let judged = if decider == 0 { 2 } else { 0 };
-        judges(&rt, rt.alloc(), &config, MOMENTS.len(), share, judged)?;
+    for (clocks, decider, deciders, judged) in CASES {
+        let share = Share { decider, deciders };
+        judges(&rt, rt.alloc(), &config, clocks, share, judged)?;
     }
     Ok(())
 }

@@ -1,11 +1,8 @@
 //! Generated configurations and events, with services, disabled objects, periods that exclude others, escalations of
 //! some letters, dependencies, contacts restricted for hosts and for services, downtimes, flapping and
-//! acknowledgements. On each, the slow program, one decider, and two, three and eight say the same; what was due or
-//! suppressed after some of the events is the front of that after all of them, and no notice stands twice.
+//! acknowledgements. On each, the slow program, one decider, and two, three and eight say the same.
 
-ghost use Rattle.std.specs.Prelude.{◌<◌, ◌≤◌, All, length};
-ghost use Rattle.due_model.specs.Accepted.{IsAccepted};
-ghost use Rattle.due_model.specs.Proper.{IsProper};
+ghost use Rattle.std.specs.Prelude.{◌<◌, ◌≤◌};
 
 use crate::comparison;
 use crate::numbers::Numbers;
@@ -16,11 +13,9 @@ use acceptance_inputs::rows::{
 };
 use due_model::config::{Config, ContactId, Dependency, LaneId, ObjectId, PeriodId, Range};
 use due_model::event::{DowntimeChange, Event, EventKind};
-use due_model::notice::{Filter, Notice, Suppression};
+use due_model::notice::{Filter, Suppression};
 use due_model::options::OptionLetters;
 use due_model::state::{State, StateSet};
-use due_model::zone::Zone;
-use slow_rules::slow::{slow_due, slow_sup};
 use std::alloc::{AllocError, Global};
 use std::process::Abort;
 use std::test::Fail;
@@ -359,14 +354,13 @@ fn events(alloc: Global, numbers: &mut Numbers) -> Result<Vec<Event>, AllocError
 #[derive(Debug, Drop)]
 struct Counts {
     notices: usize,
-    suppressions: usize,
     /// The filters that stopped something, each once.
     filters: Vec<Filter>,
 }
 
 impl Counts {
     /// Adds the filters of these suppressions.
-    fn add_filters(&mut self, suppressions: &[Suppression]) -> Result<(), AllocError> {
+    fn add_filters(&mut self, suppressions: &[Suppression]) -> Result<(), Fail> {
         for suppression in suppressions {
             if !self.filters.contains(&suppression.filter) {
                 self.filters.push(suppression.filter)?;
@@ -376,102 +370,21 @@ impl Counts {
     }
 }
 
-/// No notice stands twice.
-fn stand_once(rt: &impl Abort, notices: &[Notice]) {
-    for (place, notice) in notices.iter().enumerate() {
-        for earlier in notices.iter().take(place) {
-            assert!(rt; *earlier != *notice, "{notice:?} stands twice");
-        }
-    }
-}
-
-/// Of an object and a lane: what was due after some of the events is the front of what is due after all, and no
-/// notice stands twice.
-fn due_grows(
-    rt: &impl Abort,
-    alloc: Global,
-    config: &Config,
-    events: &[Event],
-    some: &[Event],
-    object: ObjectId,
-    lane: LaneId,
-) -> Result<usize, Fail>
-    requires accepted { IsAccepted config.now }
-    requires proper { All (IsProper config.now) events.now }
-    requires some { All (IsProper config.now) some.now }
-    requires object { object.0 < length config.now.objects }
-{
-    let all = slow_due(alloc, config, &Zone::Utc, events, object, lane)?;
-    let front = slow_due(alloc, config, &Zone::Utc, some, object, lane)?;
-    stand_once(rt, all.as_slice());
-    assert!(rt;
-        all.as_slice().starts_with(front.as_slice()),
-        "{object:?} on {lane:?}"
-    );
-    Ok(all.len())
-}
-
-/// The same of an object's suppressions.
-fn suppressions_grow(
-    rt: &impl Abort,
-    alloc: Global,
-    config: &Config,
-    events: &[Event],
-    some: &[Event],
-    object: ObjectId,
-) -> Result<usize, Fail>
-    requires accepted { IsAccepted config.now }
-    requires proper { All (IsProper config.now) events.now }
-    requires some { All (IsProper config.now) some.now }
-    requires object { object.0 < length config.now.objects }
-{
-    let all = slow_sup(alloc, config, &Zone::Utc, events, object)?;
-    let front = slow_sup(alloc, config, &Zone::Utc, some, object)?;
-    assert!(rt; all.as_slice().starts_with(front.as_slice()), "{object:?}");
-    Ok(all.len())
-}
-
-/// Compares what is said of each object.
-fn each_grows(
-    rt: &impl Abort,
-    alloc: Global,
-    config: &Config,
-    events: &[Event],
-    some: &[Event],
-    counts: &mut Counts,
-) -> Result<(), Fail>
-    requires accepted { IsAccepted config.now }
-    requires proper { All (IsProper config.now) events.now }
-    requires some { All (IsProper config.now) some.now }
-{
-    for number in 0..config.objects.len() {
-        let object = ObjectId(number as u16);
-        for lane in 0..LANES {
-            let found = due_grows(rt, alloc, config, events, some, object, LaneId(lane))?;
-            counts.notices = counts.notices.saturating_add(found);
-        }
-        let found = suppressions_grow(rt, alloc, config, events, some, object)?;
-        counts.suppressions = counts.suppressions.saturating_add(found);
-    }
-    Ok(())
-}
-
-/// Compares what a configuration says after some events, and after all of them.
+/// Compares what a configuration says.
 fn compare(
     rt: &impl Abort,
     alloc: Global,
     config: &Config,
     events: &[Event],
-    some: &[Event],
     counts: &mut Counts,
 ) -> Result<(), Fail> {
-    assert!(rt; is_accepted(config) && are_proper(config, events) && are_proper(config, some));
+    assert!(rt; is_accepted(config) && are_proper(config, events));
     let said = comparison::compare(rt, alloc, config, events)?;
-    counts.add_filters(said.suppressions.as_slice())?;
-    each_grows(rt, alloc, config, events, some, counts)
+    counts.notices = counts.notices.saturating_add(said.notices.len());
+    counts.add_filters(said.suppressions.as_slice())
 }
 
-/// Compares what the configuration of a seed says after its events, and after a part of them.
+/// Compares what the configuration of a seed says.
 fn compare_seed(
     rt: &impl Abort,
     alloc: Global,
@@ -480,28 +393,21 @@ fn compare_seed(
 ) -> Result<(), Fail> {
     let mut numbers = Numbers { state: seed };
     let events = events(alloc, &mut numbers)?;
-    let length = numbers.below(EVENTS) as usize;
-    let (some, _rest) = events.as_slice().split_at(length.min(events.len()));
     let config = config(alloc, &mut numbers)?;
-    compare(rt, alloc, &config, events.as_slice(), some, counts)
+    compare(rt, alloc, &config, events.as_slice(), counts)
 }
 
 #[test]
-fn what_was_due_stays_due(rt: HostRuntime) -> Result<(), Fail> {
+fn deciders_and_the_slow_program_say_the_same(rt: HostRuntime) -> Result<(), Fail> {
     let mut counts = Counts {
         notices: 0,
-        suppressions: 0,
         filters: Vec::new(rt.alloc()),
     };
     for seed in 0..SEEDS {
         compare_seed(&rt, rt.alloc(), seed, &mut counts)?;
     }
-    // On the average each configuration says several things, so the laws are tried on something.
-    assert!(&rt;
-        counts.notices > 200 && counts.suppressions > 400,
-        "{counts:?}"
-    );
-    // Each filter stops something.
+    // On the average each configuration says several things, and each filter stops something.
+    assert!(&rt; counts.notices > 200, "{counts:?}");
     assert_eq!(&rt; counts.filters.len(), FILTERS, "{counts:?}");
     Ok(())
 }

@@ -7,8 +7,6 @@ mod clock;
 #[cfg(test)]
 mod comparison;
 #[cfg(test)]
-mod feeds;
-#[cfg(test)]
 mod generated;
 #[cfg(test)]
 mod numbers;
