@@ -9,56 +9,26 @@ use command_output::{CommandFault, Ending};
 use replay::replay;
 use std::alloc::Global;
 use std::cell::Cell;
-use std::io::Read;
 use std::process::Abort;
 use std::test::Fail;
 use text_lines::{AnyReader, Input};
 
-/// Replays what a reader gives, and compares how it ends.
-fn ends<R: Read + Drop>(
-    rt: &impl Abort,
-    alloc: Global,
-    reader: R,
-    out: &mut Vec<u8>,
-    ending: Ending,
-    name: &str,
-) {
-    let ended = replay(alloc, AnyReader::new(reader), out);
-    assert_eq!(rt; ended, Ok(ending), "{name}");
-}
-
-/// Compares what was written.
-fn is_written(rt: &impl Abort, out: &[u8], report: &str, name: &str) {
-    assert_eq!(rt; out, report.as_bytes(), "{name}");
-}
-
-/// Replays what a reader gives, and compares what is written and how it ends.
-fn gives_of<R: Read + Drop>(
-    rt: &impl Abort,
-    alloc: Global,
-    reader: R,
-    report: &str,
-    ending: Ending,
-    name: &str,
-) {
+/// Replays a text in pieces of so many bytes, and compares what is written.
+fn gives_in_pieces(rt: &impl Abort, alloc: Global, text: &[u8], most: usize, report: &str) {
     let mut out = Vec::new(alloc);
-    ends(rt, alloc, reader, &mut out, ending, name);
-    is_written(rt, out.as_slice(), report, name);
-}
-
-/// Replays a text in pieces of several sizes.
-fn gives_in_pieces(rt: &impl Abort, alloc: Global, text: &[u8], report: &str) {
-    for most in [1, 2, 3, 7, 4096] {
-        let reader = readers::in_pieces(text, most);
-        gives_of(rt, alloc, reader, report, Ending::Whole, "in pieces");
-    }
+    let reader = readers::in_pieces(text, most);
+    let ended = replay(alloc, AnyReader::new(reader), &mut out);
+    assert_eq!(rt; ended, Ok(Ending::Whole), "in pieces of {most}");
+    assert_eq!(rt; out.as_slice(), report.as_bytes(), "in pieces of {most}");
 }
 
 #[test]
 fn in_pieces(rt: HostRuntime) -> Result<(), Fail> {
     let text = input(rt.alloc(), "[1000] HOST_STATE;web;DOWN\n[1060] CLOCK\n")?;
     let report = "N;0;1000;web;PROBLEM;DOWN;1;ann;mail\nN;1;1060;web;PROBLEM;DOWN;2;ann;mail\n";
-    gives_in_pieces(&rt, rt.alloc(), text.as_bytes(), report);
+    for most in [1, 7] {
+        gives_in_pieces(&rt, rt.alloc(), text.as_bytes(), most, report);
+    }
     Ok(())
 }
 
@@ -94,9 +64,8 @@ fn stops_at(rt: &impl Abort, alloc: Global, text: &[u8], calls: usize, fails: bo
 #[test]
 fn output_fails(rt: HostRuntime) -> Result<(), Fail> {
     let text = input(rt.alloc(), "[1000] HOST_STATE;web;DOWN\n")?;
-    for calls in 0..9 {
-        stops_at(&rt, rt.alloc(), text.as_bytes(), calls, false);
-        stops_at(&rt, rt.alloc(), text.as_bytes(), calls, true);
+    for (calls, fails) in [(0, true), (0, false), (5, true), (7, false), (8, true)] {
+        stops_at(&rt, rt.alloc(), text.as_bytes(), calls, fails);
     }
     Ok(())
 }
