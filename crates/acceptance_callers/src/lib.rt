@@ -7,8 +7,6 @@ mod alone;
 #[cfg(test)]
 mod cases;
 #[cfg(test)]
-mod crowds;
-#[cfg(test)]
 mod engines;
 #[cfg(test)]
 mod given;

@@ -1,23 +1,21 @@
 //! What runs over feeds leave, with one, two and eight deciders.
 
-ghost use Rattle.caller_feeds.specs.Feeds.{AreUnread, AreUnsent};
+ghost use Rattle.caller_feeds.specs.Feeds.{AreUnsent};
 
 use crate::engines::{has_taken, have_taken, post_flips, run, run_beside};
 use crate::given::{end, last_handle, post_in_turn};
-use crate::sites::{A, C, chain, eight_hosts};
+use crate::sites::eight_hosts;
 use acceptance_inputs::events::hard;
 use caller_feeds::FeedHandle;
-use due_model::config::{Config, ObjectId};
-use due_model::notice::{Filter, Notice, Suppression};
+use due_model::config::Config;
 use due_model::state::State;
-use engine::{Engine, LaneEnd, RunEnd};
+use engine::Engine;
 use std::alloc::{AllocError, Global};
 use std::process::Abort;
 use std::sync::Wait;
 use std::test::Fail;
 use std::thread::Threads;
 use std::time::Clock;
-use undelivered::Why;
 
 /// How many deciders the runs have.
 const DECIDERS: [u8; 3] = [1, 2, 8];
@@ -79,52 +77,21 @@ fn alone(
     Ok(())
 }
 
-/// Tries what the callers post with each number of deciders.
-fn with_each(
-    rt: &(impl Abort + Threads + Wait + Clock + Sync),
-    alloc: Global,
-    posted: Posted,
-) -> Result<(), AllocError> {
-    let config = eight_hosts(alloc)?;
-    for deciders in DECIDERS {
-        alone(rt, alloc, &config, deciders, posted)?;
-    }
-    Ok(())
-}
-
-/// Two hundred events, and for each host a hundred notices in order.
+/// Two hundred events, and for each host a hundred notices in order; with an event of an object that isn't there; and where a handle is
+/// dropped without its end: the run ends, and is cut.
 #[test]
 fn two_hosts(rt: HostRuntime) -> Result<(), Fail> {
-    let posted = Posted {
-        events: 100,
-        stray: false,
-        ended: true,
-    };
-    with_each(&rt, rt.alloc(), posted)?;
-    Ok(())
-}
-
-/// The same, with an event of an object that isn't there.
-#[test]
-fn stray_event(rt: HostRuntime) -> Result<(), Fail> {
-    let posted = Posted {
-        events: 100,
-        stray: true,
-        ended: true,
-    };
-    with_each(&rt, rt.alloc(), posted)?;
-    Ok(())
-}
-
-/// The same, where a handle is dropped without its end: the run ends, and is cut.
-#[test]
-fn end_that_is_missing(rt: HostRuntime) -> Result<(), Fail> {
-    let posted = Posted {
-        events: 100,
-        stray: false,
-        ended: false,
-    };
-    with_each(&rt, rt.alloc(), posted)?;
+    let config = eight_hosts(rt.alloc())?;
+    for (stray, ended) in [(false, true), (true, true), (true, false)] {
+        let posted = Posted {
+            events: 100,
+            stray,
+            ended,
+        };
+        for deciders in DECIDERS {
+            alone(&rt, rt.alloc(), &config, deciders, posted)?;
+        }
+    }
     Ok(())
 }
 
@@ -144,62 +111,11 @@ fn beside(
     Ok(())
 }
 
-/// A thousand events of one host on two lanes.
+/// One, two and eight callers, each in a thread of its own.
 #[test]
-fn thousand_flips(rt: HostRuntime) -> Result<(), Fail> {
-    beside(&rt, rt.alloc(), 1)?;
-    Ok(())
-}
-
-#[test]
-fn two_callers_beside_a_run(rt: HostRuntime) -> Result<(), Fail> {
-    beside(&rt, rt.alloc(), 2)?;
-    Ok(())
-}
-
-#[test]
-fn eight_callers_beside_a_run(rt: HostRuntime) -> Result<(), Fail> {
-    beside(&rt, rt.alloc(), 8)?;
-    Ok(())
-}
-
-/// Whether the lane has taken one notice, of the first event and this object.
-fn has_one(lane: &LaneEnd, object: u16) -> bool {
-    let one = |notice: &Notice| notice.event == 0 && notice.object == ObjectId(object);
-    let taken = lane.record(0).unwrap_or(&[]);
-    taken.len() == 1 && taken.iter().all(one) && lane.why() == Why::FeedOver
-}
-
-/// The notice of C went out, and that of A is suppressed by its dependency.
-fn suppresses(rt: &impl Abort, left: &RunEnd) {
-    let one = left.lanes.len() == 1 && left.lanes.as_slice().iter().all(|lane| has_one(lane, C));
-    assert!(rt; one, "the notice of C");
-    let named = |s: &Suppression| s.object == ObjectId(A) && s.filter == Filter::Dependency;
-    let log = left.log.len() == 1 && left.log.as_slice().iter().all(named);
-    assert!(rt; log, "A depends on it");
-}
-
-/// Posts that C is critical, and then A.
-fn post_chain(rt: &impl Abort, handles: &mut Vec<FeedHandle>)
-    requires { AreUnsent handles.old.items }
-{
-    let mut handle = last_handle(rt, handles);
-    for service in [C, A] {
-        post_in_turn(rt, &mut handle, hard(1_000, service, State::Critical));
-    }
-    end(rt, &mut handle);
-}
-
-/// C and A are critical, in this order; A depends on C by way of B.
-#[test]
-fn dependency_chain(rt: HostRuntime) -> Result<(), Fail> {
-    let config = chain(rt.alloc())?;
-    for deciders in DECIDERS {
-        let (mut handles, ends) = Engine::feeds(rt.alloc(), 1)?;
-        post_chain(&rt, &mut handles);
-        let (left, _ends) = run(&rt, rt.alloc(), &config, ends, deciders)?;
-        has_taken(&rt, &left, 2, false);
-        suppresses(&rt, &left);
+fn callers_beside_a_run(rt: HostRuntime) -> Result<(), Fail> {
+    for callers in [1, 2, 8] {
+        beside(&rt, rt.alloc(), callers)?;
     }
     Ok(())
 }
