@@ -27,12 +27,6 @@ pub const ON_CRITICAL: StateSet = StateSet {
     ..ON_NONE
 };
 
-/// The criteria `p`.
-pub const ON_PENDING: StateSet = StateSet {
-    pending: true,
-    ..ON_NONE
-};
-
 /// Each object's state, a moment, an object, and whether a dependency of it fails then.
 pub type Question<'a> = (&'a [State], u64, u16, bool);
 
