@@ -65,9 +65,15 @@ const JOINED: [(&[u8], &str); 15] = [
     (b"define host{\n a b \\\n\t c\n}\n", "Host 1[a=b c]\n"),
     (b"define host{\n a b\\\n\\\n\t\\\n c\n}\n", "Host 1[a=bc]\n"),
     (b"define host{\n a b\\\\\n c d\n}\n", "Host 1[a=b\\][c=d]\n"),
-    (b"define host{\n a b\\\\\\\n c d\n}\n", "Host 1[a=b\\\\][c=d]\n"),
+    (
+        b"define host{\n a b\\\\\\\n c d\n}\n",
+        "Host 1[a=b\\\\][c=d]\n",
+    ),
     (b"define host{\r\n a b\\\r\n c\r\n}\r\n", "Host 1[a=bc]\n"),
-    (b"define host{\n a b\\\r\r\n c d\n}\n", "Host 1[a=b\\\r][c=d]\n"),
+    (
+        b"define host{\n a b\\\r\r\n c d\n}\n",
+        "Host 1[a=b\\\r][c=d]\n",
+    ),
     (b"define host{\n a b\\ \n c d\n}\n", "Host 1[a=b\\][c=d]\n"),
     (b"define host{\n}\\", "Host 1\n"),
     (b"define host{\n}\n\\", "Host 1\n"),

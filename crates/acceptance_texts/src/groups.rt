@@ -17,14 +17,38 @@ const HOSTS: &str =
 /// Groups of hosts, and the members of each: lists, `*`, names that no host has, groups of groups, a loop, what templates give, and two
 /// groups of one name.
 const CASES: [Case; 8] = [
-    ("define hostgroup{\nhostgroup_name g\nmembers c,a\n}\n", "g:a.c.\n"),
-    ("define hostgroup{\nhostgroup_name g\nmembers *,b\n}\n", "g:b.\n"),
-    ("define hostgroup{\nhostgroup_name g\nmembers b,x\n}\n", "g:b.\n"),
-    ("define hostgroup{\nhostgroup_name g\nhostgroup_members *\n}\ndefine hostgroup{\nhostgroup_name h\nmembers a\n}\ndefine hostgroup{\nhostgroup_name i\nmembers b\n}\n", "g:a.b.\nh:a.\ni:b.\n"),
-    ("define hostgroup{\nhostgroup_name g\nhostgroup_members h\nmembers c\n}\ndefine hostgroup{\nhostgroup_name h\nhostgroup_members g\nmembers a\n}\n", "g:a.c.\nh:a.c.\n"),
-    ("define hostgroup{\nname t\nregister 0\nmembers a\nhostgroup_members i\n}\ndefine hostgroup{\nuse t\nhostgroup_name g\n}\ndefine hostgroup{\nuse t\nhostgroup_name h\nhostgroup_members null\n}\ndefine hostgroup{\nhostgroup_name i\nmembers c\n}\n", "g:a.c.\nh:a.\ni:c.\n"),
-    ("define host{\nname t\nregister 0\nhostgroups *\n}\ndefine host{\nuse t\nhost_name d\n}\ndefine host{\nuse t\nhost_name e\nhostgroups +g\n}\ndefine host{\nuse t\nhost_name f\nhostgroups +\n}\ndefine hostgroup{\nhostgroup_name g\n}\ndefine hostgroup{\nhostgroup_name h\n}\n", "g:d.e.f.\nh:d.f.\n"),
-    ("define hostgroup{\nhostgroup_name g\nmembers a\n}\ndefine hostgroup{\nhostgroup_name g\nmembers b\n}\ndefine hostgroup{\nhostgroup_name h\nhostgroup_members g\n}\n", "g:a.\ng:b.\nh:a.\n"),
+    (
+        "define hostgroup{\nhostgroup_name g\nmembers c,a\n}\n",
+        "g:a.c.\n",
+    ),
+    (
+        "define hostgroup{\nhostgroup_name g\nmembers *,b\n}\n",
+        "g:b.\n",
+    ),
+    (
+        "define hostgroup{\nhostgroup_name g\nmembers b,x\n}\n",
+        "g:b.\n",
+    ),
+    (
+        "define hostgroup{\nhostgroup_name g\nhostgroup_members *\n}\ndefine hostgroup{\nhostgroup_name h\nmembers a\n}\ndefine hostgroup{\nhostgroup_name i\nmembers b\n}\n",
+        "g:a.b.\nh:a.\ni:b.\n",
+    ),
+    (
+        "define hostgroup{\nhostgroup_name g\nhostgroup_members h\nmembers c\n}\ndefine hostgroup{\nhostgroup_name h\nhostgroup_members g\nmembers a\n}\n",
+        "g:a.c.\nh:a.c.\n",
+    ),
+    (
+        "define hostgroup{\nname t\nregister 0\nmembers a\nhostgroup_members i\n}\ndefine hostgroup{\nuse t\nhostgroup_name g\n}\ndefine hostgroup{\nuse t\nhostgroup_name h\nhostgroup_members null\n}\ndefine hostgroup{\nhostgroup_name i\nmembers c\n}\n",
+        "g:a.c.\nh:a.\ni:c.\n",
+    ),
+    (
+        "define host{\nname t\nregister 0\nhostgroups *\n}\ndefine host{\nuse t\nhost_name d\n}\ndefine host{\nuse t\nhost_name e\nhostgroups +g\n}\ndefine host{\nuse t\nhost_name f\nhostgroups +\n}\ndefine hostgroup{\nhostgroup_name g\n}\ndefine hostgroup{\nhostgroup_name h\n}\n",
+        "g:d.e.f.\nh:d.f.\n",
+    ),
+    (
+        "define hostgroup{\nhostgroup_name g\nmembers a\n}\ndefine hostgroup{\nhostgroup_name g\nmembers b\n}\ndefine hostgroup{\nhostgroup_name h\nhostgroup_members g\n}\n",
+        "g:a.\ng:b.\nh:a.\n",
+    ),
 ];
 
 /// Contacts in two groups, one of them in the other.
@@ -75,7 +99,13 @@ fn diamonds(alloc: Global, rows: u32) -> Result<String, AllocError> {
 #[test]
 fn long_chains_and_wide_diamonds_have_members(rt: HostRuntime) -> Result<(), AllocError> {
     let text = diamonds(rt.alloc(), 10_000)?;
-    shows(&rt, rt.alloc(), text.as_bytes(), What::FirstGroup, "l0:a.\n")
+    shows(
+        &rt,
+        rt.alloc(),
+        text.as_bytes(),
+        What::FirstGroup,
+        "l0:a.\n",
+    )
 }
 
 /// The names ann, bob and bob.
@@ -133,4 +163,3 @@ fn lists_are_what_the_rules_give(rt: HostRuntime) -> Result<(), AllocError> {
     let names = three_names(rt.alloc())?;
     lists_are(&rt, rt.alloc(), &names)
 }
-

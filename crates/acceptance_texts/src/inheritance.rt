@@ -7,10 +7,26 @@ use std::fmt::Write;
 /// Texts, a directive, and what each block has for it: a template has what it inherits itself, before the next one is asked; lists are added to,
 /// template by template; `register` isn't inherited; `null` is empty.
 const CASES: [(&str, &'static str, &str); 4] = [
-    ("define host{\nuse a,b\n}\ndefine host{\nname a\nuse c\n}\ndefine host{\nname b\ncontacts y\n}\ndefine host{\nname c\ncontacts z\n}\n", "contacts", "z|z|z.\nz|z|z.\ny|y|y.\nz|z|z.\n"),
-    ("define host{\nuse a\ncontacts +w\n}\ndefine host{\nname a\nuse c\ncontacts +x\n}\ndefine host{\nname c\ncontacts z\n}\n", "contacts", "+w|+w|z.x.w.\n+x|+x|z.x.\nz|z|z.\n"),
-    ("define host{\nname t\nregister 0\n}\ndefine host{\nuse t\n}\n", "register", "0|0|0.\n||none\n"),
-    ("define contact{\nname t\nservice_notification_period null\n}\ndefine contact{\nuse t\n}\n", "service_notification_period", "null||\nnull||\n"),
+    (
+        "define host{\nuse a,b\n}\ndefine host{\nname a\nuse c\n}\ndefine host{\nname b\ncontacts y\n}\ndefine host{\nname c\ncontacts z\n}\n",
+        "contacts",
+        "z|z|z.\nz|z|z.\ny|y|y.\nz|z|z.\n",
+    ),
+    (
+        "define host{\nuse a\ncontacts +w\n}\ndefine host{\nname a\nuse c\ncontacts +x\n}\ndefine host{\nname c\ncontacts z\n}\n",
+        "contacts",
+        "+w|+w|z.x.w.\n+x|+x|z.x.\nz|z|z.\n",
+    ),
+    (
+        "define host{\nname t\nregister 0\n}\ndefine host{\nuse t\n}\n",
+        "register",
+        "0|0|0.\n||none\n",
+    ),
+    (
+        "define contact{\nname t\nservice_notification_period null\n}\ndefine contact{\nuse t\n}\n",
+        "service_notification_period",
+        "null||\nnull||\n",
+    ),
 ];
 
 #[test]

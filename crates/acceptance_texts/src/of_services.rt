@@ -199,7 +199,11 @@ fn show_group(
 }
 
 /// The members of each service group, a line each.
-fn show_groups(alloc: Global, out: &mut String, groups: &mut ServiceGroups) -> Result<(), AllocError> {
+fn show_groups(
+    alloc: Global,
+    out: &mut String,
+    groups: &mut ServiceGroups,
+) -> Result<(), AllocError> {
     for number in 0..groups.groups().names().len() {
         show_group(alloc, out, groups, number)?;
     }
@@ -379,7 +383,14 @@ fn show_with_lists<'a>(
         return show_groups(alloc, out, &mut groups);
     }
     show_asked(
-        alloc, out, templates, services, lists, hosts, &mut groups, asked,
+        alloc,
+        out,
+        templates,
+        services,
+        lists,
+        hosts,
+        &mut groups,
+        asked,
     )
 }
 

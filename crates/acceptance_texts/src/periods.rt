@@ -9,18 +9,39 @@ use std::fmt::Write;
 /// Texts, and the periods of each: ranges keep their order; weekdays are inherited one by one; exclusions are added to; and of lines of dates
 /// the last counts, before those of a template.
 const PERIODS: [Case; 4] = [
-    ("define timeperiod{\ntimeperiod_name p\nfriday 13:30-14:45,0:00-9:05,24:00-24:00\n}\n", "p 5:48600-53100,0-32700,86400-86400,\n"),
-    ("define timeperiod{\nname t\nregister 0\nmonday 01:00-02:00\ntuesday 03:00-04:00\n}\ndefine timeperiod{\nuse t\ntimeperiod_name p\ntuesday 05:00-06:00\nsunday 07:00-08:00\n}\n", "p 0:25200-28800, 1:3600-7200, 2:18000-21600,\n"),
-    ("define timeperiod{\nname t\nregister 0\nexclude b\n}\ndefine timeperiod{\nuse t\ntimeperiod_name a\nexclude +c\n}\ndefine timeperiod{\ntimeperiod_name b\n}\ndefine timeperiod{\ntimeperiod_name c\n}\n", "a !1 !2\nb\nc\n"),
-    ("define timeperiod{\nname t\nregister 0\nday 1 01:00-02:00\ndecember 24 03:00-04:00\n}\ndefine timeperiod{\nuse t\ntimeperiod_name p\nday  1 05:00-06:00\nmonday -1 may 07:00-08:00\n2024-1-2 00:00-00:00\n}\n", "p Date { year: 2024, month: 1, day: 2 }:0-0, WeekdayOfMonth { weekday: 1, place: -1, month: 5 }:25200-28800, OfEachMonth { day: 1 }:18000-21600, OfMonth { month: 12, day: 24 }:10800-14400,\n"),
+    (
+        "define timeperiod{\ntimeperiod_name p\nfriday 13:30-14:45,0:00-9:05,24:00-24:00\n}\n",
+        "p 5:48600-53100,0-32700,86400-86400,\n",
+    ),
+    (
+        "define timeperiod{\nname t\nregister 0\nmonday 01:00-02:00\ntuesday 03:00-04:00\n}\ndefine timeperiod{\nuse t\ntimeperiod_name p\ntuesday 05:00-06:00\nsunday 07:00-08:00\n}\n",
+        "p 0:25200-28800, 1:3600-7200, 2:18000-21600,\n",
+    ),
+    (
+        "define timeperiod{\nname t\nregister 0\nexclude b\n}\ndefine timeperiod{\nuse t\ntimeperiod_name a\nexclude +c\n}\ndefine timeperiod{\ntimeperiod_name b\n}\ndefine timeperiod{\ntimeperiod_name c\n}\n",
+        "a !1 !2\nb\nc\n",
+    ),
+    (
+        "define timeperiod{\nname t\nregister 0\nday 1 01:00-02:00\ndecember 24 03:00-04:00\n}\ndefine timeperiod{\nuse t\ntimeperiod_name p\nday  1 05:00-06:00\nmonday -1 may 07:00-08:00\n2024-1-2 00:00-00:00\n}\n",
+        "p Date { year: 2024, month: 1, day: 2 }:0-0, WeekdayOfMonth { weekday: 1, place: -1, month: 5 }:25200-28800, OfEachMonth { day: 1 }:18000-21600, OfMonth { month: 12, day: 24 }:10800-14400,\n",
+    ),
 ];
 
 /// Texts, and the first fault of each.
 const FAULTS: [Case; 4] = [
     ("", ""),
-    ("define host{\nname t\nregister 0\nnotification_interval x\n}\ndefine host{\nuse t\nhost_name a\n}\n", "6 BadNumber"),
-    ("define host{\nhost_name a\nnotification_options x\nnotification_interval x\n}\n", "1 BadNumber"),
-    ("define service{\nservice_description s\nhost_name a,!b\nis_volatile 1\n}\n", "1 Volatile"),
+    (
+        "define host{\nname t\nregister 0\nnotification_interval x\n}\ndefine host{\nuse t\nhost_name a\n}\n",
+        "6 BadNumber",
+    ),
+    (
+        "define host{\nhost_name a\nnotification_options x\nnotification_interval x\n}\n",
+        "1 BadNumber",
+    ),
+    (
+        "define service{\nservice_description s\nhost_name a,!b\nis_volatile 1\n}\n",
+        "1 Volatile",
+    ),
 ];
 
 /// Objects a, b, g, v, ann, team, day and mail, one of each type and two hosts, after the blocks of each text.

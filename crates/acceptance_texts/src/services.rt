@@ -11,10 +11,22 @@ const HOSTS: &str =
 
 /// Service blocks, and the hosts of each: lists, `*`, groups that reach a host twice, and what a template gives.
 const BLOCKS: [Case; 4] = [
-    ("define service{\nservice_description s\nhost_name b,a\n}\n", "s:a.b.\n"),
-    ("define service{\nservice_description s\nhost_name *\n}\n", "s:a.b.c.\n"),
-    ("define service{\nservice_description s\nhostgroup_name h,g\nhost_name b\n}\n", "s:a.b.c.\n"),
-    ("define service{\nname t\nregister 0\nhost_name c\nhostgroup_name g\n}\ndefine service{\nuse t\nservice_description s\n}\n", "s:a.b.c.\n"),
+    (
+        "define service{\nservice_description s\nhost_name b,a\n}\n",
+        "s:a.b.\n",
+    ),
+    (
+        "define service{\nservice_description s\nhost_name *\n}\n",
+        "s:a.b.c.\n",
+    ),
+    (
+        "define service{\nservice_description s\nhostgroup_name h,g\nhost_name b\n}\n",
+        "s:a.b.c.\n",
+    ),
+    (
+        "define service{\nname t\nregister 0\nhost_name c\nhostgroup_name g\n}\ndefine service{\nuse t\nservice_description s\n}\n",
+        "s:a.b.c.\n",
+    ),
 ];
 
 /// Service blocks and groups; the first group whose members aren't pairs, the first doubled block, how many hosts each has, and where the
@@ -37,10 +49,22 @@ const SERVICES: [Case; 3] = [
 /// Service groups after the same hosts and services s of a and b and t of b, in this order, and their members: in the order of the services,
 /// each once; those whose blocks name the group; groups of groups, a loop; and a list that is added to another.
 const GROUPS: [Case; 4] = [
-    ("define servicegroup{\nservicegroup_name v\nmembers b,t,b,s,a,s,b,t\n}\n", "v:0.1.2.\n"),
-    ("define service{\nservice_description u\nhost_name *\nservicegroups w,v\n}\ndefine servicegroup{\nservicegroup_name v\nmembers b,t\n}\ndefine servicegroup{\nservicegroup_name w\n}\n", "v:2.3.4.\nw:3.4.\n"),
-    ("define servicegroup{\nservicegroup_name v\nservicegroup_members w\nmembers a,s\n}\ndefine servicegroup{\nservicegroup_name w\nservicegroup_members v,w\nmembers b,t\n}\n", "v:0.2.\nw:0.2.\n"),
-    ("define servicegroup{\nname t\nregister 0\nmembers b,t,a\nservicegroup_members y\n}\ndefine servicegroup{\nname u\nuse t\nregister 0\nmembers +s,b\n}\ndefine servicegroup{\nuse u\nservicegroup_name v\nmembers +s\n}\ndefine servicegroup{\nuse u\nservicegroup_name w\nmembers +t,a,s\n}\ndefine servicegroup{\nservicegroup_name y\n}\n", "v:0.1.2.\nw:0.2.\ny:\n"),
+    (
+        "define servicegroup{\nservicegroup_name v\nmembers b,t,b,s,a,s,b,t\n}\n",
+        "v:0.1.2.\n",
+    ),
+    (
+        "define service{\nservice_description u\nhost_name *\nservicegroups w,v\n}\ndefine servicegroup{\nservicegroup_name v\nmembers b,t\n}\ndefine servicegroup{\nservicegroup_name w\n}\n",
+        "v:2.3.4.\nw:3.4.\n",
+    ),
+    (
+        "define servicegroup{\nservicegroup_name v\nservicegroup_members w\nmembers a,s\n}\ndefine servicegroup{\nservicegroup_name w\nservicegroup_members v,w\nmembers b,t\n}\n",
+        "v:0.2.\nw:0.2.\n",
+    ),
+    (
+        "define servicegroup{\nname t\nregister 0\nmembers b,t,a\nservicegroup_members y\n}\ndefine servicegroup{\nname u\nuse t\nregister 0\nmembers +s,b\n}\ndefine servicegroup{\nuse u\nservicegroup_name v\nmembers +s\n}\ndefine servicegroup{\nuse u\nservicegroup_name w\nmembers +t,a,s\n}\ndefine servicegroup{\nservicegroup_name y\n}\n",
+        "v:0.1.2.\nw:0.2.\ny:\n",
+    ),
 ];
 
 /// Hosts a and b. Service s of a has place 0, s of b place 1, and t of b place 2.
@@ -83,5 +107,11 @@ fn site(alloc: Global, hosts: u32, services: u32) -> Result<String, AllocError> 
 fn the_first_block_past_the_limit_is_refused(rt: HostRuntime) -> Result<(), AllocError> {
     let text = site(rt.alloc(), 256, 300)?;
     let services = What::OfServices(Asked::Services);
-    shows(&rt, rt.alloc(), text.as_bytes(), services, "557 - 1785 TooMany")
+    shows(
+        &rt,
+        rt.alloc(),
+        text.as_bytes(),
+        services,
+        "557 - 1785 TooMany",
+    )
 }

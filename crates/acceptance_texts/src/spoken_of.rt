@@ -15,31 +15,79 @@ const OBJECTS: &str =
 /// template gives.
 const ESCALATIONS: [Case; 6] = [
     ("define hostescalation{\nhost_name b,a\n}\n", "11:0.1."),
-    ("define hostescalation{\nhostgroup_name g\n}\ndefine hostescalation{\nhost_name *\n}\n", "11:1.12:0.1.2."),
-    ("define serviceescalation{\nhost_name b,a\nservice_description t,s\n}\n", "11:3.4.5."),
-    ("define serviceescalation{\nhost_name b\nservice_description *\n}\n", "11:4.5."),
-    ("define serviceescalation{\nservicegroup_name v\nhost_name b\nservice_description s\n}\n", "11:3.4.5."),
-    ("define serviceescalation{\nname t\nregister 0\nhost_name a,x\nservice_description s,y\n}\ndefine serviceescalation{\nuse t\nhost_name +b\n}\n", "12:3.4."),
+    (
+        "define hostescalation{\nhostgroup_name g\n}\ndefine hostescalation{\nhost_name *\n}\n",
+        "11:1.12:0.1.2.",
+    ),
+    (
+        "define serviceescalation{\nhost_name b,a\nservice_description t,s\n}\n",
+        "11:3.4.5.",
+    ),
+    (
+        "define serviceescalation{\nhost_name b\nservice_description *\n}\n",
+        "11:4.5.",
+    ),
+    (
+        "define serviceescalation{\nservicegroup_name v\nhost_name b\nservice_description s\n}\n",
+        "11:3.4.5.",
+    ),
+    (
+        "define serviceescalation{\nname t\nregister 0\nhost_name a,x\nservice_description s,y\n}\ndefine serviceescalation{\nuse t\nhost_name +b\n}\n",
+        "12:3.4.",
+    ),
 ];
 
 /// Dependency blocks after them, and the dependencies that they give: one for each dependent and each master, those of descriptions and of
 /// service groups, criteria that name no state, a period, and what a template gives.
 const ENTRIES: [Case; 6] = [
-    ("define hostdependency{\nhost_name a\ndependent_host_name b\nnotification_failure_criteria n\n}\n", "1>0  -;"),
-    ("define hostdependency{\nhost_name a\ndependent_host_name b\nnotification_failure_criteria d\ninherits_parent 1\ndependency_period p\n}\n", "1>0+ d 0;"),
-    ("define hostdependency{\nhost_name b,a\ndependent_host_name c,b,c\nnotification_failure_criteria d\n}\n", "1>0 d -;1>1 d -;2>0 d -;2>1 d -;"),
-    ("define servicedependency{\nhost_name a\nservice_description s\ndependent_host_name b\ndependent_service_description *\nnotification_failure_criteria a\n}\n", "4>3 pOWUC -;5>3 pOWUC -;"),
-    ("define servicedependency{\nhost_name b\nservice_description s\ndependent_servicegroup_name v\ndependent_host_name b\ndependent_service_description s\nnotification_failure_criteria u\n}\n", "3>4 U -;4>4 U -;5>4 U -;"),
-    ("define hostdependency{\nname t\nregister 0\nhost_name a\ndependent_host_name b\nnotification_failure_criteria d\ninherits_parent 1\n}\ndefine hostdependency{\nuse t\ndependent_host_name +c\n}\n", "1>0+ d -;2>0+ d -;"),
+    (
+        "define hostdependency{\nhost_name a\ndependent_host_name b\nnotification_failure_criteria n\n}\n",
+        "1>0  -;",
+    ),
+    (
+        "define hostdependency{\nhost_name a\ndependent_host_name b\nnotification_failure_criteria d\ninherits_parent 1\ndependency_period p\n}\n",
+        "1>0+ d 0;",
+    ),
+    (
+        "define hostdependency{\nhost_name b,a\ndependent_host_name c,b,c\nnotification_failure_criteria d\n}\n",
+        "1>0 d -;1>1 d -;2>0 d -;2>1 d -;",
+    ),
+    (
+        "define servicedependency{\nhost_name a\nservice_description s\ndependent_host_name b\ndependent_service_description *\nnotification_failure_criteria a\n}\n",
+        "4>3 pOWUC -;5>3 pOWUC -;",
+    ),
+    (
+        "define servicedependency{\nhost_name b\nservice_description s\ndependent_servicegroup_name v\ndependent_host_name b\ndependent_service_description s\nnotification_failure_criteria u\n}\n",
+        "3>4 U -;4>4 U -;5>4 U -;",
+    ),
+    (
+        "define hostdependency{\nname t\nregister 0\nhost_name a\ndependent_host_name b\nnotification_failure_criteria d\ninherits_parent 1\n}\ndefine hostdependency{\nuse t\ndependent_host_name +c\n}\n",
+        "1>0+ d -;2>0+ d -;",
+    ),
 ];
 
 /// The same, and the place of the first on a loop: none of a chain, one on itself, the first that lies on it, and groups that share a service.
 const LOOPS: [Case; 5] = [
-    ("define hostdependency{\nhost_name a\ndependent_host_name b\nnotification_failure_criteria d\n}\n", "-"),
-    ("define hostdependency{\nhost_name a\ndependent_host_name a\nnotification_failure_criteria d\n}\n", "11"),
-    ("define hostdependency{\nhost_name a\ndependent_host_name c\nnotification_failure_criteria d\n}\ndefine hostdependency{\nhost_name a\ndependent_host_name b\nnotification_failure_criteria d\n}\ndefine hostdependency{\nhost_name b\ndependent_host_name a\nnotification_failure_criteria d\n}\n", "12"),
-    ("define servicedependency{\nservicegroup_name v\ndependent_servicegroup_name w\nnotification_failure_criteria c\n}\n", "11"),
-    ("define hostdependency{\nhostgroup_name *\ndependent_host_name b\nnotification_failure_criteria d\n}\n", "11"),
+    (
+        "define hostdependency{\nhost_name a\ndependent_host_name b\nnotification_failure_criteria d\n}\n",
+        "-",
+    ),
+    (
+        "define hostdependency{\nhost_name a\ndependent_host_name a\nnotification_failure_criteria d\n}\n",
+        "11",
+    ),
+    (
+        "define hostdependency{\nhost_name a\ndependent_host_name c\nnotification_failure_criteria d\n}\ndefine hostdependency{\nhost_name a\ndependent_host_name b\nnotification_failure_criteria d\n}\ndefine hostdependency{\nhost_name b\ndependent_host_name a\nnotification_failure_criteria d\n}\n",
+        "12",
+    ),
+    (
+        "define servicedependency{\nservicegroup_name v\ndependent_servicegroup_name w\nnotification_failure_criteria c\n}\n",
+        "11",
+    ),
+    (
+        "define hostdependency{\nhostgroup_name *\ndependent_host_name b\nnotification_failure_criteria d\n}\n",
+        "11",
+    ),
 ];
 
 #[test]
