@@ -15,12 +15,12 @@ use Rattle.decider_thread.specs.Made.{made_due}
 use Rattle.decider_thread.specs.Puts.{ArePut}
 
 -- it has stopped; then the rest of the ring was passed over, and what waited was put
-pub heard_after : (c : Config) (zone : Zone) (share : Share) (queues : List LaneQueue) (over : Bool) (before after : List Signal) (waiting : ℕ → List Notice) (seats later : List Seat) (log : List Suppression)
-    → HasStopped c zone share queues over before waiting seats log
+pub heard_after : (c : Config) (zone : Zone) (share : Share) (queues : List LaneQueue) (over : Bool) (before after : List Signal) (waiting : ℕ → List Notice) (seats later : List Seat) (tells : List Suppression → Type 0) (log : List Suppression)
+    → HasStopped c zone share queues over before waiting seats tells log
     → (over ≡ true → after ≡ before) → (over ≡ false → (past : List Event) → before ≡ heard past → (newer : List Event) × (after ≡ heard (newer ++ past) ++ Over ∷ []))
     → ((whole : ℕ → List Notice) → ArePut share.decider queues seats waiting whole → ArePut share.decider queues later (λ _. []) whole)
-    → HasHeard c zone share queues (not over) after later log
-heard_after c zone share queues true before after waiting seats later log s same rest puts = record {
+    → HasHeard c zone share queues (not over) after later tells log
+heard_after c zone share queues true before after waiting seats later tells log s same rest puts = record {
   past = s.past;
   all = s.all;
   older = s.older;
@@ -29,7 +29,7 @@ heard_after c zone share queues true before after waiting seats later log s same
   seats = puts (λ l. made_due c zone share l s.past) s.seats;
   log = s.log;
 }
-heard_after c zone share queues false before after waiting seats later log s same rest puts =
+heard_after c zone share queues false before after waiting seats later tells log s same rest puts =
     let more = rest refl s.all (s.heard_all ∙ append-nil (heard s.all)) in record {
       past = s.past;
       all = more.0 ++ s.all;

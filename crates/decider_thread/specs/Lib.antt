@@ -1,4 +1,5 @@
 pub mod Made
+pub mod Told
 pub mod Puts
 pub mod Decided
 pub mod Laws

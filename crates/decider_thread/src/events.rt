@@ -2,8 +2,9 @@
 
 ghost use Rattle.std.specs.Prelude.{◌≡◌, ◌<◌, ◌++◌, ◌∷◌, List, [], true, false, length, IfNone, IfSome};
 ghost use Rattle.due_model.specs.declared.event.Event.{Event};
+ghost use Rattle.due_model.specs.declared.notice.Suppression.{Suppression};
 ghost use Rattle.due_model.specs.declared.zone.Zone.{Zone};
-ghost use Rattle.decider.specs.Fits.{kept, settings};
+ghost use Rattle.decider.specs.Fits.{Fits, kept, settings};
 ghost use Rattle.decider.specs.declared.share.Share.{Share};
 ghost use Rattle.decider.specs.Outbox.{lists, waiting_at};
 ghost use Rattle.rtrb.specs.Ring.{SameConsumer, received};
@@ -11,9 +12,11 @@ ghost use Rattle.channel_queue.specs.declared.LaneQueue.{LaneQueue};
 ghost use Rattle.decider_thread.specs.declared.seats.Seat.{Seat};
 ghost use Rattle.decider_thread.specs.Decided.{HasStopped, Stands, heard};
 ghost use Rattle.decider_thread.specs.Puts.{waiting_count};
+ghost use Rattle.decider_thread.specs.Told.{IsNoted};
 ghost use Rattle.decider_thread.specs.declared.Signal.TheVariants.{Over};
 
 use crate::Signal;
+use crate::log::DeciderLog;
 use crate::seats::{Seat, is_full, put_round};
 use channel_queue::LaneQueue;
 use decider::{Decider, Outbox, Share};
@@ -27,26 +30,42 @@ use std::sync::Wait;
 use std::sync::atomic::{AtomicBool, Ordering};
 use std::time::Clock;
 
-/// Decides one event; what it makes due waits in the outboxes. False: it isn't decided, and nothing has changed. The feed gives
+/// Tells the log what the decider has noted. What isn't told the decider keeps.
+fn note<L: DeciderLog>(decider: &mut Decider<'_>, log: &mut L)
+    ensures noted { (first : L) (all : List Suppression)
+        → IsNoted (λ lines. L.tells first lines log.old) (kept decider.old).log all
+        → IsNoted (λ lines. L.tells first lines log.new) (kept decider.new).log all }
+    ensures fits { (past : List Event) → Fits (kept decider.old) past → Fits (kept decider.new) past }
+    ensures settings { settings (kept decider.new) ≡ settings (kept decider.old) }
+{
+    if log.tell(decider.log()) {
+        decider.clear_log();
+    }
+}
+
+/// Decides one event; what it makes due waits in the outboxes, and what it suppresses is told to the log. False: it isn't decided, and nothing has changed. The feed gives
 /// proper events alone, and one that isn't is not decided.
-fn decide_event(
+fn decide_event<L: DeciderLog>(
     config: &Config,
     event: Event,
     decider: &mut Decider<'_>,
     outbox: &mut Outbox,
+    log: &mut L,
 ) -> bool
     requires lanes { length (lists outbox.old) ≡ length config.now.lanes }
     requires few { waiting_count outbox.old < 65_536 }
     requires stands { (zone : Zone) × (share : Share) × (queues : List LaneQueue) × (seats : List Seat)
-        × (past : List Event)
-        × Stands config.now zone share queues past (kept decider.old) (waiting_at outbox.old) seats }
+        × (past : List Event) × (first : L)
+        × Stands config.now zone share queues past (kept decider.old) (λ lines. L.tells first lines log.old)
+        (waiting_at outbox.old) seats }
     ensures decided { result ≡ true → (zone : Zone) (share : Share) (queues : List LaneQueue)
-        (seats : List Seat) (past : List Event) → length queues ≡ length (lists outbox.old)
-        → Stands config.now zone share queues past (kept decider.old) (waiting_at outbox.old) seats
-        → Stands config.now zone share queues (event ∷ past) (kept decider.new) (waiting_at outbox.new)
-        seats }
+        (seats : List Seat) (past : List Event) (first : L) → length queues ≡ length (lists outbox.old)
+        → Stands config.now zone share queues past (kept decider.old) (λ lines. L.tells first lines log.old)
+        (waiting_at outbox.old) seats
+        → Stands config.now zone share queues (event ∷ past) (kept decider.new)
+        (λ lines. L.tells first lines log.new) (waiting_at outbox.new) seats }
     ensures kept { result ≡ false → (lists outbox.new ≡ lists outbox.old)
-        × (kept decider.new ≡ kept decider.old) }
+        × (kept decider.new ≡ kept decider.old) × (log.new ≡ log.old) }
     ensures lanes { length (lists outbox.new) ≡ length (lists outbox.old) }
 {
     if !is_proper(config, &event) {
@@ -55,6 +74,7 @@ fn decide_event(
     if decider.decide(event, outbox).is_err() {
         return false;
     }
+    note(decider, log);
     true
 }
 
@@ -74,13 +94,14 @@ fn next_signal(ring: &mut Consumer<Signal>, outbox: &Outbox) -> Option<Signal>
 
 /// Decides the events of a ring until it is over, while what waits is put into the queues as they have room. False: an event wasn't
 /// decided, and the ring isn't over.
-pub(crate) fn decide_events<G: Gate, R: Wait + Clock>(
+pub(crate) fn decide_events<L: DeciderLog, G: Gate, R: Wait + Clock>(
     rt: &R,
     config: &Config,
     share: Share,
     ring: &mut Consumer<Signal>,
     decider: &mut Decider<'_>,
     outbox: &mut Outbox,
+    log: &mut L,
     queues: &[LaneQueue],
     seats: &mut [Seat],
     gate: &G,
@@ -92,12 +113,12 @@ pub(crate) fn decide_events<G: Gate, R: Wait + Clock>(
     requires lanes { length (lists outbox.old) ≡ length config.now.lanes }
     requires range { length (lists outbox.old) < 256 }
     requires stands { (zone : Zone) × Stands config.now zone share queues.now [] (kept decider.old)
-        (waiting_at outbox.old) seats.old }
+        (λ lines. L.tells log.old lines log.old) (waiting_at outbox.old) seats.old }
     ensures ring { SameConsumer ring.old ring.new }
     ensures stopped { (zone : Zone) → Stands config.now zone share queues.now [] (kept decider.old)
-        (waiting_at outbox.old) seats.old
+        (λ lines. L.tells log.old lines log.old) (waiting_at outbox.old) seats.old
         → HasStopped config.now zone share queues.now result (received ring.new) (waiting_at outbox.new)
-        seats.new (kept decider.new).log }
+        seats.new (λ lines. L.tells log.old lines log.new) (kept decider.new).log }
     ensures seats { length seats.new ≡ length seats.old }
     ensures lanes { length (lists outbox.new) ≡ length (lists outbox.old) }
 {
@@ -119,7 +140,7 @@ pub(crate) fn decide_events<G: Gate, R: Wait + Clock>(
                 if halt.load(Ordering::SeqCst) {
                     return false;
                 }
-                if !decide_event(config, event, decider, outbox) {
+                if !decide_event(config, event, decider, outbox, log) {
                     halt.store(true, Ordering::SeqCst);
                     gate.wanting();
                     return false;

@@ -4,10 +4,12 @@
 
 mod events;
 pub mod laws;
+mod log;
 mod ring;
 mod seats;
 
 use due_model::event::Event;
+pub use log::{DeciderLog, KeptLog};
 pub use ring::{DeciderEnd, decide_ring};
 pub use seats::Seat;
 

@@ -1,8 +1,8 @@
 -- What a run leaves, from what its threads left and what was read.
-use Rattle.std.proofs.Common.{arith, ap₂, length-append, ⊎_elim, ◌+◌, ◌≡◌, ◌≢◌, ◌≤◌, ℕ, ◌<◌, All, Bool, true, false, true≢false, cond, is_some, List, [], ◌∷◌, ◌++◌, length, reverse, slice_get, Option, None, Some, IfSome, refl, sym, ap, subst, ◌∙◌}
-use Rattle.std.proofs.lemmas.Bool.{cases_eq}
+use Rattle.std.proofs.Common.{arith, ap₂, length-append, ⊎_elim, ◌+◌, ◌%◌, ◌≡◌, ◌≢◌, ◌≤◌, ℕ, ◌<◌, All, Bool, true, false, true≢false, cond, is_some, List, [], ◌∷◌, ◌++◌, length, reverse, slice_get, Option, None, Some, IfSome, refl, sym, ap, subst, ◌∙◌}
+use Rattle.std.proofs.lemmas.Bool.{cases_eq, cases_lt}
 use Rattle.std.proofs.lemmas.List.Elements.{All-nil, All-same}
-use Rattle.std.proofs.lemmas.Option.{IfSome_then, slice_get_within}
+use Rattle.std.proofs.lemmas.Option.{IfSome_then, none-some, slice_get_within}
 use mathlib.Core.List.{IsPrefix}
 use Rattle.due_model.specs.declared.config.Config.{Config}
 use Rattle.due_model.specs.declared.event.Event.{Event}
@@ -15,6 +15,10 @@ use Rattle.delivery_worker.specs.declared.worker.Served.{Served}
 use Rattle.delivery_worker.specs.Picked.{all_taken, join_lists, joined as joined_of}
 use Rattle.engine_threads.specs.Lanes.{HasCause}
 use Rattle.engine_threads.specs.Run.{IsNamed, IsRun}
+use Rattle.engine_threads.specs.Told.{HaveTold}
+use Rattle.decider_thread.specs.Laws.{of_object}
+use Rattle.decider_thread.specs.Made.{suppressed}
+use Rattle.decider_thread.specs.Told.{tells_nothing}
 use Rattle.event_feed.specs.declared.fault.FeedFault.TheVariants as fault
 use Rattle.event_feed.specs.declared.fault.RefusedLine.{RefusedLine}
 use Rattle.event_feed.specs.Feed.{Answer, AreGiven, Feed, answers_within}
@@ -24,12 +28,12 @@ use Rattle.steps.specs.Lanes.{about}
 use Rattle.text_lines.specs.Lines.{pieces}
 use Rattle.undelivered.specs.declared.Why.{Why}
 use Rattle.undelivered.specs.declared.Why.TheVariants as why
-use Rattle.engine.specs.Due.{BeginsLog, HaveCauses, IsLog, LanesAreDue, LanesBeginDue, LanesKeepDue}
+use Rattle.engine.specs.Due.{BeginsLog, BeginsLogAfter, HaveCauses, IsLog, IsLogAfter, LanesAreDue, LanesBeginDue, LanesKeepDue}
 use Rattle.engine.specs.Feed.{IsFirst, IsFrontRead, IsLeft, IsWhatWasRead, events_in, events_of, taken_after}
 use Rattle.engine.specs.Lanes.{IsCause, IsEndOf, LaneParts, joined}
 use Rattle.engine.specs.Lists.{IsFrontOf}
 use Rattle.engine.proofs.RecordLaws.{join_push, records_none, records_some}
-use Rattle.engine.specs.Run.{AreThreadsEnd, IsReadOf, IsRunOf}
+use Rattle.engine.specs.Run.{AreThreadsEnd, IsReadOf, IsRunAfter, IsRunOf, IsToldRunOf}
 
 -- ---- of a feed of which nothing was read before
 
@@ -118,7 +122,7 @@ cause_of l given memory s lane e cause out = ⊎_elim unposted posted (cases_eq 
 
 -- ---- all lanes, and the log
 
-module _ (c : Config) (zone : Zone) (given : ℕ → ℕ) (past : List Event) (memory : Bool) (served : List Served) (log : List Suppression) (lanes : List LaneParts) (run : IsRun c zone given past memory served log)
+module _ (c : Config) (zone : Zone) (given : ℕ → ℕ) (past : List Event) (memory : Bool) (served : List Served) (told : ℕ → List Suppression) (log : List Suppression) (lanes : List LaneParts) (run : IsRun c zone given past memory served told log)
     (long : length lanes ≡ length served) (each : (l : ℕ) (s : Served) (lane : LaneParts) → slice_get served l ≡ Some s → slice_get lanes l ≡ Some lane → IsEndOf l (given l) s lane) where
   -- the worker of a lane
   worker : (l : ℕ) (lane : LaneParts) → slice_get lanes l ≡ Some lane → (s : Served) × (slice_get served l ≡ Some s)
@@ -164,25 +168,25 @@ module _ (c : Config) (zone : Zone) (given : ℕ → ℕ) (past : List Event) (m
       let s = worker l lane at in
       cause_of l (given l) memory s.0 lane (each l s.0 lane s.1 at) (run.causes l s.0 s.1) (λ none. run.memory_is none l s.0 s.1)
 
-  pub log_is : memory ≡ false → IsLog c zone past log
+  pub log_is : memory ≡ false → IsLogAfter c zone past told log
   log_is none = record { each = run.log_is.all none; named = run.log_is.named; order = run.log_is.order }
 
-  pub log_begins : BeginsLog c zone past log
+  pub log_begins : BeginsLogAfter c zone past told log
   log_begins = record { each = run.log_is.front; named = run.log_is.named; order = run.log_is.order }
 
 -- ---- the run
 
-pub run_is : (c : Config) (zone : Zone) (given : ℕ → ℕ) (events : List Event) (memory : Bool) (served : List Served) (log : List Suppression) (lanes : List LaneParts) → AreThreadsEnd c zone given events memory served log
+pub run_is : (c : Config) (zone : Zone) (given : ℕ → ℕ) (events : List Event) (memory : Bool) (served : List Served) (told : ℕ → List Suppression) (log : List Suppression) (lanes : List LaneParts) → AreThreadsEnd c zone given events memory served told log
     → length lanes ≡ length served → ((l : ℕ) (s : Served) (lane : LaneParts) → slice_get served l ≡ Some s → slice_get lanes l ≡ Some lane → IsEndOf l (given l) s lane)
-    → IsRunOf c zone given events memory lanes log
-run_is c zone given events memory served log lanes threads long each = record {
-  due = lanes_are_due c zone given (reverse events) memory served log lanes threads.run long each;
-  log = log_is c zone given (reverse events) memory served log lanes threads.run long each;
-  due_front = lanes_begin_due c zone given (reverse events) memory served log lanes threads.run long each;
-  log_front = log_begins c zone given (reverse events) memory served log lanes threads.run long each;
-  others = lanes_keep_due c zone given (reverse events) memory served log lanes threads.run long each;
+    → IsRunAfter c zone given events memory lanes told log
+run_is c zone given events memory served told log lanes threads long each = record {
+  due = lanes_are_due c zone given (reverse events) memory served told log lanes threads.run long each;
+  log = log_is c zone given (reverse events) memory served told log lanes threads.run long each;
+  due_front = lanes_begin_due c zone given (reverse events) memory served told log lanes threads.run long each;
+  log_front = log_begins c zone given (reverse events) memory served told log lanes threads.run long each;
+  others = lanes_keep_due c zone given (reverse events) memory served told log lanes threads.run long each;
   whole = λ some. long ∙ threads.whole some;
-  causes = lanes_have_causes c zone given (reverse events) memory served log lanes threads.run long each;
+  causes = lanes_have_causes c zone given (reverse events) memory served told log lanes threads.run long each;
 }
 
 pub read_is : (far : ℕ → Bool) (can_fail : Bool) (c : Config) (known : Option (List ℕ)) (start : Feed) (memory : Bool) (events : List Event) (refused : List RefusedLine) (cut : Bool) → IsFirst known start
@@ -248,3 +252,50 @@ none_ran c zone given events memory lanes log no_events none no_logged out = rec
   whole = λ some. absurd (some no_events);
   causes = λ l lane found. absurd (no_lane lanes l lane none found);
 }
+
+-- ---- where the logs tell nothing
+
+pub none_told_ran : {L : Type 0} (tells : L → List Suppression → L → Type 0) (c : Config) (zone : Zone) (given : ℕ → ℕ) (events : List Event) (memory : Bool) (lanes : List LaneParts) (log : List Suppression) (logs back : List L)
+    → events ≡ [] → lanes ≡ [] → log ≡ [] → back ≡ [] → memory ≡ true → IsToldRunOf tells c zone given events memory lanes logs back log
+none_told_ran {L} tells c zone given events memory lanes log logs back no_events none no_logged no_logs out = (
+  (λ d. []),
+  record {
+    few = (let long = ap length no_logs in omega (arith, long));
+    each = λ d a b at_a at_b. absurd (none-some b (subst (λ (bs : List L). slice_get bs d ≡ Some b) no_logs at_b));
+    absent = λ d ge. refl;
+    begins = λ d lt. (suppressed c zone (record { decider = d; deciders = length logs }) (reverse events), refl);
+  },
+  none_ran c zone given events memory lanes log no_events none no_logged out,
+)
+
+nothing_told : {L : Type 0} (c : Config) (zone : Zone) (n : ℕ) (past : List Event) (given back : List L) (told : ℕ → List Suppression) → HaveTold (λ _ lines _. tells_nothing lines) c zone n past given back told → (d : ℕ) → told d ≡ []
+nothing_told c zone n past given back told have d = ⊎_elim
+    (λ (lt : d < length back).
+    let few = have.few in
+    let a = some_at given d (omega (arith, lt, few)) in
+    let b = some_at back d lt in
+    have.each d a.0 b.0 a.1 b.1)
+    (λ (ge : length back ≤ d). have.absent d ge)
+    (cases_lt d (length back))
+
+pub run_of_kept : {L : Type 0} (c : Config) (zone : Zone) (given : ℕ → ℕ) (events : List Event) (memory : Bool) (lanes : List LaneParts) (logs back : List L) (lines : List Suppression)
+    → IsToldRunOf (λ _ lines _. tells_nothing lines) c zone given events memory lanes logs back lines → IsRunOf c zone given events memory lanes lines
+run_of_kept c zone given events memory lanes logs back lines run = record {
+  due = run.2.due;
+  log = λ m. record { each = λ o within. without o ((run.2.log m).each o within); named = (run.2.log m).named; order = (run.2.log m).order };
+  due_front = run.2.due_front;
+  log_front = record {
+    each = λ o within. subst (λ (ls : List Suppression). IsPrefix (of_object o ls ++ of_object o lines) (sup c zone o (reverse events))) (none o) (run.2.log_front.each o within);
+    named = run.2.log_front.named;
+    order = run.2.log_front.order;
+  };
+  others = run.2.others;
+  whole = run.2.whole;
+  causes = run.2.causes;
+}
+  where
+    none : (o : ℕ) → run.0 (o % length logs) ≡ []
+    none o = nothing_told c zone (length logs) (reverse events) logs back run.0 run.1 (o % length logs)
+
+    without : (o : ℕ) → of_object o (run.0 (o % length logs)) ++ of_object o lines ≡ sup c zone o (reverse events) → of_object o lines ≡ sup c zone o (reverse events)
+    without o is = ap (λ (ls : List Suppression). of_object o ls ++ of_object o lines) (sym (none o)) ∙ is

@@ -1,5 +1,5 @@
 -- What a run promises of its lanes and of its log.
-use Rattle.std.specs.Prelude.{◌≡◌, ◌≢◌, ℕ, ◌<◌, All, Bool, List, length, slice_get, Some}
+use Rattle.std.specs.Prelude.{◌≡◌, ◌≢◌, ℕ, ◌<◌, ◌++◌, All, Bool, List, [], length, slice_get, Some}
 use mathlib.Core.List.{IsPrefix}
 use Rattle.due_model.specs.declared.config.Config.{Config}
 use Rattle.due_model.specs.declared.event.Event.{Event}
@@ -59,17 +59,27 @@ abbrev pub HaveCauses : (given : ℕ → ℕ) → (memory : Bool) → List LaneP
 HaveCauses given memory lanes = (l : ℕ) (lane : LaneParts) → slice_get lanes l ≡ Some lane
     → IsCause (given l) memory lane
 
--- The log: of each object of the configuration all that is suppressed of it, and nothing else; and it stands by event, then object.
-pub record IsLog (c : Config) (zone : Zone) (past : List Event) (log : List Suppression) : Type 0
+-- The log, beside what of each object was told before: of each object of the configuration what was told and then what is in the log is
+-- all that is suppressed of it, and the log has nothing else; and it stands by event, then object.
+pub record IsLogAfter (c : Config) (zone : Zone) (past : List Event) (told : (object : ℕ) → List Suppression)
+    (log : List Suppression) : Type 0
   where
-    pub each : (o : ℕ) → o < length c.objects → of_object o log ≡ sup c zone o past
+    pub each : (o : ℕ) → o < length c.objects → of_object o (told o) ++ of_object o log ≡ sup c zone o past
     pub named : All (λ s. s.object.0 < length c.objects) log
     pub order : IsInOrder log
 
+-- The log, where nothing was told before: of each object all that is suppressed of it.
+abbrev pub IsLog : Config → Zone → (past : List Event) → (log : List Suppression) → Type 0
+IsLog c zone past log = IsLogAfter c zone past (λ o. []) log
+
 -- A first part of it: of each object, of what is suppressed of it.
-pub record BeginsLog (c : Config) (zone : Zone) (past : List Event) (log : List Suppression)
-    : Type 0
+pub record BeginsLogAfter (c : Config) (zone : Zone) (past : List Event) (told : (object : ℕ) → List Suppression)
+    (log : List Suppression) : Type 0
   where
-    pub each : (o : ℕ) → o < length c.objects → IsPrefix (of_object o log) (sup c zone o past)
+    pub each : (o : ℕ) → o < length c.objects
+        → IsPrefix (of_object o (told o) ++ of_object o log) (sup c zone o past)
     pub named : All (λ s. s.object.0 < length c.objects) log
     pub order : IsInOrder log
+
+abbrev pub BeginsLog : Config → Zone → (past : List Event) → (log : List Suppression) → Type 0
+BeginsLog c zone past log = BeginsLogAfter c zone past (λ o. []) log

@@ -1,5 +1,5 @@
 -- What a run leaves.
-use Rattle.std.specs.Prelude.{◌≡◌, ◌≢◌, ℕ, All, Bool, true, false, List, [], length, reverse, IfSome, Option}
+use Rattle.std.specs.Prelude.{◌≡◌, ◌≢◌, ◌%◌, ℕ, All, Bool, true, false, List, [], length, reverse, IfSome, Option}
 use Rattle.due_model.specs.declared.config.Config.{Config}
 use Rattle.due_model.specs.declared.event.Event.{Event}
 use Rattle.due_model.specs.declared.notice.Suppression.{Suppression}
@@ -7,28 +7,42 @@ use Rattle.due_model.specs.declared.zone.Zone.{Zone}
 use Rattle.due_model.specs.Proper.{IsProper}
 use Rattle.delivery_worker.specs.declared.worker.Served.{Served}
 use Rattle.engine_threads.specs.Run.{IsRun}
+use Rattle.engine_threads.specs.Told.{HaveTold}
 use Rattle.event_feed.specs.declared.fault.FeedFault.TheVariants as fault
 use Rattle.event_feed.specs.declared.fault.RefusedLine.{RefusedLine}
-use Rattle.engine.specs.Due.{BeginsLog, HaveCauses, IsLog, LanesAreDue, LanesBeginDue, LanesKeepDue}
+use Rattle.engine.specs.Due.{BeginsLogAfter, HaveCauses, IsLogAfter, LanesAreDue, LanesBeginDue, LanesKeepDue}
 use Rattle.engine.specs.Feed.{IsFrontRead, IsWhatWasRead, events_of}
 use Rattle.engine.specs.Lanes.{LaneParts}
 use Rattle.engine.specs.Lists.{IsFrontOf}
 
--- All that the engine promises of the lanes and the log of a run, of the events that it has taken, with channels for these lanes.
-pub record IsRunOf (c : Config) (zone : Zone) (given : ℕ → ℕ) (events : List Event)
-    (memory : Bool) (lanes : List LaneParts) (lines : List Suppression) : Type 0 where
+-- All that the engine promises of the lanes and the log of a run, of the events that it has taken, with channels for these lanes, where
+-- of each object this was told before.
+pub record IsRunAfter (c : Config) (zone : Zone) (given : ℕ → ℕ) (events : List Event) (memory : Bool)
+    (lanes : List LaneParts) (told : (object : ℕ) → List Suppression) (lines : List Suppression) : Type 0 where
   -- of each lane and object all that was due, and of the log all that was suppressed
   pub due : memory ≡ false → LanesAreDue c zone (reverse events) lanes
-  pub log : memory ≡ false → IsLog c zone (reverse events) lines
+  pub log : memory ≡ false → IsLogAfter c zone (reverse events) told lines
   -- where memory ran out, a front of that
   pub due_front : LanesBeginDue c zone (reverse events) lanes
-  pub log_front : BeginsLog c zone (reverse events) lines
+  pub log_front : BeginsLogAfter c zone (reverse events) told lines
   -- a lane whose own memory sufficed has all that was decided
   pub others : LanesKeepDue c zone (reverse events) lanes
   -- where an event was accepted, every lane is there
   pub whole : events ≢ [] → length lanes ≡ length c.lanes
   -- a lane is closed for a cause
   pub causes : HaveCauses given memory lanes
+
+-- The same, where nothing was told: the log is all that was suppressed.
+abbrev pub IsRunOf : Config → Zone → (given : ℕ → ℕ) → (events : List Event) → (memory : Bool) → List LaneParts
+    → (lines : List Suppression) → Type 0
+IsRunOf c zone given events memory lanes lines = IsRunAfter c zone given events memory lanes (λ o. []) lines
+
+-- The same, where each decider, of as many as there are logs, told its log what comes before.
+abbrev pub IsToldRunOf : {L : Type 0} → (tells : L → List Suppression → L → Type 0) → Config → Zone → (given : ℕ → ℕ)
+    → (events : List Event) → (memory : Bool) → List LaneParts → (logs back : List L) → (lines : List Suppression) → Type 0
+IsToldRunOf tells c zone given events memory lanes logs back lines =
+    (told : (decider : ℕ) → List Suppression) × HaveTold tells c zone (length logs) (reverse events) logs back told
+    × IsRunAfter c zone given events memory lanes (λ o. told (o % length logs)) lines
 
 -- All that it promises of what was read of a feed, of whose lines these are too far ahead, and whose bytes are known or not.
 pub record IsReadOf (far : ℕ → Bool) (can_fail : Bool) (c : Config) (known : Option (List ℕ)) (memory : Bool)
@@ -47,6 +61,7 @@ pub record IsReadOf (far : ℕ → Bool) (can_fail : Bool) (c : Config) (known :
 
 -- What the threads left of a run: the lanes and the log, of the events that were taken.
 pub record AreThreadsEnd (c : Config) (zone : Zone) (given : ℕ → ℕ) (events : List Event)
-    (memory : Bool) (lanes : List Served) (log : List Suppression) : Type 0 where
-  pub run : IsRun c zone given (reverse events) memory lanes log
+    (memory : Bool) (lanes : List Served) (told : (object : ℕ) → List Suppression)
+    (log : List Suppression) : Type 0 where
+  pub run : IsRun c zone given (reverse events) memory lanes told log
   pub whole : events ≢ [] → length lanes ≡ length c.lanes

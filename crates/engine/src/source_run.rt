@@ -7,13 +7,15 @@ ghost use Rattle.due_model.specs.declared.event.Event.{Event};
 ghost use Rattle.due_model.specs.declared.zone.Zone.{Zone};
 ghost use Rattle.due_model.specs.Accepted.{IsAccepted};
 ghost use Rattle.engine.specs.Lanes.{HaveTaken, IsEndOf, LaneParts, channels_on, count_of};
-ghost use Rattle.engine.specs.Run.{AreThreadsEnd, IsRunOf};
+ghost use Rattle.engine.specs.Run.{AreThreadsEnd, IsRunAfter, IsToldRunOf};
+ghost use Rattle.due_model.specs.declared.notice.Suppression.{Suppression};
 
 use crate::lanes::{channels_of, counts_of, ends_of};
 use crate::post::Post;
 use crate::run_end::LaneEnd;
 use channel::Channel;
 use closers::Closers;
+use decider_thread::DeciderLog;
 use delivery_worker::Gate;
 use due_model::config::Config;
 use due_model::notice::Suppression;
@@ -27,13 +29,15 @@ use steps::Settings;
 
 /// What a run leaves, and the source that its events came from.
 #[derive(Drop)]
-pub(crate) struct Ran<C: Channel, S: Source> {
+pub(crate) struct Ran<C: Channel, S: Source, L: DeciderLog> {
     /// Each lane in order; none where memory ran out, or a thread couldn't be started, before the first event was taken.
     pub lanes: Vec<LaneEnd>,
     /// The channels of each lane that is there, in the order of its posts.
     pub channels: Vec<Vec<C>>,
-    /// What was suppressed, by event, then object, then contact.
+    /// What was suppressed and not told, by event, then object, then contact.
     pub log: Vec<Suppression>,
+    /// The log of each decider, in order; none where the run didn't begin.
+    pub logs: Vec<L>,
     /// Whether memory ran out in any thread, or one couldn't be started.
     pub memory: bool,
     /// Whether the run began. Where it didn't, nothing was asked of the source.
@@ -42,22 +46,31 @@ pub(crate) struct Ran<C: Channel, S: Source> {
 }
 
 /// Takes the events of a source to their end, decides them, and hands what they make due to the channels of the lanes.
-pub(crate) fn run_source<C: Channel, S: Source, G: Gate + Sync, T: Threads + Wait + Clock + Sync>(
+pub(crate) fn run_source<
+    C: Channel,
+    S: Source,
+    L: DeciderLog,
+    G: Gate + Sync,
+    T: Threads + Wait + Clock + Sync,
+>(
     rt: &T,
     alloc: Global,
     config: &Config,
     zone: &Zone,
     source: S,
     posts: Vec<Post<C>>,
+    logs: Vec<L>,
     settings: Settings,
     closers: &Closers,
     gate: &G,
-) -> Ran<C, S>
+) -> Ran<C, S, L>
     requires accepted { IsAccepted config.now }
     requires source { S.given_so_far source ≡ [] }
     requires few { (l : ℕ) → count_of (λ post. post.lane.0) posts.items l ≤ 8 }
-    ensures run { IsRunOf config.now zone.now (count_of (λ post. post.lane.0) posts.items)
-        (S.given_so_far result.source) result.memory result.lanes.items result.log.items }
+    requires logs { length logs.items ≡ settings.deciders }
+    ensures run { IsToldRunOf L.tells config.now zone.now (count_of (λ post. post.lane.0) posts.items)
+        (S.given_so_far result.source) result.memory result.lanes.items logs.items result.logs.items
+        result.log.items }
     ensures channels { (l : ℕ) (lane cs : _) → slice_get result.lanes.items l ≡ Some lane
         → slice_get result.channels.items l ≡ Some cs
         → HaveTaken C.account C.offered settings.tries config.now lane
@@ -75,7 +88,7 @@ pub(crate) fn run_source<C: Channel, S: Source, G: Gate + Sync, T: Threads + Wai
         return nothing(alloc, source);
     };
     let left = run_threads(
-        rt, alloc, config, zone, source, channels, settings, closers, gate,
+        rt, alloc, config, zone, source, channels, logs, settings, closers, gate,
     );
     end_of(left, &counts, room)
 }
@@ -105,9 +118,10 @@ fn begin<C: Channel>(
 }
 
 /// A run in which memory ran out before it began.
-fn nothing<C: Channel, S: Source>(alloc: Global, source: S) -> Ran<C, S>
-    ensures run { (c : Config) (zone : Zone) (given : ℕ → ℕ) (events : List Event) → events ≡ []
-        → IsRunOf c zone given events result.memory result.lanes.items result.log.items }
+fn nothing<C: Channel, S: Source, L: DeciderLog>(alloc: Global, source: S) -> Ran<C, S, L>
+    ensures run { (c : Config) (zone : Zone) (given : ℕ → ℕ) (events : List Event) (logs : List L) → events ≡ []
+        → IsToldRunOf L.tells c zone given events result.memory result.lanes.items logs result.logs.items
+        result.log.items }
     ensures source { result.source ≡ source }
     ensures memory { result.memory ≡ true }
     ensures lanes { result.lanes.items ≡ [] }
@@ -119,6 +133,7 @@ fn nothing<C: Channel, S: Source>(alloc: Global, source: S) -> Ran<C, S>
         lanes: Vec::new(alloc),
         channels: Vec::new(alloc),
         log: Vec::new(alloc),
+        logs: Vec::new(alloc),
         memory: true,
         started: false,
         source,
@@ -126,19 +141,19 @@ fn nothing<C: Channel, S: Source>(alloc: Global, source: S) -> Ran<C, S>
 }
 
 /// What the threads left, as what a run leaves.
-fn end_of<C: Channel, S: Source>(
-    left: ThreadsEnd<C, S>,
+fn end_of<C: Channel, S: Source, L: DeciderLog>(
+    left: ThreadsEnd<C, S, L>,
     counts: &[usize],
     room: Vec<LaneEnd>,
-) -> Ran<C, S>
+) -> Ran<C, S, L>
     requires none { room.items ≡ [] }
     requires room { length left.lanes.items ≤ vec_capacity room }
     requires counts { length left.lanes.items ≤ length counts.now }
     requires few { length left.lanes.items < 256 }
-    ensures run { (c : Config) (zone : Zone) (given : ℕ → ℕ) (events : List Event)
+    ensures run { (c : Config) (zone : Zone) (given : ℕ → ℕ) (events : List Event) (told : ℕ → List Suppression)
         → ((l n : ℕ) → slice_get counts.now l ≡ Some n → n ≡ given l)
-        → AreThreadsEnd c zone given events left.memory left.lanes.items left.log.items
-        → IsRunOf c zone given events result.memory result.lanes.items result.log.items }
+        → AreThreadsEnd c zone given events left.memory left.lanes.items told left.log.items
+        → IsRunAfter c zone given events result.memory result.lanes.items told result.log.items }
     ensures source { result.source ≡ left.source }
     ensures memory { result.memory ≡ left.memory }
     ensures count { length result.lanes.items ≡ length left.lanes.items }
@@ -147,12 +162,14 @@ fn end_of<C: Channel, S: Source>(
         → IsEndOf l n s lane }
     ensures channels { result.channels.items ≡ left.channels.items }
     ensures log { result.log.items ≡ left.log.items }
+    ensures logs { result.logs.items ≡ left.logs.items }
     ensures started { result.started ≡ left.started }
 {
     let ThreadsEnd {
         lanes,
         channels,
         log,
+        logs,
         memory,
         started,
         source,
@@ -161,6 +178,7 @@ fn end_of<C: Channel, S: Source>(
         lanes: ends_of(lanes, counts, room),
         channels,
         log,
+        logs,
         memory,
         started,
         source,

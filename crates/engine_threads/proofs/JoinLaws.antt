@@ -97,9 +97,9 @@ picked_before d q put s t kept is = record {
   numbers = subst (λ (xs : List Item). All (λ x. decider_of x < q.deciders) xs) kept.picked is.numbers;
 }
 
-pub met_before : (c : Config) (zone : Zone) (n d : ℕ) (queues : List LaneQueue) (events : List Event) (memory more : Bool) (old now : List Served) (lines : List Suppression) → length old ≡ length now → (more ≡ false → memory ≡ false) → AreKept old now
-    → IsMet c zone n d queues events memory now lines → IsMet c zone n d queues events more old lines
-met_before c zone n d queues events memory more old now lines long refused kept met = record {
+pub met_before : (c : Config) (zone : Zone) (n d : ℕ) (queues : List LaneQueue) (events : List Event) (memory more : Bool) (old now : List Served) (told lines : List Suppression) → length old ≡ length now → (more ≡ false → memory ≡ false) → AreKept old now
+    → IsMet c zone n d queues events memory now told lines → IsMet c zone n d queues events more old told lines
+met_before c zone n d queues events memory more old now told lines long refused kept met = record {
   past = met.past;
   older = met.older;
   whole = λ e. met.whole (refused e);

@@ -1,8 +1,10 @@
 pub mod DueLaws
+pub mod EndLaws
 pub mod HeardLaws
 pub mod JoinLaws
 pub mod ListLaws
 pub mod LogLaws
 pub mod RunLaws
 pub mod SentLaws
+pub mod StartLaws
 pub mod WorkLaws

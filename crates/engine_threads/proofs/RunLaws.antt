@@ -1,7 +1,7 @@
 -- A lane and the log at the end of a run.
 use Rattle.std.proofs.Common.{◌≡◌, ◌≢◌, ℕ, ◌<◌, ◌≤◌, ◌%◌, ◌==◌, ◌∷◌, [], ◌++◌, All, Bool, true, false, true≢false, ◌||◌, List, length, slice_get, Some, refl, sym, ap, ◌∙◌, subst, ⊎_elim, arith, append-nil, length-append, eq-eqb}
 use Rattle.std.proofs.lemmas.Bool.{cases_lt, ne_eqb}
-use Rattle.std.proofs.lemmas.List.Elements.{All-nil, filter-append}
+use Rattle.std.proofs.lemmas.List.Elements.{All-nil, All-tail, filter-append}
 use Rattle.std.proofs.lemmas.Option.{none-some}
 use Rattle.std.proofs.Math.ListN.{get_or-append}
 use mathlib.Core.List.{IsPrefix}
@@ -22,7 +22,8 @@ use Rattle.decider_thread.specs.Laws.{MadeIsDue, MadeIsOwn, SuppressedIsInOrder,
 use Rattle.decider_thread.specs.Made.{made_due, suppressed}
 use Rattle.delivery_worker.specs.declared.worker.Served.{Served}
 use Rattle.delivery_worker.specs.Picked.{AllEnded, joined}
-use Rattle.lemmas.proofs.Lists.{AllPairs-nil, some_at}
+use Rattle.std.specs.List.{AllPairs}
+use Rattle.lemmas.proofs.Lists.{AllPairs-nil, AllPairs-tail, some_at}
 use Rattle.log_merge.specs.Order.{IsInOrder, place}
 use Rattle.due_model.specs.Accepted.{IsAccepted}
 use Rattle.steps.specs.Lanes.{about}
@@ -32,6 +33,7 @@ use Rattle.undelivered.specs.declared.Why.TheVariants.{NoMemory}
 use Rattle.engine_threads.specs.Joins.{ArePicked, IsKept, IsMet}
 use Rattle.engine_threads.specs.Lanes.{HasCause, IsServed}
 use Rattle.engine_threads.specs.Logs.{AreInOrder, HasEach}
+use Rattle.engine_threads.specs.Told.{HasRun}
 use Rattle.engine_threads.specs.Run.{AreLaneEnds, IsLaneEnd, IsLogOf, IsNamed, IsRun}
 use Rattle.engine_threads.proofs.DueLaws.{LaneRead, about_front, lane_front, lane_named, lane_whole, owner, prefix_then, share_of}
 use Rattle.engine_threads.proofs.JoinLaws.{neither_first, neither_second}
@@ -87,10 +89,10 @@ record PutBy (c : Config) (zone : Zone) (n d : ℕ) (queues : List LaneQueue) (p
   pub picked : ArePicked d queues (λ l. made_due c zone (share_of n d) l decided) served
 
 -- all deciders have met the workers
-abbrev pub AllMet : Config → Zone → (n : ℕ) → List LaneQueue → (past : List Event) → (refused : Bool) → List Served → List DeciderEnd → Type 0
-AllMet c zone n queues past refused served ends = (d : ℕ) (e : DeciderEnd) → slice_get ends d ≡ Some e → IsMet c zone n d queues past refused served e.log.items
+abbrev pub AllMet : Config → Zone → (n : ℕ) → List LaneQueue → (past : List Event) → (refused : Bool) → List Served → (told : ℕ → List Suppression) → List DeciderEnd → Type 0
+AllMet c zone n queues past refused served told ends = (d : ℕ) (e : DeciderEnd) → slice_get ends d ≡ Some e → IsMet c zone n d queues past refused served (told d) e.log.items
 
-module _ (c : Config) (zone : Zone) (n : ℕ) (queues : List LaneQueue) (past : List Event) (refused : Bool) (served : List Served) (ends : List DeciderEnd) (long : length ends ≡ n) (met : AllMet c zone n queues past refused served ends) where
+module _ (c : Config) (zone : Zone) (n : ℕ) (queues : List LaneQueue) (past : List Event) (refused : Bool) (served : List Served) (told : ℕ → List Suppression) (ends : List DeciderEnd) (long : length ends ≡ n) (met : AllMet c zone n queues past refused served told ends) where
   -- it has decided something, where it is there
   abbrev chosen_by : (d : ℕ) → (decided : List Event) × (d < n → PutBy c zone n d queues past refused served decided)
   chosen_by d = ⊎_elim
@@ -108,10 +110,10 @@ module _ (c : Config) (zone : Zone) (n : ℕ) (queues : List LaneQueue) (past : 
   pub decided_older : 0 < n → (o : ℕ) → IsOlder (decided_of o) past
   decided_older some o = ((chosen_by (o % n)).1 (owner n o some)).older
 
-module _ (laws : Laws) (c : Config) (zone : Zone) (n l : ℕ) (q : LaneQueue) (queues : List LaneQueue) (past : List Event) (refused : Bool) (served : List Served) (ends : List DeciderEnd) (s : Served)
-    (long : length ends ≡ n) (at_q : slice_get queues l ≡ Some q) (at_s : slice_get served l ≡ Some s) (met : AllMet c zone n queues past refused served ends) where
+module _ (laws : Laws) (c : Config) (zone : Zone) (n l : ℕ) (q : LaneQueue) (queues : List LaneQueue) (past : List Event) (refused : Bool) (served : List Served) (told : ℕ → List Suppression) (ends : List DeciderEnd) (s : Served)
+    (long : length ends ≡ n) (at_q : slice_get queues l ≡ Some q) (at_s : slice_get served l ≡ Some s) (met : AllMet c zone n queues past refused served told ends) where
   abbrev chosen : (d : ℕ) → (decided : List Event) × (d < n → PutBy c zone n d queues past refused served decided)
-  chosen d = chosen_by c zone n queues past refused served ends long met d
+  chosen d = chosen_by c zone n queues past refused served told ends long met d
 
   abbrev put : ℕ → List Notice
   put d = made_due c zone (share_of n d) l (chosen d).0
@@ -123,7 +125,7 @@ module _ (laws : Laws) (c : Config) (zone : Zone) (n l : ℕ) (q : LaneQueue) (q
     made = λ d lt. laws.own c zone (share_of n d) l (chosen d).0;
   }
 
-  pub lane_end : (channels : ℕ) (t : Served) → 0 < n → q.deciders ≡ n → IsServed q channels s → IsKept s t → IsLaneEnd c zone l channels past refused (decided_of c zone n queues past refused served ends long met) t
+  pub lane_end : (channels : ℕ) (t : Served) → 0 < n → q.deciders ≡ n → IsServed q channels s → IsKept s t → IsLaneEnd c zone l channels past refused (decided_of c zone n queues past refused served told ends long met) t
   lane_end channels t some count is kept =
       let read = lane_read some count in
       let due_of : (o : ℕ) → o < length c.objects → about o (put (o % n)) ≡ due c zone o l (chosen (o % n)).0 = λ o within. laws.due c zone (share_of n (o % n)) l o (chosen (o % n)).0 (owns_it n o) within in
@@ -155,45 +157,79 @@ module _ (laws : Laws) (c : Config) (zone : Zone) (n l : ℕ) (q : LaneQueue) (q
 
 -- ---- the log
 
-pub log_end : (laws : Laws) (c : Config) (zone : Zone) (n : ℕ) (queues : List LaneQueue) (past : List Event) (refused : Bool) (served : List Served) (ends : List DeciderEnd) (log : List Suppression)
-    → IsAccepted c → 0 < n → length ends ≡ n → AllMet c zone n queues past refused served ends → (AreInOrder ends → IsInOrder log) → HasEach ends log → IsLogOf c zone past refused log
-log_end laws c zone n queues past refused served ends log accepted some long met order each = record {
-  all = λ none o within. one o within ∙ ap (sup c zone o) ((its_met o).whole none);
-  front = λ o within.
-      let older = (its_met o).older in
-      subst (λ (ls : List Suppression). IsPrefix ls (sup c zone o past)) (sym (one o within))
-      (subst (λ (es : List Event). IsPrefix (sup c zone o (its_met o).past) (sup c zone o es)) older.1 (sup_older laws c zone n o within older.0 (its_met o).past));
-  named = named_below (length c.objects) ends log (subst (λ (m : ℕ). 0 < m) (sym long) some) each (λ d e at. let m = met d e at in subst (All (λ s. s.object.0 < length c.objects)) (sym m.log) (laws.named c zone (share_of n d) m.past));
-  order = order (λ d e at. let m = met d e at in subst IsInOrder (sym m.log) (laws.order c zone (share_of n d) m.past accepted));
-}
-  where
-    its_end : (o : ℕ) → (e : DeciderEnd) × (slice_get ends (o % n) ≡ Some e)
-    its_end o = some_at ends (o % n) (subst (λ (m : ℕ). (o % n) < m) (sym long) (owner n o some))
+-- what is true of each of two lists joined is true of each of the second
+rest_all : (P : Suppression → Type 0) (xs ys : List Suppression) → All P (xs ++ ys) → All P ys
+rest_all P [] ys all = all
+rest_all P (x ∷ xs) ys all = rest_all P xs ys (All-tail P x (xs ++ ys) all)
 
-    its_met : (o : ℕ) → IsMet c zone n (o % n) queues past refused served (its_end o).0.log.items
-    its_met o = met (o % n) (its_end o).0 (its_end o).1
+rest_pairs : (R : Suppression → Suppression → Type 0) (xs ys : List Suppression) → AllPairs R (xs ++ ys) → AllPairs R ys
+rest_pairs R [] ys all = all
+rest_pairs R (x ∷ xs) ys all = rest_pairs R xs ys (AllPairs-tail R x (xs ++ ys) all)
 
-    one : (o : ℕ) → o < length c.objects → of_object o log ≡ sup c zone o (its_met o).past
-    one o within =
-        each (λ s. s.object.0 == o) (o % n) (its_end o).0 (its_end o).1
-        (λ k f apart at. let m = met k f at in ap (of_object o) m.log ∙ laws.nothing_else c zone (share_of n k) o m.past (ne_eqb (o % n) k (λ is. apart (sym is))))
-        ∙ ap (of_object o) (its_met o).log
-        ∙ laws.suppressed c zone (share_of n (o % n)) o (its_met o).past (owns_it n o) within
+rest_none : (xs ys : List Suppression) → xs ++ ys ≡ [] → ys ≡ []
+rest_none [] ys none = none
+rest_none (x ∷ xs) ys none = absurd cc
+
+module _ (laws : Laws) (c : Config) (zone : Zone) (n : ℕ) (queues : List LaneQueue) (past : List Event) (refused : Bool) (served : List Served) (told : ℕ → List Suppression) (ends : List DeciderEnd)
+    (some : 0 < n) (long : length ends ≡ n) (met : AllMet c zone n queues past refused served told ends) where
+  its_end : (d : ℕ) → d < n → (e : DeciderEnd) × (slice_get ends d ≡ Some e)
+  its_end d lt = some_at ends d (subst (λ (m : ℕ). d < m) (sym long) lt)
+
+  -- what a decider told is a first part of what its share's events suppress
+  pub told_begins : (d : ℕ) → d < n → IsPrefix (told d) (suppressed c zone (share_of n d) past)
+  told_begins d lt =
+      let e = its_end d lt in
+      let m = met d e.0 e.1 in
+      prefix_then (told d) (suppressed c zone (share_of n d) m.past) (suppressed c zone (share_of n d) past) (e.0.log.items, m.log)
+      (subst (λ (es : List Event). IsPrefix (suppressed c zone (share_of n d) m.past) (suppressed c zone (share_of n d) es)) m.older.1 (suppressed_grows c zone (share_of n d) m.older.0 m.past))
+
+  pub told_front : (o : ℕ) → o < length c.objects → IsPrefix (of_object o (told (o % n))) (sup c zone o past)
+  told_front o within =
+      subst (λ (ls : List Suppression). IsPrefix (of_object o (told (o % n))) ls) (laws.suppressed c zone (share_of n (o % n)) o past (owns_it n o) within)
+      (of_object_front o (told (o % n)) (suppressed c zone (share_of n (o % n)) past) (told_begins (o % n) (owner n o some)))
+
+  pub log_end : (log : List Suppression) → IsAccepted c → (AreInOrder ends → IsInOrder log) → HasEach ends log → IsLogOf c zone past refused (λ o. told (o % n)) log
+  log_end log accepted order each = record {
+    all = λ none o within. one o within ∙ ap (sup c zone o) ((its_met o).whole none);
+    front = λ o within.
+        let older = (its_met o).older in
+        subst (λ (ls : List Suppression). IsPrefix ls (sup c zone o past)) (sym (one o within))
+        (subst (λ (es : List Event). IsPrefix (sup c zone o (its_met o).past) (sup c zone o es)) older.1 (sup_older laws c zone n o within older.0 (its_met o).past));
+    named = named_below (length c.objects) ends log (subst (λ (m : ℕ). 0 < m) (sym long) some) each
+        (λ d e at. let m = met d e at in rest_all (λ s. s.object.0 < length c.objects) (told d) e.log.items (subst (All (λ s. s.object.0 < length c.objects)) (sym m.log) (laws.named c zone (share_of n d) m.past)));
+    order = order (λ d e at. let m = met d e at in rest_pairs (λ a b. place a ≤ place b) (told d) e.log.items (subst IsInOrder (sym m.log) (laws.order c zone (share_of n d) m.past accepted)));
+  }
+    where
+      its_met : (o : ℕ) → IsMet c zone n (o % n) queues past refused served (told (o % n)) (its_end (o % n) (owner n o some)).0.log.items
+      its_met o = met (o % n) (its_end (o % n) (owner n o some)).0 (its_end (o % n) (owner n o some)).1
+
+      one : (o : ℕ) → o < length c.objects → of_object o (told (o % n)) ++ of_object o log ≡ sup c zone o (its_met o).past
+      one o within =
+          let e = its_end (o % n) (owner n o some) in
+          ap (λ (ls : List Suppression). of_object o (told (o % n)) ++ ls)
+          (each (λ s. s.object.0 == o) (o % n) e.0 e.1
+          (λ k f apart at.
+          let m = met k f at in
+          rest_none (of_object o (told k)) (of_object o f.log.items)
+          (sym (filter-append (λ (s : Suppression). s.object.0 == o) (told k) f.log.items) ∙ ap (of_object o) m.log ∙ laws.nothing_else c zone (share_of n k) o m.past (ne_eqb (o % n) k (λ is. apart (sym is))))))
+          ∙ sym (filter-append (λ (s : Suppression). s.object.0 == o) (told (o % n)) e.0.log.items)
+          ∙ ap (of_object o) (its_met o).log
+          ∙ laws.suppressed c zone (share_of n (o % n)) o (its_met o).past (owns_it n o) within
 
 -- ---- a run's end, put together
 
-pub log_or : (c : Config) (zone : Zone) (past : List Event) (refused more : Bool) (log : List Suppression) → (more ≡ false → refused ≡ false) → IsLogOf c zone past refused log → IsLogOf c zone past more log
-log_or c zone past refused more log less is = record {
+pub log_or : (c : Config) (zone : Zone) (past : List Event) (refused more : Bool) (told : ℕ → List Suppression) (log : List Suppression) → (more ≡ false → refused ≡ false) → IsLogOf c zone past refused told log → IsLogOf c zone past more told log
+log_or c zone past refused more told log less is = record {
   all = λ none. is.all (less none);
   front = is.front;
   named = is.named;
   order = is.order;
 }
 
-pub run_of : (c : Config) (zone : Zone) (channels : ℕ → ℕ) (past : List Event) (refused rest any : Bool) (lanes : List Served) (log : List Suppression)
+pub run_of : (c : Config) (zone : Zone) (channels : ℕ → ℕ) (past : List Event) (refused rest any : Bool) (lanes : List Served) (told : ℕ → List Suppression) (log : List Suppression)
     → (any ≡ false → (l : ℕ) (s : Served) → slice_get lanes l ≡ Some s → s.why ≢ NoMemory)
-    → AreLaneEnds c zone channels past refused lanes → IsLogOf c zone past (refused || rest) log → IsRun c zone channels past ((refused || rest) || any) lanes log
-run_of c zone channels past refused rest any lanes log none ends log_is = record {
+    → AreLaneEnds c zone channels past refused lanes → IsLogOf c zone past (refused || rest) told log → IsRun c zone channels past ((refused || rest) || any) lanes told log
+run_of c zone channels past refused rest any lanes told log none ends log_is = record {
   count = λ _. ends.count;
   all_due = λ m l s at. (ends.each l s at).all_due (neither_first refused rest (neither_first (refused || rest) any m)) (none (neither_second (refused || rest) any m) l s at);
   decided = ends.decided;
@@ -203,16 +239,17 @@ run_of c zone channels past refused rest any lanes log none ends log_is = record
   named = λ l s at. (ends.each l s at).named;
   memory_is = λ m. none (neither_second (refused || rest) any m);
   causes = λ l s at. (ends.each l s at).cause;
-  log_is = log_or c zone past (refused || rest) ((refused || rest) || any) log (neither_first (refused || rest) any) log_is;
+  log_is = log_or c zone past (refused || rest) ((refused || rest) || any) told log (neither_first (refused || rest) any) log_is;
 }
 
 -- the log of the deciders, or none where memory ran out for it
-pub log_any : (c : Config) (zone : Zone) (past : List Event) (refused stopped unmerged : Bool) (log : List Suppression)
-    → (unmerged ≡ false → IsLogOf c zone past refused log) → (unmerged ≡ true → log ≡ []) → IsLogOf c zone past (refused || (stopped || unmerged)) log
-log_any c zone past refused stopped false log whole none = log_or c zone past refused (refused || (stopped || false)) log (neither_first refused (stopped || false)) (whole refl)
-log_any c zone past refused stopped true log whole none = subst (λ (ls : List Suppression). IsLogOf c zone past (refused || (stopped || true)) ls) (sym (none refl)) (record {
+pub log_any : (c : Config) (zone : Zone) (past : List Event) (refused stopped unmerged : Bool) (told : ℕ → List Suppression) (log : List Suppression)
+    → ((o : ℕ) → o < length c.objects → IsPrefix (of_object o (told o)) (sup c zone o past))
+    → (unmerged ≡ false → IsLogOf c zone past refused told log) → (unmerged ≡ true → log ≡ []) → IsLogOf c zone past (refused || (stopped || unmerged)) told log
+log_any c zone past refused stopped false told log begins whole none = log_or c zone past refused (refused || (stopped || false)) told log (neither_first refused (stopped || false)) (whole refl)
+log_any c zone past refused stopped true told log begins whole none = subst (λ (ls : List Suppression). IsLogOf c zone past (refused || (stopped || true)) told ls) (sym (none refl)) (record {
   all = λ m. absurd (true≢false (neither_second stopped true (neither_second refused (stopped || true) m)));
-  front = λ o within. (sup c zone o past, refl);
+  front = λ o within. subst (λ (ls : List Suppression). IsPrefix ls (sup c zone o past)) (sym (append-nil (of_object o (told o)))) (begins o within);
   named = All-nil (λ s. s.object.0 < length c.objects);
   order = AllPairs-nil (λ a b. place a ≤ place b);
 })
@@ -222,7 +259,7 @@ no_lane : (lanes : List Served) (l : ℕ) (s : Served) → lanes ≡ [] → slic
 no_lane [] l s none at = none-some s at
 no_lane (x ∷ lanes) l s none at = absurd (omega (arith, ap length none))
 
-pub run_of_none : (c : Config) (zone : Zone) (channels : ℕ → ℕ) (past : List Event) (memory : Bool) (lanes : List Served) (log : List Suppression) → lanes ≡ [] → log ≡ [] → memory ≡ true → IsRun c zone channels past memory lanes log
+pub run_of_none : (c : Config) (zone : Zone) (channels : ℕ → ℕ) (past : List Event) (memory : Bool) (lanes : List Served) (log : List Suppression) → lanes ≡ [] → log ≡ [] → memory ≡ true → IsRun c zone channels past memory lanes (λ o. []) log
 run_of_none c zone channels past memory lanes log none no_log out = record {
   count = λ m. absurd (true≢false (sym out ∙ m));
   all_due = λ m. absurd (true≢false (sym out ∙ m));
@@ -240,3 +277,16 @@ run_of_none c zone channels past memory lanes log none no_log out = record {
     order = subst IsInOrder (sym no_log) (AllPairs-nil (λ a b. place a ≤ place b));
   };
 }
+
+pub none_has_run : {L : Type 0} (tells : L → List Suppression → L → Type 0) (c : Config) (zone : Zone) (channels : ℕ → ℕ) (past : List Event) (memory : Bool) (lanes : List Served) (log : List Suppression) (given back : List L)
+    → lanes ≡ [] → log ≡ [] → back ≡ [] → memory ≡ true → HasRun tells c zone channels past memory lanes given back log
+none_has_run {L} tells c zone channels past memory lanes log given back none no_log no_logs out = (
+  (λ d. []),
+  record {
+    few = (let none = ap length no_logs in omega (arith, none));
+    absent = λ d ge. refl;
+    each = λ d a b at_a at_b. absurd (none-some b (subst (λ (bs : List L). slice_get bs d ≡ Some b) no_logs at_b));
+    begins = λ d lt. (suppressed c zone (share_of (length given) d) past, refl);
+  },
+  run_of_none c zone channels past memory lanes log none no_log out,
+)

@@ -57,27 +57,28 @@ ArePicked d queues put served =
     → IsPicked d q (put l) s
 
 -- Decider d of n has ended: of these events it has decided a first part, all where memory didn't run out, and what it put for each
--- lane was joined there; and this is what it suppressed.
-pub record IsMet (c : Config) (zone : Zone) (n d : ℕ) (queues : List LaneQueue) (events : List Event) (memory : Bool) (served : List Served) (lines : List Suppression)
-    : Type 0
+-- lane was joined there; and this is what it suppressed: what it told, and then these lines.
+pub record IsMet (c : Config) (zone : Zone) (n d : ℕ) (queues : List LaneQueue) (events : List Event) (memory : Bool) (served : List Served)
+    (told lines : List Suppression) : Type 0
   where
     pub past : List Event
     pub older : IsOlder past events
     pub whole : memory ≡ false → past ≡ events
     pub picked : ArePicked d queues (λ l. made_due c zone (record { decider = d; deciders = n }) l past) served
-    pub log : lines ≡ suppressed c zone (record { decider = d; deciders = n }) past
+    pub log : told ++ lines ≡ suppressed c zone (record { decider = d; deciders = n }) past
 
--- Decider d of n gave back this, and this end of its ring sent it these events.
-pub record IsEnd (c : Config) (zone : Zone) (n d : ℕ) (queues : List LaneQueue) (events : List Event) (end : DeciderEnd) (ring : Producer Signal Global AnyItems)
-    : Type 0
+-- Decider d of n told these lines and gave back this, and this end of its ring sent it these events.
+pub record IsEnd (c : Config) (zone : Zone) (n d : ℕ) (queues : List LaneQueue) (events : List Event) (told : List Suppression)
+    (end : DeciderEnd) (ring : Producer Signal Global AnyItems) : Type 0
   where
     pub first : Consumer Signal Global AnyItems
-    pub decided : HasDecided c zone (record { decider = d; deciders = n }) queues first end
+    pub decided : HasDecided c zone (record { decider = d; deciders = n }) queues first told end
     pub pair : IsPair ring end.ring
     pub sent_all : sent ring ≡ heard events ++ Over ∷ []
 
 -- the same of all deciders
-abbrev pub AreEnds : Config → Zone → List LaneQueue → List Event → List DeciderEnd → List (Producer Signal Global AnyItems) → Type 0
-AreEnds c zone queues events ends rings =
+abbrev pub AreEnds : Config → Zone → List LaneQueue → List Event → (told : ℕ → List Suppression) → List DeciderEnd
+    → List (Producer Signal Global AnyItems) → Type 0
+AreEnds c zone queues events told ends rings =
     (d : ℕ) (e : DeciderEnd) (p : Producer Signal Global AnyItems) → slice_get ends d ≡ Some e → slice_get rings d ≡ Some p
-    → IsEnd c zone (length ends) d queues events e p
+    → IsEnd c zone (length ends) d queues events (told d) e p

@@ -5,4 +5,5 @@ pub mod ListLaws
 pub mod Logs
 pub mod Run
 pub mod Sent
+pub mod Told
 pub mod Works

@@ -1,5 +1,5 @@
 -- What the threads leave, once all have ended.
-use Rattle.std.specs.Prelude.{◌≡◌, ◌≢◌, ℕ, ◌<◌, All, Bool, false, List, length, slice_get, Some}
+use Rattle.std.specs.Prelude.{◌≡◌, ◌≢◌, ℕ, ◌<◌, ◌++◌, All, Bool, false, List, length, slice_get, Some}
 use mathlib.Core.List.{IsPrefix}
 use Rattle.due_model.specs.declared.config.Config.{Config}
 use Rattle.due_model.specs.declared.event.Event.{Event}
@@ -43,20 +43,22 @@ pub record AreLaneEnds (c : Config) (zone : Zone) (channels : ℕ → ℕ) (past
   pub each : (l : ℕ) (s : Served) → slice_get served l ≡ Some s
       → IsLaneEnd c zone l (channels l) past refused decided s
 
--- The log of a run: where memory ran out in no thread, of each object all that is suppressed of it, and a first part of it in any
--- case; of objects of the configuration, and by event, then object.
+-- The log of a run, beside what of each object its decider told before: where memory ran out in no thread, of each object all that is
+-- suppressed of it, and a first part of it in any case; of objects of the configuration, and by event, then object.
 pub record IsLogOf (c : Config) (zone : Zone) (past : List Event) (refused : Bool)
-    (log : List Suppression) : Type 0 where
+    (told : (object : ℕ) → List Suppression) (log : List Suppression) : Type 0 where
   pub all : refused ≡ false → (o : ℕ) → o < length c.objects
-      → of_object o log ≡ sup c zone o past
-  pub front : (o : ℕ) → o < length c.objects → IsPrefix (of_object o log) (sup c zone o past)
+      → of_object o (told o) ++ of_object o log ≡ sup c zone o past
+  pub front : (o : ℕ) → o < length c.objects
+      → IsPrefix (of_object o (told o) ++ of_object o log) (sup c zone o past)
   pub named : All (λ s. s.object.0 < length c.objects) log
   pub order : IsInOrder log
 
 -- What a run leaves, of these events, the newest first: where memory ran out nowhere, each lane with all that is due; and of each
 -- lane that is there a first part of it. A lane whose own memory sufficed has all that was decided, whatever became of the others.
 pub record IsRun (c : Config) (zone : Zone) (channels : ℕ → ℕ) (past : List Event)
-    (memory : Bool) (served : List Served) (log : List Suppression) : Type 0 where
+    (memory : Bool) (served : List Served) (told : (object : ℕ) → List Suppression)
+    (log : List Suppression) : Type 0 where
   pub count : memory ≡ false → length served ≡ length c.lanes
   pub all_due : memory ≡ false → (l : ℕ) (s : Served) → slice_get served l ≡ Some s
       → (o : ℕ) → o < length c.objects → about o (joined s.held) ≡ due c zone o l past
@@ -71,4 +73,4 @@ pub record IsRun (c : Config) (zone : Zone) (channels : ℕ → ℕ) (past : Lis
       → s.why ≢ why.NoMemory
   pub causes : (l : ℕ) (s : Served) → slice_get served l ≡ Some s
       → HasCause (channels l) s.held s.why
-  pub log_is : IsLogOf c zone past memory log
+  pub log_is : IsLogOf c zone past memory told log

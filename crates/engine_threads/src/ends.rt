@@ -8,6 +8,7 @@ ghost use Rattle.rtrb.specs.Ring.{IsPair, received, sent};
 ghost use Rattle.decider_thread.specs.Decided.{heard};
 ghost use Rattle.decider_thread.specs.declared.Signal.TheVariants.{Over};
 ghost use Rattle.due_model.specs.declared.notice.Notice.{Notice};
+ghost use Rattle.due_model.specs.declared.notice.Suppression.{Suppression};
 ghost use Rattle.engine_threads.specs.Joins.{AreEnds, AreKept, ArePicked, AreWorkers, IsEnd, IsMet};
 ghost use Rattle.decider_thread.specs.Puts.{HaveEnded};
 
@@ -54,14 +55,14 @@ fn meet_one(
 ) -> bool
     requires served { length served.old.items ≡ length queues.now }
     requires workers { AreWorkers queues.now served.old.items }
-    requires end { (c : Config) × (zone : Zone) × (n d : ℕ) × (events : List Event)
-        × IsEnd c zone n d queues.now events end sender.old }
+    requires end { (c : Config) × (zone : Zone) × (n d : ℕ) × (events : List Event) × (told : List Suppression)
+        × IsEnd c zone n d queues.now events told end sender.old }
     ensures workers { AreWorkers queues.now served.new.items }
     ensures kept { AreKept served.old.items served.new.items }
     ensures served { length served.new.items ≡ length served.old.items }
-    ensures met { (c : Config) (zone : Zone) (n d : ℕ) (events : List Event)
-        → IsEnd c zone n d queues.now events end sender.old
-        → IsMet c zone n d queues.now events result served.old.items end.log.items }
+    ensures met { (c : Config) (zone : Zone) (n d : ℕ) (events : List Event) (told : List Suppression)
+        → IsEnd c zone n d queues.now events told end sender.old
+        → IsMet c zone n d queues.now events result served.old.items told end.log.items }
 {
     let DeciderEnd {
         ring,
@@ -85,15 +86,15 @@ pub(crate) fn meet_all(
     requires served { length served.old.items ≡ length queues.now }
     requires senders { length senders.old.items ≡ length ends.items }
     requires workers { AreWorkers queues.now served.old.items }
-    requires ends { (c : Config) × (zone : Zone) × (events : List Event)
-        × AreEnds c zone queues.now events ends.items senders.old.items }
+    requires ends { (c : Config) × (zone : Zone) × (events : List Event) × (told : ℕ → List Suppression)
+        × AreEnds c zone queues.now events told ends.items senders.old.items }
     ensures kept { AreKept served.old.items served.new.items }
     ensures served { length served.new.items ≡ length served.old.items }
-    ensures met { (c : Config) (zone : Zone) (events : List Event)
-        → AreEnds c zone queues.now events ends.items senders.old.items
+    ensures met { (c : Config) (zone : Zone) (events : List Event) (told : ℕ → List Suppression)
+        → AreEnds c zone queues.now events told ends.items senders.old.items
         → (d : ℕ) (e : DeciderEnd) → slice_get ends.items d ≡ Some e
         → IsMet c zone (length ends.items) d queues.now events result served.old.items
-        e.log.items }
+        (told d) e.log.items }
 {
     let mut memory = false;
     let mut place = 0;

@@ -23,23 +23,32 @@ fn join_one<T: Drop + Send, P: Promise<Option<T>>, R: Threads + Wait>(
     unreachable!()
 }
 
-/// Joins all threads, which were told to begin, and keeps what they give back where room was made for it. It takes no memory.
-pub(crate) fn join_all<T: Drop + Send, P: Promise<Option<T>>, R: Threads + Wait>(
+/// Joins all threads, which were told to begin, and keeps both things that each gives back where room was made for them. It takes no
+/// memory.
+pub(crate) fn join_all<T: Drop + Send, U: Drop + Send, P: Promise<Option<(T, U)>>, R: Threads + Wait>(
     rt: &R,
-    handles: Vec<PromisedHandle<Option<T>, P>>,
+    handles: Vec<PromisedHandle<Option<(T, U)>, P>>,
     room: Vec<T>,
-) -> Vec<T>
+    places: Vec<U>,
+) -> (Vec<T>, Vec<U>)
     requires none { room.items ≡ [] }
+    requires no_other { places.items ≡ [] }
     requires room { length handles.items ≤ vec_capacity room }
-    ensures count { length result.items ≡ length handles.items }
-    ensures each { (i : ℕ) (h : _) (t : _) → slice_get handles.items i ≡ Some h
-        → slice_get result.items i ≡ Some t → P.kept_by h.promise (Some t) }
+    requires places { length handles.items ≤ vec_capacity places }
+    ensures count { length result.0.items ≡ length handles.items }
+    ensures others { length result.1.items ≡ length handles.items }
+    ensures each { (i : ℕ) (h : _) (t : _) (u : _) → slice_get handles.items i ≡ Some h
+        → slice_get result.0.items i ≡ Some t → slice_get result.1.items i ≡ Some u
+        → P.kept_by h.promise (Some (t, u)) }
 {
     let mut ends = room;
+    let mut others = places;
     for handle in handles {
-        let _room = ends.push(join_one(rt, handle));
+        let (end, other) = join_one(rt, handle);
+        let _room = ends.push(end);
+        let _place = others.push(other);
     }
-    ends
+    (ends, others)
 }
 
 /// Joins the threads of all lanes, which were told to begin, and keeps what each left and its channels, where room was made for them. It takes no

@@ -8,6 +8,8 @@ ghost use Rattle.due_model.specs.declared.zone.Zone.{Zone};
 ghost use Rattle.due_model.specs.Accepted.{IsAccepted};
 ghost use Rattle.engine_threads.specs.Lanes.{HaveTaken};
 ghost use Rattle.engine_threads.specs.Run.{AreLaneEnds, IsLogOf, IsRun};
+ghost use Rattle.engine_threads.specs.Told.{HasRun, HaveLogged};
+ghost use Rattle.due_model.specs.declared.notice.Suppression.{Suppression};
 ghost use Rattle.engine_threads.specs.Works.{AreDeciderWorks, AreNewWorkers, AreRings, HaveDeciders};
 
 use crate::lane_work::LaneWork;
@@ -20,7 +22,7 @@ use crate::zone::GivesZone;
 use channel::Channel;
 use channel_queue::LaneQueue;
 use closers::Closers;
-use decider_thread::Signal;
+use decider_thread::{DeciderLog, Signal};
 use delivery_worker::{Gate, Served};
 use due_model::config::Config;
 use due_model::notice::Suppression;
@@ -37,13 +39,15 @@ use undelivered::Why;
 
 /// What the threads of a run leave.
 #[derive(Drop)]
-pub struct ThreadsEnd<C: Channel, S: Source> {
+pub struct ThreadsEnd<C: Channel, S: Source, L: DeciderLog> {
     /// Each lane in order; none where a thread can't be started or memory ran out before they begin, and then no event was taken.
     pub lanes: Vec<Served>,
     /// The channels of each lane that is there, each in its place.
     pub channels: Vec<Vec<C>>,
-    /// What was suppressed, by event, then object, then contact.
+    /// What was suppressed and not told, by event, then object, then contact.
     pub log: Vec<Suppression>,
+    /// The log of each decider, in order; none where the threads didn't begin.
+    pub logs: Vec<L>,
     /// Whether memory ran out in any thread, or one can't be started.
     pub memory: bool,
     /// Whether the threads began. Where they didn't, nothing was asked of the source.
@@ -56,6 +60,7 @@ pub struct ThreadsEnd<C: Channel, S: Source> {
 fn run_scope<
     C: Channel,
     S: Source,
+    L: DeciderLog,
     Z: GivesZone + Sync,
     G: Gate + Sync,
     R: Threads + Wait + Clock + Sync,
@@ -69,12 +74,13 @@ fn run_scope<
     works: Vec<LaneWork<C>>,
     deciders: Vec<DeciderWork>,
     senders: Vec<Producer<Signal>>,
+    logs: Vec<L>,
     tries: u8,
     queues: &[LaneQueue],
     closers: &Closers,
     gate: &G,
     word: &StartWord,
-) -> Result<Driven<C, S>, S>
+) -> Result<Driven<C, S, L>, S>
     requires accepted { IsAccepted config.now }
     requires tries { 0 < tries }
     requires source { S.given_so_far source ≡ [] }
@@ -86,14 +92,14 @@ fn run_scope<
     requires workers { AreNewWorkers (λ w. w.pass) queues.now works.items }
     requires deciders { AreDeciderWorks queues.now deciders.items }
     requires senders { length senders.items ≡ length deciders.items }
+    requires logs { length logs.items ≡ length deciders.items }
     requires rings { AreRings deciders.items senders.items }
     ensures lanes { IfOk result (λ r. (channels : ℕ → ℕ)
         → ((l : ℕ) (w : _) → slice_get works.items l ≡ Some w → length w.channels.items ≡ channels l)
         → AreLaneEnds config.now (Z.zone zone.now) channels (reverse (S.given_so_far r.source)) r.refused
         r.served.items) }
-    ensures log { IfOk result (λ r.
-        IsLogOf config.now (Z.zone zone.now) (reverse (S.given_so_far r.source)) (r.refused || r.memory)
-        r.log.items) }
+    ensures log { IfOk result (λ r. HaveLogged L.tells config.now (Z.zone zone.now)
+        (reverse (S.given_so_far r.source)) (r.refused || r.memory) logs.items r.logs.items r.log.items) }
     ensures channels { IfOk result (λ r. (l : ℕ) (w s b : _) → slice_get works.items l ≡ Some w
         → slice_get r.served.items l ≡ Some s → slice_get r.channels.items l ≡ Some b
         → HaveTaken C.account C.offered tries config.now s w.channels.items b.items) }
@@ -105,7 +111,7 @@ fn run_scope<
     thread::scope(
         thread::scope_env(),
         rt,
-        move |scope| -> Result<Driven<C, S>, S>
+        move |scope| -> Result<Driven<C, S, L>, S>
             requires { IsAccepted config.now × (0 < tries) × (S.given_so_far source ≡ [])
                 × (0 < length deciders.items) × (length deciders.items ≤ 8)
                 × (length queues.now ≡ length config.now.lanes)
@@ -114,14 +120,14 @@ fn run_scope<
                 × AreNewWorkers (λ w. w.pass) queues.now works.items
                 × AreDeciderWorks queues.now deciders.items
                 × (length senders.items ≡ length deciders.items)
+                × (length logs.items ≡ length deciders.items)
                 × AreRings deciders.items senders.items }
             ensures lanes { IfOk result (λ r. (channels : ℕ → ℕ)
                 → ((l : ℕ) (w : _) → slice_get works.items l ≡ Some w → length w.channels.items ≡ channels l)
                 → AreLaneEnds config.entry.now (Z.zone zone.entry.now) channels
                 (reverse (S.given_so_far r.source)) r.refused r.served.items) }
-            ensures log { IfOk result (λ r.
-                IsLogOf config.entry.now (Z.zone zone.entry.now) (reverse (S.given_so_far r.source))
-                (r.refused || r.memory) r.log.items) }
+            ensures log { IfOk result (λ r. HaveLogged L.tells config.entry.now (Z.zone zone.entry.now)
+                (reverse (S.given_so_far r.source)) (r.refused || r.memory) logs.items r.logs.items r.log.items) }
             ensures channels { IfOk result (λ r. (l : ℕ) (w s b : _) → slice_get works.items l ≡ Some w
                 → slice_get r.served.items l ≡ Some s → slice_get r.channels.items l ≡ Some b
                 → HaveTaken C.account C.offered tries config.entry.now s w.channels.items b.items) }
@@ -131,7 +137,7 @@ fn run_scope<
             ensures none { IfErr result (λ s. s ≡ source) }
         {
             drive(
-                scope, rt, alloc, config, zone, source, halt, works, deciders, senders, tries,
+                scope, rt, alloc, config, zone, source, halt, works, deciders, senders, logs, tries,
                 queues, closers, gate, word,
             )
         },
@@ -152,10 +158,11 @@ fn any_refused(lanes: &[Served]) -> bool
 }
 
 /// A run in which memory ran out, or a thread couldn't be started, before it began.
-fn nothing<C: Channel, S: Source>(alloc: Global, source: S) -> ThreadsEnd<C, S>
+fn nothing<C: Channel, S: Source, L: DeciderLog>(alloc: Global, source: S) -> ThreadsEnd<C, S, L>
     ensures lanes { result.lanes.items ≡ [] }
     ensures channels { result.channels.items ≡ [] }
     ensures log { result.log.items ≡ [] }
+    ensures logs { result.logs.items ≡ [] }
     ensures memory { result.memory ≡ true }
     ensures started { result.started ≡ false }
     ensures source { result.source ≡ source }
@@ -164,6 +171,7 @@ fn nothing<C: Channel, S: Source>(alloc: Global, source: S) -> ThreadsEnd<C, S>
         lanes: Vec::new(alloc),
         channels: Vec::new(alloc),
         log: Vec::new(alloc),
+        logs: Vec::new(alloc),
         memory: true,
         started: false,
         source,
@@ -171,21 +179,23 @@ fn nothing<C: Channel, S: Source>(alloc: Global, source: S) -> ThreadsEnd<C, S>
 }
 
 /// What the threads left, as a run's end.
-fn end_of<C: Channel, S: Source>(driven: Driven<C, S>) -> ThreadsEnd<C, S>
-    ensures run { (c : Config) (zone : Zone) (channels : ℕ → ℕ) (past : List Event)
+fn end_of<C: Channel, S: Source, L: DeciderLog>(driven: Driven<C, S, L>) -> ThreadsEnd<C, S, L>
+    ensures run { (c : Config) (zone : Zone) (channels : ℕ → ℕ) (past : List Event) (told : ℕ → List Suppression)
         → AreLaneEnds c zone channels past driven.refused driven.served.items
-        → IsLogOf c zone past (driven.refused || driven.memory) driven.log.items
-        → IsRun c zone channels past result.memory result.lanes.items result.log.items }
+        → IsLogOf c zone past (driven.refused || driven.memory) told driven.log.items
+        → IsRun c zone channels past result.memory result.lanes.items told result.log.items }
     ensures source { result.source ≡ driven.source }
     ensures memory { result.memory ≡ false → driven.memory ≡ false }
     ensures lanes { result.lanes.items ≡ driven.served.items }
     ensures channels { result.channels.items ≡ driven.channels.items }
+    ensures logs { result.logs.items ≡ driven.logs.items }
     ensures started { result.started ≡ true }
 {
     let Driven {
         served,
         channels,
         log,
+        logs,
         refused,
         memory,
         source,
@@ -195,6 +205,7 @@ fn end_of<C: Channel, S: Source>(driven: Driven<C, S>) -> ThreadsEnd<C, S>
         lanes: served,
         channels,
         log,
+        logs,
         memory,
         started: true,
         source,
@@ -205,25 +216,34 @@ fn end_of<C: Channel, S: Source>(driven: Driven<C, S>) -> ThreadsEnd<C, S>
 /// which each has a worker; all in threads of their own. Of a lane's channels, at most eight, the first serves, and each other where
 /// the one before has failed, beginning with the letter in hand. Each thread waits for a word first: where one can't be started, none
 /// begins. Where a growth is refused in the source or a decider, no further event is taken or decided.
-pub fn run_threads<C: Channel, S: Source, G: Gate + Sync, R: Threads + Wait + Clock + Sync>(
+pub fn run_threads<
+    C: Channel,
+    S: Source,
+    L: DeciderLog,
+    G: Gate + Sync,
+    R: Threads + Wait + Clock + Sync,
+>(
     rt: &R,
     alloc: Global,
     config: &Config,
     zone: &Zone,
     source: S,
     given: Vec<Vec<C>>,
+    logs: Vec<L>,
     settings: Settings,
     closers: &Closers,
     gate: &G,
-) -> ThreadsEnd<C, S>
+) -> ThreadsEnd<C, S, L>
     requires accepted { IsAccepted config.now }
     requires source { S.given_so_far source ≡ [] }
     requires lanes { length given.items ≡ length config.now.lanes }
+    // There is a log for each decider.
+    requires logs { length logs.items ≡ settings.deciders }
     requires few { (l : ℕ) (c : _) → slice_get given.items l ≡ Some c → length c.items ≤ 8 }
     ensures run { (channels : ℕ → ℕ)
         → ((l : ℕ) (c : _) → slice_get given.items l ≡ Some c → length c.items ≡ channels l)
-        → IsRun config.now zone.now channels (reverse (S.given_so_far result.source)) result.memory
-        result.lanes.items result.log.items }
+        → HasRun L.tells config.now zone.now channels (reverse (S.given_so_far result.source)) result.memory
+        result.lanes.items logs.items result.logs.items result.log.items }
     // Each lane's channels are given back in their places, and each has taken what its record says.
     ensures channels { (l : ℕ) (c s b : _) → slice_get given.items l ≡ Some c
         → slice_get result.lanes.items l ≡ Some s → slice_get result.channels.items l ≡ Some b
@@ -262,6 +282,7 @@ pub fn run_threads<C: Channel, S: Source, G: Gate + Sync, R: Threads + Wait + Cl
         works,
         deciders,
         senders,
+        logs,
         settings.tries,
         queues.as_slice(),
         closers,

@@ -5,8 +5,8 @@ ghost use Rattle.due_model.specs.Accepted.{IsAccepted};
 ghost use Rattle.decider.specs.Share.{IsShare};
 ghost use Rattle.channel_queue.specs.Passes.{IsWorker};
 ghost use Rattle.rtrb.specs.Ring.{received};
-ghost use Rattle.decider_thread.specs.Decided.{HasDecided};
 ghost use Rattle.engine_threads.specs.Lanes.{HaveTaken, IsServed};
+ghost use Rattle.decider_thread.specs.Decided.{HasToldAndDecided};
 ghost use Rattle.decider_thread.specs.Puts.{ArePut};
 ghost use Rattle.engine_threads.specs.Works.{AreDeciderWorks, AreNewWorkers};
 
@@ -17,7 +17,7 @@ use channel::Channel;
 use channel_queue::LaneQueue;
 use closers::Closers;
 use decider::Share;
-use decider_thread::{DeciderEnd, Seat, Signal, decide_ring};
+use decider_thread::{DeciderEnd, DeciderLog, Seat, Signal, decide_ring};
 use delivery_worker::{Gate, Served};
 use due_model::config::Config;
 use rtrb::Consumer;
@@ -144,24 +144,32 @@ pub(crate) struct DeciderWork {
 
 /// What the thread of a decider promises of what it gives back, unless it leaves.
 #[derive(Drop)]
-pub(crate) struct Decides<'s, Z: GivesZone> {
+pub(crate) struct Decides<'s, Z: GivesZone, L: DeciderLog> {
     config: &'s Config,
     zone: &'s Z,
     queues: &'s [LaneQueue],
     share: Share,
     ring: Snapshot<Consumer<Signal>>,
+    log: Snapshot<L>,
 }
 
-impl<'s, Z: GivesZone> Promise<Option<DeciderEnd>> for Decides<'s, Z> {
+impl<'s, Z: GivesZone, L: DeciderLog> Promise<Option<(DeciderEnd, L)>> for Decides<'s, Z, L> {
     ghost use Rattle.std.specs.Prelude.{IfSome};
-    ghost use Rattle.decider_thread.specs.Decided.{HasDecided};
+    ghost use Rattle.decider_thread.specs.Decided.{HasToldAndDecided};
 
-    ghost kept_by = { λ p r. IfSome r (λ end.
-        HasDecided p.config.now (Z.zone p.zone.now) p.share p.queues.now p.ring.value end) };
+    ghost kept_by = { λ p r. IfSome r (λ e. HasToldAndDecided L.tells p.config.now (Z.zone p.zone.now) p.share
+        p.queues.now p.ring.value p.log.value e.0 e.1) };
 }
 
 /// Starts the thread of a decider. `None`: it can't be started.
-fn start_decider<'s, E, Z: GivesZone + Sync, G: Gate + Sync, R: Wait + Clock + Sync>(
+fn start_decider<
+    's,
+    E,
+    Z: GivesZone + Sync,
+    L: DeciderLog + 's,
+    G: Gate + Sync,
+    R: Wait + Clock + Sync,
+>(
     scope: &'s Scope<'s, E>,
     rt: &'s R,
     alloc: Global,
@@ -169,11 +177,12 @@ fn start_decider<'s, E, Z: GivesZone + Sync, G: Gate + Sync, R: Wait + Clock + S
     zone: &'s Z,
     share: Share,
     work: DeciderWork,
+    log: L,
     queues: &'s [LaneQueue],
     gate: &'s G,
     halt: &'s AtomicBool,
     word: &'s StartWord,
-) -> Option<PromisedHandle<Option<DeciderEnd>, Decides<'s, Z>>>
+) -> Option<PromisedHandle<Option<(DeciderEnd, L)>, Decides<'s, Z, L>>>
     requires accepted { IsAccepted config.now }
     requires share { IsShare share }
     requires fresh { received work.ring ≡ [] }
@@ -185,6 +194,7 @@ fn start_decider<'s, E, Z: GivesZone + Sync, G: Gate + Sync, R: Wait + Clock + S
     ensures queues { IfSome result (λ h. h.promise.queues.now ≡ queues.entry.now) }
     ensures share { IfSome result (λ h. h.promise.share ≡ share) }
     ensures ring { IfSome result (λ h. h.promise.ring.value ≡ work.ring) }
+    ensures log { IfSome result (λ h. h.promise.log.value ≡ log) }
 {
     let promise = Decides {
         config,
@@ -192,16 +202,17 @@ fn start_decider<'s, E, Z: GivesZone + Sync, G: Gate + Sync, R: Wait + Clock + S
         queues,
         share,
         ring: Snapshot::of(&work.ring),
+        log: Snapshot::of(&log),
     };
     let started = scope.spawn_with(
         promise,
-        move || -> Option<DeciderEnd>
+        move || -> Option<(DeciderEnd, L)>
             requires { IsAccepted config.now × IsShare share × (received work.ring ≡ [])
                 × (length queues.now ≡ length config.now.lanes)
                 × (length work.seats.items ≡ length queues.now)
                 × ArePut share.decider queues.now work.seats.items (λ _. []) (λ _. []) }
-            ensures { IfSome result (λ end.
-                HasDecided config.entry.now (Z.zone zone.entry.now) share queues.entry.now work.ring end) }
+            ensures { IfSome result (λ e. HasToldAndDecided L.tells config.entry.now (Z.zone zone.entry.now)
+                share queues.entry.now work.ring log e.0 e.1) }
         {
             if !word.wait(rt) {
                 return None;
@@ -214,6 +225,7 @@ fn start_decider<'s, E, Z: GivesZone + Sync, G: Gate + Sync, R: Wait + Clock + S
                 zone.zone(),
                 share,
                 ring,
+                log,
                 queues,
                 seats,
                 gate,
@@ -228,20 +240,29 @@ fn start_decider<'s, E, Z: GivesZone + Sync, G: Gate + Sync, R: Wait + Clock + S
 }
 
 /// Starts the threads of all deciders. `None`: one can't be started, or a growth was refused.
-pub(crate) fn start_deciders<'s, E, Z: GivesZone + Sync, G: Gate + Sync, R: Wait + Clock + Sync>(
+pub(crate) fn start_deciders<
+    's,
+    E,
+    Z: GivesZone + Sync,
+    L: DeciderLog + 's,
+    G: Gate + Sync,
+    R: Wait + Clock + Sync,
+>(
     scope: &'s Scope<'s, E>,
     rt: &'s R,
     alloc: Global,
     config: &'s Config,
     zone: &'s Z,
     works: Vec<DeciderWork>,
+    logs: Vec<L>,
     queues: &'s [LaneQueue],
     gate: &'s G,
     halt: &'s AtomicBool,
     word: &'s StartWord,
-) -> Option<Vec<PromisedHandle<Option<DeciderEnd>, Decides<'s, Z>>>>
+) -> Option<Vec<PromisedHandle<Option<(DeciderEnd, L)>, Decides<'s, Z, L>>>>
     requires accepted { IsAccepted config.now }
     requires deciders { length works.items ≤ 8 }
+    requires logs { length logs.items ≡ length works.items }
     requires queues { length queues.now ≡ length config.now.lanes }
     requires works { AreDeciderWorks queues.now works.items }
     ensures count { IfSome result (λ hs. length hs.items ≡ length works.items) }
@@ -251,18 +272,24 @@ pub(crate) fn start_deciders<'s, E, Z: GivesZone + Sync, G: Gate + Sync, R: Wait
         × (h.promise.queues.now ≡ queues.now)
         × (h.promise.share ≡ record { decider = d; deciders = length works.items })
         × (h.promise.ring.value ≡ w.ring)) }
+    ensures logs { IfSome result (λ hs. (d : ℕ) (a : _) (h : _) → slice_get logs.items d ≡ Some a
+        → slice_get hs.items d ≡ Some h → h.promise.log.value ≡ a) }
 {
     let deciders = works.len() as u8;
     let Ok(mut handles) = Vec::with_capacity(alloc, works.len()) else {
         return None;
     };
+    let mut rest = logs.into_iter();
     for work in works {
+        let Some(log) = rest.next() else {
+            unreachable!()
+        };
         let share = Share {
             decider: handles.len() as u8,
             deciders,
         };
         let handle = start_decider(
-            scope, rt, alloc, config, zone, share, work, queues, gate, halt, word,
+            scope, rt, alloc, config, zone, share, work, log, queues, gate, halt, word,
         )?;
         if handles.push(handle).is_err() {
             return None;

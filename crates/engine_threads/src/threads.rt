@@ -7,7 +7,8 @@ ghost use Rattle.rtrb.specs.Ring.{IsPair};
 ghost use Rattle.log_merge.specs.Order.{IsInOrder};
 ghost use Rattle.engine_threads.specs.Lanes.{HaveTaken};
 ghost use Rattle.engine_threads.specs.Logs.{AreInOrder, HasEach};
-ghost use Rattle.engine_threads.specs.Run.{AreLaneEnds, IsLogOf};
+ghost use Rattle.engine_threads.specs.Run.{AreLaneEnds};
+ghost use Rattle.engine_threads.specs.Told.{HaveLogged};
 ghost use Rattle.engine_threads.specs.Sent.{HaveSent};
 ghost use Rattle.engine_threads.specs.Works.{AreDeciderWorks, AreNewWorkers, HaveDeciders};
 
@@ -24,7 +25,7 @@ use channel::Channel;
 use channel_queue::LaneQueue;
 use closers::Closers;
 use decider_thread::laws::made_of_share;
-use decider_thread::{DeciderEnd, Signal};
+use decider_thread::{DeciderEnd, DeciderLog, Signal};
 use delivery_worker::{Gate, Served};
 use due_model::config::Config;
 use due_model::notice::Suppression;
@@ -37,13 +38,15 @@ use std::time::Clock;
 
 /// What the threads of a run gave back.
 #[derive(Drop)]
-pub(crate) struct Driven<C: Channel, S: Source> {
+pub(crate) struct Driven<C: Channel, S: Source, L: DeciderLog> {
     /// Each lane, in order.
     pub served: Vec<Served>,
     /// The channels of each, in its place.
     pub channels: Vec<Vec<C>>,
-    /// What was suppressed, by event, then object, then contact.
+    /// What was suppressed and not told, by event, then object, then contact.
     pub log: Vec<Suppression>,
+    /// The log of each decider, in order.
+    pub logs: Vec<L>,
     /// Whether memory ran out in a decider.
     pub refused: bool,
     /// Whether it ran out in the intake, or for the log.
@@ -51,20 +54,14 @@ pub(crate) struct Driven<C: Channel, S: Source> {
     pub source: S,
 }
 
-/// Room for what so many deciders and so many lanes give back, made before they begin. `None`: a growth was refused.
-fn rooms<C: Channel>(
-    alloc: Global,
-    deciders: usize,
-    lanes: usize,
-) -> Option<(Vec<DeciderEnd>, Vec<Served>, Vec<Vec<C>>)>
-    ensures deciders { IfSome result (λ r. (r.0.items ≡ []) × (deciders ≤ vec_capacity r.0)) }
-    ensures lanes { IfSome result (λ r. (r.1.items ≡ []) × (lanes ≤ vec_capacity r.1)) }
-    ensures channels { IfSome result (λ r. (r.2.items ≡ []) × (lanes ≤ vec_capacity r.2)) }
+/// Room for the two things that each of so many threads gives back, made before they begin. `None`: a growth was refused.
+fn rooms<T, U>(alloc: Global, count: usize) -> Option<(Vec<T>, Vec<U>)>
+    ensures first { IfSome result (λ r. (r.0.items ≡ []) × (count ≤ vec_capacity r.0)) }
+    ensures second { IfSome result (λ r. (r.1.items ≡ []) × (count ≤ vec_capacity r.1)) }
 {
-    let ended = Vec::with_capacity(alloc, deciders).ok()?;
-    let left = Vec::with_capacity(alloc, lanes).ok()?;
-    let places = Vec::with_capacity(alloc, lanes).ok()?;
-    Some((ended, left, places))
+    let first = Vec::with_capacity(alloc, count).ok()?;
+    let second = Vec::with_capacity(alloc, count).ok()?;
+    Some((first, second))
 }
 
 /// Starts all threads, sends them the events, and puts together what they give back. Where a thread can't be started, or
@@ -74,6 +71,7 @@ pub(crate) fn drive<
     E,
     C: Channel + 's,
     S: Source,
+    L: DeciderLog + 's,
     Z: GivesZone + Sync,
     G: Gate + Sync,
     R: Threads + Wait + Clock + Sync,
@@ -88,12 +86,13 @@ pub(crate) fn drive<
     works: Vec<LaneWork<C>>,
     deciders: Vec<DeciderWork>,
     senders: Vec<Producer<Signal>>,
+    logs: Vec<L>,
     tries: u8,
     queues: &'s [LaneQueue],
     closers: &'s Closers,
     gate: &'s G,
     word: &'s StartWord,
-) -> Result<Driven<C, S>, S>
+) -> Result<Driven<C, S, L>, S>
     requires accepted { IsAccepted config.now }
     requires tries { 0 < tries }
     requires source { S.given_so_far source ≡ [] }
@@ -105,6 +104,7 @@ pub(crate) fn drive<
     requires workers { AreNewWorkers (λ w. w.pass) queues.now works.items }
     requires deciders { AreDeciderWorks queues.now deciders.items }
     requires senders { length senders.items ≡ length deciders.items }
+    requires logs { length logs.items ≡ length deciders.items }
     requires unsent { HaveSent [] senders.items }
     requires pairs { (d : ℕ) (w : _) (p : _) → slice_get deciders.items d ≡ Some w
         → slice_get senders.items d ≡ Some p → IsPair p w.ring }
@@ -112,9 +112,8 @@ pub(crate) fn drive<
         → ((l : ℕ) (w : _) → slice_get works.items l ≡ Some w → length w.channels.items ≡ channels l)
         → AreLaneEnds config.now (Z.zone zone.now) channels (reverse (S.given_so_far r.source)) r.refused
         r.served.items) }
-    ensures log { IfOk result (λ r.
-        IsLogOf config.now (Z.zone zone.now) (reverse (S.given_so_far r.source)) (r.refused || r.memory)
-        r.log.items) }
+    ensures log { IfOk result (λ r. HaveLogged L.tells config.now (Z.zone zone.now)
+        (reverse (S.given_so_far r.source)) (r.refused || r.memory) logs.items r.logs.items r.log.items) }
     ensures channels { IfOk result (λ r. (l : ℕ) (w s b : _) → slice_get works.items l ≡ Some w
         → slice_get r.served.items l ≡ Some s → slice_get r.channels.items l ≡ Some b
         → HaveTaken C.account C.offered tries config.now s w.channels.items b.items) }
@@ -130,12 +129,14 @@ pub(crate) fn drive<
         return Err(source);
     };
     let Some(ends) = start_deciders(
-        scope, rt, alloc, config, zone, deciders, queues, gate, halt, word,
+        scope, rt, alloc, config, zone, deciders, logs, queues, gate, halt, word,
     ) else {
         word.leave();
         return Err(source);
     };
-    let Some((ended, left, places)) = rooms(alloc, ends.len(), lanes.len()) else {
+    let (Some((ended, told)), Some((left, places))) =
+        (rooms(alloc, ends.len()), rooms(alloc, lanes.len()))
+    else {
         word.leave();
         return Err(source);
     };
@@ -143,7 +144,7 @@ pub(crate) fn drive<
     let mut senders = senders;
     let mut source = source;
     let stopped = feed_from(rt, config, &mut senders, &mut source, gate, halt);
-    let ends = join_all(rt, ends, ended);
+    let (ends, logs) = join_all(rt, ends, ended, told);
     let (mut served, channels) = join_lanes(rt, lanes, left, places);
     made_of_share();
     let (log, unmerged) = merged_log(alloc, &ends);
@@ -153,6 +154,7 @@ pub(crate) fn drive<
         served,
         channels,
         log,
+        logs,
         refused,
         memory,
         source,

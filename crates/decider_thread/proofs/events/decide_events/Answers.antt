@@ -24,7 +24,7 @@ loop-preserved-then-moved g c =
       same,
       (λ zone stands.
           let was = inv.1 zone stands in
-          (was.0, got ∙ was.1, stands_put _ _ _ _ _ _ _ _ was.2 _ _ c.put_round-moved.ensures.puts)),
+          (was.0, got ∙ was.1, stands_put _ _ _ _ _ _ _ _ _ was.2 _ _ c.put_round-moved.ensures.puts)),
       c.put_round-moved.ensures.seats ∙ inv.2,
       c.put_round-moved.ensures.lanes ∙ inv.3,
     )
@@ -37,7 +37,7 @@ loop-preserved-else-moved g c =
       same,
       (λ zone stands.
           let was = inv.1 zone stands in
-          (was.0, got ∙ was.1, stands_put _ _ _ _ _ _ _ _ was.2 _ _ c.put_round-moved.ensures.puts)),
+          (was.0, got ∙ was.1, stands_put _ _ _ _ _ _ _ _ _ was.2 _ _ c.put_round-moved.ensures.puts)),
       c.put_round-moved.ensures.seats ∙ inv.2,
       c.put_round-moved.ensures.lanes ∙ inv.3,
     )
@@ -46,22 +46,22 @@ pub returns-in-Some-Over-clause-stopped : goal.returns-in-Some-Over-clause-stopp
 returns-in-Some-Over-clause-stopped g c = λ zone stands.
     let was = c.loop.invariant.1 zone stands in
     let got : received c.next_signal.new.ring ≡ received c.loop.ring ++ Over ∷ [] = search rules in
-    let now = stands_put _ _ _ _ _ _ _ _ was.2 _ _ c.put_round-moved.ensures.puts in
-    stops_over _ _ _ _ _ _ _ _ now _ (got ∙ ap (λ (ss : List Signal). ss ++ Over ∷ []) was.1)
+    let now = stands_put _ _ _ _ _ _ _ _ _ was.2 _ _ c.put_round-moved.ensures.puts in
+    stops_over _ _ _ _ _ _ _ _ _ now _ (got ∙ ap (λ (ss : List Signal). ss ++ Over ∷ []) was.1)
 
 pub returns-then-load-clause-stopped : goal.returns-then-load-clause-stopped
 returns-then-load-clause-stopped g c = λ zone stands.
     let was = c.loop.invariant.1 zone stands in
     let event = c.in-Some-Decides.event in
     let got : received c.next_signal.new.ring ≡ received c.loop.ring ++ Decides event ∷ [] = search rules in
-    let now = stands_put _ _ _ _ _ _ _ _ was.2 _ _ c.put_round-moved.ensures.puts in
-    stops_before _ _ _ _ _ _ _ _ now event _ (got ∙ ap (λ (ss : List Signal). ss ++ Decides event ∷ []) was.1)
+    let now = stands_put _ _ _ _ _ _ _ _ _ was.2 _ _ c.put_round-moved.ensures.puts in
+    stops_before _ _ _ _ _ _ _ _ _ now event _ (got ∙ ap (λ (ss : List Signal). ss ++ Decides event ∷ []) was.1)
 
 pub decide_event-requires-clause-stands : goal.decide_event-requires-clause-stands
-decide_event-requires-clause-stands g c =
+decide_event-requires-clause-stands g c κs within =
     let s = c.requires.stands in
     let was = c.loop.invariant.1 s.0 s.1 in
-    (s.0, c.args.share, c.args.queues.now, c.put_round-moved.new.seats, was.0, stands_put _ _ _ _ _ _ _ _ was.2 _ _ c.put_round-moved.ensures.puts)
+    (s.0, c.args.share, c.args.queues.now, c.put_round-moved.new.seats, was.0, c.args.log.now, stands_put _ _ _ _ _ _ _ _ _ was.2 _ _ c.put_round-moved.ensures.puts)
 
 pub returns-then-not-decide_event-clause-stopped : goal.returns-then-not-decide_event-clause-stopped
 returns-then-not-decide_event-clause-stopped g c = λ zone stands.
@@ -70,10 +70,12 @@ returns-then-not-decide_event-clause-stopped g c = λ zone stands.
     let got : received c.next_signal.new.ring ≡ received c.loop.ring ++ Decides event ∷ [] = search rules in
     let kept_same : kept c.decide_event.new.decider ≡ kept c.loop.decider = search rules in
     let lists_same : lists c.decide_event.new.outbox ≡ lists c.put_round-moved.new.outbox = search rules in
-    let now = stands_put _ _ _ _ _ _ _ _ was.2 _ _ c.put_round-moved.ensures.puts in
-    let stops = stops_before _ _ _ _ _ _ _ _ now event _ (got ∙ ap (λ (ss : List Signal). ss ++ Decides event ∷ []) was.1) in
-    subst (λ (k : Kept). HasStopped c.args.config.now zone c.args.share c.args.queues.now false (received c.next_signal.new.ring) (waiting_at c.decide_event.new.outbox) c.put_round-moved.new.seats k.log) (sym kept_same)
-    (subst (λ (ls : List (List Notice)). HasStopped c.args.config.now zone c.args.share c.args.queues.now false (received c.next_signal.new.ring) (λ l. slice_index_or ls l []) c.put_round-moved.new.seats (kept c.loop.decider).log) (sym lists_same) stops)
+    let log_same : c.decide_event.new.log ≡ c.loop.log = search rules in
+    let now = stands_put _ _ _ _ _ _ _ _ _ was.2 _ _ c.put_round-moved.ensures.puts in
+    let stops = stops_before _ _ _ _ _ _ _ _ _ now event _ (got ∙ ap (λ (ss : List Signal). ss ++ Decides event ∷ []) was.1) in
+    subst (λ (log : g.row.L.Denot). HasStopped c.args.config.now zone c.args.share c.args.queues.now false (received c.next_signal.new.ring) (waiting_at c.decide_event.new.outbox) c.put_round-moved.new.seats (λ lines. g.L.DeciderLog.tells c.args.log.now lines log) (kept c.decide_event.new.decider).log) (sym log_same)
+    (subst (λ (k : Kept). HasStopped c.args.config.now zone c.args.share c.args.queues.now false (received c.next_signal.new.ring) (waiting_at c.decide_event.new.outbox) c.put_round-moved.new.seats (λ lines. g.L.DeciderLog.tells c.args.log.now lines c.loop.log) k.log) (sym kept_same)
+    (subst (λ (ls : List (List Notice)). HasStopped c.args.config.now zone c.args.share c.args.queues.now false (received c.next_signal.new.ring) (λ l. slice_index_or ls l []) c.put_round-moved.new.seats (λ lines. g.L.DeciderLog.tells c.args.log.now lines c.loop.log) (kept c.loop.decider).log) (sym lists_same) stops))
 
 pub loop-preserved : goal.loop-preserved
 loop-preserved g c =
@@ -86,8 +88,8 @@ loop-preserved g c =
       same,
       (λ zone stands.
           let was = inv.1 zone stands in
-          let now = stands_put _ _ _ _ _ _ _ _ was.2 _ _ c.put_round-moved.ensures.puts in
-          (event ∷ was.0, got ∙ ap (λ (ss : List Signal). ss ++ Decides event ∷ []) was.1, c.decide_event.ensures.decided decided zone _ _ _ was.0 long now)),
+          let now = stands_put _ _ _ _ _ _ _ _ _ was.2 _ _ c.put_round-moved.ensures.puts in
+          (event ∷ was.0, got ∙ ap (λ (ss : List Signal). ss ++ Decides event ∷ []) was.1, c.decide_event.ensures.decided decided zone _ _ _ was.0 c.args.log.now long now)),
       c.put_round-moved.ensures.seats ∙ inv.2,
       c.decide_event.ensures.lanes ∙ (c.put_round-moved.ensures.lanes ∙ inv.3),
     )

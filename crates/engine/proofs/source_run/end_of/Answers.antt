@@ -6,8 +6,8 @@ use Rattle.engine.proofs.RunEndLaws.{run_is}
 use Rattle.engine.proofs.source_run.end_of.Goals as goal
 
 pub returns-clause-run : goal.returns-clause-run
-returns-clause-run g c = λ config zone given events counts threads.
-    run_is config zone given events c.args.left.memory c.args.left.lanes.items c.args.left.log.items _ threads c.ends_of.ensures.count
+returns-clause-run g c = λ config zone given events told counts threads.
+    run_is config zone given events c.args.left.memory c.args.left.lanes.items told c.args.left.log.items _ threads c.ends_of.ensures.count
     (λ l s lane at_s at_lane.
     let inside = slice_get_within c.args.left.lanes.items l s at_s in
     let long = c.requires.counts in

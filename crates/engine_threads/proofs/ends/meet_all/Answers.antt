@@ -19,7 +19,7 @@ meet_one-refused-requires-clause-end c =
     let below : place < length c.args.ends.items = slice_get_within c.args.ends.items place c.in-Some.end end in
     let long : length c.args.ends.items ≡ length c.loop-end.senders.items = sym (inv.6 ∙ c.requires.senders) in
     let sender = slice_get_read c.loop-end.senders.items place c.index_mut.result.now (subst (λ n. place < n) long below) (search rules) in
-    (c.requires.ends.0, c.requires.ends.1, length c.args.ends.items, place, c.requires.ends.2, c.requires.ends.3 place c.in-Some.end c.index_mut.result.now end (inv.5 place c.index_mut.result.now (omega arith) sender))
+    (c.requires.ends.0, c.requires.ends.1, length c.args.ends.items, place, c.requires.ends.2, c.requires.ends.3 place, c.requires.ends.4 place c.in-Some.end c.index_mut.result.now end (inv.5 place c.index_mut.result.now (omega arith) sender))
 
 pub loop-end-preserved : goal.loop-end-preserved
 loop-end-preserved c =
@@ -39,14 +39,14 @@ loop-end-preserved c =
       met.served ∙ inv.4,
       (λ d p above at. inv.5 d p (omega (arith, above)) (sym (set_other c.loop-end.senders.items place d _ (λ (is : d ≡ place). absurd (omega (arith, above, is)))) ∙ at)),
       length-set c.loop-end.senders.items place _ ∙ inv.6,
-      (λ config zone events ends d e lt at_e. ⊎_elim
+      (λ config zone events told ends d e lt at_e. ⊎_elim
           (λ (is : d ≡ place).
-          let mine = met.met config zone (length c.args.ends.items) place events (ends place c.in-Some.end r end (inv.5 place r (omega arith) sender)) in
+          let mine = met.met config zone (length c.args.ends.items) place events (told place) (ends place c.in-Some.end r end (inv.5 place r (omega arith) sender)) in
           let same : c.in-Some.end ≡ e = same_Some c.in-Some.end e (sym end ∙ subst (λ (k : ℕ). slice_get c.args.ends.items k ≡ Some e) is at_e) in
-          subst (λ (k : ℕ). IsMet config zone (length c.args.ends.items) k c.args.queues.now events memory c.args.served.now.items e.log.items) (sym is)
-          (subst (λ (f : DeciderEnd). IsMet config zone (length c.args.ends.items) place c.args.queues.now events memory c.args.served.now.items f.log.items) same
-          (met_before config zone (length c.args.ends.items) place c.args.queues.now events c.meet_one-refused.result memory c.args.served.now.items c.loop-end.served.items c.in-Some.end.log.items (sym inv.4) (neither_second c.loop-end.memory c.meet_one-refused.result) inv.3 mine)))
+          subst (λ (k : ℕ). IsMet config zone (length c.args.ends.items) k c.args.queues.now events memory c.args.served.now.items (told k) e.log.items) (sym is)
+          (subst (λ (f : DeciderEnd). IsMet config zone (length c.args.ends.items) place c.args.queues.now events memory c.args.served.now.items (told place) f.log.items) same
+          (met_before config zone (length c.args.ends.items) place c.args.queues.now events c.meet_one-refused.result memory c.args.served.now.items c.loop-end.served.items (told place) c.in-Some.end.log.items (sym inv.4) (neither_second c.loop-end.memory c.meet_one-refused.result) inv.3 mine)))
           (λ (apart : ¬ (d ≡ place)).
-          met_before config zone (length c.args.ends.items) d c.args.queues.now events c.loop-end.memory memory c.args.served.now.items c.args.served.now.items e.log.items refl (neither_first c.loop-end.memory c.meet_one-refused.result) (kept_self c.args.served.now.items) (inv.7 config zone events ends d e (omega (arith, lt, apart)) at_e))
+          met_before config zone (length c.args.ends.items) d c.args.queues.now events c.loop-end.memory memory c.args.served.now.items c.args.served.now.items (told d) e.log.items refl (neither_first c.loop-end.memory c.meet_one-refused.result) (kept_self c.args.served.now.items) (inv.7 config zone events told ends d e (omega (arith, lt, apart)) at_e))
           (cases_eq d place)),
     )

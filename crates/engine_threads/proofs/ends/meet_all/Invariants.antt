@@ -2,6 +2,7 @@ use Rattle.std.proofs.Common.{◌≡◌, ◌<◌, ◌≤◌, ◌++◌, ℕ, List
 use Rattle.std.specs.Vec.Iter.{into_iter_items}
 use Rattle.due_model.specs.declared.config.Config.{Config}
 use Rattle.due_model.specs.declared.event.Event.{Event}
+use Rattle.due_model.specs.declared.notice.Suppression.{Suppression}
 use Rattle.due_model.specs.declared.zone.Zone.{Zone}
 use Rattle.decider_thread.specs.declared.ring.DeciderEnd.{DeciderEnd}
 use Rattle.engine_threads.specs.Joins.{AreEnds, AreKept, AreWorkers, IsMet}
@@ -16,5 +17,5 @@ invariant-loop-end l =
     × (length l.served.items ≡ length l.fn.served.items)
     × ((d : ℕ) (p : _) → l.place ≤ d → slice_get l.senders.items d ≡ Some p → slice_get l.fn.senders.items d ≡ Some p)
     × (length l.senders.items ≡ length l.fn.senders.items)
-    × ((c : Config) (zone : Zone) (events : List Event) → AreEnds c zone l.queues events l.fn.ends.items l.fn.senders.items
-    → (d : ℕ) (e : DeciderEnd) → d < l.place → slice_get l.fn.ends.items d ≡ Some e → IsMet c zone (length l.fn.ends.items) d l.queues events l.memory l.fn.served.items e.log.items)
+    × ((c : Config) (zone : Zone) (events : List Event) (told : ℕ → List Suppression) → AreEnds c zone l.queues events told l.fn.ends.items l.fn.senders.items
+    → (d : ℕ) (e : DeciderEnd) → d < l.place → slice_get l.fn.ends.items d ≡ Some e → IsMet c zone (length l.fn.ends.items) d l.queues events l.memory l.fn.served.items (told d) e.log.items)

@@ -5,6 +5,6 @@ use Rattle.engine_threads.proofs.RunLaws.{run_of}
 use Rattle.engine_threads.proofs.run.end_of.Goals as goal
 
 pub returns-clause-run : goal.returns-clause-run
-returns-clause-run g c = λ config zone channels past lanes log.
+returns-clause-run g c = λ config zone channels past told lanes log.
     let none : c.any_refused.result ≡ false → (l : ℕ) (s : Served) → slice_get c.args.driven.served.items l ≡ Some s → s.why ≢ NoMemory = search rules in
-    run_of config zone channels past c.args.driven.refused c.args.driven.memory c.any_refused.result c.args.driven.served.items c.args.driven.log.items none lanes log
+    run_of config zone channels past c.args.driven.refused c.args.driven.memory c.any_refused.result c.args.driven.served.items told c.args.driven.log.items none lanes log

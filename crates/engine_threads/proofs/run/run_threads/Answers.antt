@@ -1,11 +1,11 @@
-use Rattle.std.proofs.Common.{arith, ◌≡◌, ◌<◌, ◌∙◌, ℕ, List, length, slice_get, Some, ap, refl, subst, sym, reverse}
+use Rattle.std.proofs.Common.{arith, ◌≡◌, ◌<◌, ◌%◌, ◌∙◌, ℕ, List, length, slice_get, Some, ap, refl, subst, sym, reverse}
 use Rattle.std.proofs.lemmas.Option.{none-some, slice_get_within}
 use Rattle.due_model.specs.declared.event.Event.{Event}
 use Rattle.delivery_worker.specs.declared.worker.Served.{Served}
-use Rattle.engine_threads.specs.Run.{IsRun}
+use Rattle.engine_threads.specs.Told.{HasRun, HaveTold}
 use Rattle.lemmas.proofs.Lists.{some_at}
 use Rattle.engine_threads.proofs.JoinLaws.{channels_still}
-use Rattle.engine_threads.proofs.RunLaws.{run_of_none}
+use Rattle.engine_threads.proofs.RunLaws.{none_has_run}
 use Rattle.engine_threads.proofs.WorkLaws.{number_at, number_of}
 use Rattle.engine_threads.proofs.run.run_threads.Goals as goal
 
@@ -13,13 +13,13 @@ pub returns-in_default-clause-run : goal.returns-in_default-clause-run
 returns-in_default-clause-run g c = λ channels given.
     let end = c.nothing.result in
     let none = c.nothing.ensures in
-    run_of_none c.args.config.now c.args.zone.now channels (reverse (g.S.Source.given_so_far end.source)) end.memory end.lanes.items end.log.items none.lanes none.log none.memory
+    none_has_run g.L.DeciderLog.tells c.args.config.now c.args.zone.now channels (reverse (g.S.Source.given_so_far end.source)) end.memory end.lanes.items end.log.items c.args.logs.items end.logs.items none.lanes none.log none.logs none.memory
 
 pub returns-clause-run : goal.returns-clause-run
 returns-clause-run g c = λ channels given.
     let end = c.nothing-in-Err.result in
     let none = c.nothing-in-Err.ensures in
-    run_of_none c.args.config.now c.args.zone.now channels (reverse (g.S.Source.given_so_far end.source)) end.memory end.lanes.items end.log.items none.lanes none.log none.memory
+    none_has_run g.L.DeciderLog.tells c.args.config.now c.args.zone.now channels (reverse (g.S.Source.given_so_far end.source)) end.memory end.lanes.items end.log.items c.args.logs.items end.logs.items none.lanes none.log none.logs none.memory
 
 pub returns-in-Ok-run_scope-clause-run : goal.returns-in-Ok-run_scope-clause-run
 returns-in-Ok-run_scope-clause-run g c = λ channels given.
@@ -27,9 +27,11 @@ returns-in-Ok-run_scope-clause-run g c = λ channels given.
     let works : (l : ℕ) (w : _) → slice_get c.in-Ok.prepared.works.items l ≡ Some w → length w.channels.items ≡ channels l = λ l w at.
     let s = some_at c.args.given.items l (subst (λ n. l < n) set.works (slice_get_within c.in-Ok.prepared.works.items l w at)) in
     ap (λ bs. length bs.items) (set.given l w s.0 s.1 at).0 ∙ given l s.0 s.1 in
-    let run = c.end_of.ensures.run c.args.config.now c.args.zone.now channels (reverse (g.S.Source.given_so_far c.in-Ok-run_scope.driven.source)) (c.in-Ok-run_scope.ensures.lanes channels works) c.in-Ok-run_scope.ensures.log in
+    let logged = c.in-Ok-run_scope.ensures.log in
+    let run = c.end_of.ensures.run c.args.config.now c.args.zone.now channels (reverse (g.S.Source.given_so_far c.in-Ok-run_scope.driven.source)) (λ o. logged.0 (o % length c.args.logs.items)) (c.in-Ok-run_scope.ensures.lanes channels works) logged.2 in
     let past = ap (λ s. reverse (g.S.Source.given_so_far s)) (sym c.end_of.ensures.source) in
-    subst (λ (es : List Event). IsRun c.args.config.now c.args.zone.now channels es c.end_of.result.memory c.end_of.result.lanes.items c.end_of.result.log.items) past run
+    subst (λ (es : List Event). HasRun g.L.DeciderLog.tells c.args.config.now c.args.zone.now channels es c.end_of.result.memory c.end_of.result.lanes.items c.args.logs.items c.end_of.result.logs.items c.end_of.result.log.items) past
+    (logged.0, subst (λ back. HaveTold g.L.DeciderLog.tells c.args.config.now c.args.zone.now (length c.args.logs.items) (reverse (g.S.Source.given_so_far c.in-Ok-run_scope.driven.source)) c.args.logs.items back logged.0) (sym c.end_of.ensures.logs) logged.1, run)
 
 pub returns-in-Ok-run_scope-clause-whole : goal.returns-in-Ok-run_scope-clause-whole
 returns-in-Ok-run_scope-clause-whole g c = λ some.

@@ -2,6 +2,7 @@ use Rattle.std.proofs.Common.{rules, ◌≡◌, ℕ, ◌++◌, ◌∷◌, [], le
 use Rattle.std.specs.Vec.Iter.{into_iter_items}
 use Rattle.decider.specs.declared.share.Share.{Share}
 use Rattle.engine_threads.specs.ListLaws.{both_longer, next_rest, pairs_grow}
+use Rattle.engine_threads.proofs.StartLaws.{all_logs, more_logs, no_logs, some_left}
 use Rattle.engine_threads.proofs.starts.start_deciders.Goals as goal
 
 abbrev made_share : ℕ → ℕ → Share
@@ -21,8 +22,10 @@ loop-work-preserved g c =
     let number : c.len-in-loop-work.result ≡ length c.loop-work.yielded = search rules in
     let count : c.len-deciders.result ≡ length c.args.works.items = search rules in
     let share = made ∙ share_is c.len-in-loop-work.result c.len-deciders.result (length c.loop-work.yielded) (length c.args.works.items) number count in
+    let log : c.in_ok-handle.handle.promise.log.value ≡ c.in-Some-next.log = search rules in
     let ring : c.in_ok-handle.handle.promise.ring.value ≡ c.in-Some.work.ring = search rules in (
       both_longer c.loop-work.yielded c.loop-work.handles.items c.push.new.self.items c.in-Some.work c.in_ok-handle.handle items inv.0,
       rw items (pairs_grow (λ d w h. (h.promise.config.now ≡ c.args.config.now) × (h.promise.zone.now ≡ c.args.zone.now) × (h.promise.queues.now ≡ c.args.queues.now) × (h.promise.share ≡ record { decider = d; deciders = length c.args.works.items }) × (h.promise.ring.value ≡ w.ring)) c.loop-work.yielded c.loop-work.handles.items c.in-Some.work c.in_ok-handle.handle inv.0 inv.1 (config, zone, queues, share, ring)),
       next_rest c.loop-work.yielded c.in-Some.work (into_iter_items c.loop-work.work-iterator) (into_iter_items c.next.new.self) c.args.works.items c.in-Some.ensures.steps.0 inv.2,
+      more_logs (λ h. h.promise.log.value) c.args.logs.items (into_iter_items c.loop-work.rest) (into_iter_items c.next-rest.new.self) c.loop-work.handles.items c.push.new.self.items c.in-Some-next.log c.in_ok-handle.handle c.in-Some-next.ensures.steps.0 items log inv.3,
     )

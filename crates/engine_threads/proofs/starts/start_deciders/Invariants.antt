@@ -1,5 +1,6 @@
 use Rattle.std.proofs.Common.{◌≡◌, ◌++◌, ℕ, length, slice_get, Some}
 use Rattle.std.specs.Vec.Iter.{into_iter_items}
+use Rattle.engine_threads.proofs.StartLaws.{HaveLogs}
 use Rattle.engine_threads.proofs.starts.start_deciders.Given as goal
 
 abbrev pub invariant-loop-work : goal.invariant-loop-work
@@ -8,3 +9,4 @@ invariant-loop-work g l =
     × ((d : ℕ) (w : _) (h : _) → slice_get l.yielded d ≡ Some w → slice_get l.handles.items d ≡ Some h
     → (h.promise.config.now ≡ l.config) × (h.promise.zone.now ≡ l.zone) × (h.promise.queues.now ≡ l.queues) × (h.promise.share ≡ record { decider = d; deciders = length l.fn.works.items }) × (h.promise.ring.value ≡ w.ring))
     × (l.yielded ++ into_iter_items l.work-iterator ≡ l.fn.works.items)
+    × HaveLogs (λ h. h.promise.log.value) l.fn.logs.items (into_iter_items l.rest) l.handles.items

@@ -1,23 +1,18 @@
-use Rattle.std.proofs.Common.{ℕ, rules, ◌≡◌, ◌<◌, [], Bool, List, length, refl, reverse, sym, subst, ap, ◌∙◌}
+use Rattle.std.proofs.Common.{ℕ, arith, rules, ◌≡◌, ◌<◌, ◌≤◌, ◌%◌, ◌||◌, [], Bool, List, length, refl, reverse, sym, subst, ap, ◌∙◌}
 use Rattle.std.proofs.lemmas.Option.{same_Some, slice_get_within}
-use Rattle.due_model.specs.declared.config.Config.{Config}
-use Rattle.due_model.specs.declared.zone.Zone.{Zone}
 use Rattle.channel_queue.specs.declared.LaneQueue.{LaneQueue}
 use Rattle.channel_queue.specs.Passes.{IsWorker}
 use Rattle.channel_queue.specs.Rule.{picked_of}
-use Rattle.rtrb.specs.Ring.{IsPair}
-use Rattle.decider.specs.declared.share.Share.{Share}
 use Rattle.decider_thread.specs.declared.ring.DeciderEnd.{DeciderEnd}
-use Rattle.decider_thread.specs.Decided.{HasDecided}
 use Rattle.log_merge.specs.Order.{IsInOrder}
-use Rattle.engine_threads.specs.Joins.{AreEnds}
 use Rattle.engine_threads.specs.Lanes.{IsServed}
 use Rattle.engine_threads.specs.Logs.{AreInOrder, HasEach}
-use Rattle.engine_threads.proofs.DueLaws.{share_of}
+use Rattle.engine_threads.specs.Run.{IsLogOf}
+use Rattle.engine_threads.specs.Told.{HaveTold}
+use Rattle.engine_threads.proofs.EndLaws.{all_ended}
 use Rattle.engine_threads.proofs.JoinLaws.{channels_still, neither_first, own_worker}
 use Rattle.lemmas.proofs.Lists.{some_at}
-use Rattle.engine_threads.proofs.RunLaws.{Laws, decided_of, decided_older, lane_end, log_any, log_end}
-use Rattle.engine_threads.proofs.SentLaws.{pair_still}
+use Rattle.engine_threads.proofs.RunLaws.{Laws, decided_of, decided_older, lane_end, log_any, log_end, told_begins, told_front}
 use Rattle.engine_threads.proofs.threads.drive.Goals as goal
 
 pub meet_all-refused-requires-clause-workers : goal.meet_all-refused-requires-clause-workers
@@ -32,38 +27,21 @@ meet_all-refused-requires-clause-workers g c = λ l q s at_q at_s.
     own_worker q (picked_of s.pass) [] s.pass (subst (λ (r : LaneQueue). IsWorker r (picked_of s.pass) [] s.pass) same kept.worker)
 
 pub meet_all-refused-requires-clause-ends : goal.meet_all-refused-requires-clause-ends
-meet_all-refused-requires-clause-ends g c = (
-  c.args.config.now,
-  g.Z.GivesZone.zone c.args.zone.now,
-  reverse (g.S.Source.given_so_far c.feed_from-stopped.new.source),
-  λ d e p at_e at_p.
-      let ends : length c.join_all-ends.result.items ≡ length c.in-Some-start_deciders.ends.items = c.join_all-ends.ensures.count in
-      let count : length c.join_all-ends.result.items ≡ length c.args.deciders.items = ends ∙ c.in-Some-start_deciders.ensures.count in
-      let below = slice_get_within c.join_all-ends.result.items d e at_e in
-      let w = some_at c.args.deciders.items d (subst (λ n. d < n) count below) in
-      let h = some_at c.in-Some-start_deciders.ends.items d (subst (λ n. d < n) ends below) in
-      let p0 = some_at c.args.senders.items d (subst (λ n. d < n) (count ∙ sym c.requires.senders) below) in
-      let kept : HasDecided h.0.promise.config.now (g.Z.GivesZone.zone h.0.promise.zone.now) h.0.promise.share h.0.promise.queues.now h.0.promise.ring.value e = c.join_all-ends.ensures.each d h.0 e h.1 at_e in
-      let its = c.in-Some-start_deciders.ensures.each d w.0 h.0 w.1 h.1 in
-      let pair = c.requires.pairs d w.0 p0.0 w.1 p0.1 in
-      let share : h.0.promise.share ≡ share_of (length c.join_all-ends.result.items) d = its.3 ∙ ap (λ n. share_of n d) (sym count) in
-      let one = subst (λ (k : Config). HasDecided k (g.Z.GivesZone.zone h.0.promise.zone.now) h.0.promise.share h.0.promise.queues.now h.0.promise.ring.value e) its.0 kept in
-      let two = subst (λ (z : Zone). HasDecided c.args.config.now z h.0.promise.share h.0.promise.queues.now h.0.promise.ring.value e) (ap g.Z.GivesZone.zone its.1) one in
-      let three = subst (λ (qs : List LaneQueue). HasDecided c.args.config.now (g.Z.GivesZone.zone c.args.zone.now) h.0.promise.share qs h.0.promise.ring.value e) its.2 two in
-      let mine = subst (λ (s : Share). HasDecided c.args.config.now (g.Z.GivesZone.zone c.args.zone.now) s c.args.queues.now h.0.promise.ring.value e) share three in record {
-        first = h.0.promise.ring.value;
-        decided = mine;
-        pair = pair_still p0.0 p h.0.promise.ring.value e.ring (subst (λ r. IsPair p0.0 r) (sym its.4) pair) (c.feed_from-stopped.ensures.same d p0.0 p p0.1 at_p) mine.ring_same;
-        sent_all = c.feed_from-stopped.ensures.sent d p at_p;
-      },
-)
+meet_all-refused-requires-clause-ends g c =
+    let ended = all_ended (λ h. h.promise.config.now) (λ h. g.Z.GivesZone.zone h.promise.zone.now) (λ h. h.promise.queues.now) (λ h. h.promise.share) (λ h. h.promise.ring.value) (λ h. h.promise.log.value)
+    g.L.DeciderLog.tells c.args.config.now (g.Z.GivesZone.zone c.args.zone.now) c.args.queues.now (reverse (g.S.Source.given_so_far c.feed_from-stopped.new.source))
+    c.args.deciders.items c.args.logs.items c.in-Some-start_deciders.ends.items c.join_all-ends.result.0.items c.join_all-ends.result.1.items c.args.senders.items c.feed_from-stopped.new.rings.items
+    c.in-Some-start_deciders.ensures.count c.requires.logs c.join_all-ends.ensures.count c.join_all-ends.ensures.others c.requires.senders
+    (λ d w h at_w at_h. let its = c.in-Some-start_deciders.ensures.each d w h at_w at_h in (its.0, ap g.Z.GivesZone.zone its.1, its.2, its.3, its.4))
+    c.in-Some-start_deciders.ensures.logs c.join_all-ends.ensures.each c.requires.pairs c.feed_from-stopped.ensures.same c.feed_from-stopped.ensures.sent in
+    (c.args.config.now, g.Z.GivesZone.zone c.args.zone.now, reverse (g.S.Source.given_so_far c.feed_from-stopped.new.source), ended.0, ended.1)
 
 pub returns-clause-lanes : goal.returns-clause-lanes
 returns-clause-lanes g c = λ channels given.
     let config = c.args.config.now in
     let zone = g.Z.GivesZone.zone c.args.zone.now in
     let past = reverse (g.S.Source.given_so_far c.feed_from-stopped.new.source) in
-    let n = length c.join_all-ends.result.items in
+    let n = length c.join_all-ends.result.0.items in
     let count : n ≡ length c.args.deciders.items = c.join_all-ends.ensures.count ∙ c.in-Some-start_deciders.ensures.count in
     let laws : Laws = record {
       due = c.made_of_share.ensures.due;
@@ -73,32 +51,17 @@ returns-clause-lanes g c = λ channels given.
       named = c.made_of_share.ensures.named;
       order = c.made_of_share.ensures.order;
     } in
-    let ends_are : AreEnds config zone c.args.queues.now past c.join_all-ends.result.items c.feed_from-stopped.new.rings.items =
-    λ d e p at_e at_p.
-    let ends : length c.join_all-ends.result.items ≡ length c.in-Some-start_deciders.ends.items = c.join_all-ends.ensures.count in
-    let count : length c.join_all-ends.result.items ≡ length c.args.deciders.items = ends ∙ c.in-Some-start_deciders.ensures.count in
-    let below = slice_get_within c.join_all-ends.result.items d e at_e in
-    let w = some_at c.args.deciders.items d (subst (λ n. d < n) count below) in
-    let h = some_at c.in-Some-start_deciders.ends.items d (subst (λ n. d < n) ends below) in
-    let p0 = some_at c.args.senders.items d (subst (λ n. d < n) (count ∙ sym c.requires.senders) below) in
-    let kept : HasDecided h.0.promise.config.now (g.Z.GivesZone.zone h.0.promise.zone.now) h.0.promise.share h.0.promise.queues.now h.0.promise.ring.value e = c.join_all-ends.ensures.each d h.0 e h.1 at_e in
-    let its = c.in-Some-start_deciders.ensures.each d w.0 h.0 w.1 h.1 in
-    let pair = c.requires.pairs d w.0 p0.0 w.1 p0.1 in
-    let share : h.0.promise.share ≡ share_of (length c.join_all-ends.result.items) d = its.3 ∙ ap (λ n. share_of n d) (sym count) in
-    let one = subst (λ (k : Config). HasDecided k (g.Z.GivesZone.zone h.0.promise.zone.now) h.0.promise.share h.0.promise.queues.now h.0.promise.ring.value e) its.0 kept in
-    let two = subst (λ (z : Zone). HasDecided c.args.config.now z h.0.promise.share h.0.promise.queues.now h.0.promise.ring.value e) (ap g.Z.GivesZone.zone its.1) one in
-    let three = subst (λ (qs : List LaneQueue). HasDecided c.args.config.now (g.Z.GivesZone.zone c.args.zone.now) h.0.promise.share qs h.0.promise.ring.value e) its.2 two in
-    let mine = subst (λ (s : Share). HasDecided c.args.config.now (g.Z.GivesZone.zone c.args.zone.now) s c.args.queues.now h.0.promise.ring.value e) share three in record {
-      first = h.0.promise.ring.value;
-      decided = mine;
-      pair = pair_still p0.0 p h.0.promise.ring.value e.ring (subst (λ r. IsPair p0.0 r) (sym its.4) pair) (c.feed_from-stopped.ensures.same d p0.0 p p0.1 at_p) mine.ring_same;
-      sent_all = c.feed_from-stopped.ensures.sent d p at_p;
-    } in
+    let ended = all_ended (λ h. h.promise.config.now) (λ h. g.Z.GivesZone.zone h.promise.zone.now) (λ h. h.promise.queues.now) (λ h. h.promise.share) (λ h. h.promise.ring.value) (λ h. h.promise.log.value)
+    g.L.DeciderLog.tells c.args.config.now (g.Z.GivesZone.zone c.args.zone.now) c.args.queues.now (reverse (g.S.Source.given_so_far c.feed_from-stopped.new.source))
+    c.args.deciders.items c.args.logs.items c.in-Some-start_deciders.ends.items c.join_all-ends.result.0.items c.join_all-ends.result.1.items c.args.senders.items c.feed_from-stopped.new.rings.items
+    c.in-Some-start_deciders.ensures.count c.requires.logs c.join_all-ends.ensures.count c.join_all-ends.ensures.others c.requires.senders
+    (λ d w h at_w at_h. let its = c.in-Some-start_deciders.ensures.each d w h at_w at_h in (its.0, ap g.Z.GivesZone.zone its.1, its.2, its.3, its.4))
+    c.in-Some-start_deciders.ensures.logs c.join_all-ends.ensures.each c.requires.pairs c.feed_from-stopped.ensures.same c.feed_from-stopped.ensures.sent in
     let long : length c.join_lanes-served.result.0.items ≡ length c.args.queues.now = c.join_lanes-served.ensures.count ∙ c.in-Some.ensures.count ∙ c.requires.works in
-    let all_met = c.meet_all-refused.ensures.met config zone past ends_are in
+    let all_met = c.meet_all-refused.ensures.met config zone past ended.0 ended.1 in
     let some = subst (λ m. 0 < m) (sym count) c.requires.some in record {
-      decided = decided_of config zone n c.args.queues.now past c.meet_all-refused.result c.join_lanes-served.result.0.items c.join_all-ends.result.items refl all_met;
-      older = decided_older config zone n c.args.queues.now past c.meet_all-refused.result c.join_lanes-served.result.0.items c.join_all-ends.result.items refl all_met some;
+      decided = decided_of config zone n c.args.queues.now past c.meet_all-refused.result c.join_lanes-served.result.0.items ended.0 c.join_all-ends.result.0.items refl all_met;
+      older = decided_older config zone n c.args.queues.now past c.meet_all-refused.result c.join_lanes-served.result.0.items ended.0 c.join_all-ends.result.0.items refl all_met some;
       count = c.meet_all-refused.ensures.served ∙ long ∙ c.requires.lanes;
       each = λ l t at_t.
           let below : l < length c.args.queues.now = subst (λ m. l < m) (c.meet_all-refused.ensures.served ∙ long) (slice_get_within c.meet_all-refused.new.served.items l t at_t) in
@@ -110,7 +73,7 @@ returns-clause-lanes g c = λ channels given.
           let its = c.in-Some.ensures.each l w.0 h.0 w.1 h.1 in
           let same : h.0.promise.queue.now ≡ q.0 = same_Some _ _ (sym its.0 ∙ q.1) in
           let served : IsServed q.0 (channels l) s.0 = subst (λ (b : ℕ). IsServed q.0 b s.0) (its.1 ∙ given l w.0 w.1) (subst (λ (r : LaneQueue). IsServed r h.0.promise.channels s.0) same kept) in
-          lane_end laws config zone n l q.0 c.args.queues.now past c.meet_all-refused.result c.join_lanes-served.result.0.items c.join_all-ends.result.items s.0 refl q.1 s.1
+          lane_end laws config zone n l q.0 c.args.queues.now past c.meet_all-refused.result c.join_lanes-served.result.0.items ended.0 c.join_all-ends.result.0.items s.0 refl q.1 s.1
           all_met (channels l) t
           some (c.requires.queues l q.0 q.1 ∙ sym count) served (c.meet_all-refused.ensures.kept l s.0 t s.1 at_t);
     }
@@ -120,7 +83,7 @@ returns-clause-log g c =
     let config = c.args.config.now in
     let zone = g.Z.GivesZone.zone c.args.zone.now in
     let past = reverse (g.S.Source.given_so_far c.feed_from-stopped.new.source) in
-    let n = length c.join_all-ends.result.items in
+    let n = length c.join_all-ends.result.0.items in
     let count : n ≡ length c.args.deciders.items = c.join_all-ends.ensures.count ∙ c.in-Some-start_deciders.ensures.count in
     let laws : Laws = record {
       due = c.made_of_share.ensures.due;
@@ -130,34 +93,35 @@ returns-clause-log g c =
       named = c.made_of_share.ensures.named;
       order = c.made_of_share.ensures.order;
     } in
-    let ends_are : AreEnds config zone c.args.queues.now past c.join_all-ends.result.items c.feed_from-stopped.new.rings.items =
-    λ d e p at_e at_p.
-    let ends : length c.join_all-ends.result.items ≡ length c.in-Some-start_deciders.ends.items = c.join_all-ends.ensures.count in
-    let count : length c.join_all-ends.result.items ≡ length c.args.deciders.items = ends ∙ c.in-Some-start_deciders.ensures.count in
-    let below = slice_get_within c.join_all-ends.result.items d e at_e in
-    let w = some_at c.args.deciders.items d (subst (λ n. d < n) count below) in
-    let h = some_at c.in-Some-start_deciders.ends.items d (subst (λ n. d < n) ends below) in
-    let p0 = some_at c.args.senders.items d (subst (λ n. d < n) (count ∙ sym c.requires.senders) below) in
-    let kept : HasDecided h.0.promise.config.now (g.Z.GivesZone.zone h.0.promise.zone.now) h.0.promise.share h.0.promise.queues.now h.0.promise.ring.value e = c.join_all-ends.ensures.each d h.0 e h.1 at_e in
-    let its = c.in-Some-start_deciders.ensures.each d w.0 h.0 w.1 h.1 in
-    let pair = c.requires.pairs d w.0 p0.0 w.1 p0.1 in
-    let share : h.0.promise.share ≡ share_of (length c.join_all-ends.result.items) d = its.3 ∙ ap (λ n. share_of n d) (sym count) in
-    let one = subst (λ (k : Config). HasDecided k (g.Z.GivesZone.zone h.0.promise.zone.now) h.0.promise.share h.0.promise.queues.now h.0.promise.ring.value e) its.0 kept in
-    let two = subst (λ (z : Zone). HasDecided c.args.config.now z h.0.promise.share h.0.promise.queues.now h.0.promise.ring.value e) (ap g.Z.GivesZone.zone its.1) one in
-    let three = subst (λ (qs : List LaneQueue). HasDecided c.args.config.now (g.Z.GivesZone.zone c.args.zone.now) h.0.promise.share qs h.0.promise.ring.value e) its.2 two in
-    let mine = subst (λ (s : Share). HasDecided c.args.config.now (g.Z.GivesZone.zone c.args.zone.now) s c.args.queues.now h.0.promise.ring.value e) share three in record {
-      first = h.0.promise.ring.value;
-      decided = mine;
-      pair = pair_still p0.0 p h.0.promise.ring.value e.ring (subst (λ r. IsPair p0.0 r) (sym its.4) pair) (c.feed_from-stopped.ensures.same d p0.0 p p0.1 at_p) mine.ring_same;
-      sent_all = c.feed_from-stopped.ensures.sent d p at_p;
-    } in
+    let ended = all_ended (λ h. h.promise.config.now) (λ h. g.Z.GivesZone.zone h.promise.zone.now) (λ h. h.promise.queues.now) (λ h. h.promise.share) (λ h. h.promise.ring.value) (λ h. h.promise.log.value)
+    g.L.DeciderLog.tells c.args.config.now (g.Z.GivesZone.zone c.args.zone.now) c.args.queues.now (reverse (g.S.Source.given_so_far c.feed_from-stopped.new.source))
+    c.args.deciders.items c.args.logs.items c.in-Some-start_deciders.ends.items c.join_all-ends.result.0.items c.join_all-ends.result.1.items c.args.senders.items c.feed_from-stopped.new.rings.items
+    c.in-Some-start_deciders.ensures.count c.requires.logs c.join_all-ends.ensures.count c.join_all-ends.ensures.others c.requires.senders
+    (λ d w h at_w at_h. let its = c.in-Some-start_deciders.ensures.each d w h at_w at_h in (its.0, ap g.Z.GivesZone.zone its.1, its.2, its.3, its.4))
+    c.in-Some-start_deciders.ensures.logs c.join_all-ends.ensures.each c.requires.pairs c.feed_from-stopped.ensures.same c.feed_from-stopped.ensures.sent in
     let log = c.merged_log-log.result.0.items in
-    let merged : c.deref.result.now ≡ c.join_all-ends.result.items = search rules in
+    let merged : c.deref.result.now ≡ c.join_all-ends.result.0.items = search rules in
     let order = subst (λ (es : List DeciderEnd). AreInOrder es → IsInOrder log) merged c.merged_log-log.ensures.order in
-    log_any config zone past c.meet_all-refused.result c.feed_from-stopped.result c.merged_log-log.result.1 c.merged_log-log.result.0.items
-    (λ whole. log_end laws config zone n c.args.queues.now past c.meet_all-refused.result c.join_lanes-served.result.0.items c.join_all-ends.result.items c.merged_log-log.result.0.items c.requires.accepted
-    (subst (λ m. 0 < m) (sym count) c.requires.some) refl (c.meet_all-refused.ensures.met config zone past ends_are) order (subst (λ (es : List DeciderEnd). HasEach es log) merged (c.merged_log-log.ensures.each whole)))
-    c.merged_log-log.ensures.none
+    let some = subst (λ m. 0 < m) (sym count) c.requires.some in
+    let all_met = c.meet_all-refused.ensures.met config zone past ended.0 ended.1 in
+    let served = c.join_lanes-served.result.0.items in
+    let ends = c.join_all-ends.result.0.items in
+    let as_logs : n ≡ length c.args.logs.items = count ∙ sym c.requires.logs in
+    let few : length c.join_all-ends.result.1.items ≤ length c.args.logs.items = (let back = c.join_all-ends.ensures.others in let ends = c.join_all-ends.ensures.count in omega (arith, back, ends, as_logs)) in
+    let begins = told_begins laws config zone n c.args.queues.now past c.meet_all-refused.result served ended.0 ends some refl all_met in
+    let is_log = log_any config zone past c.meet_all-refused.result c.feed_from-stopped.result c.merged_log-log.result.1 (λ o. ended.0 (o % n)) log
+    (told_front laws config zone n c.args.queues.now past c.meet_all-refused.result served ended.0 ends some refl all_met)
+    (λ whole. log_end laws config zone n c.args.queues.now past c.meet_all-refused.result served ended.0 ends some refl all_met log c.requires.accepted order (subst (λ (es : List DeciderEnd). HasEach es log) merged (c.merged_log-log.ensures.each whole)))
+    c.merged_log-log.ensures.none in (
+      ended.0,
+      subst (λ (m : ℕ). HaveTold g.L.DeciderLog.tells config zone m past c.args.logs.items c.join_all-ends.result.1.items ended.0) as_logs (record {
+        few = few;
+        each = ended.2;
+        absent = ended.3;
+        begins = begins;
+      }),
+      subst (λ (m : ℕ). IsLogOf config zone past (c.meet_all-refused.result || (c.feed_from-stopped.result || c.merged_log-log.result.1)) (λ o. ended.0 (o % m)) log) as_logs is_log,
+    )
 
 pub returns-clause-over : goal.returns-clause-over
 returns-clause-over g c = λ m. c.feed_from-stopped.ensures.over (neither_first c.feed_from-stopped.result c.merged_log-log.result.1 m)
