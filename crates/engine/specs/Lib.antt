@@ -1,4 +1,5 @@
 pub mod Lists
+pub mod Logs
 pub mod Lanes
 pub mod Feed
 pub mod FeedLaws

@@ -1,6 +1,6 @@
 //! The engine.
 
-ghost use Rattle.std.specs.Prelude.{◌≡◌, ◌≢◌, ◌≤◌, ℕ, All, Bool, true, false, [], length, reverse, slice_get, IfSome, Some};
+ghost use Rattle.std.specs.Prelude.{◌≡◌, ◌≢◌, ◌≤◌, ℕ, All, Bool, true, false, [], length, reverse, slice_get, IfOk, IfSome, Some};
 ghost use Rattle.due_model.specs.Accepted.{IsAccepted};
 ghost use Rattle.due_model.specs.Proper.{IsProper};
 ghost use Rattle.engine.specs.Due.{BeginsLog, HaveCauses, IsLog, LanesAreDue, LanesBeginDue};
@@ -9,22 +9,25 @@ ghost use Rattle.engine.specs.Feed.{IsFrontRead, IsWhatWasRead, NoneIsAhead, ahe
 ghost use Rattle.engine.specs.Feed.{events_of};
 ghost use Rattle.engine.specs.Lanes.{HaveTaken, channels_on, count_of};
 ghost use Rattle.engine.specs.Lists.{IsFrontOf};
-ghost use Rattle.engine.specs.Run.{IsReadOf, IsRunOf};
+ghost use Rattle.engine.specs.Logs.{given_logs};
+ghost use Rattle.engine.specs.Run.{IsReadOf, IsRunOf, IsToldRunOf};
 ghost use Rattle.engine.specs.Unread.{IsUnread};
 ghost use Rattle.event_feed.specs.Feed.{no_line};
 
 use crate::intake::Intake;
 use crate::limited_feed::LimitedFeed;
+use crate::logs::{Outlets, kept_logs};
 use crate::post::Post;
 use crate::run_end::RunEnd;
 use crate::source_run::{Ran, run_source};
 use channel::Channel;
 use closers::Closers;
+use decider_thread::DeciderLog;
 use delivery_worker::Gate;
 use due_model::config::Config;
 use due_model::zone::Zone;
 use event_feed::{FeedFault, Horizon, OpenHorizon};
-use std::alloc::Global;
+use std::alloc::{AllocError, Global};
 use std::sync::Wait;
 use std::thread::Threads;
 use std::time::Clock;
@@ -158,38 +161,149 @@ impl Engine {
             (channels_on (λ post. post.lane.0) (λ post. post.channel) l posts.items) cs.items }
         ensures places { length result.1.items ≡ length result.0.lanes.items }
     {
-        let LimitedFeed { reader, horizon } = feed;
-        let Ok(lines) = LineReader::new(alloc, reader) else {
-            return (RunEnd::unread(alloc), Vec::new(alloc));
-        };
-        let Ran {
-            lanes,
-            channels,
-            log,
-            memory,
-            started,
-            source,
-        } = run_source(
+        let logs = kept_logs(alloc, settings.deciders);
+        let (end, channels, _logs) = run_reader(
+            rt, alloc, config, zone, feed, posts, logs, settings, closers, gate,
+        );
+        (end, channels)
+    }
+
+    /// The same, where each decider has a log of its own, which is told what an event suppresses as soon as it is decided. What a log
+    /// was told isn't kept, so the run's log has what comes after it. The logs come back, one for each decider; none where the run
+    /// didn't begin.
+    pub fn run_told<
+        C: Channel,
+        R: Input + Drop,
+        H: Horizon + Drop,
+        L: DeciderLog,
+        G: Gate + Sync,
+        T: Threads + Wait + Clock + Sync,
+    >(
+        rt: &T,
+        alloc: Global,
+        config: &Config,
+        zone: &Zone,
+        feed: LimitedFeed<R, H>,
+        outlets: Outlets<C, L>,
+        settings: Settings,
+        closers: &Closers,
+        gate: &G,
+    ) -> (RunEnd, Vec<Vec<C>>, Vec<L>)
+        requires accepted { IsAccepted config.now }
+        requires few { (l : ℕ) → count_of (λ post. post.lane.0) outlets.posts.items l ≤ 8 }
+        // There is a log for each decider.
+        requires logs { length outlets.logs.items ≡ settings.deciders }
+        // What the logs were told and then the run's log are, of each object, all that was suppressed; the rest is as before.
+        ensures run { IsToldRunOf L.tells config.now zone.now
+            (count_of (λ post. post.lane.0) outlets.posts.items) result.0.events.items result.0.memory
+            result.0.lanes.items outlets.logs.items result.2.items result.0.log.items }
+        ensures read { (far : ℕ → Bool)
+            → ((line : ℕ) → far line ≡ ahead_in result.0.refused.items line)
+            → IsReadOf far R.can_fail config.now (R.remaining feed.reader) result.0.memory
+            result.0.events.items result.0.refused.items result.0.cut }
+        ensures near { H.is_open feed.horizon ≡ true → NoneIsAhead result.0.refused.items }
+        ensures all { result.0.started ≡ true
+            → length result.0.lanes.items ≡ length config.now.lanes }
+        ensures unstarted { result.0.started ≡ false
+            → IsUnread result.0.events.items result.0.refused.items result.0.log.items
+            result.0.lanes.items result.0.memory }
+        ensures channels { (l : ℕ) (lane cs : _) → slice_get result.0.lanes.items l ≡ Some lane
+            → slice_get result.1.items l ≡ Some cs
+            → HaveTaken C.account C.offered settings.tries config.now lane
+            (channels_on (λ post. post.lane.0) (λ post. post.channel) l outlets.posts.items) cs.items }
+        ensures places { length result.1.items ≡ length result.0.lanes.items }
+    {
+        let Outlets { posts, logs } = outlets;
+        run_reader(
             rt,
             alloc,
             config,
             zone,
-            Intake::new(alloc, lines, horizon),
+            feed,
             posts,
+            Ok(logs),
             settings,
             closers,
             gate,
-        );
-        let (events, refused, cut) = source.into_parts(memory);
-        let end = RunEnd {
-            events,
-            refused,
-            log,
-            lanes,
-            memory,
-            cut,
-            started,
-        };
-        (end, channels)
+        )
     }
+}
+
+/// A run over a reader, with these logs, if there was memory for them.
+fn run_reader<
+    C: Channel,
+    R: Input + Drop,
+    H: Horizon + Drop,
+    L: DeciderLog,
+    G: Gate + Sync,
+    T: Threads + Wait + Clock + Sync,
+>(
+    rt: &T,
+    alloc: Global,
+    config: &Config,
+    zone: &Zone,
+    feed: LimitedFeed<R, H>,
+    posts: Vec<Post<C>>,
+    logs: Result<Vec<L>, AllocError>,
+    settings: Settings,
+    closers: &Closers,
+    gate: &G,
+) -> (RunEnd, Vec<Vec<C>>, Vec<L>)
+    requires accepted { IsAccepted config.now }
+    requires few { (l : ℕ) → count_of (λ post. post.lane.0) posts.items l ≤ 8 }
+    requires logs { IfOk logs (λ ls. length ls.items ≡ settings.deciders) }
+    ensures run { IsToldRunOf L.tells config.now zone.now (count_of (λ post. post.lane.0) posts.items)
+        result.0.events.items result.0.memory result.0.lanes.items (given_logs logs) result.2.items
+        result.0.log.items }
+    ensures read { (far : ℕ → Bool)
+        → ((line : ℕ) → far line ≡ ahead_in result.0.refused.items line)
+        → IsReadOf far R.can_fail config.now (R.remaining feed.reader) result.0.memory
+        result.0.events.items result.0.refused.items result.0.cut }
+    ensures near { H.is_open feed.horizon ≡ true → NoneIsAhead result.0.refused.items }
+    ensures all { result.0.started ≡ true
+        → length result.0.lanes.items ≡ length config.now.lanes }
+    ensures unstarted { result.0.started ≡ false
+        → IsUnread result.0.events.items result.0.refused.items result.0.log.items
+        result.0.lanes.items result.0.memory }
+    ensures channels { (l : ℕ) (lane cs : _) → slice_get result.0.lanes.items l ≡ Some lane
+        → slice_get result.1.items l ≡ Some cs
+        → HaveTaken C.account C.offered settings.tries config.now lane
+        (channels_on (λ post. post.lane.0) (λ post. post.channel) l posts.items) cs.items }
+    ensures places { length result.1.items ≡ length result.0.lanes.items }
+{
+    let LimitedFeed { reader, horizon } = feed;
+    let Ok(lines) = LineReader::new(alloc, reader) else {
+        return (RunEnd::unread(alloc), Vec::new(alloc), Vec::new(alloc));
+    };
+    let Ran {
+        lanes,
+        channels,
+        log,
+        logs,
+        memory,
+        started,
+        source,
+    } = run_source(
+        rt,
+        alloc,
+        config,
+        zone,
+        Intake::new(alloc, lines, horizon),
+        posts,
+        logs,
+        settings,
+        closers,
+        gate,
+    );
+    let (events, refused, cut) = source.into_parts(memory);
+    let end = RunEnd {
+        events,
+        refused,
+        log,
+        lanes,
+        memory,
+        cut,
+        started,
+    };
+    (end, channels, logs)
 }

@@ -15,6 +15,7 @@ ghost use Rattle.engine.specs.Lanes.{HaveTaken, channels_on, count_of};
 ghost use Rattle.engine.specs.Unread.{IsUnread};
 
 use crate::engine::Engine;
+use crate::logs::kept_logs;
 use crate::post::Post;
 use crate::run_end::RunEnd;
 use crate::source_run::{Ran, run_source};
@@ -186,6 +187,7 @@ impl Engine {
             lanes,
             channels,
             log,
+            logs: _,
             memory,
             started,
             source,
@@ -196,6 +198,7 @@ impl Engine {
             zone,
             Feeds::new(alloc, ends),
             posts,
+            kept_logs(alloc, settings.deciders),
             settings,
             closers,
             gate,

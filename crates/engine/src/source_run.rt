@@ -7,6 +7,7 @@ ghost use Rattle.due_model.specs.declared.event.Event.{Event};
 ghost use Rattle.due_model.specs.declared.zone.Zone.{Zone};
 ghost use Rattle.due_model.specs.Accepted.{IsAccepted};
 ghost use Rattle.engine.specs.Lanes.{HaveTaken, IsEndOf, LaneParts, channels_on, count_of};
+ghost use Rattle.engine.specs.Logs.{given_logs};
 ghost use Rattle.engine.specs.Run.{AreThreadsEnd, IsRunAfter, IsToldRunOf};
 ghost use Rattle.due_model.specs.declared.notice.Suppression.{Suppression};
 
@@ -59,7 +60,7 @@ pub(crate) fn run_source<
     zone: &Zone,
     source: S,
     posts: Vec<Post<C>>,
-    logs: Vec<L>,
+    logs: Result<Vec<L>, AllocError>,
     settings: Settings,
     closers: &Closers,
     gate: &G,
@@ -67,9 +68,10 @@ pub(crate) fn run_source<
     requires accepted { IsAccepted config.now }
     requires source { S.given_so_far source ≡ [] }
     requires few { (l : ℕ) → count_of (λ post. post.lane.0) posts.items l ≤ 8 }
-    requires logs { length logs.items ≡ settings.deciders }
+    // There is a log for each decider, unless a growth was refused for them: then the run doesn't begin.
+    requires logs { IfOk logs (λ ls. length ls.items ≡ settings.deciders) }
     ensures run { IsToldRunOf L.tells config.now zone.now (count_of (λ post. post.lane.0) posts.items)
-        (S.given_so_far result.source) result.memory result.lanes.items logs.items result.logs.items
+        (S.given_so_far result.source) result.memory result.lanes.items (given_logs logs) result.logs.items
         result.log.items }
     ensures channels { (l : ℕ) (lane cs : _) → slice_get result.lanes.items l ≡ Some lane
         → slice_get result.channels.items l ≡ Some cs
@@ -84,7 +86,7 @@ pub(crate) fn run_source<
         → (result.source ≡ source) × (result.memory ≡ true) × (result.lanes.items ≡ [])
         × (result.log.items ≡ []) }
 {
-    let Ok((channels, counts, room)) = begin(alloc, config, posts) else {
+    let (Ok(logs), Ok((channels, counts, room))) = (logs, begin(alloc, config, posts)) else {
         return nothing(alloc, source);
     };
     let left = run_threads(

@@ -42,7 +42,6 @@ module _ {H L : Type 0} (config_of : H → Config) (zone_of : H → Zone) (queue
     → HasToldAndDecided tells (config_of h) (zone_of h) (its_share h) (queues_of h) (ring_of h) (log_of h) e u)
     (pairs : (d : ℕ) (w : DeciderWork) (p : Producer Signal Global AnyItems) → slice_get works d ≡ Some w → slice_get before d ≡ Some p → IsPair p w.ring)
     (same : AreSame before rings) (sent : HaveSent (heard past ++ Over ∷ []) rings) where
-
   told_by : (d : ℕ) → d < length ends → (told : List Suppression) × ToldBy tells c zone d queues past logs back ends rings told
   told_by d lt =
       let count : length ends ≡ length works = as_ends ∙ started in

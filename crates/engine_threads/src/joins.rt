@@ -25,7 +25,12 @@ fn join_one<T: Drop + Send, P: Promise<Option<T>>, R: Threads + Wait>(
 
 /// Joins all threads, which were told to begin, and keeps both things that each gives back where room was made for them. It takes no
 /// memory.
-pub(crate) fn join_all<T: Drop + Send, U: Drop + Send, P: Promise<Option<(T, U)>>, R: Threads + Wait>(
+pub(crate) fn join_all<
+    T: Drop + Send,
+    U: Drop + Send,
+    P: Promise<Option<(T, U)>>,
+    R: Threads + Wait,
+>(
     rt: &R,
     handles: Vec<PromisedHandle<Option<(T, U)>, P>>,
     room: Vec<T>,

@@ -137,8 +137,8 @@ fn run_scope<
             ensures none { IfErr result (λ s. s ≡ source) }
         {
             drive(
-                scope, rt, alloc, config, zone, source, halt, works, deciders, senders, logs, tries,
-                queues, closers, gate, word,
+                scope, rt, alloc, config, zone, source, halt, works, deciders, senders, logs,
+                tries, queues, closers, gate, word,
             )
         },
     )

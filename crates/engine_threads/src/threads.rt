@@ -55,7 +55,7 @@ pub(crate) struct Driven<C: Channel, S: Source, L: DeciderLog> {
 }
 
 /// Room for the two things that each of so many threads gives back, made before they begin. `None`: a growth was refused.
-fn rooms<T, U>(alloc: Global, count: usize) -> Option<(Vec<T>, Vec<U>)>
+fn rooms<T: Drop, U: Drop>(alloc: Global, count: usize) -> Option<(Vec<T>, Vec<U>)>
     ensures first { IfSome result (λ r. (r.0.items ≡ []) × (count ≤ vec_capacity r.0)) }
     ensures second { IfSome result (λ r. (r.1.items ≡ []) × (count ≤ vec_capacity r.1)) }
 {
@@ -134,9 +134,10 @@ pub(crate) fn drive<
         word.leave();
         return Err(source);
     };
-    let (Some((ended, told)), Some((left, places))) =
-        (rooms(alloc, ends.len()), rooms(alloc, lanes.len()))
-    else {
+    let (Some((ended, told)), Some((left, places))) = (
+        rooms(alloc, ends.len()),
+        rooms(alloc, lanes.len()),
+    ) else {
         word.leave();
         return Err(source);
     };

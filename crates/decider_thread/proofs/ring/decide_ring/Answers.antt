@@ -24,15 +24,19 @@ returns g c =
     let ring : SameConsumer c.args.ring c.decide_all-log.new.ring = search rules in
     let count : length c.put_ends.new.seats ≡ length c.args.queues.now = search rules in
     let last : length c.put_ends.new.seats ≡ c.args.seats.len = search rules in
-    let items = with_items_is (with_items c.args.seats c.decide_all-log.new.seats) c.put_ends.new.seats last in (h.log.told, h.log.are_told, record {
-      past = h.past;
-      all = h.all;
-      older = h.older;
-      whole = h.whole;
-      ring_same = ring;
-      heard_all = h.heard_all;
-      seats = subst (λ (ss : List Seat). HaveEnded c.args.share.decider c.args.queues.now ss (λ l. made_due c.args.config.now c.args.zone.now c.args.share l h.past)) (sym items)
-          (c.put_ends.ensures.ended (λ l. made_due c.args.config.now c.args.zone.now c.args.share l h.past) (subst (λ (ss : List Seat). ArePut c.args.share.decider c.args.queues.now ss (λ _. []) (λ l. made_due c.args.config.now c.args.zone.now c.args.share l h.past)) (sym same) h.seats));
-      count = ap length items ∙ count;
-      log = h.log.both;
-    })
+    let items = with_items_is (with_items c.args.seats c.decide_all-log.new.seats) c.put_ends.new.seats last in (
+      h.log.told,
+      h.log.are_told,
+      record {
+        past = h.past;
+        all = h.all;
+        older = h.older;
+        whole = h.whole;
+        ring_same = ring;
+        heard_all = h.heard_all;
+        seats = subst (λ (ss : List Seat). HaveEnded c.args.share.decider c.args.queues.now ss (λ l. made_due c.args.config.now c.args.zone.now c.args.share l h.past)) (sym items)
+            (c.put_ends.ensures.ended (λ l. made_due c.args.config.now c.args.zone.now c.args.share l h.past) (subst (λ (ss : List Seat). ArePut c.args.share.decider c.args.queues.now ss (λ _. []) (λ l. made_due c.args.config.now c.args.zone.now c.args.share l h.past)) (sym same) h.seats));
+        count = ap length items ∙ count;
+        log = h.log.both;
+      },
+    )

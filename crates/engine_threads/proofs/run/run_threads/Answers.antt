@@ -1,4 +1,4 @@
-use Rattle.std.proofs.Common.{arith, ◌≡◌, ◌<◌, ◌%◌, ◌∙◌, ℕ, List, length, slice_get, Some, ap, refl, subst, sym, reverse}
+use Rattle.std.proofs.Common.{rules, arith, ◌≡◌, ◌<◌, ◌%◌, ◌∙◌, ℕ, List, length, slice_get, Some, ap, refl, subst, sym, reverse}
 use Rattle.std.proofs.lemmas.Option.{none-some, slice_get_within}
 use Rattle.due_model.specs.declared.event.Event.{Event}
 use Rattle.delivery_worker.specs.declared.worker.Served.{Served}
@@ -72,3 +72,8 @@ returns-in-Ok-run_scope-clause-all g c = λ began.
     let works = c.in-Ok.prepared.works.items in
     let lanes = c.in-Ok-run_scope.ensures.lanes (number_of works (λ w. length w.channels.items)) (number_at works (λ w. length w.channels.items)) in
     subst (λ (ss : List Served). length ss ≡ length c.args.config.now.lanes) (sym c.end_of.ensures.lanes) (lanes.count)
+
+pub returns-clause-source : goal.returns-clause-source
+returns-clause-source g c =
+    let kept : c.in-Err.source ≡ c.args.source = search rules in
+    subst (λ s. g.S.Source.goes c.args.config.now c.args.source s) (sym (c.nothing-in-Err.ensures.source ∙ kept)) (g.S.Source.stays c.args.config.now c.args.source)

@@ -1,7 +1,8 @@
-use Rattle.std.proofs.Common.{rules, ◌≡◌, ℕ, ◌++◌, ◌∷◌, [], length, ap, ◌∙◌}
+use Rattle.std.proofs.Common.{rules, ◌≡◌, ℕ, ◌++◌, ◌∷◌, [], length, ap, ◌∙◌, slice_get, Some, sym, subst}
+use Rattle.std.proofs.lemmas.List.{nil_from_length}
 use Rattle.std.specs.Vec.Iter.{into_iter_items}
 use Rattle.decider.specs.declared.share.Share.{Share}
-use Rattle.engine_threads.specs.ListLaws.{both_longer, next_rest, pairs_grow}
+use Rattle.engine_threads.specs.ListLaws.{all_taken, both_longer, next_rest, pairs_grow}
 use Rattle.engine_threads.proofs.StartLaws.{all_logs, more_logs, no_logs, some_left}
 use Rattle.engine_threads.proofs.starts.start_deciders.Goals as goal
 
@@ -27,5 +28,21 @@ loop-work-preserved g c =
       both_longer c.loop-work.yielded c.loop-work.handles.items c.push.new.self.items c.in-Some.work c.in_ok-handle.handle items inv.0,
       rw items (pairs_grow (λ d w h. (h.promise.config.now ≡ c.args.config.now) × (h.promise.zone.now ≡ c.args.zone.now) × (h.promise.queues.now ≡ c.args.queues.now) × (h.promise.share ≡ record { decider = d; deciders = length c.args.works.items }) × (h.promise.ring.value ≡ w.ring)) c.loop-work.yielded c.loop-work.handles.items c.in-Some.work c.in_ok-handle.handle inv.0 inv.1 (config, zone, queues, share, ring)),
       next_rest c.loop-work.yielded c.in-Some.work (into_iter_items c.loop-work.work-iterator) (into_iter_items c.next.new.self) c.args.works.items c.in-Some.ensures.steps.0 inv.2,
-      more_logs (λ h. h.promise.log.value) c.args.logs.items (into_iter_items c.loop-work.rest) (into_iter_items c.next-rest.new.self) c.loop-work.handles.items c.push.new.self.items c.in-Some-next.log c.in_ok-handle.handle c.in-Some-next.ensures.steps.0 items log inv.3,
+      more_logs (λ h. h.promise.log.value) c.args.logs.items (into_iter_items c.loop-work.rest) (into_iter_items c.next-in-loop-work.new.self) c.loop-work.handles.items c.push.new.self.items c.in-Some-next.log c.in_ok-handle.handle c.in-Some-next.ensures.items items log inv.3,
     )
+
+pub returns-clause-each : goal.returns-clause-each
+returns-clause-each g c =
+    let inv = c.loop-work.invariant in
+    let rest = c.loop-work.work-iterator.rest in
+    let none_left : rest.items ≡ [] = nil_from_length rest.items (search rules) in
+    let whole = all_taken c.loop-work.yielded rest.items c.args.works.items none_left inv.2 in
+    λ d w h at_w at_h. inv.1 d w h (subst (λ ws. slice_get ws d ≡ Some w) (sym whole) at_w) at_h
+
+pub returns-clause-logs : goal.returns-clause-logs
+returns-clause-logs g c =
+    let inv = c.loop-work.invariant in
+    let rest = c.loop-work.work-iterator.rest in
+    let none_left : rest.items ≡ [] = nil_from_length rest.items (search rules) in
+    let whole = all_taken c.loop-work.yielded rest.items c.args.works.items none_left inv.2 in
+    all_logs (λ h. h.promise.log.value) c.args.logs.items (into_iter_items c.loop-work.rest) c.loop-work.handles.items (inv.0 ∙ ap length whole ∙ sym c.requires.logs) inv.3

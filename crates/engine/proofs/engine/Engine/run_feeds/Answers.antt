@@ -4,6 +4,7 @@ use Rattle.engine.specs.Lanes.{count_of}
 use Rattle.engine.specs.Run.{IsRunOf}
 use Rattle.engine.specs.Unread.{IsUnread}
 use Rattle.engine.proofs.FeedsLaws.{feeds_done}
+use Rattle.engine.proofs.RunEndLaws.{run_of_kept}
 use Rattle.engine.proofs.engine.Engine.run_feeds.Goals as goal
 
 pub returns : goal.returns
@@ -15,8 +16,9 @@ returns g c =
     let done = feeds_done config c.new.result ran.result.source c.args.ends.items parts.result.1.items parts.result.0.items ran.result.memory parts.result.2 c.new.ensures.ends c.new.ensures.events (c.new.ensures.taken config)
     ran.ensures.source parts.ensures.events parts.ensures.ends
     (λ taken m uncut. parts.ensures.over config taken m (ran.ensures.over m) uncut) (λ taken cut. parts.ensures.cut config taken cut) in
+    let kept = run_of_kept config c.args.zone.now given _ ran.result.memory ran.result.lanes.items _ ran.result.logs.items ran.result.log.items ran.ensures.run in
     let run : IsRunOf config c.args.zone.now given parts.result.0.items ran.result.memory ran.result.lanes.items ran.result.log.items =
-    subst (λ (es : List Event). IsRunOf config c.args.zone.now given es ran.result.memory ran.result.lanes.items ran.result.log.items) (sym parts.ensures.events) ran.ensures.run in
+    subst (λ (es : List Event). IsRunOf config c.args.zone.now given es ran.result.memory ran.result.lanes.items ran.result.log.items) (sym parts.ensures.events) kept in
     let refused = c.new-2.ensures.items in
     let uncut = parts.ensures.uncut in
     let channels = ran.ensures.channels in
