@@ -86,7 +86,10 @@ pub(crate) fn run_source<
         → (result.source ≡ source) × (result.memory ≡ true) × (result.lanes.items ≡ [])
         × (result.log.items ≡ []) }
 {
-    let (Ok(logs), Ok((channels, counts, room))) = (logs, begin(alloc, config, posts)) else {
+    let Ok((channels, counts, room)) = begin(alloc, config, posts) else {
+        return nothing(alloc, source);
+    };
+    let Ok(logs) = logs else {
         return nothing(alloc, source);
     };
     let left = run_threads(

@@ -1,10 +1,11 @@
-use Rattle.std.proofs.Common.{arith, ◌≡◌, ◌<◌, ◌≤◌, ◌%◌, ◌∙◌, List, ap, length, reverse, slice_get, Some, subst, sym, ℕ}
+use Rattle.std.proofs.Common.{arith, rules, ◌≡◌, ◌<◌, ◌≤◌, ◌%◌, ◌∙◌, List, ap, length, reverse, slice_get, Some, subst, sym, ℕ}
 use Rattle.due_model.specs.declared.event.Event.{Event}
 use Rattle.std.proofs.lemmas.Option.{slice_get_within}
 use Rattle.lemmas.proofs.Lists.{some_at}
 use Rattle.engine.specs.Lanes.{HaveTaken, IsEndOf, channels_on, count_of}
 use Rattle.engine.proofs.ChannelLaws.{channels_told, no_channels}
 use Rattle.engine_threads.specs.Told.{HaveTold}
+use Rattle.engine.specs.Logs.{given_logs}
 use Rattle.engine.specs.Run.{IsToldRunOf}
 use Rattle.engine.proofs.PostLaws.{channels_count}
 use Rattle.engine.proofs.source_run.run_source.Goals as goal
@@ -24,7 +25,7 @@ pub end_of-requires-clause-few : goal.end_of-requires-clause-few
 end_of-requires-clause-few g c = let few = c.run_threads-left.ensures.few in let lanes = c.requires.accepted.few_lanes in omega (arith, few, lanes)
 
 pub returns-in_default-clause-run : goal.returns-in_default-clause-run
-returns-in_default-clause-run g c = c.nothing.ensures.run c.args.config.now c.args.zone.now _ _ c.args.logs.items (ap (λ s. g.S.Source.given_so_far s) c.nothing.ensures.source ∙ c.requires.source)
+returns-in_default-clause-run g c = c.nothing.ensures.run c.args.config.now c.args.zone.now _ _ (given_logs c.args.logs) (ap (λ s. g.S.Source.given_so_far s) c.nothing.ensures.source ∙ c.requires.source)
 
 pub returns-clause-run : goal.returns-clause-run
 returns-clause-run g c =
@@ -33,11 +34,13 @@ returns-clause-run g c =
     let end = c.end_of.result in
     let counts = subst (λ ns. (l n : ℕ) → slice_get ns l ≡ Some n → n ≡ count_of (λ post. post.lane.0) c.args.posts.items l) (sym c.deref.ensures.value) c.in-Ok.ensures.each in
     let ran = threads.run given (λ l of_lane at. ap (λ bs. length bs) (c.in-Ok.ensures.channels l of_lane at) ∙ channels_count (λ p. p.lane.0) (λ p. p.channel) l c.args.posts.items) in
-    let logs = c.args.logs.items in
+    let logs = c.in-Ok-logs.logs.items in
+    let same : given_logs c.args.logs ≡ logs = search rules in
     let events = g.S.Source.given_so_far c.run_threads-left.result.source in
     let run = c.end_of.ensures.run c.args.config.now c.args.zone.now given events (λ o. ran.0 (o % length logs)) counts (record { run = ran.2; whole = threads.whole }) in
     let told = subst (λ back. HaveTold g.L.DeciderLog.tells c.args.config.now c.args.zone.now (length logs) (reverse events) logs back ran.0) (sym c.end_of.ensures.logs) ran.1 in
-    subst (λ (es : List Event). IsToldRunOf g.L.DeciderLog.tells c.args.config.now c.args.zone.now given es end.memory end.lanes.items logs end.logs.items end.log.items) (ap (λ s. g.S.Source.given_so_far s) (sym c.end_of.ensures.source)) (ran.0, told, run)
+    subst (λ ls. IsToldRunOf g.L.DeciderLog.tells c.args.config.now c.args.zone.now given (g.S.Source.given_so_far end.source) end.memory end.lanes.items ls end.logs.items end.log.items) (sym same)
+    (subst (λ (es : List Event). IsToldRunOf g.L.DeciderLog.tells c.args.config.now c.args.zone.now given es end.memory end.lanes.items logs end.logs.items end.log.items) (ap (λ s. g.S.Source.given_so_far s) (sym c.end_of.ensures.source)) (ran.0, told, run))
 
 pub returns-in_default-clause-channels : goal.returns-in_default-clause-channels
 returns-in_default-clause-channels g c = λ l lane cs at_lane at_cs. absurd (no_channels c.nothing.result.lanes.items l lane c.nothing.ensures.lanes at_lane)
