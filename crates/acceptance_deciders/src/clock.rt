@@ -58,7 +58,9 @@ fn config(alloc: Global) -> Result<Config, AllocError> {
         lanes: 1,
         contacts: &[ContactRow::FREE],
         objects: objects.as_slice(),
-        ..Rows::NONE
+        periods: &[],
+        escalations: &[],
+        dependencies: &[],
     };
     config_of(alloc, rows)
 }
