@@ -1,0 +1,4 @@
+pub mod BackLaws
+pub mod CutLaws
+pub mod ReadLaws
+pub mod WriteLaws
