@@ -1,9 +1,9 @@
 -- What a journal tells.
-use Rattle.std.specs.Prelude.{◌≡◌, ℕ, ◌+◌, ◌<◌, ◌≤◌, Bool, true, false, List, ◌++◌, filter_map, length, Option, None, Some, Result, Ok, Err, ⊤}
+use Rattle.std.specs.Prelude.{◌≡◌, ℕ, ◌+◌, ◌^◌, ◌<◌, ◌≤◌, ◌⊎◌, Bool, true, false, List, ◌++◌, filter_map, length, Option, None, Some, Result, Ok, Err, ⊤}
 use Rattle.due_model.specs.declared.config.Config.{Config}
 use Rattle.due_model.specs.declared.config.LaneId.{LaneId}
 use Rattle.due_model.specs.declared.notice.Notice.{Notice}
-use Rattle.text_lines.specs.LineReader.{line_limit}
+use Rattle.text_lines.specs.LineReader.{BeginsUnbroken, call_limit, line_limit}
 use Rattle.text_lines.specs.Lines.{BeginsWithLine, IsUnbroken, pieces}
 use Rattle.journal_text.specs.declared.entry.Entry.{Entry}
 use Rattle.journal_text.specs.declared.entry.Entry.TheVariants.{Begun, GivenUp, Taken}
@@ -51,24 +51,40 @@ pub record IsRead (c : Config) (lane : LaneId) (bytes : List ℕ) (read : ReadJo
   pub begun : read.begun.items ≡ begun_in entries
   pub whole : read.whole ≡ whole_length (pieces bytes)
 
+-- a part of the bytes has so many without a newline
+abbrev pub HasUnbroken : ℕ → List ℕ → Type 0
+HasUnbroken count bytes =
+    (before : List ℕ) × (text : List ℕ) × (more : List ℕ) × (bytes ≡ before ++ text ++ more) × IsUnbroken text × (count ≤ length text)
+
+-- so many lines a journal may have, and one less
+abbrev pub line_count : ℕ
+line_count = 4_294_967_296
+
+-- What isn't read, after so many lines that have so many bytes: as many bytes without a newline as a line may take calls, or more lines,
+-- or bytes in them, than may be.
+abbrev pub IsTooMuch : (lines whole : ℕ) → List ℕ → Type 0
+IsTooMuch lines whole bytes =
+    HasUnbroken call_limit bytes ⊎ (line_count < lines + length (pieces bytes)) ⊎ (2 ^ 64 ≤ whole + whole_length (pieces bytes))
+
 -- ---- while it is read
 
 -- what the next line is: one that isn't too long; or what no newline ends; or one that is too long
-abbrev pub Steps : List ℕ → Result Bool JournalFault → (line rest : List ℕ) → Type 0
-Steps bytes (Ok true) line rest = BeginsWithLine bytes line rest × (length line ≤ line_limit)
-Steps bytes (Ok false) line rest = IsUnbroken bytes
-Steps bytes (Err (Line n)) line rest = (text : List ℕ) × BeginsWithLine bytes text rest × (line_limit < length text)
-Steps bytes (Err Unreadable) line rest = ⊤
-Steps bytes (Err NoMemory) line rest = ⊥
+abbrev pub Steps : (can_fail : Bool) → List ℕ → Result Bool JournalFault → (line rest : List ℕ) → Type 0
+Steps can_fail bytes (Ok true) line rest = BeginsWithLine bytes line rest × (length line ≤ line_limit)
+Steps can_fail bytes (Ok false) line rest = IsUnbroken bytes
+Steps can_fail bytes (Err (Line n)) line rest = (text : List ℕ) × BeginsWithLine bytes text rest × (line_limit < length text)
+Steps can_fail bytes (Err Unreadable) line rest = (can_fail ≡ true) ⊎ BeginsUnbroken bytes call_limit
+Steps can_fail bytes (Err NoMemory) line rest = ⊥
 
 -- The next line says this; or no newline ends what comes; or it is the line of this number that says nothing.
-abbrev pub Reads : {X : Type 0} → (said : List ℕ → Option X) → (number : ℕ) → List ℕ → Result (Option X) JournalFault → (line rest : List ℕ) → Type 0
-Reads said number bytes (Ok (Some x)) line rest = BeginsWithLine bytes line rest × (within said line ≡ Some x)
-Reads said number bytes (Ok None) line rest = IsUnbroken bytes
-Reads said number bytes (Err (Line n)) line rest =
+abbrev pub Reads : {X : Type 0} → (can_fail : Bool) → (said : List ℕ → Option X) → (number : ℕ) → List ℕ → Result (Option X) JournalFault
+    → (line rest : List ℕ) → Type 0
+Reads can_fail said number bytes (Ok (Some x)) line rest = BeginsWithLine bytes line rest × (within said line ≡ Some x)
+Reads can_fail said number bytes (Ok None) line rest = IsUnbroken bytes
+Reads can_fail said number bytes (Err (Line n)) line rest =
     (n ≡ number) × (text : List ℕ) × BeginsWithLine bytes text rest × (within said text ≡ None)
-Reads said number bytes (Err Unreadable) line rest = ⊤
-Reads said number bytes (Err NoMemory) line rest = ⊥
+Reads can_fail said number bytes (Err Unreadable) line rest = (can_fail ≡ true) ⊎ BeginsUnbroken bytes call_limit
+Reads can_fail said number bytes (Err NoMemory) line rest = ⊥
 
 -- the entries were added to what was read before
 pub record Gains (old new : ReadJournal) (entries : List Entry) : Type 0 where
@@ -82,12 +98,16 @@ pub record Comes (c : Config) (lane : LaneId) (bytes rest : List ℕ) (number : 
   pub said : put entries (read_from (line_said c lane) number (pieces rest)) ≡ read_from (line_said c lane) 2 (pieces bytes)
   pub gains : Gains old new entries
   pub whole : new.whole + whole_length (pieces rest) ≡ old.whole + whole_length (pieces bytes)
+  pub gone : List ℕ
+  pub gone_is : bytes ≡ gone ++ rest
+  pub lines : number + length (pieces rest) ≡ 2 + length (pieces bytes)
 
 -- the lines of bytes from number 2 on were read so
-abbrev pub ReadsEntries : Config → LaneId → (old new : ReadJournal) → (bytes : List ℕ) → Result (Unit {0}) JournalFault → Type 0
-ReadsEntries c lane old new bytes (Ok done) =
+abbrev pub ReadsEntries : (can_fail : Bool) → Config → LaneId → (old new : ReadJournal) → (bytes : List ℕ) → Result (Unit {0}) JournalFault
+    → Type 0
+ReadsEntries can_fail c lane old new bytes (Ok done) =
     (entries : List Entry) × (read_from (line_said c lane) 2 (pieces bytes) ≡ Ok entries) × Gains old new entries
     × (new.whole ≡ old.whole + whole_length (pieces bytes))
-ReadsEntries c lane old new bytes (Err (Line n)) = read_from (line_said c lane) 2 (pieces bytes) ≡ Err n
-ReadsEntries c lane old new bytes (Err Unreadable) = ⊤
-ReadsEntries c lane old new bytes (Err NoMemory) = ⊤
+ReadsEntries can_fail c lane old new bytes (Err (Line n)) = read_from (line_said c lane) 2 (pieces bytes) ≡ Err n
+ReadsEntries can_fail c lane old new bytes (Err Unreadable) = (can_fail ≡ true) ⊎ IsTooMuch 1 old.whole bytes
+ReadsEntries can_fail c lane old new bytes (Err NoMemory) = ⊤

@@ -1,8 +1,8 @@
 //! A lane's journal, read line by line.
 
-ghost use Rattle.std.specs.Prelude.{◌≡◌, ◌+◌, ℕ, [], ◌∷◌, Err, IfOk, IfSome, IsErrOf, None, OnOk};
+ghost use Rattle.std.specs.Prelude.{◌≡◌, ◌+◌, ◌^◌, ◌≤◌, ℕ, [], ◌∷◌, false, Err, IfOk, IfSome, IsErrOf, None, OnOk};
 ghost use Rattle.journal_text.specs.Entries.{entry_said, first_said};
-ghost use Rattle.journal_text.specs.Told.{Gains, IsRead, Reads, ReadsEntries, Steps, journal_said};
+ghost use Rattle.journal_text.specs.Told.{Gains, IsRead, IsTooMuch, Reads, ReadsEntries, Steps, journal_said};
 ghost use Rattle.text_lines.specs.LineReader.{to_come};
 ghost use Rattle.text_lines.specs.Lines.{Known};
 
@@ -13,7 +13,7 @@ use due_model::notice::Notice;
 use std::alloc::{AllocError, Global};
 use text_lines::{Input, LineReader, NextLine, Stop};
 
-/// The most lines that a journal may have.
+/// One line more than a journal may have.
 const LAST_LINE: u64 = 4_294_967_296;
 
 /// Why a journal isn't read.
@@ -21,7 +21,7 @@ const LAST_LINE: u64 = 4_294_967_296;
 pub enum JournalFault {
     /// The whole line of this number, from 1 on, says nothing in this configuration, or isn't of this lane.
     Line(u64),
-    /// The reader failed, a line has over 1,048,576 bytes or took 65,536 calls, or there are over 4,294,967,296 lines.
+    /// The reader failed, a line has over 1,048,576 bytes or took 65,536 calls of it, or there are 4,294,967,296 lines.
     Unreadable,
     /// Memory ran out.
     NoMemory,
@@ -84,6 +84,7 @@ impl ReadJournal {
         ensures gains { Gains self.old self.new [] }
         ensures whole { OnOk result (self.new.whole ≡ self.old.whole + (len + 1)) }
         ensures fault { (n : ℕ) → ¬ IsErrOf result (JournalFault.Line n) }
+        ensures too_many { IsErrOf result JournalFault.Unreadable → 2 ^ 64 ≤ self.old.whole + (len + 1) }
     {
         let Some(len) = (len as u64).checked_add(1) else {
             return Err(JournalFault::Unreadable);
@@ -99,7 +100,7 @@ impl ReadJournal {
 /// Reads the next line, which has this number. False: there is no whole one.
 fn next_line<R: Input + Drop>(lines: &mut LineReader<R>, number: u64) -> Result<bool, JournalFault>
     ensures steps { Known (to_come lines.old) (to_come lines.new)
-        (λ bytes rest. Steps bytes result lines.new.line rest) }
+        (λ bytes rest. Steps R.can_fail bytes result lines.new.line rest) }
     ensures number { (n : ℕ) → IsErrOf result (JournalFault.Line n) → n ≡ number }
 {
     match lines.next_line() {
@@ -107,7 +108,10 @@ fn next_line<R: Input + Drop>(lines: &mut LineReader<R>, number: u64) -> Result<
         NextLine::Long => Err(JournalFault::Line(number)),
         NextLine::Over(Stop::InputEnded) => Ok(false),
         NextLine::Over(Stop::CutLine) => Ok(false),
-        NextLine::Over(_) => Err(JournalFault::Unreadable),
+        NextLine::Over(Stop::ReaderFailed) => Err(JournalFault::Unreadable),
+        NextLine::Over(Stop::TooManyCalls) => Err(JournalFault::Unreadable),
+        NextLine::Over(Stop::TooManyBytes) => Err(JournalFault::Unreadable),
+        NextLine::Over(Stop::TooManyLines) => Err(JournalFault::Unreadable),
     }
 }
 
@@ -118,7 +122,7 @@ fn read_first<R: Input + Drop>(
     lane: LaneId,
 ) -> Result<Option<u64>, JournalFault>
     ensures { Known (to_come lines.old) (to_come lines.new)
-        (λ bytes rest. Reads (first_said config.now lane) 1 bytes result lines.new.line rest) }
+        (λ bytes rest. Reads R.can_fail (first_said config.now lane) 1 bytes result lines.new.line rest) }
 {
     if !next_line(lines, 1)? {
         return Ok(None);
@@ -137,7 +141,7 @@ fn read_entry<R: Input + Drop>(
     number: u64,
 ) -> Result<Option<Entry>, JournalFault>
     ensures { Known (to_come lines.old) (to_come lines.new)
-        (λ bytes rest. Reads (entry_said config.now lane) number bytes result lines.new.line rest) }
+        (λ bytes rest. Reads R.can_fail (entry_said config.now lane) number bytes result lines.new.line rest) }
 {
     if !next_line(lines, number)? {
         return Ok(None);
@@ -156,7 +160,7 @@ fn read_entries<R: Input + Drop>(
     read: &mut ReadJournal,
 ) -> Result<(), JournalFault>
     ensures { Known (to_come lines.old) (to_come lines.new)
-        (λ bytes rest. ReadsEntries config.now lane read.old read.new bytes result) }
+        (λ bytes rest. ReadsEntries R.can_fail config.now lane read.old read.new bytes result) }
 {
     let mut number: u64 = 2;
     while number <= LAST_LINE {
@@ -171,7 +175,8 @@ fn read_entries<R: Input + Drop>(
 }
 
 /// Reads a lane's journal. What stands after the last newline is dropped. It takes memory for its notices alone, and a line's length of
-/// at most 4,096 bytes: the first whole line that says nothing, or is longer, is the fault.
+/// at most 4,096 bytes: the first whole line that says nothing, or is longer, is the fault. A reader that can't fail is unreadable only
+/// where it has too many lines, or 65,536 bytes without a newline.
 pub fn read_journal<R: Input + Drop>(
     alloc: Global,
     config: &Config,
@@ -182,6 +187,8 @@ pub fn read_journal<R: Input + Drop>(
         (λ bytes. IsRead config.now lane bytes read)) }
     ensures refused { (n : ℕ) → IsErrOf result (JournalFault.Line n)
         → IfSome (R.remaining reader) (λ bytes. journal_said config.now lane bytes ≡ Err n) }
+    ensures unreadable { R.can_fail ≡ false → IsErrOf result JournalFault.Unreadable
+        → IfSome (R.remaining reader) (λ bytes. IsTooMuch 0 0 bytes) }
 {
     let mut lines = LineReader::new(alloc, reader)?;
     let mut read = ReadJournal::new(alloc);
