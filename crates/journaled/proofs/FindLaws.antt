@@ -139,9 +139,11 @@ module _ (xs : List Notice) (n : Notice) (start end at : ℕ) (is-at : at ≡ pl
       let last : k < end = not_after (nat_lt k end) refl in
       let length-is : length (slice_range xs start end) ≡ end - start = range_length in (
         omega arith,
-        k - start,
-        omega arith,
-        range_at (k - start) n (omega arith) ∙ ap (λ (i : ℕ). slice_index_or xs i n) (let i : start + (k - start) ≡ k = omega arith in i) ∙ c.2,
+        (
+          k - start,
+          omega arith,
+          range_at (k - start) n (omega arith) ∙ ap (λ (i : ℕ). slice_index_or xs i n) (let i : start + (k - start) ≡ k = omega arith in i) ∙ c.2,
+        ),
       )
     where
       same-place : place (slice_index_or xs c.0 n) ≡ place n

@@ -12,7 +12,7 @@ use Rattle.journal_text.specs.declared.entry.Entry.TheVariants.{Begun, GivenUp, 
 use Rattle.journaled.specs.Claims.{IsHeld, Past, is_new, is_settled, new_of, settled_of}
 use Rattle.journaled.specs.Hands.{Hands, IsHandedOn, IsHeldBack, IsPart, IsTextFor, IsWritten, Part, Tells, last_begun, taken_by, taken_of, told_of}
 use Rattle.journaled.specs.Wrapped.{IsOffered, Wrapped, account_of}
-use Rattle.journaled.specs.HandsLaws.{AreSplit, IsSplit, flat_map-append, nothing_told}
+use Rattle.journaled.specs.HandsLaws.{AreSplit, IsSplit, flat_map-append, nothing_handed, nothing_told}
 
 -- ---- one letter
 
@@ -334,6 +334,28 @@ module _ {C J : Type 0} (account : C → Account) (offered : C → List Offer �
       written = journal;
     }
 
+-- nothing was offered to it
+module _ {C J : Type 0} (account : C → Account) (offered : C → List Offer → C → Type 0) (is_broken : J → Bool)
+    (wrote : J → List Entry → J → Type 0) where
+  pub nothing_offered : (a b : Wrapped C J) → (account b.inner).number ≡ (account a.inner).number
+      → (account b.inner).limit ≡ (account a.inner).limit → b.past ≡ a.past → offered a.inner [] b.inner → wrote a.journal [] b.journal
+      → is_broken b.journal ≡ is_broken a.journal → b.kept.taken ≡ a.kept.taken → IsOffered account offered is_broken wrote a [] b
+  nothing_offered a b same limit past inner journal broken kept = record {
+    outer = record { number = same; limit = limit; taken = kept ∙ sym (append-nil a.kept.taken) };
+    past = past;
+    inner = [];
+    entries = [];
+    hands = subst (λ (x : Bool). Hands a.past (account a.inner).limit (is_broken a.journal) x [] [] []) (sym broken)
+        (nothing_handed a.past (account a.inner).limit (is_broken a.journal));
+    handed = inner;
+    written = journal;
+  }
+
+  -- what it was is another name of it
+  pub of_same : (old a b : Wrapped C J) (offers : List Offer) → a ≡ old → IsOffered account offered is_broken wrote a offers b
+      → IsOffered account offered is_broken wrote old offers b
+  of_same old a b offers is h = subst (λ (x : Wrapped C J). IsOffered account offered is_broken wrote x offers b) is h
+
 -- begun, and then told or not
 pub begun_then : {J : Type 0} (wrote : J → List Entry → J → Type 0) (is_broken : J → Bool)
     → ((a b c : J) (one two : List Entry) → wrote a one b → wrote b two c → wrote a (one ++ two) c)
@@ -354,10 +376,28 @@ chosen_text past limit letter out b None begun text none some same =
 chosen_text past limit letter out b (Some again) begun text none some same =
     text_marked past limit (offer_of letter b) out.text begun (ap (λ (l : Letter). l.text) some ∙ text)
 
+-- one that wasn't about to be handed over before is handed on as it is
+pub chosen_same : (past : Past) (letter out : Letter) (found : Option Letter)
+    → IfSome found (λ again. Contains past.begun letter.notice) → IfNone found (out ≡ letter)
+    → (Contains past.begun letter.notice → ⊥) → out ≡ letter
+chosen_same past letter out None begun same never = same
+chosen_same past letter out (Some again) begun same never = absurd (never begun)
+
 pub chosen_notice : (letter out : Letter) (found : Option Letter) → IfSome found (λ again. again.notice ≡ letter.notice)
     → IfSome found (λ again. out ≡ again) → IfNone found (out ≡ letter) → out.notice ≡ letter.notice
 chosen_notice letter out None notice some same = ap (λ (l : Letter). l.notice) same
 chosen_notice letter out (Some again) notice some same = ap (λ (l : Letter). l.notice) some ∙ notice
+
+-- the same by other names of what earlier runs left, and of the limit
+pub text_is : (past past' : Past) (limit limit' : ℕ) (letter out : Letter) (b : Bool) (found : Option Letter) → past' ≡ past → limit' ≡ limit
+    → IfSome found (λ again. Contains past'.begun letter.notice) → IfSome found (λ again. again.text ≡ again_of letter.text)
+    → IfNone found ((Contains past'.begun letter.notice → ⊥) ⊎ (limit' < length (again_of letter.text)))
+    → IfSome found (λ again. out ≡ again) → IfNone found (out ≡ letter)
+    → IsTextFor past limit (offer_of letter b) out.text
+text_is past past' limit limit' letter out b found p l begun text none some same =
+    subst (λ (q : Past). IsTextFor q limit (offer_of letter b) out.text) p
+    (subst (λ (m : ℕ). IsTextFor past' m (offer_of letter b) out.text) l
+    (chosen_text past' limit' letter out b found begun text none some same))
 
 pub same_notice : {C : Type 0} (offered : C → List Offer → C → Type 0) (x y : C) (letter out : Letter) (b : Bool) → out.notice ≡ letter.notice
     → offered x (offer_of out b ∷ []) y → offered x (record { notice = letter.notice; text = out.text; is_taken = b } ∷ []) y

@@ -82,19 +82,19 @@ once a taken left due order front whole =
 -- a part of what stands in order does
 each_kept : (P : Notice → Type 0) (p : Notice → Bool) (ns : List Notice) → AllByRecursion P ns → AllByRecursion P (filter p ns)
 each_kept P p [] h = tt
-each_kept P p (n ∷ ns) h = by_test (p n)
+each_kept P p (n ∷ ns) h = by_test (p n) (each_kept P p ns h.1)
   where
-    by_test : (b : Bool) → AllByRecursion P (cond b (n ∷ filter p ns) (filter p ns))
-    by_test true = (h.0, each_kept P p ns h.1)
-    by_test false = each_kept P p ns h.1
+    by_test : (b : Bool) → AllByRecursion P (filter p ns) → AllByRecursion P (cond b (n ∷ filter p ns) (filter p ns))
+    by_test true rest = (h.0, rest)
+    by_test false rest = rest
 
 order_kept : (p : Notice → Bool) (ns : List Notice) → IsInOrder ns → IsInOrder (filter p ns)
 order_kept p [] h = tt
-order_kept p (n ∷ ns) h = by_test (p n)
+order_kept p (n ∷ ns) h = by_test (p n) (order_kept p ns h.1)
   where
-    by_test : (b : Bool) → IsInOrder (cond b (n ∷ filter p ns) (filter p ns))
-    by_test true = (each_kept (λ later. settles later n ≡ false) p ns h.0, order_kept p ns h.1)
-    by_test false = order_kept p ns h.1
+    by_test : (b : Bool) → IsInOrder (filter p ns) → IsInOrder (cond b (n ∷ filter p ns) (filter p ns))
+    by_test true rest = (each_kept (λ later. settles later n ≡ false) p ns h.0, rest)
+    by_test false rest = rest
 
 -- only what is of its object settles a notice
 module _ (o : ℕ) where

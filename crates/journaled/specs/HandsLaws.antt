@@ -13,7 +13,7 @@ use Rattle.journaled.specs.Claims.{IsHeld, Past, is_settled, new_of, settled_of}
 use Rattle.journaled.specs.Hands.{Hands, IsPart, Part, Tells, last_begun, taken_by, taken_of, told_by, told_of}
 use Rattle.journaled.specs.Wrapped.{IsOffered, Wrapped, account_of}
 
-flat_map-append : {X Y : Type 0} (f : X → List Y) (xs ys : List X) → flat_map f (xs ++ ys) ≡ flat_map f xs ++ flat_map f ys
+pub flat_map-append : {X Y : Type 0} (f : X → List Y) (xs ys : List X) → flat_map f (xs ++ ys) ≡ flat_map f xs ++ flat_map f ys
 flat_map-append f [] ys = refl
 flat_map-append f (x ∷ xs) ys =
     ap (λ zs. f x ++ zs) (flat_map-append f xs ys) ∙ sym (append_assoc (f x) (flat_map f xs) (flat_map f ys))

@@ -90,6 +90,7 @@ fn marked(
     ensures limit { IfOk result (λ found. IfSome found (λ again. length again.text ≤ limit)) }
     ensures none { IfOk result (λ found. IfNone found
         ((Contains past.now.begun letter.now.notice → ⊥) ⊎ (limit < length (again_of letter.now.text)))) }
+    ensures err { OnErr result (Contains past.now.begun letter.now.notice) }
 {
     if !past.has_begun(&letter.notice) {
         return Ok(None);
@@ -233,6 +234,12 @@ impl<C: Channel, J: Journal + Send> Channel for Journaled<C, J> {
             → (self.new.inner ≡ self.old.inner) × (self.new.journal ≡ self.old.journal) }
         ensures claimed { IsHeld self.old.past letter.now.notice → self.old.closed ≡ false
             → length letter.now.text ≤ (C.account self.old.inner).limit → OnErr result ⊥ }
+        // What is new is handed over, just as it is, unless the journal broke.
+        ensures handed { is_settled self.old.past letter.now.notice ≡ false
+            → (Contains self.old.past.begun letter.now.notice → ⊥) → self.old.closed ≡ false
+            → length letter.now.text ≤ (C.account self.old.inner).limit
+            → J.is_broken self.new.journal ≡ false
+            → C.offered self.old.inner (offer_of letter.now (is_ok result) ∷ []) self.new.inner }
     {
         if letter.text.len() as u64 > self.inner.limit() {
             return Err(Fault::TooLong);

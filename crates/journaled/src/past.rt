@@ -7,6 +7,7 @@ ghost use Rattle.std.specs.List.{list_any};
 ghost use Rattle.journaled.specs.Claims.{IsHeld, is_settled, settles};
 ghost use Rattle.journaled.specs.Places.{IsWithin, place, turn};
 
+use due_model::config::ContactId;
 use due_model::notice::Notice;
 use std::marker::Model;
 
@@ -25,7 +26,7 @@ pub enum Claim {
 #[derive(Drop)]
 pub struct Past {
     from: u64,
-    /// In the order of their places.
+    /// In the order of their places, as the others.
     settled: Vec<Notice>,
     begun: Vec<Notice>,
 }
@@ -44,7 +45,15 @@ impl Model for Past {
       begun = s.begun.items;
     } };
 
-    ghost invariant = { λ s. IsNonDecreasingBy place s.settled.items × All IsWithin s.settled.items };
+    ghost invariant = { λ s. IsNonDecreasingBy place s.settled.items × All IsWithin s.settled.items
+        × IsNonDecreasingBy place s.begun.items };
+}
+
+/// The number of a contact.
+fn number_of(contact: ContactId) -> u16
+    ensures { result ≡ contact.0 }
+{
+    contact.0
 }
 
 /// Where a notice stands among those of its object.
@@ -52,7 +61,7 @@ fn turn_of(notice: &Notice) -> u128
     ensures turn { result ≡ turn notice.now }
     ensures within { IsWithin notice.now }
 {
-    u128::from(notice.event) * 65_536 + u128::from(notice.contact.0)
+    u128::from(notice.event) * 65_536 + u128::from(number_of(notice.contact))
 }
 
 /// Where a notice stands among all: first by objects.
@@ -110,14 +119,14 @@ impl Past {
     pub fn new(from: u64, settled: Vec<Notice>, begun: Vec<Notice>) -> Past
         ensures from { result.from ≡ from }
         ensures settled { IsPermutation settled.items result.settled }
-        ensures begun { result.begun ≡ begun.items }
+        ensures begun { IsPermutation begun.items result.begun }
     {
         let settled = sorted(settled);
         are_within(&settled);
         Past {
             from,
             settled,
-            begun,
+            begun: sorted(begun),
         }
     }
 
@@ -146,7 +155,7 @@ impl Past {
     pub fn has_begun(&self, notice: &Notice) -> bool
         ensures { IsTrue result ↔ Contains self.now.begun notice.now }
     {
-        self.begun.contains(notice)
+        is_among(&self.begun, notice)
     }
 }
 
@@ -162,6 +171,13 @@ fn is_settled_among(settled: &[Notice], notice: &Notice) -> bool
     }
 }
 
+/// Whether it is one of these, just as it is.
+fn holds(notices: &[Notice], notice: &Notice) -> bool
+    ensures { IsTrue result ↔ Contains notices.now notice.now }
+{
+    notices.contains(notice)
+}
+
 /// Whether it was settled, just as it is.
 fn is_among(settled: &[Notice], notice: &Notice) -> bool
     requires { IsNonDecreasingBy place settled.now }
@@ -170,5 +186,5 @@ fn is_among(settled: &[Notice], notice: &Notice) -> bool
     let at = place_of(notice);
     let start = count_before(settled, at);
     let end = count_up_to(settled, at);
-    start <= end && settled[start..end].contains(notice)
+    start <= end && holds(&settled[start..end], notice)
 }
