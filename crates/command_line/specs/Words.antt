@@ -1,5 +1,5 @@
 -- What the words of a command line ask, and which words there are.
-use Rattle.std.specs.Prelude.{◌≡◌, ℕ, ◌<◌, ◌≤◌, ◌^◌, Bool, List, [], ◌∷◌, map, Option, None, Some, pos, true, false, codes, is_some}
+use Rattle.std.specs.Prelude.{◌≡◌, ℕ, ◌<◌, ◌≤◌, ◌^◌, Bool, ◌&&◌, ◌||◌, List, [], ◌∷◌, map, Option, None, Some, pos, true, false, codes, is_none, is_some}
 use Rattle.std.specs.Option.{option_copied, option_map}
 use Rattle.std.specs.Str.Parse.{digits_value, IsNumeral, without_leading_plus}
 use Rattle.clap.specs.Lexer.{usize_max}
@@ -12,6 +12,7 @@ use Rattle.steps.specs.declared.settings.Settings.{Settings}
 use Rattle.steps.specs.Settings.{AreSettings, max_channels}
 use Rattle.clap.specs.declared.builder.action.ArgAction.TheVariants.{SetTrue}
 use Rattle.clap.specs.declared.builder.value_parser.ValueParser.TheVariants.{Signed}
+use Rattle.command_line.specs.declared.words.FeedWords.{FeedWords}
 use Rattle.command_line.specs.declared.words.Request.{Request}
 use Rattle.command_line.specs.declared.words.TryTimes.{TryTimes}
 use Rattle.command_line.specs.declared.words.ZoneWords.{ZoneWords}
@@ -21,13 +22,13 @@ use Rattle.command_line.specs.declared.words.Request.TheVariants.{Replay, Trace,
 abbrev pub request_name : Request → List ℕ
 request_name (Replay objects zone) = codes "replay"
 request_name (Trace settings standbys zone) = codes "trace"
-request_name (Run objects settings zone channels times quiet ahead) = codes "run"
+request_name (Run objects settings zone channels times quiet ahead feed) = codes "run"
 
 -- in a trace fewer channels stand by than a lane may have
 abbrev pub AreSettingsFit : Request → Type 0
 AreSettingsFit (Replay objects zone) = Unit {0}
 AreSettingsFit (Trace settings standbys zone) = standbys < max_channels
-AreSettingsFit (Run objects settings zone channels times quiet ahead) = Unit {0}
+AreSettingsFit (Run objects settings zone channels times quiet ahead feed) = Unit {0}
 
 -- the texts that the options of a command hold of the zone
 pub record IsZoneOf (options : Found) (words : ZoneWords) : Type 0 where
@@ -51,6 +52,12 @@ pub record IsFlag (options : Found) (name : List ℕ) (flag : Bool) : Type 0 whe
   pub left_out : one_text options name ≡ None → flag ≡ false
   pub on : one_text options name ≡ Some (codes "true") → flag ≡ true
   pub off : one_text options name ≡ Some (codes "false") → flag ≡ false
+
+-- what the options of `run` hold of where its feed is read from
+pub record IsFeedOf (options : Found) (feed : FeedWords) : Type 0 where
+  pub file : option_copied feed.file ≡ first_value options (codes "feed")
+  pub follow : IsFlag options (codes "follow") feed.follow
+  pub clock : IsFlag options (codes "clock") feed.clock
 
 -- the numbers that the options of a command hold of a lane
 pub record HoldSettings (options : Found) (settings : Settings) : Type 0 where
@@ -86,8 +93,8 @@ RunLacks options = (deciders : ℕ) → is_some (first_value options (codes "obj
     → HoldsNumber options (codes "deciders") deciders → HoldFitting options deciders → HoldSomeTimes options → ⊥
 
 -- What the options of a command hold: of `replay` the file of the object text, if it is given; of `trace` the settings and
--- how many channels stand by; of `run` the file, the settings, the times, how far ahead a stamp may be, and the channel words; and
--- of each the zone.
+-- how many channels stand by; of `run` the file, the settings, the times, how far ahead a stamp may be, where the feed is read from,
+-- and the channel words; and of each the zone.
 abbrev pub IsRequestOf : Found → Request → Type 0
 IsRequestOf options (Replay objects zone) =
     (option_copied objects ≡ first_value options (codes "objects")) × IsZoneOf options zone
@@ -95,11 +102,11 @@ IsRequestOf options (Trace settings standbys zone) =
     HoldsNumber options (codes "deciders") settings.deciders
     × HoldsNumber options (codes "standbys") standbys
     × HoldSettings options settings × IsZoneOf options zone
-IsRequestOf options (Run objects settings zone channels times quiet ahead) =
+IsRequestOf options (Run objects settings zone channels times quiet ahead feed) =
     (Some objects.now ≡ first_value options (codes "objects"))
     × HoldsNumber options (codes "deciders") settings.deciders × HoldSettings options settings × IsZoneOf options zone
     × HoldTimes options times × IsFlag options (codes "quiet") quiet
-    × HoldsAnyNumber options (codes "ahead") ahead
+    × HoldsAnyNumber options (codes "ahead") ahead × IsFeedOf options feed
     × (option_map (λ words. map (λ word. word.now) words.now) channels
     ≡ option_map raw_values (matched_of options (codes "channel")))
 
@@ -118,7 +125,13 @@ IsMetWith matches name so = (options : Found)
 abbrev pub request_zone : Request → ZoneWords
 request_zone (Replay objects zone) = zone
 request_zone (Trace settings standbys zone) = zone
-request_zone (Run objects settings zone channels times quiet ahead) = zone
+request_zone (Run objects settings zone channels times quiet ahead feed) = zone
+
+-- it says how a file is read as the feed, and names none
+abbrev pub lacks_feed : Request → Bool
+lacks_feed (Replay objects zone) = false
+lacks_feed (Trace settings standbys zone) = false
+lacks_feed (Run objects settings zone channels times quiet ahead feed) = is_none feed.file && (feed.follow || feed.clock)
 
 -- it gives a rule and a file
 abbrev pub AreTwo : ZoneWords → Type 0
@@ -191,16 +204,21 @@ with_try_options app =
     (number_option (codes "timeout") (codes "30") 1 3600))
     (number_option (codes "pause") (codes "1") 0 60)
 
+-- three say where the feed is read from, and how
+abbrev pub with_feed_options : App → App
+with_feed_options app =
+    with_rule (with_rule (with_rule app (text_option (codes "feed"))) (flag_option (codes "follow"))) (flag_option (codes "clock"))
+
 -- `run` has the file of the object text, which must be given, how many deciders there are, how many notices a lane's queue holds,
--- these, how far ahead a stamp may be, `--quiet`, and the channel words
+-- these, how far ahead a stamp may be, `--quiet`, where the feed is read from, and the channel words
 abbrev pub run_words : App
 run_words =
-    with_rule (with_zone (with_rule (with_rule (with_try_options (with_rule (with_rule (with_rule (new_app (codes "run"))
+    with_rule (with_zone (with_feed_options (with_rule (with_rule (with_try_options (with_rule (with_rule (with_rule (new_app (codes "run"))
     (record (text_option (codes "objects")) { required = true }))
     (number_option (codes "deciders") (codes "2") 1 8))
     (number_option (codes "queue") (codes "64") 1 1024)))
     (bare_number_option (codes "ahead") 0 4294967295))
-    (flag_option (codes "quiet")))) (word_list (codes "channel"))
+    (flag_option (codes "quiet"))))) (word_list (codes "channel"))
 
 -- `notify-run` has these three commands, `--version`, no command `help`, and asks for one of the three
 abbrev pub program_words : App

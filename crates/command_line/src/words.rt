@@ -7,7 +7,7 @@ ghost use Rattle.command_line.specs.Words.{AreSettingsFit, IsAskedBy, IsRequestO
 ghost use Rattle.command_line.specs.Words.{HoldFitting, HoldSettings, HoldSomeTimes, HoldTimes};
 ghost use Rattle.command_line.specs.Words.{HoldsAnyNumber, HoldsNumber, bare_number_option};
 ghost use Rattle.command_line.specs.Words.{IsMetWith, RunLacks, flag_option};
-ghost use Rattle.command_line.specs.Words.{TraceLacks};
+ghost use Rattle.command_line.specs.Words.{IsFeedOf, TraceLacks, lacks_feed, with_feed_options};
 ghost use Rattle.command_line.specs.Words.{number_option, program_words, replay_words};
 ghost use Rattle.command_line.specs.Words.{request_name, request_zone, run_words, text_option};
 ghost use Rattle.command_line.specs.Words.{trace_words, with_lane_options, with_try_options, with_zone, word_list};
@@ -79,8 +79,8 @@ where each list is `event:contact`, separated by commas, or `-`.";
 
 /// What `notify-run run --help` says.
 const RUN: &str = "\
-Reads a feed of events from standard input, and sends what they make due: the messages of
-each notification command go to the channel that a word names for it.
+Reads a feed of events from standard input or FILE, and sends what they make due: the
+messages of each notification command go to the channel that a word names for it.
 
   NAME=mailbox:PATH               appended to the file, which is made if it isn't there
   NAME=pager:HOST:PORT            to the peer at that address, which answers each with OK
@@ -127,6 +127,17 @@ pub struct TryTimes {
     pub pause: u8,
 }
 
+/// What a command line says of where the feed of a run is read from.
+#[derive(Clone, Copy, Debug, PartialEq, Eq)]
+pub struct FeedWords<'a> {
+    /// The file; none is standard input.
+    pub file: Option<&'a str>,
+    /// Whether it goes on as the file grows.
+    pub follow: bool,
+    /// Whether a line `CLOCK` is added to the file at each full minute.
+    pub clock: bool,
+}
+
 /// What the program is asked to do.
 #[derive(Clone, Copy, Debug, PartialEq, Eq)]
 pub enum Request<'m, 'a> {
@@ -154,6 +165,7 @@ pub enum Request<'m, 'a> {
         quiet: bool,
         /// How many seconds past the machine's clock the stamp of a line may be at most, if there is a limit.
         ahead: Option<u32>,
+        feed: FeedWords<'a>,
     },
 }
 
@@ -168,6 +180,17 @@ impl<'a> Request<'_, 'a> {
             Request::Run { zone, .. } => zone,
         }
     }
+
+    /// Whether it says how a file is read as the feed, and names none.
+    pub fn lacks_feed(self) -> bool
+        ensures { result ≡ lacks_feed self.entry }
+    {
+        match self {
+            Request::Replay { .. } => false,
+            Request::Trace { .. } => false,
+            Request::Run { feed, .. } => feed.file.is_none() && (feed.follow || feed.clock),
+        }
+    }
 }
 
 /// The option `--NAME` with a text.
@@ -178,6 +201,17 @@ fn text_option<'a>(alloc: Global, name: &'a str, value: &'a str, help: &'a str) 
     Arg::new(alloc, name)
         .long(name)
         .value_name(value)
+        .help(help)
+}
+
+/// The option `--NAME` without a value.
+fn flag_option<'a>(alloc: Global, name: &'a str, help: &'a str) -> Arg<'a>
+    ensures rule { rule_of result ≡ flag_option name.entry.now }
+    ensures local { result.global ≡ false }
+{
+    Arg::new(alloc, name)
+        .long(name)
+        .action(ArgAction::SetTrue)
         .help(help)
 }
 
@@ -353,15 +387,23 @@ fn ahead_option<'a>(alloc: Global) -> Arg<'a>
         )
 }
 
-/// The option that leaves out what a run says before its report.
-fn quiet_option<'a>(alloc: Global) -> Arg<'a>
-    ensures rule { rule_of result ≡ flag_option (codes "quiet") }
-    ensures local { result.global ≡ false }
+/// Adds the options that say where the feed is read from.
+fn with_feed_options<'a>(alloc: Global, command: Command<'a>) -> Result<Command<'a>, AllocError>
+    ensures words { IfOk result (λ command_with.
+        app_of command_with ≡ with_feed_options (app_of command.entry)) }
 {
-    Arg::new(alloc, "quiet")
-        .long("quiet")
-        .action(ArgAction::SetTrue)
-        .help("Says nothing on standard error of what fails as it goes")
+    let file = text_option(
+        alloc,
+        "feed",
+        "FILE",
+        "A file that the feed is read from, in place of standard input",
+    );
+    let follow = "Goes on reading FILE as it grows, until the program is ended";
+    let clock = "Adds a line CLOCK to FILE at each full minute, as long as it is read";
+    command
+        .arg(file)?
+        .arg(flag_option(alloc, "follow", follow))?
+        .arg(flag_option(alloc, "clock", clock))
 }
 
 /// Adds the options that say how a run tries a message: how often, how long at most, and after which pause.
@@ -400,8 +442,10 @@ fn run_command<'a>(alloc: Global) -> Result<Command<'a>, AllocError>
     let with_queue = command.arg(queue_option(alloc, queue))?;
     let with_tries = with_try_options(alloc, with_queue)?;
     let with_ahead = with_tries.arg(ahead_option(alloc))?;
-    let with_quiet = with_ahead.arg(quiet_option(alloc))?;
-    let with_options = with_zone(alloc, with_quiet)?;
+    let quiet = "Says nothing on standard error of what fails as it goes";
+    let with_quiet = with_ahead.arg(flag_option(alloc, "quiet", quiet))?;
+    let with_feed = with_feed_options(alloc, with_quiet)?;
+    let with_options = with_zone(alloc, with_feed)?;
     with_options.arg(channel_words(alloc))
 }
 
@@ -502,6 +546,17 @@ fn ahead_of(options: &ArgMatches<'_>) -> Option<u32>
     options.get_one::<u32>("ahead")
 }
 
+/// What the options of `run` say of where its feed is read from.
+fn feed_words<'a>(options: &ArgMatches<'a>) -> FeedWords<'a>
+    ensures { IsFeedOf (found_of options.now) result }
+{
+    FeedWords {
+        file: options.get_str("feed"),
+        follow: options.get_flag("follow"),
+        clock: options.get_flag("clock"),
+    }
+}
+
 /// What the options of `run` ask.
 fn run_request<'m, 'a>(options: &'m ArgMatches<'a>) -> Option<Request<'m, 'a>>
     ensures named { IfSome result (λ request. request_name request ≡ codes "run") }
@@ -520,6 +575,7 @@ fn run_request<'m, 'a>(options: &'m ArgMatches<'a>) -> Option<Request<'m, 'a>>
         times,
         quiet: options.get_flag("quiet"),
         ahead: ahead_of(options),
+        feed: feed_words(options),
     })
 }
 

@@ -1,11 +1,11 @@
 //! The program `notify-run`: its command line, and how each command ends.
 #![tactic(auto)]
 
-ghost use Rattle.std.specs.Prelude.{◌≡◌, ◌<◌};
+ghost use Rattle.std.specs.Prelude.{◌≡◌, ◌<◌, true};
 ghost use Rattle.std.specs.Process.{exit_status};
 ghost use Rattle.clap.specs.Values.{kind_of};
 ghost use Rattle.command_output.specs.Outcome.{outcome_status};
-ghost use Rattle.command_line.specs.Words.{AreSettingsFit, AreTwo, request_zone};
+ghost use Rattle.command_line.specs.Words.{AreSettingsFit, AreTwo, lacks_feed, request_zone};
 ghost use Rattle.notify_run.specs.Refusal.{refusal_status};
 ghost use Rattle.notify_run.specs.Zones.{IsBadRule, zone_fault_status};
 ghost use Rattle.run_devices.specs.Fault.{run_status};
@@ -13,17 +13,19 @@ ghost use Rattle.steps.specs.Settings.{max_channels};
 
 use clap::error::ErrorKind;
 use command_input::zone_of;
-use command_line::{Request, command, request_of};
+use command_line::{FeedWords, Request, command, request_of};
 use command_output::{AnyWriter, CommandFault, Ending, exit_status};
 use due_model::zone::Zone;
+use feed_file::{Feed, FeedFile, FeedWays};
 use progress::{ProgressLine, Watcher};
 use replay::{replay_files, replay_in};
 use run_devices::{RunFault, RunSettings, do_run};
 use std::alloc::AllocError;
 use std::env;
 use std::fs::File;
-use std::io::IsTerminal;
+use std::io::{self, IsTerminal};
 use std::process::ExitCode;
+use std::rt::Stdin;
 use std::sync::Wait;
 use std::thread::Threads;
 use std::time::Clock;
@@ -137,6 +139,49 @@ fn status_of_run<R: Eprint>(rt: &R, outcome: Result<Ending, RunFault<'_>>) -> Ex
     }
 }
 
+/// The feed of a run: standard input, or the file that is named, from its start.
+fn feed_of(rt: &HostRuntime, feed: FeedWords<'_>, is_quiet: bool) -> io::Result<Feed<Stdin>> {
+    let Some(path) = feed.file else {
+        return Ok(Feed::Input(rt.stdin()));
+    };
+    let ways = FeedWays {
+        follows: feed.follow,
+        keeps_clock: feed.clock,
+        is_quiet,
+    };
+    Ok(Feed::File(FeedFile::open(rt, path, ways)?))
+}
+
+/// Does a run, and gives its exit status. The file of its feed is opened before anything else.
+fn status_of_feed<T: Threads + Wait + Clock + Sync>(
+    rt: &HostRuntime,
+    threads: &T,
+    zone: &Zone,
+    objects: &str,
+    settings: RunSettings,
+    channels: Option<&[&str]>,
+    feed: FeedWords<'_>,
+) -> ExitCode {
+    let Ok(opened) = feed_of(rt, feed, settings.quiet) else {
+        let path = feed.file.unwrap_or("");
+        let _ = rt.eprintln(format_args!("feed: {path}: not opened"));
+        return ExitCode::from(1);
+    };
+    let feed = AnyReader::new(opened);
+    let mut writer = AnyWriter::new(rt.stdout());
+    let outcome = do_run(
+        rt,
+        threads,
+        zone,
+        objects,
+        settings,
+        channels,
+        feed,
+        &mut writer,
+    );
+    status_of_run(rt, outcome.map(|done| done.ending))
+}
+
 /// Does what is asked, and gives the exit status. The zone is read before anything else. The handle is of the machine, and again
 /// that by which threads are started.
 fn status_of_request<T: Threads + Wait + Clock + Sync>(
@@ -147,7 +192,12 @@ fn status_of_request<T: Threads + Wait + Clock + Sync>(
     requires { AreSettingsFit request }
     ensures two { AreTwo (request_zone request.entry) → exit_status result ≡ 2 }
     ensures rule { IsBadRule (request_zone request.entry) → exit_status result ≡ 2 }
+    ensures feed { lacks_feed request.entry ≡ true → exit_status result ≡ 2 }
 {
+    if request.lacks_feed() {
+        let _ = rt.eprintln("usage: --follow and --clock need --feed");
+        return ExitCode::from(2);
+    }
     let words = request.zone();
     let zone = match zone_of(rt, words.rule, words.file) {
         Ok(zone) => zone,
@@ -167,6 +217,7 @@ fn status_of_request<T: Threads + Wait + Clock + Sync>(
             times,
             quiet,
             ahead,
+            feed,
             ..
         } => {
             let settings = RunSettings {
@@ -176,19 +227,7 @@ fn status_of_request<T: Threads + Wait + Clock + Sync>(
                 quiet,
                 ahead,
             };
-            let feed = AnyReader::new(rt.stdin());
-            let mut writer = AnyWriter::new(rt.stdout());
-            let outcome = do_run(
-                rt,
-                threads,
-                &zone,
-                objects,
-                settings,
-                channels,
-                feed,
-                &mut writer,
-            );
-            return status_of_run(rt, outcome.map(|done| done.ending));
+            return status_of_feed(rt, threads, &zone, objects, settings, channels, feed);
         }
     };
     status_of(rt, outcome)
