@@ -104,14 +104,19 @@ const ANSWERS: [(bool, Result<(), Fault>); 6] = [
     (true, Ok(())),
 ];
 
+/// Gives the letters, and compares the answers.
+fn gives_in_turn(rt: &impl Abort, channel: &mut MemoryChannel, letters: &Letters) {
+    for (is_short, answer) in ANSWERS {
+        let letter = if is_short { &letters.up } else { &letters.down };
+        answers(rt, channel, letter, answer, "the answer of a call");
+    }
+    check(rt, has(channel, &[UP, UP, UP], 1), "three, and a failure");
+}
+
 #[test]
 fn memory_fails_at_the_listed_calls(rt: HostRuntime) -> Result<(), AllocError> {
     let letters = Letters::new(rt.alloc())?;
     let mut channel = MemoryChannel::new(rt.alloc(), 78, &[2, 4])?;
-    for (is_short, answer) in ANSWERS {
-        let letter = if is_short { &letters.up } else { &letters.down };
-        answers(&rt, &mut channel, letter, answer, "the answer of a call");
-    }
-    check(&rt, has(&channel, &[UP, UP, UP], 1), "three, and a failure");
+    gives_in_turn(&rt, &mut channel, &letters);
     Ok(())
 }

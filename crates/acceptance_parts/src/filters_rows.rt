@@ -298,21 +298,32 @@ fn worked_out(alloc: Global) -> Result<Vec<Compiled>, AllocError> {
     compile_all(alloc, &config)
 }
 
-#[test]
-fn filters_of_objects(rt: HostRuntime) -> Result<(), Fail> {
-    let all = worked_out(rt.alloc())?;
-    for (view, kind, found) in CHAIN {
+/// Views that several refuse.
+fn first_of_several(rt: &impl Abort, periods: &[Compiled]) {
+    for row in &CHAIN {
+        let (view, kind, found) = *row;
         let case = Case {
             view,
             kind,
             found,
             ..PASSES
         };
-        gives(&rt, all.as_slice(), case);
+        gives(rt, periods, case);
     }
-    for case in MOMENTS {
-        gives(&rt, all.as_slice(), case);
+}
+
+/// Moments at which filters begin and end.
+fn at_moments(rt: &impl Abort, periods: &[Compiled]) {
+    for case in &MOMENTS {
+        gives(rt, periods, *case);
     }
+}
+
+#[test]
+fn filters_of_objects(rt: HostRuntime) -> Result<(), Fail> {
+    let all = worked_out(rt.alloc())?;
+    first_of_several(&rt, all.as_slice());
+    at_moments(&rt, all.as_slice());
     Ok(())
 }
 

@@ -383,7 +383,8 @@ pub(crate) fn all_show(
     what: What,
 ) -> Result<(), AllocError> {
     for case in cases {
-        let text = [before, case.0].concat(alloc)?;
+        let mut text = String::from_str(alloc, before)?;
+        text.push_str(case.0)?;
         shows(rt, alloc, text.as_bytes(), what, case.1)?;
     }
     Ok(())
