@@ -1,0 +1,4 @@
+pub mod Names
+pub mod Left
+pub mod Changed
+pub mod Comparing
