@@ -62,7 +62,10 @@ a minute, and writes who would be told, a notice a line, in order:
 
   local time  number  contact  command  object
 
-These are the notices of `replay` for a feed that says so. Nothing else is known of the
+Then it writes who of those that the configuration names isn't told, why, and when they
+are, if that is within a week.
+
+The rows are the notices of `replay` for a feed that says so. Nothing else is known of the
 site: no problem lasts, nobody has acknowledged one, and there is no downtime. With
 --down HOST that host is down first; its own notices stand among the others. A name or a
 state that isn't known stands there as `R;line;fault`, where the lines are the hosts
