@@ -1,0 +1,4 @@
+pub mod LineLaws
+pub mod ToldLaws
+pub mod TellingLaws
+pub mod TellsLaws
