@@ -1,0 +1,16 @@
+use Rattle.report_forms.proofs.ShownLaws.{err_shown, fails, ok_shown, shows, some_shown}
+use Rattle.report_forms.proofs.show_files.Goals as goal
+
+pub returns-clause-report : goal.returns-clause-report
+returns-clause-report g c =
+    some_shown (g.O.Read.remaining c.args.objects) _ _
+    (λ text known. some_shown (g.R.Read.remaining c.args.feed) _ _
+    (λ bytes h. ok_shown c.tell_files.result _ _ (λ ending told. shows c.args.shown g.R.Input.can_fail text bytes c.args.zone.now ending _ _ told) h) known)
+    c.tell_files.ensures.report
+
+pub returns-clause-fault : goal.returns-clause-fault
+returns-clause-fault g c =
+    some_shown (g.O.Read.remaining c.args.objects) _ _
+    (λ text known. some_shown (g.R.Read.remaining c.args.feed) _ _
+    (λ bytes h. err_shown c.tell_files.result _ _ (λ fault told. fails c.args.shown g.O.Input.can_fail g.R.Input.can_fail text bytes c.args.zone.now fault _ _ told) h) known)
+    c.tell_files.ensures.fault
