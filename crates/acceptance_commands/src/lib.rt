@@ -7,6 +7,8 @@ mod replays;
 #[cfg(test)]
 mod reports;
 #[cfg(test)]
+mod shown;
+#[cfg(test)]
 mod watchers;
 #[cfg(test)]
 mod writers;

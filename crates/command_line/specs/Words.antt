@@ -1,6 +1,7 @@
 -- What the words of a command line ask, and which words there are.
-use Rattle.std.specs.Prelude.{◌≡◌, ℕ, ◌<◌, ◌≤◌, ◌^◌, Bool, List, [], ◌∷◌, map, Option, None, Some, pos, true, false, codes, is_some}
-use Rattle.std.specs.Option.{option_copied, option_map}
+use Rattle.std.specs.Prelude.{◌≡◌, ℕ, ◌<◌, ◌≤◌, ◌^◌, Bool, not, ◌||◌, ◌==◌, List, [], ◌∷◌, map, Option, None, Some, pos, true, false, codes, is_some}
+use Rattle.std.specs.List.{list_all}
+use Rattle.std.specs.Option.{option_copied, option_map, option_map_or}
 use Rattle.std.specs.Str.Parse.{digits_value, IsNumeral, without_leading_plus}
 use Rattle.clap.specs.Lexer.{usize_max}
 use Rattle.clap.specs.Matches.{first_value, matched_of, one_text, raw_values}
@@ -13,19 +14,20 @@ use Rattle.steps.specs.Settings.{AreSettings, max_channels}
 use Rattle.clap.specs.declared.builder.action.ArgAction.TheVariants.{SetTrue}
 use Rattle.clap.specs.declared.builder.value_parser.ValueParser.TheVariants.{Signed}
 use Rattle.command_line.specs.declared.words.Request.{Request}
+use Rattle.command_line.specs.declared.words.ShownWords.{ShownWords}
 use Rattle.command_line.specs.declared.words.TryTimes.{TryTimes}
 use Rattle.command_line.specs.declared.words.ZoneWords.{ZoneWords}
 use Rattle.command_line.specs.declared.words.Request.TheVariants.{Replay, Trace, Run}
 
 -- the name of the command that is asked for
 abbrev pub request_name : Request → List ℕ
-request_name (Replay objects zone) = codes "replay"
+request_name (Replay objects zone shown) = codes "replay"
 request_name (Trace settings standbys zone) = codes "trace"
 request_name (Run objects settings zone channels times quiet ahead) = codes "run"
 
 -- in a trace fewer channels stand by than a lane may have
 abbrev pub AreSettingsFit : Request → Type 0
-AreSettingsFit (Replay objects zone) = Unit {0}
+AreSettingsFit (Replay objects zone shown) = Unit {0}
 AreSettingsFit (Trace settings standbys zone) = standbys < max_channels
 AreSettingsFit (Run objects settings zone channels times quiet ahead) = Unit {0}
 
@@ -33,6 +35,19 @@ AreSettingsFit (Run objects settings zone channels times quiet ahead) = Unit {0}
 pub record IsZoneOf (options : Found) (words : ZoneWords) : Type 0 where
   pub rule : option_copied words.rule ≡ first_value options (codes "zone")
   pub file : option_copied words.file ≡ first_value options (codes "zone-file")
+
+-- A flag is on where it is given, and off where it isn't.
+pub record IsFlag (options : Found) (name : List ℕ) (flag : Bool) : Type 0 where
+  pub left_out : one_text options name ≡ None → flag ≡ false
+  pub on : one_text options name ≡ Some (codes "true") → flag ≡ true
+  pub off : one_text options name ≡ Some (codes "false") → flag ≡ false
+
+-- the texts that they hold of which lines of a report are wanted, and whether each is to be JSON
+pub record IsShownOf (options : Found) (words : ShownWords) : Type 0 where
+  pub only : option_copied words.only ≡ first_value options (codes "only")
+  pub object : option_copied words.object ≡ first_value options (codes "object")
+  pub contact : option_copied words.contact ≡ first_value options (codes "contact")
+  pub json : IsFlag options (codes "json") words.json
 
 -- An option holds the number: what is read of it is the number in decimal digits.
 abbrev pub HoldsNumber : Found → (name : List ℕ) → (number : ℕ) → Type 0
@@ -45,12 +60,6 @@ abbrev pub HoldsAnyNumber : Found → (name : List ℕ) → (number : Option ℕ
 HoldsAnyNumber options name (Some number) = HoldsNumber options name number
 HoldsAnyNumber options name None =
     (number : ℕ) → HoldsNumber options name number → number < 2 ^ 32 → ⊥
-
--- A flag is on where it is given, and off where it isn't.
-pub record IsFlag (options : Found) (name : List ℕ) (flag : Bool) : Type 0 where
-  pub left_out : one_text options name ≡ None → flag ≡ false
-  pub on : one_text options name ≡ Some (codes "true") → flag ≡ true
-  pub off : one_text options name ≡ Some (codes "false") → flag ≡ false
 
 -- the numbers that the options of a command hold of a lane
 pub record HoldSettings (options : Found) (settings : Settings) : Type 0 where
@@ -85,12 +94,13 @@ abbrev pub RunLacks : Found → Type 0
 RunLacks options = (deciders : ℕ) → is_some (first_value options (codes "objects")) ≡ true
     → HoldsNumber options (codes "deciders") deciders → HoldFitting options deciders → HoldSomeTimes options → ⊥
 
--- What the options of a command hold: of `replay` the file of the object text, if it is given; of `trace` the settings and
--- how many channels stand by; of `run` the file, the settings, the times, how far ahead a stamp may be, and the channel words; and
--- of each the zone.
+-- What the options of a command hold: of `replay` the file of the object text, if it is given, and which lines are wanted; of
+-- `trace` the settings and how many channels stand by; of `run` the file, the settings, the times, how far ahead a stamp may be,
+-- and the channel words; and of each the zone.
 abbrev pub IsRequestOf : Found → Request → Type 0
-IsRequestOf options (Replay objects zone) =
+IsRequestOf options (Replay objects zone shown) =
     (option_copied objects ≡ first_value options (codes "objects")) × IsZoneOf options zone
+    × IsShownOf options shown
 IsRequestOf options (Trace settings standbys zone) =
     HoldsNumber options (codes "deciders") settings.deciders
     × HoldsNumber options (codes "standbys") standbys
@@ -116,13 +126,32 @@ IsMetWith matches name so = (options : Found)
 
 -- what it says of the zone
 abbrev pub request_zone : Request → ZoneWords
-request_zone (Replay objects zone) = zone
+request_zone (Replay objects zone shown) = zone
 request_zone (Trace settings standbys zone) = zone
 request_zone (Run objects settings zone channels times quiet ahead) = zone
 
 -- it gives a rule and a file
 abbrev pub AreTwo : ZoneWords → Type 0
 AreTwo words = (is_some words.rule ≡ true) × (is_some words.file ≡ true)
+
+-- They ask for the report as it is.
+abbrev pub is_plain : ShownWords → Bool
+is_plain words =
+    not (is_some words.only || is_some words.object || is_some words.contact || words.json)
+
+-- a line of a report begins with this letter: N, S, C or R
+abbrev pub is_line_letter : ℕ → Bool
+is_line_letter byte = (byte == 78) || (byte == 83) || (byte == 67) || (byte == 82)
+
+-- They ask for lines by letters, and one is none of these.
+abbrev pub has_bad_letters : ShownWords → Bool
+has_bad_letters words =
+    option_map_or (λ letters. not (list_all is_line_letter letters)) (option_copied words.only) false
+
+abbrev pub asks_bad_letters : Request → Bool
+asks_bad_letters (Replay objects zone shown) = has_bad_letters shown
+asks_bad_letters (Trace settings standbys zone) = false
+asks_bad_letters (Run objects settings zone channels times quiet ahead) = false
 
 -- `--NAME NUMBER`, with a number from `least` to `most`, or with `default` where it is left out
 abbrev pub number_option : (name default : List ℕ) → (least most : ℕ) → Rule
@@ -167,9 +196,16 @@ abbrev pub with_zone : App → App
 with_zone app =
     with_rule (with_rule app (text_option (codes "zone"))) (text_option (codes "zone-file"))
 
+-- four say which lines of a report are wanted, and that each is to be JSON
+abbrev pub with_shown : App → App
+with_shown app =
+    with_rule (with_rule (with_rule (with_rule app (text_option (codes "only")))
+    (text_option (codes "object"))) (text_option (codes "contact"))) (flag_option (codes "json"))
+
 -- `replay` has these, and the file of the object text
 abbrev pub replay_words : App
-replay_words = with_zone (with_rule (new_app (codes "replay")) (text_option (codes "objects")))
+replay_words =
+    with_zone (with_shown (with_rule (new_app (codes "replay")) (text_option (codes "objects"))))
 
 -- two say how many notices a lane's queue holds, and how many tries a message has
 abbrev pub with_lane_options : App → App

@@ -1,16 +1,19 @@
 //! The words of a command line, and what they ask.
 
 ghost use Rattle.std.specs.Prelude.{◌≡◌, ◌<◌, ℕ, codes, false, IfNone, IfOk, IfSome, is_some, Some, true};
+ghost use Rattle.std.specs.List.{list_all};
 ghost use Rattle.clap.specs.Matches.{found_of};
 ghost use Rattle.clap.specs.Words.{app_of, rule_of, subcommand_name_of};
 ghost use Rattle.command_line.specs.Words.{AreSettingsFit, IsAskedBy, IsRequestOf, IsZoneOf};
 ghost use Rattle.command_line.specs.Words.{HoldFitting, HoldSettings, HoldSomeTimes, HoldTimes};
 ghost use Rattle.command_line.specs.Words.{HoldsAnyNumber, HoldsNumber, bare_number_option};
-ghost use Rattle.command_line.specs.Words.{IsMetWith, RunLacks, flag_option};
+ghost use Rattle.command_line.specs.Words.{IsMetWith, IsShownOf, RunLacks, flag_option, has_bad_letters};
+ghost use Rattle.command_line.specs.Words.{is_line_letter, is_plain, asks_bad_letters};
 ghost use Rattle.command_line.specs.Words.{TraceLacks};
 ghost use Rattle.command_line.specs.Words.{number_option, program_words, replay_words};
 ghost use Rattle.command_line.specs.Words.{request_name, request_zone, run_words, text_option};
-ghost use Rattle.command_line.specs.Words.{trace_words, with_lane_options, with_try_options, with_zone, word_list};
+ghost use Rattle.command_line.specs.Words.{trace_words, with_lane_options, with_shown, with_try_options};
+ghost use Rattle.command_line.specs.Words.{with_zone, word_list};
 
 use clap::{Arg, ArgAction, ArgMatches, Command, value_parser};
 use std::alloc::{AllocError, Global};
@@ -44,7 +47,11 @@ writes to standard output what would have been sent, line by line of the feed:
 
 Time periods are of local times: UTC, unless a zone is given. The feed is read as it
 comes, and what an event adds is written before more input is waited for, so that
-`tail -f feed | notify-run replay --objects FILE` follows a feed.";
+`tail -f feed | notify-run replay --objects FILE` follows a feed.
+
+--only NC, --object web/http and --contact ann leave out all lines but those that meet
+each condition given; --json writes each line as a JSON object, with the local time
+beside the moment.";
 
 /// What `notify-run trace --help` says.
 const TRACE: &str = "\
@@ -118,6 +125,54 @@ pub struct ZoneWords<'a> {
     pub file: Option<&'a str>,
 }
 
+/// What a command line says of a report's lines: which are wanted, those that meet each condition that is given, and
+/// whether each is to be JSON.
+#[derive(Clone, Copy, Debug, PartialEq, Eq)]
+pub struct ShownWords<'a> {
+    /// Letters of lines.
+    pub only: Option<&'a str>,
+    /// The name of an object.
+    pub object: Option<&'a str>,
+    /// The name of a contact.
+    pub contact: Option<&'a str>,
+    /// Whether each line is to be an object of JSON.
+    pub json: bool,
+}
+
+/// Whether a line of a report begins with this letter.
+fn is_line_letter(letter: u8) -> bool
+    ensures { result ≡ is_line_letter letter }
+{
+    letter == b'N' || letter == b'S' || letter == b'C' || letter == b'R'
+}
+
+/// Whether lines of a report begin with each of these letters.
+fn are_line_letters(letters: &str) -> bool
+    ensures { result ≡ list_all is_line_letter letters.now }
+{
+    letters.as_bytes().iter().all(|byte| is_line_letter(*byte))
+}
+
+impl ShownWords<'_> {
+    /// Whether the report is wanted as it is.
+    pub fn is_plain(self) -> bool
+        ensures { result ≡ is_plain self.entry }
+    {
+        let is_part = self.only.is_some() || self.object.is_some() || self.contact.is_some();
+        !is_part && !self.json
+    }
+
+    /// Whether lines are asked for by letters that aren't all N, S, C or R.
+    pub fn has_bad_letters(self) -> bool
+        ensures { result ≡ has_bad_letters self.entry }
+    {
+        match self.only {
+            None => false,
+            Some(letters) => !are_line_letters(letters),
+        }
+    }
+}
+
 /// How long a run waits for its channels.
 #[derive(Clone, Copy, Debug, PartialEq, Eq)]
 pub struct TryTimes {
@@ -134,6 +189,7 @@ pub enum Request<'m, 'a> {
     Replay {
         objects: Option<&'a str>,
         zone: ZoneWords<'a>,
+        shown: ShownWords<'a>,
     },
     /// A trace.
     Trace {
@@ -168,6 +224,16 @@ impl<'a> Request<'_, 'a> {
             Request::Run { zone, .. } => zone,
         }
     }
+
+    /// Whether it asks for lines of a report by letters that aren't all N, S, C or R.
+    pub fn asks_bad_letters(self) -> bool
+        ensures { result ≡ asks_bad_letters self.entry }
+    {
+        match self {
+            Request::Replay { shown, .. } => shown.has_bad_letters(),
+            _ => false,
+        }
+    }
 }
 
 /// The option `--NAME` with a text.
@@ -178,6 +244,17 @@ fn text_option<'a>(alloc: Global, name: &'a str, value: &'a str, help: &'a str) 
     Arg::new(alloc, name)
         .long(name)
         .value_name(value)
+        .help(help)
+}
+
+/// The option `--NAME` without a value.
+fn flag_option<'a>(alloc: Global, name: &'a str, help: &'a str) -> Arg<'a>
+    ensures rule { rule_of result ≡ flag_option name.entry.now }
+    ensures local { result.global ≡ false }
+{
+    Arg::new(alloc, name)
+        .long(name)
+        .action(ArgAction::SetTrue)
         .help(help)
 }
 
@@ -215,7 +292,39 @@ fn replay_command<'a>(alloc: Global) -> Result<Command<'a>, AllocError>
         .about("What would have been sent, from object text and a feed of events")
         .long_about(REPLAY)
         .arg(objects)?;
-    with_zone(alloc, command)
+    let with_shown = with_shown(alloc, command)?;
+    with_zone(alloc, with_shown)
+}
+
+/// Adds the options that say which lines of a report are wanted, and how they are written.
+fn with_shown<'a>(alloc: Global, command: Command<'a>) -> Result<Command<'a>, AllocError>
+    ensures words { IfOk result (λ command_with.
+        app_of command_with ≡ with_shown (app_of command.entry)) }
+{
+    let only = text_option(
+        alloc,
+        "only",
+        "LETTERS",
+        "Only lines of these letters: N, S, C, R",
+    );
+    let object = text_option(
+        alloc,
+        "object",
+        "NAME",
+        "Only lines of this HOST or HOST/SERVICE",
+    );
+    let contact = text_option(
+        alloc,
+        "contact",
+        "NAME",
+        "Only lines that name this contact",
+    );
+    let json = flag_option(
+        alloc,
+        "json",
+        "Each line as a JSON object, with the local time beside the moment",
+    );
+    command.arg(only)?.arg(object)?.arg(contact)?.arg(json)
 }
 
 /// The option that says how many deciders there are, and how many where it is left out.
@@ -353,17 +462,6 @@ fn ahead_option<'a>(alloc: Global) -> Arg<'a>
         )
 }
 
-/// The option that leaves out what a run says before its report.
-fn quiet_option<'a>(alloc: Global) -> Arg<'a>
-    ensures rule { rule_of result ≡ flag_option (codes "quiet") }
-    ensures local { result.global ≡ false }
-{
-    Arg::new(alloc, "quiet")
-        .long("quiet")
-        .action(ArgAction::SetTrue)
-        .help("Says nothing on standard error of what fails as it goes")
-}
-
 /// Adds the options that say how a run tries a message: how often, how long at most, and after which pause.
 fn with_try_options<'a>(alloc: Global, command: Command<'a>) -> Result<Command<'a>, AllocError>
     ensures words { IfOk result (λ command_with. app_of command_with
@@ -400,7 +498,8 @@ fn run_command<'a>(alloc: Global) -> Result<Command<'a>, AllocError>
     let with_queue = command.arg(queue_option(alloc, queue))?;
     let with_tries = with_try_options(alloc, with_queue)?;
     let with_ahead = with_tries.arg(ahead_option(alloc))?;
-    let with_quiet = with_ahead.arg(quiet_option(alloc))?;
+    let quiet = "Says nothing on standard error of what fails as it goes";
+    let with_quiet = with_ahead.arg(flag_option(alloc, "quiet", quiet))?;
     let with_options = with_zone(alloc, with_quiet)?;
     with_options.arg(channel_words(alloc))
 }
@@ -454,6 +553,18 @@ fn zone_words<'a>(options: &ArgMatches<'a>) -> ZoneWords<'a>
     }
 }
 
+/// What the options of a command say of which lines of a report are wanted.
+fn shown_words<'a>(options: &ArgMatches<'a>) -> ShownWords<'a>
+    ensures { IsShownOf (found_of options.now) result }
+{
+    ShownWords {
+        only: options.get_str("only"),
+        object: options.get_str("object"),
+        contact: options.get_str("contact"),
+        json: options.get_flag("json"),
+    }
+}
+
 /// What the options of `replay` ask.
 fn replay_request<'m, 'a>(options: &'m ArgMatches<'a>) -> Request<'m, 'a>
     ensures named { request_name result ≡ codes "replay" }
@@ -462,6 +573,7 @@ fn replay_request<'m, 'a>(options: &'m ArgMatches<'a>) -> Request<'m, 'a>
     Request::Replay {
         objects: options.get_str("objects"),
         zone: zone_words(options),
+        shown: shown_words(options),
     }
 }
 

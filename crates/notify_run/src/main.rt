@@ -1,25 +1,28 @@
 //! The program `notify-run`: its command line, and how each command ends.
 #![tactic(auto)]
 
-ghost use Rattle.std.specs.Prelude.{◌≡◌, ◌<◌};
+ghost use Rattle.std.specs.Prelude.{◌≡◌, ◌<◌, true};
 ghost use Rattle.std.specs.Process.{exit_status};
 ghost use Rattle.clap.specs.Values.{kind_of};
 ghost use Rattle.command_output.specs.Outcome.{outcome_status};
-ghost use Rattle.command_line.specs.Words.{AreSettingsFit, AreTwo, request_zone};
+ghost use Rattle.command_line.specs.Words.{AreSettingsFit, AreTwo, asks_bad_letters, request_zone};
 ghost use Rattle.notify_run.specs.Refusal.{refusal_status};
+ghost use Rattle.notify_run.specs.Shown.{AreShownBy};
 ghost use Rattle.notify_run.specs.Zones.{IsBadRule, zone_fault_status};
 ghost use Rattle.run_devices.specs.Fault.{run_status};
 ghost use Rattle.steps.specs.Settings.{max_channels};
 
 use clap::error::ErrorKind;
 use command_input::zone_of;
-use command_line::{Request, command, request_of};
+use command_line::{Request, ShownWords, command, request_of};
 use command_output::{AnyWriter, CommandFault, Ending, exit_status};
 use due_model::zone::Zone;
+use line_forms::Picks;
 use progress::{ProgressLine, Watcher};
 use replay::{replay_files, replay_in};
+use report_forms::{LineForm, ShownLines, show_files, show_in};
 use run_devices::{RunFault, RunSettings, do_run};
-use std::alloc::AllocError;
+use std::alloc::{AllocError, Global};
 use std::env;
 use std::fs::File;
 use std::io::IsTerminal;
@@ -81,15 +84,26 @@ fn status_of_zone<R: Eprint>(rt: &R, fault: ZoneFault) -> ExitCode
     }
 }
 
-/// Does a replay: with the object text of a file, or of the input. A terminal at standard error shows how far it is.
-fn do_replay(rt: &HostRuntime, zone: &Zone, objects: Option<&str>) -> Result<Ending, CommandFault> {
+/// Does a replay: with the object text of a file, or of the input; all of its report as it is, or the lines that are wanted, in
+/// the form that is asked for. A terminal at standard error shows how far it is.
+fn do_replay(
+    rt: &HostRuntime,
+    zone: &Zone,
+    objects: Option<&str>,
+    words: ShownWords<'_>,
+) -> Result<Ending, CommandFault> {
     let mut line = ProgressLine::new(rt, rt.stderr().is_terminal());
-    let outcome = replay_through(rt, zone, objects, &mut line);
+    let outcome = if words.is_plain() {
+        replay_through(rt, zone, objects, &mut line)
+    } else {
+        let shown = shown_lines(rt.alloc(), words);
+        show_through(rt, zone, objects, shown, &mut line)
+    };
     line.finish();
     outcome
 }
 
-/// The same, where somebody watches.
+/// Writes all of the report, where somebody watches.
 fn replay_through<P: Watcher>(
     rt: &HostRuntime,
     zone: &Zone,
@@ -107,6 +121,44 @@ fn replay_through<P: Watcher>(
     };
     let objects = AnyReader::new(file);
     replay_files(alloc, zone, objects, input, &mut writer, watcher)
+}
+
+/// Which lines are wanted, and how they are written.
+fn shown_lines(alloc: Global, words: ShownWords<'_>) -> ShownLines<'_>
+    ensures { AreShownBy words result }
+{
+    let form = if words.json {
+        LineForm::Json
+    } else {
+        LineForm::Plain
+    };
+    let picks = Picks {
+        only: words.only,
+        object: words.object,
+        contact: words.contact,
+    };
+    ShownLines { alloc, picks, form }
+}
+
+/// Writes those lines, where somebody watches.
+fn show_through<P: Watcher>(
+    rt: &HostRuntime,
+    zone: &Zone,
+    objects: Option<&str>,
+    shown: ShownLines<'_>,
+    watcher: &mut P,
+) -> Result<Ending, CommandFault> {
+    let alloc = rt.alloc();
+    let input = AnyReader::new(rt.stdin());
+    let mut writer = AnyWriter::new(rt.stdout());
+    let Some(path) = objects else {
+        return show_in(alloc, zone, input, shown, &mut writer, watcher);
+    };
+    let Ok(file) = File::open(rt, path) else {
+        return Err(CommandFault::Unreadable);
+    };
+    let objects = AnyReader::new(file);
+    show_files(alloc, zone, objects, input, shown, &mut writer, watcher)
 }
 
 /// Does a trace.
@@ -137,7 +189,8 @@ fn status_of_run<R: Eprint>(rt: &R, outcome: Result<Ending, RunFault<'_>>) -> Ex
     }
 }
 
-/// Does what is asked, and gives the exit status. The zone is read before anything else. The handle is of the machine, and again
+/// Does what is asked, and gives the exit status. Letters of lines are looked at before the zone is read, and that before
+/// anything else. The handle is of the machine, and again
 /// that by which threads are started.
 fn status_of_request<T: Threads + Wait + Clock + Sync>(
     rt: &HostRuntime,
@@ -147,14 +200,19 @@ fn status_of_request<T: Threads + Wait + Clock + Sync>(
     requires { AreSettingsFit request }
     ensures two { AreTwo (request_zone request.entry) → exit_status result ≡ 2 }
     ensures rule { IsBadRule (request_zone request.entry) → exit_status result ≡ 2 }
+    ensures letters { asks_bad_letters request.entry ≡ true → exit_status result ≡ 2 }
 {
+    if request.asks_bad_letters() {
+        let _ = rt.eprintln("usage: bad letters");
+        return ExitCode::from(2);
+    }
     let words = request.zone();
     let zone = match zone_of(rt, words.rule, words.file) {
         Ok(zone) => zone,
         Err(fault) => return status_of_zone(rt, fault),
     };
     let outcome = match request {
-        Request::Replay { objects, .. } => do_replay(rt, &zone, objects),
+        Request::Replay { objects, shown, .. } => do_replay(rt, &zone, objects, shown),
         Request::Trace {
             settings,
             standbys,

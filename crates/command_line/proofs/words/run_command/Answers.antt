@@ -23,7 +23,7 @@ returns c =
     let far : app_of c.in_ok-with_ahead.with_ahead ≡ with_rule (with_try_options (with_rule (with_rule (with_rule (new_app (codes "run")) (record (text_option (codes "objects")) { required = true })) (number_option (codes "deciders") (codes "2") 1 8)) (number_option (codes "queue") (codes "64") 1 1024))) (bare_number_option (codes "ahead") 0 4294967295) =
     c.in_ok-with_ahead.ensures.shape c.ahead_option.ensures.local ∙ ap₂ with_rule tried c.ahead_option.ensures.rule in
     let quiet : app_of c.in_ok-with_quiet.with_quiet ≡ with_rule (with_rule (with_try_options (with_rule (with_rule (with_rule (new_app (codes "run")) (record (text_option (codes "objects")) { required = true })) (number_option (codes "deciders") (codes "2") 1 8)) (number_option (codes "queue") (codes "64") 1 1024))) (bare_number_option (codes "ahead") 0 4294967295)) (flag_option (codes "quiet")) =
-    c.in_ok-with_quiet.ensures.shape c.quiet_option.ensures.local ∙ ap₂ with_rule far c.quiet_option.ensures.rule in
+    c.in_ok-with_quiet.ensures.shape c.flag_option.ensures.local ∙ ap₂ with_rule far c.flag_option.ensures.rule in
     let zoned : app_of c.in_ok-with_options.with_options ≡ with_zone (with_rule (with_rule (with_try_options (with_rule (with_rule (with_rule (new_app (codes "run")) (record (text_option (codes "objects")) { required = true })) (number_option (codes "deciders") (codes "2") 1 8)) (number_option (codes "queue") (codes "64") 1 1024))) (bare_number_option (codes "ahead") 0 4294967295)) (flag_option (codes "quiet"))) =
     c.in_ok-with_options.ensures.words ∙ ap with_zone quiet in
     record { words = IfOk-weaker c.arg-6.result _ _ (λ r h. h.shape c.channel_words.ensures.local ∙ ap₂ with_rule zoned c.channel_words.ensures.rule) c.arg-6.ensures }
