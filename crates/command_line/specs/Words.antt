@@ -1,5 +1,5 @@
 -- What the words of a command line ask, and which words there are.
-use Rattle.std.specs.Prelude.{◌≡◌, ℕ, ◌<◌, ◌≤◌, ◌^◌, Bool, not, ◌||◌, ◌==◌, List, [], ◌∷◌, map, Option, None, Some, pos, true, false, codes, is_some}
+use Rattle.std.specs.Prelude.{◌≡◌, ℕ, ◌<◌, ◌≤◌, ◌^◌, IfNone, IfSome, Bool, not, ◌||◌, ◌==◌, List, [], ◌∷◌, map, Option, None, Some, pos, true, false, codes, is_some}
 use Rattle.std.specs.List.{list_all}
 use Rattle.std.specs.Option.{option_copied, option_map, option_map_or}
 use Rattle.std.specs.Str.Parse.{digits_value, IsNumeral, without_leading_plus}
@@ -11,25 +11,28 @@ use Rattle.clap.specs.Words.{App, Rule, new_app, new_rule, rows_of, subcommand_r
 use Rattle.clap.specs.Words.{with_rule}
 use Rattle.steps.specs.declared.settings.Settings.{Settings}
 use Rattle.steps.specs.Settings.{AreSettings, max_channels}
-use Rattle.clap.specs.declared.builder.action.ArgAction.TheVariants.{SetTrue}
+use Rattle.clap.specs.declared.builder.action.ArgAction.TheVariants.{Append, SetTrue}
 use Rattle.clap.specs.declared.builder.value_parser.ValueParser.TheVariants.{Signed}
 use Rattle.command_line.specs.declared.words.Request.{Request}
 use Rattle.command_line.specs.declared.words.ShownWords.{ShownWords}
 use Rattle.command_line.specs.declared.words.TryTimes.{TryTimes}
+use Rattle.command_line.specs.declared.words.WhoWords.{WhoWords}
 use Rattle.command_line.specs.declared.words.ZoneWords.{ZoneWords}
-use Rattle.command_line.specs.declared.words.Request.TheVariants.{Replay, Trace, Run}
+use Rattle.command_line.specs.declared.words.Request.TheVariants.{Replay, Trace, Run, Who}
 
 -- the name of the command that is asked for
 abbrev pub request_name : Request → List ℕ
 request_name (Replay objects zone shown) = codes "replay"
 request_name (Trace settings standbys zone) = codes "trace"
 request_name (Run objects settings zone channels times quiet ahead) = codes "run"
+request_name (Who objects zone asked) = codes "who"
 
 -- in a trace fewer channels stand by than a lane may have
 abbrev pub AreSettingsFit : Request → Type 0
 AreSettingsFit (Replay objects zone shown) = Unit {0}
 AreSettingsFit (Trace settings standbys zone) = standbys < max_channels
 AreSettingsFit (Run objects settings zone channels times quiet ahead) = Unit {0}
+AreSettingsFit (Who objects zone asked) = Unit {0}
 
 -- the texts that the options of a command hold of the zone
 pub record IsZoneOf (options : Found) (words : ZoneWords) : Type 0 where
@@ -66,6 +69,11 @@ pub record HoldSettings (options : Found) (settings : Settings) : Type 0 where
   pub queue : HoldsNumber options (codes "queue") settings.queue
   pub tries : HoldsNumber options (codes "tries") settings.tries
 
+-- they hold no moment
+abbrev pub HoldsNoMoment : Found → Type 0
+HoldsNoMoment options =
+    (moment : ℕ) → HoldsNumber options (codes "at") moment → moment < 2 ^ 64 → ⊥
+
 -- The numbers that they hold are settings, with so many deciders.
 abbrev pub HoldFitting : Found → (deciders : ℕ) → Type 0
 HoldFitting options deciders = (queue : ℕ) × (tries : ℕ)
@@ -89,6 +97,27 @@ HoldSomeTimes options = (timeout : ℕ) × (pause : ℕ)
     × HoldsNumber options (codes "timeout") timeout × HoldsNumber options (codes "pause") pause
     × (timeout ≤ 3600) × (pause ≤ 60)
 
+-- the values that the options of `who` hold of what is supposed
+pub record IsWhoOf (options : Found) (asked : WhoWords) : Type 0 where
+  pub object : Some asked.object.now ≡ first_value options (codes "object")
+  pub state : Some asked.state.now ≡ first_value options (codes "state")
+  pub at : IfSome asked.at (HoldsNumber options (codes "at"))
+  pub now : IfNone asked.at (HoldsNoMoment options)
+  pub minutes : HoldsNumber options (codes "for") asked.minutes
+  pub down : option_map (λ words. map (λ word. word.now) words.now) asked.down
+      ≡ option_map raw_values (matched_of options (codes "down"))
+
+-- They suppose nothing: they lack the object or its state, or hold no number of minutes.
+abbrev pub LacksSupposed : Found → Type 0
+LacksSupposed options = (minutes : ℕ) → is_some (first_value options (codes "object")) ≡ true
+    → is_some (first_value options (codes "state")) ≡ true
+    → HoldsNumber options (codes "for") minutes → minutes ≤ 10080 → ⊥
+
+-- The options of `who` make no request: they name no file, or suppose nothing.
+abbrev pub WhoLacks : Found → Type 0
+WhoLacks options =
+    is_some (first_value options (codes "objects")) ≡ true → LacksSupposed options
+
 -- The options of `run` make no request: they name no file, or the numbers that they hold are no settings or no times.
 abbrev pub RunLacks : Found → Type 0
 RunLacks options = (deciders : ℕ) → is_some (first_value options (codes "objects")) ≡ true
@@ -96,7 +125,7 @@ RunLacks options = (deciders : ℕ) → is_some (first_value options (codes "obj
 
 -- What the options of a command hold: of `replay` the file of the object text, if it is given, and which lines are wanted; of
 -- `trace` the settings and how many channels stand by; of `run` the file, the settings, the times, how far ahead a stamp may be,
--- and the channel words; and of each the zone.
+-- and the channel words; of `who` the file and what is supposed; and of each the zone.
 abbrev pub IsRequestOf : Found → Request → Type 0
 IsRequestOf options (Replay objects zone shown) =
     (option_copied objects ≡ first_value options (codes "objects")) × IsZoneOf options zone
@@ -112,6 +141,9 @@ IsRequestOf options (Run objects settings zone channels times quiet ahead) =
     × HoldsAnyNumber options (codes "ahead") ahead
     × (option_map (λ words. map (λ word. word.now) words.now) channels
     ≡ option_map raw_values (matched_of options (codes "channel")))
+IsRequestOf options (Who objects zone asked) =
+    (Some objects.now ≡ first_value options (codes "objects")) × IsZoneOf options zone
+    × IsWhoOf options asked
 
 -- it is what the command that was met asks, with its options
 abbrev pub IsAskedBy : ArgMatches → Request → Type 0
@@ -129,6 +161,7 @@ abbrev pub request_zone : Request → ZoneWords
 request_zone (Replay objects zone shown) = zone
 request_zone (Trace settings standbys zone) = zone
 request_zone (Run objects settings zone channels times quiet ahead) = zone
+request_zone (Who objects zone asked) = zone
 
 -- it gives a rule and a file
 abbrev pub AreTwo : ZoneWords → Type 0
@@ -152,6 +185,7 @@ abbrev pub asks_bad_letters : Request → Bool
 asks_bad_letters (Replay objects zone shown) = has_bad_letters shown
 asks_bad_letters (Trace settings standbys zone) = false
 asks_bad_letters (Run objects settings zone channels times quiet ahead) = false
+asks_bad_letters (Who objects zone asked) = false
 
 -- `--NAME NUMBER`, with a number from `least` to `most`, or with `default` where it is left out
 abbrev pub number_option : (name default : List ℕ) → (least most : ℕ) → Rule
@@ -238,7 +272,32 @@ run_words =
     (bare_number_option (codes "ahead") 0 4294967295))
     (flag_option (codes "quiet")))) (word_list (codes "channel"))
 
--- `notify-run` has these three commands, `--version`, no command `help`, and asks for one of the three
+-- `--NAME TEXT`, any number of times
+abbrev pub text_options : List ℕ → Rule
+text_options name = record (text_option name) { action = Some Append }
+
+-- a word that must be there
+abbrev pub one_word : List ℕ → Rule
+one_word name = record (new_rule name) {
+  required = true;
+  value_names = 1;
+}
+
+-- five say what is supposed: from when on, for how many minutes, which hosts are down, an object and its state
+abbrev pub with_supposed : App → App
+with_supposed app =
+    with_rule (with_rule (with_rule (with_rule (with_rule app
+    (bare_number_option (codes "at") 0 32503679999))
+    (number_option (codes "for") (codes "240") 1 10080))
+    (text_options (codes "down"))) (one_word (codes "object"))) (one_word (codes "state"))
+
+-- `who` has these, and the file of the object text, which must be given
+abbrev pub who_words : App
+who_words =
+    with_zone (with_supposed (with_rule (new_app (codes "who"))
+    (record (text_option (codes "objects")) { required = true })))
+
+-- `notify-run` has these four commands, `--version`, no command `help`, and asks for one of the four
 abbrev pub program_words : App
 program_words = record {
   top = record (new_app (codes "notify-run")).top {
@@ -248,5 +307,5 @@ program_words = record {
     subcommand_required = true;
     arg_required_else_help = true;
   };
-  subs = replay_words.top ∷ trace_words.top ∷ run_words.top ∷ [];
+  subs = replay_words.top ∷ trace_words.top ∷ run_words.top ∷ who_words.top ∷ [];
 }

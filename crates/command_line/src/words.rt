@@ -8,7 +8,9 @@ ghost use Rattle.command_line.specs.Words.{AreSettingsFit, IsAskedBy, IsRequestO
 ghost use Rattle.command_line.specs.Words.{HoldFitting, HoldSettings, HoldSomeTimes, HoldTimes};
 ghost use Rattle.command_line.specs.Words.{HoldsAnyNumber, HoldsNumber, bare_number_option};
 ghost use Rattle.command_line.specs.Words.{IsMetWith, IsShownOf, RunLacks, flag_option, has_bad_letters};
-ghost use Rattle.command_line.specs.Words.{is_line_letter, is_plain, asks_bad_letters};
+ghost use Rattle.command_line.specs.Words.{HoldsNoMoment, IsWhoOf, LacksSupposed, WhoLacks};
+ghost use Rattle.command_line.specs.Words.{asks_bad_letters, is_line_letter, is_plain};
+ghost use Rattle.command_line.specs.Words.{one_word, text_options, who_words, with_supposed};
 ghost use Rattle.command_line.specs.Words.{TraceLacks};
 ghost use Rattle.command_line.specs.Words.{number_option, program_words, replay_words};
 ghost use Rattle.command_line.specs.Words.{request_name, request_zone, run_words, text_option};
@@ -52,6 +54,19 @@ comes, and what an event adds is written before more input is waited for, so tha
 --only NC, --object web/http and --contact ann leave out all lines but those that meet
 each condition given; --json writes each line as a JSON object, with the local time
 beside the moment.";
+
+/// What `notify-run who --help` says.
+const WHO: &str = "\
+Supposes that an object goes into a state and stays in it while a clock goes on, a line
+a minute, and writes who would be told, a notice a line, in order:
+
+  local time  number  contact  command  object
+
+These are the notices of `replay` for a feed that says so. Nothing else is known of the
+site: no problem lasts, nobody has acknowledged one, and there is no downtime. With
+--down HOST that host is down first; its own notices stand among the others. A name or a
+state that isn't known stands there as `R;line;fault`, where the lines are the hosts
+that are down, and then the object's.";
 
 /// What `notify-run trace --help` says.
 const TRACE: &str = "\
@@ -173,6 +188,21 @@ impl ShownWords<'_> {
     }
 }
 
+/// What a command line supposes.
+#[derive(Clone, Copy, Debug, PartialEq, Eq)]
+pub struct WhoWords<'m, 'a> {
+    /// The object whose state is supposed: `host` or `host/service`.
+    pub object: &'a str,
+    /// Its state, as a feed has it.
+    pub state: &'a str,
+    /// From when on it is in the state, in seconds since the epoch; none is from now on.
+    pub at: Option<u64>,
+    /// For how many minutes: 1 to 10,080.
+    pub minutes: u16,
+    /// The hosts that are down all the while, if there are some.
+    pub down: Option<&'m [&'a str]>,
+}
+
 /// How long a run waits for its channels.
 #[derive(Clone, Copy, Debug, PartialEq, Eq)]
 pub struct TryTimes {
@@ -211,6 +241,12 @@ pub enum Request<'m, 'a> {
         /// How many seconds past the machine's clock the stamp of a line may be at most, if there is a limit.
         ahead: Option<u32>,
     },
+    /// Who would be told, of the object text in the file.
+    Who {
+        objects: &'a str,
+        zone: ZoneWords<'a>,
+        asked: WhoWords<'m, 'a>,
+    },
 }
 
 impl<'a> Request<'_, 'a> {
@@ -222,6 +258,7 @@ impl<'a> Request<'_, 'a> {
             Request::Replay { zone, .. } => zone,
             Request::Trace { zone, .. } => zone,
             Request::Run { zone, .. } => zone,
+            Request::Who { zone, .. } => zone,
         }
     }
 
@@ -473,6 +510,89 @@ fn with_try_options<'a>(alloc: Global, command: Command<'a>) -> Result<Command<'
         .arg(pause_option(alloc))
 }
 
+/// The option that says from when on something is supposed.
+fn at_option<'a>(alloc: Global) -> Arg<'a>
+    ensures rule { rule_of result ≡ bare_number_option (codes "at") 0 32503679999 }
+    ensures local { result.global ≡ false }
+{
+    Arg::new(alloc, "at")
+        .long("at")
+        .value_name("SECONDS")
+        .value_parser(value_parser!(u64).range(0..=32_503_679_999))
+        .help("From when on, in seconds since the epoch; from now on, where it is left out")
+}
+
+/// The option that says for how long something is supposed.
+fn for_option<'a>(alloc: Global) -> Arg<'a>
+    ensures rule { rule_of result ≡ number_option (codes "for") (codes "240") 1 10080 }
+    ensures local { result.global ≡ false }
+{
+    Arg::new(alloc, "for")
+        .long("for")
+        .value_name("MINUTES")
+        .value_parser(value_parser!(u16).range(1..=10_080))
+        .default_value("240")
+        .help("For how long, 1 to 10080 minutes")
+}
+
+/// The option that says that a host is down, any number of times.
+fn down_option<'a>(alloc: Global) -> Arg<'a>
+    ensures rule { rule_of result ≡ text_options (codes "down") }
+    ensures local { result.global ≡ false }
+{
+    text_option(
+        alloc,
+        "down",
+        "HOST",
+        "A host that is down all the while; may be given again",
+    )
+    .action(ArgAction::Append)
+}
+
+/// A word that must be there.
+fn one_word<'a>(alloc: Global, name: &'a str, value: &'a str, help: &'a str) -> Arg<'a>
+    ensures rule { rule_of result ≡ one_word name.entry.now }
+    ensures local { result.global ≡ false }
+{
+    Arg::new(alloc, name)
+        .value_name(value)
+        .required(true)
+        .help(help)
+}
+
+/// Adds the options and words that say what is supposed.
+fn with_supposed<'a>(alloc: Global, command: Command<'a>) -> Result<Command<'a>, AllocError>
+    ensures words { IfOk result (λ command_with.
+        app_of command_with ≡ with_supposed (app_of command.entry)) }
+{
+    let object = one_word(alloc, "object", "OBJECT", "HOST or HOST/SERVICE");
+    let state = one_word(
+        alloc,
+        "state",
+        "STATE",
+        "Its state, as a feed has it: DOWN, CRITICAL, ..",
+    );
+    command
+        .arg(at_option(alloc))?
+        .arg(for_option(alloc))?
+        .arg(down_option(alloc))?
+        .arg(object)?
+        .arg(state)
+}
+
+/// The command `who`, its options and its words.
+fn who_command<'a>(alloc: Global) -> Result<Command<'a>, AllocError>
+    ensures words { IfOk result (λ command. app_of command ≡ who_words) }
+{
+    let objects = text_option(alloc, "objects", "FILE", "The file of object text").required(true);
+    let command = Command::new(alloc, "who")
+        .about("Who would be told, and when, if an object went into a state")
+        .long_about(WHO)
+        .arg(objects)?;
+    let with_supposed = with_supposed(alloc, command)?;
+    with_zone(alloc, with_supposed)
+}
+
 /// The words of channels, of which there may be any number.
 fn channel_words<'a>(alloc: Global) -> Arg<'a>
     ensures rule { rule_of result ≡ word_list (codes "channel") }
@@ -518,7 +638,8 @@ pub fn command<'a>(alloc: Global) -> Result<Command<'a>, AllocError>
         .arg_required_else_help(true)
         .subcommand(replay_command(alloc)?)?
         .subcommand(trace_command(alloc)?)?
-        .subcommand(run_command(alloc)?)
+        .subcommand(run_command(alloc)?)?
+        .subcommand(who_command(alloc)?)
 }
 
 /// The settings of so many deciders and of the options of a lane. Each option has a default, and its range is that of the
@@ -635,6 +756,53 @@ fn run_request<'m, 'a>(options: &'m ArgMatches<'a>) -> Option<Request<'m, 'a>>
     })
 }
 
+/// The moment that the options of `who` hold, if they hold one.
+fn moment_given(options: &ArgMatches<'_>) -> Option<u64>
+    ensures held { IfSome result (λ moment.
+        HoldsNumber (found_of options.now) (codes "at") moment) }
+    ensures lacking { IfNone result (HoldsNoMoment (found_of options.now)) }
+{
+    options.get_one::<u64>("at")
+}
+
+/// How many minutes the options of `who` hold.
+fn minutes_given(options: &ArgMatches<'_>) -> Option<u16>
+    ensures held { IfSome result (λ minutes.
+        HoldsNumber (found_of options.now) (codes "for") minutes) }
+    ensures lacking { IfNone result ((minutes : ℕ)
+        → HoldsNumber (found_of options.now) (codes "for") minutes → minutes < 65536 → ⊥) }
+{
+    options.get_one::<u16>("for")
+}
+
+/// What the options of `who` suppose.
+fn who_asked<'m, 'a>(options: &'m ArgMatches<'a>) -> Option<WhoWords<'m, 'a>>
+    ensures held { IfSome result (IsWhoOf (found_of options.now)) }
+    ensures lacking { IfNone result (LacksSupposed (found_of options.now)) }
+{
+    Some(WhoWords {
+        object: options.get_str("object")?,
+        state: options.get_str("state")?,
+        at: moment_given(options),
+        minutes: minutes_given(options)?,
+        down: options.get_strs("down"),
+    })
+}
+
+/// What the options of `who` ask.
+fn who_request<'m, 'a>(options: &'m ArgMatches<'a>) -> Option<Request<'m, 'a>>
+    ensures named { IfSome result (λ request. request_name request ≡ codes "who") }
+    ensures options { IfSome result (IsRequestOf (found_of options.now)) }
+    ensures settings { IfSome result AreSettingsFit }
+    ensures lacking { IfNone result (WhoLacks (found_of options.now)) }
+{
+    Some(Request::Who {
+        objects: options.get_str("objects")?,
+        zone: zone_words(options),
+        asked: who_asked(options)?,
+    })
+}
+
 /// What a command line that was read asks.
 pub fn request_of<'m, 'a>(matches: &'m ArgMatches<'a>) -> Option<Request<'m, 'a>>
     ensures settings { IfSome result AreSettingsFit }
@@ -647,11 +815,14 @@ pub fn request_of<'m, 'a>(matches: &'m ArgMatches<'a>) -> Option<Request<'m, 'a>
         → IsMetWith matches.now (codes "trace") TraceLacks) }
     ensures run { IfNone result (subcommand_name_of matches.now ≡ Some (codes "run")
         → IsMetWith matches.now (codes "run") RunLacks) }
+    ensures who { IfNone result (subcommand_name_of matches.now ≡ Some (codes "who")
+        → IsMetWith matches.now (codes "who") WhoLacks) }
 {
     match matches.subcommand() {
         Some(("replay", options)) => Some(replay_request(options)),
         Some(("trace", options)) => trace_request(options),
         Some(("run", options)) => run_request(options),
+        Some(("who", options)) => who_request(options),
         _ => None,
     }
 }

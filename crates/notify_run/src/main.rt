@@ -1,10 +1,11 @@
 //! The program `notify-run`: its command line, and how each command ends.
 #![tactic(auto)]
 
-ghost use Rattle.std.specs.Prelude.{◌≡◌, ◌<◌, true};
+ghost use Rattle.std.specs.Prelude.{◌≡◌, ◌<◌, ◌≤◌, true, IfSome};
 ghost use Rattle.std.specs.Process.{exit_status};
 ghost use Rattle.clap.specs.Values.{kind_of};
 ghost use Rattle.command_output.specs.Outcome.{outcome_status};
+ghost use Rattle.due_model.specs.Limits.{last_moment};
 ghost use Rattle.command_line.specs.Words.{AreSettingsFit, AreTwo, asks_bad_letters, request_zone};
 ghost use Rattle.notify_run.specs.Refusal.{refusal_status};
 ghost use Rattle.notify_run.specs.Shown.{AreShownBy};
@@ -14,10 +15,12 @@ ghost use Rattle.steps.specs.Settings.{max_channels};
 
 use clap::error::ErrorKind;
 use command_input::zone_of;
-use command_line::{Request, ShownWords, command, request_of};
+use command_line::{Request, ShownWords, WhoWords, command, request_of};
 use command_output::{AnyWriter, CommandFault, Ending, exit_status};
+use due_model::limits::LAST_MOMENT;
 use due_model::zone::Zone;
 use line_forms::Picks;
+use made_feed::Supposed;
 use progress::{ProgressLine, Watcher};
 use replay::{replay_files, replay_in};
 use report_forms::{LineForm, ShownLines, show_files, show_in};
@@ -29,10 +32,11 @@ use std::io::IsTerminal;
 use std::process::ExitCode;
 use std::sync::Wait;
 use std::thread::Threads;
-use std::time::Clock;
+use std::time::{Clock, SystemTime, UNIX_EPOCH};
 use steps::Settings;
 use text_lines::AnyReader;
 use trace::trace_in;
+use who_told::{object_parts, who};
 use zone_times::given::ZoneFault;
 
 /// Says on standard error what a command failed with, if it did, and gives its exit status.
@@ -175,6 +179,67 @@ fn do_trace(
     trace_in(rt.alloc(), zone, settings, standbys, input, &mut writer)
 }
 
+/// The moment of a clock, in seconds since the epoch.
+fn moment_of<T: Clock>(clock: &T) -> Option<u64>
+    ensures { IfSome result (λ moment. moment ≤ last_moment) }
+{
+    let now = SystemTime::now(clock).ok()?;
+    let since = now.duration_since(UNIX_EPOCH).ok()?;
+    Some(since.as_secs().min(LAST_MOMENT))
+}
+
+/// Writes who would be told of what is asked, from the moment on.
+fn do_who(
+    rt: &HostRuntime,
+    zone: &Zone,
+    objects: &str,
+    asked: WhoWords<'_, '_>,
+    moment: u64,
+) -> Result<Ending, CommandFault>
+    requires { moment ≤ last_moment }
+{
+    let Ok(file) = File::open(rt, objects) else {
+        return Err(CommandFault::Unreadable);
+    };
+    let (host, service) = object_parts(asked.object);
+    let supposed = Supposed {
+        down: asked.down.unwrap_or(&[]),
+        host,
+        service,
+        state: asked.state,
+        moment,
+        minutes: u32::from(asked.minutes),
+    };
+    let mut writer = AnyWriter::new(rt.stdout());
+    who(
+        rt.alloc(),
+        zone,
+        AnyReader::new(file),
+        &supposed,
+        &mut writer,
+    )
+}
+
+/// Writes who would be told, from the moment that is asked for on, or from now on, and gives the exit status.
+fn status_of_who<T: Clock>(
+    rt: &HostRuntime,
+    clock: &T,
+    zone: &Zone,
+    objects: &str,
+    asked: WhoWords<'_, '_>,
+) -> ExitCode {
+    match asked.at.or_else(|| moment_of(clock)) {
+        Some(moment) => status_of(
+            rt,
+            do_who(rt, zone, objects, asked, moment.min(LAST_MOMENT)),
+        ),
+        None => {
+            let _ = rt.eprintln("usage: no clock");
+            ExitCode::from(2)
+        }
+    }
+}
+
 /// Says on standard error what a run failed with, if it did, and gives its exit status.
 fn status_of_run<R: Eprint>(rt: &R, outcome: Result<Ending, RunFault<'_>>) -> ExitCode
     ensures { exit_status result ≡ run_status outcome.entry }
@@ -218,6 +283,9 @@ fn status_of_request<T: Threads + Wait + Clock + Sync>(
             standbys,
             ..
         } => do_trace(rt, &zone, settings, standbys),
+        Request::Who { objects, asked, .. } => {
+            return status_of_who(rt, threads, &zone, objects, asked);
+        }
         Request::Run {
             objects,
             settings,

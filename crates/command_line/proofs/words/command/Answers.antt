@@ -32,7 +32,10 @@ returns c =
     let run_is = c.in_ok-run_command.ensures.words in
     let trace_added = c.in_ok-subcommand-2.ensures.shape (third_is_false _ _ _ _ (ap (λ (a : App). a.top.is_plain) trace_is))
     ∙ ap₂ with_subcommand replay_added (ap (λ (a : App). a.top) trace_is) in
+    let who_is = c.in_ok-who_command.ensures.words in
+    let run_added = c.in_ok-subcommand-3.ensures.shape (third_is_false _ _ _ _ (ap (λ (a : App). a.top.is_plain) run_is))
+    ∙ ap₂ with_subcommand trace_added (ap (λ (a : App). a.top) run_is) in
     record {
-      words = IfOk-weaker c.subcommand-3.result _ _ (λ r h. h.shape (third_is_false _ _ _ _ (ap (λ (a : App). a.top.is_plain) run_is))
-          ∙ ap₂ with_subcommand trace_added (ap (λ (a : App). a.top) run_is)) c.subcommand-3.ensures;
+      words = IfOk-weaker c.subcommand-4.result _ _ (λ r h. h.shape (third_is_false _ _ _ _ (ap (λ (a : App). a.top.is_plain) who_is))
+          ∙ ap₂ with_subcommand run_added (ap (λ (a : App). a.top) who_is)) c.subcommand-4.ensures;
     }

@@ -1,6 +1,6 @@
 use Rattle.std.proofs.Common.{List, Some, codes, ap, sym, ℕ, ◌∙◌}
 use Rattle.clap.specs.Matches.{found_of}
-use Rattle.command_line.specs.Words.{RunLacks, TraceLacks}
+use Rattle.command_line.specs.Words.{RunLacks, TraceLacks, WhoLacks}
 use Rattle.command_line.proofs.RequestLemmas.{is-asked, none-asked, some-asked}
 use Rattle.command_line.proofs.words.request_of.Goals as goal
 
@@ -33,3 +33,21 @@ returns-in-Some-run-default-clause-run c =
     let met = c.in-Some-run-default in
     none-asked c.args.matches.now (found_of met.options.now) (codes "run") c.run_request.result RunLacks (ap (λ (n : List ℕ). Some n) (sym met.is-run) ∙ met.ensures.name) met.ensures.rows
     c.run_request.ensures.lacking
+
+pub returns-in-Some-who-default-clause-asked : goal.returns-in-Some-who-default-clause-asked
+returns-in-Some-who-default-clause-asked c =
+    let met = c.in-Some-who-default in
+    some-asked c.args.matches.now (found_of met.options.now) (codes "who") c.who_request.result (ap (λ (n : List ℕ). Some n) (sym met.is-who) ∙ met.ensures.name) met.ensures.rows
+    c.who_request.ensures.named c.who_request.ensures.options
+
+pub returns-in-Some-trace-default-clause-trace : goal.returns-in-Some-trace-default-clause-trace
+returns-in-Some-trace-default-clause-trace c =
+    let met = c.in-Some-trace-default in
+    none-asked c.args.matches.now (found_of met.options.now) (codes "trace") c.trace_request.result TraceLacks (ap (λ (n : List ℕ). Some n) (sym met.is-trace) ∙ met.ensures.name) met.ensures.rows
+    c.trace_request.ensures.lacking
+
+pub returns-in-Some-who-default-clause-who : goal.returns-in-Some-who-default-clause-who
+returns-in-Some-who-default-clause-who c =
+    let met = c.in-Some-who-default in
+    none-asked c.args.matches.now (found_of met.options.now) (codes "who") c.who_request.result WhoLacks (ap (λ (n : List ℕ). Some n) (sym met.is-who) ∙ met.ensures.name) met.ensures.rows
+    c.who_request.ensures.lacking

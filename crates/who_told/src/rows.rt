@@ -1,0 +1,88 @@
+//! The teller that writes a row for each notice.
+
+ghost use Rattle.std.specs.Prelude.{◌≡◌, ◌++◌, OnOk};
+ghost use Rattle.who_told.specs.Who.{notice_row, row_text};
+
+use due_model::config::Config;
+use due_model::notice::Notice;
+use line_forms::{ReportLine, push_plain};
+use local_text::push_local;
+use messages::entries::Entry;
+use notice_text::texts::{contact_name, lane_name, push_notice_number, push_object};
+use report_telling::Teller;
+use std::alloc::AllocError;
+use zone_times::clock::ZoneClock;
+
+/// Writes a row for each notice, and what is refused of the feed.
+#[derive(Clone, Copy, Drop)]
+pub struct Rows;
+
+impl Teller for Rows {
+    ghost use Rattle.std.specs.Prelude.{[]};
+    ghost use Rattle.who_told.specs.Who.{row_text};
+
+    ghost told = { λ _ config zone line. row_text config zone line };
+
+    ghost after = { λ rows _ _ _. rows };
+
+    ghost ended = { λ _ _ _. [] };
+
+    fn tell(
+        &mut self,
+        config: &Config,
+        clock: &ZoneClock<'_>,
+        line: &ReportLine,
+        text: &mut Vec<u8>,
+    ) -> Result<(), AllocError> {
+        push_row(text, config, clock, line)
+    }
+
+    fn end(
+        &mut self,
+        _config: &Config,
+        _clock: &ZoneClock<'_>,
+        _text: &mut Vec<u8>,
+    ) -> Result<(), AllocError> {
+        Ok(())
+    }
+}
+
+/// Adds what is written of a line of the report.
+fn push_row(
+    text: &mut Vec<u8>,
+    config: &Config,
+    clock: &ZoneClock<'_>,
+    line: &ReportLine,
+) -> Result<(), AllocError>
+    ensures { OnOk result
+        (text.new.items ≡ text.old.items ++ row_text config.now clock.now line.now) }
+{
+    match line {
+        ReportLine::Decided(Entry::Sent(notice)) => push_notice_row(text, config, clock, notice),
+        ReportLine::Decided(Entry::Withheld(_)) => Ok(()),
+        ReportLine::Refused(_) => push_plain(text, config, line),
+    }
+}
+
+/// Adds the row of a notice.
+#[tactic(auto, unfolding(crate::specs::Who::notice_row))]
+fn push_notice_row(
+    text: &mut Vec<u8>,
+    config: &Config,
+    clock: &ZoneClock<'_>,
+    notice: &Notice,
+) -> Result<(), AllocError>
+    ensures { OnOk result
+        (text.new.items ≡ text.old.items ++ notice_row config.now clock.now notice.now) }
+{
+    push_local(text, clock, notice.moment)?;
+    text.extend_from_slice(b"  ")?;
+    push_notice_number(text, notice.number)?;
+    text.extend_from_slice(b"  ")?;
+    text.extend_from_slice(contact_name(config, notice.contact))?;
+    text.extend_from_slice(b"  ")?;
+    text.extend_from_slice(lane_name(config, notice.lane))?;
+    text.extend_from_slice(b"  ")?;
+    push_object(text, config, notice.object)?;
+    text.extend_from_slice(b"\n")
+}
