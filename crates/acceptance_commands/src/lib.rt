@@ -11,4 +11,6 @@ mod shown;
 #[cfg(test)]
 mod watchers;
 #[cfg(test)]
+mod who;
+#[cfg(test)]
 mod writers;

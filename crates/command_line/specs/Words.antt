@@ -69,11 +69,6 @@ pub record HoldSettings (options : Found) (settings : Settings) : Type 0 where
   pub queue : HoldsNumber options (codes "queue") settings.queue
   pub tries : HoldsNumber options (codes "tries") settings.tries
 
--- they hold no moment
-abbrev pub HoldsNoMoment : Found → Type 0
-HoldsNoMoment options =
-    (moment : ℕ) → HoldsNumber options (codes "at") moment → moment < 2 ^ 64 → ⊥
-
 -- The numbers that they hold are settings, with so many deciders.
 abbrev pub HoldFitting : Found → (deciders : ℕ) → Type 0
 HoldFitting options deciders = (queue : ℕ) × (tries : ℕ)
@@ -101,17 +96,16 @@ HoldSomeTimes options = (timeout : ℕ) × (pause : ℕ)
 pub record IsWhoOf (options : Found) (asked : WhoWords) : Type 0 where
   pub object : Some asked.object.now ≡ first_value options (codes "object")
   pub state : Some asked.state.now ≡ first_value options (codes "state")
-  pub at : IfSome asked.at (HoldsNumber options (codes "at"))
-  pub now : IfNone asked.at (HoldsNoMoment options)
-  pub minutes : HoldsNumber options (codes "for") asked.minutes
+  pub at : option_copied asked.at ≡ first_value options (codes "at")
+  pub lasting : Some asked.lasting.now ≡ first_value options (codes "for")
   pub down : option_map (λ words. map (λ word. word.now) words.now) asked.down
       ≡ option_map raw_values (matched_of options (codes "down"))
 
--- They suppose nothing: they lack the object or its state, or hold no number of minutes.
+-- They suppose nothing: they lack the object, its state or how long it lasts.
 abbrev pub LacksSupposed : Found → Type 0
-LacksSupposed options = (minutes : ℕ) → is_some (first_value options (codes "object")) ≡ true
+LacksSupposed options = is_some (first_value options (codes "object")) ≡ true
     → is_some (first_value options (codes "state")) ≡ true
-    → HoldsNumber options (codes "for") minutes → minutes ≤ 10080 → ⊥
+    → is_some (first_value options (codes "for")) ≡ true → ⊥
 
 -- The options of `who` make no request: they name no file, or suppose nothing.
 abbrev pub WhoLacks : Found → Type 0
@@ -276,6 +270,10 @@ run_words =
 abbrev pub text_options : List ℕ → Rule
 text_options name = record (text_option name) { action = Some Append }
 
+-- `--for TEXT`, four hours where it is left out
+abbrev pub length_option : Rule
+length_option = record (text_option (codes "for")) { defaults = codes "4h" ∷ [] }
+
 -- a word that must be there
 abbrev pub one_word : List ℕ → Rule
 one_word name = record (new_rule name) {
@@ -283,12 +281,11 @@ one_word name = record (new_rule name) {
   value_names = 1;
 }
 
--- five say what is supposed: from when on, for how many minutes, which hosts are down, an object and its state
+-- five say what is supposed: from when on, for how long, which hosts are down, an object and its state
 abbrev pub with_supposed : App → App
 with_supposed app =
     with_rule (with_rule (with_rule (with_rule (with_rule app
-    (bare_number_option (codes "at") 0 32503679999))
-    (number_option (codes "for") (codes "240") 1 10080))
+    (text_option (codes "at"))) length_option)
     (text_options (codes "down"))) (one_word (codes "object"))) (one_word (codes "state"))
 
 -- `who` has these, and the file of the object text, which must be given

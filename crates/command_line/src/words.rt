@@ -8,7 +8,7 @@ ghost use Rattle.command_line.specs.Words.{AreSettingsFit, IsAskedBy, IsRequestO
 ghost use Rattle.command_line.specs.Words.{HoldFitting, HoldSettings, HoldSomeTimes, HoldTimes};
 ghost use Rattle.command_line.specs.Words.{HoldsAnyNumber, HoldsNumber, bare_number_option};
 ghost use Rattle.command_line.specs.Words.{IsMetWith, IsShownOf, RunLacks, flag_option, has_bad_letters};
-ghost use Rattle.command_line.specs.Words.{HoldsNoMoment, IsWhoOf, LacksSupposed, WhoLacks};
+ghost use Rattle.command_line.specs.Words.{IsWhoOf, LacksSupposed, WhoLacks, length_option};
 ghost use Rattle.command_line.specs.Words.{asks_bad_letters, is_line_letter, is_plain};
 ghost use Rattle.command_line.specs.Words.{one_word, text_options, who_words, with_supposed};
 ghost use Rattle.command_line.specs.Words.{TraceLacks};
@@ -195,10 +195,10 @@ pub struct WhoWords<'m, 'a> {
     pub object: &'a str,
     /// Its state, as a feed has it.
     pub state: &'a str,
-    /// From when on it is in the state, in seconds since the epoch; none is from now on.
-    pub at: Option<u64>,
-    /// For how many minutes: 1 to 10,080.
-    pub minutes: u16,
+    /// From when on it is in the state: a moment; none is from now on.
+    pub at: Option<&'a str>,
+    /// For how long: a length of time.
+    pub lasting: &'a str,
     /// The hosts that are down all the while, if there are some.
     pub down: Option<&'m [&'a str]>,
 }
@@ -512,27 +512,29 @@ fn with_try_options<'a>(alloc: Global, command: Command<'a>) -> Result<Command<'
 
 /// The option that says from when on something is supposed.
 fn at_option<'a>(alloc: Global) -> Arg<'a>
-    ensures rule { rule_of result ≡ bare_number_option (codes "at") 0 32503679999 }
+    ensures rule { rule_of result ≡ text_option (codes "at") }
     ensures local { result.global ≡ false }
 {
-    Arg::new(alloc, "at")
-        .long("at")
-        .value_name("SECONDS")
-        .value_parser(value_parser!(u64).range(0..=32_503_679_999))
-        .help("From when on, in seconds since the epoch; from now on, where it is left out")
+    text_option(
+        alloc,
+        "at",
+        "TIME",
+        "From when on: 2026-11-29T00:11, by the zone's clock, or with an offset, or seconds since the epoch; from now on, where it is left out",
+    )
 }
 
 /// The option that says for how long something is supposed.
 fn for_option<'a>(alloc: Global) -> Arg<'a>
-    ensures rule { rule_of result ≡ number_option (codes "for") (codes "240") 1 10080 }
+    ensures rule { rule_of result ≡ length_option }
     ensures local { result.global ≡ false }
 {
-    Arg::new(alloc, "for")
-        .long("for")
-        .value_name("MINUTES")
-        .value_parser(value_parser!(u16).range(1..=10_080))
-        .default_value("240")
-        .help("For how long, 1 to 10080 minutes")
+    text_option(
+        alloc,
+        "for",
+        "LENGTH",
+        "For how long, a minute to a week: 90s, 30m, 1h 30m, 168h",
+    )
+    .default_value("4h")
 }
 
 /// The option that says that a host is down, any number of times.
@@ -756,25 +758,6 @@ fn run_request<'m, 'a>(options: &'m ArgMatches<'a>) -> Option<Request<'m, 'a>>
     })
 }
 
-/// The moment that the options of `who` hold, if they hold one.
-fn moment_given(options: &ArgMatches<'_>) -> Option<u64>
-    ensures held { IfSome result (λ moment.
-        HoldsNumber (found_of options.now) (codes "at") moment) }
-    ensures lacking { IfNone result (HoldsNoMoment (found_of options.now)) }
-{
-    options.get_one::<u64>("at")
-}
-
-/// How many minutes the options of `who` hold.
-fn minutes_given(options: &ArgMatches<'_>) -> Option<u16>
-    ensures held { IfSome result (λ minutes.
-        HoldsNumber (found_of options.now) (codes "for") minutes) }
-    ensures lacking { IfNone result ((minutes : ℕ)
-        → HoldsNumber (found_of options.now) (codes "for") minutes → minutes < 65536 → ⊥) }
-{
-    options.get_one::<u16>("for")
-}
-
 /// What the options of `who` suppose.
 fn who_asked<'m, 'a>(options: &'m ArgMatches<'a>) -> Option<WhoWords<'m, 'a>>
     ensures held { IfSome result (IsWhoOf (found_of options.now)) }
@@ -783,8 +766,8 @@ fn who_asked<'m, 'a>(options: &'m ArgMatches<'a>) -> Option<WhoWords<'m, 'a>>
     Some(WhoWords {
         object: options.get_str("object")?,
         state: options.get_str("state")?,
-        at: moment_given(options),
-        minutes: minutes_given(options)?,
+        at: options.get_str("at"),
+        lasting: options.get_str("for")?,
         down: options.get_strs("down"),
     })
 }

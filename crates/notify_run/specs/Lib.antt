@@ -1,3 +1,4 @@
 pub mod Refusal
 pub mod Zones
 pub mod Shown
+pub mod Times

@@ -9,6 +9,7 @@ ghost use Rattle.due_model.specs.Limits.{last_moment};
 ghost use Rattle.command_line.specs.Words.{AreSettingsFit, AreTwo, asks_bad_letters, request_zone};
 ghost use Rattle.notify_run.specs.Refusal.{refusal_status};
 ghost use Rattle.notify_run.specs.Shown.{AreShownBy};
+ghost use Rattle.notify_run.specs.Times.{IsBadLength, IsBadTime};
 ghost use Rattle.notify_run.specs.Zones.{IsBadRule, zone_fault_status};
 ghost use Rattle.run_devices.specs.Fault.{run_status};
 ghost use Rattle.steps.specs.Settings.{max_channels};
@@ -19,6 +20,7 @@ use command_line::{Request, ShownWords, WhoWords, command, request_of};
 use command_output::{AnyWriter, CommandFault, Ending, exit_status};
 use due_model::limits::LAST_MOMENT;
 use due_model::zone::Zone;
+use given_times::{minutes_given, moment_given};
 use line_forms::Picks;
 use made_feed::Supposed;
 use progress::{ProgressLine, Watcher};
@@ -188,13 +190,22 @@ fn moment_of<T: Clock>(clock: &T) -> Option<u64>
     Some(since.as_secs().min(LAST_MOMENT))
 }
 
-/// Writes who would be told of what is asked, from the moment on.
+/// Says on standard error what is wrong of a command line, and gives the exit status.
+fn status_of_words<R: Eprint>(rt: &R, fault: &str) -> ExitCode
+    ensures { exit_status result ≡ 2 }
+{
+    let _ = rt.eprintln(format_args!("usage: {fault}"));
+    ExitCode::from(2)
+}
+
+/// Writes who would be told of what is asked, from the moment on, for so many minutes.
 fn do_who(
     rt: &HostRuntime,
     zone: &Zone,
     objects: &str,
     asked: WhoWords<'_, '_>,
     moment: u64,
+    minutes: u16,
 ) -> Result<Ending, CommandFault>
     requires { moment ≤ last_moment }
 {
@@ -208,35 +219,34 @@ fn do_who(
         service,
         state: asked.state,
         moment,
-        minutes: u32::from(asked.minutes),
+        minutes: u32::from(minutes),
     };
+    let objects = AnyReader::new(file);
     let mut writer = AnyWriter::new(rt.stdout());
-    who(
-        rt.alloc(),
-        zone,
-        AnyReader::new(file),
-        &supposed,
-        &mut writer,
-    )
+    who(rt.alloc(), zone, objects, &supposed, &mut writer)
 }
 
-/// Writes who would be told, from the moment that is asked for on, or from now on, and gives the exit status.
+/// Writes who would be told of what is asked, and gives the exit status. Its times are looked at before anything else.
 fn status_of_who<T: Clock>(
     rt: &HostRuntime,
     clock: &T,
     zone: &Zone,
     objects: &str,
     asked: WhoWords<'_, '_>,
-) -> ExitCode {
-    match asked.at.or_else(|| moment_of(clock)) {
-        Some(moment) => status_of(
-            rt,
-            do_who(rt, zone, objects, asked, moment.min(LAST_MOMENT)),
-        ),
-        None => {
-            let _ = rt.eprintln("usage: no clock");
-            ExitCode::from(2)
-        }
+) -> ExitCode
+    ensures time { IsBadTime zone.now asked.entry → exit_status result ≡ 2 }
+    ensures length { IsBadLength asked.entry → exit_status result ≡ 2 }
+{
+    let begin = match asked.at {
+        Some(text) => moment_given(zone, text),
+        None => moment_of(clock),
+    };
+    let Some(moment) = begin else {
+        return status_of_words(rt, "bad time");
+    };
+    match minutes_given(asked.lasting) {
+        Some(minutes) => status_of(rt, do_who(rt, zone, objects, asked, moment, minutes)),
+        None => status_of_words(rt, "bad length"),
     }
 }
 
@@ -268,8 +278,7 @@ fn status_of_request<T: Threads + Wait + Clock + Sync>(
     ensures letters { asks_bad_letters request.entry ≡ true → exit_status result ≡ 2 }
 {
     if request.asks_bad_letters() {
-        let _ = rt.eprintln("usage: bad letters");
-        return ExitCode::from(2);
+        return status_of_words(rt, "bad letters");
     }
     let words = request.zone();
     let zone = match zone_of(rt, words.rule, words.file) {

@@ -2,6 +2,7 @@
 #![tactic(auto)]
 
 ghost use Rattle.std.specs.Prelude.{◌≡◌, ◌<◌, ◌^◌, ◌∷◌, ◌++◌, false, IfErr, IfNone, IfOk, IfSome, IsErrOf};
+ghost use Rattle.who_told.specs.Names.{Lacks};
 ghost use Rattle.who_told.specs.Who.{FailsOf, TellsWho};
 
 mod rows;
@@ -17,6 +18,7 @@ use text_lines::Input;
 
 /// The host of a name `host` or `host/service`, and the service where one is named: the host is all before the first slash.
 pub fn object_parts(name: &str) -> (&str, Option<&str>)
+    ensures unbroken { Lacks 47 result.0.now }
     ensures host { IfNone result.1 (result.0.now ≡ name.now) }
     ensures service { IfSome result.1 (λ service. name.now ≡ result.0.now ++ 47 ∷ service.now) }
 {

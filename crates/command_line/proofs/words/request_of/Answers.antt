@@ -40,12 +40,6 @@ returns-in-Some-who-default-clause-asked c =
     some-asked c.args.matches.now (found_of met.options.now) (codes "who") c.who_request.result (ap (λ (n : List ℕ). Some n) (sym met.is-who) ∙ met.ensures.name) met.ensures.rows
     c.who_request.ensures.named c.who_request.ensures.options
 
-pub returns-in-Some-trace-default-clause-trace : goal.returns-in-Some-trace-default-clause-trace
-returns-in-Some-trace-default-clause-trace c =
-    let met = c.in-Some-trace-default in
-    none-asked c.args.matches.now (found_of met.options.now) (codes "trace") c.trace_request.result TraceLacks (ap (λ (n : List ℕ). Some n) (sym met.is-trace) ∙ met.ensures.name) met.ensures.rows
-    c.trace_request.ensures.lacking
-
 pub returns-in-Some-who-default-clause-who : goal.returns-in-Some-who-default-clause-who
 returns-in-Some-who-default-clause-who c =
     let met = c.in-Some-who-default in
