@@ -17,6 +17,7 @@ use showing::first_showing;
 
 /// How many nanoseconds a second has, and a minute.
 const SECOND: i128 = 1_000_000_000;
+
 const MINUTE: i128 = 60 * SECOND;
 
 /// The most minutes of a command line: those of a week.
