@@ -1,6 +1,5 @@
 -- Times of a command line that say nothing.
-use Rattle.std.specs.Prelude.{◌≡◌, ℕ, ◌≤◌, IfSome, List, Option, None, Some, ⊥}
-use Rattle.std.specs.Option.{option_copied}
+use Rattle.std.specs.Prelude.{ℕ, ◌≤◌, IsSomeAnd}
 use Rattle.command_line.specs.declared.words.WhoWords.{WhoWords}
 use Rattle.due_model.specs.Limits.{last_moment}
 use Rattle.due_model.specs.declared.zone.Zone.{Zone}
@@ -8,8 +7,8 @@ use Rattle.given_times.specs.Given.{IsMinutes, IsMoment, most_minutes}
 
 -- It gives a time, and that is no moment.
 abbrev pub IsBadTime : Zone → WhoWords → Type 0
-IsBadTime zone asked = (text : List ℕ) × (option_copied asked.at ≡ Some text)
-    × ((moment : ℕ) → moment ≤ last_moment → IsMoment zone text moment → ⊥)
+IsBadTime zone asked = IsSomeAnd asked.at
+    (λ text. (moment : ℕ) → moment ≤ last_moment → IsMoment zone text.now moment → ⊥)
 
 -- How long it lasts is no length of so many minutes.
 abbrev pub IsBadLength : WhoWords → Type 0
