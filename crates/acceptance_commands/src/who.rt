@@ -25,14 +25,11 @@ fn of_a_host(rt: HostRuntime) -> Result<(), Fail> {
         moment: 1000,
         minutes: 2,
     };
-    let ended = who(
-        rt.alloc(),
-        &Zone::Utc,
-        BASE.as_bytes(),
-        &supposed,
-        &mut out,
+    let ended = who(rt.alloc(), &Zone::Utc, BASE.as_bytes(), &supposed, &mut out);
+    assert_eq!(&rt;
+        (ended, out.as_slice()),
+        (Ok(Ending::Whole), TABLE.as_bytes())
     );
-    assert_eq!(&rt; (ended, out.as_slice()), (Ok(Ending::Whole), TABLE.as_bytes()));
     Ok(())
 }
 

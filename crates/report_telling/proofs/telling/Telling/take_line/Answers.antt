@@ -30,10 +30,6 @@ returns-in-Ok-None-clause-front g c =
 abbrev answer_of : (g : Over) → After-decide_event g → Answer
 answer_of g c = record { line = c.line-line.result; given = Ok c.in-Ok-Some.event }
 
--- the form, for the configuration and the zone
-abbrev form_at : (g : Over) → After-decide_event g → Form _
-form_at g c = form_of g.T.Teller.told g.T.Teller.after g.T.Teller.ended c.args.self.now.config.now c.args.self.now.clock
-
 -- and what is given of the feed with it
 more : (g : Over) (c : After-decide_event g) → (others : List Answer) × AreGivenBy g.R.Input.can_fail c.args.self.now.config.now.objects c.args.self.now.feeder (answer_of g c ∷ others)
 more g c =
@@ -60,8 +56,8 @@ returns-in-Ok-Some-clause-goes_on g c =
             taken_same config.objects past c.args.self.now.feeder answer c.next.new.self c.decide_event.new.self.feeder c.decide_event.ensures.feed
                 (event_taken config past c.args.self.now.feeder c.next.new.self event line c.line-line.ensures now.0 gives),
             now.1,
-            leaves_same _ _ c.args.self.now.lines.buffer _ _ _ (ap (λ (xs : List ReportLine). told_all (form_at g here) c.args.self.now.lines.teller xs) lines) now.2,
-            now.3 ∙ ap (λ (xs : List ReportLine). after_all (form_at g here) c.args.self.now.lines.teller xs) lines,
+            leaves_same _ _ c.args.self.now.lines.buffer _ _ _ (ap (λ (xs : List ReportLine). told_all (form_of g.T.Teller.told g.T.Teller.after g.T.Teller.ended c.args.self.now.config.now c.args.self.now.clock) c.args.self.now.lines.teller xs) lines) now.2,
+            now.3 ∙ ap (λ (xs : List ReportLine). after_all (form_of g.T.Teller.told g.T.Teller.after g.T.Teller.ended c.args.self.now.config.now c.args.self.now.clock) c.args.self.now.lines.teller xs) lines,
           );
     }))
     (rw c.in-Ok-Some.field-0-is at c.decide_event.ensures.goes_on)
@@ -82,8 +78,8 @@ returns-in-Ok-Some-clause-ends g c =
             answer ∷ more.0,
             more.1,
             now.1 ∙ short_at_end past answer more.0 now.0,
-            leaves_same _ _ c.args.self.now.lines.buffer _ _ _ (told-one (form_at g here) teller _ ∙ ap (λ (xs : List ReportLine). told_all (form_at g here) teller xs) lines) now.2,
-            now.3 ∙ ap (λ (xs : List ReportLine). after_all (form_at g here) teller xs) lines,
+            leaves_same _ _ c.args.self.now.lines.buffer _ _ _ (told-one (form_of g.T.Teller.told g.T.Teller.after g.T.Teller.ended c.args.self.now.config.now c.args.self.now.clock) teller _ ∙ ap (λ (xs : List ReportLine). told_all (form_of g.T.Teller.told g.T.Teller.after g.T.Teller.ended c.args.self.now.config.now c.args.self.now.clock) teller xs) lines) now.2,
+            now.3 ∙ ap (λ (xs : List ReportLine). after_all (form_of g.T.Teller.told g.T.Teller.after g.T.Teller.ended c.args.self.now.config.now c.args.self.now.clock) teller xs) lines,
           );
     }))
     c.decide_event.ensures.ends
@@ -100,7 +96,7 @@ returns-in-Ok-Some-clause-front g c =
       each = λ past s. (
         answer ∷ more.0,
         more.1,
-        part_begun (form_at g here) c.args.self.now.lines.teller _ _ c.args.self.now.lines.buffer (answer_lines config zone past answer)
+        part_begun (form_of g.T.Teller.told g.T.Teller.after g.T.Teller.ended c.args.self.now.config.now c.args.self.now.clock) c.args.self.now.lines.teller _ _ c.args.self.now.lines.buffer (answer_lines config zone past answer)
             (cond (is_ended past answer.given) [] (lines_from config zone (past_after past answer.given) more.0)) (front past s),
       );
     }
