@@ -27,12 +27,17 @@ supposed_feed s =
     made_feed (map (λ host. host.now) s.down.now) s.host.now (option_copied s.service) s.state.now
     s.moment s.minutes
 
+-- when a notice is told, and its number
+unfoldable pub when_text : Zone → Notice → List ℕ
+when_text zone n = local_text zone n.moment ++ codes "  " ++ number_text n.number ++ codes "  "
+
+-- whom it tells, and by what
+unfoldable pub whom_text : Config → Notice → List ℕ
+whom_text c n = contact_text c n.contact.0 ++ codes "  " ++ lane_text c n.lane.0 ++ codes "  "
+
 -- a notice as a row: when, the number, the contact, the command and the object
 unfoldable pub notice_row : Config → Zone → Notice → List ℕ
-notice_row c zone n =
-    local_text zone n.moment ++ codes "  " ++ number_text n.number ++ codes "  "
-    ++ contact_text c n.contact.0 ++ codes "  " ++ lane_text c n.lane.0 ++ codes "  "
-    ++ object_text c n.object.0 ++ 10 ∷ []
+notice_row c zone n = when_text zone n ++ whom_text c n ++ object_text c n.object.0 ++ 10 ∷ []
 
 -- What is written of a line of the report: a notice is a row, a refused line stands as in the report, and what was
 -- withheld has no row.

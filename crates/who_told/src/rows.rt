@@ -1,7 +1,7 @@
 //! The teller that writes a row for each notice.
 
 ghost use Rattle.std.specs.Prelude.{◌≡◌, ◌++◌, OnOk};
-ghost use Rattle.who_told.specs.Who.{notice_row, row_text};
+ghost use Rattle.who_told.specs.Who.{notice_row, row_text, when_text, whom_text};
 
 use due_model::config::Config;
 use due_model::notice::Notice;
@@ -64,6 +64,28 @@ fn push_row(
     }
 }
 
+/// Adds when a notice is told, and its number.
+#[tactic(auto, unfolding(crate::specs::Who::when_text))]
+fn push_when(text: &mut Vec<u8>, clock: &ZoneClock<'_>, notice: &Notice) -> Result<(), AllocError>
+    ensures { OnOk result (text.new.items ≡ text.old.items ++ when_text clock.now notice.now) }
+{
+    push_local(text, clock, notice.moment)?;
+    text.extend_from_slice(b"  ")?;
+    push_notice_number(text, notice.number)?;
+    text.extend_from_slice(b"  ")
+}
+
+/// Adds whom a notice tells, and by what.
+#[tactic(auto, unfolding(crate::specs::Who::whom_text))]
+fn push_whom(text: &mut Vec<u8>, config: &Config, notice: &Notice) -> Result<(), AllocError>
+    ensures { OnOk result (text.new.items ≡ text.old.items ++ whom_text config.now notice.now) }
+{
+    text.extend_from_slice(contact_name(config, notice.contact))?;
+    text.extend_from_slice(b"  ")?;
+    text.extend_from_slice(lane_name(config, notice.lane))?;
+    text.extend_from_slice(b"  ")
+}
+
 /// Adds the row of a notice.
 #[tactic(auto, unfolding(crate::specs::Who::notice_row))]
 fn push_notice_row(
@@ -75,14 +97,8 @@ fn push_notice_row(
     ensures { OnOk result
         (text.new.items ≡ text.old.items ++ notice_row config.now clock.now notice.now) }
 {
-    push_local(text, clock, notice.moment)?;
-    text.extend_from_slice(b"  ")?;
-    push_notice_number(text, notice.number)?;
-    text.extend_from_slice(b"  ")?;
-    text.extend_from_slice(contact_name(config, notice.contact))?;
-    text.extend_from_slice(b"  ")?;
-    text.extend_from_slice(lane_name(config, notice.lane))?;
-    text.extend_from_slice(b"  ")?;
+    push_when(text, clock, notice)?;
+    push_whom(text, config, notice)?;
     push_object(text, config, notice.object)?;
     text.extend_from_slice(b"\n")
 }

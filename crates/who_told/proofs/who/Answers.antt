@@ -13,11 +13,11 @@ returns-in_err-feed-clause-fault g c =
 pub returns-clause-table : goal.returns-clause-table
 returns-clause-table g c =
     some_shown (g.O.Read.remaining c.args.objects) _ _
-    (λ text h. ok_shown c.tell_files.result _ _ (λ ending told. tells_who c.args.supposed.now _ _ (c.as_slice.ensures ∙ c.in_ok-feed.ensures) text c.args.zone.now _ _ ending told) h)
+    (λ text h. ok_shown c.tell_files.result _ _ (λ ending told. tells_who c.args.supposed.now _ _ (c.as_slice.ensures.value ∙ c.in_ok-feed.ensures) text c.args.zone.now _ _ ending told) h)
     c.tell_files.ensures.report
 
 pub returns-clause-fault : goal.returns-clause-fault
 returns-clause-fault g c =
     some_shown (g.O.Read.remaining c.args.objects) _ _
-    (λ text h. err_shown c.tell_files.result _ _ (λ fault told. fails_who c.args.supposed.now _ _ (c.as_slice.ensures ∙ c.in_ok-feed.ensures) text c.args.zone.now _ _ g.O.Input.can_fail fault told) h)
+    (λ text h. err_shown c.tell_files.result _ _ (λ fault told. fails_who c.args.supposed.now _ _ (c.as_slice.ensures.value ∙ c.in_ok-feed.ensures) text c.args.zone.now _ _ g.O.Input.can_fail fault told) h)
     c.tell_files.ensures.fault
