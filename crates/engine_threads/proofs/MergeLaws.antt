@@ -5,8 +5,8 @@ use mathlib.Core.List.{cons-ne-nil}
 use Rattle.std.proofs.lemmas.List.Elements.{All-nil, All-cons}
 use Rattle.std.proofs.lemmas.List.Kept.{AllPairs-cons}
 use Rattle.due_model.specs.declared.notice.Suppression.{Suppression}
-use Rattle.log_merge.specs.Merge.{HasBoth, merge_into, merged}
-use Rattle.log_merge.specs.Order.{IsInOrder, place, stands_before}
+use Rattle.engine_threads.specs.Merge.{HasBoth, merge_into, merged}
+use Rattle.decider_thread.specs.Order.{IsInOrder, place, stands_before}
 
 pub none_second : (xs : List Suppression) → merged xs [] ≡ xs
 none_second [] = refl

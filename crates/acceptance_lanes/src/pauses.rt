@@ -1,7 +1,6 @@
 //! How long a bell waits between two tries.
 
-use crate::{Closers, LaneBell, PatientBell};
-use delivery_worker::{Bell, Gate};
+use delivery_worker::{Bell, Closers, Gate, LaneBell, PatientBell};
 use due_model::config::LaneId;
 use due_model::notice::Notice;
 use std::alloc::AllocError;

@@ -1,9 +1,9 @@
 use Rattle.std.proofs.Common.{rules, ◌≡◌, ◌++◌, [], List, ℕ, ◌-◌, length, drop, take, arith, sym, ap, ◌∙◌, append_assoc, ◌⊎◌, inl, inr}
 use Rattle.std.proofs.lemmas.List.{drop_all, take_all, length-drop}
 use Rattle.due_model.specs.declared.notice.Suppression.{Suppression}
-use Rattle.log_merge.proofs.MergeLaws.{rest_is}
-use Rattle.log_merge.proofs.merge_all.Goals as goal
-use Rattle.log_merge.proofs.merge_all.Goals.{then-loop-i-test+else-j-second, else-loop-i-test}
+use Rattle.engine_threads.proofs.MergeLaws.{rest_is}
+use Rattle.engine_threads.proofs.log_merge.merge_all.Goals as goal
+use Rattle.engine_threads.proofs.log_merge.merge_all.Goals.{then-loop-i-test+else-j-second, else-loop-i-test}
 
 rest_taken : (n : ℕ) (xs : List Suppression) → take (length xs - n) (drop n xs) ≡ drop n xs
 rest_taken n xs = take_all (length xs - n) (drop n xs) (let l = length-drop n xs in omega (arith, l))

@@ -1,6 +1,6 @@
 -- What asks lanes to close.
 use Rattle.std.specs.Prelude.{ℕ, vec_len}
-use Rattle.closers.specs.declared.Closers.{Closers}
+use Rattle.delivery_worker.specs.declared.closers.Closers.{Closers}
 
 -- how many lanes they were made for
 abbrev pub lanes_of : Closers → ℕ

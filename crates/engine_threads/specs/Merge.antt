@@ -1,7 +1,7 @@
 -- Two logs as one.
 use Rattle.std.specs.Prelude.{◌≡◌, ◌+◌, Bool, if◌then◌else◌, List, [], ◌∷◌, filter, length}
 use Rattle.due_model.specs.declared.notice.Suppression.{Suppression}
-use Rattle.log_merge.specs.Order.{stands_before}
+use Rattle.decider_thread.specs.Order.{stands_before}
 
 -- The one log has all lines of both and no other: where a test keeps none of the second, it keeps of the one what it keeps
 -- of the first, in order; and the other way round.

@@ -1,16 +1,10 @@
 //! What asks lanes to close while they are served, from any thread, and the bell of each lane that hears it.
-#![tactic(auto)]
 
 ghost use Rattle.std.specs.Prelude.{◌≡◌, ◌<◌, ◌↔◌, IfOk, IsTrue, vec_len};
-ghost use Rattle.closers.specs.Closers.{lanes_of};
+ghost use Rattle.delivery_worker.specs.Closers.{lanes_of};
 
-mod patient;
-#[cfg(test)]
-mod tests;
-
-use delivery_worker::Bell;
+use crate::Bell;
 use due_model::config::LaneId;
-pub use patient::PatientBell;
 use std::alloc::{AllocError, Global};
 use std::sync::atomic::{AtomicBool, Ordering};
 
@@ -58,11 +52,11 @@ impl Closers {
 #[derive(Drop)]
 pub struct LaneBell<'a> {
     closers: &'a Closers,
-    lane: LaneId,
+    pub(crate) lane: LaneId,
     /// How many true answers there were.
-    count: u64,
+    pub(crate) count: u64,
     /// How often it was asked, up to `u64::MAX`.
-    asks: u64,
+    pub(crate) asks: u64,
 }
 
 impl<'a> LaneBell<'a> {
@@ -79,7 +73,7 @@ impl<'a> LaneBell<'a> {
     }
 
     /// Whether the lane was asked to close. The bell isn't asked by that, and counts nothing.
-    fn is_rung(&self) -> bool {
+    pub(crate) fn is_rung(&self) -> bool {
         self.closers.is_asked(self.lane)
     }
 }

@@ -1,9 +1,9 @@
 use Rattle.std.proofs.Common.{◌≡◌, subst, sym}
 use Rattle.std.proofs.lemmas.Result.{IfOk-weaker}
-use Rattle.log_merge.specs.Merge.{HasBoth, merged}
-use Rattle.log_merge.specs.Order.{IsInOrder}
-use Rattle.log_merge.proofs.MergeLaws.{merged_has_both, merged_in_order}
-use Rattle.log_merge.proofs.merge.Goals as goal
+use Rattle.engine_threads.specs.Merge.{HasBoth, merged}
+use Rattle.decider_thread.specs.Order.{IsInOrder}
+use Rattle.engine_threads.proofs.MergeLaws.{merged_has_both, merged_in_order}
+use Rattle.engine_threads.proofs.log_merge.merge.Goals as goal
 
 pub returns-clause-order : goal.returns-clause-order
 returns-clause-order c =

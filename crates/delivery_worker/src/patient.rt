@@ -2,8 +2,8 @@
 
 ghost use Rattle.std.specs.Prelude.{◌≡◌};
 
-use crate::LaneBell;
-use delivery_worker::{Bell, Gate};
+use crate::closers::LaneBell;
+use crate::{Bell, Gate};
 use std::thread;
 use std::time::{Clock, Duration};
 

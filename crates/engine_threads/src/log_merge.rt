@@ -1,10 +1,9 @@
 //! The logs of several deciders as one. Each decider notes what it suppressed of the objects of its share, by event and then
 //! object; so does the log of all.
-#![tactic(auto)]
 
 ghost use Rattle.std.specs.Prelude.{◌≡◌, ◌+◌, ◌<◌, ◌^◌, IfOk, length};
-ghost use Rattle.log_merge.specs.Order.{IsInOrder, stands_before};
-ghost use Rattle.log_merge.specs.Merge.{HasBoth, merged};
+ghost use Rattle.decider_thread.specs.Order.{IsInOrder, stands_before};
+ghost use Rattle.engine_threads.specs.Merge.{HasBoth, merged};
 
 use due_model::notice::Suppression;
 use std::alloc::{AllocError, Global};
@@ -18,7 +17,7 @@ fn stands_before(a: Suppression, b: Suppression) -> bool
 
 /// Two logs as one, each in order by event and then object. Lines of one place keep their order, those of the first log
 /// before those of the second. A refused growth is the only error, and leaves both as they are.
-pub fn merge(
+pub(crate) fn merge(
     alloc: Global,
     first: &[Suppression],
     second: &[Suppression],

@@ -1,6 +1,6 @@
 use Rattle.std.proofs.Common.{◌≡◌, ◌≤◌, ◌+◌, ◌-◌, ◌++◌, length, drop}
-use Rattle.log_merge.specs.Merge.{merged}
-use Rattle.log_merge.proofs.merge_all.Given as goal
+use Rattle.engine_threads.specs.Merge.{merged}
+use Rattle.engine_threads.proofs.log_merge.merge_all.Given as goal
 
 abbrev pub invariant-loop-i : goal.invariant-loop-i
 invariant-loop-i l =
