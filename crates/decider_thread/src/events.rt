@@ -37,6 +37,8 @@ fn note<L: DeciderLog>(decider: &mut Decider<'_>, log: &mut L)
         → IsNoted (λ lines. L.tells first lines log.new) (kept decider.new).log all }
     ensures fits { (past : List Event) → Fits (kept decider.old) past → Fits (kept decider.new) past }
     ensures settings { settings (kept decider.new) ≡ settings (kept decider.old) }
+    // Unless the log has failed the decider keeps nothing.
+    ensures all { L.failed log.new ≡ false → (kept decider.new).log ≡ [] }
 {
     if log.tell(decider.log()) {
         decider.clear_log();
@@ -66,6 +68,7 @@ fn decide_event<L: DeciderLog>(
         (λ lines. L.tells first lines log.new) (waiting_at outbox.new) seats }
     ensures kept { result ≡ false → (lists outbox.new ≡ lists outbox.old)
         × (kept decider.new ≡ kept decider.old) × (log.new ≡ log.old) }
+    ensures all { result ≡ true → L.failed log.new ≡ false → (kept decider.new).log ≡ [] }
     ensures lanes { length (lists outbox.new) ≡ length (lists outbox.old) }
 {
     if !is_proper(config, &event) {
@@ -119,6 +122,7 @@ pub(crate) fn decide_events<L: DeciderLog, G: Gate, R: Wait + Clock>(
         (λ lines. L.tells log.old lines log.old) (waiting_at outbox.old) seats.old
         → HasStopped config.now zone share queues.now result (received ring.new) (waiting_at outbox.new)
         seats.new (λ lines. L.tells log.old lines log.new) (kept decider.new).log }
+    ensures all { (kept decider.old).log ≡ [] → L.failed log.new ≡ false → (kept decider.new).log ≡ [] }
     ensures seats { length seats.new ≡ length seats.old }
     ensures lanes { length (lists outbox.new) ≡ length (lists outbox.old) }
 {

@@ -1,6 +1,6 @@
 //! The work of a decider's thread.
 
-ghost use Rattle.std.specs.Prelude.{◌≡◌, [], length};
+ghost use Rattle.std.specs.Prelude.{◌≡◌, [], false, length};
 ghost use Rattle.due_model.specs.Accepted.{IsAccepted};
 ghost use Rattle.decider.specs.Share.{IsShare};
 ghost use Rattle.rtrb.specs.Ring.{SameConsumer, received};
@@ -60,6 +60,7 @@ fn decide_all<L: DeciderLog, G: Gate, R: Wait + Clock>(
     ensures ring { SameConsumer ring.old ring.new }
     ensures heard { HasHeard config.now zone.now share queues.now result.1 (received ring.new)
         seats.new (λ lines. L.tells log.old lines log.new) result.0.items }
+    ensures all { L.failed log.new ≡ false → result.0.items ≡ [] }
     ensures seats { length seats.new ≡ length seats.old }
 {
     let (Ok(mut decider), Ok(mut outbox)) = (
@@ -93,7 +94,7 @@ fn decide_all<L: DeciderLog, G: Gate, R: Wait + Clock>(
 /// queue doesn't take waits, while further events are decided; with 65,536 notices that wait no event is taken. The gate is asked
 /// before each event, and after each the log is told what it suppressed. The decider's end comes last. Where a growth is refused here
 /// or in another thread, which `halt` tells, no further event is decided; the ring is emptied all the same, and what waits and the
-/// ends are put. The log comes back beside what is left.
+/// ends are put. The log comes back beside what is left; unless it has failed it was told all.
 pub fn decide_ring<L: DeciderLog, G: Gate, R: Wait + Clock>(
     rt: &R,
     alloc: Global,
@@ -113,7 +114,7 @@ pub fn decide_ring<L: DeciderLog, G: Gate, R: Wait + Clock>(
     requires queues { length queues.now ≡ length config.now.lanes }
     requires seats { length seats.items ≡ length queues.now }
     requires puts { ArePut share.decider queues.now seats.items (λ _. []) (λ _. []) }
-    ensures { HasToldAndDecided L.tells config.now zone.now share queues.now ring log result.0 result.1 }
+    ensures { HasToldAndDecided L.tells L.failed config.now zone.now share queues.now ring log result.0 result.1 }
 {
     let mut ring = ring;
     let mut seats = seats;

@@ -168,8 +168,8 @@ impl Engine {
     }
 
     /// The same, where each decider has a log of its own, which is told what an event suppresses as soon as it is decided. What a log
-    /// was told isn't kept, so the run's log has what comes after it. The logs come back, one for each decider; none where the run
-    /// didn't begin.
+    /// was told isn't kept, so the run's log has what comes after it: nothing of a decider whose log hasn't failed. The logs come back,
+    /// one for each decider; none where the run didn't begin.
     pub fn run_told<
         C: Channel,
         R: Input + Drop,
@@ -192,8 +192,9 @@ impl Engine {
         requires few { (l : ℕ) → count_of (λ post. post.lane.0) outlets.posts.items l ≤ 8 }
         // There is a log for each decider.
         requires logs { length outlets.logs.items ≡ settings.deciders }
-        // What the logs were told and then the run's log are, of each object, all that was suppressed; the rest is as before.
-        ensures run { IsToldRunOf L.tells config.now zone.now
+        // What the logs were told and then the run's log are, of each object, all that was suppressed; a log that hasn't failed was told
+        // all of it. The rest is as before.
+        ensures run { IsToldRunOf L.tells L.failed config.now zone.now
             (count_of (λ post. post.lane.0) outlets.posts.items) result.0.events.items result.0.memory
             result.0.lanes.items outlets.logs.items result.2.items result.0.log.items }
         ensures read { (far : ℕ → Bool)
@@ -251,7 +252,7 @@ fn run_reader<
     requires accepted { IsAccepted config.now }
     requires few { (l : ℕ) → count_of (λ post. post.lane.0) posts.items l ≤ 8 }
     requires logs { IfOk logs (λ ls. length ls.items ≡ settings.deciders) }
-    ensures run { IsToldRunOf L.tells config.now zone.now (count_of (λ post. post.lane.0) posts.items)
+    ensures run { IsToldRunOf L.tells L.failed config.now zone.now (count_of (λ post. post.lane.0) posts.items)
         result.0.events.items result.0.memory result.0.lanes.items (given_logs logs) result.2.items
         result.0.log.items }
     ensures read { (far : ℕ → Bool)

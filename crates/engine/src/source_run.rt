@@ -69,7 +69,7 @@ pub(crate) fn run_source<
     requires few { (l : ℕ) → count_of (λ post. post.lane.0) posts.items l ≤ 8 }
     // There is a log for each decider, unless a growth was refused for them: then the run doesn't begin.
     requires logs { IfOk logs (λ ls. length ls.items ≡ settings.deciders) }
-    ensures run { IsToldRunOf L.tells config.now zone.now (count_of (λ post. post.lane.0) posts.items)
+    ensures run { IsToldRunOf L.tells L.failed config.now zone.now (count_of (λ post. post.lane.0) posts.items)
         (S.given_so_far result.source) result.memory result.lanes.items (given_logs logs) result.logs.items
         result.log.items }
     ensures channels { (l : ℕ) (lane cs : _) → slice_get result.lanes.items l ≡ Some lane
@@ -124,7 +124,7 @@ fn begin<C: Channel>(
 /// A run in which memory ran out before it began.
 fn nothing<C: Channel, S: Source, L: DeciderLog>(alloc: Global, source: S) -> Ran<C, S, L>
     ensures run { (c : Config) (zone : Zone) (given : ℕ → ℕ) (events : List Event) (logs : List L) → events ≡ []
-        → IsToldRunOf L.tells c zone given events result.memory result.lanes.items logs result.logs.items
+        → IsToldRunOf L.tells L.failed c zone given events result.memory result.lanes.items logs result.logs.items
         result.log.items }
     ensures source { result.source ≡ source }
     ensures memory { result.memory ≡ true }

@@ -97,7 +97,7 @@ fn run_scope<
         → ((l : ℕ) (w : _) → slice_get works.items l ≡ Some w → length w.channels.items ≡ channels l)
         → AreLaneEnds config.now (Z.zone zone.now) channels (reverse (S.given_so_far r.source)) r.refused
         r.served.items) }
-    ensures log { IfOk result (λ r. HaveLogged L.tells config.now (Z.zone zone.now)
+    ensures log { IfOk result (λ r. HaveLogged L.tells L.failed config.now (Z.zone zone.now)
         (reverse (S.given_so_far r.source)) (r.refused || r.memory) logs.items r.logs.items r.log.items) }
     ensures channels { IfOk result (λ r. (l : ℕ) (w s b : _) → slice_get works.items l ≡ Some w
         → slice_get r.served.items l ≡ Some s → slice_get r.channels.items l ≡ Some b
@@ -125,7 +125,7 @@ fn run_scope<
                 → ((l : ℕ) (w : _) → slice_get works.items l ≡ Some w → length w.channels.items ≡ channels l)
                 → AreLaneEnds config.entry.now (Z.zone zone.entry.now) channels
                 (reverse (S.given_so_far r.source)) r.refused r.served.items) }
-            ensures log { IfOk result (λ r. HaveLogged L.tells config.entry.now (Z.zone zone.entry.now)
+            ensures log { IfOk result (λ r. HaveLogged L.tells L.failed config.entry.now (Z.zone zone.entry.now)
                 (reverse (S.given_so_far r.source)) (r.refused || r.memory) logs.items r.logs.items r.log.items) }
             ensures channels { IfOk result (λ r. (l : ℕ) (w s b : _) → slice_get works.items l ≡ Some w
                 → slice_get r.served.items l ≡ Some s → slice_get r.channels.items l ≡ Some b
@@ -185,8 +185,10 @@ fn end_of<C: Channel, S: Source, L: DeciderLog>(driven: Driven<C, S, L>) -> Thre
         → IsRun c zone channels past result.memory result.lanes.items told result.log.items }
     ensures source { result.source ≡ driven.source }
     ensures memory { result.memory ≡ false → driven.memory ≡ false }
+    ensures refused { result.memory ≡ false → (driven.refused || driven.memory) ≡ false }
     ensures lanes { result.lanes.items ≡ driven.served.items }
     ensures channels { result.channels.items ≡ driven.channels.items }
+    ensures log { result.log.items ≡ driven.log.items }
     ensures logs { result.logs.items ≡ driven.logs.items }
     ensures started { result.started ≡ true }
 {
@@ -241,7 +243,7 @@ pub fn run_threads<
     requires few { (l : ℕ) (c : _) → slice_get given.items l ≡ Some c → length c.items ≤ 8 }
     ensures run { (channels : ℕ → ℕ)
         → ((l : ℕ) (c : _) → slice_get given.items l ≡ Some c → length c.items ≡ channels l)
-        → HasRun L.tells config.now zone.now channels (reverse (S.given_so_far result.source)) result.memory
+        → HasRun L.tells L.failed config.now zone.now channels (reverse (S.given_so_far result.source)) result.memory
         result.lanes.items logs.items result.logs.items result.log.items }
     // Each lane's channels are given back in their places, and each has taken what its record says.
     ensures channels { (l : ℕ) (c s b : _) → slice_get given.items l ≡ Some c

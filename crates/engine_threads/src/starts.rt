@@ -156,7 +156,7 @@ impl<'s, Z: GivesZone, L: DeciderLog> Promise<Option<(DeciderEnd, L)>> for Decid
     ghost use Rattle.std.specs.Prelude.{IfSome};
     ghost use Rattle.decider_thread.specs.Decided.{HasToldAndDecided};
 
-    ghost kept_by = { λ p r. IfSome r (λ e. HasToldAndDecided L.tells p.config.now (Z.zone p.zone.now) p.share
+    ghost kept_by = { λ p r. IfSome r (λ e. HasToldAndDecided L.tells L.failed p.config.now (Z.zone p.zone.now) p.share
         p.queues.now p.ring.value p.log.value e.0 e.1) };
 }
 
@@ -210,7 +210,7 @@ fn start_decider<
                 × (length queues.now ≡ length config.now.lanes)
                 × (length work.seats.items ≡ length queues.now)
                 × ArePut share.decider queues.now work.seats.items (λ _. []) (λ _. []) }
-            ensures { IfSome result (λ e. HasToldAndDecided L.tells config.entry.now (Z.zone zone.entry.now)
+            ensures { IfSome result (λ e. HasToldAndDecided L.tells L.failed config.entry.now (Z.zone zone.entry.now)
                 share queues.entry.now work.ring log e.0 e.1) }
         {
             if !word.wait(rt) {

@@ -111,7 +111,7 @@ pub(crate) fn drive<
         → ((l : ℕ) (w : _) → slice_get works.items l ≡ Some w → length w.channels.items ≡ channels l)
         → AreLaneEnds config.now (Z.zone zone.now) channels (reverse (S.given_so_far r.source)) r.refused
         r.served.items) }
-    ensures log { IfOk result (λ r. HaveLogged L.tells config.now (Z.zone zone.now)
+    ensures log { IfOk result (λ r. HaveLogged L.tells L.failed config.now (Z.zone zone.now)
         (reverse (S.given_so_far r.source)) (r.refused || r.memory) logs.items r.logs.items r.log.items) }
     ensures channels { IfOk result (λ r. (l : ℕ) (w s b : _) → slice_get works.items l ≡ Some w
         → slice_get r.served.items l ≡ Some s → slice_get r.channels.items l ≡ Some b

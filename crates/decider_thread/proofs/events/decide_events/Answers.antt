@@ -27,6 +27,7 @@ loop-preserved-then-moved g c =
           (was.0, got ∙ was.1, stands_put _ _ _ _ _ _ _ _ _ was.2 _ _ c.put_round-moved.ensures.puts)),
       c.put_round-moved.ensures.seats ∙ inv.2,
       c.put_round-moved.ensures.lanes ∙ inv.3,
+      inv.4,
     )
 
 pub loop-preserved-else-moved : goal.loop-preserved-else-moved
@@ -40,6 +41,7 @@ loop-preserved-else-moved g c =
           (was.0, got ∙ was.1, stands_put _ _ _ _ _ _ _ _ _ was.2 _ _ c.put_round-moved.ensures.puts)),
       c.put_round-moved.ensures.seats ∙ inv.2,
       c.put_round-moved.ensures.lanes ∙ inv.3,
+      inv.4,
     )
 
 pub returns-in-Some-Over-clause-stopped : goal.returns-in-Some-Over-clause-stopped
@@ -77,6 +79,18 @@ returns-then-not-decide_event-clause-stopped g c = λ zone stands.
     (subst (λ (k : Kept). HasStopped c.args.config.now zone c.args.share c.args.queues.now false (received c.next_signal.new.ring) (waiting_at c.decide_event.new.outbox) c.put_round-moved.new.seats (λ lines. g.L.DeciderLog.tells c.args.log.now lines c.loop.log) k.log) (sym kept_same)
     (subst (λ (ls : List (List Notice)). HasStopped c.args.config.now zone c.args.share c.args.queues.now false (received c.next_signal.new.ring) (λ l. slice_index_or ls l []) c.put_round-moved.new.seats (λ lines. g.L.DeciderLog.tells c.args.log.now lines c.loop.log) (kept c.loop.decider).log) (sym lists_same) stops))
 
+pub returns-in-Some-Over-clause-all : goal.returns-in-Some-Over-clause-all
+returns-in-Some-Over-clause-all g c = c.loop.invariant.4
+
+pub returns-then-load-clause-all : goal.returns-then-load-clause-all
+returns-then-load-clause-all g c = c.loop.invariant.4
+
+pub returns-then-not-decide_event-clause-all : goal.returns-then-not-decide_event-clause-all
+returns-then-not-decide_event-clause-all g c = λ none unfailed.
+    let kept_same : kept c.decide_event.new.decider ≡ kept c.loop.decider = search rules in
+    let log_same : c.decide_event.new.log ≡ c.loop.log = search rules in
+    ap (λ (k : Kept). k.log) kept_same ∙ c.loop.invariant.4 none (ap g.L.DeciderLog.failed (sym log_same) ∙ unfailed)
+
 pub loop-preserved : goal.loop-preserved
 loop-preserved g c =
     let inv = c.loop.invariant in
@@ -92,4 +106,5 @@ loop-preserved g c =
           (event ∷ was.0, got ∙ ap (λ (ss : List Signal). ss ++ Decides event ∷ []) was.1, c.decide_event.ensures.decided decided zone _ _ _ was.0 c.args.log.now long now)),
       c.put_round-moved.ensures.seats ∙ inv.2,
       c.decide_event.ensures.lanes ∙ (c.put_round-moved.ensures.lanes ∙ inv.3),
+      (λ _. c.decide_event.ensures.all decided),
     )

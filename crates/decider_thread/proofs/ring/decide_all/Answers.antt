@@ -31,6 +31,11 @@ returns-in_default-clause-heard g c =
       log = record { told = []; are_told = g.L.DeciderLog.stays c.args.log.now; both = c.new-in_default.ensures.items };
     }
 
+pub returns-clause-all : goal.returns-clause-all
+returns-clause-all g c = λ unfailed.
+    let new : HasDecidedNothing c.args.config.now c.args.zone.now c.args.share (kept c.in-Ok-Ok.decider) = search rules in
+    c.into_log.ensures ∙ c.decide_events-over.ensures.all new.log unfailed
+
 pub put_all-requires-clause-puts : goal.put_all-requires-clause-puts
 put_all-requires-clause-puts g c =
     let new : HasDecidedNothing c.args.config.now c.args.zone.now c.args.share (kept c.in-Ok-Ok.decider) = search rules in

@@ -39,4 +39,5 @@ returns g c =
         count = ap length items ∙ count;
         log = h.log.both;
       },
+      c.decide_all-log.ensures.all,
     )

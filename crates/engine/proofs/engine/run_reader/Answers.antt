@@ -17,7 +17,7 @@ pub returns-in_default : goal.returns-in_default
 returns-in_default g c =
     let e = c.unread.ensures in
     let end = c.unread.result in
-    let run = none_told_ran g.L.DeciderLog.tells c.args.config.now c.args.zone.now (count_of (λ post. post.lane.0) c.args.posts.items) end.events.items end.memory end.lanes.items end.log.items (given_logs c.args.logs) c.new-in_default-2.result.items e.events e.lanes e.log c.new-in_default-2.ensures.items e.memory in
+    let run = none_told_ran g.L.DeciderLog.tells g.L.DeciderLog.failed c.args.config.now c.args.zone.now (count_of (λ post. post.lane.0) c.args.posts.items) end.events.items end.memory end.lanes.items end.log.items (given_logs c.args.logs) c.new-in_default-2.result.items e.events e.lanes e.log c.new-in_default-2.ensures.items e.memory in
     let read : (far : ℕ → Bool) → ((line : ℕ) → far line ≡ ahead_in end.refused.items line) → IsReadOf far g.R.Input.can_fail c.args.config.now (g.R.Read.remaining c.args.feed.reader) end.memory end.events.items end.refused.items end.cut = λ far same.
     unread_is far g.R.Input.can_fail c.args.config.now (g.R.Read.remaining c.args.feed.reader) end.memory end.events.items end.refused.items end.cut e.events e.refused e.memory e.cut in
     let channels = none_told {C = g.row.C.Denot} g.C.Channel.account g.C.Channel.offered c.args.settings.tries c.args.config.now end.lanes.items c.new-in_default.result.items (λ cs. cs.items) (λ l. channels_on (λ post. post.lane.0) (λ post. post.channel) l c.args.posts.items) e.lanes in
@@ -42,8 +42,8 @@ returns g c =
     (parts.ensures.left g.R.Input.can_fail config begun.read.feed taken.0 far taken.1 ran.ensures.over same) in
     let near : g.H.Horizon.is_open c.args.feed.horizon ≡ true → NoneIsAhead parts.result.1.items = λ is. parts.ensures.near (none_since g.R.Input.can_fail config known begun ran.result.source start ran.ensures.source (c.new-2.ensures.is_open ∙ is)) in
     let logs = given_logs c.args.logs in
-    let run : IsToldRunOf g.L.DeciderLog.tells config c.args.zone.now given parts.result.0.items ran.result.memory ran.result.lanes.items logs ran.result.logs.items ran.result.log.items =
-    subst (λ (es : List Event). IsToldRunOf g.L.DeciderLog.tells config c.args.zone.now given es ran.result.memory ran.result.lanes.items logs ran.result.logs.items ran.result.log.items) (sym parts.ensures.events) ran.ensures.run in
+    let run : IsToldRunOf g.L.DeciderLog.tells g.L.DeciderLog.failed config c.args.zone.now given parts.result.0.items ran.result.memory ran.result.lanes.items logs ran.result.logs.items ran.result.log.items =
+    subst (λ (es : List Event). IsToldRunOf g.L.DeciderLog.tells g.L.DeciderLog.failed config c.args.zone.now given es ran.result.memory ran.result.lanes.items logs ran.result.logs.items ran.result.log.items) (sym parts.ensures.events) ran.ensures.run in
     let channels = ran.ensures.channels in
     let places = ran.ensures.places in
     let all = ran.ensures.all in

@@ -4,7 +4,7 @@ use Rattle.std.proofs.lemmas.Option.{slice_get_within}
 use Rattle.lemmas.proofs.Lists.{some_at}
 use Rattle.engine.specs.Lanes.{HaveTaken, IsEndOf, channels_on, count_of}
 use Rattle.engine.proofs.ChannelLaws.{channels_told, no_channels}
-use Rattle.engine_threads.specs.Told.{HaveTold}
+use Rattle.engine_threads.specs.Told.{HaveTold, NoneIsLeft}
 use Rattle.engine.specs.Logs.{given_logs}
 use Rattle.engine.specs.Run.{IsToldRunOf}
 use Rattle.engine.proofs.PostLaws.{channels_count}
@@ -38,9 +38,12 @@ returns-clause-run g c =
     let same : given_logs c.args.logs ≡ logs = search rules in
     let events = g.S.Source.given_so_far c.run_threads-left.result.source in
     let run = c.end_of.ensures.run c.args.config.now c.args.zone.now given events (λ o. ran.0 (o % length logs)) counts (record { run = ran.2; whole = threads.whole }) in
-    let told = subst (λ back. HaveTold g.L.DeciderLog.tells c.args.config.now c.args.zone.now (length logs) (reverse events) logs back ran.0) (sym c.end_of.ensures.logs) ran.1 in
-    subst (λ ls. IsToldRunOf g.L.DeciderLog.tells c.args.config.now c.args.zone.now given (g.S.Source.given_so_far end.source) end.memory end.lanes.items ls end.logs.items end.log.items) (sym same)
-    (subst (λ (es : List Event). IsToldRunOf g.L.DeciderLog.tells c.args.config.now c.args.zone.now given es end.memory end.lanes.items logs end.logs.items end.log.items) (ap (λ s. g.S.Source.given_so_far s) (sym c.end_of.ensures.source)) (ran.0, told, run))
+    let told = subst (λ m. HaveTold g.L.DeciderLog.tells g.L.DeciderLog.failed c.args.config.now c.args.zone.now (length logs) (reverse events) m logs end.logs.items ran.0) (sym c.end_of.ensures.memory)
+    (subst (λ back. HaveTold g.L.DeciderLog.tells g.L.DeciderLog.failed c.args.config.now c.args.zone.now (length logs) (reverse events) c.run_threads-left.result.memory logs back ran.0) (sym c.end_of.ensures.logs) ran.1) in
+    let left = subst (λ back. NoneIsLeft g.L.DeciderLog.failed (length logs) back end.log.items) (sym c.end_of.ensures.logs)
+    (subst (λ log. NoneIsLeft g.L.DeciderLog.failed (length logs) c.run_threads-left.result.logs.items log) (sym c.end_of.ensures.log) ran.3) in
+    subst (λ ls. IsToldRunOf g.L.DeciderLog.tells g.L.DeciderLog.failed c.args.config.now c.args.zone.now given (g.S.Source.given_so_far end.source) end.memory end.lanes.items ls end.logs.items end.log.items) (sym same)
+    (subst (λ (es : List Event). IsToldRunOf g.L.DeciderLog.tells g.L.DeciderLog.failed c.args.config.now c.args.zone.now given es end.memory end.lanes.items logs end.logs.items end.log.items) (ap (λ s. g.S.Source.given_so_far s) (sym c.end_of.ensures.source)) (ran.0, told, run, left))
 
 pub returns-in_default-clause-channels : goal.returns-in_default-clause-channels
 returns-in_default-clause-channels g c = λ l lane cs at_lane at_cs. absurd (no_channels c.nothing.result.lanes.items l lane c.nothing.ensures.lanes at_lane)

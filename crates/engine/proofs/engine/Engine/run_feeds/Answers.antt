@@ -1,4 +1,4 @@
-use Rattle.std.proofs.Common.{◌≡◌, ◌∙◌, List, ap, false, subst, sym, ℕ}
+use Rattle.std.proofs.Common.{◌≡◌, ◌∙◌, List, ap, false, true, subst, sym, ℕ}
 use Rattle.due_model.specs.declared.event.Event.{Event}
 use Rattle.engine.specs.Lanes.{count_of}
 use Rattle.engine.specs.Run.{IsRunOf}
@@ -16,7 +16,7 @@ returns g c =
     let done = feeds_done config c.new.result ran.result.source c.args.ends.items parts.result.1.items parts.result.0.items ran.result.memory parts.result.2 c.new.ensures.ends c.new.ensures.events (c.new.ensures.taken config)
     ran.ensures.source parts.ensures.events parts.ensures.ends
     (λ taken m uncut. parts.ensures.over config taken m (ran.ensures.over m) uncut) (λ taken cut. parts.ensures.cut config taken cut) in
-    let kept = run_of_kept config c.args.zone.now given _ ran.result.memory ran.result.lanes.items _ ran.result.logs.items ran.result.log.items ran.ensures.run in
+    let kept = run_of_kept (λ _. true) config c.args.zone.now given _ ran.result.memory ran.result.lanes.items _ ran.result.logs.items ran.result.log.items ran.ensures.run in
     let run : IsRunOf config c.args.zone.now given parts.result.0.items ran.result.memory ran.result.lanes.items ran.result.log.items =
     subst (λ (es : List Event). IsRunOf config c.args.zone.now given es ran.result.memory ran.result.lanes.items ran.result.log.items) (sym parts.ensures.events) kept in
     let refused = c.new-2.ensures.items in
