@@ -25,6 +25,7 @@ use decider_thread::DeciderLog;
 use delivery_worker::{Closers, Gate};
 use due_model::config::Config;
 use due_model::zone::Zone;
+use engine_threads::Setup;
 use event_feed::{FeedFault, Horizon, OpenHorizon};
 use std::alloc::{AllocError, Global};
 use std::sync::Wait;
@@ -114,9 +115,15 @@ impl Engine {
             reader,
             horizon: OpenHorizon,
         };
-        Engine::run_within(
-            rt, alloc, config, zone, feed, posts, settings, closers, gate,
-        )
+        let setup = Setup {
+            rt,
+            alloc,
+            config,
+            zone,
+            closers,
+            gate,
+        };
+        Engine::run_within(setup, feed, posts, settings)
     }
 
     /// The same, where a line whose stamp is past what a horizon says is refused as `Ahead`. It is asked in the calling thread, once
@@ -128,42 +135,35 @@ impl Engine {
         G: Gate + Sync,
         T: Threads + Wait + Clock + Sync,
     >(
-        rt: &T,
-        alloc: Global,
-        config: &Config,
-        zone: &Zone,
+        setup: Setup<'_, Zone, G, T>,
         feed: LimitedFeed<R, H>,
         posts: Vec<Post<C>>,
         settings: Settings,
-        closers: &Closers,
-        gate: &G,
     ) -> (RunEnd, Vec<Vec<C>>)
-        requires accepted { IsAccepted config.now }
+        requires accepted { IsAccepted setup.config.now }
         requires few { (l : ℕ) → count_of (λ post. post.lane.0) posts.items l ≤ 8 }
         // Of the events that were taken, the same is promised of the lanes and the log;
-        ensures run { IsRunOf config.now zone.now (count_of (λ post. post.lane.0) posts.items)
+        ensures run { IsRunOf setup.entry.config.now setup.entry.zone.now (count_of (λ post. post.lane.0) posts.items)
             result.0.events.items result.0.memory result.0.lanes.items result.0.log.items }
         // and they and the refused lines are those of the bytes, of whose lines just those are too far ahead that are refused so.
         ensures read { (far : ℕ → Bool)
             → ((line : ℕ) → far line ≡ ahead_in result.0.refused.items line)
-            → IsReadOf far R.can_fail config.now (R.remaining feed.reader) result.0.memory
+            → IsReadOf far R.can_fail setup.entry.config.now (R.remaining feed.reader) result.0.memory
             result.0.events.items result.0.refused.items result.0.cut }
         ensures near { H.is_open feed.horizon ≡ true → NoneIsAhead result.0.refused.items }
         ensures all { result.0.started ≡ true
-            → length result.0.lanes.items ≡ length config.now.lanes }
+            → length result.0.lanes.items ≡ length setup.entry.config.now.lanes }
         ensures unstarted { result.0.started ≡ false
             → IsUnread result.0.events.items result.0.refused.items result.0.log.items
             result.0.lanes.items result.0.memory }
         ensures channels { (l : ℕ) (lane cs : _) → slice_get result.0.lanes.items l ≡ Some lane
             → slice_get result.1.items l ≡ Some cs
-            → HaveTaken C.account C.offered settings.tries config.now lane
+            → HaveTaken C.account C.offered settings.tries setup.entry.config.now lane
             (channels_on (λ post. post.lane.0) (λ post. post.channel) l posts.items) cs.items }
         ensures places { length result.1.items ≡ length result.0.lanes.items }
     {
-        let logs = kept_logs(alloc, settings.deciders);
-        let (end, channels, _logs) = run_reader(
-            rt, alloc, config, zone, feed, posts, logs, settings, closers, gate,
-        );
+        let logs = kept_logs(setup.alloc, settings.deciders);
+        let (end, channels, _logs) = run_reader(setup, feed, posts, logs, settings);
         (end, channels)
     }
 
@@ -178,54 +178,38 @@ impl Engine {
         G: Gate + Sync,
         T: Threads + Wait + Clock + Sync,
     >(
-        rt: &T,
-        alloc: Global,
-        config: &Config,
-        zone: &Zone,
+        setup: Setup<'_, Zone, G, T>,
         feed: LimitedFeed<R, H>,
         outlets: Outlets<C, L>,
         settings: Settings,
-        closers: &Closers,
-        gate: &G,
     ) -> (RunEnd, Vec<Vec<C>>, Vec<L>)
-        requires accepted { IsAccepted config.now }
+        requires accepted { IsAccepted setup.config.now }
         requires few { (l : ℕ) → count_of (λ post. post.lane.0) outlets.posts.items l ≤ 8 }
         // There is a log for each decider.
         requires logs { length outlets.logs.items ≡ settings.deciders }
         // What the logs were told and then the run's log are, of each object, all that was suppressed; a log that hasn't failed was told
         // all of it. The rest is as before.
-        ensures run { IsToldRunOf L.tells L.failed config.now zone.now
+        ensures run { IsToldRunOf L.tells L.failed setup.entry.config.now setup.entry.zone.now
             (count_of (λ post. post.lane.0) outlets.posts.items) result.0.events.items result.0.memory
             result.0.lanes.items outlets.logs.items result.2.items result.0.log.items }
         ensures read { (far : ℕ → Bool)
             → ((line : ℕ) → far line ≡ ahead_in result.0.refused.items line)
-            → IsReadOf far R.can_fail config.now (R.remaining feed.reader) result.0.memory
+            → IsReadOf far R.can_fail setup.entry.config.now (R.remaining feed.reader) result.0.memory
             result.0.events.items result.0.refused.items result.0.cut }
         ensures near { H.is_open feed.horizon ≡ true → NoneIsAhead result.0.refused.items }
         ensures all { result.0.started ≡ true
-            → length result.0.lanes.items ≡ length config.now.lanes }
+            → length result.0.lanes.items ≡ length setup.entry.config.now.lanes }
         ensures unstarted { result.0.started ≡ false
             → IsUnread result.0.events.items result.0.refused.items result.0.log.items
             result.0.lanes.items result.0.memory }
         ensures channels { (l : ℕ) (lane cs : _) → slice_get result.0.lanes.items l ≡ Some lane
             → slice_get result.1.items l ≡ Some cs
-            → HaveTaken C.account C.offered settings.tries config.now lane
+            → HaveTaken C.account C.offered settings.tries setup.entry.config.now lane
             (channels_on (λ post. post.lane.0) (λ post. post.channel) l outlets.posts.items) cs.items }
         ensures places { length result.1.items ≡ length result.0.lanes.items }
     {
         let Outlets { posts, logs } = outlets;
-        run_reader(
-            rt,
-            alloc,
-            config,
-            zone,
-            feed,
-            posts,
-            Ok(logs),
-            settings,
-            closers,
-            gate,
-        )
+        run_reader(setup, feed, posts, Ok(logs), settings)
     }
 }
 
@@ -238,42 +222,41 @@ fn run_reader<
     G: Gate + Sync,
     T: Threads + Wait + Clock + Sync,
 >(
-    rt: &T,
-    alloc: Global,
-    config: &Config,
-    zone: &Zone,
+    setup: Setup<'_, Zone, G, T>,
     feed: LimitedFeed<R, H>,
     posts: Vec<Post<C>>,
     logs: Result<Vec<L>, AllocError>,
     settings: Settings,
-    closers: &Closers,
-    gate: &G,
 ) -> (RunEnd, Vec<Vec<C>>, Vec<L>)
-    requires accepted { IsAccepted config.now }
+    requires accepted { IsAccepted setup.config.now }
     requires few { (l : ℕ) → count_of (λ post. post.lane.0) posts.items l ≤ 8 }
     requires logs { IfOk logs (λ ls. length ls.items ≡ settings.deciders) }
-    ensures run { IsToldRunOf L.tells L.failed config.now zone.now (count_of (λ post. post.lane.0) posts.items)
+    ensures run { IsToldRunOf L.tells L.failed setup.entry.config.now setup.entry.zone.now (count_of (λ post. post.lane.0) posts.items)
         result.0.events.items result.0.memory result.0.lanes.items (given_logs logs) result.2.items
         result.0.log.items }
     ensures read { (far : ℕ → Bool)
         → ((line : ℕ) → far line ≡ ahead_in result.0.refused.items line)
-        → IsReadOf far R.can_fail config.now (R.remaining feed.reader) result.0.memory
+        → IsReadOf far R.can_fail setup.entry.config.now (R.remaining feed.reader) result.0.memory
         result.0.events.items result.0.refused.items result.0.cut }
     ensures near { H.is_open feed.horizon ≡ true → NoneIsAhead result.0.refused.items }
     ensures all { result.0.started ≡ true
-        → length result.0.lanes.items ≡ length config.now.lanes }
+        → length result.0.lanes.items ≡ length setup.entry.config.now.lanes }
     ensures unstarted { result.0.started ≡ false
         → IsUnread result.0.events.items result.0.refused.items result.0.log.items
         result.0.lanes.items result.0.memory }
     ensures channels { (l : ℕ) (lane cs : _) → slice_get result.0.lanes.items l ≡ Some lane
         → slice_get result.1.items l ≡ Some cs
-        → HaveTaken C.account C.offered settings.tries config.now lane
+        → HaveTaken C.account C.offered settings.tries setup.entry.config.now lane
         (channels_on (λ post. post.lane.0) (λ post. post.channel) l posts.items) cs.items }
     ensures places { length result.1.items ≡ length result.0.lanes.items }
 {
     let LimitedFeed { reader, horizon } = feed;
-    let Ok(lines) = LineReader::new(alloc, reader) else {
-        return (RunEnd::unread(alloc), Vec::new(alloc), Vec::new(alloc));
+    let Ok(lines) = LineReader::new(setup.alloc, reader) else {
+        return (
+            RunEnd::unread(setup.alloc),
+            Vec::new(setup.alloc),
+            Vec::new(setup.alloc),
+        );
     };
     let Ran {
         lanes,
@@ -284,16 +267,11 @@ fn run_reader<
         started,
         source,
     } = run_source(
-        rt,
-        alloc,
-        config,
-        zone,
-        Intake::new(alloc, lines, horizon),
+        setup,
+        Intake::new(setup.alloc, lines, horizon),
         posts,
         logs,
         settings,
-        closers,
-        gate,
     );
     let (events, refused, cut) = source.into_parts(memory);
     let end = RunEnd {

@@ -26,7 +26,7 @@ use due_model::config::Config;
 use due_model::event::Event;
 use due_model::limits::MAX_EVENTS;
 use due_model::zone::Zone;
-use engine_threads::{Given, Source};
+use engine_threads::{Given, Setup, Source};
 use std::alloc::{AllocError, Global};
 use std::sync::Wait;
 use std::thread::Threads;
@@ -182,6 +182,14 @@ impl Engine {
             (channels_on (λ post. post.lane.0) (λ post. post.channel) l posts.items) cs.items }
         ensures places { length result.2.items ≡ length result.0.lanes.items }
     {
+        let setup = Setup {
+            rt,
+            alloc,
+            config,
+            zone,
+            closers,
+            gate,
+        };
         let Ran {
             lanes,
             channels,
@@ -191,16 +199,11 @@ impl Engine {
             started,
             source,
         } = run_source(
-            rt,
-            alloc,
-            config,
-            zone,
+            setup,
             Feeds::new(alloc, ends),
             posts,
             kept_logs(alloc, settings.deciders),
             settings,
-            closers,
-            gate,
         );
         let (events, ends, cut) = source.into_parts(memory);
         let end = RunEnd {

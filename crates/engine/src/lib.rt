@@ -20,6 +20,7 @@ pub use caller_feeds::{EndFull, FeedEnd, FeedHandle, Full};
 pub use decider_thread::{DeciderLog, KeptLog};
 pub use delivery_worker::{Closers, Gate};
 pub use engine::Engine;
+pub use engine_threads::Setup;
 pub use event_feed::{Horizon, OpenHorizon};
 pub use limited_feed::LimitedFeed;
 pub use logs::Outlets;

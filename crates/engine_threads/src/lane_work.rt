@@ -4,11 +4,11 @@ ghost use Rattle.std.specs.Prelude.{◌≡◌, ◌<◌, ◌≤◌, [], length};
 ghost use Rattle.channel_queue.specs.Passes.{IsWorker};
 ghost use Rattle.engine_threads.specs.Lanes.{HaveTaken, IsServed};
 
+use crate::shared::Shared;
 use channel::Channel;
 use channel_queue::{LaneQueue, Pass};
-use delivery_worker::{Closers, Gate, LaneBell, PatientBell, Served, serve};
-use due_model::config::{Config, LaneId};
-use std::alloc::Global;
+use delivery_worker::{Gate, LaneBell, PatientBell, Served, serve};
+use due_model::config::LaneId;
 use std::sync::Wait;
 use std::time::Clock;
 
@@ -22,29 +22,32 @@ pub(crate) struct LaneWork<C: Channel> {
 }
 
 /// The work of a lane's thread.
-pub(crate) fn serve_lane<C: Channel, G: Gate, R: Wait + Clock>(
-    rt: &R,
-    alloc: Global,
-    config: &Config,
+pub(crate) fn serve_lane<C: Channel, Z, G: Gate, R: Wait + Clock>(
+    shared: Shared<'_, Z, G, R>,
     work: LaneWork<C>,
-    tries: u8,
     queue: &LaneQueue,
-    closers: &Closers,
-    gate: &G,
 ) -> (Served, Vec<C>)
-    requires tries { 0 < tries }
+    requires tries { 0 < shared.tries }
     requires deciders { queue.now.deciders ≤ 8 }
     requires worker { IsWorker queue.now [] [] work.pass }
     ensures served { IsServed queue.now (length work.channels.items) result.0 }
-    ensures channels { HaveTaken C.account C.offered tries config.now result.0 work.channels.items result.1.items }
+    ensures channels { HaveTaken C.account C.offered shared.entry.tries shared.entry.config.now result.0 work.channels.items result.1.items }
 {
     let LaneWork {
         lane,
         channels,
         pass,
     } = work;
-    let mut bell = PatientBell::new(LaneBell::new(closers, lane), rt, gate);
+    let mut bell = PatientBell::new(LaneBell::new(shared.closers, lane), shared.rt, shared.gate);
     serve(
-        rt, alloc, config, channels, tries, queue, pass, &mut bell, gate,
+        shared.rt,
+        shared.alloc,
+        shared.config,
+        channels,
+        shared.tries,
+        queue,
+        pass,
+        &mut bell,
+        shared.gate,
     )
 }

@@ -16,7 +16,7 @@ use channel::Channel;
 use command_output::{CommandFault, Ending, Lines, Sink};
 use due_model::config::Config;
 use due_model::zone::Zone;
-use engine::{Closers, Engine, Gate, Horizon, LimitedFeed, Post, RunEnd, Settings};
+use engine::{Closers, Engine, Gate, Horizon, LimitedFeed, Post, RunEnd, Settings, Setup};
 use feed_lines::{write_log, write_refused};
 use lanes::{has_undelivered, write_lanes};
 use progress::Watcher;
@@ -74,9 +74,15 @@ pub fn run<
     ensures fault { IfErr result.0 (λ fault. IsWriteFault W.can_fail fault) }
 {
     let room = Lines::new(alloc);
-    let (end, channels) = Engine::run_within(
-        rt, alloc, config, zone, feed, posts, settings, closers, gate,
-    );
+    let setup = Setup {
+        rt,
+        alloc,
+        config,
+        zone,
+        closers,
+        gate,
+    };
+    let (end, channels) = Engine::run_within(setup, feed, posts, settings);
     watcher.make_way();
     match room {
         Ok(lines) => (

@@ -17,19 +17,19 @@ pub returns-in_default : goal.returns-in_default
 returns-in_default g c =
     let e = c.unread.ensures in
     let end = c.unread.result in
-    let run = none_told_ran g.L.DeciderLog.tells g.L.DeciderLog.failed c.args.config.now c.args.zone.now (count_of (λ post. post.lane.0) c.args.posts.items) end.events.items end.memory end.lanes.items end.log.items (given_logs c.args.logs) c.new-in_default-2.result.items e.events e.lanes e.log c.new-in_default-2.ensures.items e.memory in
-    let read : (far : ℕ → Bool) → ((line : ℕ) → far line ≡ ahead_in end.refused.items line) → IsReadOf far g.R.Input.can_fail c.args.config.now (g.R.Read.remaining c.args.feed.reader) end.memory end.events.items end.refused.items end.cut = λ far same.
-    unread_is far g.R.Input.can_fail c.args.config.now (g.R.Read.remaining c.args.feed.reader) end.memory end.events.items end.refused.items end.cut e.events e.refused e.memory e.cut in
-    let channels = none_told {C = g.row.C.Denot} g.C.Channel.account g.C.Channel.offered c.args.settings.tries c.args.config.now end.lanes.items c.new-in_default.result.items (λ cs. cs.items) (λ l. channels_on (λ post. post.lane.0) (λ post. post.channel) l c.args.posts.items) e.lanes in
+    let run = none_told_ran g.L.DeciderLog.tells g.L.DeciderLog.failed c.args.setup.config.now c.args.setup.zone.now (count_of (λ post. post.lane.0) c.args.posts.items) end.events.items end.memory end.lanes.items end.log.items (given_logs c.args.logs) c.new-in_default-2.result.items e.events e.lanes e.log c.new-in_default-2.ensures.items e.memory in
+    let read : (far : ℕ → Bool) → ((line : ℕ) → far line ≡ ahead_in end.refused.items line) → IsReadOf far g.R.Input.can_fail c.args.setup.config.now (g.R.Read.remaining c.args.feed.reader) end.memory end.events.items end.refused.items end.cut = λ far same.
+    unread_is far g.R.Input.can_fail c.args.setup.config.now (g.R.Read.remaining c.args.feed.reader) end.memory end.events.items end.refused.items end.cut e.events e.refused e.memory e.cut in
+    let channels = none_told {C = g.row.C.Denot} g.C.Channel.account g.C.Channel.offered c.args.settings.tries c.args.setup.config.now end.lanes.items c.new-in_default.result.items (λ cs. cs.items) (λ l. channels_on (λ post. post.lane.0) (λ post. post.channel) l c.args.posts.items) e.lanes in
     let places : length c.new-in_default.result.items ≡ length end.lanes.items = ap length c.new-in_default.ensures.items ∙ sym (ap length e.lanes) in
-    let all : end.started ≡ true → length end.lanes.items ≡ length c.args.config.now.lanes = λ yes. absurd (true≢false (sym yes ∙ e.started)) in
+    let all : end.started ≡ true → length end.lanes.items ≡ length c.args.setup.config.now.lanes = λ yes. absurd (true≢false (sym yes ∙ e.started)) in
     let unstarted : end.started ≡ false → IsUnread end.events.items end.refused.items end.log.items end.lanes.items end.memory = λ no. (e.events, e.refused, e.log, e.lanes, e.memory) in
     let near : g.H.Horizon.is_open c.args.feed.horizon ≡ true → NoneIsAhead end.refused.items = λ _. subst NoneIsAhead (sym e.refused) (All-nil (λ (r : RefusedLine). is_ahead r.fault ≡ false)) in
     assumption (run, read, near, channels, places, all, unstarted)
 
 pub returns : goal.returns
 returns g c =
-    let config = c.args.config.now in
+    let config = c.args.setup.config.now in
     let begun = c.new-2.result in
     let known = g.R.Read.remaining c.args.feed.reader in
     let given : ℕ → ℕ = count_of (λ post. post.lane.0) c.args.posts.items in
@@ -42,8 +42,8 @@ returns g c =
     (parts.ensures.left g.R.Input.can_fail config begun.read.feed taken.0 far taken.1 ran.ensures.over same) in
     let near : g.H.Horizon.is_open c.args.feed.horizon ≡ true → NoneIsAhead parts.result.1.items = λ is. parts.ensures.near (none_since g.R.Input.can_fail config known begun ran.result.source start ran.ensures.source (c.new-2.ensures.is_open ∙ is)) in
     let logs = given_logs c.args.logs in
-    let run : IsToldRunOf g.L.DeciderLog.tells g.L.DeciderLog.failed config c.args.zone.now given parts.result.0.items ran.result.memory ran.result.lanes.items logs ran.result.logs.items ran.result.log.items =
-    subst (λ (es : List Event). IsToldRunOf g.L.DeciderLog.tells g.L.DeciderLog.failed config c.args.zone.now given es ran.result.memory ran.result.lanes.items logs ran.result.logs.items ran.result.log.items) (sym parts.ensures.events) ran.ensures.run in
+    let run : IsToldRunOf g.L.DeciderLog.tells g.L.DeciderLog.failed config c.args.setup.zone.now given parts.result.0.items ran.result.memory ran.result.lanes.items logs ran.result.logs.items ran.result.log.items =
+    subst (λ (es : List Event). IsToldRunOf g.L.DeciderLog.tells g.L.DeciderLog.failed config c.args.setup.zone.now given es ran.result.memory ran.result.lanes.items logs ran.result.logs.items ran.result.log.items) (sym parts.ensures.events) ran.ensures.run in
     let channels = ran.ensures.channels in
     let places = ran.ensures.places in
     let all = ran.ensures.all in
