@@ -16,7 +16,7 @@ use crate::zone::GivesZone;
 use channel::Channel;
 use channel_queue::LaneQueue;
 use decider::Share;
-use decider_thread::{DeciderEnd, DeciderLog, Seat, Signal, decide_ring};
+use decider_thread::{DeciderEnd, DeciderLog, DeciderSetup, Seat, Signal, decide_ring};
 use delivery_worker::{Closers, Gate, Served};
 use due_model::config::Config;
 use rtrb::Consumer;
@@ -193,19 +193,17 @@ fn start_decider<
                 return None;
             }
             let DeciderWork { ring, seats } = work;
-            Some(decide_ring(
-                shared.rt,
-                shared.alloc,
-                shared.config,
-                shared.zone.zone(),
+            let setup = DeciderSetup {
+                rt: shared.rt,
+                alloc: shared.alloc,
+                config: shared.config,
+                zone: shared.zone.zone(),
                 share,
-                ring,
-                log,
-                shared.queues,
-                seats,
-                shared.gate,
-                shared.halt,
-            ))
+                queues: shared.queues,
+                gate: shared.gate,
+                halt: shared.halt,
+            };
+            Some(decide_ring(setup, ring, log, seats))
         },
     );
     match started {
