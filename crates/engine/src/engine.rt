@@ -1,17 +1,12 @@
 //! The engine.
 
-ghost use Rattle.std.specs.Prelude.{◌≡◌, ◌≢◌, ◌≤◌, ℕ, All, Bool, true, false, [], length, reverse, slice_get, IfOk, IfSome, Some};
+ghost use Rattle.std.specs.Prelude.{◌≡◌, ◌≤◌, ℕ, Bool, true, length, slice_get, IfOk, Some};
 ghost use Rattle.due_model.specs.Accepted.{IsAccepted};
-ghost use Rattle.due_model.specs.Proper.{IsProper};
-ghost use Rattle.engine.specs.Due.{BeginsLog, HaveCauses, IsLog, LanesAreDue, LanesBeginDue};
-ghost use Rattle.engine.specs.Due.{LanesKeepDue};
-ghost use Rattle.engine.specs.Feed.{IsFrontRead, IsWhatWasRead, NoneIsAhead, ahead_in};
-ghost use Rattle.engine.specs.Feed.{events_of};
+ghost use Rattle.engine.specs.Feed.{NoneIsAhead, ahead_in};
 ghost use Rattle.engine.specs.Lanes.{HaveTaken, channels_on, count_of};
-ghost use Rattle.engine.specs.Lists.{IsFrontOf};
 ghost use Rattle.engine.specs.Logs.{given_logs};
 ghost use Rattle.engine.specs.Run.{IsReadOf, IsRunOf, IsToldRunOf};
-ghost use Rattle.engine.specs.Unread.{IsUnread};
+ghost use Rattle.engine.specs.Unread.{HasStarted};
 ghost use Rattle.event_feed.specs.Feed.{no_line};
 
 use crate::intake::Intake;
@@ -26,7 +21,7 @@ use delivery_worker::{Closers, Gate};
 use due_model::config::Config;
 use due_model::zone::Zone;
 use engine_threads::Setup;
-use event_feed::{FeedFault, Horizon, OpenHorizon};
+use event_feed::{Horizon, OpenHorizon};
 use std::alloc::{AllocError, Global};
 use std::sync::Wait;
 use std::thread::Threads;
@@ -62,46 +57,17 @@ impl Engine {
         requires accepted { IsAccepted config.now }
         // Of each lane there are at most eight posts.
         requires few { (l : ℕ) → count_of (λ post. post.lane.0) posts.items l ≤ 8 }
-        // All that was due: of each object, each lane has taken or given up exactly that, in order,
-        ensures due { result.0.memory ≡ false → LanesAreDue config.now zone.now
-            (reverse result.0.events.items) result.0.lanes.items }
-        // and the log is all that was suppressed.
-        ensures log { result.0.memory ≡ false
-            → IsLog config.now zone.now (reverse result.0.events.items) result.0.log.items }
-        // All that was read: the events and the refused lines are those of the bytes.
-        ensures read { IfSome (R.remaining reader) (λ bytes. result.0.memory ≡ false
-            → IsWhatWasRead no_line R.can_fail config.now.objects bytes
-            result.0.events.items result.0.refused.items result.0.cut) }
-        ensures proper { All (IsProper config.now) result.0.events.items }
-        ensures named { All (λ r. r.fault ≢ FeedFault.NoMemory) result.0.refused.items }
+        // Of the events that were taken: of each object, each lane has taken or given up exactly what was due, in order, the log is all
+        // that was suppressed, and a lane is closed for a cause; where memory ran out, a front of that.
+        ensures run { IsRunOf config.now zone.now (count_of (λ post. post.lane.0) posts.items)
+            result.0.events.items result.0.memory result.0.lanes.items result.0.log.items }
+        // The events and the refused lines are those of the bytes; where memory ran out, a front of them.
+        ensures read { IsReadOf no_line R.can_fail config.now (R.remaining reader) result.0.memory
+            result.0.events.items result.0.refused.items result.0.cut }
         ensures near { NoneIsAhead result.0.refused.items }
-        // Want of memory: what is there is a front of it,
-        ensures front { IfSome (R.remaining reader) (λ bytes.
-            IsFrontOf result.0.events.items (events_of no_line config.now.objects bytes)) }
-        ensures read_front { IfSome (R.remaining reader) (λ bytes. result.0.memory ≡ true
-            → IsFrontRead no_line config.now.objects bytes
-            result.0.events.items result.0.refused.items) }
-        ensures due_front { LanesBeginDue config.now zone.now (reverse result.0.events.items)
-            result.0.lanes.items }
-        ensures log_front { BeginsLog config.now zone.now (reverse result.0.events.items)
-            result.0.log.items }
-        // a lane whose own memory sufficed has all that was decided,
-        ensures others { LanesKeepDue config.now zone.now (reverse result.0.events.items)
-            result.0.lanes.items }
-        // every lane is there, where an event was accepted,
-        ensures whole { result.0.events.items ≢ []
-            → length result.0.lanes.items ≡ length config.now.lanes }
-        // and wherever the run began; where it didn't, nothing was read, and memory ran out or a thread couldn't be started,
-        ensures all { result.0.started ≡ true
-            → length result.0.lanes.items ≡ length config.now.lanes }
-        ensures unstarted { result.0.started ≡ false
-            → IsUnread result.0.events.items result.0.refused.items result.0.log.items
-            result.0.lanes.items result.0.memory }
-        // and the feed is not said to be cut.
-        ensures uncut { result.0.memory ≡ true → result.0.cut ≡ false }
-        // A lane is closed for a cause.
-        ensures causes { HaveCauses (count_of (λ post. post.lane.0) posts.items)
-            result.0.memory result.0.lanes.items }
+        // Where the run began every lane is there; where it didn't, nothing was read.
+        ensures started { HasStarted config.now result.0.started result.0.events.items result.0.refused.items
+            result.0.log.items result.0.lanes.items result.0.memory }
         // Each lane's channels come back, in the order of its posts: each is the one that was given, it has taken what its record says
         // and nothing else, each letter was offered to it until it was taken, and it was replaced only since the next letter had
         // failed as often as it may be tried.
@@ -151,11 +117,8 @@ impl Engine {
             → IsReadOf far R.can_fail setup.entry.config.now (R.remaining feed.reader) result.0.memory
             result.0.events.items result.0.refused.items result.0.cut }
         ensures near { H.is_open feed.horizon ≡ true → NoneIsAhead result.0.refused.items }
-        ensures all { result.0.started ≡ true
-            → length result.0.lanes.items ≡ length setup.entry.config.now.lanes }
-        ensures unstarted { result.0.started ≡ false
-            → IsUnread result.0.events.items result.0.refused.items result.0.log.items
-            result.0.lanes.items result.0.memory }
+        ensures started { HasStarted setup.entry.config.now result.0.started result.0.events.items result.0.refused.items
+            result.0.log.items result.0.lanes.items result.0.memory }
         ensures channels { (l : ℕ) (lane cs : _) → slice_get result.0.lanes.items l ≡ Some lane
             → slice_get result.1.items l ≡ Some cs
             → HaveTaken C.account C.offered settings.tries setup.entry.config.now lane
@@ -197,11 +160,8 @@ impl Engine {
             → IsReadOf far R.can_fail setup.entry.config.now (R.remaining feed.reader) result.0.memory
             result.0.events.items result.0.refused.items result.0.cut }
         ensures near { H.is_open feed.horizon ≡ true → NoneIsAhead result.0.refused.items }
-        ensures all { result.0.started ≡ true
-            → length result.0.lanes.items ≡ length setup.entry.config.now.lanes }
-        ensures unstarted { result.0.started ≡ false
-            → IsUnread result.0.events.items result.0.refused.items result.0.log.items
-            result.0.lanes.items result.0.memory }
+        ensures started { HasStarted setup.entry.config.now result.0.started result.0.events.items result.0.refused.items
+            result.0.log.items result.0.lanes.items result.0.memory }
         ensures channels { (l : ℕ) (lane cs : _) → slice_get result.0.lanes.items l ≡ Some lane
             → slice_get result.1.items l ≡ Some cs
             → HaveTaken C.account C.offered settings.tries setup.entry.config.now lane
@@ -239,11 +199,8 @@ fn run_reader<
         → IsReadOf far R.can_fail setup.entry.config.now (R.remaining feed.reader) result.0.memory
         result.0.events.items result.0.refused.items result.0.cut }
     ensures near { H.is_open feed.horizon ≡ true → NoneIsAhead result.0.refused.items }
-    ensures all { result.0.started ≡ true
-        → length result.0.lanes.items ≡ length setup.entry.config.now.lanes }
-    ensures unstarted { result.0.started ≡ false
-        → IsUnread result.0.events.items result.0.refused.items result.0.log.items
-        result.0.lanes.items result.0.memory }
+    ensures started { HasStarted setup.entry.config.now result.0.started result.0.events.items result.0.refused.items
+        result.0.log.items result.0.lanes.items result.0.memory }
     ensures channels { (l : ℕ) (lane cs : _) → slice_get result.0.lanes.items l ≡ Some lane
         → slice_get result.1.items l ≡ Some cs
         → HaveTaken C.account C.offered settings.tries setup.entry.config.now lane

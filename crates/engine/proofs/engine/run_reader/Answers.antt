@@ -7,7 +7,7 @@ use Rattle.engine.specs.Feed.{IsStart, NoneIsAhead, ahead_in}
 use Rattle.engine.specs.Lanes.{channels_on, count_of}
 use Rattle.engine.specs.Logs.{given_logs}
 use Rattle.engine.specs.Run.{IsReadOf, IsToldRunOf}
-use Rattle.engine.specs.Unread.{IsUnread}
+use Rattle.engine.specs.Unread.{HasStarted, IsUnread}
 use Rattle.engine.proofs.ChannelLaws.{none_told}
 use Rattle.engine.proofs.IntakeLaws.{none_since, taken_since}
 use Rattle.engine.proofs.RunEndLaws.{none_told_ran, read_is, unread_is}
@@ -22,10 +22,12 @@ returns-in_default g c =
     unread_is far g.R.Input.can_fail c.args.setup.config.now (g.R.Read.remaining c.args.feed.reader) end.memory end.events.items end.refused.items end.cut e.events e.refused e.memory e.cut in
     let channels = none_told {C = g.row.C.Denot} g.C.Channel.account g.C.Channel.offered c.args.settings.tries c.args.setup.config.now end.lanes.items c.new-in_default.result.items (λ cs. cs.items) (λ l. channels_on (λ post. post.lane.0) (λ post. post.channel) l c.args.posts.items) e.lanes in
     let places : length c.new-in_default.result.items ≡ length end.lanes.items = ap length c.new-in_default.ensures.items ∙ sym (ap length e.lanes) in
-    let all : end.started ≡ true → length end.lanes.items ≡ length c.args.setup.config.now.lanes = λ yes. absurd (true≢false (sym yes ∙ e.started)) in
-    let unstarted : end.started ≡ false → IsUnread end.events.items end.refused.items end.log.items end.lanes.items end.memory = λ no. (e.events, e.refused, e.log, e.lanes, e.memory) in
+    let started : HasStarted c.args.setup.config.now end.started end.events.items end.refused.items end.log.items end.lanes.items end.memory = record {
+      all = λ yes. absurd (true≢false (sym yes ∙ e.started));
+      unread = λ no. (e.events, e.refused, e.log, e.lanes, e.memory);
+    } in
     let near : g.H.Horizon.is_open c.args.feed.horizon ≡ true → NoneIsAhead end.refused.items = λ _. subst NoneIsAhead (sym e.refused) (All-nil (λ (r : RefusedLine). is_ahead r.fault ≡ false)) in
-    assumption (run, read, near, channels, places, all, unstarted)
+    assumption (run, read, near, channels, places, started)
 
 pub returns : goal.returns
 returns g c =
@@ -46,8 +48,7 @@ returns g c =
     subst (λ (es : List Event). IsToldRunOf g.L.DeciderLog.tells g.L.DeciderLog.failed config c.args.setup.zone.now given es ran.result.memory ran.result.lanes.items logs ran.result.logs.items ran.result.log.items) (sym parts.ensures.events) ran.ensures.run in
     let channels = ran.ensures.channels in
     let places = ran.ensures.places in
-    let all = ran.ensures.all in
-    let unstarted : ran.result.started ≡ false → IsUnread parts.result.0.items parts.result.1.items ran.result.log.items ran.result.lanes.items ran.result.memory = λ no.
+    let unread : ran.result.started ≡ false → IsUnread parts.result.0.items parts.result.1.items ran.result.log.items ran.result.lanes.items ran.result.memory = λ no.
     (let none = ran.ensures.unstarted no in (
       parts.ensures.events ∙ ap (λ s. s.read.events) none.0 ∙ start.no_events,
       parts.ensures.refused (ap (λ s. is_some s.over) none.0 ∙ ap (λ (o : Option Bool). is_some o) start.not_over) ∙ ap (λ s. s.read.refused) none.0 ∙ start.no_refused,
@@ -55,4 +56,5 @@ returns g c =
       none.2,
       none.1,
     )) in
-    assumption (run, read, near, channels, places, all, unstarted)
+    let started : HasStarted config ran.result.started parts.result.0.items parts.result.1.items ran.result.log.items ran.result.lanes.items ran.result.memory = record { all = ran.ensures.all; unread = unread } in
+    assumption (run, read, near, channels, places, started)
