@@ -122,7 +122,7 @@ pub(crate) fn decide_events<L: DeciderLog, G: Gate, R: Wait + Clock>(
     ensures lanes { length (lists outbox.new) ≡ length (lists outbox.old) }
 {
     let mut pause = Pause::new();
-    for _ in rt.forever() {
+    for _ in setup.rt.forever() {
         let moved = put_round(setup.queues, seats, outbox, setup.share.decider);
         match next_signal(ring, outbox) {
             None => {
