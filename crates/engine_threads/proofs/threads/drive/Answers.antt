@@ -127,11 +127,11 @@ returns-clause-log g c =
       }),
       subst (λ (m : ℕ). IsLogOf config zone past (c.meet_all-refused.result || (c.feed_from-stopped.result || c.merged_log-log.result.1)) (λ o. ended.0 (o % m)) log) as_logs is_log,
       subst (λ (m : ℕ). NoneIsLeft g.L.DeciderLog.failed m c.join_all-ends.result.1.items log) as_logs
-      (λ o b at unfailed.
-      left_any c.merged_log-log.result.1 o log
-      (λ merges. none_left laws config zone n c.args.queues.now past c.meet_all-refused.result served ended.0 ends some refl all_met log (subst (λ (es : List DeciderEnd). HasEach es log) merged (c.merged_log-log.ensures.each merges)) o
-      (λ e at_e. ended.4 (o % n) e b at_e at unfailed))
-      c.merged_log-log.ensures.none),
+          (λ o b at unfailed.
+          left_any c.merged_log-log.result.1 o log
+          (λ merges. none_left laws config zone n c.args.queues.now past c.meet_all-refused.result served ended.0 ends some refl all_met log (subst (λ (es : List DeciderEnd). HasEach es log) merged (c.merged_log-log.ensures.each merges)) o
+          (λ e at_e. ended.4 (o % n) e b at_e at unfailed))
+          c.merged_log-log.ensures.none),
     )
 
 pub returns-clause-over : goal.returns-clause-over
