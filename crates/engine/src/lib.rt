@@ -28,3 +28,4 @@ pub use open_gate::OpenGate;
 pub use post::{Post, are_few};
 pub use run_end::{LaneEnd, RunEnd};
 pub use steps::Settings;
+pub use undelivered::Why;

@@ -26,7 +26,7 @@ use made_feed::Supposed;
 use progress::{ProgressLine, Watcher};
 use replay::{replay_files, replay_in};
 use report_forms::{LineForm, ShownLines, show_files, show_in};
-use run_devices::{RunFault, RunSettings, do_run};
+use run_devices::{LoggedWords, RunFault, RunSettings, do_logged_run, do_run};
 use std::alloc::{AllocError, Global};
 use std::env;
 use std::fs::File;
@@ -302,6 +302,7 @@ fn status_of_request<T: Threads + Wait + Clock + Sync>(
             times,
             quiet,
             ahead,
+            log,
             ..
         } => {
             let settings = RunSettings {
@@ -313,6 +314,16 @@ fn status_of_request<T: Threads + Wait + Clock + Sync>(
             };
             let feed = AnyReader::new(rt.stdin());
             let mut writer = AnyWriter::new(rt.stdout());
+            if let Some(file) = log.file {
+                let words = LoggedWords {
+                    objects,
+                    channels,
+                    log: file,
+                    fold: log.fold,
+                };
+                let outcome = do_logged_run(rt, threads, &zone, words, settings, feed, &mut writer);
+                return status_of_run(rt, outcome);
+            }
             let outcome = do_run(
                 rt,
                 threads,

@@ -9,8 +9,12 @@ ghost use Rattle.command_output.specs.Outcome.{IsWriteFault};
 ghost use Rattle.written.specs.Written.{Writes, WritesFront};
 ghost use Rattle.run_command.specs.Report.{WritesReport, WritesReportFront, ending_of, report_text};
 
+mod ends;
 mod feed_lines;
 mod lanes;
+mod line_log;
+mod logged;
+mod repeats;
 
 use channel::Channel;
 use command_output::{CommandFault, Ending, Lines, Sink};
@@ -19,6 +23,8 @@ use due_model::zone::Zone;
 use engine::{Closers, Engine, Gate, Horizon, LimitedFeed, Post, RunEnd, Settings, Setup};
 use feed_lines::{write_log, write_refused};
 use lanes::{has_undelivered, write_lanes};
+pub use line_log::LineLog;
+pub use logged::{LoggedEnd, RunSite, run_logged};
 use progress::Watcher;
 use std::alloc::Global;
 use std::sync::Wait;
