@@ -24,7 +24,7 @@ use engine::{Closers, Engine, Gate, Horizon, LimitedFeed, Post, RunEnd, Settings
 use feed_lines::{write_log, write_refused};
 use lanes::{has_undelivered, write_lanes};
 pub use line_log::LineLog;
-pub use logged::{LoggedEnd, RunSite, run_logged};
+pub use logged::{LoggedEnd, run_logged};
 use progress::Watcher;
 use std::alloc::Global;
 use std::sync::Wait;

@@ -13,23 +13,12 @@ use channel::Channel;
 use command_output::{CommandFault, Ending, Lines, Sink};
 use due_model::config::Config;
 use due_model::zone::Zone;
-use engine::{Closers, DeciderLog, Engine, Gate, Horizon, LaneEnd, LimitedFeed, Outlets, Settings};
+use engine::{DeciderLog, Engine, Gate, Horizon, LaneEnd, LimitedFeed, Outlets, Settings, Setup};
 use progress::Watcher;
-use std::alloc::Global;
 use std::sync::Wait;
 use std::thread::Threads;
 use std::time::Clock;
 use text_lines::Input;
-
-/// What a run shares with its threads.
-#[derive(Clone, Copy)]
-pub struct RunSite<'r, G: Gate + Sync> {
-    pub config: &'r Config,
-    pub zone: &'r Zone,
-    pub settings: Settings,
-    pub closers: &'r Closers,
-    pub gate: &'r G,
-}
 
 /// What a run leaves that had logs.
 #[derive(Drop)]
@@ -56,55 +45,44 @@ pub fn run_logged<
     P: Watcher,
     T: Threads + Wait + Clock + Sync,
 >(
-    rt: &T,
-    alloc: Global,
-    site: RunSite<'_, G>,
+    setup: Setup<'_, Zone, G, T>,
+    settings: Settings,
     outlets: Outlets<C, L>,
     feed: LimitedFeed<R, H>,
     writer: &mut W,
     watcher: &mut P,
 ) -> LoggedEnd<C, L>
-    requires accepted { IsAccepted site.config.now }
+    requires accepted { IsAccepted setup.config.now }
     // Of each lane there are at most eight posts.
     requires few { (l : ℕ) → count_of (λ post. post.lane.0) outlets.posts.items l ≤ 8 }
     // There is a log for each decider.
-    requires logs { length outlets.logs.items ≡ site.settings.deciders }
+    requires logs { length outlets.logs.items ≡ settings.deciders }
     // What is written is the ends of the lanes of a run of the feed, whose logs were told what it suppressed.
     ensures report { IfOk result.outcome (λ ending. WritesEnds L.tells L.failed R.can_fail (H.is_open feed.horizon)
-        site.config.now site.zone.now (count_of (λ post. post.lane.0) outlets.posts.items)
-        (AreTold C.account C.offered (λ cs. cs.items) site.settings.tries site.config.now
+        setup.entry.config.now setup.entry.zone.now (count_of (λ post. post.lane.0) outlets.posts.items)
+        (AreTold C.account C.offered (λ cs. cs.items) settings.tries setup.entry.config.now
         (λ l. channels_on (λ post. post.lane.0) (λ post. post.channel) l outlets.posts.items) result.channels.items)
         (R.remaining feed.reader) outlets.logs.items result.logs.items ending
         (W.contents writer.old) (W.contents writer.new)) }
     // Or a front of it, or nothing was read.
     ensures front { IfErr result.outcome (λ fault. WritesEndsFront L.tells L.failed R.can_fail (H.is_open feed.horizon)
-        site.config.now site.zone.now (count_of (λ post. post.lane.0) outlets.posts.items)
-        (AreTold C.account C.offered (λ cs. cs.items) site.settings.tries site.config.now
+        setup.entry.config.now setup.entry.zone.now (count_of (λ post. post.lane.0) outlets.posts.items)
+        (AreTold C.account C.offered (λ cs. cs.items) settings.tries setup.entry.config.now
         (λ l. channels_on (λ post. post.lane.0) (λ post. post.channel) l outlets.posts.items) result.channels.items)
         (R.remaining feed.reader) outlets.logs.items result.logs.items fault
         (W.contents writer.old) (W.contents writer.new)) }
     ensures fault { IfErr result.outcome (λ fault. IsWriteFault W.can_fail fault) }
 {
-    let Ok(lines) = Lines::new(alloc) else {
+    let Ok(lines) = Lines::new(setup.alloc) else {
         return LoggedEnd {
             outcome: Err(CommandFault::NoMemory),
-            channels: Vec::new(alloc),
-            logs: Vec::new(alloc),
+            channels: Vec::new(setup.alloc),
+            logs: Vec::new(setup.alloc),
         };
     };
-    let (end, channels, logs) = Engine::run_told(
-        rt,
-        alloc,
-        site.config,
-        site.zone,
-        feed,
-        outlets,
-        site.settings,
-        site.closers,
-        site.gate,
-    );
+    let (end, channels, logs) = Engine::run_told(setup, feed, outlets, settings);
     watcher.make_way();
-    let told = tell_ends(lines, writer, site.config, &end.lanes);
+    let told = tell_ends(lines, writer, setup.config, &end.lanes);
     LoggedEnd {
         outcome: outcome_of(&end, told),
         channels,

@@ -20,9 +20,9 @@ use crate::teller::{Teller, teller_of};
 use command_output::{AnyWriter, CommandFault, Ending, Sink};
 use due_model::config::{Config, LaneId};
 use due_model::zone::Zone;
-use engine::{Closers, LimitedFeed, Outlets, Post};
+use engine::{Closers, LimitedFeed, Outlets, Post, Setup};
 use notice_text::texts::lane_name;
-use run_command::{LineLog, LoggedEnd, RunSite, run_logged};
+use run_command::{LineLog, LoggedEnd, run_logged};
 use std::alloc::{AllocError, Global};
 use std::io::Eprint;
 use std::sync::{Arc, Wait};
@@ -127,15 +127,15 @@ fn log_through<'a, T: Threads + Wait + Clock + Sync, R: Input + Drop, W: Sink>(
         channels: _,
         logs,
     } = run_logged(
-        threads,
-        alloc,
-        RunSite {
+        Setup {
+            rt: threads,
+            alloc,
             config: site.config,
             zone: site.zone,
-            settings: site.settings.settings,
             closers: &closers,
             gate: &gate,
         },
+        site.settings.settings,
         Outlets { posts, logs },
         LimitedFeed {
             reader: feed,
