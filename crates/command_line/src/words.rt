@@ -319,7 +319,7 @@ fn with_zone<'a>(alloc: Global, command: Command<'a>) -> Result<Command<'a>, All
         alloc,
         "zone",
         "RULE",
-        "The zone of local times, by a POSIX rule, as EST5EDT,M3.2.0,M11.1.0",
+        "The zone of local times, by its name, as Europe/Berlin, or by a POSIX rule, as EST5EDT,M3.2.0,M11.1.0",
     );
     let file = text_option(
         alloc,

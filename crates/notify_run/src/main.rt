@@ -10,12 +10,13 @@ ghost use Rattle.command_line.specs.Words.{AreSettingsFit, AreTwo, asks_bad_lett
 ghost use Rattle.notify_run.specs.Refusal.{refusal_status};
 ghost use Rattle.notify_run.specs.Shown.{AreShownBy};
 ghost use Rattle.notify_run.specs.Times.{IsBadLength, IsBadTime};
-ghost use Rattle.notify_run.specs.Zones.{IsBadRule, zone_fault_status};
+ghost use Rattle.notify_run.specs.Zones.{IsBadRule};
 ghost use Rattle.run_devices.specs.Fault.{run_status};
 ghost use Rattle.steps.specs.Settings.{max_channels};
 
+mod zones;
+
 use clap::error::ErrorKind;
-use command_input::zone_of;
 use command_line::{Request, ShownWords, WhoWords, command, request_of};
 use command_output::{AnyWriter, CommandFault, Ending, exit_status};
 use due_model::limits::LAST_MOMENT;
@@ -39,7 +40,7 @@ use steps::Settings;
 use text_lines::AnyReader;
 use trace::trace_in;
 use who_told::{object_parts, who};
-use zone_times::given::ZoneFault;
+use zones::{status_of_zone, zone_asked};
 
 /// Says on standard error what a command failed with, if it did, and gives its exit status.
 fn status_of<R: Eprint>(rt: &R, outcome: Result<Ending, CommandFault>) -> ExitCode
@@ -52,7 +53,7 @@ fn status_of<R: Eprint>(rt: &R, outcome: Result<Ending, CommandFault>) -> ExitCo
 }
 
 /// Memory ran out before a command was known.
-fn out_of_memory<R: Eprint>(rt: &R) -> ExitCode
+pub(crate) fn out_of_memory<R: Eprint>(rt: &R) -> ExitCode
     ensures { exit_status result ≡ 4 }
 {
     status_of(rt, Err(CommandFault::NoMemory))
@@ -70,23 +71,6 @@ fn status_of_refusal<R: Print + Eprint>(rt: &R, error: &clap::Error) -> ExitCode
         ExitCode::from(2)
     } else {
         ExitCode::from(0)
-    }
-}
-
-/// Says on standard error why there is no zone, and gives the exit status.
-fn status_of_zone<R: Eprint>(rt: &R, fault: ZoneFault) -> ExitCode
-    ensures { exit_status result ≡ zone_fault_status fault }
-{
-    match fault {
-        ZoneFault::TwoZones => {
-            let _ = rt.eprintln("usage: two zones");
-            ExitCode::from(2)
-        }
-        ZoneFault::BadZone => {
-            let _ = rt.eprintln("usage: bad zone");
-            ExitCode::from(2)
-        }
-        ZoneFault::NoMemory => out_of_memory(rt),
     }
 }
 
@@ -281,9 +265,9 @@ fn status_of_request<T: Threads + Wait + Clock + Sync>(
         return status_of_words(rt, "bad letters");
     }
     let words = request.zone();
-    let zone = match zone_of(rt, words.rule, words.file) {
+    let zone = match zone_asked(rt, words) {
         Ok(zone) => zone,
-        Err(fault) => return status_of_zone(rt, fault),
+        Err(fault) => return status_of_zone(rt, words, fault),
     };
     let outcome = match request {
         Request::Replay { objects, shown, .. } => do_replay(rt, &zone, objects, shown),

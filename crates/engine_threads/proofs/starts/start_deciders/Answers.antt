@@ -3,6 +3,8 @@ use Rattle.std.proofs.lemmas.List.{nil_from_length}
 use Rattle.std.specs.Vec.Iter.{into_iter_items}
 use Rattle.decider.specs.declared.share.Share.{Share}
 use Rattle.engine_threads.specs.ListLaws.{all_taken, both_longer, next_rest, pairs_grow}
+use Rattle.decider_thread.specs.Puts.{ArePut}
+use Rattle.engine_threads.proofs.ListLaws.{next_at}
 use Rattle.engine_threads.proofs.StartLaws.{all_logs, more_logs, no_logs, some_left}
 use Rattle.engine_threads.proofs.starts.start_deciders.Goals as goal
 
@@ -11,6 +13,22 @@ made_share d n = record { decider = d; deciders = n }
 
 share_is : (d n e m : ℕ) → d ≡ e → n ≡ m → made_share d n ≡ made_share e m
 share_is d n e m one two = ap (λ k. made_share k n) one ∙ ap (λ k. made_share e k) two
+
+pub start_decider-requires-clause-fresh : goal.start_decider-requires-clause-fresh
+start_decider-requires-clause-fresh g c κs within =
+    let work = next_at c.loop-work.yielded c.in-Some.work (into_iter_items c.loop-work.work-iterator) (into_iter_items c.next.new.self) c.args.works.items c.in-Some.ensures.steps.0 c.loop-work.invariant.2 in
+    (c.requires.works (length c.loop-work.yielded) c.in-Some.work work).fresh
+
+pub start_decider-requires-clause-seats : goal.start_decider-requires-clause-seats
+start_decider-requires-clause-seats g c κs within =
+    let work = next_at c.loop-work.yielded c.in-Some.work (into_iter_items c.loop-work.work-iterator) (into_iter_items c.next.new.self) c.args.works.items c.in-Some.ensures.steps.0 c.loop-work.invariant.2 in
+    (c.requires.works (length c.loop-work.yielded) c.in-Some.work work).count
+
+pub start_decider-requires-clause-puts : goal.start_decider-requires-clause-puts
+start_decider-requires-clause-puts g c κs within =
+    let work = next_at c.loop-work.yielded c.in-Some.work (into_iter_items c.loop-work.work-iterator) (into_iter_items c.next.new.self) c.args.works.items c.in-Some.ensures.steps.0 c.loop-work.invariant.2 in
+    let number : c.len-in-loop-work.result ≡ length c.loop-work.yielded = search rules in
+    subst (λ (d : ℕ). ArePut d c.args.shared.queues.now c.in-Some.work.seats.items (λ _. []) (λ _. [])) (sym number) (c.requires.works (length c.loop-work.yielded) c.in-Some.work work).puts
 
 pub loop-work-preserved : goal.loop-work-preserved
 loop-work-preserved g c =
