@@ -1,0 +1,5 @@
+pub mod Columns
+pub mod Lines
+pub mod Runs
+pub mod Pretty
+pub mod Teller

@@ -1,0 +1,249 @@
+//! A line of a report for people.
+
+ghost use Rattle.std.specs.Prelude.{◌≡◌, ◌++◌, OnOk};
+ghost use Rattle.notice_text.specs.Texts.{number_text};
+ghost use Rattle.report_pretty.specs.Columns.{padded};
+ghost use Rattle.report_pretty.specs.Lines.{condition_text, contact_columns, fault_text, kind_colour};
+ghost use Rattle.report_pretty.specs.Lines.{line_end, line_text, refused_text, since_text, stopped_text};
+ghost use Rattle.report_pretty.specs.Lines.{told_text, when_text, withheld_text};
+
+use crate::columns::{Look, push_object_padded, push_padded, push_paint, push_unpaint};
+use due_model::config::{Config, ContactId, ObjectId};
+use due_model::notice::{Kind, Notice, Suppression};
+use due_model::state::State;
+use event_feed::RefusedLine;
+use itoa::Buffer;
+use line_forms::ReportLine;
+use local_text::push_iso;
+use messages::entries::Entry;
+use notice_text::names::{filter_name, kind_name, state_name};
+use notice_text::texts::{contact_name, lane_name, push_notice_number};
+use std::alloc::{AllocError, Global};
+use zone_times::clock::ZoneClock;
+
+/// Adds when something is, and of which object.
+#[tactic(auto, unfolding(crate::specs::Lines::when_text))]
+fn push_when(
+    alloc: Global,
+    text: &mut Vec<u8>,
+    config: &Config,
+    clock: &ZoneClock<'_>,
+    look: Look,
+    moment: u64,
+    object: ObjectId,
+) -> Result<(), AllocError>
+    ensures { OnOk result
+        (text.new.items ≡ text.old.items ++ when_text config.now clock.now look moment object.0) }
+{
+    push_iso(text, clock, moment)?;
+    text.extend_from_slice(b"  ")?;
+    push_object_padded(alloc, text, config, object, look.widths.object)?;
+    text.extend_from_slice(b"  ")
+}
+
+/// Adds a kind and a state.
+#[tactic(auto, unfolding(crate::specs::Lines::condition_text))]
+fn push_condition(text: &mut Vec<u8>, kind: Kind, state: State) -> Result<(), AllocError>
+    ensures { OnOk result (text.new.items ≡ text.old.items ++ condition_text kind state) }
+{
+    push_padded(text, kind_name(kind).as_bytes(), 8)?;
+    text.extend_from_slice(b"  ")?;
+    push_padded(text, state_name(state).as_bytes(), 8)?;
+    text.extend_from_slice(b"  ")
+}
+
+/// Adds the number of a notice in its column.
+fn push_number_padded(alloc: Global, text: &mut Vec<u8>, number: u64) -> Result<(), AllocError>
+    ensures { OnOk result (text.new.items ≡ text.old.items ++ padded 2 (number_text number)) }
+{
+    let mut digits = Vec::new(alloc);
+    push_notice_number(&mut digits, number)?;
+    push_padded(text, &digits, 2)
+}
+
+/// Adds the number of a notice, and a contact.
+#[tactic(auto, unfolding(crate::specs::Lines::contact_columns))]
+fn push_contact(
+    alloc: Global,
+    text: &mut Vec<u8>,
+    config: &Config,
+    look: Look,
+    number: u64,
+    contact: ContactId,
+) -> Result<(), AllocError>
+    ensures { OnOk result
+        (text.new.items ≡ text.old.items ++ contact_columns config.now look number contact.0) }
+{
+    push_number_padded(alloc, text, number)?;
+    text.extend_from_slice(b"  ")?;
+    push_padded(text, contact_name(config, contact), look.widths.contact)?;
+    text.extend_from_slice(b"  ")
+}
+
+/// The colour of a notice.
+fn kind_colour(kind: Kind) -> &'static [u8]
+    ensures { result.now ≡ kind_colour kind }
+{
+    match kind {
+        Kind::Problem => b"31",
+        Kind::Recovery => b"32",
+        Kind::FlappingStart => b"36",
+        Kind::FlappingStop => b"36",
+        Kind::DowntimeStart => b"36",
+        Kind::DowntimeEnd => b"36",
+        Kind::DowntimeCancelled => b"36",
+    }
+}
+
+/// Adds the end of a line.
+#[tactic(auto, unfolding(crate::specs::Lines::line_end))]
+fn push_end(text: &mut Vec<u8>, look: Look) -> Result<(), AllocError>
+    ensures { OnOk result (text.new.items ≡ text.old.items ++ line_end look) }
+{
+    push_unpaint(text, look.coloured)?;
+    text.extend_from_slice(b"\n")
+}
+
+/// Adds the line of a notice.
+#[tactic(auto, unfolding(crate::specs::Lines::told_text))]
+fn push_told(
+    alloc: Global,
+    text: &mut Vec<u8>,
+    config: &Config,
+    clock: &ZoneClock<'_>,
+    look: Look,
+    notice: &Notice,
+) -> Result<(), AllocError>
+    ensures { OnOk result
+        (text.new.items ≡ text.old.items ++ told_text config.now clock.now look notice.now) }
+{
+    push_paint(text, look.coloured, kind_colour(notice.kind))?;
+    push_when(alloc, text, config, clock, look, notice.moment, notice.object)?;
+    push_condition(text, notice.kind, notice.state)?;
+    text.extend_from_slice(b"told     ")?;
+    push_contact(alloc, text, config, look, notice.number, notice.contact)?;
+    text.extend_from_slice(lane_name(config, notice.lane))?;
+    push_end(text, look)
+}
+
+/// Adds the line of a contact that was refused.
+#[tactic(auto, unfolding(crate::specs::Lines::refused_text))]
+fn push_refused(
+    alloc: Global,
+    text: &mut Vec<u8>,
+    config: &Config,
+    clock: &ZoneClock<'_>,
+    look: Look,
+    withheld: &Suppression,
+    contact: ContactId,
+) -> Result<(), AllocError>
+    ensures { OnOk result (text.new.items
+        ≡ text.old.items ++ refused_text config.now clock.now look withheld.now contact) }
+{
+    push_paint(text, look.coloured, b"33")?;
+    push_when(alloc, text, config, clock, look, withheld.moment, withheld.object)?;
+    push_condition(text, withheld.kind, withheld.state)?;
+    text.extend_from_slice(b"refused  ")?;
+    push_contact(alloc, text, config, look, withheld.number, contact)?;
+    text.extend_from_slice(filter_name(withheld.filter).as_bytes())?;
+    push_end(text, look)
+}
+
+/// Adds the line of a refused line of the feed.
+#[tactic(auto, unfolding(crate::specs::Lines::fault_text))]
+fn push_fault(text: &mut Vec<u8>, look: Look, refused: &RefusedLine) -> Result<(), AllocError>
+    ensures { OnOk result (text.new.items ≡ text.old.items ++ fault_text look refused.now) }
+{
+    let mut buffer = Buffer::new();
+    push_paint(text, look.coloured, b"35")?;
+    text.extend_from_slice(b"line ")?;
+    text.extend_from_slice(buffer.format(refused.line).as_bytes())?;
+    text.extend_from_slice(b" of the feed: ")?;
+    text.extend_from_slice(refused.fault.name().as_bytes())?;
+    push_end(text, look)
+}
+
+/// Adds how often something was stopped, and since when, where it was so several times.
+#[tactic(auto, unfolding(crate::specs::Lines::since_text))]
+fn push_since(
+    text: &mut Vec<u8>,
+    clock: &ZoneClock<'_>,
+    count: u64,
+    first: u64,
+) -> Result<(), AllocError>
+    ensures { OnOk result (text.new.items ≡ text.old.items ++ since_text clock.now count first) }
+{
+    if count == 1 {
+        return Ok(());
+    }
+    let mut buffer = Buffer::new();
+    text.extend_from_slice(b", ")?;
+    text.extend_from_slice(buffer.format(count).as_bytes())?;
+    text.extend_from_slice(b" times since ")?;
+    push_iso(text, clock, first)
+}
+
+/// Adds the line of what a filter of an object stopped so many times in a row, the last time so.
+#[tactic(auto, unfolding(crate::specs::Lines::stopped_text))]
+pub(crate) fn push_stopped(
+    alloc: Global,
+    text: &mut Vec<u8>,
+    config: &Config,
+    clock: &ZoneClock<'_>,
+    look: Look,
+    withheld: &Suppression,
+    count: u64,
+    first: u64,
+) -> Result<(), AllocError>
+    ensures { OnOk result (text.new.items ≡ text.old.items
+        ++ stopped_text config.now clock.now look withheld.now count first) }
+{
+    push_paint(text, look.coloured, b"2")?;
+    push_when(alloc, text, config, clock, look, withheld.moment, withheld.object)?;
+    push_condition(text, withheld.kind, withheld.state)?;
+    text.extend_from_slice(b"stopped  ")?;
+    text.extend_from_slice(filter_name(withheld.filter).as_bytes())?;
+    push_since(text, clock, count, first)?;
+    push_end(text, look)
+}
+
+/// Adds the line of a suppression, where it is of a contact.
+fn push_withheld(
+    alloc: Global,
+    text: &mut Vec<u8>,
+    config: &Config,
+    clock: &ZoneClock<'_>,
+    look: Look,
+    withheld: &Suppression,
+) -> Result<(), AllocError>
+    ensures { OnOk result (text.new.items ≡ text.old.items
+        ++ withheld_text config.now clock.now look withheld.now withheld.now.contact) }
+{
+    match withheld.contact {
+        Some(contact) => push_refused(alloc, text, config, clock, look, withheld, contact),
+        None => Ok(()),
+    }
+}
+
+/// Adds a line, where it is none of a row. A refused growth is the only error.
+pub(crate) fn push_line(
+    alloc: Global,
+    text: &mut Vec<u8>,
+    config: &Config,
+    clock: &ZoneClock<'_>,
+    look: Look,
+    line: &ReportLine,
+) -> Result<(), AllocError>
+    ensures { OnOk result
+        (text.new.items ≡ text.old.items ++ line_text config.now clock.now look line.now) }
+{
+    match line {
+        ReportLine::Decided(Entry::Sent(notice)) => {
+            push_told(alloc, text, config, clock, look, notice)
+        }
+        ReportLine::Decided(Entry::Withheld(withheld)) => {
+            push_withheld(alloc, text, config, clock, look, withheld)
+        }
+        ReportLine::Refused(refused) => push_fault(text, look, refused),
+    }
+}

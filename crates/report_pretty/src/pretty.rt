@@ -1,0 +1,126 @@
+//! The teller that writes the lines of a report for people.
+
+ghost use Rattle.std.specs.Prelude.{◌≡◌, ◌++◌, unwrap_or, IfOk, OnOk};
+ghost use Rattle.line_forms.specs.Picks.{line_object};
+ghost use Rattle.report_pretty.specs.Pretty.{added};
+ghost use Rattle.report_pretty.specs.Runs.{no_runs, runs_after};
+
+use crate::columns::{Look, Widths, widths_in};
+use crate::lines::push_line;
+use crate::runs::{Runs, push_before, run_after};
+use due_model::config::{Config, ObjectId};
+use line_forms::{Picks, ReportLine};
+use messages::entries::Entry;
+use report_telling::Teller;
+use std::alloc::{AllocError, Global};
+use zone_times::clock::ZoneClock;
+
+/// Writes the lines that are wanted for people: what filters of an object stop in a row is one line, before the next line of
+/// that object, or at the end.
+#[derive(Drop)]
+pub struct PrettyLines<'a> {
+    alloc: Global,
+    picks: Picks<'a>,
+    coloured: bool,
+    /// How wide the columns are, once a line was told.
+    widths: Option<Widths>,
+    runs: Runs,
+}
+
+impl<'a> PrettyLines<'a> {
+    /// One that was told no line yet.
+    pub(crate) fn new(
+        alloc: Global,
+        picks: Picks<'a>,
+        coloured: bool,
+    ) -> Result<PrettyLines<'a>, AllocError>
+        ensures picks { IfOk result (λ pretty. pretty.picks ≡ picks) }
+        ensures coloured { IfOk result (λ pretty. pretty.coloured ≡ coloured) }
+        ensures widths { IfOk result (λ pretty. pretty.widths ≡ None) }
+        ensures runs { IfOk result (λ pretty. pretty.runs ≡ no_runs) }
+    {
+        Ok(PrettyLines {
+            alloc,
+            picks,
+            coloured,
+            widths: None,
+            runs: Runs::new(alloc)?,
+        })
+    }
+}
+
+impl Teller for PrettyLines<'_> {
+    ghost use Rattle.report_pretty.specs.Teller.{after_line, ended_lines, told_line};
+
+    ghost told = { λ pretty config zone line. told_line pretty config zone line };
+
+    ghost after = { λ pretty config _ line. after_line pretty config line };
+
+    ghost ended = { λ pretty config zone. ended_lines pretty config zone };
+
+    fn tell(
+        &mut self,
+        config: &Config,
+        clock: &ZoneClock<'_>,
+        line: &ReportLine,
+        text: &mut Vec<u8>,
+    ) -> Result<(), AllocError> {
+        if !self.picks.is_picked(self.alloc, config, line)? {
+            return Ok(());
+        }
+        let widths = widths_in(self.alloc, config, self.widths)?;
+        self.widths = Some(widths);
+        let look = Look {
+            widths,
+            coloured: self.coloured,
+        };
+        add_line(self.alloc, text, config, clock, look, &mut self.runs, line)
+    }
+
+    fn end(
+        &mut self,
+        config: &Config,
+        clock: &ZoneClock<'_>,
+        text: &mut Vec<u8>,
+    ) -> Result<(), AllocError> {
+        let widths = widths_in(self.alloc, config, self.widths)?;
+        let look = Look {
+            widths,
+            coloured: self.coloured,
+        };
+        self.runs.push_all(self.alloc, text, config, clock, look)
+    }
+}
+
+/// The object that a line tells of.
+fn line_object(line: &ReportLine) -> Option<ObjectId>
+    ensures { result ≡ line_object line.now }
+{
+    match line {
+        ReportLine::Decided(Entry::Sent(notice)) => Some(notice.object),
+        ReportLine::Decided(Entry::Withheld(withheld)) => Some(withheld.object),
+        ReportLine::Refused(_) => None,
+    }
+}
+
+/// Adds what a line adds, after these rows, and puts the row of its object on.
+fn add_line(
+    alloc: Global,
+    text: &mut Vec<u8>,
+    config: &Config,
+    clock: &ZoneClock<'_>,
+    look: Look,
+    runs: &mut Runs,
+    line: &ReportLine,
+) -> Result<(), AllocError>
+    ensures text { OnOk result (text.new.items
+        ≡ text.old.items ++ added config.now clock.now look runs.old line.now) }
+    ensures runs { OnOk result (runs.new ≡ runs_after runs.old line.now) }
+{
+    if let Some(object) = line_object(line) {
+        let run = runs.get(object);
+        push_before(alloc, text, config, clock, look, run, line)?;
+        runs.set(object, run_after(run, line));
+    }
+    push_line(alloc, text, config, clock, look, line)
+}

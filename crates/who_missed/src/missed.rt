@@ -1,0 +1,184 @@
+//! The teller that keeps the lines of a report, and says at its end who is missing.
+
+ghost use Rattle.std.specs.Prelude.{◌≡◌, ◌++◌, [], flat_map, OnOk};
+ghost use Rattle.std.specs.List.{range_with_len};
+ghost use Rattle.who_missed.specs.Missed.{contact_numbers, later_text, missed_line, missed_row, whom_text};
+
+use crate::lines::Lines;
+use crate::named::is_named;
+use crate::reasons::{is_told, later_line, push_why};
+use due_model::config::{Config, ContactId, ObjectId};
+use line_forms::ReportLine;
+use local_text::push_local;
+use messages::entries::Entry;
+use notice_text::texts::{contact_name, push_notice_number};
+use report_telling::Teller;
+use std::alloc::{AllocError, Global};
+use zone_times::clock::ZoneClock;
+
+/// How many numbers of contacts there may be.
+const CONTACTS: u32 = 65_536;
+
+/// Keeps the lines of a report, and writes at its end, for each contact that the configuration names for an object and that
+/// no notice up to a moment went to, a line: why not, and when it is told later on.
+#[derive(Drop)]
+pub struct Missed<'a> {
+    /// The host, or the host of the service.
+    pub host: &'a str,
+    /// The description of the service; none where it is the host itself.
+    pub service: Option<&'a str>,
+    /// Up to this moment notices count, in seconds since the epoch.
+    pub until: u64,
+    lines: Lines,
+}
+
+impl<'a> Missed<'a> {
+    /// One that was told no line yet.
+    pub fn new(alloc: Global, host: &'a str, service: Option<&'a str>, until: u64) -> Missed<'a>
+        ensures host { result.host.now ≡ host.now }
+        ensures service { result.service ≡ service.entry }
+        ensures until { result.until ≡ until }
+        ensures lines { result.lines ≡ [] }
+    {
+        Missed {
+            host,
+            service,
+            until,
+            lines: Lines::new(alloc),
+        }
+    }
+}
+
+impl Teller for Missed<'_> {
+    ghost use Rattle.std.specs.Prelude.{[], ◌∷◌, ◌++◌};
+    ghost use Rattle.std.specs.Option.{option_copied};
+    ghost use Rattle.who_missed.specs.Missed.{missed_text};
+
+    ghost told = { λ _ _ _ _. [] };
+
+    ghost after = { λ missed _ _ line. record missed { lines = missed.lines ++ line ∷ [] } };
+
+    ghost ended = { λ missed config zone. missed_text config zone missed.host.now
+        (option_copied missed.service) missed.until missed.lines };
+
+    fn tell(
+        &mut self,
+        _config: &Config,
+        _clock: &ZoneClock<'_>,
+        line: &ReportLine,
+        _text: &mut Vec<u8>,
+    ) -> Result<(), AllocError> {
+        self.lines.push(*line)
+    }
+
+    fn end(
+        &mut self,
+        config: &Config,
+        clock: &ZoneClock<'_>,
+        text: &mut Vec<u8>,
+    ) -> Result<(), AllocError> {
+        let service = match self.service {
+            Some(service) => Some(service.as_bytes()),
+            None => None,
+        };
+        match config.objects.find(self.host.as_bytes(), service) {
+            None => Ok(()),
+            Some(object) => push_missed(
+                text,
+                config,
+                clock,
+                object,
+                self.until,
+                self.lines.as_slice(),
+            ),
+        }
+    }
+}
+
+/// Adds the lines of an object, contact by contact.
+fn push_missed(
+    text: &mut Vec<u8>,
+    config: &Config,
+    clock: &ZoneClock<'_>,
+    object: ObjectId,
+    until: u64,
+    lines: &[ReportLine],
+) -> Result<(), AllocError>
+    ensures { OnOk result (text.new.items ≡ text.old.items
+        ++ flat_map (missed_line config.now clock.now object.0 until lines.now)
+        (range_with_len 0 contact_numbers)) }
+{
+    for number in 0..CONTACTS {
+        let contact = ContactId(number as u16);
+        push_line(text, config, clock, object, until, lines, contact)?;
+    }
+    Ok(())
+}
+
+/// Adds the line of a contact, where there is one.
+fn push_line(
+    text: &mut Vec<u8>,
+    config: &Config,
+    clock: &ZoneClock<'_>,
+    object: ObjectId,
+    until: u64,
+    lines: &[ReportLine],
+    contact: ContactId,
+) -> Result<(), AllocError>
+    ensures { OnOk result (text.new.items ≡ text.old.items
+        ++ missed_line config.now clock.now object.0 until lines.now contact.0) }
+{
+    if !is_named(config, object, contact) || is_told(object, contact, until, lines) {
+        return Ok(());
+    }
+    push_row(text, config, clock, object, until, lines, contact)
+}
+
+/// Adds who isn't told.
+#[tactic(auto, unfolding(crate::specs::Missed::whom_text))]
+fn push_whom(text: &mut Vec<u8>, config: &Config, contact: ContactId) -> Result<(), AllocError>
+    ensures { OnOk result (text.new.items ≡ text.old.items ++ whom_text config.now contact.0) }
+{
+    text.extend_from_slice(b"not told  ")?;
+    text.extend_from_slice(contact_name(config, contact))?;
+    text.extend_from_slice(b"  ")
+}
+
+/// Adds when it is told later on, by the line that says so.
+fn push_later(
+    text: &mut Vec<u8>,
+    clock: &ZoneClock<'_>,
+    line: Option<ReportLine>,
+) -> Result<(), AllocError>
+    ensures { OnOk result (text.new.items ≡ text.old.items ++ later_text clock.now line) }
+{
+    match line {
+        Some(ReportLine::Decided(Entry::Sent(notice))) => {
+            text.extend_from_slice(b"told ")?;
+            push_local(text, clock, notice.moment)?;
+            text.extend_from_slice(b", notice ")?;
+            push_notice_number(text, notice.number)
+        }
+        _ => text.extend_from_slice(b"not within a week"),
+    }
+}
+
+/// Adds the line of a contact that is missing.
+#[tactic(auto, unfolding(crate::specs::Missed::missed_row))]
+fn push_row(
+    text: &mut Vec<u8>,
+    config: &Config,
+    clock: &ZoneClock<'_>,
+    object: ObjectId,
+    until: u64,
+    lines: &[ReportLine],
+    contact: ContactId,
+) -> Result<(), AllocError>
+    ensures { OnOk result (text.new.items ≡ text.old.items
+        ++ missed_row config.now clock.now object.0 until lines.now contact.0) }
+{
+    push_whom(text, config, contact)?;
+    push_why(text, config, object, contact, until, lines)?;
+    push_later(text, clock, later_line(object, contact, until, lines))?;
+    text.extend_from_slice(b"\n")
+}
