@@ -59,12 +59,16 @@ def of_escalations(configuration, number, person, within):
 
 def why(configuration, number, person, name, within):
     """Why somebody isn't told of an object, by the fields of its lines."""
+    if not configuration.people[person].rights[configuration.objects[number].kind].lanes:
+        return "no notification command; "
     refused = [line["filter"] for line in within if line["letter"] == "C" and line["contact"] == name]
     if refused:
         return f"{refused[0]}; "
     if any(line["letter"] != "S" for line in within):
         return of_escalations(configuration, number, person, within)
-    return f"{within[0]['filter']}; " if within else "nothing is due; "
+    if within:
+        return f"{within[0]['filter']}; "
+    return of_escalations(configuration, number, person, within) or "nothing is due; "
 
 
 def missing(configuration, number, person, until, lines, local):

@@ -5,13 +5,14 @@ ghost use Rattle.std.specs.Prelude.{◌≡◌, ◌<◌, true};
 ghost use Rattle.std.specs.Process.{exit_status};
 ghost use Rattle.clap.specs.Values.{kind_of};
 ghost use Rattle.command_output.specs.Outcome.{outcome_status};
-ghost use Rattle.command_line.specs.Words.{AreSettingsFit, AreTwo, asks_bad_letters, request_zone};
+ghost use Rattle.command_line.specs.Words.{AreSettingsFit, AreTwo, asks_bad_letters, asks_two_forms, request_zone};
 ghost use Rattle.notify_run.specs.Refusal.{refusal_status};
-ghost use Rattle.notify_run.specs.Shown.{AreShownBy};
+ghost use Rattle.notify_run.specs.Shown.{ArePickedBy, AreShownBy};
 ghost use Rattle.notify_run.specs.Zones.{IsBadRule, zone_fault_status};
 ghost use Rattle.run_devices.specs.Fault.{run_status};
 ghost use Rattle.steps.specs.Settings.{max_channels};
 
+mod pretty;
 mod who;
 
 use clap::error::ErrorKind;
@@ -20,6 +21,7 @@ use command_line::{Request, ShownWords, command, request_of};
 use command_output::{AnyWriter, CommandFault, Ending, exit_status};
 use due_model::zone::Zone;
 use line_forms::Picks;
+use pretty::pretty_through;
 use progress::{ProgressLine, Watcher};
 use replay::{replay_files, replay_in};
 use report_forms::{LineForm, ShownLines, show_files, show_in};
@@ -98,6 +100,8 @@ fn do_replay(
     let mut line = ProgressLine::new(rt, rt.stderr().is_terminal());
     let outcome = if words.is_plain() {
         replay_through(rt, zone, objects, &mut line)
+    } else if words.pretty {
+        pretty_through(rt, zone, objects, picks_of(words), &mut line)
     } else {
         let shown = shown_lines(rt.alloc(), words);
         show_through(rt, zone, objects, shown, &mut line)
@@ -126,6 +130,17 @@ fn replay_through<P: Watcher>(
     replay_files(alloc, zone, objects, input, &mut writer, watcher)
 }
 
+/// Which lines are wanted.
+fn picks_of(words: ShownWords<'_>) -> Picks<'_>
+    ensures { ArePickedBy words result }
+{
+    Picks {
+        only: words.only,
+        object: words.object,
+        contact: words.contact,
+    }
+}
+
 /// Which lines are wanted, and how they are written.
 fn shown_lines(alloc: Global, words: ShownWords<'_>) -> ShownLines<'_>
     ensures { AreShownBy words result }
@@ -135,11 +150,7 @@ fn shown_lines(alloc: Global, words: ShownWords<'_>) -> ShownLines<'_>
     } else {
         LineForm::Plain
     };
-    let picks = Picks {
-        only: words.only,
-        object: words.object,
-        contact: words.contact,
-    };
+    let picks = picks_of(words);
     ShownLines { alloc, picks, form }
 }
 
@@ -200,7 +211,7 @@ fn status_of_run<R: Eprint>(rt: &R, outcome: Result<Ending, RunFault<'_>>) -> Ex
     }
 }
 
-/// Does what is asked, and gives the exit status. Letters of lines are looked at before the zone is read, and that before
+/// Does what is asked, and gives the exit status. Letters and forms of lines are looked at before the zone is read, and that before
 /// anything else. The handle is of the machine, and again
 /// that by which threads are started.
 fn status_of_request<T: Threads + Wait + Clock + Sync>(
@@ -212,9 +223,13 @@ fn status_of_request<T: Threads + Wait + Clock + Sync>(
     ensures two { AreTwo (request_zone request.entry) → exit_status result ≡ 2 }
     ensures rule { IsBadRule (request_zone request.entry) → exit_status result ≡ 2 }
     ensures letters { asks_bad_letters request.entry ≡ true → exit_status result ≡ 2 }
+    ensures forms { asks_two_forms request.entry ≡ true → exit_status result ≡ 2 }
 {
     if request.asks_bad_letters() {
         return status_of_words(rt, "bad letters");
+    }
+    if request.asks_two_forms() {
+        return status_of_words(rt, "two forms");
     }
     let words = request.zone();
     let zone = match zone_of(rt, words.rule, words.file) {

@@ -32,7 +32,7 @@ when_text c zone look moment o =
 
 -- the kind and the state
 unfoldable pub condition_text : Kind → State → List ℕ
-condition_text k state = padded 8 (kind_name k) ++ gap ++ padded 8 (state_name state) ++ gap
+condition_text k state = padded 13 (kind_name k) ++ gap ++ padded 11 (state_name state) ++ gap
 
 -- the number of the notice, and the contact
 unfoldable pub contact_columns : Config → Look → (number k : ℕ) → List ℕ
@@ -74,22 +74,20 @@ fault_text look refused =
     paint look.coloured (codes "35") ++ codes "line " ++ decimal refused.line
     ++ codes " of the feed: " ++ fault_name refused.fault ++ line_end look
 
--- since when something was stopped, where it was so several times
-unfoldable pub since_text : Zone → (count first : ℕ) → List ℕ
-since_text zone count first =
-    if count == 1 then []
-    else codes ", " ++ decimal count ++ codes " times since " ++ iso_text zone first
+-- how often more it was stopped so, if it was
+unfoldable pub more_text : (more : ℕ) → List ℕ
+more_text more = if more == 0 then [] else codes ", " ++ decimal more ++ codes " times more"
 
--- so many times in a row a filter of the object stopped something, the last time so
-unfoldable pub stopped_text : Config → Zone → Look → Suppression → (count first : ℕ) → List ℕ
-stopped_text c zone look s count first =
+-- a filter of the object stopped something; and so many times more in a row, the last time so
+unfoldable pub stopped_text : Config → Zone → Look → Suppression → (more : ℕ) → List ℕ
+stopped_text c zone look s more =
     paint look.coloured (codes "2") ++ when_text c zone look s.moment s.object.0
     ++ condition_text s.kind s.state ++ codes "stopped  " ++ filter_name s.filter
-    ++ since_text zone count first ++ line_end look
+    ++ more_text more ++ line_end look
 
--- a suppression: of one contact; what a filter of the object stopped comes later, with all that it stopped in a row
+-- a suppression: of the object, or of one contact
 abbrev pub withheld_text : Config → Zone → Look → Suppression → Option ContactId → List ℕ
-withheld_text c zone look s None = []
+withheld_text c zone look s None = stopped_text c zone look s 0
 withheld_text c zone look s (Some contact) = refused_text c zone look s contact
 
 abbrev pub line_text : Config → Zone → Look → ReportLine → List ℕ

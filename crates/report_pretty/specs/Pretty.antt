@@ -19,15 +19,15 @@ use Rattle.report_pretty.specs.declared.columns.Widths.{Widths}
 use Rattle.report_pretty.specs.declared.runs.Run.{Run}
 use Rattle.report_pretty.specs.Columns.{widths_of}
 use Rattle.report_pretty.specs.Lines.{line_text}
-use Rattle.report_pretty.specs.Runs.{all_rest, no_runs, run_at, runs_after, text_before}
+use Rattle.report_pretty.specs.Runs.{all_rest, no_runs, run_at, runs_after, text_after}
 
--- a line adds the row of its object, if it doesn't go on with that, and itself, if it isn't one of a row
+-- what a line adds, by the row of its object
 abbrev pub added : Config → Zone → Look → List (Option Run) → ReportLine → List ℕ
 added c zone look runs line =
-    option_map_or (λ o. text_before c zone look (run_at runs o.0) line) (line_object line) []
-    ++ line_text c zone look line
+    option_map_or (λ o. text_after c zone look (run_at runs o.0) line) (line_object line)
+    (line_text c zone look line)
 
--- lines, after these rows; at the end come the rows that go on, by the numbers of their objects
+-- lines, after these rows; at the end comes how those went on that still do, by the numbers of their objects
 abbrev pub pretty_from : Config → Zone → Look → List (Option Run) → List ReportLine → List ℕ
 pretty_from c zone look runs [] = all_rest c zone look runs
 pretty_from c zone look runs (line ∷ lines) =

@@ -1,5 +1,5 @@
 -- What filters of an object stop in a row.
-use Rattle.std.specs.Prelude.{ℕ, ◌+◌, Bool, true, false, ◌&&◌, nat_lt, List, [], flat_map, replicate, slice_index_or, slice_set, Option, None, Some, if◌then◌else◌}
+use Rattle.std.specs.Prelude.{ℕ, ◌+◌, Bool, true, false, ◌&&◌, ◌==◌, nat_lt, List, [], ◌++◌, flat_map, replicate, slice_index_or, slice_set, Option, None, Some, if◌then◌else◌}
 use Rattle.std.specs.Option.{option_map_or}
 use Rattle.std.specs.Str.{bytes_eq}
 use Rattle.due_model.specs.declared.config.Config.{Config}
@@ -29,14 +29,12 @@ one_more count = if nat_lt count 18446744073709551615 then count + 1 else count
 
 -- what a filter of the object stopped is the first of a row, or goes on with one
 abbrev pub first_of : Suppression → Run
-first_of s = record { first = s.moment; count = 1; last = s }
+first_of s = record { more = 0; last = s }
 
 abbrev pub grown : Option Run → Suppression → Run
 grown None s = first_of s
 grown (Some run) s =
-    if same_stop run.last s
-    then record { first = run.first; count = one_more run.count; last = s }
-    else first_of s
+    if same_stop run.last s then record { more = one_more run.more; last = s } else first_of s
 
 -- the row that goes on after a suppression of the object: none after one of a contact
 abbrev pub withheld_after : Option Run → Suppression → Option ContactId → Option Run
@@ -62,19 +60,21 @@ continues run (Refused refused) = false
 
 -- ---- what is written of them
 
+-- how a row went on after its first line, if it did
 abbrev pub run_text : Config → Zone → Look → Run → List ℕ
-run_text c zone look run = stopped_text c zone look run.last run.count run.first
+run_text c zone look run =
+    if run.more == 0 then [] else stopped_text c zone look run.last run.more
 
--- of a row that may go on at the end
+-- of a row that goes on at the end
 abbrev pub rest_text : Config → Zone → Look → Option Run → List ℕ
 rest_text c zone look None = []
 rest_text c zone look (Some run) = run_text c zone look run
 
--- a row is written before the next line of its object that doesn't go on with it
-abbrev pub text_before : Config → Zone → Look → Option Run → ReportLine → List ℕ
-text_before c zone look None line = []
-text_before c zone look (Some run) line =
-    if continues run line then [] else run_text c zone look run
+-- a line of an object with this row: nothing where it goes on with the row, and else how that went on, and the line
+abbrev pub text_after : Config → Zone → Look → Option Run → ReportLine → List ℕ
+text_after c zone look None line = line_text c zone look line
+text_after c zone look (Some run) line =
+    if continues run line then [] else run_text c zone look run ++ line_text c zone look line
 
 -- ---- the rows of all objects, by their numbers
 

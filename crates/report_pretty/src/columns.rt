@@ -48,7 +48,7 @@ fn characters(text: &[u8]) -> usize
 fn push_blanks(text: &mut Vec<u8>, count: usize) -> Result<(), AllocError>
     ensures { OnOk result (text.new.items ≡ text.old.items ++ replicate count 32) }
 {
-    for _ in 0..count {
+    for _done in 0..count {
         text.push(b' ')?;
     }
     Ok(())

@@ -1,5 +1,5 @@
-//! A report for people: local time with the clock's offset, names in columns, colours for a terminal, and one line for what
-//! filters of an object stop in a row.
+//! A report for people: local time with the clock's offset, names in columns, colours for a terminal, and what a filter of an
+//! object stops in a row as its first line and a number.
 #![tactic(auto)]
 
 ghost use Rattle.std.specs.Prelude.{◌≡◌, false, IfErr, IfOk, IfSome, IsErrOf};
@@ -20,8 +20,8 @@ use std::alloc::Global;
 use text_lines::Input;
 
 /// Reads object text up to a line `%events`, and then a feed, and writes the lines of the feed's report that are wanted, for
-/// people. Each is written as it comes, but for what filters of an object stop: that comes before the next line of the object, or
-/// at the end. A watcher is told how far it is. Where the object text is refused nothing is written; where the output fails or
+/// people. Each is written as it comes; of what a filter of an object stops in a row the first is, and how often more it did comes
+/// before the next line of the object, or at the end. A watcher is told how far it is. Where the object text is refused nothing is written; where the output fails or
 /// memory runs out, a front of those lines was.
 pub fn pretty_in<R: Input + Drop, W: Sink, P: Watcher>(
     alloc: Global,

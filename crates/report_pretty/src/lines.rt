@@ -4,7 +4,7 @@ ghost use Rattle.std.specs.Prelude.{◌≡◌, ◌++◌, OnOk};
 ghost use Rattle.notice_text.specs.Texts.{number_text};
 ghost use Rattle.report_pretty.specs.Columns.{padded};
 ghost use Rattle.report_pretty.specs.Lines.{condition_text, contact_columns, fault_text, kind_colour};
-ghost use Rattle.report_pretty.specs.Lines.{line_end, line_text, refused_text, since_text, stopped_text};
+ghost use Rattle.report_pretty.specs.Lines.{line_end, line_text, more_text, refused_text, stopped_text};
 ghost use Rattle.report_pretty.specs.Lines.{told_text, when_text, withheld_text};
 
 use crate::columns::{Look, push_object_padded, push_padded, push_paint, push_unpaint};
@@ -46,9 +46,9 @@ fn push_when(
 fn push_condition(text: &mut Vec<u8>, kind: Kind, state: State) -> Result<(), AllocError>
     ensures { OnOk result (text.new.items ≡ text.old.items ++ condition_text kind state) }
 {
-    push_padded(text, kind_name(kind).as_bytes(), 8)?;
+    push_padded(text, kind_name(kind).as_bytes(), 13)?;
     text.extend_from_slice(b"  ")?;
-    push_padded(text, state_name(state).as_bytes(), 8)?;
+    push_padded(text, state_name(state).as_bytes(), 11)?;
     text.extend_from_slice(b"  ")
 }
 
@@ -163,27 +163,21 @@ fn push_fault(text: &mut Vec<u8>, look: Look, refused: &RefusedLine) -> Result<(
     push_end(text, look)
 }
 
-/// Adds how often something was stopped, and since when, where it was so several times.
-#[tactic(auto, unfolding(crate::specs::Lines::since_text))]
-fn push_since(
-    text: &mut Vec<u8>,
-    clock: &ZoneClock<'_>,
-    count: u64,
-    first: u64,
-) -> Result<(), AllocError>
-    ensures { OnOk result (text.new.items ≡ text.old.items ++ since_text clock.now count first) }
+/// Adds how often more something was stopped, if it was.
+#[tactic(auto, unfolding(crate::specs::Lines::more_text))]
+fn push_more(text: &mut Vec<u8>, more: u64) -> Result<(), AllocError>
+    ensures { OnOk result (text.new.items ≡ text.old.items ++ more_text more) }
 {
-    if count == 1 {
+    if more == 0 {
         return Ok(());
     }
     let mut buffer = Buffer::new();
     text.extend_from_slice(b", ")?;
-    text.extend_from_slice(buffer.format(count).as_bytes())?;
-    text.extend_from_slice(b" times since ")?;
-    push_iso(text, clock, first)
+    text.extend_from_slice(buffer.format(more).as_bytes())?;
+    text.extend_from_slice(b" times more")
 }
 
-/// Adds the line of what a filter of an object stopped so many times in a row, the last time so.
+/// Adds the line of what a filter of an object stopped, and so many times more in a row, the last time so.
 #[tactic(auto, unfolding(crate::specs::Lines::stopped_text))]
 pub(crate) fn push_stopped(
     alloc: Global,
@@ -192,22 +186,21 @@ pub(crate) fn push_stopped(
     clock: &ZoneClock<'_>,
     look: Look,
     withheld: &Suppression,
-    count: u64,
-    first: u64,
+    more: u64,
 ) -> Result<(), AllocError>
-    ensures { OnOk result (text.new.items ≡ text.old.items
-        ++ stopped_text config.now clock.now look withheld.now count first) }
+    ensures { OnOk result (text.new.items
+        ≡ text.old.items ++ stopped_text config.now clock.now look withheld.now more) }
 {
     push_paint(text, look.coloured, b"2")?;
     push_when(alloc, text, config, clock, look, withheld.moment, withheld.object)?;
     push_condition(text, withheld.kind, withheld.state)?;
     text.extend_from_slice(b"stopped  ")?;
     text.extend_from_slice(filter_name(withheld.filter).as_bytes())?;
-    push_since(text, clock, count, first)?;
+    push_more(text, more)?;
     push_end(text, look)
 }
 
-/// Adds the line of a suppression, where it is of a contact.
+/// Adds the line of a suppression, by whose filter it was.
 fn push_withheld(
     alloc: Global,
     text: &mut Vec<u8>,
@@ -221,11 +214,11 @@ fn push_withheld(
 {
     match withheld.contact {
         Some(contact) => push_refused(alloc, text, config, clock, look, withheld, contact),
-        None => Ok(()),
+        None => push_stopped(alloc, text, config, clock, look, withheld, 0),
     }
 }
 
-/// Adds a line, where it is none of a row. A refused growth is the only error.
+/// Adds a line. A refused growth is the only error.
 pub(crate) fn push_line(
     alloc: Global,
     text: &mut Vec<u8>,

@@ -7,7 +7,7 @@ ghost use Rattle.report_pretty.specs.Runs.{no_runs, runs_after};
 
 use crate::columns::{Look, Widths, widths_in};
 use crate::lines::push_line;
-use crate::runs::{Runs, push_before, run_after};
+use crate::runs::{Runs, push_after, run_after};
 use due_model::config::{Config, ObjectId};
 use line_forms::{Picks, ReportLine};
 use messages::entries::Entry;
@@ -15,8 +15,8 @@ use report_telling::Teller;
 use std::alloc::{AllocError, Global};
 use zone_times::clock::ZoneClock;
 
-/// Writes the lines that are wanted for people: what filters of an object stop in a row is one line, before the next line of
-/// that object, or at the end.
+/// Writes the lines that are wanted for people. Of what a filter of an object stops in a row the first is a line, and the others
+/// are one line with their number, before the next line of that object, or at the end.
 #[derive(Drop)]
 pub struct PrettyLines<'a> {
     alloc: Global,
@@ -117,10 +117,10 @@ fn add_line(
         ≡ text.old.items ++ added config.now clock.now look runs.old line.now) }
     ensures runs { OnOk result (runs.new ≡ runs_after runs.old line.now) }
 {
-    if let Some(object) = line_object(line) {
-        let run = runs.get(object);
-        push_before(alloc, text, config, clock, look, run, line)?;
-        runs.set(object, run_after(run, line));
-    }
-    push_line(alloc, text, config, clock, look, line)
+    let Some(object) = line_object(line) else {
+        return push_line(alloc, text, config, clock, look, line);
+    };
+    let run = runs.get(object);
+    runs.set(object, run_after(run, line));
+    push_after(alloc, text, config, clock, look, run, line)
 }

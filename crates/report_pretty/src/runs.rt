@@ -3,11 +3,11 @@
 ghost use Rattle.std.specs.Prelude.{◌≡◌, ◌++◌, ◌<◌, slice_set, IfOk, OnOk};
 ghost use Rattle.std.specs.Option.{option_map_or};
 ghost use Rattle.report_pretty.specs.Runs.{all_rest, continues, first_of, grown, no_runs, one_more};
-ghost use Rattle.report_pretty.specs.Runs.{rest_text, run_after, run_at, run_text, same_stop, text_before};
+ghost use Rattle.report_pretty.specs.Runs.{rest_text, run_after, run_at, run_text, same_stop, text_after};
 ghost use Rattle.report_pretty.specs.Runs.{withheld_after, withheld_continues};
 
 use crate::columns::Look;
-use crate::lines::push_stopped;
+use crate::lines::{push_line, push_stopped};
 use due_model::config::{Config, ObjectId};
 use due_model::notice::Suppression;
 use line_forms::ReportLine;
@@ -23,10 +23,8 @@ const NUMBERS: usize = 65_536;
 /// A filter of an object stopped the same in a row.
 #[derive(Clone, Copy, Debug)]
 pub struct Run {
-    /// The moment of the first time.
-    pub first: u64,
-    /// How often it did.
-    pub count: u64,
+    /// How often after the first time.
+    pub more: u64,
     /// The last time.
     pub last: Suppression,
 }
@@ -56,8 +54,7 @@ fn first_of(stop: Suppression) -> Run
     ensures { result ≡ first_of stop }
 {
     Run {
-        first: stop.moment,
-        count: 1,
+        more: 0,
         last: stop,
     }
 }
@@ -70,8 +67,7 @@ fn grown(run: Option<Run>, stop: Suppression) -> Run
         Some(run) => {
             if same_stop(&run.last, &stop) {
                 Run {
-                    first: run.first,
-                    count: one_more(run.count),
+                    more: one_more(run.more),
                     last: stop,
                 }
             } else {
@@ -124,7 +120,7 @@ fn continues(run: &Run, line: &ReportLine) -> bool
     }
 }
 
-/// Adds the line of a row.
+/// Adds how a row went on after its first line, if it did.
 fn push_run(
     alloc: Global,
     text: &mut Vec<u8>,
@@ -136,13 +132,14 @@ fn push_run(
     ensures { OnOk result
         (text.new.items ≡ text.old.items ++ run_text config.now clock.now look run.now) }
 {
-    push_stopped(
-        alloc, text, config, clock, look, &run.last, run.count, run.first,
-    )
+    if run.more == 0 {
+        return Ok(());
+    }
+    push_stopped(alloc, text, config, clock, look, &run.last, run.more)
 }
 
-/// Adds a row before a line of its object, unless that goes on with it.
-pub(crate) fn push_before(
+/// Adds a line of an object with this row: nothing where it goes on with the row.
+pub(crate) fn push_after(
     alloc: Global,
     text: &mut Vec<u8>,
     config: &Config,
@@ -152,18 +149,19 @@ pub(crate) fn push_before(
     line: &ReportLine,
 ) -> Result<(), AllocError>
     ensures { OnOk result (text.new.items
-        ≡ text.old.items ++ text_before config.now clock.now look run line.now) }
+        ≡ text.old.items ++ text_after config.now clock.now look run line.now) }
 {
     let Some(run) = run else {
-        return Ok(());
+        return push_line(alloc, text, config, clock, look, line);
     };
     if continues(&run, line) {
         return Ok(());
     }
-    push_run(alloc, text, config, clock, look, &run)
+    push_run(alloc, text, config, clock, look, &run)?;
+    push_line(alloc, text, config, clock, look, line)
 }
 
-/// Adds a row that goes on at the end.
+/// Adds how a row went on that still does.
 fn push_rest(
     alloc: Global,
     text: &mut Vec<u8>,
@@ -204,7 +202,7 @@ impl Runs {
         ensures { IfOk result (λ runs. runs ≡ no_runs) }
     {
         Ok(Runs {
-            runs: Vec::from_elem(alloc, None, NUMBERS)?,
+            runs: vec![in alloc; None; NUMBERS]?,
         })
     }
 

@@ -7,6 +7,7 @@ use Rattle.due_model.specs.declared.config.Escalation.{Escalation}
 use Rattle.due_model.specs.declared.config.ObjectId.{ObjectId}
 use Rattle.due_model.specs.declared.zone.Zone.{Zone}
 use Rattle.due_model.specs.ByObject.{places_of}
+use Rattle.due_model.specs.Due.{rights_for}
 use Rattle.due_model.specs.Escalations.{has_contact}
 use Rattle.due_model.specs.Objects.{object_named}
 use Rattle.due_model.specs.Rules.{is_problem}
@@ -71,6 +72,15 @@ is_named c o k =
     nat_lt k (length c.contacts)
     && (is_own c o k || list_any (is_named_at c k) (places_of c.escalations o))
 
+-- contact k has a command for such an object
+abbrev pub has_command : Config → (o k : ℕ) → Bool
+has_command c o k =
+    option_map_or
+    (λ object.
+    option_map_or (λ contact. nat_lt 0 (length (rights_for object contact).lanes))
+    (slice_get c.contacts k) false)
+    (slice_get c.objects o) false
+
 -- some line up to the moment is a notice to it
 abbrev pub is_told : (o k until : ℕ) → List ReportLine → Bool
 is_told o k until lines = list_any (λ line. is_within o until line && tells k line) lines
@@ -126,10 +136,16 @@ abbrev pub filter_of : ReportLine → List ℕ
 filter_of (Decided (Withheld s)) = filter_name s.filter ++ codes "; "
 filter_of line = []
 
--- the first filter of the object that stopped something; if none did, nothing is due
-abbrev pub stop_text : Option ReportLine → List ℕ
-stop_text None = codes "nothing is due; "
-stop_text (Some line) = filter_of line
+-- where nobody is told or refused, and nothing stopped: a notice may have had no receiver; nothing is due to others
+abbrev pub silent_text : Config → (o k until : ℕ) → List ReportLine → List ℕ
+silent_text c o k until lines =
+    if list_any (is_named_at c k) (places_of c.escalations o)
+    then escalations_text c o k until lines else codes "nothing is due; "
+
+-- where nothing goes out: the first filter of the object that stopped something, if one did
+abbrev pub stop_text : Config → (o k until : ℕ) → List ReportLine → Option ReportLine → List ℕ
+stop_text c o k until lines None = silent_text c o k until lines
+stop_text c o k until lines (Some line) = filter_of line
 
 -- Why it isn't told up to the moment: the filter of its first refusal. Where it has none, the escalations by which it is no
 -- receiver of what goes out; where nothing does, the first filter of the object that stopped something.
@@ -137,7 +153,7 @@ abbrev pub reason_text : Config → (o k until : ℕ) → List ReportLine → Op
 reason_text c o k until lines (Some refused) = filter_of refused
 reason_text c o k until lines None =
     if goes_out o until lines then escalations_text c o k until lines
-    else stop_text (find (λ line. is_within o until line && stops line) lines)
+    else stop_text c o k until lines (find (λ line. is_within o until line && stops line) lines)
 
 -- the first notice to it later on, by its moment and number
 abbrev pub later_text : Zone → Option ReportLine → List ℕ
@@ -155,11 +171,13 @@ is_missed c o until lines k = is_named c o k && not (is_told o k until lines)
 unfoldable pub whom_text : Config → (k : ℕ) → List ℕ
 whom_text c k = codes "not told  " ++ contact_text c k ++ codes "  "
 
--- why not
+-- why not: it has no command for such an object, or that reason
 abbrev pub why_text : Config → (o until : ℕ) → List ReportLine → (k : ℕ) → List ℕ
 why_text c o until lines k =
-    reason_text c o k until lines
+    if has_command c o k
+    then reason_text c o k until lines
     (find (λ line. is_within o until line && refuses k line) lines)
+    else codes "no notification command; "
 
 -- what is written of a contact that is missing: who it is, why, and when it is told later on
 unfoldable pub missed_row : Config → Zone → (o until : ℕ) → List ReportLine → (k : ℕ) → List ℕ

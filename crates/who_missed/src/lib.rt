@@ -6,4 +6,4 @@ mod missed;
 mod named;
 mod reasons;
 
-pub use missed::Missed;
+pub use missed::push_missed;

@@ -1,6 +1,6 @@
-//! The lines of a report that were told, and what each is of.
+//! What a line of a report is of.
 
-ghost use Rattle.std.specs.Prelude.{◌≡◌, [], ◌∷◌, ◌++◌, OnOk};
+ghost use Rattle.std.specs.Prelude.{◌≡◌};
 ghost use Rattle.due_model.specs.Rules.{is_problem};
 ghost use Rattle.who_missed.specs.Missed.{comes_to, is_later, is_within, refuses, stops, tells};
 
@@ -8,48 +8,6 @@ use due_model::config::{ContactId, ObjectId};
 use due_model::notice::Kind;
 use line_forms::ReportLine;
 use messages::entries::Entry;
-use std::alloc::{AllocError, Global};
-use std::marker::Model;
-
-/// Lines of a report, in order. Contracts see them as a list.
-#[derive(Drop)]
-pub(crate) struct Lines {
-    lines: Vec<ReportLine>,
-}
-
-impl Model for Lines {
-    ghost use Rattle.std.specs.Prelude.{List};
-    ghost use Rattle.line_forms.specs.declared.report_line.ReportLine.{ReportLine};
-
-    ghost Value = { List ReportLine };
-
-    ghost view = { λ s. s.lines.items };
-}
-
-impl Lines {
-    /// None yet.
-    pub(crate) fn new(alloc: Global) -> Lines
-        ensures { result ≡ [] }
-    {
-        Lines {
-            lines: Vec::new(alloc),
-        }
-    }
-
-    /// Adds a line. A refused growth is the only error.
-    pub(crate) fn push(&mut self, line: ReportLine) -> Result<(), AllocError>
-        ensures { OnOk result (self.new ≡ self.old ++ line ∷ []) }
-    {
-        self.lines.push(line)?;
-        Ok(())
-    }
-
-    pub(crate) fn as_slice(&self) -> &[ReportLine]
-        ensures { result.now ≡ self.now }
-    {
-        &self.lines
-    }
-}
 
 /// Whether a line is of an object, and of a moment up to this one.
 pub(crate) fn is_within(object: ObjectId, until: u64, line: &ReportLine) -> bool

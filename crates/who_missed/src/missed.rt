@@ -1,10 +1,11 @@
-//! The teller that keeps the lines of a report, and says at its end who is missing.
+//! Who isn't told of an object though the configuration names them, as lines of text.
 
-ghost use Rattle.std.specs.Prelude.{◌≡◌, ◌++◌, [], flat_map, OnOk};
+ghost use Rattle.std.specs.Prelude.{◌≡◌, ◌++◌, flat_map, OnOk};
 ghost use Rattle.std.specs.List.{range_with_len};
-ghost use Rattle.who_missed.specs.Missed.{contact_numbers, later_text, missed_line, missed_row, whom_text};
+ghost use Rattle.std.specs.Option.{option_copied};
+ghost use Rattle.who_missed.specs.Missed.{contact_numbers, later_text, missed_line, missed_row, missed_text};
+ghost use Rattle.who_missed.specs.Missed.{whom_text};
 
-use crate::lines::Lines;
 use crate::named::is_named;
 use crate::reasons::{is_told, later_line, push_why};
 use due_model::config::{Config, ContactId, ObjectId};
@@ -12,91 +13,39 @@ use line_forms::ReportLine;
 use local_text::push_local;
 use messages::entries::Entry;
 use notice_text::texts::{contact_name, push_notice_number};
-use report_telling::Teller;
-use std::alloc::{AllocError, Global};
+use std::alloc::AllocError;
 use zone_times::clock::ZoneClock;
 
 /// How many numbers of contacts there may be.
 const CONTACTS: u32 = 65_536;
 
-/// Keeps the lines of a report, and writes at its end, for each contact that the configuration names for an object and that
-/// no notice up to a moment went to, a line: why not, and when it is told later on.
-#[derive(Drop)]
-pub struct Missed<'a> {
-    /// The host, or the host of the service.
-    pub host: &'a str,
-    /// The description of the service; none where it is the host itself.
-    pub service: Option<&'a str>,
-    /// Up to this moment notices count, in seconds since the epoch.
-    pub until: u64,
-    lines: Lines,
-}
-
-impl<'a> Missed<'a> {
-    /// One that was told no line yet.
-    pub fn new(alloc: Global, host: &'a str, service: Option<&'a str>, until: u64) -> Missed<'a>
-        ensures host { result.host.now ≡ host.now }
-        ensures service { result.service ≡ service.entry }
-        ensures until { result.until ≡ until }
-        ensures lines { result.lines ≡ [] }
-    {
-        Missed {
-            host,
-            service,
-            until,
-            lines: Lines::new(alloc),
-        }
-    }
-}
-
-impl Teller for Missed<'_> {
-    ghost use Rattle.std.specs.Prelude.{[], ◌∷◌, ◌++◌};
-    ghost use Rattle.std.specs.Option.{option_copied};
-    ghost use Rattle.who_missed.specs.Missed.{missed_text};
-
-    ghost told = { λ _ _ _ _. [] };
-
-    ghost after = { λ missed _ _ line. record missed { lines = missed.lines ++ line ∷ [] } };
-
-    ghost ended = { λ missed config zone. missed_text config zone missed.host.now
-        (option_copied missed.service) missed.until missed.lines };
-
-    fn tell(
-        &mut self,
-        _config: &Config,
-        _clock: &ZoneClock<'_>,
-        line: &ReportLine,
-        _text: &mut Vec<u8>,
-    ) -> Result<(), AllocError> {
-        self.lines.push(*line)
-    }
-
-    fn end(
-        &mut self,
-        config: &Config,
-        clock: &ZoneClock<'_>,
-        text: &mut Vec<u8>,
-    ) -> Result<(), AllocError> {
-        let service = match self.service {
-            Some(service) => Some(service.as_bytes()),
-            None => None,
-        };
-        match config.objects.find(self.host.as_bytes(), service) {
-            None => Ok(()),
-            Some(object) => push_missed(
-                text,
-                config,
-                clock,
-                object,
-                self.until,
-                self.lines.as_slice(),
-            ),
-        }
+/// Adds a line for each contact that the configuration names for an object and that no notice of it goes to up to a moment, in
+/// seconds since the epoch, by the lines of a report: why not, and when it is told later on in that report. Without a service
+/// the object is the host. Of an object that isn't known nothing is added. A refused growth is the only error.
+pub fn push_missed(
+    text: &mut Vec<u8>,
+    config: &Config,
+    clock: &ZoneClock<'_>,
+    host: &str,
+    service: Option<&str>,
+    until: u64,
+    lines: &[ReportLine],
+) -> Result<(), AllocError>
+    ensures { OnOk result (text.new.items ≡ text.old.items
+        ++ missed_text config.now clock.now host.now (option_copied service.entry) until lines.now) }
+{
+    let service = match service {
+        Some(service) => Some(service.as_bytes()),
+        None => None,
+    };
+    match config.objects.find(host.as_bytes(), service) {
+        None => Ok(()),
+        Some(object) => push_contacts(text, config, clock, object, until, lines),
     }
 }
 
 /// Adds the lines of an object, contact by contact.
-fn push_missed(
+fn push_contacts(
     text: &mut Vec<u8>,
     config: &Config,
     clock: &ZoneClock<'_>,

@@ -5,10 +5,11 @@ ghost use Rattle.std.specs.List.{list_any, range_with_len};
 ghost use Rattle.due_model.specs.ByObject.{places_of};
 ghost use Rattle.who_missed.specs.Missed.{begins_text, escalation_at, escalation_of, escalation_text};
 ghost use Rattle.who_missed.specs.Missed.{escalations_text, filter_of, goes_out, has_begun, is_later};
-ghost use Rattle.who_missed.specs.Missed.{is_told, is_within, reason_text, refuses, stop_text, stops, why_text};
+ghost use Rattle.who_missed.specs.Missed.{is_told, is_within, reason_text, refuses, silent_text, stop_text};
+ghost use Rattle.who_missed.specs.Missed.{stops, why_text};
 
 use crate::lines::{comes_to, is_later, is_within, refuses, stops, tells};
-use crate::named::{has, is_own};
+use crate::named::{has, has_command, is_in_escalations, is_own};
 use due_model::config::{Config, ContactId, Escalation, ObjectId};
 use itoa::Buffer;
 use line_forms::ReportLine;
@@ -206,13 +207,40 @@ fn push_filter(text: &mut Vec<u8>, line: ReportLine) -> Result<(), AllocError>
     }
 }
 
-/// Adds the first filter of the object, by its line.
-fn push_stop(text: &mut Vec<u8>, line: Option<ReportLine>) -> Result<(), AllocError>
-    ensures { OnOk result (text.new.items ≡ text.old.items ++ stop_text line) }
+/// Adds why a contact isn't told where nobody is told or refused, and nothing stopped.
+fn push_silent(
+    text: &mut Vec<u8>,
+    config: &Config,
+    object: ObjectId,
+    contact: ContactId,
+    until: u64,
+    lines: &[ReportLine],
+) -> Result<(), AllocError>
+    ensures { OnOk result (text.new.items ≡ text.old.items
+        ++ silent_text config.now object.0 contact.0 until lines.now) }
 {
-    match line {
-        Some(line) => push_filter(text, line),
-        None => text.extend_from_slice(b"nothing is due; "),
+    if is_in_escalations(config, object, contact) {
+        return push_escalations(text, config, object, contact, until, lines);
+    }
+    text.extend_from_slice(b"nothing is due; ")
+}
+
+/// Adds why a contact isn't told where nothing goes out, given the first line of what a filter of the object stopped.
+fn push_stop(
+    text: &mut Vec<u8>,
+    config: &Config,
+    object: ObjectId,
+    contact: ContactId,
+    until: u64,
+    lines: &[ReportLine],
+    stopped: Option<ReportLine>,
+) -> Result<(), AllocError>
+    ensures { OnOk result (text.new.items ≡ text.old.items
+        ++ stop_text config.now object.0 contact.0 until lines.now stopped) }
+{
+    match stopped {
+        Some(stopped) => push_filter(text, stopped),
+        None => push_silent(text, config, object, contact, until, lines),
     }
 }
 
@@ -235,7 +263,8 @@ fn push_reason(
     if goes_out(object, until, lines) {
         return push_escalations(text, config, object, contact, until, lines);
     }
-    push_stop(text, stopping_line(object, until, lines))
+    let stopped = stopping_line(object, until, lines);
+    push_stop(text, config, object, contact, until, lines, stopped)
 }
 
 /// Adds why a contact isn't told up to a moment.
@@ -250,6 +279,9 @@ pub(crate) fn push_why(
     ensures { OnOk result (text.new.items ≡ text.old.items
         ++ why_text config.now object.0 until lines.now contact.0) }
 {
+    if !has_command(config, object, contact) {
+        return text.extend_from_slice(b"no notification command; ");
+    }
     let refused = refusing_line(object, contact, until, lines);
     push_reason(text, config, object, contact, until, lines, refused)
 }

@@ -16,7 +16,7 @@ use Rattle.made_feed.specs.declared.Supposed.{Supposed}
 use Rattle.report_telling.specs.Lines.{report_lines}
 use Rattle.report_telling.specs.Tells as tells
 use Rattle.report_telling.specs.Told.{Form, after_all, form_of, told_all, told_report}
-use Rattle.who_missed.specs.declared.missed.Missed.{Missed}
+use Rattle.who_told.specs.declared.missed.Missed.{Missed}
 use Rattle.who_missed.specs.Missed.{missed_text}
 use Rattle.std.specs.List.{list_any}
 use Rattle.std.specs.Option.{option_copied}

@@ -9,6 +9,7 @@ ghost use Rattle.who_told.specs.Who.{FailsFor, FailsOf, TellsBoth, TellsBothFron
 ghost use Rattle.who_told.specs.Who.{TellsMissingFront, TellsTable, TellsTableFront, TellsWho};
 
 mod fault;
+mod missed;
 mod names;
 mod rows;
 
@@ -18,6 +19,7 @@ use due_model::config::Config;
 use due_model::zone::Zone;
 pub use fault::WhoFault;
 use made_feed::{Supposed, make_feed};
+use missed::Missed;
 use names::unknown_in;
 pub use names::{Unknown, object_parts};
 use progress::Unwatched;
@@ -25,7 +27,6 @@ use report_telling::tell_feed;
 use rows::Rows;
 use std::alloc::Global;
 use text_lines::Input;
-use who_missed::Missed;
 
 /// How many minutes the feed has by which it is seen when those are told who aren't: a week's.
 const WEEK: u32 = 10_080;
