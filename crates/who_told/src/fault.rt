@@ -9,7 +9,7 @@ use std::error::Error;
 use std::fmt;
 
 /// Why nobody can be said to be told, or not all of them.
-#[derive(Clone, Copy, Debug)]
+#[derive(Clone, Copy, Debug, PartialEq, Eq)]
 pub enum WhoFault<'a> {
     /// This isn't known of what is supposed. Nothing was written.
     Unknown(Unknown<'a>),
