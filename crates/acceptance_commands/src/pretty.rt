@@ -56,7 +56,10 @@ fn of_one_input(rt: HostRuntime) -> Result<(), Fail> {
         &mut out,
         &mut Unwatched,
     );
-    assert_eq!(&rt; (ended, out.as_slice()), (Ok(Ending::Whole), LINES.as_bytes()));
+    assert_eq!(&rt;
+        (ended, out.as_slice()),
+        (Ok(Ending::Whole), LINES.as_bytes())
+    );
     Ok(())
 }
 
@@ -74,6 +77,9 @@ fn of_two_inputs_with_colours(rt: HostRuntime) -> Result<(), Fail> {
         &mut out,
         &mut Unwatched,
     );
-    assert_eq!(&rt; (ended, out.as_slice()), (Ok(Ending::Whole), COLOURED.as_bytes()));
+    assert_eq!(&rt;
+        (ended, out.as_slice()),
+        (Ok(Ending::Whole), COLOURED.as_bytes())
+    );
     Ok(())
 }

@@ -64,7 +64,13 @@ fn of_one_that_is_unknown(rt: HostRuntime) -> Result<(), Fail> {
         down: &["web", "db"],
         ..WEB
     };
-    let ended = who(rt.alloc(), &Zone::Utc, OBJECTS.as_bytes(), &supposed, &mut out);
+    let ended = who(
+        rt.alloc(),
+        &Zone::Utc,
+        OBJECTS.as_bytes(),
+        &supposed,
+        &mut out,
+    );
     assert_eq!(&rt;
         (ended, out.as_slice()),
         (Err(WhoFault::Unknown(Unknown::Host("db"))), b"".as_slice())

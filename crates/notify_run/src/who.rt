@@ -88,10 +88,7 @@ pub(crate) fn status_of_who<T: Clock>(
         return status_of_words(rt, "bad time");
     };
     match minutes_given(asked.lasting) {
-        Some(minutes) => {
-            status_of_told(rt, do_who(rt, zone, objects, asked, moment, minutes))
-        }
+        Some(minutes) => { status_of_told(rt, do_who(rt, zone, objects, asked, moment, minutes)) }
         None => status_of_words(rt, "bad length"),
     }
 }
-

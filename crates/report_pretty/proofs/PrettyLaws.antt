@@ -13,13 +13,13 @@ use Rattle.line_forms.specs.Picks.{is_picked}
 use Rattle.report_telling.specs.Lines.{report_lines}
 use Rattle.report_telling.specs.Tells as tells
 use Rattle.report_telling.specs.Told.{Form, after_all, form_of, told_all, told_report}
-use Rattle.report_pretty.specs.declared.columns.Look.{Look}
-use Rattle.report_pretty.specs.declared.columns.Widths.{Widths}
+use Rattle.pretty_lines.specs.declared.columns.Look.{Look}
+use Rattle.pretty_lines.specs.declared.columns.Widths.{Widths}
 use Rattle.report_pretty.specs.declared.pretty.PrettyLines.{PrettyLines}
-use Rattle.report_pretty.specs.declared.runs.Run.{Run}
-use Rattle.report_pretty.specs.Columns.{widths_of}
-use Rattle.report_pretty.specs.Pretty.{FailsOf, PrettyFrontOf, PrettyOf, added, look_of, pretty_from, pretty_report}
-use Rattle.report_pretty.specs.Runs.{all_rest, no_runs, runs_after}
+use Rattle.pretty_lines.specs.declared.runs.Run.{Run}
+use Rattle.pretty_lines.specs.Columns.{widths_of}
+use Rattle.report_pretty.specs.Pretty.{FailsOf, PrettyFrontOf, PrettyOf, look_of, pretty_from, pretty_report}
+use Rattle.pretty_lines.specs.Runs.{added, all_rest, no_runs, runs_after}
 use Rattle.report_pretty.specs.Teller.{after_line, ended_lines, look_at, told_line}
 
 -- the form of the teller

@@ -1,6 +1,5 @@
 -- The lines of a report for people.
-use Rattle.std.specs.Prelude.{◌≡◌, ℕ, Bool, List, [], ◌∷◌, ◌++◌, filter, Option, None, Some, unwrap_or, if◌then◌else◌}
-use Rattle.std.specs.Option.{option_map_or}
+use Rattle.std.specs.Prelude.{◌≡◌, ℕ, Bool, List, [], ◌∷◌, ◌++◌, filter, Option}
 use Rattle.due_model.specs.declared.config.Config.{Config}
 use Rattle.due_model.specs.declared.zone.Zone.{Zone}
 use Rattle.event_feed.specs.Feed.{Answer}
@@ -12,20 +11,12 @@ use Rattle.replay.specs.Replay.{AreOfFeed}
 use Rattle.replay.specs.Report.{ending_after}
 use Rattle.line_forms.specs.declared.report_line.ReportLine.{ReportLine}
 use Rattle.line_forms.specs.declared.picks.Picks.{Picks}
-use Rattle.line_forms.specs.Picks.{is_picked, line_object}
+use Rattle.line_forms.specs.Picks.{is_picked}
 use Rattle.report_telling.specs.Lines.{report_lines}
-use Rattle.report_pretty.specs.declared.columns.Look.{Look}
-use Rattle.report_pretty.specs.declared.columns.Widths.{Widths}
-use Rattle.report_pretty.specs.declared.runs.Run.{Run}
-use Rattle.report_pretty.specs.Columns.{widths_of}
-use Rattle.report_pretty.specs.Lines.{line_text}
-use Rattle.report_pretty.specs.Runs.{all_rest, no_runs, run_at, runs_after, text_after}
-
--- what a line adds, by the row of its object
-abbrev pub added : Config → Zone → Look → List (Option Run) → ReportLine → List ℕ
-added c zone look runs line =
-    option_map_or (λ o. text_after c zone look (run_at runs o.0) line) (line_object line)
-    (line_text c zone look line)
+use Rattle.pretty_lines.specs.declared.columns.Look.{Look}
+use Rattle.pretty_lines.specs.declared.runs.Run.{Run}
+use Rattle.pretty_lines.specs.Columns.{widths_of}
+use Rattle.pretty_lines.specs.Runs.{added, all_rest, no_runs, runs_after}
 
 -- lines, after these rows; at the end comes how those went on that still do, by the numbers of their objects
 abbrev pub pretty_from : Config → Zone → Look → List (Option Run) → List ReportLine → List ℕ

@@ -4,11 +4,10 @@ use Rattle.due_model.specs.declared.config.Config.{Config}
 use Rattle.due_model.specs.declared.zone.Zone.{Zone}
 use Rattle.line_forms.specs.declared.report_line.ReportLine.{ReportLine}
 use Rattle.line_forms.specs.Picks.{is_picked}
-use Rattle.report_pretty.specs.declared.columns.Look.{Look}
+use Rattle.pretty_lines.specs.declared.columns.Look.{Look}
 use Rattle.report_pretty.specs.declared.pretty.PrettyLines.{PrettyLines}
-use Rattle.report_pretty.specs.Columns.{widths_of}
-use Rattle.report_pretty.specs.Pretty.{added}
-use Rattle.report_pretty.specs.Runs.{all_rest, runs_after}
+use Rattle.pretty_lines.specs.Columns.{widths_of}
+use Rattle.pretty_lines.specs.Runs.{added, all_rest, runs_after}
 
 -- how its lines look: as the configuration has it of the first line that it was told
 abbrev pub look_at : PrettyLines → Config → Look

@@ -5,10 +5,7 @@
 ghost use Rattle.std.specs.Prelude.{◌≡◌, false, IfErr, IfOk, IfSome, IsErrOf};
 ghost use Rattle.report_pretty.specs.Pretty.{FailsOf, FailsWith, IsPretty, PrettyOf};
 
-mod columns;
-mod lines;
 mod pretty;
-mod runs;
 
 use command_output::{CommandFault, Ending, Sink};
 use due_model::zone::Zone;

@@ -1,16 +1,11 @@
 //! The teller that writes the lines of a report for people.
 
-ghost use Rattle.std.specs.Prelude.{◌≡◌, ◌++◌, unwrap_or, IfOk, OnOk};
-ghost use Rattle.line_forms.specs.Picks.{line_object};
-ghost use Rattle.report_pretty.specs.Pretty.{added};
-ghost use Rattle.report_pretty.specs.Runs.{no_runs, runs_after};
+ghost use Rattle.std.specs.Prelude.{◌≡◌, None, IfOk};
+ghost use Rattle.pretty_lines.specs.Runs.{no_runs};
 
-use crate::columns::{Look, Widths, widths_in};
-use crate::lines::push_line;
-use crate::runs::{Runs, push_after, run_after};
-use due_model::config::{Config, ObjectId};
+use due_model::config::Config;
 use line_forms::{Picks, ReportLine};
-use messages::entries::Entry;
+use pretty_lines::{Look, Runs, Widths, add_line, widths_in};
 use report_telling::Teller;
 use std::alloc::{AllocError, Global};
 use zone_times::clock::ZoneClock;
@@ -90,37 +85,4 @@ impl Teller for PrettyLines<'_> {
         };
         self.runs.push_all(self.alloc, text, config, clock, look)
     }
-}
-
-/// The object that a line tells of.
-fn line_object(line: &ReportLine) -> Option<ObjectId>
-    ensures { result ≡ line_object line.now }
-{
-    match line {
-        ReportLine::Decided(Entry::Sent(notice)) => Some(notice.object),
-        ReportLine::Decided(Entry::Withheld(withheld)) => Some(withheld.object),
-        ReportLine::Refused(_) => None,
-    }
-}
-
-/// Adds what a line adds, after these rows, and puts the row of its object on.
-fn add_line(
-    alloc: Global,
-    text: &mut Vec<u8>,
-    config: &Config,
-    clock: &ZoneClock<'_>,
-    look: Look,
-    runs: &mut Runs,
-    line: &ReportLine,
-) -> Result<(), AllocError>
-    ensures text { OnOk result (text.new.items
-        ≡ text.old.items ++ added config.now clock.now look runs.old line.now) }
-    ensures runs { OnOk result (runs.new ≡ runs_after runs.old line.now) }
-{
-    let Some(object) = line_object(line) else {
-        return push_line(alloc, text, config, clock, look, line);
-    };
-    let run = runs.get(object);
-    runs.set(object, run_after(run, line));
-    push_after(alloc, text, config, clock, look, run, line)
 }

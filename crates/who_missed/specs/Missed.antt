@@ -96,18 +96,19 @@ abbrev pub has_begun : (o until number : ℕ) → List ReportLine → Bool
 has_begun o until number lines =
     list_any (λ line. is_within o until line && comes_to number line) lines
 
--- the object's escalation of this number, counted from 1, begins with such a notice
-unfoldable pub begins_text : (number first : ℕ) → List ℕ
-begins_text number first =
-    codes "escalation " ++ decimal number ++ codes " begins with notice " ++ decimal first
+-- the object's escalation of this number, counted from 1, begins with a notice
+unfoldable pub begins_text : (number : ℕ) → List ℕ
+begins_text number = codes "escalation " ++ decimal number ++ codes " begins with notice "
 
 -- What an escalation has to do with it. One that names the contact hasn't begun, or doesn't match; one that doesn't has begun,
 -- and takes the place of the object's own contacts.
 abbrev pub escalation_text : (named own begun : Bool) → (number first : ℕ) → List ℕ
-escalation_text true own false number first = begins_text number first ++ codes "; "
+escalation_text true own false number first =
+    begins_text number ++ decimal first ++ codes "; "
 escalation_text true own true number first =
-    begins_text number first ++ codes " and doesn't match; "
-escalation_text false true true number first = begins_text number first ++ codes " without it; "
+    begins_text number ++ decimal first ++ codes " and doesn't match; "
+escalation_text false true true number first =
+    begins_text number ++ decimal first ++ codes " without it; "
 escalation_text false own begun number first = []
 
 -- the same of one of the object's escalations, by the lines of a report
@@ -189,15 +190,19 @@ abbrev pub missed_line : Config → Zone → (o until : ℕ) → List ReportLine
 missed_line c zone o until lines k =
     if is_missed c o until lines k then missed_row c zone o until lines k else []
 
--- how many numbers of contacts there may be
-abbrev pub contact_numbers : ℕ
-contact_numbers = 65536
+-- of the first contacts, by their numbers
+abbrev pub first_lines : Config → Zone → (o until : ℕ) → List ReportLine → (count : ℕ) → List ℕ
+first_lines c zone o until lines count =
+    flat_map (missed_line c zone o until lines) (range_with_len 0 count)
 
--- of the object of that number, if there is one, contact by contact
+-- of all of them: there are no more numbers
+unfoldable pub missed_lines : Config → Zone → (o until : ℕ) → List ReportLine → List ℕ
+missed_lines c zone o until lines = first_lines c zone o until lines 65536
+
+-- of the object of that number, if there is one
 abbrev pub missed_of : Config → Zone → (until : ℕ) → List ReportLine → Option ObjectId → List ℕ
 missed_of c zone until lines None = []
-missed_of c zone until lines (Some o) =
-    flat_map (missed_line c zone o.0 until lines) (range_with_len 0 contact_numbers)
+missed_of c zone until lines (Some o) = missed_lines c zone o.0 until lines
 
 -- of the object of a name
 abbrev pub missed_text : Config → Zone → (host : List ℕ) → (service : Option (List ℕ)) → (until : ℕ)

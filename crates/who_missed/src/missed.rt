@@ -1,10 +1,9 @@
 //! Who isn't told of an object though the configuration names them, as lines of text.
 
-ghost use Rattle.std.specs.Prelude.{◌≡◌, ◌++◌, flat_map, OnOk};
-ghost use Rattle.std.specs.List.{range_with_len};
+ghost use Rattle.std.specs.Prelude.{◌≡◌, ◌≤◌, ◌++◌, OnOk};
 ghost use Rattle.std.specs.Option.{option_copied};
-ghost use Rattle.who_missed.specs.Missed.{contact_numbers, later_text, missed_line, missed_row, missed_text};
-ghost use Rattle.who_missed.specs.Missed.{whom_text};
+ghost use Rattle.who_missed.specs.Missed.{first_lines, later_text, missed_line, missed_lines, missed_row};
+ghost use Rattle.who_missed.specs.Missed.{missed_text, whom_text};
 
 use crate::named::is_named;
 use crate::reasons::{is_told, later_line, push_why};
@@ -45,6 +44,7 @@ pub fn push_missed(
 }
 
 /// Adds the lines of an object, contact by contact.
+#[tactic(auto, unfolding(crate::specs::Missed::missed_lines))]
 fn push_contacts(
     text: &mut Vec<u8>,
     config: &Config,
@@ -54,10 +54,26 @@ fn push_contacts(
     lines: &[ReportLine],
 ) -> Result<(), AllocError>
     ensures { OnOk result (text.new.items ≡ text.old.items
-        ++ flat_map (missed_line config.now clock.now object.0 until lines.now)
-        (range_with_len 0 contact_numbers)) }
+        ++ missed_lines config.now clock.now object.0 until lines.now) }
 {
-    for number in 0..CONTACTS {
+    push_first(text, config, clock, object, until, lines, CONTACTS)
+}
+
+/// Adds those of the first contacts, by their numbers.
+fn push_first(
+    text: &mut Vec<u8>,
+    config: &Config,
+    clock: &ZoneClock<'_>,
+    object: ObjectId,
+    until: u64,
+    lines: &[ReportLine],
+    count: u32,
+) -> Result<(), AllocError>
+    requires { count ≤ 65536 }
+    ensures { OnOk result (text.new.items ≡ text.old.items
+        ++ first_lines config.now clock.now object.0 until lines.now count) }
+{
+    for number in 0..count {
         let contact = ContactId(number as u16);
         push_line(text, config, clock, object, until, lines, contact)?;
     }

@@ -26,9 +26,7 @@ pub(crate) fn is_told(
 ) -> bool
     ensures { result ≡ is_told object.0 contact.0 until lines.now }
 {
-    lines
-        .iter()
-        .any(|line| is_within(object, until, line) && tells(contact, line))
+    lines.iter().any(|line| is_within(object, until, line) && tells(contact, line))
 }
 
 /// The first notice to it after that moment.
@@ -56,10 +54,7 @@ fn refusing_line(
     ensures { result
         ≡ find (λ line. is_within object.0 until line && refuses contact.0 line) lines.now }
 {
-    lines
-        .iter()
-        .copied()
-        .find(|line| is_within(object, until, line) && refuses(contact, line))
+    lines.iter().copied().find(|line| is_within(object, until, line) && refuses(contact, line))
 }
 
 /// The first by which a filter of the object did.
@@ -85,21 +80,25 @@ fn goes_out(object: ObjectId, until: u64, lines: &[ReportLine]) -> bool
 fn has_begun(object: ObjectId, until: u64, number: u32, lines: &[ReportLine]) -> bool
     ensures { result ≡ has_begun object.0 until number lines.now }
 {
-    lines
-        .iter()
-        .any(|line| is_within(object, until, line) && comes_to(number, line))
+    lines.iter().any(|line| is_within(object, until, line) && comes_to(number, line))
 }
 
-/// Adds with which notice an escalation begins.
-#[tactic(auto, unfolding(crate::specs::Missed::begins_text))]
-fn push_begins(text: &mut Vec<u8>, number: usize, first: u32) -> Result<(), AllocError>
-    ensures { OnOk result (text.new.items ≡ text.old.items ++ begins_text number first) }
+/// Adds a number in decimal digits.
+fn push_decimal(text: &mut Vec<u8>, number: u64) -> Result<(), AllocError>
+    ensures { OnOk result (text.new.items ≡ text.old.items ++ decimal number) }
 {
     let mut buffer = Buffer::new();
+    text.extend_from_slice(buffer.format(number).as_bytes())
+}
+
+/// Adds that an escalation begins with a notice.
+#[tactic(auto, unfolding(crate::specs::Missed::begins_text))]
+fn push_begins(text: &mut Vec<u8>, number: u64) -> Result<(), AllocError>
+    ensures { OnOk result (text.new.items ≡ text.old.items ++ begins_text number) }
+{
     text.extend_from_slice(b"escalation ")?;
-    text.extend_from_slice(buffer.format(number).as_bytes())?;
-    text.extend_from_slice(b" begins with notice ")?;
-    text.extend_from_slice(buffer.format(first).as_bytes())
+    push_decimal(text, number)?;
+    text.extend_from_slice(b" begins with notice ")
 }
 
 /// Adds what an escalation has to do with it that a contact isn't told.
@@ -120,7 +119,8 @@ fn push_escalation(
         (false, true, true) => b" without it; ".as_slice(),
         (false, _, _) => return Ok(()),
     };
-    push_begins(text, number, first)?;
+    push_begins(text, number as u64)?;
+    push_decimal(text, u64::from(first))?;
     text.extend_from_slice(rest)
 }
 

@@ -61,6 +61,7 @@ pub fn who<'a, O: Input + Drop, W: Sink>(
 }
 
 /// The same for a configuration.
+#[tactic(auto, using(written::specs::WrittenLaws::keeps_same))]
 fn tell_known<'a, W: Sink>(
     alloc: Global,
     config: &Config,
@@ -123,7 +124,15 @@ fn tell_table<W: Sink>(
 {
     let feed = make_feed(alloc, supposed)?;
     let feed = feed.as_slice();
-    tell_feed(alloc, config, zone, feed, Rows::new(), writer, &mut Unwatched)
+    tell_feed(
+        alloc,
+        config,
+        zone,
+        feed,
+        Rows::new(),
+        writer,
+        &mut Unwatched,
+    )
 }
 
 /// Writes who is missing.

@@ -8,6 +8,7 @@ use Rattle.due_model.specs.declared.notice.Notice.{Notice}
 use Rattle.due_model.specs.declared.notice.Suppression.{Suppression}
 use Rattle.due_model.specs.declared.state.State.{State}
 use Rattle.due_model.specs.declared.zone.Zone.{Zone}
+use Rattle.event_feed.specs.declared.fault.FeedFault.{FeedFault}
 use Rattle.event_feed.specs.declared.fault.RefusedLine.{RefusedLine}
 use Rattle.event_feed.specs.Fault.{fault_name}
 use Rattle.local_text.specs.Text.{iso_text}
@@ -16,8 +17,8 @@ use Rattle.notice_text.specs.Names.{filter_name, kind_name, state_name}
 use Rattle.notice_text.specs.Texts.{contact_text, lane_text, number_text, object_text}
 use Rattle.line_forms.specs.declared.report_line.ReportLine.{ReportLine}
 use Rattle.line_forms.specs.declared.report_line.ReportLine.TheVariants.{Decided, Refused}
-use Rattle.report_pretty.specs.declared.columns.Look.{Look}
-use Rattle.report_pretty.specs.Columns.{padded, paint, unpaint}
+use Rattle.pretty_lines.specs.declared.columns.Look.{Look}
+use Rattle.pretty_lines.specs.Columns.{padded, paint, unpaint}
 
 -- what comes between columns
 abbrev pub gap : List ℕ
@@ -57,33 +58,57 @@ kind_colour kind.DowntimeCancelled = codes "36"
 unfoldable pub line_end : Look → List ℕ
 line_end look = unpaint look.coloured ++ 10 ∷ []
 
+-- how a line begins: its colour, and these columns
+unfoldable pub line_front : Config → Zone → Look → (colour : List ℕ) → (moment o : ℕ) → Kind → State
+    → List ℕ
+line_front c zone look colour moment o k state =
+    paint look.coloured colour ++ when_text c zone look moment o ++ condition_text k state
+
+-- how the line of a notice ends
+unfoldable pub told_end : Config → Look → Notice → List ℕ
+told_end c look n =
+    codes "told     " ++ contact_columns c look n.number n.contact.0 ++ lane_text c n.lane.0
+    ++ line_end look
+
 unfoldable pub told_text : Config → Zone → Look → Notice → List ℕ
 told_text c zone look n =
-    paint look.coloured (kind_colour n.kind) ++ when_text c zone look n.moment n.object.0
-    ++ condition_text n.kind n.state ++ codes "told     "
-    ++ contact_columns c look n.number n.contact.0 ++ lane_text c n.lane.0 ++ line_end look
+    line_front c zone look (kind_colour n.kind) n.moment n.object.0 n.kind n.state
+    ++ told_end c look n
+
+-- that of a contact that was refused
+unfoldable pub refused_end : Config → Look → Suppression → ContactId → List ℕ
+refused_end c look s contact =
+    codes "refused  " ++ contact_columns c look s.number contact.0 ++ filter_name s.filter
+    ++ line_end look
 
 unfoldable pub refused_text : Config → Zone → Look → Suppression → ContactId → List ℕ
 refused_text c zone look s contact =
-    paint look.coloured (codes "33") ++ when_text c zone look s.moment s.object.0
-    ++ condition_text s.kind s.state ++ codes "refused  "
-    ++ contact_columns c look s.number contact.0 ++ filter_name s.filter ++ line_end look
+    line_front c zone look (codes "33") s.moment s.object.0 s.kind s.state
+    ++ refused_end c look s contact
+
+-- a refused line of the feed: its number, and its fault
+unfoldable pub fault_front : Look → (line : ℕ) → List ℕ
+fault_front look line =
+    paint look.coloured (codes "35") ++ codes "line " ++ decimal line ++ codes " of the feed: "
+
+unfoldable pub fault_end : Look → FeedFault → List ℕ
+fault_end look fault = fault_name fault ++ line_end look
 
 unfoldable pub fault_text : Look → RefusedLine → List ℕ
-fault_text look refused =
-    paint look.coloured (codes "35") ++ codes "line " ++ decimal refused.line
-    ++ codes " of the feed: " ++ fault_name refused.fault ++ line_end look
+fault_text look refused = fault_front look refused.line ++ fault_end look refused.fault
 
 -- how often more it was stopped so, if it was
 unfoldable pub more_text : (more : ℕ) → List ℕ
 more_text more = if more == 0 then [] else codes ", " ++ decimal more ++ codes " times more"
 
+unfoldable pub stopped_end : Look → Suppression → (more : ℕ) → List ℕ
+stopped_end look s more =
+    codes "stopped  " ++ filter_name s.filter ++ more_text more ++ line_end look
+
 -- a filter of the object stopped something; and so many times more in a row, the last time so
 unfoldable pub stopped_text : Config → Zone → Look → Suppression → (more : ℕ) → List ℕ
 stopped_text c zone look s more =
-    paint look.coloured (codes "2") ++ when_text c zone look s.moment s.object.0
-    ++ condition_text s.kind s.state ++ codes "stopped  " ++ filter_name s.filter
-    ++ more_text more ++ line_end look
+    line_front c zone look (codes "2") s.moment s.object.0 s.kind s.state ++ stopped_end look s more
 
 -- a suppression: of the object, or of one contact
 abbrev pub withheld_text : Config → Zone → Look → Suppression → Option ContactId → List ℕ

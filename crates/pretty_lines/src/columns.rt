@@ -1,9 +1,9 @@
 //! Columns: names that are filled up with blanks, and colours.
 
-ghost use Rattle.std.specs.Prelude.{◌≡◌, ◌-◌, ◌++◌, filter, length, max, replicate, unwrap_or, IfOk, OnOk};
+ghost use Rattle.std.specs.Prelude.{◌≡◌, ◌-◌, ◌≤◌, ◌++◌, filter, length, max, replicate, unwrap_or, IfOk, OnOk};
 ghost use Rattle.notice_text.specs.Texts.{contact_text, object_text};
-ghost use Rattle.report_pretty.specs.Columns.{begins_character, characters, numbers, padded, paint, unpaint};
-ghost use Rattle.report_pretty.specs.Columns.{widest, widths_of};
+ghost use Rattle.pretty_lines.specs.Columns.{begins_character, characters, padded, paint, unpaint};
+ghost use Rattle.pretty_lines.specs.Columns.{widest, widths_of};
 
 use due_model::config::{Config, ContactId, ObjectId};
 use notice_text::texts::{contact_name, push_object};
@@ -88,40 +88,43 @@ fn object_width(alloc: Global, config: &Config, object: ObjectId) -> Result<usiz
     Ok(characters(&name))
 }
 
-/// The width of the longest name of an object.
-fn widest_object(alloc: Global, config: &Config) -> Result<usize, AllocError>
-    ensures { IfOk result (λ width. width ≡ widest (object_text config.now) numbers) }
+/// The width of the longest name among the first objects.
+fn widest_object(alloc: Global, config: &Config, count: u32) -> Result<usize, AllocError>
+    requires { count ≤ 65536 }
+    ensures { IfOk result (λ width. width ≡ widest (object_text config.now) count) }
 {
     let mut widest = 0usize;
-    for number in 0..NUMBERS {
+    for number in 0..count {
         widest = widest.max(object_width(alloc, config, ObjectId(number as u16))?);
     }
     Ok(widest)
 }
 
-/// The width of the longest name of a contact.
-fn widest_contact(config: &Config) -> usize
-    ensures { result ≡ widest (contact_text config.now) numbers }
+/// The width of the longest name among the first contacts.
+fn widest_contact(config: &Config, count: u32) -> usize
+    requires { count ≤ 65536 }
+    ensures { result ≡ widest (contact_text config.now) count }
 {
     let mut widest = 0usize;
-    for number in 0..NUMBERS {
+    for number in 0..count {
         widest = widest.max(characters(contact_name(config, ContactId(number as u16))));
     }
     widest
 }
 
 /// How wide the columns of a configuration are.
+#[tactic(auto, unfolding(crate::specs::Columns::widths_of))]
 fn widths_of(alloc: Global, config: &Config) -> Result<Widths, AllocError>
     ensures { IfOk result (λ widths. widths ≡ widths_of config.now) }
 {
     Ok(Widths {
-        object: widest_object(alloc, config)?.min(MOST_WIDTH),
-        contact: widest_contact(config).min(MOST_WIDTH),
+        object: widest_object(alloc, config, NUMBERS)?.min(MOST_WIDTH),
+        contact: widest_contact(config, NUMBERS).min(MOST_WIDTH),
     })
 }
 
-/// The same, where they may be known.
-pub(crate) fn widths_in(
+/// How wide the columns of a configuration are, where that is known already or isn't. A refused growth is the only error.
+pub fn widths_in(
     alloc: Global,
     config: &Config,
     known: Option<Widths>,
@@ -135,7 +138,11 @@ pub(crate) fn widths_in(
 }
 
 /// Adds what begins a colour, where there are colours.
-pub(crate) fn push_paint(text: &mut Vec<u8>, coloured: bool, colour: &[u8]) -> Result<(), AllocError>
+pub(crate) fn push_paint(
+    text: &mut Vec<u8>,
+    coloured: bool,
+    colour: &[u8],
+) -> Result<(), AllocError>
     ensures { OnOk result (text.new.items ≡ text.old.items ++ paint coloured colour.now) }
 {
     if !coloured {

@@ -1,6 +1,6 @@
 use Rattle.std.proofs.Common.{◌≡◌, ◌++◌, drop}
-use Rattle.report_pretty.specs.Runs.{all_rest}
-use Rattle.report_pretty.proofs.runs.push_rests.Given as goal
+use Rattle.pretty_lines.specs.Runs.{all_rest}
+use Rattle.pretty_lines.proofs.runs.push_rests.Given as goal
 
 abbrev pub invariant-loop-run : goal.invariant-loop-run
 invariant-loop-run l =

@@ -2,7 +2,7 @@
 use Rattle.std.proofs.Common.{◌≡◌, ℕ, ◌+◌, max, List, [], ◌∷◌, ◌++◌, fold, ap, refl, ◌∙◌}
 use Rattle.std.specs.List.{range_with_len}
 use Rattle.lemmas.proofs.Numbers.{below_more}
-use Rattle.report_pretty.specs.Columns.{characters, widest}
+use Rattle.pretty_lines.specs.Columns.{characters, widest}
 
 fold_more : (f : ℕ → ℕ → ℕ) (start : ℕ) (xs : List ℕ) (x : ℕ) → fold f start (xs ++ x ∷ []) ≡ f (fold f start xs) x
 fold_more f start [] x = refl

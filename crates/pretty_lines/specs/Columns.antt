@@ -3,7 +3,7 @@ use Rattle.std.specs.Prelude.{ℕ, ◌-◌, Bool, true, false, not, ◌&&◌, ma
 use Rattle.std.specs.List.{range_with_len}
 use Rattle.due_model.specs.declared.config.Config.{Config}
 use Rattle.notice_text.specs.Texts.{contact_text, object_text}
-use Rattle.report_pretty.specs.declared.columns.Widths.{Widths}
+use Rattle.pretty_lines.specs.declared.columns.Widths.{Widths}
 
 -- ---- widths, in characters
 
@@ -19,10 +19,6 @@ characters text = length (filter begins_character text)
 unfoldable pub padded : (width : ℕ) → List ℕ → List ℕ
 padded width text = text ++ replicate (width - characters text) 32
 
--- how many numbers objects and contacts may have
-abbrev pub numbers : ℕ
-numbers = 65536
-
 -- the width of the longest of the texts with these numbers
 abbrev pub widest : (ℕ → List ℕ) → (count : ℕ) → ℕ
 widest text count = fold (λ width k. max width (characters (text k))) 0 (range_with_len 0 count)
@@ -31,11 +27,11 @@ widest text count = fold (λ width k. max width (characters (text k))) 0 (range_
 abbrev pub most_width : ℕ
 most_width = 40
 
--- the columns of a configuration are as wide as the longest names of objects and contacts
-abbrev pub widths_of : Config → Widths
+-- the columns of a configuration are as wide as the longest names of objects and contacts, which have no more numbers
+unfoldable pub widths_of : Config → Widths
 widths_of c = record {
-  object = min most_width (widest (object_text c) numbers);
-  contact = min most_width (widest (contact_text c) numbers);
+  object = min (widest (object_text c) 65536) most_width;
+  contact = min (widest (contact_text c) 65536) most_width;
 }
 
 -- ---- colours

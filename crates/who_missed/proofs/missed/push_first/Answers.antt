@@ -2,7 +2,7 @@ use Rattle.std.proofs.Common.{◌++◌, ℕ, List, ap, append_assoc, flat_map, s
 use Rattle.std.specs.List.{range_with_len}
 use Rattle.lemmas.proofs.Numbers.{flat_range_more}
 use Rattle.who_missed.specs.Missed.{missed_line}
-use Rattle.who_missed.proofs.missed.push_contacts.Goals as goal
+use Rattle.who_missed.proofs.missed.push_first.Goals as goal
 
 pub loop-number-preserved : goal.loop-number-preserved
 loop-number-preserved c =

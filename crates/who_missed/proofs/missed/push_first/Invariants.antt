@@ -1,7 +1,7 @@
 use Rattle.std.proofs.Common.{◌≡◌, ◌++◌, flat_map}
 use Rattle.std.specs.List.{range_with_len}
 use Rattle.who_missed.specs.Missed.{missed_line}
-use Rattle.who_missed.proofs.missed.push_contacts.Given as goal
+use Rattle.who_missed.proofs.missed.push_first.Given as goal
 
 abbrev pub invariant-loop-number : goal.invariant-loop-number
 invariant-loop-number l =

@@ -1,10 +1,10 @@
 //! What filters of an object stop in a row.
 
-ghost use Rattle.std.specs.Prelude.{◌≡◌, ◌++◌, ◌<◌, slice_set, IfOk, OnOk};
-ghost use Rattle.std.specs.Option.{option_map_or};
-ghost use Rattle.report_pretty.specs.Runs.{all_rest, continues, first_of, grown, no_runs, one_more};
-ghost use Rattle.report_pretty.specs.Runs.{rest_text, run_after, run_at, run_text, same_stop, text_after};
-ghost use Rattle.report_pretty.specs.Runs.{withheld_after, withheld_continues};
+ghost use Rattle.std.specs.Prelude.{◌≡◌, ◌++◌, length, replicate, slice_set, IfOk, None, OnOk};
+ghost use Rattle.line_forms.specs.Picks.{line_object};
+ghost use Rattle.pretty_lines.specs.Runs.{added, all_rest, continues, first_of, grown, no_runs, one_more};
+ghost use Rattle.pretty_lines.specs.Runs.{rest_text, run_after, run_at, run_text, runs_after, same_stop, text_after};
+ghost use Rattle.pretty_lines.specs.Runs.{withheld_after, withheld_continues};
 
 use crate::columns::Look;
 use crate::lines::{push_line, push_stopped};
@@ -187,7 +187,7 @@ pub struct Runs {
 
 impl Model for Runs {
     ghost use Rattle.std.specs.Prelude.{◌≡◌, List, Option, length};
-    ghost use Rattle.report_pretty.specs.declared.runs.Run.{Run};
+    ghost use Rattle.pretty_lines.specs.declared.runs.Run.{Run};
 
     ghost Value = { List (Option Run) };
 
@@ -196,13 +196,22 @@ impl Model for Runs {
     ghost invariant = { λ s. length s.runs.items ≡ 65536 };
 }
 
+/// So many places with nothing in them.
+fn nothing(alloc: Global, count: usize) -> Result<Vec<Option<Run>>, AllocError>
+    ensures items { IfOk result (λ places. places.items ≡ replicate count None) }
+    ensures length { IfOk result (λ places. length places.items ≡ count) }
+{
+    vec![in alloc; None; count]
+}
+
 impl Runs {
     /// No rows. They take all their memory now: some 6 MB.
-    pub(crate) fn new(alloc: Global) -> Result<Runs, AllocError>
+    #[tactic(auto, unfolding(crate::specs::Runs::no_runs))]
+    pub fn new(alloc: Global) -> Result<Runs, AllocError>
         ensures { IfOk result (λ runs. runs ≡ no_runs) }
     {
         Ok(Runs {
-            runs: vec![in alloc; None; NUMBERS]?,
+            runs: nothing(alloc, NUMBERS)?,
         })
     }
 
@@ -221,7 +230,7 @@ impl Runs {
     }
 
     /// Adds all rows that go on at the end, by the numbers of their objects.
-    pub(crate) fn push_all(
+    pub fn push_all(
         &self,
         alloc: Global,
         text: &mut Vec<u8>,
@@ -252,4 +261,37 @@ fn push_rests(
         push_rest(alloc, text, config, clock, look, *run)?;
     }
     Ok(())
+}
+
+/// The object that a line tells of.
+fn line_object(line: &ReportLine) -> Option<ObjectId>
+    ensures { result ≡ line_object line.now }
+{
+    match line {
+        ReportLine::Decided(Entry::Sent(notice)) => Some(notice.object),
+        ReportLine::Decided(Entry::Withheld(withheld)) => Some(withheld.object),
+        ReportLine::Refused(_) => None,
+    }
+}
+
+/// Adds what a line adds, after these rows, and puts the row of its object on. A refused growth is the only error.
+pub fn add_line(
+    alloc: Global,
+    text: &mut Vec<u8>,
+    config: &Config,
+    clock: &ZoneClock<'_>,
+    look: Look,
+    runs: &mut Runs,
+    line: &ReportLine,
+) -> Result<(), AllocError>
+    ensures text { OnOk result (text.new.items
+        ≡ text.old.items ++ added config.now clock.now look runs.old line.now) }
+    ensures runs { OnOk result (runs.new ≡ runs_after runs.old line.now) }
+{
+    let Some(object) = line_object(line) else {
+        return push_line(alloc, text, config, clock, look, line);
+    };
+    let run = runs.get(object);
+    runs.set(object, run_after(run, line));
+    push_after(alloc, text, config, clock, look, run, line)
 }

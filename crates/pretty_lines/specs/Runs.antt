@@ -11,10 +11,9 @@ use Rattle.notice_text.specs.Names.{filter_name, kind_name, state_name}
 use Rattle.line_forms.specs.declared.report_line.ReportLine.{ReportLine}
 use Rattle.line_forms.specs.declared.report_line.ReportLine.TheVariants.{Decided, Refused}
 use Rattle.line_forms.specs.Picks.{line_object}
-use Rattle.report_pretty.specs.declared.columns.Look.{Look}
-use Rattle.report_pretty.specs.declared.runs.Run.{Run}
-use Rattle.report_pretty.specs.Columns.{numbers}
-use Rattle.report_pretty.specs.Lines.{line_text, stopped_text}
+use Rattle.pretty_lines.specs.declared.columns.Look.{Look}
+use Rattle.pretty_lines.specs.declared.runs.Run.{Run}
+use Rattle.pretty_lines.specs.Lines.{line_text, stopped_text}
 
 -- the same filter stops the same kind of message about the same state
 abbrev pub same_stop : (s t : Suppression) → Bool
@@ -78,8 +77,8 @@ text_after c zone look (Some run) line =
 
 -- ---- the rows of all objects, by their numbers
 
-abbrev pub no_runs : List (Option Run)
-no_runs = replicate numbers None
+unfoldable pub no_runs : List (Option Run)
+no_runs = replicate 65536 None
 
 abbrev pub run_at : List (Option Run) → (o : ℕ) → Option Run
 run_at runs o = slice_index_or runs o None
@@ -88,5 +87,12 @@ abbrev pub runs_after : List (Option Run) → ReportLine → List (Option Run)
 runs_after runs line =
     option_map_or (λ o. slice_set runs o.0 (run_after (run_at runs o.0) line)) (line_object line) runs
 
+-- what a line adds, by the row of its object
+abbrev pub added : Config → Zone → Look → List (Option Run) → ReportLine → List ℕ
+added c zone look runs line =
+    option_map_or (λ o. text_after c zone look (run_at runs o.0) line) (line_object line)
+    (line_text c zone look line)
+
+-- how those went on that still do at the end
 abbrev pub all_rest : Config → Zone → Look → List (Option Run) → List ℕ
 all_rest c zone look runs = flat_map (rest_text c zone look) runs

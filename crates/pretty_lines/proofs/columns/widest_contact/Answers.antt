@@ -1,7 +1,7 @@
 use Rattle.std.proofs.Common.{◌∙◌, sym, ap₂, ℕ, max}
 use Rattle.notice_text.specs.Texts.{contact_text}
-use Rattle.report_pretty.proofs.ColumnLaws.{widest_more}
-use Rattle.report_pretty.proofs.columns.widest_contact.Goals as goal
+use Rattle.pretty_lines.proofs.ColumnLaws.{widest_more}
+use Rattle.pretty_lines.proofs.columns.widest_contact.Goals as goal
 
 pub loop-number-preserved : goal.loop-number-preserved
 loop-number-preserved c =
