@@ -5,13 +5,14 @@ ghost use Rattle.std.specs.Prelude.{◌≡◌, ◌<◌, true};
 ghost use Rattle.std.specs.Process.{exit_status};
 ghost use Rattle.clap.specs.Values.{kind_of};
 ghost use Rattle.command_output.specs.Outcome.{outcome_status};
-ghost use Rattle.command_line.specs.Words.{AreSettingsFit, AreTwo, asks_bad_letters, asks_two_forms, request_zone};
+ghost use Rattle.command_line.specs.Words.{AreSettingsFit, AreTwo, asks_bad_letters, asks_two_forms, lacks_feed, request_zone};
 ghost use Rattle.notify_run.specs.Refusal.{refusal_status};
 ghost use Rattle.notify_run.specs.Shown.{ArePickedBy, AreShownBy};
 ghost use Rattle.notify_run.specs.Zones.{IsBadRule};
 ghost use Rattle.run_devices.specs.Fault.{run_status};
 ghost use Rattle.steps.specs.Settings.{max_channels};
 
+mod feeds;
 mod pretty;
 mod who;
 mod zones;
@@ -20,12 +21,13 @@ use clap::error::ErrorKind;
 use command_line::{Request, ShownWords, command, request_of};
 use command_output::{AnyWriter, CommandFault, Ending, exit_status};
 use due_model::zone::Zone;
+use feeds::status_of_feed;
 use line_forms::Picks;
 use pretty::pretty_through;
 use progress::{ProgressLine, Watcher};
 use replay::{replay_files, replay_in};
 use report_forms::{LineForm, ShownLines, show_files, show_in};
-use run_devices::{LoggedWords, RunFault, RunSettings, do_logged_run, do_run};
+use run_devices::{RunFault, RunSettings};
 use std::alloc::{AllocError, Global};
 use std::env;
 use std::fs::File;
@@ -207,12 +209,16 @@ fn status_of_request<T: Threads + Wait + Clock + Sync>(
     ensures rule { IsBadRule (request_zone request.entry) → exit_status result ≡ 2 }
     ensures letters { asks_bad_letters request.entry ≡ true → exit_status result ≡ 2 }
     ensures forms { asks_two_forms request.entry ≡ true → exit_status result ≡ 2 }
+    ensures feed { lacks_feed request.entry ≡ true → exit_status result ≡ 2 }
 {
     if request.asks_bad_letters() {
         return status_of_words(rt, "bad letters");
     }
     if request.asks_two_forms() {
         return status_of_words(rt, "two forms");
+    }
+    if request.lacks_feed() {
+        return status_of_words(rt, "--follow and --clock need --feed");
     }
     let words = request.zone();
     let zone = match zone_asked(rt, words) {
@@ -237,6 +243,7 @@ fn status_of_request<T: Threads + Wait + Clock + Sync>(
             quiet,
             ahead,
             log,
+            feed,
             ..
         } => {
             let settings = RunSettings {
@@ -246,29 +253,7 @@ fn status_of_request<T: Threads + Wait + Clock + Sync>(
                 quiet,
                 ahead,
             };
-            let feed = AnyReader::new(rt.stdin());
-            let mut writer = AnyWriter::new(rt.stdout());
-            if let Some(file) = log.file {
-                let words = LoggedWords {
-                    objects,
-                    channels,
-                    log: file,
-                    fold: log.fold,
-                };
-                let outcome = do_logged_run(rt, threads, &zone, words, settings, feed, &mut writer);
-                return status_of_run(rt, outcome);
-            }
-            let outcome = do_run(
-                rt,
-                threads,
-                &zone,
-                objects,
-                settings,
-                channels,
-                feed,
-                &mut writer,
-            );
-            return status_of_run(rt, outcome.map(|done| done.ending));
+            return status_of_feed(rt, threads, &zone, objects, settings, channels, log, feed);
         }
     };
     status_of(rt, outcome)
