@@ -3,8 +3,6 @@
 #![tactic(auto)]
 
 #[cfg(test)]
-mod pretty;
-#[cfg(test)]
 mod replays;
 #[cfg(test)]
 mod reports;

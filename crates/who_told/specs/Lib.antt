@@ -1,4 +1,2 @@
 pub mod Names
-pub mod Unknown
-pub mod Fault
 pub mod Who

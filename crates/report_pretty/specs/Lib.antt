@@ -1,2 +1,0 @@
-pub mod Pretty
-pub mod Teller
