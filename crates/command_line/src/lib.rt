@@ -3,6 +3,4 @@
 
 pub mod words;
 
-pub use words::{
-    FeedWords, LogWords, Request, ShownWords, WhoWords, ZoneWords, command, request_of,
-};
+pub use words::{FeedWords, Request, ShownWords, WhoWords, ZoneWords, command, request_of};

@@ -1,11 +1,11 @@
 //! The runs of a feed: of standard input, and of a file.
 
 use crate::status_of_run;
-use command_line::{FeedWords, LogWords};
+use command_line::FeedWords;
 use command_output::AnyWriter;
 use due_model::zone::Zone;
 use feed_file::{Feed, FeedFile, FeedWays};
-use run_devices::{LoggedWords, RunSettings, do_logged_run, do_run};
+use run_devices::{RunSettings, do_run};
 use std::io;
 use std::process::ExitCode;
 use std::rt::Stdin;
@@ -35,7 +35,6 @@ pub(crate) fn status_of_feed<T: Threads + Wait + Clock + Sync>(
     objects: &str,
     settings: RunSettings,
     channels: Option<&[&str]>,
-    log: LogWords<'_>,
     feed: FeedWords<'_>,
 ) -> ExitCode {
     let Ok(opened) = feed_of(rt, feed, settings.quiet) else {
@@ -43,46 +42,7 @@ pub(crate) fn status_of_feed<T: Threads + Wait + Clock + Sync>(
         let _ = rt.eprintln(format_args!("feed: {path}: not opened"));
         return ExitCode::from(1);
     };
-    match log.file {
-        Some(file) => {
-            let words = LoggedWords {
-                objects,
-                channels,
-                log: file,
-                fold: log.fold,
-            };
-            status_of_logged(rt, threads, zone, words, settings, opened)
-        }
-        None => status_of_new(rt, threads, zone, objects, settings, channels, opened),
-    }
-}
-
-/// Does a run that writes its report as it goes, and gives its exit status.
-fn status_of_logged<T: Threads + Wait + Clock + Sync>(
-    rt: &HostRuntime,
-    threads: &T,
-    zone: &Zone,
-    words: LoggedWords<'_, '_>,
-    settings: RunSettings,
-    feed: Feed<Stdin>,
-) -> ExitCode {
-    let feed = AnyReader::new(feed);
-    let mut writer = AnyWriter::new(rt.stdout());
-    let outcome = do_logged_run(rt, threads, zone, words, settings, feed, &mut writer);
-    status_of_run(rt, outcome)
-}
-
-/// Does a run that writes its report at its end, and gives its exit status.
-fn status_of_new<T: Threads + Wait + Clock + Sync>(
-    rt: &HostRuntime,
-    threads: &T,
-    zone: &Zone,
-    objects: &str,
-    settings: RunSettings,
-    channels: Option<&[&str]>,
-    feed: Feed<Stdin>,
-) -> ExitCode {
-    let feed = AnyReader::new(feed);
+    let feed = AnyReader::new(opened);
     let mut writer = AnyWriter::new(rt.stdout());
     let outcome = do_run(
         rt,

@@ -292,7 +292,6 @@ fn status_of_request<T: Threads + Wait + Clock + Sync>(
             times,
             quiet,
             ahead,
-            log,
             feed,
             ..
         } => {
@@ -303,7 +302,7 @@ fn status_of_request<T: Threads + Wait + Clock + Sync>(
                 quiet,
                 ahead,
             };
-            return status_of_feed(rt, threads, &zone, objects, settings, channels, log, feed);
+            return status_of_feed(rt, threads, &zone, objects, settings, channels, feed);
         }
     };
     status_of(rt, outcome)

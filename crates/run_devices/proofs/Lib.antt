@@ -1,3 +1,2 @@
-mod LoggedLaws
 mod PostLaws
 mod PauseLaws

@@ -5,17 +5,11 @@ pub mod channels;
 pub mod counted;
 pub mod fault;
 pub mod horizon;
-mod logged_channel;
-mod logged_gate;
-pub mod logged_run;
-mod rotated_file;
 pub mod run;
-mod run_log;
 pub mod settings;
 pub mod teller;
 mod watcher;
 
 pub use fault::RunFault;
-pub use logged_run::{LoggedWords, do_logged_run};
 pub use run::do_run;
 pub use settings::RunSettings;

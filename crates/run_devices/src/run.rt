@@ -77,7 +77,7 @@ pub fn do_run<'a, T: Threads + Wait + Clock + Sync, R: Input + Drop, W: Sink>(
 }
 
 /// The configuration of the object text, the lanes that words name, and their channels, one for each in order.
-pub(crate) fn open_words<'a>(
+fn open_words<'a>(
     rt: &HostRuntime,
     objects: &str,
     channels: Option<&[&'a str]>,
@@ -131,7 +131,7 @@ fn checked<'a, O: Input + Drop>(
 
 /// The posts of these channels, one each on these lanes in order. Each channel is numbered by its place, counts what it takes, and says
 /// where it failed for good. A refused growth is the only error.
-pub(crate) fn posts_of(
+fn posts_of(
     alloc: Global,
     config: &Config,
     lanes: &[LaneId],
@@ -156,7 +156,7 @@ pub(crate) fn posts_of(
 }
 
 /// What a run counts by, and who shows it. A refused growth is the only error.
-pub(crate) fn watch<'r, T: Threads>(
+fn watch<'r, T: Threads>(
     rt: &'r HostRuntime,
     threads: &'r T,
 ) -> Result<(Arc<Counts, Global>, RunWatcher<'r, T>), AllocError> {

@@ -43,7 +43,7 @@ impl Teller {
     }
 
     /// Says a line.
-    pub(crate) fn say(&self, text: &str) {
+    fn say(&self, text: &str) {
         if self.is_quiet {
             return;
         }
