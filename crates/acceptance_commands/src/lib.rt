@@ -3,6 +3,8 @@
 #![tactic(auto)]
 
 #[cfg(test)]
+mod objects;
+#[cfg(test)]
 mod replays;
 #[cfg(test)]
 mod reports;

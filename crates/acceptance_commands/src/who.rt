@@ -1,6 +1,6 @@
 //! Who would be told, over a writer in memory.
 
-use acceptance_inputs::texts::BASE;
+use crate::objects::OBJECTS;
 use command_output::Ending;
 use due_model::zone::Zone;
 use made_feed::Supposed;
@@ -25,7 +25,13 @@ fn of_a_host(rt: HostRuntime) -> Result<(), Fail> {
         moment: 1000,
         minutes: 2,
     };
-    let ended = who(rt.alloc(), &Zone::Utc, BASE.as_bytes(), &supposed, &mut out);
+    let ended = who(
+        rt.alloc(),
+        &Zone::Utc,
+        OBJECTS.as_bytes(),
+        &supposed,
+        &mut out,
+    );
     assert_eq!(&rt;
         (ended, out.as_slice()),
         (Ok(Ending::Whole), TABLE.as_bytes())
