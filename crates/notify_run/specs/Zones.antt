@@ -14,15 +14,15 @@ zone_fault_status TwoZones = 2
 zone_fault_status BadZone = 2
 zone_fault_status NoMemory = 4
 
--- a letter, a digit, or one of _ + - /
-abbrev pub is_name_byte : ℕ → Bool
-is_name_byte byte = (nat_le 48 byte && nat_le byte 57) || (nat_le 65 byte && nat_le byte 90)
+-- no letter, no digit, and none of _ + - /
+unfoldable pub is_odd_byte : ℕ → Bool
+is_odd_byte byte = not ((nat_le 48 byte && nat_le byte 57) || (nat_le 65 byte && nat_le byte 90)
     || (nat_le 97 byte && nat_le byte 122)
-    || (byte == 95) || (byte == 43) || (byte == 45) || (byte == 47)
+    || (byte == 95) || (byte == 43) || (byte == 45) || (byte == 47))
 
 -- whether a text may be the name of a zone file, as Europe/Berlin
 abbrev pub is_zone_name : List ℕ → Bool
-is_zone_name text = not (list_any (λ byte. not (is_name_byte byte)) text)
+is_zone_name text = not (list_any is_odd_byte text)
 
 -- It gives a rule alone, no zone is that of the rule, and it isn't the name of one.
 abbrev pub IsBadRule : ZoneWords → Type 0

@@ -117,7 +117,7 @@ fn replay_through<P: Watcher>(
 
 /// Which lines are wanted, and how they are written.
 fn shown_lines(alloc: Global, words: ShownWords<'_>) -> ShownLines<'_>
-    ensures { AreShownBy words result }
+    ensures { AreShownBy words.entry result }
 {
     let form = if words.json {
         LineForm::Json
@@ -184,6 +184,28 @@ fn status_of_words<R: Eprint>(rt: &R, fault: &str) -> ExitCode
     ExitCode::from(2)
 }
 
+/// What is supposed by these words.
+fn supposed_of<'a>(
+    down: &'a [&'a str],
+    host: &'a str,
+    service: Option<&'a str>,
+    state: &'a str,
+    moment: u64,
+    minutes: u32,
+) -> Supposed<'a>
+    ensures moment { result.moment ≡ moment }
+    ensures minutes { result.minutes ≡ minutes }
+{
+    Supposed {
+        down,
+        host,
+        service,
+        state,
+        moment,
+        minutes,
+    }
+}
+
 /// Writes who would be told of what is asked, from the moment on, for so many minutes.
 fn do_who(
     rt: &HostRuntime,
@@ -199,14 +221,9 @@ fn do_who(
         return Err(CommandFault::Unreadable);
     };
     let (host, service) = object_parts(asked.object);
-    let supposed = Supposed {
-        down: asked.down.unwrap_or(&[]),
-        host,
-        service,
-        state: asked.state,
-        moment,
-        minutes: u32::from(minutes),
-    };
+    let down = asked.down.unwrap_or(&[]);
+    let minutes = u32::from(minutes);
+    let supposed = supposed_of(down, host, service, asked.state, moment, minutes);
     let objects = AnyReader::new(file);
     let mut writer = AnyWriter::new(rt.stdout());
     who(rt.alloc(), zone, objects, &supposed, &mut writer)

@@ -4,7 +4,7 @@ ghost use Rattle.std.specs.Prelude.{◌≡◌, not, Err};
 ghost use Rattle.std.specs.List.{list_any};
 ghost use Rattle.std.specs.Process.{exit_status};
 ghost use Rattle.command_line.specs.Words.{AreTwo};
-ghost use Rattle.notify_run.specs.Zones.{IsBadRule, is_name_byte, is_zone_name, zone_fault_status};
+ghost use Rattle.notify_run.specs.Zones.{IsBadRule, is_odd_byte, is_zone_name, zone_fault_status};
 ghost use Rattle.zone_times.specs.declared.given.ZoneFault.TheVariants.{BadZone, TwoZones};
 
 use crate::out_of_memory;
@@ -19,18 +19,26 @@ use zone_times::given::ZoneFault;
 /// Where systems keep their zone files.
 const ZONE_FILES: &str = "/usr/share/zoneinfo/";
 
-/// Whether a byte may stand in the name of a zone file.
-fn is_name_byte(byte: u8) -> bool
-    ensures { result ≡ is_name_byte byte }
+/// Whether a byte can't stand in the name of a zone file.
+#[tactic(auto, unfolding(crate::specs::Zones::is_odd_byte))]
+fn is_odd_byte(byte: u8) -> bool
+    ensures { result ≡ is_odd_byte byte }
 {
-    matches!(byte, b'0'..=b'9' | b'A'..=b'Z' | b'a'..=b'z' | b'_' | b'+' | b'-' | b'/')
+    !matches!(byte, b'0'..=b'9' | b'A'..=b'Z' | b'a'..=b'z' | b'_' | b'+' | b'-' | b'/')
+}
+
+/// Whether bytes have one that can't stand there.
+fn has_odd_byte(bytes: &[u8]) -> bool
+    ensures { result ≡ list_any is_odd_byte bytes.now }
+{
+    bytes.iter().any(|byte| is_odd_byte(*byte))
 }
 
 /// Whether a text may be the name of a zone file, as `Europe/Berlin`.
 fn is_zone_name(text: &str) -> bool
     ensures { result ≡ is_zone_name text.now }
 {
-    !text.as_bytes().iter().any(|byte| !is_name_byte(*byte))
+    !has_odd_byte(text.as_bytes())
 }
 
 /// The path of a system's zone file of this name. A refused growth is the only error.
