@@ -1,14 +1,19 @@
 -- Times of a command line that say nothing.
-use Rattle.std.specs.Prelude.{ℕ, ◌≤◌, IsSomeAnd}
+use Rattle.std.proofs.Common.{Bor}
+use Rattle.std.specs.Prelude.{ℕ, ◌≤◌, IsSomeAnd, List, Option}
 use Rattle.command_line.specs.declared.words.WhoWords.{WhoWords}
 use Rattle.due_model.specs.Limits.{last_moment}
 use Rattle.due_model.specs.declared.zone.Zone.{Zone}
 use Rattle.given_times.specs.Given.{IsMinutes, IsMoment, most_minutes}
 
+-- a text is given that says no moment
+abbrev pub IsNoMoment : Zone → (at : Option (Bor (List ℕ))) → Type 0
+IsNoMoment zone at = IsSomeAnd at
+    (λ text. (moment : ℕ) → moment ≤ last_moment → IsMoment zone text.now moment → ⊥)
+
 -- It gives a time, and that is no moment.
 abbrev pub IsBadTime : Zone → WhoWords → Type 0
-IsBadTime zone asked = IsSomeAnd asked.at
-    (λ text. (moment : ℕ) → moment ≤ last_moment → IsMoment zone text.now moment → ⊥)
+IsBadTime zone asked = IsNoMoment zone asked.at
 
 -- How long it lasts is no length of so many minutes.
 abbrev pub IsBadLength : WhoWords → Type 0

@@ -1,7 +1,7 @@
 //! The program `notify-run`: its command line, and how each command ends.
 #![tactic(auto)]
 
-ghost use Rattle.std.specs.Prelude.{◌≡◌, ◌<◌, ◌≤◌, true, IfSome};
+ghost use Rattle.std.specs.Prelude.{◌≡◌, ◌<◌, ◌≤◌, true, IfSome, None};
 ghost use Rattle.std.specs.Process.{exit_status};
 ghost use Rattle.clap.specs.Values.{kind_of};
 ghost use Rattle.command_output.specs.Outcome.{outcome_status};
@@ -9,7 +9,7 @@ ghost use Rattle.due_model.specs.Limits.{last_moment};
 ghost use Rattle.command_line.specs.Words.{AreSettingsFit, AreTwo, asks_bad_letters, lacks_feed, request_zone};
 ghost use Rattle.notify_run.specs.Refusal.{refusal_status};
 ghost use Rattle.notify_run.specs.Shown.{AreShownBy};
-ghost use Rattle.notify_run.specs.Times.{IsBadLength, IsBadTime};
+ghost use Rattle.notify_run.specs.Times.{IsBadLength, IsBadTime, IsNoMoment};
 ghost use Rattle.notify_run.specs.Zones.{IsBadRule};
 ghost use Rattle.run_devices.specs.Fault.{run_status};
 ghost use Rattle.steps.specs.Settings.{max_channels};
@@ -229,6 +229,20 @@ fn do_who(
     who(rt.alloc(), zone, objects, &supposed, &mut writer)
 }
 
+/// The moment that a text says, or that of a clock. None where the text says none.
+fn begin_of<T: Clock>(clock: &T, zone: &Zone, at: Option<&str>) -> Option<u64>
+    ensures within { IfSome result (λ moment. moment ≤ last_moment) }
+    ensures bad { IsNoMoment zone.now at.entry → result ≡ None }
+{
+    let Some(text) = at else {
+        return moment_of(clock);
+    };
+    match moment_given(zone, text) {
+        Some(moment) => Some(moment),
+        None => None,
+    }
+}
+
 /// Writes who would be told of what is asked, and gives the exit status. Its times are looked at before anything else.
 fn status_of_who<T: Clock>(
     rt: &HostRuntime,
@@ -240,11 +254,7 @@ fn status_of_who<T: Clock>(
     ensures time { IsBadTime zone.now asked.entry → exit_status result ≡ 2 }
     ensures length { IsBadLength asked.entry → exit_status result ≡ 2 }
 {
-    let begin = match asked.at {
-        Some(text) => moment_given(zone, text),
-        None => moment_of(clock),
-    };
-    let Some(moment) = begin else {
+    let Some(moment) = begin_of(clock, zone, asked.at) else {
         return status_of_words(rt, "bad time");
     };
     match minutes_given(asked.lasting) {
