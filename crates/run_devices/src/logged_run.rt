@@ -1,10 +1,10 @@
 //! A run that writes its report to a log as it goes.
 
-ghost use Rattle.std.specs.Prelude.{◌≡◌, ◌≤◌, ℕ, [], length, map, unwrap_or, IfErr, IfOk};
+ghost use Rattle.std.specs.Prelude.{◌≡◌, ◌≤◌, ℕ, [], is_none, length, map, unwrap_or, IfErr, IfOk, Ok};
 ghost use Rattle.std.specs.Option.{option_map};
 ghost use Rattle.channel_words.specs.Lanes.{channels_for};
 ghost use Rattle.due_model.specs.Accepted.{IsAccepted};
-ghost use Rattle.run_devices.specs.Channels.{numbered_from};
+ghost use Rattle.run_devices.specs.Done.{IsLogged, RunsLogged};
 ghost use Rattle.run_devices.specs.Fault.{IsCommandFault, RunFails};
 
 use crate::channels::OpenedChannel;
@@ -60,8 +60,15 @@ pub fn do_logged_run<'m, 'a, T: Threads + Wait + Clock + Sync, R: Input + Drop, 
     feed: R,
     writer: &mut W,
 ) -> Result<Ending, RunFault<'a>>
+    // It is done only where all checks of the words went well, and then the ends of the lanes of a run were written, with channels for the
+    // lanes that they name.
+    ensures ok { let texts = map (λ text. text.now)
+        (unwrap_or (option_map (λ given. given.now) words.entry.channels) [])
+        in IfOk result (λ ending. IsLogged texts R.can_fail (is_none settings.ahead) zone.now (R.remaining feed) ending
+        (W.contents writer.old) (W.contents writer.new)) }
+    // What it fails with, and that the earlier checks went well.
     ensures fault { let texts = map (λ text. text.now)
-        (unwrap_or (option_map (λ given. given.now) words.channels.entry) [])
+        (unwrap_or (option_map (λ given. given.now) words.entry.channels) [])
         in IfErr result (RunFails texts) }
 {
     let (config, lanes, opened) = open_words(rt, words.objects, words.channels, settings.limit())?;
@@ -101,6 +108,9 @@ fn log_through<'a, T: Threads + Wait + Clock + Sync, R: Input + Drop, W: Sink>(
     requires accepted { IsAccepted site.config.now }
     requires each { length channels.items ≡ length lanes.now }
     requires few { (l : ℕ) → channels_for lanes.now l ≤ 8 }
+    ensures report { IfOk result (λ ending. RunsLogged R.can_fail (is_none site.settings.ahead)
+        site.entry.config.now site.entry.zone.now lanes.now (R.remaining feed) ending
+        (W.contents writer.old) (W.contents writer.new)) }
     ensures fault { IfErr result IsCommandFault }
 {
     let alloc = rt.alloc();
@@ -222,7 +232,8 @@ fn whole_log<'a, T: Wait>(
     log: &RunLog<'_, T>,
     outcome: Result<Ending, CommandFault>,
 ) -> Result<Ending, RunFault<'a>>
-    ensures { IfErr result IsCommandFault }
+    ensures ok { IfOk result (λ ending. outcome ≡ Ok ending) }
+    ensures fault { IfErr result IsCommandFault }
 {
     let lost = log.lost();
     if lost > 0 {
