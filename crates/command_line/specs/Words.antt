@@ -1,5 +1,5 @@
 -- What the words of a command line ask, and which words there are.
-use Rattle.std.specs.Prelude.{◌≡◌, ℕ, ◌<◌, ◌≤◌, ◌^◌, IfNone, IfSome, Bool, not, ◌||◌, ◌==◌, List, [], ◌∷◌, map, Option, None, Some, pos, true, false, codes, is_some}
+use Rattle.std.specs.Prelude.{◌≡◌, ℕ, ◌<◌, ◌≤◌, ◌^◌, IfNone, IfSome, Bool, not, ◌&&◌, ◌||◌, ◌==◌, List, [], ◌∷◌, map, Option, None, Some, pos, true, false, codes, is_none, is_some}
 use Rattle.std.specs.List.{list_all}
 use Rattle.std.specs.Option.{option_copied, option_map, option_map_or}
 use Rattle.std.specs.Str.Parse.{digits_value, IsNumeral, without_leading_plus}
@@ -13,6 +13,7 @@ use Rattle.steps.specs.declared.settings.Settings.{Settings}
 use Rattle.steps.specs.Settings.{AreSettings, max_channels}
 use Rattle.clap.specs.declared.builder.action.ArgAction.TheVariants.{Append, SetTrue}
 use Rattle.clap.specs.declared.builder.value_parser.ValueParser.TheVariants.{Signed}
+use Rattle.command_line.specs.declared.words.FeedWords.{FeedWords}
 use Rattle.command_line.specs.declared.words.Request.{Request}
 use Rattle.command_line.specs.declared.words.ShownWords.{ShownWords}
 use Rattle.command_line.specs.declared.words.TryTimes.{TryTimes}
@@ -24,14 +25,14 @@ use Rattle.command_line.specs.declared.words.Request.TheVariants.{Replay, Trace,
 abbrev pub request_name : Request → List ℕ
 request_name (Replay objects zone shown) = codes "replay"
 request_name (Trace settings standbys zone) = codes "trace"
-request_name (Run objects settings zone channels times quiet ahead) = codes "run"
+request_name (Run objects settings zone channels times quiet ahead feed) = codes "run"
 request_name (Who objects zone asked) = codes "who"
 
 -- in a trace fewer channels stand by than a lane may have
 abbrev pub AreSettingsFit : Request → Type 0
 AreSettingsFit (Replay objects zone shown) = Unit {0}
 AreSettingsFit (Trace settings standbys zone) = standbys < max_channels
-AreSettingsFit (Run objects settings zone channels times quiet ahead) = Unit {0}
+AreSettingsFit (Run objects settings zone channels times quiet ahead feed) = Unit {0}
 AreSettingsFit (Who objects zone asked) = Unit {0}
 
 -- the texts that the options of a command hold of the zone
@@ -63,6 +64,12 @@ abbrev pub HoldsAnyNumber : Found → (name : List ℕ) → (number : Option ℕ
 HoldsAnyNumber options name (Some number) = HoldsNumber options name number
 HoldsAnyNumber options name None =
     (number : ℕ) → HoldsNumber options name number → number < 2 ^ 32 → ⊥
+
+-- what the options of `run` hold of where its feed is read from
+pub record IsFeedOf (options : Found) (feed : FeedWords) : Type 0 where
+  pub file : option_copied feed.file ≡ first_value options (codes "feed")
+  pub follow : IsFlag options (codes "follow") feed.follow
+  pub clock : IsFlag options (codes "clock") feed.clock
 
 -- the numbers that the options of a command hold of a lane
 pub record HoldSettings (options : Found) (settings : Settings) : Type 0 where
@@ -119,7 +126,7 @@ RunLacks options = (deciders : ℕ) → is_some (first_value options (codes "obj
 
 -- What the options of a command hold: of `replay` the file of the object text, if it is given, and which lines are wanted; of
 -- `trace` the settings and how many channels stand by; of `run` the file, the settings, the times, how far ahead a stamp may be,
--- and the channel words; of `who` the file and what is supposed; and of each the zone.
+-- where the feed is read from, and the channel words; of `who` the file and what is supposed; and of each the zone.
 abbrev pub IsRequestOf : Found → Request → Type 0
 IsRequestOf options (Replay objects zone shown) =
     (option_copied objects ≡ first_value options (codes "objects")) × IsZoneOf options zone
@@ -128,11 +135,11 @@ IsRequestOf options (Trace settings standbys zone) =
     HoldsNumber options (codes "deciders") settings.deciders
     × HoldsNumber options (codes "standbys") standbys
     × HoldSettings options settings × IsZoneOf options zone
-IsRequestOf options (Run objects settings zone channels times quiet ahead) =
+IsRequestOf options (Run objects settings zone channels times quiet ahead feed) =
     (Some objects.now ≡ first_value options (codes "objects"))
     × HoldsNumber options (codes "deciders") settings.deciders × HoldSettings options settings × IsZoneOf options zone
     × HoldTimes options times × IsFlag options (codes "quiet") quiet
-    × HoldsAnyNumber options (codes "ahead") ahead
+    × HoldsAnyNumber options (codes "ahead") ahead × IsFeedOf options feed
     × (option_map (λ words. map (λ word. word.now) words.now) channels
     ≡ option_map raw_values (matched_of options (codes "channel")))
 IsRequestOf options (Who objects zone asked) =
@@ -154,8 +161,15 @@ IsMetWith matches name so = (options : Found)
 abbrev pub request_zone : Request → ZoneWords
 request_zone (Replay objects zone shown) = zone
 request_zone (Trace settings standbys zone) = zone
-request_zone (Run objects settings zone channels times quiet ahead) = zone
+request_zone (Run objects settings zone channels times quiet ahead feed) = zone
 request_zone (Who objects zone asked) = zone
+
+-- it says how a file is read as the feed, and names none
+abbrev pub lacks_feed : Request → Bool
+lacks_feed (Replay objects zone shown) = false
+lacks_feed (Trace settings standbys zone) = false
+lacks_feed (Run objects settings zone channels times quiet ahead feed) = is_none feed.file && (feed.follow || feed.clock)
+lacks_feed (Who objects zone asked) = false
 
 -- it gives a rule and a file
 abbrev pub AreTwo : ZoneWords → Type 0
@@ -178,7 +192,7 @@ has_bad_letters words =
 abbrev pub asks_bad_letters : Request → Bool
 asks_bad_letters (Replay objects zone shown) = has_bad_letters shown
 asks_bad_letters (Trace settings standbys zone) = false
-asks_bad_letters (Run objects settings zone channels times quiet ahead) = false
+asks_bad_letters (Run objects settings zone channels times quiet ahead feed) = false
 asks_bad_letters (Who objects zone asked) = false
 
 -- `--NAME NUMBER`, with a number from `least` to `most`, or with `default` where it is left out
@@ -255,16 +269,21 @@ with_try_options app =
     (number_option (codes "timeout") (codes "30") 1 3600))
     (number_option (codes "pause") (codes "1") 0 60)
 
+-- three say where the feed is read from, and how
+abbrev pub with_feed_options : App → App
+with_feed_options app =
+    with_rule (with_rule (with_rule app (text_option (codes "feed"))) (flag_option (codes "follow"))) (flag_option (codes "clock"))
+
 -- `run` has the file of the object text, which must be given, how many deciders there are, how many notices a lane's queue holds,
--- these, how far ahead a stamp may be, `--quiet`, and the channel words
+-- these, how far ahead a stamp may be, `--quiet`, where the feed is read from, and the channel words
 abbrev pub run_words : App
 run_words =
-    with_rule (with_zone (with_rule (with_rule (with_try_options (with_rule (with_rule (with_rule (new_app (codes "run"))
+    with_rule (with_zone (with_feed_options (with_rule (with_rule (with_try_options (with_rule (with_rule (with_rule (new_app (codes "run"))
     (record (text_option (codes "objects")) { required = true }))
     (number_option (codes "deciders") (codes "2") 1 8))
     (number_option (codes "queue") (codes "64") 1 1024)))
     (bare_number_option (codes "ahead") 0 4294967295))
-    (flag_option (codes "quiet")))) (word_list (codes "channel"))
+    (flag_option (codes "quiet"))))) (word_list (codes "channel"))
 
 -- `--NAME TEXT`, any number of times
 abbrev pub text_options : List ℕ → Rule

@@ -3,4 +3,4 @@
 
 pub mod words;
 
-pub use words::{Request, ShownWords, WhoWords, ZoneWords, command, request_of};
+pub use words::{FeedWords, Request, ShownWords, WhoWords, ZoneWords, command, request_of};

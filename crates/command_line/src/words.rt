@@ -8,10 +8,10 @@ ghost use Rattle.command_line.specs.Words.{AreSettingsFit, IsAskedBy, IsRequestO
 ghost use Rattle.command_line.specs.Words.{HoldFitting, HoldSettings, HoldSomeTimes, HoldTimes};
 ghost use Rattle.command_line.specs.Words.{HoldsAnyNumber, HoldsNumber, bare_number_option};
 ghost use Rattle.command_line.specs.Words.{IsMetWith, IsShownOf, RunLacks, flag_option, has_bad_letters};
-ghost use Rattle.command_line.specs.Words.{IsWhoOf, LacksSupposed, WhoLacks, length_option};
-ghost use Rattle.command_line.specs.Words.{asks_bad_letters, is_line_letter, is_plain};
+ghost use Rattle.command_line.specs.Words.{IsFeedOf, IsWhoOf, LacksSupposed, WhoLacks, length_option};
+ghost use Rattle.command_line.specs.Words.{asks_bad_letters, is_line_letter, is_plain, lacks_feed};
 ghost use Rattle.command_line.specs.Words.{one_word, text_options, who_words, with_supposed};
-ghost use Rattle.command_line.specs.Words.{TraceLacks};
+ghost use Rattle.command_line.specs.Words.{TraceLacks, with_feed_options};
 ghost use Rattle.command_line.specs.Words.{number_option, program_words, replay_words};
 ghost use Rattle.command_line.specs.Words.{request_name, request_zone, run_words, text_option};
 ghost use Rattle.command_line.specs.Words.{trace_words, with_lane_options, with_shown, with_try_options};
@@ -101,8 +101,8 @@ where each list is `event:contact`, separated by commas, or `-`.";
 
 /// What `notify-run run --help` says.
 const RUN: &str = "\
-Reads a feed of events from standard input, and sends what they make due: the messages of
-each notification command go to the channel that a word names for it.
+Reads a feed of events from standard input or FILE, and sends what they make due: the
+messages of each notification command go to the channel that a word names for it.
 
   NAME=mailbox:PATH               appended to the file, which is made if it isn't there
   NAME=pager:HOST:PORT            to the peer at that address, which answers each with OK
@@ -212,6 +212,17 @@ pub struct TryTimes {
     pub pause: u8,
 }
 
+/// What a command line says of where the feed of a run is read from.
+#[derive(Clone, Copy, Debug, PartialEq, Eq)]
+pub struct FeedWords<'a> {
+    /// The file; none is standard input.
+    pub file: Option<&'a str>,
+    /// Whether it goes on as the file grows.
+    pub follow: bool,
+    /// Whether a line `CLOCK` is added to the file at each full minute.
+    pub clock: bool,
+}
+
 /// What the program is asked to do.
 #[derive(Clone, Copy, Debug, PartialEq, Eq)]
 pub enum Request<'m, 'a> {
@@ -240,6 +251,7 @@ pub enum Request<'m, 'a> {
         quiet: bool,
         /// How many seconds past the machine's clock the stamp of a line may be at most, if there is a limit.
         ahead: Option<u32>,
+        feed: FeedWords<'a>,
     },
     /// Who would be told, of the object text in the file.
     Who {
@@ -268,6 +280,16 @@ impl<'a> Request<'_, 'a> {
     {
         match self {
             Request::Replay { shown, .. } => shown.has_bad_letters(),
+            _ => false,
+        }
+    }
+
+    /// Whether it says how a file is read as the feed, and names none.
+    pub fn lacks_feed(self) -> bool
+        ensures { result ≡ lacks_feed self.entry }
+    {
+        match self {
+            Request::Run { feed, .. } => feed.file.is_none() && (feed.follow || feed.clock),
             _ => false,
         }
     }
@@ -499,6 +521,25 @@ fn ahead_option<'a>(alloc: Global) -> Arg<'a>
         )
 }
 
+/// Adds the options that say where the feed is read from.
+fn with_feed_options<'a>(alloc: Global, command: Command<'a>) -> Result<Command<'a>, AllocError>
+    ensures words { IfOk result (λ command_with.
+        app_of command_with ≡ with_feed_options (app_of command.entry)) }
+{
+    let file = text_option(
+        alloc,
+        "feed",
+        "FILE",
+        "A file that the feed is read from, in place of standard input",
+    );
+    let follow = "Goes on reading FILE as it grows, until the program is ended";
+    let clock = "Adds a line CLOCK to FILE at each full minute, as long as it is read";
+    command
+        .arg(file)?
+        .arg(flag_option(alloc, "follow", follow))?
+        .arg(flag_option(alloc, "clock", clock))
+}
+
 /// Adds the options that say how a run tries a message: how often, how long at most, and after which pause.
 fn with_try_options<'a>(alloc: Global, command: Command<'a>) -> Result<Command<'a>, AllocError>
     ensures words { IfOk result (λ command_with. app_of command_with
@@ -622,7 +663,8 @@ fn run_command<'a>(alloc: Global) -> Result<Command<'a>, AllocError>
     let with_ahead = with_tries.arg(ahead_option(alloc))?;
     let quiet = "Says nothing on standard error of what fails as it goes";
     let with_quiet = with_ahead.arg(flag_option(alloc, "quiet", quiet))?;
-    let with_options = with_zone(alloc, with_quiet)?;
+    let with_feed = with_feed_options(alloc, with_quiet)?;
+    let with_options = with_zone(alloc, with_feed)?;
     with_options.arg(channel_words(alloc))
 }
 
@@ -737,6 +779,17 @@ fn ahead_of(options: &ArgMatches<'_>) -> Option<u32>
     options.get_one::<u32>("ahead")
 }
 
+/// What the options of `run` say of where its feed is read from.
+fn feed_words<'a>(options: &ArgMatches<'a>) -> FeedWords<'a>
+    ensures { IsFeedOf (found_of options.now) result }
+{
+    FeedWords {
+        file: options.get_str("feed"),
+        follow: options.get_flag("follow"),
+        clock: options.get_flag("clock"),
+    }
+}
+
 /// What the options of `run` ask.
 fn run_request<'m, 'a>(options: &'m ArgMatches<'a>) -> Option<Request<'m, 'a>>
     ensures named { IfSome result (λ request. request_name request ≡ codes "run") }
@@ -755,6 +808,7 @@ fn run_request<'m, 'a>(options: &'m ArgMatches<'a>) -> Option<Request<'m, 'a>>
         times,
         quiet: options.get_flag("quiet"),
         ahead: ahead_of(options),
+        feed: feed_words(options),
     })
 }
 
