@@ -1,0 +1,10 @@
+//! A journal in a file: a line for each entry, which is on the disk once it is written.
+#![tactic(auto)]
+
+pub mod laws;
+pub mod synced;
+pub mod text_journal;
+mod writing;
+
+pub use synced::SyncedFile;
+pub use text_journal::TextJournal;
