@@ -4,7 +4,8 @@
 pub mod laws;
 pub mod synced;
 pub mod text_journal;
-mod writing;
+pub mod writing;
 
-pub use synced::SyncedFile;
+pub use synced::{Complaint, SyncedFile};
 pub use text_journal::TextJournal;
+pub use writing::write_flushed;

@@ -7,7 +7,7 @@ ghost use Rattle.written.specs.Written.{WritesFront};
 use channel_kinds::stream::Outlet;
 
 /// Writes all of the bytes, and flushes. False: a front of them was written.
-pub(crate) fn write_flushed<W: Outlet>(writer: &mut W, bytes: &[u8]) -> bool
+pub fn write_flushed<W: Outlet>(writer: &mut W, bytes: &[u8]) -> bool
     ensures whole { result ≡ true → Appends (W.contents writer.old) (W.contents writer.new) bytes.now }
     ensures flushed { result ≡ true → W.is_flushed writer.new ≡ true }
     ensures front { WritesFront (W.contents writer.old) (W.contents writer.new) bytes.now }

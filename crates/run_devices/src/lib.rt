@@ -8,8 +8,10 @@ pub mod horizon;
 pub mod run;
 pub mod settings;
 pub mod teller;
+pub mod watched;
 mod watcher;
 
 pub use fault::RunFault;
 pub use run::do_run;
 pub use settings::RunSettings;
+pub use watched::Watched;

@@ -1,0 +1,4 @@
+pub mod Fault
+pub mod JournalLines
+pub mod Resumed
+pub mod State
