@@ -10,7 +10,7 @@ use due_model::dependencies::Dependencies;
 use due_model::limits::LAST_MOMENT;
 use due_model::state::State;
 use due_model::zone::Zone;
-use slow_lookups::dependencies::dependency_fails;
+use slow_rules::dependencies::dependency_fails;
 use std::alloc::{AllocError, Global};
 use std::process::Abort;
 use time_period::compile::compile_all;

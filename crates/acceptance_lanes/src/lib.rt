@@ -8,6 +8,8 @@ mod given;
 #[cfg(test)]
 mod pairs;
 #[cfg(test)]
+mod pauses;
+#[cfg(test)]
 mod queues;
 #[cfg(test)]
 mod serving;

@@ -25,7 +25,7 @@ use Rattle.decider.specs.Share.{is_owned, owned_numbers}
 use Rattle.decider.specs.DeciderLaws.{due_more}
 use Rattle.lemmas.proofs.Lists.{AllPairs-append, AllPairs-nil, All-flat_map, range_below, range_increases}
 use Rattle.lemmas.proofs.Notices.{notices_to_each}
-use Rattle.log_merge.specs.Order.{IsInOrder, place}
+use Rattle.decider_thread.specs.Order.{IsInOrder, place}
 use Rattle.steps.specs.Lanes.{about}
 use Rattle.decider_thread.specs.Laws.{IsMade, of_object}
 use Rattle.decider_thread.specs.Made.{made_due, suppressed}

@@ -9,7 +9,7 @@ use Rattle.due_model.specs.Accepted.{IsAccepted}
 use Rattle.due_model.specs.Due.{due, sup}
 use Rattle.decider.specs.declared.share.Share.{Share}
 use Rattle.decider.specs.Share.{is_owned}
-use Rattle.log_merge.specs.Order.{IsInOrder}
+use Rattle.decider_thread.specs.Order.{IsInOrder}
 use Rattle.steps.specs.Lanes.{about}
 use Rattle.decider_thread.specs.Made.{made_due, suppressed}
 

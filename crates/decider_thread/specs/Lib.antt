@@ -1,3 +1,4 @@
+pub mod Order
 pub mod Made
 pub mod Told
 pub mod Puts

@@ -5,13 +5,17 @@
 ghost use Rattle.std.specs.Prelude.{◌≡◌, ◌+◌, if◌then◌else◌};
 ghost use Rattle.channel.specs.Channels.{IsCounted};
 
+mod closers;
 mod hand;
 pub mod laws;
+mod patient;
 mod queue;
 mod worker;
 
+pub use closers::{Closers, LaneBell};
 use due_model::config::LaneId;
 use due_model::notice::Notice;
+pub use patient::PatientBell;
 use std::time::Duration;
 pub use worker::{Served, serve, tend_next};
 

@@ -6,7 +6,7 @@ use Rattle.std.proofs.lemmas.List.Elements.{All-cons, All-filter, All-head, All-
 use Rattle.due_model.specs.declared.notice.Notice.{Notice}
 use Rattle.due_model.specs.declared.notice.Suppression.{Suppression}
 use Rattle.lemmas.proofs.Lists.{AllPairs-tail}
-use Rattle.log_merge.specs.Order.{place}
+use Rattle.decider_thread.specs.Order.{place}
 use Rattle.engine_threads.specs.Run.{IsNamed}
 use Rattle.engine.specs.Alike.{RunsAreAlike}
 use Rattle.engine.specs.Lanes.{joined}

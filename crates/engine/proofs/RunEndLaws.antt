@@ -23,7 +23,7 @@ use Rattle.event_feed.specs.declared.fault.FeedFault.TheVariants as fault
 use Rattle.event_feed.specs.declared.fault.RefusedLine.{RefusedLine}
 use Rattle.event_feed.specs.Feed.{Answer, AreGiven, Feed, answers_within}
 use Rattle.lemmas.proofs.Lists.{AllPairs-nil, some_at}
-use Rattle.log_merge.specs.Order.{place}
+use Rattle.decider_thread.specs.Order.{place}
 use Rattle.steps.specs.Lanes.{about}
 use Rattle.text_lines.specs.Lines.{pieces}
 use Rattle.undelivered.specs.declared.Why.{Why}

@@ -9,7 +9,7 @@ use Rattle.due_model.specs.Due.{due, sup}
 use Rattle.decider_thread.specs.Decided.{IsOlder}
 use Rattle.decider_thread.specs.Laws.{of_object}
 use Rattle.engine_threads.specs.Run.{IsNamed}
-use Rattle.log_merge.specs.Order.{IsInOrder}
+use Rattle.decider_thread.specs.Order.{IsInOrder}
 use Rattle.steps.specs.Lanes.{about}
 use Rattle.undelivered.specs.declared.Why.TheVariants.{NoChannel, NoMemory}
 use Rattle.engine.specs.Lanes.{IsCause, LaneParts, joined}

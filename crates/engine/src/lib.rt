@@ -17,9 +17,8 @@ mod source_run;
 
 pub use alike::runs_are_alike;
 pub use caller_feeds::{EndFull, FeedEnd, FeedHandle, Full};
-pub use closers::Closers;
 pub use decider_thread::{DeciderLog, KeptLog};
-pub use delivery_worker::Gate;
+pub use delivery_worker::{Closers, Gate};
 pub use engine::Engine;
 pub use event_feed::{Horizon, OpenHorizon};
 pub use limited_feed::LimitedFeed;

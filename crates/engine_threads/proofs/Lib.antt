@@ -4,6 +4,7 @@ pub mod HeardLaws
 pub mod JoinLaws
 pub mod ListLaws
 pub mod LogLaws
+pub mod MergeLaws
 pub mod RunLaws
 pub mod SentLaws
 pub mod StartLaws

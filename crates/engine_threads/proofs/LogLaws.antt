@@ -5,7 +5,7 @@ use Rattle.std.proofs.lemmas.List.Elements.{All-cons, All-head, All-nil, All-tai
 use Rattle.std.proofs.lemmas.Option.{same_Some, slice_get_within}
 use Rattle.due_model.specs.declared.notice.Suppression.{Suppression}
 use Rattle.decider_thread.specs.declared.ring.DeciderEnd.{DeciderEnd}
-use Rattle.log_merge.specs.Merge.{HasBoth}
+use Rattle.engine_threads.specs.Merge.{HasBoth}
 use Rattle.engine_threads.specs.Logs.{HasEach}
 use Rattle.lemmas.proofs.Lists.{some_at}
 

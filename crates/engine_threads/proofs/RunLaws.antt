@@ -24,7 +24,7 @@ use Rattle.delivery_worker.specs.declared.worker.Served.{Served}
 use Rattle.delivery_worker.specs.Picked.{AllEnded, joined}
 use Rattle.std.specs.List.{AllPairs}
 use Rattle.lemmas.proofs.Lists.{AllPairs-nil, AllPairs-tail, some_at}
-use Rattle.log_merge.specs.Order.{IsInOrder, place}
+use Rattle.decider_thread.specs.Order.{IsInOrder, place}
 use Rattle.due_model.specs.Accepted.{IsAccepted}
 use Rattle.steps.specs.Lanes.{about}
 use Rattle.undelivered.specs.Record.{Record}

@@ -3,6 +3,7 @@ pub mod Joins
 pub mod Lanes
 pub mod ListLaws
 pub mod Logs
+pub mod Merge
 pub mod Run
 pub mod Sent
 pub mod Told

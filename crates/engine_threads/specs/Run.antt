@@ -11,7 +11,7 @@ use Rattle.decider_thread.specs.Decided.{IsOlder}
 use Rattle.decider_thread.specs.Laws.{of_object}
 use Rattle.delivery_worker.specs.declared.worker.Served.{Served}
 use Rattle.delivery_worker.specs.Picked.{joined}
-use Rattle.log_merge.specs.Order.{IsInOrder}
+use Rattle.decider_thread.specs.Order.{IsInOrder}
 use Rattle.steps.specs.Lanes.{about}
 use Rattle.undelivered.specs.declared.Why.TheVariants as why
 use Rattle.engine_threads.specs.Lanes.{HasCause}

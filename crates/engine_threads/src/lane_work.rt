@@ -6,8 +6,7 @@ ghost use Rattle.engine_threads.specs.Lanes.{HaveTaken, IsServed};
 
 use channel::Channel;
 use channel_queue::{LaneQueue, Pass};
-use closers::{Closers, LaneBell, PatientBell};
-use delivery_worker::{Gate, Served, serve};
+use delivery_worker::{Closers, Gate, LaneBell, PatientBell, Served, serve};
 use due_model::config::{Config, LaneId};
 use std::alloc::Global;
 use std::sync::Wait;

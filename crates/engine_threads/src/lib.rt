@@ -5,6 +5,7 @@
 mod ends;
 mod joins;
 mod lane_work;
+mod log_merge;
 mod logs;
 mod prepared;
 mod run;

@@ -1,12 +1,12 @@
 //! The logs of the deciders as one.
 
 ghost use Rattle.std.specs.Prelude.{IfOk};
-ghost use Rattle.log_merge.specs.Order.{IsInOrder};
+ghost use Rattle.decider_thread.specs.Order.{IsInOrder};
 ghost use Rattle.engine_threads.specs.Logs.{AreInOrder, HasEach};
 
+use crate::log_merge::merge;
 use decider_thread::DeciderEnd;
 use due_model::notice::Suppression;
-use log_merge::merge;
 use std::alloc::{AllocError, Global};
 
 /// The logs of all deciders as one, by event and then object. A refused growth is the only error.

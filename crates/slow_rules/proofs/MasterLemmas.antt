@@ -12,7 +12,7 @@ use Rattle.due_model.specs.Accepted.{DependencyFits, IsAccepted}
 use Rattle.due_model.specs.Dependencies.{dependency_fails, entry_fails, has_state}
 use Rattle.due_model.specs.Periods.{in_period}
 use Rattle.due_model.specs.Readings.{hard, moment}
-use Rattle.slow_lookups.specs.Rounds.{state_of}
+use Rattle.slow_rules.specs.Rounds.{state_of}
 
 any_agree : {X : Type 0} (P : X → Type 0) (p q : X → Bool) → ((x : X) → P x → p x ≡ q x) → (xs : List X) → All P xs → list_any p xs ≡ list_any q xs
 any_agree P p q same [] h = refl

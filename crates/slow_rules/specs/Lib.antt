@@ -1,3 +1,5 @@
+pub mod Flags
+pub mod Rounds
 pub mod Escalated
 pub mod Histories
 pub mod Notices

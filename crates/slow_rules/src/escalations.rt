@@ -10,10 +10,10 @@ ghost use Rattle.due_model.specs.Rules.{has_letter};
 ghost use Rattle.slow_rules.specs.Escalated.{has_some, least_of, named_by};
 ghost use Rattle.slow_rules.specs.Histories.{longest_gap};
 
+use crate::periods::in_period;
 use crate::subject::Subject;
 use due_model::config::{ContactId, Escalation};
 use due_model::options::OptionLetter;
-use slow_lookups::periods::in_period;
 use std::alloc::{AllocError, Global};
 
 /// A notification as an escalation reads it.

@@ -7,11 +7,11 @@ ghost use Rattle.due_model.specs.Limits.{last_moment};
 ghost use Rattle.due_model.specs.Rules.{contact_failing, failing, is_problem, is_too_soon};
 ghost use Rattle.slow_rules.specs.Histories.{IsLastInRange};
 
+use crate::periods::in_period;
 use crate::subject::Subject;
 use due_model::config::Rights;
 use due_model::notice::Filter;
 use due_model::rules::{Attempt, View, is_too_soon};
-use slow_lookups::periods::in_period;
 use std::alloc::{AllocError, Global};
 
 /// Whether no notice of the problem went out yet and its first delay hasn't passed.

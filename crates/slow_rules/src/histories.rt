@@ -10,6 +10,7 @@ ghost use Rattle.due_model.specs.Histories.{after_last, retry_after, ready};
 ghost use Rattle.slow_rules.specs.Histories.{IsInRange, IsLastInRange};
 ghost use Rattle.slow_rules.specs.Retries.{IsRetryInRange, retry_moment};
 
+use crate::periods::next_in;
 use crate::readings::{begins, hard};
 use crate::subject::Subject;
 use due_model::config::ObjectId;
@@ -17,7 +18,6 @@ use due_model::event::Event;
 use due_model::notice::{Filter, Kind, Outcome};
 use due_model::rules::{Last, next_notice};
 use due_model::state::State;
-use slow_lookups::periods::next_in;
 use std::alloc::{AllocError, Global};
 
 /// The outcomes of the object's last problem: those from the event on with which it began.

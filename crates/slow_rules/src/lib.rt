@@ -1,12 +1,18 @@
-//! The plain slow program: it looks back over all events for each answer, as the definitions do. Faster bodies
-//! are compared with it.
+//! The plain slow program: it works each answer out anew, as the definitions do, over all events and, of periods and
+//! dependencies, in rounds (chapters "Time Periods", "Host and Service Dependencies"): a flag for each period, or for each
+//! object, says what holds where chains have at most so many members, and the next round's flags are made of the last
+//! one's. Faster bodies are compared with it.
 #![tactic(auto)]
 
+pub mod dependencies;
 mod escalations;
 mod filters;
+mod flags;
 mod histories;
 mod notices;
 mod outcomes;
+pub mod periods;
+mod ranges;
 mod readings;
 pub mod slow;
 mod subject;

@@ -14,6 +14,7 @@ ghost use Rattle.due_model.specs.Proper.{IsProper};
 ghost use Rattle.due_model.specs.Readings.{began, hard, moment};
 ghost use Rattle.slow_rules.specs.Histories.{IsInRange, IsLastInRange, longest_gap};
 
+use crate::dependencies::dependency_fails;
 use crate::escalations::{Numbered, gap};
 use crate::filters::failing;
 use crate::histories::{before, last_notice, notices_sent, of_problem, ready};
@@ -27,7 +28,6 @@ use due_model::event::Event;
 use due_model::notice::{Kind, Outcome};
 use due_model::rules::{Attempt, ObjectStatus, View, attempted};
 use due_model::state::State;
-use slow_lookups::dependencies::dependency_fails;
 use std::alloc::{AllocError, Global};
 
 /// The status of the object after the events.

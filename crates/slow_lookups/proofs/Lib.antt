@@ -1,3 +1,0 @@
-pub mod RoundLemmas
-pub mod WalkLemmas
-pub mod RangeLemmas

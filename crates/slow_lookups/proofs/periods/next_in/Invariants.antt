@@ -1,6 +1,0 @@
-use Rattle.due_model.specs.Periods.{in_period}
-use Rattle.slow_lookups.proofs.WalkLemmas.{IsLeft}
-use Rattle.slow_lookups.proofs.periods.next_in.Given as goal
-
-abbrev pub invariant-loop-at : goal.invariant-loop-at
-invariant-loop-at l = IsLeft (in_period l.config l.zone l.period) l.t l.at
