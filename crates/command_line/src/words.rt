@@ -2,6 +2,7 @@
 
 ghost use Rattle.std.specs.Prelude.{◌≡◌, ◌<◌, ℕ, codes, false, IfNone, IfOk, IfSome, is_some, Some, true};
 ghost use Rattle.std.specs.List.{list_all};
+ghost use Rattle.std.specs.Option.{option_copied};
 ghost use Rattle.clap.specs.Matches.{found_of};
 ghost use Rattle.clap.specs.Words.{app_of, rule_of, subcommand_name_of};
 ghost use Rattle.command_line.specs.Words.{AreSettingsFit, IsAskedBy, IsRequestOf, IsZoneOf};
@@ -9,7 +10,8 @@ ghost use Rattle.command_line.specs.Words.{HoldFitting, HoldSettings, HoldSomeTi
 ghost use Rattle.command_line.specs.Words.{HoldsAnyNumber, HoldsNumber, bare_number_option};
 ghost use Rattle.command_line.specs.Words.{IsMetWith, IsShownOf, RunLacks, flag_option, has_bad_letters};
 ghost use Rattle.command_line.specs.Words.{IsFeedOf, IsWhoOf, LacksSupposed, WhoLacks, length_option};
-ghost use Rattle.command_line.specs.Words.{asks_bad_letters, is_line_letter, is_plain, lacks_feed};
+ghost use Rattle.command_line.specs.Words.{asks_bad_letters, is_line_letter, is_plain};
+ghost use Rattle.command_line.specs.Words.{IsStateOf, drops_doubt, fault_of, feed_fault, is_doubt_word, with_state_options};
 ghost use Rattle.command_line.specs.Words.{one_word, text_options, who_words, with_supposed};
 ghost use Rattle.command_line.specs.Words.{TraceLacks, with_feed_options};
 ghost use Rattle.command_line.specs.Words.{number_option, program_words, replay_words};
@@ -115,8 +117,11 @@ or a program that takes longer than --timeout has failed. Then the next word of 
 command takes over with it, of up to eight; after the last, that and all later messages of
 the command stay undelivered. What fails is said on standard error as it goes, without
 --quiet. With --ahead a line whose stamp is more than so many seconds past this machine's
-clock is refused, since no later message could have an earlier moment. Once the feed is
-over, standard output gets
+clock is refused, since no later message could have an earlier moment.
+
+With --feed and --state a run may be killed at any moment. The next one with the same FILE
+and DIR sends what wasn't sent, and nothing twice but the message that was in hand of each
+command: that has a line `Again: yes`. Once the feed is over, standard output gets
 
   R;line;fault                                             a refused line of the feed
   S;event;moment;object;kind;state;filter                  what a filter of the object stopped
@@ -129,7 +134,14 @@ and then, for each command that contacts list,
   G;command;n;count                                        of several words: what number n,
                                                            from 0, has taken
   Z;command;why                                            why it was closed: FeedOver, Failed,
-                                                           NoChannel or NoMemory";
+                                                           NoChannel or NoMemory
+
+and with --state, last,
+
+  J;command;earlier;claimed;new;again                      how many messages earlier runs have
+                                                           settled, how many of those were due
+                                                           again, how many were sent now, and
+                                                           how many of these may have been before";
 
 /// What a command line says of the zone of local times: neither, for UTC, or one of the two; both are one too many.
 #[derive(Clone, Copy, Debug, PartialEq, Eq)]
@@ -221,6 +233,87 @@ pub struct FeedWords<'a> {
     pub follow: bool,
     /// Whether a line `CLOCK` is added to the file at each full minute.
     pub clock: bool,
+    pub state: StateWords<'a>,
+}
+
+/// What a command line says of what a run keeps for later runs of its feed.
+#[derive(Clone, Copy, Debug, PartialEq, Eq)]
+pub struct StateWords<'a> {
+    /// The folder in which it is kept; none keeps nothing.
+    pub folder: Option<&'a str>,
+    /// What becomes of letters in doubt: `again`, also where it is left out, or `drop`.
+    pub in_doubt: Option<&'a str>,
+    /// Whether what is due so far and was never handed over is given up.
+    pub from_now: bool,
+}
+
+impl StateWords<'_> {
+    /// Whether letters in doubt are given up.
+    pub fn drops_doubt(self) -> bool
+        ensures { result ≡ drops_doubt self.entry }
+    {
+        match self.in_doubt {
+            None => false,
+            Some(word) => word == "drop",
+        }
+    }
+}
+
+/// Whether a word says what becomes of letters in doubt.
+fn is_doubt_word(word: Option<&str>) -> bool
+    ensures { result ≡ is_doubt_word (option_copied word.entry) }
+{
+    match word {
+        None => true,
+        Some(word) => word == "again" || word == "drop",
+    }
+}
+
+/// What is wrong with what a command line says of the feed of a run.
+#[derive(Clone, Copy, Debug, PartialEq, Eq)]
+pub enum FeedFault {
+    /// It says how a file is read, or what is kept for it, and names none.
+    NoFeed,
+    /// It says how what is kept is used, and names no folder.
+    NoState,
+    /// What becomes of letters in doubt is neither `again` nor `drop`.
+    BadDoubt,
+    /// It keeps what it has done, and limits how far ahead a stamp may be: a later run would read the feed at another time.
+    Ahead,
+}
+
+impl FeedFault {
+    /// What is said of it.
+    pub fn text(self) -> &'static str {
+        match self {
+            FeedFault::NoFeed => "--follow, --clock and --state need --feed",
+            FeedFault::NoState => "--in-doubt and --from-now need --state",
+            FeedFault::BadDoubt => "bad in-doubt",
+            FeedFault::Ahead => "--ahead and --state",
+        }
+    }
+}
+
+impl FeedWords<'_> {
+    /// What is wrong with it, where stamps may be so far ahead.
+    fn fault(self, ahead: Option<u32>) -> Option<FeedFault>
+        ensures { result ≡ fault_of self.entry ahead }
+    {
+        let state = self.state;
+        if self.file.is_none() && (self.follow || self.clock || state.folder.is_some()) {
+            return Some(FeedFault::NoFeed);
+        }
+        if state.folder.is_none() && (state.in_doubt.is_some() || state.from_now) {
+            return Some(FeedFault::NoState);
+        }
+        if !is_doubt_word(state.in_doubt) {
+            return Some(FeedFault::BadDoubt);
+        }
+        if state.folder.is_some() && ahead.is_some() {
+            return Some(FeedFault::Ahead);
+        }
+        None
+    }
 }
 
 /// What the program is asked to do.
@@ -284,13 +377,13 @@ impl<'a> Request<'_, 'a> {
         }
     }
 
-    /// Whether it says how a file is read as the feed, and names none.
-    pub fn lacks_feed(self) -> bool
-        ensures { result ≡ lacks_feed self.entry }
+    /// What is wrong with what it says of the feed of a run.
+    pub fn feed_fault(self) -> Option<FeedFault>
+        ensures { result ≡ feed_fault self.entry }
     {
         match self {
-            Request::Run { feed, .. } => feed.file.is_none() && (feed.follow || feed.clock),
-            _ => false,
+            Request::Run { feed, ahead, .. } => feed.fault(ahead),
+            _ => None,
         }
     }
 }
@@ -540,6 +633,30 @@ fn with_feed_options<'a>(alloc: Global, command: Command<'a>) -> Result<Command<
         .arg(flag_option(alloc, "clock", clock))
 }
 
+/// Adds the options that say what is kept for later runs of the feed.
+fn with_state_options<'a>(alloc: Global, command: Command<'a>) -> Result<Command<'a>, AllocError>
+    ensures words { IfOk result (λ command_with.
+        app_of command_with ≡ with_state_options (app_of command.entry)) }
+{
+    let folder = text_option(
+        alloc,
+        "state",
+        "DIR",
+        "A folder in which it is written down what was sent, so that a run that follows goes on there",
+    );
+    let doubt = text_option(
+        alloc,
+        "in-doubt",
+        "WHAT",
+        "What becomes of a message that was about to be sent when a run was killed: again, or drop",
+    );
+    let now = "Gives up what is due by FILE as it is and was never sent, and goes on from there";
+    command
+        .arg(folder)?
+        .arg(doubt)?
+        .arg(flag_option(alloc, "from-now", now))
+}
+
 /// Adds the options that say how a run tries a message: how often, how long at most, and after which pause.
 fn with_try_options<'a>(alloc: Global, command: Command<'a>) -> Result<Command<'a>, AllocError>
     ensures words { IfOk result (λ command_with. app_of command_with
@@ -664,7 +781,8 @@ fn run_command<'a>(alloc: Global) -> Result<Command<'a>, AllocError>
     let quiet = "Says nothing on standard error of what fails as it goes";
     let with_quiet = with_ahead.arg(flag_option(alloc, "quiet", quiet))?;
     let with_feed = with_feed_options(alloc, with_quiet)?;
-    let with_options = with_zone(alloc, with_feed)?;
+    let with_state = with_state_options(alloc, with_feed)?;
+    let with_options = with_zone(alloc, with_state)?;
     with_options.arg(channel_words(alloc))
 }
 
@@ -715,6 +833,17 @@ fn zone_words<'a>(options: &ArgMatches<'a>) -> ZoneWords<'a>
     ZoneWords {
         rule: options.get_str("zone"),
         file: options.get_str("zone-file"),
+    }
+}
+
+/// What the options of `run` say of what it keeps.
+fn state_words<'a>(options: &ArgMatches<'a>) -> StateWords<'a>
+    ensures { IsStateOf (found_of options.now) result }
+{
+    StateWords {
+        folder: options.get_str("state"),
+        in_doubt: options.get_str("in-doubt"),
+        from_now: options.get_flag("from-now"),
     }
 }
 
@@ -787,6 +916,7 @@ fn feed_words<'a>(options: &ArgMatches<'a>) -> FeedWords<'a>
         file: options.get_str("feed"),
         follow: options.get_flag("follow"),
         clock: options.get_flag("clock"),
+        state: state_words(options),
     }
 }
 

@@ -38,8 +38,9 @@ impl Complaint for Said {
         }
         self.is_over = true;
         let path = self.path.as_str();
-        if let Ok(line) = format!(in self.rt.alloc(); "notify-run: state: {path}: can't be written\n")
-        {
+        if let Ok(line) = format!(in self.rt.alloc();
+            "notify-run: state: {path}: can't be written\n"
+        ) {
             let _ = self.rt.eprint(line.as_str());
         }
     }
@@ -194,11 +195,6 @@ impl Folder {
                 return Err(FolderFault::NotWritten(lane, number));
             }
         }
-        Ok(TextJournal::new(
-            alloc,
-            Arc::try_clone(config)?,
-            lane,
-            outlet,
-        ))
+        Ok(TextJournal::new(alloc, Arc::try_clone(config)?, lane, outlet))
     }
 }

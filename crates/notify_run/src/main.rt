@@ -1,12 +1,12 @@
 //! The program `notify-run`: its command line, and how each command ends.
 #![tactic(auto)]
 
-ghost use Rattle.std.specs.Prelude.{◌≡◌, ◌<◌, ◌≤◌, true, IfSome};
+ghost use Rattle.std.specs.Prelude.{◌≡◌, ◌<◌, ◌≤◌, is_some, true, IfSome};
 ghost use Rattle.std.specs.Process.{exit_status};
 ghost use Rattle.clap.specs.Values.{kind_of};
 ghost use Rattle.command_output.specs.Outcome.{outcome_status};
 ghost use Rattle.due_model.specs.Limits.{last_moment};
-ghost use Rattle.command_line.specs.Words.{AreSettingsFit, AreTwo, asks_bad_letters, lacks_feed, request_zone};
+ghost use Rattle.command_line.specs.Words.{AreSettingsFit, AreTwo, asks_bad_letters, feed_fault, request_zone};
 ghost use Rattle.notify_run.specs.Refusal.{refusal_status};
 ghost use Rattle.notify_run.specs.Shown.{AreShownBy};
 ghost use Rattle.notify_run.specs.Times.{IsBadLength, IsBadTime};
@@ -14,26 +14,27 @@ ghost use Rattle.notify_run.specs.Zones.{IsBadRule, zone_fault_status};
 ghost use Rattle.run_devices.specs.Fault.{run_status};
 ghost use Rattle.steps.specs.Settings.{max_channels};
 
+mod feeds;
+
 use clap::error::ErrorKind;
 use command_input::zone_of;
-use command_line::{FeedWords, Request, ShownWords, WhoWords, command, request_of};
+use command_line::{Request, ShownWords, WhoWords, command, request_of};
 use command_output::{AnyWriter, CommandFault, Ending, exit_status};
 use due_model::limits::LAST_MOMENT;
 use due_model::zone::Zone;
-use feed_file::{Feed, FeedFile, FeedWays};
+use feeds::status_of_feed;
 use given_times::{minutes_given, moment_given};
 use line_forms::Picks;
 use made_feed::Supposed;
 use progress::{ProgressLine, Watcher};
 use replay::{replay_files, replay_in};
 use report_forms::{LineForm, ShownLines, show_files, show_in};
-use run_devices::{RunFault, RunSettings, do_run};
+use run_devices::{RunFault, RunSettings};
 use std::alloc::{AllocError, Global};
 use std::env;
 use std::fs::File;
-use std::io::{self, IsTerminal};
+use std::io::IsTerminal;
 use std::process::ExitCode;
-use std::rt::Stdin;
 use std::sync::Wait;
 use std::thread::Threads;
 use std::time::{Clock, SystemTime, UNIX_EPOCH};
@@ -266,49 +267,6 @@ fn status_of_run<R: Eprint>(rt: &R, outcome: Result<Ending, RunFault<'_>>) -> Ex
     }
 }
 
-/// The feed of a run: standard input, or the file that is named, from its start.
-fn feed_of(rt: &HostRuntime, feed: FeedWords<'_>, is_quiet: bool) -> io::Result<Feed<Stdin>> {
-    let Some(path) = feed.file else {
-        return Ok(Feed::Input(rt.stdin()));
-    };
-    let ways = FeedWays {
-        follows: feed.follow,
-        keeps_clock: feed.clock,
-        is_quiet,
-    };
-    Ok(Feed::File(FeedFile::open(rt, path, ways)?))
-}
-
-/// Does a run, and gives its exit status. The file of its feed is opened before anything else.
-fn status_of_feed<T: Threads + Wait + Clock + Sync>(
-    rt: &HostRuntime,
-    threads: &T,
-    zone: &Zone,
-    objects: &str,
-    settings: RunSettings,
-    channels: Option<&[&str]>,
-    feed: FeedWords<'_>,
-) -> ExitCode {
-    let Ok(opened) = feed_of(rt, feed, settings.quiet) else {
-        let path = feed.file.unwrap_or("");
-        let _ = rt.eprintln(format_args!("feed: {path}: not opened"));
-        return ExitCode::from(1);
-    };
-    let feed = AnyReader::new(opened);
-    let mut writer = AnyWriter::new(rt.stdout());
-    let outcome = do_run(
-        rt,
-        threads,
-        zone,
-        objects,
-        settings,
-        channels,
-        feed,
-        &mut writer,
-    );
-    status_of_run(rt, outcome.map(|done| done.ending))
-}
-
 /// Does what is asked, and gives the exit status. Letters of lines are looked at before the zone is read, and that before
 /// anything else. The handle is of the machine, and again
 /// that by which threads are started.
@@ -321,13 +279,13 @@ fn status_of_request<T: Threads + Wait + Clock + Sync>(
     ensures two { AreTwo (request_zone request.entry) → exit_status result ≡ 2 }
     ensures rule { IsBadRule (request_zone request.entry) → exit_status result ≡ 2 }
     ensures letters { asks_bad_letters request.entry ≡ true → exit_status result ≡ 2 }
-    ensures feed { lacks_feed request.entry ≡ true → exit_status result ≡ 2 }
+    ensures feed { is_some (feed_fault request.entry) ≡ true → exit_status result ≡ 2 }
 {
     if request.asks_bad_letters() {
         return status_of_words(rt, "bad letters");
     }
-    if request.lacks_feed() {
-        return status_of_words(rt, "--follow and --clock need --feed");
+    if let Some(fault) = request.feed_fault() {
+        return status_of_words(rt, fault.text());
     }
     let words = request.zone();
     let zone = match zone_of(rt, words.rule, words.file) {

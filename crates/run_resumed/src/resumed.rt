@@ -1,0 +1,123 @@
+//! A run that goes on.
+
+ghost use Rattle.std.specs.Prelude.{◌≡◌, IfErr, IfOk};
+
+use crate::fault::{ResumeFault, told};
+use crate::journal_lines::write_journal_lines;
+use crate::posts::{ResumedChannel, resumed_posts};
+use crate::state::{LaneState, ResumedSettings, StateSettings, states_of};
+use channel_words::read_words;
+use command_output::{CommandFault, Ending, Sink};
+use due_model::config::{Config, LaneId};
+use due_model::zone::Zone;
+use journal_folder::{Folder, FolderFault};
+use run_devices::channels::{OpenedChannel, open_channels};
+use run_devices::run::{checked, posts_of, run_posts, texts_of};
+use run_devices::{RunFault, RunSettings, Watched};
+use std::alloc::Global;
+use std::fs::File;
+use std::sync::{Arc, Wait};
+use std::thread::Threads;
+use std::time::Clock;
+use text_lines::{AnyReader, Input};
+
+/// What earlier runs left: the folder of the journals, and what they say of each lane.
+#[derive(Drop)]
+struct Kept {
+    folder: Folder,
+    states: Vec<LaneState>,
+}
+
+/// What a run leaves that went on.
+#[derive(Drop)]
+pub struct Resumed {
+    /// How it ended.
+    pub ending: Ending,
+    /// The channels of each lane, in the order of their words.
+    pub channels: Vec<Vec<ResumedChannel>>,
+}
+
+/// Does a run that goes on where earlier runs of the same feed have ended. The shape of all words is looked at before the object text is
+/// read, and their names once that is accepted; then the journals are read, and the channels opened in the order of the words; and then
+/// the feed is read, from its start.
+pub fn do_resumed_run<'a, T: Threads + Wait + Clock + Sync, R: Input + Drop, W: Sink>(
+    rt: &HostRuntime,
+    threads: &T,
+    zone: &Zone,
+    objects: &str,
+    settings: ResumedSettings<'_>,
+    channels: Option<&[&'a str]>,
+    feed: R,
+    writer: &mut W,
+) -> Result<Resumed, ResumeFault<'a>> {
+    let alloc = rt.alloc();
+    let words = read_words(alloc, texts_of(channels))?;
+    let Ok(file) = File::open(rt, objects) else {
+        return Err(ResumeFault::Run(RunFault::Command(CommandFault::Unreadable)));
+    };
+    let (config, lanes) = checked(alloc, AnyReader::new(file), &words)?;
+    let config = Arc::new(alloc, config)?;
+    let kept = kept_of(rt, &config, settings.state, settings.run.quiet)?;
+    let opened = open_channels(rt, &words, settings.run.limit())?;
+    resume(
+        rt, threads, &config, zone, settings, &lanes, opened, kept, feed, writer,
+    )
+}
+
+/// What earlier runs left. What is wrong with it is said on standard error.
+fn kept_of<'a>(
+    rt: &HostRuntime,
+    config: &Arc<Config, Global>,
+    settings: StateSettings<'_>,
+    is_quiet: bool,
+) -> Result<Kept, ResumeFault<'a>> {
+    match read_kept(rt, config, settings, is_quiet) {
+        Ok(kept) => Ok(kept),
+        Err(fault) => Err(told(rt, rt.alloc(), settings.folder, config, fault)),
+    }
+}
+
+/// What earlier runs left.
+fn read_kept(
+    rt: &HostRuntime,
+    config: &Arc<Config, Global>,
+    settings: StateSettings<'_>,
+    is_quiet: bool,
+) -> Result<Kept, FolderFault> {
+    let folder = Folder::open(rt, settings.folder, is_quiet)?;
+    let states = states_of(rt.alloc(), &folder, config, settings.drops_doubt)?;
+    Ok(Kept { folder, states })
+}
+
+/// Reads the feed, with these channels, one for each of these lanes in order, each over its journal.
+fn resume<'a, T: Threads + Wait + Clock + Sync, R: Input + Drop, W: Sink>(
+    rt: &HostRuntime,
+    threads: &T,
+    config: &Arc<Config, Global>,
+    zone: &Zone,
+    settings: ResumedSettings<'_>,
+    lanes: &[LaneId],
+    opened: Vec<OpenedChannel>,
+    kept: Kept,
+    feed: R,
+    writer: &mut W,
+) -> Result<Resumed, ResumeFault<'a>> {
+    let alloc = rt.alloc();
+    let watched = Watched::new(rt, threads, settings.run.quiet)?;
+    let posts = posts_of(
+        alloc,
+        config,
+        lanes,
+        opened,
+        &watched.counts,
+        &watched.teller,
+    )?;
+    let posts = match resumed_posts(alloc, &kept.folder, config, &kept.states, posts) {
+        Ok(posts) => posts,
+        Err(fault) => return Err(told(rt, alloc, settings.state.folder, config, fault)),
+    };
+    watched.teller.say_unserved(config, lanes);
+    let (ending, channels) = run_posts(watched, config, zone, settings.run, posts, feed, writer)?;
+    write_journal_lines(alloc, config, &kept.states, &channels, writer)?;
+    Ok(Resumed { ending, channels })
+}
