@@ -5,9 +5,11 @@ ghost use Rattle.std.specs.Arc.{arc_value};
 
 use crate::fault::FolderFault;
 use crate::file_name::file_name;
+use crate::known::{FoundLine, find_settled, read_known};
 use crate::lane_past::LanePast;
 use channel_kinds::stream::AnyOutlet;
 use due_model::config::{Config, LaneId};
+use due_model::notice::Notice;
 use journal_file::synced::{Complaint, SyncedFile};
 use journal_file::{TextJournal, write_flushed};
 use journal_text::journal::{JournalFault, ReadJournal, read_journal};
@@ -15,7 +17,7 @@ use journal_text::writing::first_line_of;
 use notice_text::texts::lane_name;
 use std::alloc::{AllocError, Global};
 use std::fs::{self, File, OpenOptions};
-use std::io::{Eprint, ErrorKind};
+use std::io::{self, Eprint, ErrorKind};
 use std::sync::Arc;
 use text_lines::AnyReader;
 
@@ -140,7 +142,10 @@ impl Folder {
         number: u8,
         whole: u64,
     ) -> Result<(), FolderFault> {
-        let file = self.opened(config, lane, number)?;
+        let path = self.path_of(config, lane, number)?;
+        let Ok(file) = self.open_end(path.as_str()) else {
+            return Err(FolderFault::NotWritten(lane, number));
+        };
         let Ok(data) = file.metadata() else {
             return Err(FolderFault::NotWritten(lane, number));
         };
@@ -150,17 +155,82 @@ impl Folder {
         Ok(())
     }
 
-    /// The file of a journal, which is written to at its end. It is made if it isn't there.
-    fn opened(&self, config: &Config, lane: LaneId, number: u8) -> Result<File, FolderFault> {
-        let path = self.path_of(config, lane, number)?;
-        match OpenOptions::new()
-            .append(true)
-            .create(true)
-            .open(&self.rt, path.as_str())
-        {
-            Ok(file) => Ok(file),
-            Err(_) => Err(FolderFault::NotWritten(lane, number)),
+    /// What the journals of a lane say in this configuration, but for lines that say nothing in it.
+    pub fn read_known(&self, config: &Config, lane: LaneId) -> Result<LanePast, AllocError> {
+        let alloc = self.rt.alloc();
+        let mut past = LanePast::new(alloc);
+        for number in 0..MOST {
+            let path = self.path_of(config, lane, number)?;
+            if let Ok(file) = File::open(&self.rt, path.as_str()) {
+                past.add(&read_known(alloc, config, lane, AnyReader::new(file))?)?;
+            }
         }
+        Ok(past)
+    }
+
+    /// The first line of the journals of a notice's lane that says that its letter, or one that is due after it of the same object, was
+    /// taken or given up: the number of the journal, and the line.
+    pub fn find_settled(
+        &self,
+        config: &Config,
+        notice: &Notice,
+    ) -> Result<Option<(u8, FoundLine)>, AllocError> {
+        let alloc = self.rt.alloc();
+        for number in 0..MOST {
+            let path = self.path_of(config, notice.lane, number)?;
+            if let Ok(file) = File::open(&self.rt, path.as_str()) {
+                if let Some(line) = find_settled(alloc, config, notice, AnyReader::new(file))? {
+                    return Ok(Some((number, line)));
+                }
+            }
+        }
+        Ok(None)
+    }
+
+    /// A journal of a lane that is to take the place of all that it has, from this event on.
+    pub fn begin_anew(
+        &self,
+        config: &Arc<Config, Global>,
+        lane: LaneId,
+        from: u64,
+    ) -> Result<FileJournal, FolderFault>
+        ensures lane { IfOk result (λ journal. journal.lane ≡ lane) }
+        ensures whole { IfOk result (λ journal. journal.is_broken ≡ false) }
+    {
+        let path = self.new_path_of(config, lane)?;
+        let _ = fs::remove_file(&self.rt, path.as_str());
+        self.journal_at(config, lane, 0, path, from)
+    }
+
+    /// Puts that journal in the place of the lane's journals, which are kept beside it as `COMMAND.N.old`.
+    pub fn finish_anew(&self, config: &Config, lane: LaneId) -> Result<(), FolderFault> {
+        let new = self.new_path_of(config, lane)?;
+        let first = self.path_of(config, lane, 0)?;
+        let old = self.old_path_of(config, lane, 0)?;
+        let _ = fs::copy(&self.rt, first.as_str(), old.as_str());
+        if fs::rename(&self.rt, new.as_str(), first.as_str()).is_err() {
+            return Err(FolderFault::NotWritten(lane, 0));
+        }
+        for number in 1..MOST {
+            let path = self.path_of(config, lane, number)?;
+            let old = self.old_path_of(config, lane, number)?;
+            let _ = fs::rename(&self.rt, path.as_str(), old.as_str());
+        }
+        Ok(())
+    }
+
+    /// Where a journal is that is to take the place of a lane's journals.
+    fn new_path_of(&self, config: &Config, lane: LaneId) -> Result<String, AllocError> {
+        let mut path = self.path_of(config, lane, 0)?;
+        path.push_str(".new")?;
+        Ok(path)
+    }
+
+    /// Where a journal is kept that another has taken the place of.
+    fn old_path_of(&self, config: &Config, lane: LaneId, number: u8) -> Result<String, AllocError> {
+        let mut path = self.path_of(config, lane, number)?;
+        path.push_str(".old")?;
+        Ok(path)
     }
 
     /// The journal of a channel of the lane, at the end of what it says. Where it says nothing yet its first line is written: from which
@@ -176,14 +246,33 @@ impl Folder {
         ensures lane { IfOk result (λ journal. journal.lane ≡ lane) }
         ensures whole { IfOk result (λ journal. journal.is_broken ≡ false) }
     {
+        let path = self.path_of(config, lane, number)?;
+        self.journal_at(config, lane, number, path, from)
+    }
+
+    /// The journal at a path.
+    fn journal_at(
+        &self,
+        config: &Arc<Config, Global>,
+        lane: LaneId,
+        number: u8,
+        path: String,
+        from: u64,
+    ) -> Result<FileJournal, FolderFault>
+        ensures config { IfOk result (λ journal. journal.config ≡ arc_value config.now) }
+        ensures lane { IfOk result (λ journal. journal.lane ≡ lane) }
+        ensures whole { IfOk result (λ journal. journal.is_broken ≡ false) }
+    {
         let alloc = self.rt.alloc();
-        let file = self.opened(config, lane, number)?;
+        let Ok(file) = self.open_end(path.as_str()) else {
+            return Err(FolderFault::NotWritten(lane, number));
+        };
         let Ok(data) = file.metadata() else {
             return Err(FolderFault::NotWritten(lane, number));
         };
         let said = Said {
             rt: self.rt,
-            path: self.path_of(config, lane, number)?,
+            path,
             is_over: self.is_quiet,
         };
         let mut outlet = AnyOutlet::new(SyncedFile::new(file, said));
@@ -196,5 +285,13 @@ impl Folder {
             }
         }
         Ok(TextJournal::new(alloc, Arc::try_clone(config)?, lane, outlet))
+    }
+
+    /// The file at a path, which is written to at its end. It is made if it isn't there.
+    fn open_end(&self, path: &str) -> io::Result<File> {
+        OpenOptions::new()
+            .append(true)
+            .create(true)
+            .open(&self.rt, path)
     }
 }

@@ -4,6 +4,7 @@
 pub mod fault;
 pub mod file_name;
 pub mod folder;
+pub mod known;
 pub mod lane_past;
 
 pub use fault::FolderFault;

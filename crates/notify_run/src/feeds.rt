@@ -49,7 +49,9 @@ pub(crate) fn status_of_feed<T: Threads + Wait + Clock + Sync>(
                 run: settings,
                 state: StateSettings {
                     folder,
+                    feed: feed.file.unwrap_or(""),
                     drops_doubt: feed.state.drops_doubt(),
+                    from_now: feed.state.from_now,
                 },
             };
             status_of_resumed(rt, threads, zone, objects, settings, channels, opened)

@@ -3,11 +3,16 @@
 ghost use Rattle.std.specs.Prelude.{◌≡◌, IfOk};
 ghost use Rattle.run_resumed.specs.Fault.{resume_status};
 
+use crate::compared::Change;
 use channel_words::ChannelFault;
 use command_output::{CommandFault, exit_status};
 use due_model::config::Config;
-use journal_folder::{FolderFault, journal_path};
+use due_model::notice::Notice;
+use journal_folder::{Folder, FolderFault, journal_path};
+use journal_text::entry::Entry;
 use journal_text::journal::JournalFault;
+use journal_text::writing::line_of;
+use notice_text::texts::lane_name;
 use run_devices::RunFault;
 use std::alloc::{AllocError, AllocFailed, Global};
 use std::io::Eprint;
@@ -135,5 +140,51 @@ fn say<R: Eprint>(
             rt.eprintln(format_args!("state: {path}: can't be written"))
         }
     };
+    Ok(())
+}
+
+/// Says on standard error what has changed since letters were sent, and what can be done.
+pub(crate) fn say_change<R: Eprint>(
+    rt: &R,
+    alloc: Global,
+    path: &str,
+    folder: &Folder,
+    config: &Config,
+    change: Change,
+) -> Result<(), AllocError> {
+    match change {
+        Change::Differs(notice) => say_difference(rt, alloc, path, folder, config, &notice)?,
+        Change::Gone(lane, count) => {
+            let name = std::str::from_utf8(lane_name(config, lane)).unwrap_or("");
+            let _ = rt.eprintln(format_args!(
+                "state: {path}: {name}: {count} of its letters aren't due any more"
+            ));
+        }
+    }
+    let _ = rt.eprintln(
+        "state: the feed or the object files have changed: run with those that were, or give up what is due so far by --from-now",
+    );
+    Ok(())
+}
+
+/// Says which line of a journal isn't what is due now, and what is.
+fn say_difference<R: Eprint>(
+    rt: &R,
+    alloc: Global,
+    path: &str,
+    folder: &Folder,
+    config: &Config,
+    notice: &Notice,
+) -> Result<(), AllocError> {
+    if let Some((number, line)) = folder.find_settled(config, notice)? {
+        let path = journal_path(alloc, path, config, notice.lane, number)?;
+        let (path, text, line) = (path.as_str(), line.text.as_str(), line.number);
+        let _ = rt.eprintln(format_args!("state: {path}: line {line} is {text}"));
+    }
+    if let Some(line) = line_of(alloc, config, notice.lane, Entry::Taken(*notice))? {
+        let text = std::str::from_utf8(line.as_slice()).unwrap_or("");
+        let text = text.trim_end();
+        let _ = rt.eprintln(format_args!("state: there it would be {text}"));
+    }
     Ok(())
 }

@@ -2,7 +2,9 @@
 //! over again, and all else is.
 #![tactic(auto)]
 
+pub mod compared;
 pub mod fault;
+pub mod from_now;
 pub mod journal_lines;
 pub mod posts;
 pub mod resumed;

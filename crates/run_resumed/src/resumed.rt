@@ -1,8 +1,12 @@
 //! A run that goes on.
 
 ghost use Rattle.std.specs.Prelude.{◌≡◌, IfErr, IfOk};
+ghost use Rattle.std.specs.Arc.{arc_value};
+ghost use Rattle.due_model.specs.Accepted.{IsAccepted};
 
-use crate::fault::{ResumeFault, told};
+use crate::compared::change_of;
+use crate::fault::{ResumeFault, say_change, told};
+use crate::from_now::{events_of, give_up_all};
 use crate::journal_lines::write_journal_lines;
 use crate::posts::{ResumedChannel, resumed_posts};
 use crate::state::{LaneState, ResumedSettings, StateSettings, states_of};
@@ -57,7 +61,8 @@ pub fn do_resumed_run<'a, T: Threads + Wait + Clock + Sync, R: Input + Drop, W: 
     };
     let (config, lanes) = checked(alloc, AnyReader::new(file), &words)?;
     let config = Arc::new(alloc, config)?;
-    let kept = kept_of(rt, &config, settings.state, settings.run.quiet)?;
+    let kept = kept_of(rt, &config, zone, settings.state, settings.run.quiet)?;
+    unchanged(rt, &config, zone, settings.state, &kept)?;
     let opened = open_channels(rt, &words, settings.run.limit())?;
     resume(
         rt, threads, &config, zone, settings, &lanes, opened, kept, feed, writer,
@@ -68,25 +73,61 @@ pub fn do_resumed_run<'a, T: Threads + Wait + Clock + Sync, R: Input + Drop, W: 
 fn kept_of<'a>(
     rt: &HostRuntime,
     config: &Arc<Config, Global>,
+    zone: &Zone,
     settings: StateSettings<'_>,
     is_quiet: bool,
-) -> Result<Kept, ResumeFault<'a>> {
-    match read_kept(rt, config, settings, is_quiet) {
+) -> Result<Kept, ResumeFault<'a>>
+    requires accepted { IsAccepted (arc_value config.now) }
+{
+    match read_kept(rt, config, zone, settings, is_quiet) {
         Ok(kept) => Ok(kept),
         Err(fault) => Err(told(rt, rt.alloc(), settings.folder, config, fault)),
     }
 }
 
-/// What earlier runs left.
+/// What earlier runs left, once what is due so far is given up, where that is asked for.
 fn read_kept(
     rt: &HostRuntime,
     config: &Arc<Config, Global>,
+    zone: &Zone,
     settings: StateSettings<'_>,
     is_quiet: bool,
-) -> Result<Kept, FolderFault> {
+) -> Result<Kept, FolderFault>
+    requires accepted { IsAccepted (arc_value config.now) }
+{
+    let alloc = rt.alloc();
     let folder = Folder::open(rt, settings.folder, is_quiet)?;
-    let states = states_of(rt.alloc(), &folder, config, settings.drops_doubt)?;
+    if settings.from_now {
+        if let Ok(feed) = File::open(rt, settings.feed) {
+            let from = events_of(alloc, config, zone, AnyReader::new(feed))?;
+            if let Ok(feed) = File::open(rt, settings.feed) {
+                give_up_all(alloc, &folder, config, zone, from, AnyReader::new(feed))?;
+            }
+        }
+    }
+    let states = states_of(alloc, &folder, config, settings.drops_doubt)?;
     Ok(Kept { folder, states })
+}
+
+/// Compares what the feed makes due, as far as it goes now, with what was sent. What has changed is said on standard error.
+fn unchanged<'a>(
+    rt: &HostRuntime,
+    config: &Arc<Config, Global>,
+    zone: &Zone,
+    settings: StateSettings<'_>,
+    kept: &Kept,
+) -> Result<(), ResumeFault<'a>>
+    requires accepted { IsAccepted (arc_value config.now) }
+{
+    let alloc = rt.alloc();
+    let Ok(feed) = File::open(rt, settings.feed) else {
+        return Ok(());
+    };
+    let Some(change) = change_of(alloc, config, zone, &kept.states, AnyReader::new(feed))? else {
+        return Ok(());
+    };
+    say_change(rt, alloc, settings.folder, &kept.folder, config, change)?;
+    Err(ResumeFault::State)
 }
 
 /// Reads the feed, with these channels, one for each of these lanes in order, each over its journal.

@@ -18,8 +18,12 @@ use std::sync::Arc;
 pub struct StateSettings<'s> {
     /// The path of the folder of its journals.
     pub folder: &'s str,
+    /// The path of the feed, which is read twice: what it makes due is compared with what was sent before anything is sent.
+    pub feed: &'s str,
     /// Whether a letter that an earlier run was about to hand over is given up.
     pub drops_doubt: bool,
+    /// Whether what the feed makes due as far as it goes now, and was never sent, is given up.
+    pub from_now: bool,
 }
 
 /// How a run that goes on is set up.
@@ -38,6 +42,8 @@ pub struct LaneState {
     pub from: u64,
     /// How many letters were taken or given up.
     pub earlier: u64,
+    /// How many of these are of the events from which on letters are handed over.
+    pub sent: u64,
 }
 
 /// What earlier runs left of a lane, of which this was read. A refused growth is the only error.
@@ -50,11 +56,24 @@ pub(crate) fn lane_state(
     ensures { IfOk result (IsState from settled.items begun.items) }
 {
     let earlier = settled.len() as u64;
+    let sent = count_since(from, &settled);
     Ok(LaneState {
         past: Arc::new(alloc, Past::new(from, settled, begun))?,
         from,
         earlier,
+        sent,
     })
+}
+
+/// How many notices are of the events from this one on.
+fn count_since(from: u64, notices: &[Notice]) -> u64 {
+    let mut count: u64 = 0;
+    for notice in notices {
+        if notice.event >= from {
+            count = count.saturating_add(1);
+        }
+    }
+    count
 }
 
 /// What earlier runs left of each lane, in their order. Where letters in doubt are dropped each is given up in the lane's first journal.
@@ -99,7 +118,7 @@ fn give_up(
         Vec::from_slice(alloc, &read.settled)?,
         Vec::from_slice(alloc, &read.begun)?,
     );
-    let doubts = new_among(alloc, &past, &read.begun)?;
+    let doubts = each_once(alloc, &new_among(alloc, &past, &read.begun)?)?;
     if !doubts.is_empty() {
         let mut journal = folder.journal(config, lane, 0, read.from)?;
         for notice in &doubts {
@@ -109,4 +128,15 @@ fn give_up(
         }
     }
     Ok(doubts)
+}
+
+/// Each of some notices once, as it stands first. A refused growth is the only error.
+fn each_once(alloc: Global, notices: &[Notice]) -> Result<Vec<Notice>, AllocError> {
+    let mut found: Vec<Notice> = Vec::new(alloc);
+    for notice in notices {
+        if !found.iter().any(|other| other == notice) {
+            found.push(*notice)?;
+        }
+    }
+    Ok(found)
 }
