@@ -1,4 +1,3 @@
 pub mod Fault
 pub mod JournalLines
 pub mod Resumed
-pub mod State

@@ -3,11 +3,11 @@
 ghost use Rattle.std.specs.Prelude.{◌≡◌, IfOk};
 ghost use Rattle.run_resumed.specs.Fault.{resume_status};
 
-use crate::compared::Change;
 use channel_words::ChannelFault;
 use command_output::{CommandFault, exit_status};
 use due_model::config::Config;
 use due_model::notice::Notice;
+use earlier_runs::Change;
 use journal_folder::{Folder, FolderFault, journal_path};
 use journal_text::entry::Entry;
 use journal_text::journal::JournalFault;

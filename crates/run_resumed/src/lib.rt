@@ -2,14 +2,12 @@
 //! over again, and all else is.
 #![tactic(auto)]
 
-pub mod compared;
 pub mod fault;
-pub mod from_now;
 pub mod journal_lines;
 pub mod posts;
 pub mod resumed;
-pub mod state;
+pub mod settings;
 
 pub use fault::ResumeFault;
 pub use resumed::do_resumed_run;
-pub use state::{ResumedSettings, StateSettings};
+pub use settings::{ResumedSettings, StateSettings};

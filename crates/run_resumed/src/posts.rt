@@ -4,8 +4,8 @@ ghost use Rattle.std.specs.Prelude.{◌≡◌, map, All, IfOk, OnOk};
 ghost use Rattle.std.specs.Arc.{arc_value};
 ghost use Rattle.run_resumed.specs.Resumed.{IsResumedPost};
 
-use crate::state::LaneState;
 use due_model::config::{Config, LaneId};
+use earlier_runs::LaneState;
 use engine::Post;
 use journal_folder::{FileJournal, Folder, FolderFault};
 use journaled::Journaled;

@@ -4,16 +4,15 @@ ghost use Rattle.std.specs.Prelude.{◌≡◌, IfErr, IfOk};
 ghost use Rattle.std.specs.Arc.{arc_value};
 ghost use Rattle.due_model.specs.Accepted.{IsAccepted};
 
-use crate::compared::change_of;
 use crate::fault::{ResumeFault, say_change, told};
-use crate::from_now::{events_of, give_up_all};
 use crate::journal_lines::write_journal_lines;
 use crate::posts::{ResumedChannel, resumed_posts};
-use crate::state::{LaneState, ResumedSettings, StateSettings, states_of};
+use crate::settings::{ResumedSettings, StateSettings};
 use channel_words::read_words;
 use command_output::{CommandFault, Ending, Sink};
 use due_model::config::{Config, LaneId};
 use due_model::zone::Zone;
+use earlier_runs::{LaneState, change_of, events_of, give_up_all, states_of};
 use journal_folder::{Folder, FolderFault};
 use run_devices::channels::{OpenedChannel, open_channels};
 use run_devices::run::{checked, posts_of, run_posts, texts_of};

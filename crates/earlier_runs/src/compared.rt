@@ -22,6 +22,7 @@ pub enum Change {
 }
 
 /// Who compares what is due with what was sent.
+#[derive(Drop)]
 struct Comparing<'s> {
     states: &'s [LaneState],
     /// How many of each lane were sent just as they are due.
@@ -70,7 +71,7 @@ impl Looker for Comparing<'_> {
 }
 
 /// What has changed, if something has: what the feed makes due, as far as it goes now, is compared with what was sent.
-pub(crate) fn change_of<R: Input + Drop>(
+pub fn change_of<R: Input + Drop>(
     alloc: Global,
     config: &Config,
     zone: &Zone,

@@ -17,6 +17,7 @@ use std::sync::Arc;
 use text_lines::Input;
 
 /// Who looks only how many there are.
+#[derive(Drop)]
 struct Counting;
 
 impl Looker for Counting {
@@ -34,6 +35,7 @@ impl Looker for Counting {
 }
 
 /// Who gives up what was never sent.
+#[derive(Drop)]
 struct GivingUp<'s> {
     states: &'s [LaneState],
     /// The new journal of each lane.
@@ -71,7 +73,7 @@ impl Looker for GivingUp<'_> {
 }
 
 /// How many events a feed has as far as it goes now.
-pub(crate) fn events_of<R: Input + Drop>(
+pub fn events_of<R: Input + Drop>(
     alloc: Global,
     config: &Config,
     zone: &Zone,
@@ -87,7 +89,7 @@ pub(crate) fn events_of<R: Input + Drop>(
 
 /// Begins a new journal of each lane, from this event on, in which all is given up that the feed makes due, as far as it goes now, and
 /// that no journal says was sent.
-pub(crate) fn give_up_all<R: Input + Drop>(
+pub fn give_up_all<R: Input + Drop>(
     alloc: Global,
     folder: &Folder,
     config: &Arc<Config, Global>,

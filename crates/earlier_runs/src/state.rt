@@ -1,7 +1,7 @@
 //! What earlier runs left of each lane.
 
 ghost use Rattle.std.specs.Prelude.{◌≡◌, ◌++◌, IfOk};
-ghost use Rattle.run_resumed.specs.State.{IsState};
+ghost use Rattle.earlier_runs.specs.State.{IsState};
 
 use due_model::config::{Config, LaneId};
 use due_model::notice::Notice;
@@ -9,29 +9,8 @@ use journal_folder::lane_past::new_among;
 use journal_folder::{Folder, FolderFault, LanePast};
 use journal_text::entry::Entry;
 use journaled::{Journal, Past};
-use run_devices::RunSettings;
 use std::alloc::{AllocError, Global};
 use std::sync::Arc;
-
-/// Where a run keeps what it has handed over, and what it does with what is in doubt.
-#[derive(Clone, Copy, Debug)]
-pub struct StateSettings<'s> {
-    /// The path of the folder of its journals.
-    pub folder: &'s str,
-    /// The path of the feed, which is read twice: what it makes due is compared with what was sent before anything is sent.
-    pub feed: &'s str,
-    /// Whether a letter that an earlier run was about to hand over is given up.
-    pub drops_doubt: bool,
-    /// Whether what the feed makes due as far as it goes now, and was never sent, is given up.
-    pub from_now: bool,
-}
-
-/// How a run that goes on is set up.
-#[derive(Clone, Copy, Debug)]
-pub struct ResumedSettings<'s> {
-    pub run: RunSettings,
-    pub state: StateSettings<'s>,
-}
 
 /// What earlier runs left of a lane.
 #[derive(Drop)]
@@ -47,7 +26,7 @@ pub struct LaneState {
 }
 
 /// What earlier runs left of a lane, of which this was read. A refused growth is the only error.
-pub(crate) fn lane_state(
+pub fn lane_state(
     alloc: Global,
     from: u64,
     settled: Vec<Notice>,
@@ -77,7 +56,7 @@ fn count_since(from: u64, notices: &[Notice]) -> u64 {
 }
 
 /// What earlier runs left of each lane, in their order. Where letters in doubt are dropped each is given up in the lane's first journal.
-pub(crate) fn states_of(
+pub fn states_of(
     alloc: Global,
     folder: &Folder,
     config: &Arc<Config, Global>,
