@@ -1,6 +1,6 @@
 //! The line of what a lane's journals come to.
 
-ghost use Rattle.std.specs.Prelude.{◌≡◌, ◌↔◌, ◌++◌, decimal, filter, Bool, Contains, IfOk, IsTrue, OnOk};
+ghost use Rattle.std.specs.Prelude.{◌≡◌, ◌↔◌, ◌∷◌, ◌++◌, [], cond, decimal, filter, Bool, Contains, IfOk, IsTrue, OnOk};
 ghost use Rattle.command_output.specs.Fields.{field};
 ghost use Rattle.due_model.specs.declared.notice.Notice.{Notice};
 ghost use Rattle.earlier_runs.specs.Tally.{IsTally, journal_line};
@@ -26,6 +26,18 @@ pub struct LaneTally {
     pub again: u64,
 }
 
+/// Adds a notice, if it was about to be handed over in an earlier run. A refused growth is the only error.
+fn push_begun(found: &mut Vec<Notice>, past: &Past, notice: &Notice) -> Result<(), AllocError>
+    ensures { OnOk result ((was_begun : Notice → Bool)
+        → ((n : Notice) → IsTrue (was_begun n) ↔ Contains past.now.begun n)
+        → found.new.items ≡ found.old.items ++ cond (was_begun notice.now) (notice.now ∷ []) []) }
+{
+    if past.has_begun(notice) {
+        found.push(*notice)?;
+    }
+    Ok(())
+}
+
 /// Which of these were about to be handed over in an earlier run. A refused growth is the only error.
 fn begun_among(alloc: Global, past: &Past, notices: &[Notice]) -> Result<Vec<Notice>, AllocError>
     ensures { IfOk result (λ found. (was_begun : Notice → Bool)
@@ -34,9 +46,7 @@ fn begun_among(alloc: Global, past: &Past, notices: &[Notice]) -> Result<Vec<Not
 {
     let mut found = Vec::new(alloc);
     for notice in notices {
-        if past.has_begun(notice) {
-            found.push(*notice)?;
-        }
+        push_begun(&mut found, past, notice)?;
     }
     Ok(found)
 }

@@ -46,15 +46,24 @@ impl LanePast {
     }
 }
 
+/// Whether a notice isn't settled.
+fn is_new(past: &Past, notice: &Notice) -> bool
+    ensures { result ≡ is_new past.now notice.now }
+{
+    match past.find(notice) {
+        Claim::New => true,
+        Claim::Held => false,
+        Claim::Differs => false,
+    }
+}
+
 /// What of some notices is new. A refused growth is the only error.
 pub fn new_among(alloc: Global, past: &Past, notices: &[Notice]) -> Result<Vec<Notice>, AllocError>
     ensures { IfOk result (λ found. found.items ≡ filter (is_new past.now) notices.now) }
 {
-    let mut found = Vec::new(alloc);
-    for notice in notices {
-        if past.find(notice) == Claim::New {
-            found.push(*notice)?;
-        }
-    }
-    Ok(found)
+    notices
+        .iter()
+        .copied()
+        .filter(|notice| is_new(past, notice))
+        .collect(alloc)
 }
