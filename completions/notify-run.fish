@@ -28,6 +28,8 @@ complete -c notify-run -n '__fish_seen_subcommand_from run' -l tries -x -d 'How 
 complete -c notify-run -n '__fish_seen_subcommand_from run' -l timeout -x -d 'How long a pager or a program may take for a try, 1 to 3600 seconds [default: 30]'
 complete -c notify-run -n '__fish_seen_subcommand_from run' -l pause -x -d 'How long it waits before a second try, 0 to 60 seconds, and then twice as long each time, 60 at most [default: 1]'
 complete -c notify-run -n '__fish_seen_subcommand_from run' -l ahead -x -d 'How far past this machine\'s clock the stamp of a line may be, at most, in seconds; a line past that is refused. Any, where it is left out'
+complete -c notify-run -n '__fish_seen_subcommand_from run' -l log -r -F -d 'Writes the report to this file as it goes, one line at a time'
+complete -c notify-run -n '__fish_seen_subcommand_from run' -l fold -d 'Leaves out S lines of the log that repeat the one before of their object'
 complete -c notify-run -n '__fish_seen_subcommand_from run' -l quiet -d 'Says nothing on standard error of what fails as it goes'
 complete -c notify-run -n '__fish_seen_subcommand_from run' -l feed -r -F -d 'A file that the feed is read from, in place of standard input'
 complete -c notify-run -n '__fish_seen_subcommand_from run' -l follow -d 'Goes on reading FILE as it grows, until the program is ended'

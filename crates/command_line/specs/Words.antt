@@ -17,6 +17,7 @@ use Rattle.clap.specs.declared.builder.value_parser.ValueParser.TheVariants.{Sig
 use Rattle.command_line.specs.declared.words.FeedFault.{FeedFault}
 use Rattle.command_line.specs.declared.words.FeedFault.TheVariants.{Ahead, BadDoubt, NoFeed, NoState}
 use Rattle.command_line.specs.declared.words.FeedWords.{FeedWords}
+use Rattle.command_line.specs.declared.words.LogWords.{LogWords}
 use Rattle.command_line.specs.declared.words.Request.{Request}
 use Rattle.command_line.specs.declared.words.ShownWords.{ShownWords}
 use Rattle.command_line.specs.declared.words.StateWords.{StateWords}
@@ -29,14 +30,14 @@ use Rattle.command_line.specs.declared.words.Request.TheVariants.{Replay, Trace,
 abbrev pub request_name : Request → List ℕ
 request_name (Replay objects zone shown) = codes "replay"
 request_name (Trace settings standbys zone) = codes "trace"
-request_name (Run objects settings zone channels times quiet ahead feed) = codes "run"
+request_name (Run objects settings zone channels times quiet ahead log feed) = codes "run"
 request_name (Who objects zone asked) = codes "who"
 
 -- in a trace fewer channels stand by than a lane may have
 abbrev pub AreSettingsFit : Request → Type 0
 AreSettingsFit (Replay objects zone shown) = Unit {0}
 AreSettingsFit (Trace settings standbys zone) = standbys < max_channels
-AreSettingsFit (Run objects settings zone channels times quiet ahead feed) = Unit {0}
+AreSettingsFit (Run objects settings zone channels times quiet ahead log feed) = Unit {0}
 AreSettingsFit (Who objects zone asked) = Unit {0}
 
 -- the texts that the options of a command hold of the zone
@@ -99,6 +100,11 @@ TraceLacks options = (deciders standbys : ℕ) → HoldsNumber options (codes "d
     → HoldsNumber options (codes "standbys") standbys → standbys < max_channels
     → HoldFitting options deciders → ⊥
 
+-- the file that the options of `run` hold of a log, and whether its lines are folded
+pub record IsLogOf (options : Found) (words : LogWords) : Type 0 where
+  pub file : option_copied words.file ≡ first_value options (codes "log")
+  pub fold : IsFlag options (codes "fold") words.fold
+
 -- the seconds that the options of `run` hold
 pub record HoldTimes (options : Found) (times : TryTimes) : Type 0 where
   pub timeout : HoldsNumber options (codes "timeout") times.timeout
@@ -136,8 +142,8 @@ RunLacks options = (deciders : ℕ) → is_some (first_value options (codes "obj
     → HoldsNumber options (codes "deciders") deciders → HoldFitting options deciders → HoldSomeTimes options → ⊥
 
 -- What the options of a command hold: of `replay` the file of the object text, if it is given, and which lines are wanted; of
--- `trace` the settings and how many channels stand by; of `run` the file, the settings, the times, how far ahead a stamp may be,
--- where the feed is read from, and the channel words; of `who` the file and what is supposed; and of each the zone.
+-- `trace` the settings and how many channels stand by; of `run` the file, the settings, the times, how far ahead a stamp may be, where
+-- its report goes, where the feed is read from, and the channel words; of `who` the file and what is supposed; and of each the zone.
 abbrev pub IsRequestOf : Found → Request → Type 0
 IsRequestOf options (Replay objects zone shown) =
     (option_copied objects ≡ first_value options (codes "objects")) × IsZoneOf options zone
@@ -146,11 +152,11 @@ IsRequestOf options (Trace settings standbys zone) =
     HoldsNumber options (codes "deciders") settings.deciders
     × HoldsNumber options (codes "standbys") standbys
     × HoldSettings options settings × IsZoneOf options zone
-IsRequestOf options (Run objects settings zone channels times quiet ahead feed) =
+IsRequestOf options (Run objects settings zone channels times quiet ahead log feed) =
     (Some objects.now ≡ first_value options (codes "objects"))
     × HoldsNumber options (codes "deciders") settings.deciders × HoldSettings options settings × IsZoneOf options zone
     × HoldTimes options times × IsFlag options (codes "quiet") quiet
-    × HoldsAnyNumber options (codes "ahead") ahead × IsFeedOf options feed
+    × HoldsAnyNumber options (codes "ahead") ahead × IsLogOf options log × IsFeedOf options feed
     × (option_map (λ words. map (λ word. word.now) words.now) channels
     ≡ option_map raw_values (matched_of options (codes "channel")))
 IsRequestOf options (Who objects zone asked) =
@@ -172,7 +178,7 @@ IsMetWith matches name so = (options : Found)
 abbrev pub request_zone : Request → ZoneWords
 request_zone (Replay objects zone shown) = zone
 request_zone (Trace settings standbys zone) = zone
-request_zone (Run objects settings zone channels times quiet ahead feed) = zone
+request_zone (Run objects settings zone channels times quiet ahead log feed) = zone
 request_zone (Who objects zone asked) = zone
 
 -- letters in doubt are given up
@@ -196,7 +202,7 @@ fault_of feed ahead =
 abbrev pub feed_fault : Request → Option FeedFault
 feed_fault (Replay objects zone shown) = None
 feed_fault (Trace settings standbys zone) = None
-feed_fault (Run objects settings zone channels times quiet ahead feed) = fault_of feed ahead
+feed_fault (Run objects settings zone channels times quiet ahead log feed) = fault_of feed ahead
 feed_fault (Who objects zone asked) = None
 
 -- it gives a rule and a file
@@ -220,7 +226,7 @@ has_bad_letters words =
 abbrev pub asks_bad_letters : Request → Bool
 asks_bad_letters (Replay objects zone shown) = has_bad_letters shown
 asks_bad_letters (Trace settings standbys zone) = false
-asks_bad_letters (Run objects settings zone channels times quiet ahead feed) = false
+asks_bad_letters (Run objects settings zone channels times quiet ahead log feed) = false
 asks_bad_letters (Who objects zone asked) = false
 
 -- `--NAME NUMBER`, with a number from `least` to `most`, or with `default` where it is left out
@@ -307,15 +313,19 @@ abbrev pub with_state_options : App → App
 with_state_options app =
     with_rule (with_rule (with_rule app (text_option (codes "state"))) (text_option (codes "in-doubt"))) (flag_option (codes "from-now"))
 
+-- two say where a run writes its report as it goes, and that lines of it are folded
+abbrev pub with_log_options : App → App
+with_log_options app = with_rule (with_rule app (text_option (codes "log"))) (flag_option (codes "fold"))
+
 -- `run` has the file of the object text, which must be given, how many deciders there are, how many notices a lane's queue holds,
--- these, how far ahead a stamp may be, `--quiet`, where the feed is read from, what is kept, and the channel words
+-- these, how far ahead a stamp may be, where its report goes, `--quiet`, where the feed is read from, what is kept, and the channel words
 abbrev pub run_words : App
 run_words =
-    with_rule (with_zone (with_state_options (with_feed_options (with_rule (with_rule (with_try_options (with_rule (with_rule (with_rule (new_app (codes "run"))
+    with_rule (with_zone (with_state_options (with_feed_options (with_rule (with_log_options (with_rule (with_try_options (with_rule (with_rule (with_rule (new_app (codes "run"))
     (record (text_option (codes "objects")) { required = true }))
     (number_option (codes "deciders") (codes "2") 1 8))
     (number_option (codes "queue") (codes "64") 1 1024)))
-    (bare_number_option (codes "ahead") 0 4294967295))
+    (bare_number_option (codes "ahead") 0 4294967295)))
     (flag_option (codes "quiet")))))) (word_list (codes "channel"))
 
 -- `--NAME TEXT`, any number of times

@@ -10,6 +10,7 @@ ghost use Rattle.command_line.specs.Words.{HoldFitting, HoldSettings, HoldSomeTi
 ghost use Rattle.command_line.specs.Words.{HoldsAnyNumber, HoldsNumber, bare_number_option};
 ghost use Rattle.command_line.specs.Words.{IsMetWith, IsShownOf, RunLacks, flag_option, has_bad_letters};
 ghost use Rattle.command_line.specs.Words.{IsFeedOf, IsWhoOf, LacksSupposed, WhoLacks, length_option};
+ghost use Rattle.command_line.specs.Words.{IsLogOf, with_log_options};
 ghost use Rattle.command_line.specs.Words.{asks_bad_letters, is_line_letter, is_plain};
 ghost use Rattle.command_line.specs.Words.{IsStateOf, drops_doubt, fault_of, feed_fault, is_doubt_word, with_state_options};
 ghost use Rattle.command_line.specs.Words.{one_word, text_options, who_words, with_supposed};
@@ -121,7 +122,13 @@ clock is refused, since no later message could have an earlier moment.
 
 With --feed and --state a run may be killed at any moment. The next one with the same FILE
 and DIR sends what wasn't sent, and nothing twice but the message that was in hand of each
-command: that has a line `Again: yes`. Once the feed is over, standard output gets
+command: that has a line `Again: yes`.
+
+Once the feed is over, standard output gets the lines below. With --log they go to that file
+as they happen, each as soon as it is known, and standard output gets the G and Z lines
+alone; a file that is moved away is opened anew. With --fold an S line that only repeats the
+one before of its object isn't written, but the last before another one is, with how many
+there were. The lines are
 
   R;line;fault                                             a refused line of the feed
   S;event;moment;object;kind;state;filter                  what a filter of the object stopped
@@ -222,6 +229,15 @@ pub struct TryTimes {
     pub timeout: u16,
     /// How many seconds pass before the second try of a message: 0 to 60.
     pub pause: u8,
+}
+
+/// Where a run writes its report as it goes.
+#[derive(Clone, Copy, Debug, PartialEq, Eq)]
+pub struct LogWords<'a> {
+    /// The file, if there is one.
+    pub file: Option<&'a str>,
+    /// Whether lines that repeat the one before are folded.
+    pub fold: bool,
 }
 
 /// What a command line says of where the feed of a run is read from.
@@ -344,6 +360,7 @@ pub enum Request<'m, 'a> {
         quiet: bool,
         /// How many seconds past the machine's clock the stamp of a line may be at most, if there is a limit.
         ahead: Option<u32>,
+        log: LogWords<'a>,
         feed: FeedWords<'a>,
     },
     /// Who would be told, of the object text in the file.
@@ -764,6 +781,25 @@ fn channel_words<'a>(alloc: Global) -> Arg<'a>
         .help("Where the messages of a command go: NAME=KIND:..")
 }
 
+/// Adds the options that say where a run writes its report as it goes.
+fn with_log_options<'a>(alloc: Global, command: Command<'a>) -> Result<Command<'a>, AllocError>
+    ensures words { IfOk result (λ command_with.
+        app_of command_with ≡ with_log_options (app_of command.entry)) }
+{
+    let log = text_option(
+        alloc,
+        "log",
+        "FILE",
+        "Writes the report to this file as it goes, one line at a time",
+    );
+    let fold = flag_option(
+        alloc,
+        "fold",
+        "Leaves out S lines of the log that repeat the one before of their object",
+    );
+    command.arg(log)?.arg(fold)
+}
+
 /// The command `run`, its options and its words.
 fn run_command<'a>(alloc: Global) -> Result<Command<'a>, AllocError>
     ensures words { IfOk result (λ command. app_of command ≡ run_words) }
@@ -778,8 +814,9 @@ fn run_command<'a>(alloc: Global) -> Result<Command<'a>, AllocError>
     let with_queue = command.arg(queue_option(alloc, queue))?;
     let with_tries = with_try_options(alloc, with_queue)?;
     let with_ahead = with_tries.arg(ahead_option(alloc))?;
+    let with_log = with_log_options(alloc, with_ahead)?;
     let quiet = "Says nothing on standard error of what fails as it goes";
-    let with_quiet = with_ahead.arg(flag_option(alloc, "quiet", quiet))?;
+    let with_quiet = with_log.arg(flag_option(alloc, "quiet", quiet))?;
     let with_feed = with_feed_options(alloc, with_quiet)?;
     let with_state = with_state_options(alloc, with_feed)?;
     let with_options = with_zone(alloc, with_state)?;
@@ -908,6 +945,16 @@ fn ahead_of(options: &ArgMatches<'_>) -> Option<u32>
     options.get_one::<u32>("ahead")
 }
 
+/// What the options of `run` say of where its report goes as it goes.
+fn log_words<'a>(options: &ArgMatches<'a>) -> LogWords<'a>
+    ensures { IsLogOf (found_of options.now) result }
+{
+    LogWords {
+        file: options.get_str("log"),
+        fold: options.get_flag("fold"),
+    }
+}
+
 /// What the options of `run` say of where its feed is read from.
 fn feed_words<'a>(options: &ArgMatches<'a>) -> FeedWords<'a>
     ensures { IsFeedOf (found_of options.now) result }
@@ -938,6 +985,7 @@ fn run_request<'m, 'a>(options: &'m ArgMatches<'a>) -> Option<Request<'m, 'a>>
         times,
         quiet: options.get_flag("quiet"),
         ahead: ahead_of(options),
+        log: log_words(options),
         feed: feed_words(options),
     })
 }

@@ -82,8 +82,9 @@ pub record HasDecided (c : Config) (zone : Zone) (share : Share) (queues : List 
   pub count : length end.seats.items ≡ length queues
   pub log : told ++ end.log.items ≡ suppressed c zone share past
 
--- The same, and its log, before and after: this was told what is no longer kept.
-abbrev pub HasToldAndDecided : {L : Type 0} → (tells : L → List Suppression → L → Type 0) → Config → Zone → Share
-    → List LaneQueue → Consumer Signal Global AnyItems → (given : L) → DeciderEnd → (back : L) → Type 0
-HasToldAndDecided tells c zone share queues ring given end back =
+-- The same, and its log, before and after: this was told what is no longer kept, and unless it has failed nothing is kept.
+abbrev pub HasToldAndDecided : {L : Type 0} → (tells : L → List Suppression → L → Type 0) → (failed : L → Bool) → Config → Zone
+    → Share → List LaneQueue → Consumer Signal Global AnyItems → (given : L) → DeciderEnd → (back : L) → Type 0
+HasToldAndDecided tells failed c zone share queues ring given end back =
     (told : List Suppression) × tells given told back × HasDecided c zone share queues ring told end
+    × (failed back ≡ false → end.log.items ≡ [])

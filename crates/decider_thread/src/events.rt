@@ -18,8 +18,8 @@ ghost use Rattle.decider_thread.specs.declared.Signal.TheVariants.{Over};
 use crate::Signal;
 use crate::log::DeciderLog;
 use crate::seats::{Seat, is_full, put_round};
-use channel_queue::LaneQueue;
-use decider::{Decider, Outbox, Share};
+use crate::setup::DeciderSetup;
+use decider::{Decider, Outbox};
 use delivery_worker::Gate;
 use due_model::config::Config;
 use due_model::event::Event;
@@ -27,7 +27,7 @@ use due_model::proper::is_proper;
 use idle_pause::Pause;
 use rtrb::Consumer;
 use std::sync::Wait;
-use std::sync::atomic::{AtomicBool, Ordering};
+use std::sync::atomic::Ordering;
 use std::time::Clock;
 
 /// Tells the log what the decider has noted. What isn't told the decider keeps.
@@ -37,6 +37,8 @@ fn note<L: DeciderLog>(decider: &mut Decider<'_>, log: &mut L)
         → IsNoted (λ lines. L.tells first lines log.new) (kept decider.new).log all }
     ensures fits { (past : List Event) → Fits (kept decider.old) past → Fits (kept decider.new) past }
     ensures settings { settings (kept decider.new) ≡ settings (kept decider.old) }
+    // Unless the log has failed the decider keeps nothing.
+    ensures all { L.failed log.new ≡ false → (kept decider.new).log ≡ [] }
 {
     if log.tell(decider.log()) {
         decider.clear_log();
@@ -66,6 +68,7 @@ fn decide_event<L: DeciderLog>(
         (λ lines. L.tells first lines log.new) (waiting_at outbox.new) seats }
     ensures kept { result ≡ false → (lists outbox.new ≡ lists outbox.old)
         × (kept decider.new ≡ kept decider.old) × (log.new ≡ log.old) }
+    ensures all { result ≡ true → L.failed log.new ≡ false → (kept decider.new).log ≡ [] }
     ensures lanes { length (lists outbox.new) ≡ length (lists outbox.old) }
 {
     if !is_proper(config, &event) {
@@ -95,54 +98,50 @@ fn next_signal(ring: &mut Consumer<Signal>, outbox: &Outbox) -> Option<Signal>
 /// Decides the events of a ring until it is over, while what waits is put into the queues as they have room. False: an event wasn't
 /// decided, and the ring isn't over.
 pub(crate) fn decide_events<L: DeciderLog, G: Gate, R: Wait + Clock>(
-    rt: &R,
-    config: &Config,
-    share: Share,
+    setup: DeciderSetup<'_, G, R>,
     ring: &mut Consumer<Signal>,
     decider: &mut Decider<'_>,
     outbox: &mut Outbox,
     log: &mut L,
-    queues: &[LaneQueue],
     seats: &mut [Seat],
-    gate: &G,
-    halt: &AtomicBool,
 ) -> bool
     requires fresh { received ring.old ≡ [] }
-    requires queues { length queues.now ≡ length (lists outbox.old) }
+    requires queues { length setup.queues.now ≡ length (lists outbox.old) }
     requires seats { length seats.old ≡ length (lists outbox.old) }
-    requires lanes { length (lists outbox.old) ≡ length config.now.lanes }
+    requires lanes { length (lists outbox.old) ≡ length setup.config.now.lanes }
     requires range { length (lists outbox.old) < 256 }
-    requires stands { (zone : Zone) × Stands config.now zone share queues.now [] (kept decider.old)
+    requires stands { (zone : Zone) × Stands setup.config.now zone setup.share setup.queues.now [] (kept decider.old)
         (λ lines. L.tells log.old lines log.old) (waiting_at outbox.old) seats.old }
     ensures ring { SameConsumer ring.old ring.new }
-    ensures stopped { (zone : Zone) → Stands config.now zone share queues.now [] (kept decider.old)
+    ensures stopped { (zone : Zone) → Stands setup.entry.config.now zone setup.entry.share setup.entry.queues.now [] (kept decider.old)
         (λ lines. L.tells log.old lines log.old) (waiting_at outbox.old) seats.old
-        → HasStopped config.now zone share queues.now result (received ring.new) (waiting_at outbox.new)
+        → HasStopped setup.entry.config.now zone setup.entry.share setup.entry.queues.now result (received ring.new) (waiting_at outbox.new)
         seats.new (λ lines. L.tells log.old lines log.new) (kept decider.new).log }
+    ensures all { (kept decider.old).log ≡ [] → L.failed log.new ≡ false → (kept decider.new).log ≡ [] }
     ensures seats { length seats.new ≡ length seats.old }
     ensures lanes { length (lists outbox.new) ≡ length (lists outbox.old) }
 {
     let mut pause = Pause::new();
-    for _ in rt.forever() {
-        let moved = put_round(queues, seats, outbox, share.decider);
+    for _ in setup.rt.forever() {
+        let moved = put_round(setup.queues, seats, outbox, setup.share.decider);
         match next_signal(ring, outbox) {
             None => {
                 if moved {
                     pause.reset();
                 } else {
-                    pause.rest(rt);
+                    pause.rest(setup.rt);
                 }
             }
             Some(Signal::Over) => return true,
             Some(Signal::Decides(event)) => {
                 pause.reset();
-                gate.turn(share.decider);
-                if halt.load(Ordering::SeqCst) {
+                setup.gate.turn(setup.share.decider);
+                if setup.halt.load(Ordering::SeqCst) {
                     return false;
                 }
-                if !decide_event(config, event, decider, outbox, log) {
-                    halt.store(true, Ordering::SeqCst);
-                    gate.wanting();
+                if !decide_event(setup.config, event, decider, outbox, log) {
+                    setup.halt.store(true, Ordering::SeqCst);
+                    setup.gate.wanting();
                     return false;
                 }
             }

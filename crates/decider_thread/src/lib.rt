@@ -7,11 +7,13 @@ pub mod laws;
 mod log;
 mod ring;
 mod seats;
+mod setup;
 
 use due_model::event::Event;
 pub use log::{DeciderLog, KeptLog};
 pub use ring::{DeciderEnd, decide_ring};
 pub use seats::Seat;
+pub use setup::DeciderSetup;
 
 /// What goes through the ring of a decider.
 #[derive(Clone, Copy, Debug, PartialEq, Eq)]

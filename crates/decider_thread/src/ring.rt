@@ -1,6 +1,6 @@
 //! The work of a decider's thread.
 
-ghost use Rattle.std.specs.Prelude.{◌≡◌, [], length};
+ghost use Rattle.std.specs.Prelude.{◌≡◌, [], false, length};
 ghost use Rattle.due_model.specs.Accepted.{IsAccepted};
 ghost use Rattle.decider.specs.Share.{IsShare};
 ghost use Rattle.rtrb.specs.Ring.{SameConsumer, received};
@@ -11,16 +11,13 @@ use crate::Signal;
 use crate::events::{decide_events, skip_rest};
 use crate::log::DeciderLog;
 use crate::seats::{Seat, put_all, put_ends};
-use channel_queue::LaneQueue;
-use decider::{Decider, Outbox, Share};
+use crate::setup::DeciderSetup;
+use decider::{Decider, Outbox};
 use delivery_worker::Gate;
-use due_model::config::Config;
 use due_model::notice::Suppression;
-use due_model::zone::Zone;
 use rtrb::Consumer;
-use std::alloc::Global;
 use std::sync::Wait;
-use std::sync::atomic::{AtomicBool, Ordering};
+use std::sync::atomic::Ordering;
 use std::time::Clock;
 
 /// What a decider's thread gives back.
@@ -39,53 +36,41 @@ pub struct DeciderEnd {
 /// Decides the events of a ring, and empties it up to its end, and then the outboxes. It gives back what was suppressed and not
 /// told, and whether memory ran out.
 fn decide_all<L: DeciderLog, G: Gate, R: Wait + Clock>(
-    rt: &R,
-    alloc: Global,
-    config: &Config,
-    zone: &Zone,
-    share: Share,
+    setup: DeciderSetup<'_, G, R>,
     ring: &mut Consumer<Signal>,
     log: &mut L,
-    queues: &[LaneQueue],
     seats: &mut [Seat],
-    gate: &G,
-    halt: &AtomicBool,
 ) -> (Vec<Suppression>, bool)
-    requires accepted { IsAccepted config.now }
-    requires share { IsShare share }
+    requires accepted { IsAccepted setup.config.now }
+    requires share { IsShare setup.share }
     requires fresh { received ring.old ≡ [] }
-    requires queues { length queues.now ≡ length config.now.lanes }
-    requires seats { length seats.old ≡ length queues.now }
-    requires puts { ArePut share.decider queues.now seats.old (λ _. []) (λ _. []) }
+    requires queues { length setup.queues.now ≡ length setup.config.now.lanes }
+    requires seats { length seats.old ≡ length setup.queues.now }
+    requires puts { ArePut setup.share.decider setup.queues.now seats.old (λ _. []) (λ _. []) }
     ensures ring { SameConsumer ring.old ring.new }
-    ensures heard { HasHeard config.now zone.now share queues.now result.1 (received ring.new)
+    ensures heard { HasHeard setup.entry.config.now setup.entry.zone.now setup.entry.share setup.entry.queues.now result.1 (received ring.new)
         seats.new (λ lines. L.tells log.old lines log.new) result.0.items }
+    ensures all { L.failed log.new ≡ false → result.0.items ≡ [] }
     ensures seats { length seats.new ≡ length seats.old }
 {
     let (Ok(mut decider), Ok(mut outbox)) = (
-        Decider::new(alloc, config, zone, share),
-        Outbox::new(alloc, config.lanes.len()),
+        Decider::new(setup.alloc, setup.config, setup.zone, setup.share),
+        Outbox::new(setup.alloc, setup.config.lanes.len()),
     ) else {
-        halt.store(true, Ordering::SeqCst);
-        gate.wanting();
-        skip_rest(rt, ring, false);
-        return (Vec::new(alloc), true);
+        setup.halt.store(true, Ordering::SeqCst);
+        setup.gate.wanting();
+        skip_rest(setup.rt, ring, false);
+        return (Vec::new(setup.alloc), true);
     };
-    let over = decide_events(
-        rt,
-        config,
-        share,
-        ring,
-        &mut decider,
-        &mut outbox,
-        log,
-        queues,
+    let over = decide_events(setup, ring, &mut decider, &mut outbox, log, seats);
+    skip_rest(setup.rt, ring, over);
+    put_all(
+        setup.rt,
+        setup.queues,
         seats,
-        gate,
-        halt,
+        &mut outbox,
+        setup.share.decider,
     );
-    skip_rest(rt, ring, over);
-    put_all(rt, queues, seats, &mut outbox, share.decider);
     (decider.into_log(), !over)
 }
 
@@ -93,35 +78,26 @@ fn decide_all<L: DeciderLog, G: Gate, R: Wait + Clock>(
 /// queue doesn't take waits, while further events are decided; with 65,536 notices that wait no event is taken. The gate is asked
 /// before each event, and after each the log is told what it suppressed. The decider's end comes last. Where a growth is refused here
 /// or in another thread, which `halt` tells, no further event is decided; the ring is emptied all the same, and what waits and the
-/// ends are put. The log comes back beside what is left.
+/// ends are put. The log comes back beside what is left; unless it has failed it was told all.
 pub fn decide_ring<L: DeciderLog, G: Gate, R: Wait + Clock>(
-    rt: &R,
-    alloc: Global,
-    config: &Config,
-    zone: &Zone,
-    share: Share,
+    setup: DeciderSetup<'_, G, R>,
     ring: Consumer<Signal>,
     log: L,
-    queues: &[LaneQueue],
     seats: Vec<Seat>,
-    gate: &G,
-    halt: &AtomicBool,
 ) -> (DeciderEnd, L)
-    requires accepted { IsAccepted config.now }
-    requires share { IsShare share }
+    requires accepted { IsAccepted setup.config.now }
+    requires share { IsShare setup.share }
     requires fresh { received ring ≡ [] }
-    requires queues { length queues.now ≡ length config.now.lanes }
-    requires seats { length seats.items ≡ length queues.now }
-    requires puts { ArePut share.decider queues.now seats.items (λ _. []) (λ _. []) }
-    ensures { HasToldAndDecided L.tells config.now zone.now share queues.now ring log result.0 result.1 }
+    requires queues { length setup.queues.now ≡ length setup.config.now.lanes }
+    requires seats { length seats.items ≡ length setup.queues.now }
+    requires puts { ArePut setup.share.decider setup.queues.now seats.items (λ _. []) (λ _. []) }
+    ensures { HasToldAndDecided L.tells L.failed setup.entry.config.now setup.entry.zone.now setup.entry.share setup.entry.queues.now ring log result.0 result.1 }
 {
     let mut ring = ring;
     let mut seats = seats;
     let mut told = log;
-    let (log, memory) = decide_all(
-        rt, alloc, config, zone, share, &mut ring, &mut told, queues, &mut seats, gate, halt,
-    );
-    put_ends(rt, queues, &mut seats, share.decider);
+    let (log, memory) = decide_all(setup, &mut ring, &mut told, &mut seats);
+    put_ends(setup.rt, setup.queues, &mut seats, setup.share.decider);
     let end = DeciderEnd {
         ring,
         seats,

@@ -17,6 +17,7 @@ use due_model::config::LaneId;
 use due_model::notice::Notice;
 pub use patient::PatientBell;
 use std::time::Duration;
+use undelivered::Why;
 pub use worker::{Served, serve, tend_next};
 
 /// What tells a worker that its lane is to close.
@@ -56,6 +57,16 @@ pub trait Gate {
 
     /// Called by the intake of a feed for each line that it refuses, with the line's number and the fault's name.
     fn refused(&self, _line: u64, _fault: &str) {}
+
+    /// Called by a lane's worker for each notice that it gives up, in order, once it is recorded.
+    fn given_up(&self, _notice: &Notice) {}
+
+    /// Called once a lane is over that was given several channels, for each that served: which it is, the first 0, and how many
+    /// notices it has taken.
+    fn channel_over(&self, _lane: LaneId, _number: u64, _taken: u64) {}
+
+    /// Called once a lane is over, with the cause of its close.
+    fn lane_over(&self, _lane: LaneId, _why: Why) {}
 
     /// Called by the intake, a decider or a worker that ends since a growth was refused, at once.
     fn wanting(&self) {}

@@ -39,13 +39,14 @@ pub struct Served {
 
 /// Picks what is left, up to the end of each decider, and gives it up. False: memory ran out, and from there on nothing was
 /// recorded.
-fn drain<R: Wait + Clock>(
+fn drain<G: Gate, R: Wait + Clock>(
     rt: &R,
     lane: &mut LaneRecord,
     recording: bool,
     queue: &LaneQueue,
     pass: Pass,
     ends: &mut [bool; 8],
+    gate: &G,
 ) -> (Pass, bool)
     requires deciders { queue.now.deciders ≤ 8 }
     requires worker { IsWorker queue.now (picked_of pass) (joined_of pass) pass }
@@ -72,6 +73,7 @@ fn drain<R: Wait + Clock>(
         let (next, item) = pick_item(queue, pass, ends);
         pass = next;
         recording = give_up(lane, recording, item);
+        tell_given_up(recording, item, gate);
         if item.is_some() {
             pause.reset();
         } else {
@@ -96,6 +98,15 @@ fn give_up(lane: &mut LaneRecord, recording: bool, item: Option<Item>) -> bool
     match item {
         Some(Item::Notice(_, notice)) => lane.drain(notice).is_ok(),
         Some(Item::End(_)) | None => true,
+    }
+}
+
+/// Tells the gate of what was picked, where it was given up.
+fn tell_given_up<G: Gate>(recorded: bool, item: Option<Item>, gate: &G) {
+    if let Some(Item::Notice(_, notice)) = item {
+        if recorded {
+            gate.given_up(&notice);
+        }
     }
 }
 
@@ -250,8 +261,11 @@ fn tend_channels<C: Channel, B: Bell, G: Gate, R: Wait + Clock>(
     (pass, why)
 }
 
-/// Tells the gate of a close for want of memory.
-fn tell_close<G: Gate>(why: Why, gate: &G) {
+/// Tells the gate of a close: of the notice that was in hand, and of want of memory.
+fn tell_close<G: Gate>(why: Why, held: &LaneRecord, gate: &G) {
+    for notice in held.parts().undelivered {
+        gate.given_up(notice);
+    }
     if why == Why::NoMemory {
         gate.wanting();
     }
@@ -318,11 +332,12 @@ pub fn serve<C: Channel, B: Bell, G: Gate, R: Wait + Clock>(
         gate,
     );
     held.close(why);
-    tell_close(why, gate);
+    tell_close(why, &held, gate);
     if why == Why::FeedOver {
         return (Served { pass, held, why }, channels);
     }
-    let (pass, recorded) = drain(rt, &mut held, why != Why::NoMemory, queue, pass, &mut ends);
+    let recording = why != Why::NoMemory;
+    let (pass, recorded) = drain(rt, &mut held, recording, queue, pass, &mut ends, gate);
     let why = if recorded { why } else { Why::NoMemory };
     (Served { pass, held, why }, channels)
 }

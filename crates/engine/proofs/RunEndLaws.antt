@@ -255,21 +255,23 @@ none_ran c zone given events memory lanes log no_events none no_logged out = rec
 
 -- ---- where the logs tell nothing
 
-pub none_told_ran : {L : Type 0} (tells : L → List Suppression → L → Type 0) (c : Config) (zone : Zone) (given : ℕ → ℕ) (events : List Event) (memory : Bool) (lanes : List LaneParts) (log : List Suppression) (logs back : List L)
-    → events ≡ [] → lanes ≡ [] → log ≡ [] → back ≡ [] → memory ≡ true → IsToldRunOf tells c zone given events memory lanes logs back log
-none_told_ran {L} tells c zone given events memory lanes log logs back no_events none no_logged no_logs out = (
+pub none_told_ran : {L : Type 0} (tells : L → List Suppression → L → Type 0) (failed : L → Bool) (c : Config) (zone : Zone) (given : ℕ → ℕ) (events : List Event) (memory : Bool) (lanes : List LaneParts) (log : List Suppression) (logs back : List L)
+    → events ≡ [] → lanes ≡ [] → log ≡ [] → back ≡ [] → memory ≡ true → IsToldRunOf tells failed c zone given events memory lanes logs back log
+none_told_ran {L} tells failed c zone given events memory lanes log logs back no_events none no_logged no_logs out = (
   (λ d. []),
   record {
     few = (let long = ap length no_logs in omega (arith, long));
     each = λ d a b at_a at_b. absurd (none-some b (subst (λ (bs : List L). slice_get bs d ≡ Some b) no_logs at_b));
     absent = λ d ge. refl;
     begins = λ d lt. (suppressed c zone (record { decider = d; deciders = length logs }) (reverse events), refl);
+    all = λ m. absurd (true≢false (sym out ∙ m));
   },
   none_ran c zone given events memory lanes log no_events none no_logged out,
+  λ o b at unfailed. ap (of_object o) no_logged,
 )
 
-nothing_told : {L : Type 0} (c : Config) (zone : Zone) (n : ℕ) (past : List Event) (given back : List L) (told : ℕ → List Suppression) → HaveTold (λ _ lines _. tells_nothing lines) c zone n past given back told → (d : ℕ) → told d ≡ []
-nothing_told c zone n past given back told have d = ⊎_elim
+nothing_told : {L : Type 0} (failed : L → Bool) (c : Config) (zone : Zone) (n : ℕ) (past : List Event) (memory : Bool) (given back : List L) (told : ℕ → List Suppression) → HaveTold (λ _ lines _. tells_nothing lines) failed c zone n past memory given back told → (d : ℕ) → told d ≡ []
+nothing_told failed c zone n past memory given back told have d = ⊎_elim
     (λ (lt : d < length back).
     let few = have.few in
     let a = some_at given d (omega (arith, lt, few)) in
@@ -278,9 +280,9 @@ nothing_told c zone n past given back told have d = ⊎_elim
     (λ (ge : length back ≤ d). have.absent d ge)
     (cases_lt d (length back))
 
-pub run_of_kept : {L : Type 0} (c : Config) (zone : Zone) (given : ℕ → ℕ) (events : List Event) (memory : Bool) (lanes : List LaneParts) (logs back : List L) (lines : List Suppression)
-    → IsToldRunOf (λ _ lines _. tells_nothing lines) c zone given events memory lanes logs back lines → IsRunOf c zone given events memory lanes lines
-run_of_kept c zone given events memory lanes logs back lines run = record {
+pub run_of_kept : {L : Type 0} (failed : L → Bool) (c : Config) (zone : Zone) (given : ℕ → ℕ) (events : List Event) (memory : Bool) (lanes : List LaneParts) (logs back : List L) (lines : List Suppression)
+    → IsToldRunOf (λ _ lines _. tells_nothing lines) failed c zone given events memory lanes logs back lines → IsRunOf c zone given events memory lanes lines
+run_of_kept failed c zone given events memory lanes logs back lines run = record {
   due = run.2.due;
   log = λ m. record { each = λ o within. without o ((run.2.log m).each o within); named = (run.2.log m).named; order = (run.2.log m).order };
   due_front = run.2.due_front;
@@ -295,7 +297,7 @@ run_of_kept c zone given events memory lanes logs back lines run = record {
 }
   where
     none : (o : ℕ) → run.0 (o % length logs) ≡ []
-    none o = nothing_told c zone (length logs) (reverse events) logs back run.0 run.1 (o % length logs)
+    none o = nothing_told failed c zone (length logs) (reverse events) memory logs back run.0 run.1 (o % length logs)
 
     without : (o : ℕ) → of_object o (run.0 (o % length logs)) ++ of_object o lines ≡ sup c zone o (reverse events) → of_object o lines ≡ sup c zone o (reverse events)
     without o is = ap (λ (ls : List Suppression). of_object o ls ++ of_object o lines) (sym (none o)) ∙ is

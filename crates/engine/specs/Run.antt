@@ -7,7 +7,7 @@ use Rattle.due_model.specs.declared.zone.Zone.{Zone}
 use Rattle.due_model.specs.Proper.{IsProper}
 use Rattle.delivery_worker.specs.declared.worker.Served.{Served}
 use Rattle.engine_threads.specs.Run.{IsRun}
-use Rattle.engine_threads.specs.Told.{HaveTold}
+use Rattle.engine_threads.specs.Told.{HaveTold, NoneIsLeft}
 use Rattle.event_feed.specs.declared.fault.FeedFault.TheVariants as fault
 use Rattle.event_feed.specs.declared.fault.RefusedLine.{RefusedLine}
 use Rattle.engine.specs.Due.{BeginsLogAfter, HaveCauses, IsLogAfter, LanesAreDue, LanesBeginDue, LanesKeepDue}
@@ -37,12 +37,13 @@ abbrev pub IsRunOf : Config → Zone → (given : ℕ → ℕ) → (events : Lis
     → (lines : List Suppression) → Type 0
 IsRunOf c zone given events memory lanes lines = IsRunAfter c zone given events memory lanes (λ o. []) lines
 
--- The same, where each decider, of as many as there are logs, told its log what comes before.
-abbrev pub IsToldRunOf : {L : Type 0} → (tells : L → List Suppression → L → Type 0) → Config → Zone → (given : ℕ → ℕ)
-    → (events : List Event) → (memory : Bool) → List LaneParts → (logs back : List L) → (lines : List Suppression) → Type 0
-IsToldRunOf tells c zone given events memory lanes logs back lines =
-    (told : (decider : ℕ) → List Suppression) × HaveTold tells c zone (length logs) (reverse events) logs back told
-    × IsRunAfter c zone given events memory lanes (λ o. told (o % length logs)) lines
+-- The same, where each decider, of as many as there are logs, told its log what comes before: all, where the log hasn't failed, so that
+-- nothing of the decider's objects is left.
+abbrev pub IsToldRunOf : {L : Type 0} → (tells : L → List Suppression → L → Type 0) → (failed : L → Bool) → Config → Zone
+    → (given : ℕ → ℕ) → (events : List Event) → (memory : Bool) → List LaneParts → (logs back : List L) → (lines : List Suppression) → Type 0
+IsToldRunOf tells failed c zone given events memory lanes logs back lines =
+    (told : (decider : ℕ) → List Suppression) × HaveTold tells failed c zone (length logs) (reverse events) memory logs back told
+    × IsRunAfter c zone given events memory lanes (λ o. told (o % length logs)) lines × NoneIsLeft failed (length logs) back lines
 
 -- All that it promises of what was read of a feed, of whose lines these are too far ahead, and whose bytes are known or not.
 pub record IsReadOf (far : ℕ → Bool) (can_fail : Bool) (c : Config) (known : Option (List ℕ)) (memory : Bool)

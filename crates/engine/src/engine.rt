@@ -1,17 +1,12 @@
 //! The engine.
 
-ghost use Rattle.std.specs.Prelude.{◌≡◌, ◌≢◌, ◌≤◌, ℕ, All, Bool, true, false, [], length, reverse, slice_get, IfOk, IfSome, Some};
+ghost use Rattle.std.specs.Prelude.{◌≡◌, ◌≤◌, ℕ, Bool, true, length, slice_get, IfOk, Some};
 ghost use Rattle.due_model.specs.Accepted.{IsAccepted};
-ghost use Rattle.due_model.specs.Proper.{IsProper};
-ghost use Rattle.engine.specs.Due.{BeginsLog, HaveCauses, IsLog, LanesAreDue, LanesBeginDue};
-ghost use Rattle.engine.specs.Due.{LanesKeepDue};
-ghost use Rattle.engine.specs.Feed.{IsFrontRead, IsWhatWasRead, NoneIsAhead, ahead_in};
-ghost use Rattle.engine.specs.Feed.{events_of};
+ghost use Rattle.engine.specs.Feed.{NoneIsAhead, ahead_in};
 ghost use Rattle.engine.specs.Lanes.{HaveTaken, channels_on, count_of};
-ghost use Rattle.engine.specs.Lists.{IsFrontOf};
 ghost use Rattle.engine.specs.Logs.{given_logs};
 ghost use Rattle.engine.specs.Run.{IsReadOf, IsRunOf, IsToldRunOf};
-ghost use Rattle.engine.specs.Unread.{IsUnread};
+ghost use Rattle.engine.specs.Unread.{HasStarted};
 ghost use Rattle.event_feed.specs.Feed.{no_line};
 
 use crate::intake::Intake;
@@ -25,7 +20,8 @@ use decider_thread::DeciderLog;
 use delivery_worker::{Closers, Gate};
 use due_model::config::Config;
 use due_model::zone::Zone;
-use event_feed::{FeedFault, Horizon, OpenHorizon};
+use engine_threads::Setup;
+use event_feed::{Horizon, OpenHorizon};
 use std::alloc::{AllocError, Global};
 use std::sync::Wait;
 use std::thread::Threads;
@@ -61,46 +57,17 @@ impl Engine {
         requires accepted { IsAccepted config.now }
         // Of each lane there are at most eight posts.
         requires few { (l : ℕ) → count_of (λ post. post.lane.0) posts.items l ≤ 8 }
-        // All that was due: of each object, each lane has taken or given up exactly that, in order,
-        ensures due { result.0.memory ≡ false → LanesAreDue config.now zone.now
-            (reverse result.0.events.items) result.0.lanes.items }
-        // and the log is all that was suppressed.
-        ensures log { result.0.memory ≡ false
-            → IsLog config.now zone.now (reverse result.0.events.items) result.0.log.items }
-        // All that was read: the events and the refused lines are those of the bytes.
-        ensures read { IfSome (R.remaining reader) (λ bytes. result.0.memory ≡ false
-            → IsWhatWasRead no_line R.can_fail config.now.objects bytes
-            result.0.events.items result.0.refused.items result.0.cut) }
-        ensures proper { All (IsProper config.now) result.0.events.items }
-        ensures named { All (λ r. r.fault ≢ FeedFault.NoMemory) result.0.refused.items }
+        // Of the events that were taken: of each object, each lane has taken or given up exactly what was due, in order, the log is all
+        // that was suppressed, and a lane is closed for a cause; where memory ran out, a front of that.
+        ensures run { IsRunOf config.now zone.now (count_of (λ post. post.lane.0) posts.items)
+            result.0.events.items result.0.memory result.0.lanes.items result.0.log.items }
+        // The events and the refused lines are those of the bytes; where memory ran out, a front of them.
+        ensures read { IsReadOf no_line R.can_fail config.now (R.remaining reader) result.0.memory
+            result.0.events.items result.0.refused.items result.0.cut }
         ensures near { NoneIsAhead result.0.refused.items }
-        // Want of memory: what is there is a front of it,
-        ensures front { IfSome (R.remaining reader) (λ bytes.
-            IsFrontOf result.0.events.items (events_of no_line config.now.objects bytes)) }
-        ensures read_front { IfSome (R.remaining reader) (λ bytes. result.0.memory ≡ true
-            → IsFrontRead no_line config.now.objects bytes
-            result.0.events.items result.0.refused.items) }
-        ensures due_front { LanesBeginDue config.now zone.now (reverse result.0.events.items)
-            result.0.lanes.items }
-        ensures log_front { BeginsLog config.now zone.now (reverse result.0.events.items)
-            result.0.log.items }
-        // a lane whose own memory sufficed has all that was decided,
-        ensures others { LanesKeepDue config.now zone.now (reverse result.0.events.items)
-            result.0.lanes.items }
-        // every lane is there, where an event was accepted,
-        ensures whole { result.0.events.items ≢ []
-            → length result.0.lanes.items ≡ length config.now.lanes }
-        // and wherever the run began; where it didn't, nothing was read, and memory ran out or a thread couldn't be started,
-        ensures all { result.0.started ≡ true
-            → length result.0.lanes.items ≡ length config.now.lanes }
-        ensures unstarted { result.0.started ≡ false
-            → IsUnread result.0.events.items result.0.refused.items result.0.log.items
-            result.0.lanes.items result.0.memory }
-        // and the feed is not said to be cut.
-        ensures uncut { result.0.memory ≡ true → result.0.cut ≡ false }
-        // A lane is closed for a cause.
-        ensures causes { HaveCauses (count_of (λ post. post.lane.0) posts.items)
-            result.0.memory result.0.lanes.items }
+        // Where the run began every lane is there; where it didn't, nothing was read.
+        ensures started { HasStarted config.now result.0.started result.0.events.items result.0.refused.items
+            result.0.log.items result.0.lanes.items result.0.memory }
         // Each lane's channels come back, in the order of its posts: each is the one that was given, it has taken what its record says
         // and nothing else, each letter was offered to it until it was taken, and it was replaced only since the next letter had
         // failed as often as it may be tried.
@@ -114,9 +81,15 @@ impl Engine {
             reader,
             horizon: OpenHorizon,
         };
-        Engine::run_within(
-            rt, alloc, config, zone, feed, posts, settings, closers, gate,
-        )
+        let setup = Setup {
+            rt,
+            alloc,
+            config,
+            zone,
+            closers,
+            gate,
+        };
+        Engine::run_within(setup, feed, posts, settings)
     }
 
     /// The same, where a line whose stamp is past what a horizon says is refused as `Ahead`. It is asked in the calling thread, once
@@ -128,48 +101,38 @@ impl Engine {
         G: Gate + Sync,
         T: Threads + Wait + Clock + Sync,
     >(
-        rt: &T,
-        alloc: Global,
-        config: &Config,
-        zone: &Zone,
+        setup: Setup<'_, Zone, G, T>,
         feed: LimitedFeed<R, H>,
         posts: Vec<Post<C>>,
         settings: Settings,
-        closers: &Closers,
-        gate: &G,
     ) -> (RunEnd, Vec<Vec<C>>)
-        requires accepted { IsAccepted config.now }
+        requires accepted { IsAccepted setup.config.now }
         requires few { (l : ℕ) → count_of (λ post. post.lane.0) posts.items l ≤ 8 }
         // Of the events that were taken, the same is promised of the lanes and the log;
-        ensures run { IsRunOf config.now zone.now (count_of (λ post. post.lane.0) posts.items)
+        ensures run { IsRunOf setup.entry.config.now setup.entry.zone.now (count_of (λ post. post.lane.0) posts.items)
             result.0.events.items result.0.memory result.0.lanes.items result.0.log.items }
         // and they and the refused lines are those of the bytes, of whose lines just those are too far ahead that are refused so.
         ensures read { (far : ℕ → Bool)
             → ((line : ℕ) → far line ≡ ahead_in result.0.refused.items line)
-            → IsReadOf far R.can_fail config.now (R.remaining feed.reader) result.0.memory
+            → IsReadOf far R.can_fail setup.entry.config.now (R.remaining feed.reader) result.0.memory
             result.0.events.items result.0.refused.items result.0.cut }
         ensures near { H.is_open feed.horizon ≡ true → NoneIsAhead result.0.refused.items }
-        ensures all { result.0.started ≡ true
-            → length result.0.lanes.items ≡ length config.now.lanes }
-        ensures unstarted { result.0.started ≡ false
-            → IsUnread result.0.events.items result.0.refused.items result.0.log.items
-            result.0.lanes.items result.0.memory }
+        ensures started { HasStarted setup.entry.config.now result.0.started result.0.events.items result.0.refused.items
+            result.0.log.items result.0.lanes.items result.0.memory }
         ensures channels { (l : ℕ) (lane cs : _) → slice_get result.0.lanes.items l ≡ Some lane
             → slice_get result.1.items l ≡ Some cs
-            → HaveTaken C.account C.offered settings.tries config.now lane
+            → HaveTaken C.account C.offered settings.tries setup.entry.config.now lane
             (channels_on (λ post. post.lane.0) (λ post. post.channel) l posts.items) cs.items }
         ensures places { length result.1.items ≡ length result.0.lanes.items }
     {
-        let logs = kept_logs(alloc, settings.deciders);
-        let (end, channels, _logs) = run_reader(
-            rt, alloc, config, zone, feed, posts, logs, settings, closers, gate,
-        );
+        let logs = kept_logs(setup.alloc, settings.deciders);
+        let (end, channels, _logs) = run_reader(setup, feed, posts, logs, settings);
         (end, channels)
     }
 
     /// The same, where each decider has a log of its own, which is told what an event suppresses as soon as it is decided. What a log
-    /// was told isn't kept, so the run's log has what comes after it. The logs come back, one for each decider; none where the run
-    /// didn't begin.
+    /// was told isn't kept, so the run's log has what comes after it: nothing of a decider whose log hasn't failed. The logs come back,
+    /// one for each decider; none where the run didn't begin.
     pub fn run_told<
         C: Channel,
         R: Input + Drop,
@@ -178,53 +141,35 @@ impl Engine {
         G: Gate + Sync,
         T: Threads + Wait + Clock + Sync,
     >(
-        rt: &T,
-        alloc: Global,
-        config: &Config,
-        zone: &Zone,
+        setup: Setup<'_, Zone, G, T>,
         feed: LimitedFeed<R, H>,
         outlets: Outlets<C, L>,
         settings: Settings,
-        closers: &Closers,
-        gate: &G,
     ) -> (RunEnd, Vec<Vec<C>>, Vec<L>)
-        requires accepted { IsAccepted config.now }
+        requires accepted { IsAccepted setup.config.now }
         requires few { (l : ℕ) → count_of (λ post. post.lane.0) outlets.posts.items l ≤ 8 }
         // There is a log for each decider.
         requires logs { length outlets.logs.items ≡ settings.deciders }
-        // What the logs were told and then the run's log are, of each object, all that was suppressed; the rest is as before.
-        ensures run { IsToldRunOf L.tells config.now zone.now
+        // What the logs were told and then the run's log are, of each object, all that was suppressed; a log that hasn't failed was told
+        // all of it. The rest is as before.
+        ensures run { IsToldRunOf L.tells L.failed setup.entry.config.now setup.entry.zone.now
             (count_of (λ post. post.lane.0) outlets.posts.items) result.0.events.items result.0.memory
             result.0.lanes.items outlets.logs.items result.2.items result.0.log.items }
         ensures read { (far : ℕ → Bool)
             → ((line : ℕ) → far line ≡ ahead_in result.0.refused.items line)
-            → IsReadOf far R.can_fail config.now (R.remaining feed.reader) result.0.memory
+            → IsReadOf far R.can_fail setup.entry.config.now (R.remaining feed.reader) result.0.memory
             result.0.events.items result.0.refused.items result.0.cut }
         ensures near { H.is_open feed.horizon ≡ true → NoneIsAhead result.0.refused.items }
-        ensures all { result.0.started ≡ true
-            → length result.0.lanes.items ≡ length config.now.lanes }
-        ensures unstarted { result.0.started ≡ false
-            → IsUnread result.0.events.items result.0.refused.items result.0.log.items
-            result.0.lanes.items result.0.memory }
+        ensures started { HasStarted setup.entry.config.now result.0.started result.0.events.items result.0.refused.items
+            result.0.log.items result.0.lanes.items result.0.memory }
         ensures channels { (l : ℕ) (lane cs : _) → slice_get result.0.lanes.items l ≡ Some lane
             → slice_get result.1.items l ≡ Some cs
-            → HaveTaken C.account C.offered settings.tries config.now lane
+            → HaveTaken C.account C.offered settings.tries setup.entry.config.now lane
             (channels_on (λ post. post.lane.0) (λ post. post.channel) l outlets.posts.items) cs.items }
         ensures places { length result.1.items ≡ length result.0.lanes.items }
     {
         let Outlets { posts, logs } = outlets;
-        run_reader(
-            rt,
-            alloc,
-            config,
-            zone,
-            feed,
-            posts,
-            Ok(logs),
-            settings,
-            closers,
-            gate,
-        )
+        run_reader(setup, feed, posts, Ok(logs), settings)
     }
 }
 
@@ -237,42 +182,38 @@ fn run_reader<
     G: Gate + Sync,
     T: Threads + Wait + Clock + Sync,
 >(
-    rt: &T,
-    alloc: Global,
-    config: &Config,
-    zone: &Zone,
+    setup: Setup<'_, Zone, G, T>,
     feed: LimitedFeed<R, H>,
     posts: Vec<Post<C>>,
     logs: Result<Vec<L>, AllocError>,
     settings: Settings,
-    closers: &Closers,
-    gate: &G,
 ) -> (RunEnd, Vec<Vec<C>>, Vec<L>)
-    requires accepted { IsAccepted config.now }
+    requires accepted { IsAccepted setup.config.now }
     requires few { (l : ℕ) → count_of (λ post. post.lane.0) posts.items l ≤ 8 }
     requires logs { IfOk logs (λ ls. length ls.items ≡ settings.deciders) }
-    ensures run { IsToldRunOf L.tells config.now zone.now (count_of (λ post. post.lane.0) posts.items)
+    ensures run { IsToldRunOf L.tells L.failed setup.entry.config.now setup.entry.zone.now (count_of (λ post. post.lane.0) posts.items)
         result.0.events.items result.0.memory result.0.lanes.items (given_logs logs) result.2.items
         result.0.log.items }
     ensures read { (far : ℕ → Bool)
         → ((line : ℕ) → far line ≡ ahead_in result.0.refused.items line)
-        → IsReadOf far R.can_fail config.now (R.remaining feed.reader) result.0.memory
+        → IsReadOf far R.can_fail setup.entry.config.now (R.remaining feed.reader) result.0.memory
         result.0.events.items result.0.refused.items result.0.cut }
     ensures near { H.is_open feed.horizon ≡ true → NoneIsAhead result.0.refused.items }
-    ensures all { result.0.started ≡ true
-        → length result.0.lanes.items ≡ length config.now.lanes }
-    ensures unstarted { result.0.started ≡ false
-        → IsUnread result.0.events.items result.0.refused.items result.0.log.items
-        result.0.lanes.items result.0.memory }
+    ensures started { HasStarted setup.entry.config.now result.0.started result.0.events.items result.0.refused.items
+        result.0.log.items result.0.lanes.items result.0.memory }
     ensures channels { (l : ℕ) (lane cs : _) → slice_get result.0.lanes.items l ≡ Some lane
         → slice_get result.1.items l ≡ Some cs
-        → HaveTaken C.account C.offered settings.tries config.now lane
+        → HaveTaken C.account C.offered settings.tries setup.entry.config.now lane
         (channels_on (λ post. post.lane.0) (λ post. post.channel) l posts.items) cs.items }
     ensures places { length result.1.items ≡ length result.0.lanes.items }
 {
     let LimitedFeed { reader, horizon } = feed;
-    let Ok(lines) = LineReader::new(alloc, reader) else {
-        return (RunEnd::unread(alloc), Vec::new(alloc), Vec::new(alloc));
+    let Ok(lines) = LineReader::new(setup.alloc, reader) else {
+        return (
+            RunEnd::unread(setup.alloc),
+            Vec::new(setup.alloc),
+            Vec::new(setup.alloc),
+        );
     };
     let Ran {
         lanes,
@@ -283,16 +224,11 @@ fn run_reader<
         started,
         source,
     } = run_source(
-        rt,
-        alloc,
-        config,
-        zone,
-        Intake::new(alloc, lines, horizon),
+        setup,
+        Intake::new(setup.alloc, lines, horizon),
         posts,
         logs,
         settings,
-        closers,
-        gate,
     );
     let (events, refused, cut) = source.into_parts(memory);
     let end = RunEnd {

@@ -8,11 +8,10 @@ ghost use Rattle.due_model.specs.Accepted.{IsAccepted};
 ghost use Rattle.due_model.specs.Proper.{IsProper};
 ghost use Rattle.caller_feeds.specs.Feeds.{ArePairs, AreUnread, AreUnsent, IsSameEnd};
 ghost use Rattle.caller_feeds.specs.Taken.{AreOver, IsTaken};
-ghost use Rattle.engine.specs.Due.{BeginsLog, HaveCauses, IsLog, LanesAreDue, LanesBeginDue};
-ghost use Rattle.engine.specs.Due.{LanesKeepDue};
 ghost use Rattle.engine.specs.Feeds.{AreCut, AreTaken, FeedsGo};
 ghost use Rattle.engine.specs.Lanes.{HaveTaken, channels_on, count_of};
-ghost use Rattle.engine.specs.Unread.{IsUnread};
+ghost use Rattle.engine.specs.Run.{IsRunOf};
+ghost use Rattle.engine.specs.Unread.{HasStarted};
 
 use crate::engine::Engine;
 use crate::logs::kept_logs;
@@ -26,7 +25,7 @@ use due_model::config::Config;
 use due_model::event::Event;
 use due_model::limits::MAX_EVENTS;
 use due_model::zone::Zone;
-use engine_threads::{Given, Source};
+use engine_threads::{Given, Setup, Source};
 use std::alloc::{AllocError, Global};
 use std::sync::Wait;
 use std::thread::Threads;
@@ -137,12 +136,10 @@ impl Engine {
         // Of each lane there are at most eight posts.
         requires few { (l : ℕ) → count_of (λ post. post.lane.0) posts.items l ≤ 8 }
         requires unread { AreUnread ends.items }
-        // All that was due: of each object, each lane has taken or given up exactly that, in order,
-        ensures due { result.0.memory ≡ false → LanesAreDue config.now zone.now
-            (reverse result.0.events.items) result.0.lanes.items }
-        // and the log is all that was suppressed.
-        ensures log { result.0.memory ≡ false
-            → IsLog config.now zone.now (reverse result.0.events.items) result.0.log.items }
+        // Of the events that were taken: of each object, each lane has taken or given up exactly what was due, in order, the log is all
+        // that was suppressed, and a lane is closed for a cause; where memory ran out, a front of that.
+        ensures run { IsRunOf config.now zone.now (count_of (λ post. post.lane.0) posts.items)
+            result.0.events.items result.0.memory result.0.lanes.items result.0.log.items }
         // All that was taken: the events are a merge of the proper ones that the ends have received, and each has counted the others.
         ensures taken { IsTaken config.now result.1.items result.0.events.items }
         ensures proper { All (IsProper config.now) result.0.events.items }
@@ -152,28 +149,12 @@ impl Engine {
         // Each feed's end was received, or the feeds were cut,
         ensures over { result.0.memory ≡ false → result.0.cut ≡ false → AreOver result.1.items }
         ensures cut { result.0.cut ≡ true → AreCut config.now result.1.items result.0.events.items }
-        // or memory ran out: then what is there is a front of what there would be,
+        // or memory ran out.
         ensures uncut { result.0.memory ≡ true → result.0.cut ≡ false }
-        ensures due_front { LanesBeginDue config.now zone.now (reverse result.0.events.items)
-            result.0.lanes.items }
-        ensures log_front { BeginsLog config.now zone.now (reverse result.0.events.items)
-            result.0.log.items }
-        // a lane whose own memory sufficed has all that was decided,
-        ensures others { LanesKeepDue config.now zone.now (reverse result.0.events.items)
-            result.0.lanes.items }
-        // and every lane is there, where an event was accepted.
-        ensures whole { result.0.events.items ≢ []
-            → length result.0.lanes.items ≡ length config.now.lanes }
-        // Wherever the run began every lane is there; where it didn't, nothing was taken of the feeds.
-        ensures all { result.0.started ≡ true
-            → length result.0.lanes.items ≡ length config.now.lanes }
-        ensures unstarted { result.0.started ≡ false
-            → IsUnread result.0.events.items result.0.refused.items result.0.log.items
-            result.0.lanes.items result.0.memory }
+        // Where the run began every lane is there; where it didn't, nothing was taken of the feeds.
+        ensures started { HasStarted config.now result.0.started result.0.events.items result.0.refused.items
+            result.0.log.items result.0.lanes.items result.0.memory }
         ensures untaken { result.0.started ≡ false → result.1.items ≡ ends.items }
-        // A lane is closed for a cause.
-        ensures causes { HaveCauses (count_of (λ post. post.lane.0) posts.items)
-            result.0.memory result.0.lanes.items }
         // Each lane's channels are given back, in the order of its posts: each is the one that was given, it has taken what its record
         // says and nothing else, and it was replaced only since a letter had failed as often as it may be tried.
         ensures channels { (l : ℕ) (lane cs : _) → slice_get result.0.lanes.items l ≡ Some lane
@@ -182,6 +163,14 @@ impl Engine {
             (channels_on (λ post. post.lane.0) (λ post. post.channel) l posts.items) cs.items }
         ensures places { length result.2.items ≡ length result.0.lanes.items }
     {
+        let setup = Setup {
+            rt,
+            alloc,
+            config,
+            zone,
+            closers,
+            gate,
+        };
         let Ran {
             lanes,
             channels,
@@ -191,16 +180,11 @@ impl Engine {
             started,
             source,
         } = run_source(
-            rt,
-            alloc,
-            config,
-            zone,
+            setup,
             Feeds::new(alloc, ends),
             posts,
             kept_logs(alloc, settings.deciders),
             settings,
-            closers,
-            gate,
         );
         let (events, ends, cut) = source.into_parts(memory);
         let end = RunEnd {

@@ -16,11 +16,11 @@ use crate::post::Post;
 use crate::run_end::LaneEnd;
 use channel::Channel;
 use decider_thread::DeciderLog;
-use delivery_worker::{Closers, Gate};
+use delivery_worker::Gate;
 use due_model::config::Config;
 use due_model::notice::Suppression;
 use due_model::zone::Zone;
-use engine_threads::{Source, ThreadsEnd, run_threads};
+use engine_threads::{Setup, Source, ThreadsEnd, run_threads};
 use std::alloc::{AllocError, Global};
 use std::sync::Wait;
 use std::thread::Threads;
@@ -53,47 +53,40 @@ pub(crate) fn run_source<
     G: Gate + Sync,
     T: Threads + Wait + Clock + Sync,
 >(
-    rt: &T,
-    alloc: Global,
-    config: &Config,
-    zone: &Zone,
+    setup: Setup<'_, Zone, G, T>,
     source: S,
     posts: Vec<Post<C>>,
     logs: Result<Vec<L>, AllocError>,
     settings: Settings,
-    closers: &Closers,
-    gate: &G,
 ) -> Ran<C, S, L>
-    requires accepted { IsAccepted config.now }
+    requires accepted { IsAccepted setup.config.now }
     requires source { S.given_so_far source ≡ [] }
     requires few { (l : ℕ) → count_of (λ post. post.lane.0) posts.items l ≤ 8 }
     // There is a log for each decider, unless a growth was refused for them: then the run doesn't begin.
     requires logs { IfOk logs (λ ls. length ls.items ≡ settings.deciders) }
-    ensures run { IsToldRunOf L.tells config.now zone.now (count_of (λ post. post.lane.0) posts.items)
+    ensures run { IsToldRunOf L.tells L.failed setup.entry.config.now setup.entry.zone.now (count_of (λ post. post.lane.0) posts.items)
         (S.given_so_far result.source) result.memory result.lanes.items (given_logs logs) result.logs.items
         result.log.items }
     ensures channels { (l : ℕ) (lane cs : _) → slice_get result.lanes.items l ≡ Some lane
         → slice_get result.channels.items l ≡ Some cs
-        → HaveTaken C.account C.offered settings.tries config.now lane
+        → HaveTaken C.account C.offered settings.tries setup.entry.config.now lane
         (channels_on (λ p. p.lane.0) (λ p. p.channel) l posts.items) cs.items }
     ensures places { length result.channels.items ≡ length result.lanes.items }
-    ensures source { S.goes config.now source result.source }
+    ensures source { S.goes setup.entry.config.now source result.source }
     ensures over { result.memory ≡ false → S.ended result.source }
     // Where the run began, every lane is there; where it didn't, the source is as it was.
-    ensures all { result.started ≡ true → length result.lanes.items ≡ length config.now.lanes }
+    ensures all { result.started ≡ true → length result.lanes.items ≡ length setup.entry.config.now.lanes }
     ensures unstarted { result.started ≡ false
         → (result.source ≡ source) × (result.memory ≡ true) × (result.lanes.items ≡ [])
         × (result.log.items ≡ []) }
 {
-    let Ok((channels, counts, room)) = begin(alloc, config, posts) else {
-        return nothing(alloc, source);
+    let Ok((channels, counts, room)) = begin(setup.alloc, setup.config, posts) else {
+        return nothing(setup.alloc, source);
     };
     let Ok(logs) = logs else {
-        return nothing(alloc, source);
+        return nothing(setup.alloc, source);
     };
-    let left = run_threads(
-        rt, alloc, config, zone, source, channels, logs, settings, closers, gate,
-    );
+    let left = run_threads(setup, source, channels, logs, settings);
     end_of(left, &counts, room)
 }
 
@@ -124,7 +117,7 @@ fn begin<C: Channel>(
 /// A run in which memory ran out before it began.
 fn nothing<C: Channel, S: Source, L: DeciderLog>(alloc: Global, source: S) -> Ran<C, S, L>
     ensures run { (c : Config) (zone : Zone) (given : ℕ → ℕ) (events : List Event) (logs : List L) → events ≡ []
-        → IsToldRunOf L.tells c zone given events result.memory result.lanes.items logs result.logs.items
+        → IsToldRunOf L.tells L.failed c zone given events result.memory result.lanes.items logs result.logs.items
         result.log.items }
     ensures source { result.source ≡ source }
     ensures memory { result.memory ≡ true }

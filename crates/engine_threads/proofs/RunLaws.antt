@@ -33,7 +33,7 @@ use Rattle.undelivered.specs.declared.Why.TheVariants.{NoMemory}
 use Rattle.engine_threads.specs.Joins.{ArePicked, IsKept, IsMet}
 use Rattle.engine_threads.specs.Lanes.{HasCause, IsServed}
 use Rattle.engine_threads.specs.Logs.{AreInOrder, HasEach}
-use Rattle.engine_threads.specs.Told.{HasRun}
+use Rattle.engine_threads.specs.Told.{HasRun, HaveTold}
 use Rattle.engine_threads.specs.Run.{AreLaneEnds, IsLaneEnd, IsLogOf, IsNamed, IsRun}
 use Rattle.engine_threads.proofs.DueLaws.{LaneRead, about_front, lane_front, lane_named, lane_whole, owner, prefix_then, share_of}
 use Rattle.engine_threads.proofs.JoinLaws.{neither_first, neither_second}
@@ -183,6 +183,26 @@ module _ (laws : Laws) (c : Config) (zone : Zone) (n : ℕ) (queues : List LaneQ
       prefix_then (told d) (suppressed c zone (share_of n d) m.past) (suppressed c zone (share_of n d) past) (e.0.log.items, m.log)
       (subst (λ (es : List Event). IsPrefix (suppressed c zone (share_of n d) m.past) (suppressed c zone (share_of n d) es)) m.older.1 (suppressed_grows c zone (share_of n d) m.older.0 m.past))
 
+  -- one that keeps nothing told all
+  pub told_all : refused ≡ false → (d : ℕ) → d < n → ((e : DeciderEnd) → slice_get ends d ≡ Some e → e.log.items ≡ []) → told d ≡ suppressed c zone (share_of n d) past
+  told_all none d lt empty =
+      let e = its_end d lt in
+      let m = met d e.0 e.1 in
+      sym (append-nil (told d)) ∙ ap (λ (ls : List Suppression). told d ++ ls) (sym (empty e.0 e.1)) ∙ m.log ∙ ap (suppressed c zone (share_of n d)) (m.whole none)
+
+  -- of an object the others keep nothing
+  none_of_others : (o k : ℕ) (f : DeciderEnd) → ¬ (k ≡ o % n) → slice_get ends k ≡ Some f → of_object o f.log.items ≡ []
+  none_of_others o k f apart at =
+      let m = met k f at in
+      rest_none (of_object o (told k)) (of_object o f.log.items)
+      (sym (filter-append (λ (s : Suppression). s.object.0 == o) (told k) f.log.items) ∙ ap (of_object o) m.log ∙ laws.nothing_else c zone (share_of n k) o m.past (ne_eqb (o % n) k (λ is. apart (sym is))))
+
+  -- and where its decider keeps nothing, nothing of it is left
+  pub none_left : (log : List Suppression) → HasEach ends log → (o : ℕ) → ((e : DeciderEnd) → slice_get ends (o % n) ≡ Some e → e.log.items ≡ []) → of_object o log ≡ []
+  none_left log each o empty =
+      let e = its_end (o % n) (owner n o some) in
+      each (λ s. s.object.0 == o) (o % n) e.0 e.1 (λ k f apart at. none_of_others o k f apart at) ∙ ap (of_object o) (empty e.0 e.1)
+
   pub told_front : (o : ℕ) → o < length c.objects → IsPrefix (of_object o (told (o % n))) (sup c zone o past)
   told_front o within =
       subst (λ (ls : List Suppression). IsPrefix (of_object o (told (o % n))) ls) (laws.suppressed c zone (share_of n (o % n)) o past (owns_it n o) within)
@@ -207,11 +227,7 @@ module _ (laws : Laws) (c : Config) (zone : Zone) (n : ℕ) (queues : List LaneQ
       one o within =
           let e = its_end (o % n) (owner n o some) in
           ap (λ (ls : List Suppression). of_object o (told (o % n)) ++ ls)
-          (each (λ s. s.object.0 == o) (o % n) e.0 e.1
-          (λ k f apart at.
-          let m = met k f at in
-          rest_none (of_object o (told k)) (of_object o f.log.items)
-          (sym (filter-append (λ (s : Suppression). s.object.0 == o) (told k) f.log.items) ∙ ap (of_object o) m.log ∙ laws.nothing_else c zone (share_of n k) o m.past (ne_eqb (o % n) k (λ is. apart (sym is))))))
+          (each (λ s. s.object.0 == o) (o % n) e.0 e.1 (λ k f apart at. none_of_others o k f apart at))
           ∙ sym (filter-append (λ (s : Suppression). s.object.0 == o) (told (o % n)) e.0.log.items)
           ∙ ap (of_object o) (its_met o).log
           ∙ laws.suppressed c zone (share_of n (o % n)) o (its_met o).past (owns_it n o) within
@@ -254,6 +270,22 @@ log_any c zone past refused stopped true told log begins whole none = subst (λ 
   order = AllPairs-nil (λ a b. place a ≤ place b);
 })
 
+-- nothing is left of an object, also where memory ran out for the log
+pub left_any : (unmerged : Bool) (o : ℕ) (log : List Suppression) → (unmerged ≡ false → of_object o log ≡ []) → (unmerged ≡ true → log ≡ []) → of_object o log ≡ []
+left_any false o log whole none = whole refl
+left_any true o log whole none = ap (of_object o) (none refl)
+
+-- the same told, where memory ran out in more
+pub told_or : {L : Type 0} (tells : L → List Suppression → L → Type 0) (failed : L → Bool) (c : Config) (zone : Zone) (n : ℕ) (past : List Event) (refused more : Bool) (given back : List L) (told : ℕ → List Suppression)
+    → (more ≡ false → refused ≡ false) → HaveTold tells failed c zone n past refused given back told → HaveTold tells failed c zone n past more given back told
+told_or tells failed c zone n past refused more given back told less have = record {
+  few = have.few;
+  each = have.each;
+  absent = have.absent;
+  begins = have.begins;
+  all = λ none. have.all (less none);
+}
+
 -- where no lane is there
 no_lane : (lanes : List Served) (l : ℕ) (s : Served) → lanes ≡ [] → slice_get lanes l ≡ Some s → ⊥
 no_lane [] l s none at = none-some s at
@@ -278,15 +310,17 @@ run_of_none c zone channels past memory lanes log none no_log out = record {
   };
 }
 
-pub none_has_run : {L : Type 0} (tells : L → List Suppression → L → Type 0) (c : Config) (zone : Zone) (channels : ℕ → ℕ) (past : List Event) (memory : Bool) (lanes : List Served) (log : List Suppression) (given back : List L)
-    → lanes ≡ [] → log ≡ [] → back ≡ [] → memory ≡ true → HasRun tells c zone channels past memory lanes given back log
-none_has_run {L} tells c zone channels past memory lanes log given back none no_log no_logs out = (
+pub none_has_run : {L : Type 0} (tells : L → List Suppression → L → Type 0) (failed : L → Bool) (c : Config) (zone : Zone) (channels : ℕ → ℕ) (past : List Event) (memory : Bool) (lanes : List Served) (log : List Suppression) (given back : List L)
+    → lanes ≡ [] → log ≡ [] → back ≡ [] → memory ≡ true → HasRun tells failed c zone channels past memory lanes given back log
+none_has_run {L} tells failed c zone channels past memory lanes log given back none no_log no_logs out = (
   (λ d. []),
   record {
     few = (let none = ap length no_logs in omega (arith, none));
     absent = λ d ge. refl;
     each = λ d a b at_a at_b. absurd (none-some b (subst (λ (bs : List L). slice_get bs d ≡ Some b) no_logs at_b));
     begins = λ d lt. (suppressed c zone (share_of (length given) d) past, refl);
+    all = λ m. absurd (true≢false (sym out ∙ m));
   },
   run_of_none c zone channels past memory lanes log none no_log out,
+  λ o b at unfailed. ap (of_object o) no_log,
 )

@@ -9,6 +9,7 @@ mod log_merge;
 mod logs;
 mod prepared;
 mod run;
+mod shared;
 mod signals;
 mod source;
 mod starts;
@@ -17,4 +18,5 @@ mod word;
 mod zone;
 
 pub use run::{ThreadsEnd, run_threads};
+pub use shared::Setup;
 pub use source::{Given, Source};

@@ -14,16 +14,15 @@ ghost use Rattle.engine_threads.specs.Works.{AreDeciderWorks, AreNewWorkers, Are
 
 use crate::lane_work::LaneWork;
 use crate::prepared::{Prepared, prepare_all};
+use crate::shared::{Setup, Shared};
 use crate::source::Source;
 use crate::starts::DeciderWork;
 use crate::threads::{Driven, drive};
 use crate::word::StartWord;
 use crate::zone::GivesZone;
 use channel::Channel;
-use channel_queue::LaneQueue;
 use decider_thread::{DeciderLog, Signal};
-use delivery_worker::{Closers, Gate, Served};
-use due_model::config::Config;
+use delivery_worker::{Gate, Served};
 use due_model::notice::Suppression;
 use due_model::zone::Zone;
 use rtrb::Producer;
@@ -64,82 +63,68 @@ fn run_scope<
     G: Gate + Sync,
     R: Threads + Wait + Clock + Sync,
 >(
-    rt: &R,
-    alloc: Global,
-    config: &Config,
-    zone: &Z,
+    shared: Shared<'_, Z, G, R>,
     source: S,
-    halt: &AtomicBool,
     works: Vec<LaneWork<C>>,
     deciders: Vec<DeciderWork>,
     senders: Vec<Producer<Signal>>,
     logs: Vec<L>,
-    tries: u8,
-    queues: &[LaneQueue],
-    closers: &Closers,
-    gate: &G,
-    word: &StartWord,
 ) -> Result<Driven<C, S, L>, S>
-    requires accepted { IsAccepted config.now }
-    requires tries { 0 < tries }
+    requires accepted { IsAccepted shared.config.now }
+    requires tries { 0 < shared.tries }
     requires source { S.given_so_far source ≡ [] }
     requires some { 0 < length deciders.items }
     requires most { length deciders.items ≤ 8 }
-    requires lanes { length queues.now ≡ length config.now.lanes }
-    requires queues { HaveDeciders (length deciders.items) queues.now }
-    requires works { length works.items ≡ length queues.now }
-    requires workers { AreNewWorkers (λ w. w.pass) queues.now works.items }
-    requires deciders { AreDeciderWorks queues.now deciders.items }
+    requires lanes { length shared.queues.now ≡ length shared.config.now.lanes }
+    requires queues { HaveDeciders (length deciders.items) shared.queues.now }
+    requires works { length works.items ≡ length shared.queues.now }
+    requires workers { AreNewWorkers (λ w. w.pass) shared.queues.now works.items }
+    requires deciders { AreDeciderWorks shared.queues.now deciders.items }
     requires senders { length senders.items ≡ length deciders.items }
     requires logs { length logs.items ≡ length deciders.items }
     requires rings { AreRings deciders.items senders.items }
     ensures lanes { IfOk result (λ r. (channels : ℕ → ℕ)
         → ((l : ℕ) (w : _) → slice_get works.items l ≡ Some w → length w.channels.items ≡ channels l)
-        → AreLaneEnds config.now (Z.zone zone.now) channels (reverse (S.given_so_far r.source)) r.refused
+        → AreLaneEnds shared.entry.config.now (Z.zone shared.entry.zone.now) channels (reverse (S.given_so_far r.source)) r.refused
         r.served.items) }
-    ensures log { IfOk result (λ r. HaveLogged L.tells config.now (Z.zone zone.now)
+    ensures log { IfOk result (λ r. HaveLogged L.tells L.failed shared.entry.config.now (Z.zone shared.entry.zone.now)
         (reverse (S.given_so_far r.source)) (r.refused || r.memory) logs.items r.logs.items r.log.items) }
     ensures channels { IfOk result (λ r. (l : ℕ) (w s b : _) → slice_get works.items l ≡ Some w
         → slice_get r.served.items l ≡ Some s → slice_get r.channels.items l ≡ Some b
-        → HaveTaken C.account C.offered tries config.now s w.channels.items b.items) }
+        → HaveTaken C.account C.offered shared.entry.tries shared.entry.config.now s w.channels.items b.items) }
     ensures places { IfOk result (λ r. length r.channels.items ≡ length r.served.items) }
-    ensures source { IfOk result (λ r. S.goes config.now source r.source) }
+    ensures source { IfOk result (λ r. S.goes shared.entry.config.now source r.source) }
     ensures over { IfOk result (λ r. r.memory ≡ false → S.ended r.source) }
     ensures none { IfErr result (λ s. s ≡ source) }
 {
     thread::scope(
         thread::scope_env(),
-        rt,
+        shared.rt,
         move |scope| -> Result<Driven<C, S, L>, S>
-            requires { IsAccepted config.now × (0 < tries) × (S.given_so_far source ≡ [])
+            requires { IsAccepted shared.config.now × (0 < shared.tries) × (S.given_so_far source ≡ [])
                 × (0 < length deciders.items) × (length deciders.items ≤ 8)
-                × (length queues.now ≡ length config.now.lanes)
-                × HaveDeciders (length deciders.items) queues.now
-                × (length works.items ≡ length queues.now)
-                × AreNewWorkers (λ w. w.pass) queues.now works.items
-                × AreDeciderWorks queues.now deciders.items
+                × (length shared.queues.now ≡ length shared.config.now.lanes)
+                × HaveDeciders (length deciders.items) shared.queues.now
+                × (length works.items ≡ length shared.queues.now)
+                × AreNewWorkers (λ w. w.pass) shared.queues.now works.items
+                × AreDeciderWorks shared.queues.now deciders.items
                 × (length senders.items ≡ length deciders.items)
                 × (length logs.items ≡ length deciders.items)
                 × AreRings deciders.items senders.items }
             ensures lanes { IfOk result (λ r. (channels : ℕ → ℕ)
                 → ((l : ℕ) (w : _) → slice_get works.items l ≡ Some w → length w.channels.items ≡ channels l)
-                → AreLaneEnds config.entry.now (Z.zone zone.entry.now) channels
+                → AreLaneEnds shared.entry.config.now (Z.zone shared.entry.zone.now) channels
                 (reverse (S.given_so_far r.source)) r.refused r.served.items) }
-            ensures log { IfOk result (λ r. HaveLogged L.tells config.entry.now (Z.zone zone.entry.now)
+            ensures log { IfOk result (λ r. HaveLogged L.tells L.failed shared.entry.config.now (Z.zone shared.entry.zone.now)
                 (reverse (S.given_so_far r.source)) (r.refused || r.memory) logs.items r.logs.items r.log.items) }
             ensures channels { IfOk result (λ r. (l : ℕ) (w s b : _) → slice_get works.items l ≡ Some w
                 → slice_get r.served.items l ≡ Some s → slice_get r.channels.items l ≡ Some b
-                → HaveTaken C.account C.offered tries config.entry.now s w.channels.items b.items) }
+                → HaveTaken C.account C.offered shared.entry.tries shared.entry.config.now s w.channels.items b.items) }
             ensures places { IfOk result (λ r. length r.channels.items ≡ length r.served.items) }
-            ensures source { IfOk result (λ r. S.goes config.entry.now source r.source) }
+            ensures source { IfOk result (λ r. S.goes shared.entry.config.now source r.source) }
             ensures over { IfOk result (λ r. r.memory ≡ false → S.ended r.source) }
             ensures none { IfErr result (λ s. s ≡ source) }
-        {
-            drive(
-                scope, rt, alloc, config, zone, source, halt, works, deciders, senders, logs,
-                tries, queues, closers, gate, word,
-            )
-        },
+        { drive(scope, shared, source, works, deciders, senders, logs) },
     )
 }
 
@@ -185,8 +170,10 @@ fn end_of<C: Channel, S: Source, L: DeciderLog>(driven: Driven<C, S, L>) -> Thre
         → IsRun c zone channels past result.memory result.lanes.items told result.log.items }
     ensures source { result.source ≡ driven.source }
     ensures memory { result.memory ≡ false → driven.memory ≡ false }
+    ensures refused { result.memory ≡ false → (driven.refused || driven.memory) ≡ false }
     ensures lanes { result.lanes.items ≡ driven.served.items }
     ensures channels { result.channels.items ≡ driven.channels.items }
+    ensures log { result.log.items ≡ driven.log.items }
     ensures logs { result.logs.items ≡ driven.logs.items }
     ensures started { result.started ≡ true }
 {
@@ -222,46 +209,41 @@ pub fn run_threads<
     G: Gate + Sync,
     R: Threads + Wait + Clock + Sync,
 >(
-    rt: &R,
-    alloc: Global,
-    config: &Config,
-    zone: &Zone,
+    setup: Setup<'_, Zone, G, R>,
     source: S,
     given: Vec<Vec<C>>,
     logs: Vec<L>,
     settings: Settings,
-    closers: &Closers,
-    gate: &G,
 ) -> ThreadsEnd<C, S, L>
-    requires accepted { IsAccepted config.now }
+    requires accepted { IsAccepted setup.config.now }
     requires source { S.given_so_far source ≡ [] }
-    requires lanes { length given.items ≡ length config.now.lanes }
+    requires lanes { length given.items ≡ length setup.config.now.lanes }
     // There is a log for each decider.
     requires logs { length logs.items ≡ settings.deciders }
     requires few { (l : ℕ) (c : _) → slice_get given.items l ≡ Some c → length c.items ≤ 8 }
     ensures run { (channels : ℕ → ℕ)
         → ((l : ℕ) (c : _) → slice_get given.items l ≡ Some c → length c.items ≡ channels l)
-        → HasRun L.tells config.now zone.now channels (reverse (S.given_so_far result.source)) result.memory
+        → HasRun L.tells L.failed setup.entry.config.now setup.entry.zone.now channels (reverse (S.given_so_far result.source)) result.memory
         result.lanes.items logs.items result.logs.items result.log.items }
     // Each lane's channels are given back in their places, and each has taken what its record says.
     ensures channels { (l : ℕ) (c s b : _) → slice_get given.items l ≡ Some c
         → slice_get result.lanes.items l ≡ Some s → slice_get result.channels.items l ≡ Some b
-        → HaveTaken C.account C.offered settings.tries config.now s c.items b.items }
+        → HaveTaken C.account C.offered settings.tries setup.entry.config.now s c.items b.items }
     ensures places { length result.channels.items ≡ length result.lanes.items }
-    ensures source { S.goes config.now source result.source }
+    ensures source { S.goes setup.entry.config.now source result.source }
     ensures over { result.memory ≡ false → S.ended result.source }
-    ensures few { length result.lanes.items ≤ length config.now.lanes }
+    ensures few { length result.lanes.items ≤ length setup.entry.config.now.lanes }
     ensures whole { S.given_so_far result.source ≢ []
-        → length result.lanes.items ≡ length config.now.lanes }
+        → length result.lanes.items ≡ length setup.entry.config.now.lanes }
     // Where the threads began, every lane is there; where they didn't, the source is as it was.
-    ensures all { result.started ≡ true → length result.lanes.items ≡ length config.now.lanes }
+    ensures all { result.started ≡ true → length result.lanes.items ≡ length setup.entry.config.now.lanes }
     ensures unstarted { result.started ≡ false
         → (result.source ≡ source) × (result.memory ≡ true) × (result.lanes.items ≡ [])
         × (result.log.items ≡ []) }
 {
     let capacity = usize::from(settings.queue);
-    let Ok(prepared) = prepare_all(alloc, given, settings.deciders, capacity) else {
-        return nothing(alloc, source);
+    let Ok(prepared) = prepare_all(setup.alloc, given, settings.deciders, capacity) else {
+        return nothing(setup.alloc, source);
     };
     let Prepared {
         queues,
@@ -271,24 +253,20 @@ pub fn run_threads<
     } = prepared;
     let word = StartWord::new();
     let halt = AtomicBool::new(false);
-    match run_scope(
-        rt,
-        alloc,
-        config,
-        zone,
-        source,
-        &halt,
-        works,
-        deciders,
-        senders,
-        logs,
-        settings.tries,
-        queues.as_slice(),
-        closers,
-        gate,
-        &word,
-    ) {
+    let shared = Shared {
+        rt: setup.rt,
+        alloc: setup.alloc,
+        config: setup.config,
+        zone: setup.zone,
+        closers: setup.closers,
+        gate: setup.gate,
+        queues: queues.as_slice(),
+        word: &word,
+        halt: &halt,
+        tries: settings.tries,
+    };
+    match run_scope(shared, source, works, deciders, senders, logs) {
         Ok(driven) => end_of(driven),
-        Err(source) => nothing(alloc, source),
+        Err(source) => nothing(setup.alloc, source),
     }
 }

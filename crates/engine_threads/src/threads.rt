@@ -16,22 +16,19 @@ use crate::ends::meet_all;
 use crate::joins::{join_all, join_lanes};
 use crate::lane_work::LaneWork;
 use crate::logs::merge_logs;
+use crate::shared::Shared;
 use crate::signals::feed_from;
 use crate::source::Source;
 use crate::starts::{DeciderWork, start_deciders, start_lanes};
-use crate::word::StartWord;
 use crate::zone::GivesZone;
 use channel::Channel;
-use channel_queue::LaneQueue;
 use decider_thread::laws::made_of_share;
 use decider_thread::{DeciderEnd, DeciderLog, Signal};
-use delivery_worker::{Closers, Gate, Served};
-use due_model::config::Config;
+use delivery_worker::{Gate, Served};
 use due_model::notice::Suppression;
 use rtrb::Producer;
 use std::alloc::Global;
 use std::sync::Wait;
-use std::sync::atomic::AtomicBool;
 use std::thread::{Scope, Threads};
 use std::time::Clock;
 
@@ -76,32 +73,23 @@ pub(crate) fn drive<
     R: Threads + Wait + Clock + Sync,
 >(
     scope: &'s Scope<'s, E>,
-    rt: &'s R,
-    alloc: Global,
-    config: &'s Config,
-    zone: &'s Z,
+    shared: Shared<'s, Z, G, R>,
     source: S,
-    halt: &'s AtomicBool,
     works: Vec<LaneWork<C>>,
     deciders: Vec<DeciderWork>,
     senders: Vec<Producer<Signal>>,
     logs: Vec<L>,
-    tries: u8,
-    queues: &'s [LaneQueue],
-    closers: &'s Closers,
-    gate: &'s G,
-    word: &'s StartWord,
 ) -> Result<Driven<C, S, L>, S>
-    requires accepted { IsAccepted config.now }
-    requires tries { 0 < tries }
+    requires accepted { IsAccepted shared.config.now }
+    requires tries { 0 < shared.tries }
     requires source { S.given_so_far source ≡ [] }
     requires some { 0 < length deciders.items }
     requires most { length deciders.items ≤ 8 }
-    requires lanes { length queues.now ≡ length config.now.lanes }
-    requires queues { HaveDeciders (length deciders.items) queues.now }
-    requires works { length works.items ≡ length queues.now }
-    requires workers { AreNewWorkers (λ w. w.pass) queues.now works.items }
-    requires deciders { AreDeciderWorks queues.now deciders.items }
+    requires lanes { length shared.queues.now ≡ length shared.config.now.lanes }
+    requires queues { HaveDeciders (length deciders.items) shared.queues.now }
+    requires works { length works.items ≡ length shared.queues.now }
+    requires workers { AreNewWorkers (λ w. w.pass) shared.queues.now works.items }
+    requires deciders { AreDeciderWorks shared.queues.now deciders.items }
     requires senders { length senders.items ≡ length deciders.items }
     requires logs { length logs.items ≡ length deciders.items }
     requires unsent { HaveSent [] senders.items }
@@ -109,46 +97,49 @@ pub(crate) fn drive<
         → slice_get senders.items d ≡ Some p → IsPair p w.ring }
     ensures lanes { IfOk result (λ r. (channels : ℕ → ℕ)
         → ((l : ℕ) (w : _) → slice_get works.items l ≡ Some w → length w.channels.items ≡ channels l)
-        → AreLaneEnds config.now (Z.zone zone.now) channels (reverse (S.given_so_far r.source)) r.refused
+        → AreLaneEnds shared.entry.config.now (Z.zone shared.entry.zone.now) channels (reverse (S.given_so_far r.source)) r.refused
         r.served.items) }
-    ensures log { IfOk result (λ r. HaveLogged L.tells config.now (Z.zone zone.now)
+    ensures log { IfOk result (λ r. HaveLogged L.tells L.failed shared.entry.config.now (Z.zone shared.entry.zone.now)
         (reverse (S.given_so_far r.source)) (r.refused || r.memory) logs.items r.logs.items r.log.items) }
     ensures channels { IfOk result (λ r. (l : ℕ) (w s b : _) → slice_get works.items l ≡ Some w
         → slice_get r.served.items l ≡ Some s → slice_get r.channels.items l ≡ Some b
-        → HaveTaken C.account C.offered tries config.now s w.channels.items b.items) }
+        → HaveTaken C.account C.offered shared.entry.tries shared.entry.config.now s w.channels.items b.items) }
     ensures places { IfOk result (λ r. length r.channels.items ≡ length r.served.items) }
-    ensures source { IfOk result (λ r. S.goes config.now source r.source) }
+    ensures source { IfOk result (λ r. S.goes shared.entry.config.now source r.source) }
     ensures over { IfOk result (λ r. r.memory ≡ false → S.ended r.source) }
     ensures none { IfErr result (λ s. s ≡ source) }
 {
-    let Some(lanes) = start_lanes(
-        scope, rt, alloc, config, works, tries, queues, closers, gate, word,
-    ) else {
-        word.leave();
+    let Some(lanes) = start_lanes(scope, shared, works) else {
+        shared.word.leave();
         return Err(source);
     };
-    let Some(ends) = start_deciders(
-        scope, rt, alloc, config, zone, deciders, logs, queues, gate, halt, word,
-    ) else {
-        word.leave();
+    let Some(ends) = start_deciders(scope, shared, deciders, logs) else {
+        shared.word.leave();
         return Err(source);
     };
     let (Some((ended, told)), Some((left, places))) = (
-        rooms(alloc, ends.len()),
-        rooms(alloc, lanes.len()),
+        rooms(shared.alloc, ends.len()),
+        rooms(shared.alloc, lanes.len()),
     ) else {
-        word.leave();
+        shared.word.leave();
         return Err(source);
     };
-    word.go();
+    shared.word.go();
     let mut senders = senders;
     let mut source = source;
-    let stopped = feed_from(rt, config, &mut senders, &mut source, gate, halt);
-    let (ends, logs) = join_all(rt, ends, ended, told);
-    let (mut served, channels) = join_lanes(rt, lanes, left, places);
+    let stopped = feed_from(
+        shared.rt,
+        shared.config,
+        &mut senders,
+        &mut source,
+        shared.gate,
+        shared.halt,
+    );
+    let (ends, logs) = join_all(shared.rt, ends, ended, told);
+    let (mut served, channels) = join_lanes(shared.rt, lanes, left, places);
     made_of_share();
-    let (log, unmerged) = merged_log(alloc, &ends);
-    let refused = meet_all(queues, &mut served, ends, &mut senders);
+    let (log, unmerged) = merged_log(shared.alloc, &ends);
+    let refused = meet_all(shared.queues, &mut served, ends, &mut senders);
     let memory = stopped | unmerged;
     Ok(Driven {
         served,

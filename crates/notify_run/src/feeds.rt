@@ -1,11 +1,11 @@
 //! The runs of a feed: of standard input, of a file, and those that go on where earlier ones have ended.
 
-use crate::status_of_run;
-use command_line::FeedWords;
+use crate::{status_of_run, status_of_words};
+use command_line::{FeedWords, LogWords};
 use command_output::AnyWriter;
 use due_model::zone::Zone;
 use feed_file::{Feed, FeedFile, FeedWays};
-use run_devices::{RunSettings, do_run};
+use run_devices::{LoggedWords, RunSettings, do_logged_run, do_run};
 use run_resumed::{ResumeFault, ResumedSettings, StateSettings, do_resumed_run};
 use std::io;
 use std::process::ExitCode;
@@ -36,8 +36,12 @@ pub(crate) fn status_of_feed<T: Threads + Wait + Clock + Sync>(
     objects: &str,
     settings: RunSettings,
     channels: Option<&[&str]>,
+    log: LogWords<'_>,
     feed: FeedWords<'_>,
 ) -> ExitCode {
+    if log.file.is_some() && feed.state.folder.is_some() {
+        return status_of_words(rt, "--log and --state");
+    }
     let Ok(opened) = feed_of(rt, feed, settings.quiet) else {
         let path = feed.file.unwrap_or("");
         let _ = rt.eprintln(format_args!("feed: {path}: not opened"));
@@ -56,8 +60,34 @@ pub(crate) fn status_of_feed<T: Threads + Wait + Clock + Sync>(
             };
             status_of_resumed(rt, threads, zone, objects, settings, channels, opened)
         }
-        None => status_of_new(rt, threads, zone, objects, settings, channels, opened),
+        None => match log.file {
+            Some(file) => {
+                let words = LoggedWords {
+                    objects,
+                    channels,
+                    log: file,
+                    fold: log.fold,
+                };
+                status_of_logged(rt, threads, zone, words, settings, opened)
+            }
+            None => status_of_new(rt, threads, zone, objects, settings, channels, opened),
+        },
     }
+}
+
+/// Does a run that writes its report as it goes, and gives its exit status.
+fn status_of_logged<T: Threads + Wait + Clock + Sync>(
+    rt: &HostRuntime,
+    threads: &T,
+    zone: &Zone,
+    words: LoggedWords<'_, '_>,
+    settings: RunSettings,
+    feed: Feed<Stdin>,
+) -> ExitCode {
+    let feed = AnyReader::new(feed);
+    let mut writer = AnyWriter::new(rt.stdout());
+    let outcome = do_logged_run(rt, threads, zone, words, settings, feed, &mut writer);
+    status_of_run(rt, outcome)
 }
 
 /// Does a run that knows of no other, and gives its exit status.

@@ -309,6 +309,7 @@ fn status_of_request<T: Threads + Wait + Clock + Sync>(
             times,
             quiet,
             ahead,
+            log,
             feed,
             ..
         } => {
@@ -319,7 +320,7 @@ fn status_of_request<T: Threads + Wait + Clock + Sync>(
                 quiet,
                 ahead,
             };
-            return status_of_feed(rt, threads, &zone, objects, settings, channels, feed);
+            return status_of_feed(rt, threads, &zone, objects, settings, channels, log, feed);
         }
     };
     status_of(rt, outcome)

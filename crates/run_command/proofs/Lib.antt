@@ -1,1 +1,2 @@
+mod LoggedLaws
 mod ReportLaws

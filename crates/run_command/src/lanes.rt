@@ -80,7 +80,7 @@ fn write_records<W: Sink>(
 }
 
 /// Makes the lines of how many each channel of a lane has taken, where it was given several.
-fn write_channels<W: Sink>(
+pub(crate) fn write_channels<W: Sink>(
     lines: &mut Lines,
     writer: &mut W,
     config: &Config,

@@ -9,16 +9,22 @@ ghost use Rattle.command_output.specs.Outcome.{IsWriteFault};
 ghost use Rattle.written.specs.Written.{Writes, WritesFront};
 ghost use Rattle.run_command.specs.Report.{WritesReport, WritesReportFront, ending_of, report_text};
 
+mod ends;
 mod feed_lines;
 mod lanes;
+mod line_log;
+mod logged;
+mod repeats;
 
 use channel::Channel;
 use command_output::{CommandFault, Ending, Lines, Sink};
 use due_model::config::Config;
 use due_model::zone::Zone;
-use engine::{Closers, Engine, Gate, Horizon, LimitedFeed, Post, RunEnd, Settings};
+use engine::{Closers, Engine, Gate, Horizon, LimitedFeed, Post, RunEnd, Settings, Setup};
 use feed_lines::{write_log, write_refused};
 use lanes::{has_undelivered, write_lanes};
+pub use line_log::LineLog;
+pub use logged::{LoggedEnd, run_logged};
 use progress::Watcher;
 use std::alloc::Global;
 use std::sync::Wait;
@@ -74,9 +80,15 @@ pub fn run<
     ensures fault { IfErr result.0 (λ fault. IsWriteFault W.can_fail fault) }
 {
     let room = Lines::new(alloc);
-    let (end, channels) = Engine::run_within(
-        rt, alloc, config, zone, feed, posts, settings, closers, gate,
-    );
+    let setup = Setup {
+        rt,
+        alloc,
+        config,
+        zone,
+        closers,
+        gate,
+    };
+    let (end, channels) = Engine::run_within(setup, feed, posts, settings);
     watcher.make_way();
     match room {
         Ok(lines) => (

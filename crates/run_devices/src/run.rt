@@ -15,6 +15,7 @@ use crate::horizon::ClockHorizon;
 use crate::settings::RunSettings;
 use crate::teller::{Teller, teller_of};
 use crate::watched::Watched;
+use crate::watcher::RunWatcher;
 use channel::Channel;
 use channel_words::{ChannelWord, lanes_of, read_words};
 use command_input::read_object_file;
@@ -77,7 +78,7 @@ pub fn do_run<'a, T: Threads + Wait + Clock + Sync, R: Input + Drop, W: Sink>(
 }
 
 /// The configuration of the object text, the lanes that words name, and their channels, one for each in order.
-fn open_words<'a>(
+pub(crate) fn open_words<'a>(
     rt: &HostRuntime,
     objects: &str,
     channels: Option<&[&'a str]>,
@@ -153,6 +154,16 @@ pub fn posts_of(
         posts.push(Post { lane, channel })?;
     }
     Ok(posts)
+}
+
+/// What a run counts by, and who shows it. A refused growth is the only error.
+pub(crate) fn watch<'r, T: Threads>(
+    rt: &'r HostRuntime,
+    threads: &'r T,
+) -> Result<(Arc<Counts, Global>, RunWatcher<'r, T>), AllocError> {
+    let counts = Arc::new(rt.alloc(), Counts::new())?;
+    let watcher = RunWatcher::new(rt, threads, Arc::try_clone(&counts)?);
+    Ok((counts, watcher))
 }
 
 /// Reads a feed, with these posts, where of several for one lane the first serves and each other where the one before has failed. What is

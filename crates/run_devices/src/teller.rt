@@ -43,7 +43,7 @@ impl Teller {
     }
 
     /// Says a line.
-    fn say(&self, text: &str) {
+    pub(crate) fn say(&self, text: &str) {
         if self.is_quiet {
             return;
         }

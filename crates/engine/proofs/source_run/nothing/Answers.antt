@@ -3,4 +3,4 @@ use Rattle.engine.proofs.RunEndLaws.{none_told_ran}
 use Rattle.engine.proofs.source_run.nothing.Goals as goal
 
 pub returns-clause-run : goal.returns-clause-run
-returns-clause-run g c = λ config zone posted events logs none. none_told_ran g.L.DeciderLog.tells config zone posted events _ _ _ logs _ none (search rules) (search rules) (search rules) refl
+returns-clause-run g c = λ config zone posted events logs none. none_told_ran g.L.DeciderLog.tells g.L.DeciderLog.failed config zone posted events _ _ _ logs _ none (search rules) (search rules) (search rules) refl

@@ -4,7 +4,7 @@ use Rattle.engine_threads.proofs.lane_work.serve_lane.Goals as goal
 
 pub returns-clause-served : goal.returns-clause-served
 returns-clause-served g c =
-    let s = c.serve.ensures in
+    let s = c.serve-served.ensures in
     let channels = c.args.work.channels.items in record {
       worker = s.worker;
       ended = s.ended;

@@ -16,9 +16,9 @@ pub loop-work-preserved : goal.loop-work-preserved
 loop-work-preserved g c =
     let inv = c.loop-work.invariant in
     let items : c.push.new.self.items ≡ c.loop-work.handles.items ++ c.in_ok-handle.handle ∷ [] = search rules in
-    let config : c.in_ok-handle.handle.promise.config.now ≡ c.args.config.now = search rules in
-    let zone : c.in_ok-handle.handle.promise.zone.now ≡ c.args.zone.now = search rules in
-    let queues : c.in_ok-handle.handle.promise.queues.now ≡ c.args.queues.now = search rules in
+    let config : c.in_ok-handle.handle.promise.config.now ≡ c.args.shared.config.now = search rules in
+    let zone : c.in_ok-handle.handle.promise.zone.now ≡ c.args.shared.zone.now = search rules in
+    let queues : c.in_ok-handle.handle.promise.queues.now ≡ c.args.shared.queues.now = search rules in
     let made : c.in_ok-handle.handle.promise.share ≡ record { decider = c.len-in-loop-work.result; deciders = c.len-deciders.result } = search rules in
     let number : c.len-in-loop-work.result ≡ length c.loop-work.yielded = search rules in
     let count : c.len-deciders.result ≡ length c.args.works.items = search rules in
@@ -26,7 +26,7 @@ loop-work-preserved g c =
     let log : c.in_ok-handle.handle.promise.log.value ≡ c.in-Some-next.log = search rules in
     let ring : c.in_ok-handle.handle.promise.ring.value ≡ c.in-Some.work.ring = search rules in (
       both_longer c.loop-work.yielded c.loop-work.handles.items c.push.new.self.items c.in-Some.work c.in_ok-handle.handle items inv.0,
-      rw items (pairs_grow (λ d w h. (h.promise.config.now ≡ c.args.config.now) × (h.promise.zone.now ≡ c.args.zone.now) × (h.promise.queues.now ≡ c.args.queues.now) × (h.promise.share ≡ record { decider = d; deciders = length c.args.works.items }) × (h.promise.ring.value ≡ w.ring)) c.loop-work.yielded c.loop-work.handles.items c.in-Some.work c.in_ok-handle.handle inv.0 inv.1 (config, zone, queues, share, ring)),
+      rw items (pairs_grow (λ d w h. (h.promise.config.now ≡ c.args.shared.config.now) × (h.promise.zone.now ≡ c.args.shared.zone.now) × (h.promise.queues.now ≡ c.args.shared.queues.now) × (h.promise.share ≡ record { decider = d; deciders = length c.args.works.items }) × (h.promise.ring.value ≡ w.ring)) c.loop-work.yielded c.loop-work.handles.items c.in-Some.work c.in_ok-handle.handle inv.0 inv.1 (config, zone, queues, share, ring)),
       next_rest c.loop-work.yielded c.in-Some.work (into_iter_items c.loop-work.work-iterator) (into_iter_items c.next.new.self) c.args.works.items c.in-Some.ensures.steps.0 inv.2,
       more_logs (λ h. h.promise.log.value) c.args.logs.items (into_iter_items c.loop-work.rest) (into_iter_items c.next-in-loop-work.new.self) c.loop-work.handles.items c.push.new.self.items c.in-Some-next.log c.in_ok-handle.handle c.in-Some-next.ensures.items items log inv.3,
     )

@@ -1,0 +1,8 @@
+use Rattle.std.proofs.Common.{◌++◌, flat_map, take}
+use Rattle.written.specs.Written.{Leaves}
+use Rattle.run_command.specs.Report.{end_lines}
+use Rattle.run_command.proofs.ends.write_ends.Given as goal
+
+abbrev pub invariant-loop-lane : goal.invariant-loop-lane
+invariant-loop-lane g l =
+    Leaves (g.W.Write.contents l.fn.writer) (g.W.Write.contents l.writer) (l.fn.lines ++ flat_map (end_lines l.config) (take l.lane-index l.lanes)) l.lines

@@ -1,0 +1,9 @@
+use Rattle.std.proofs.Common.{◌≡◌, ◌++◌, [], flat_map, take}
+use Rattle.written.specs.Written.{Leaves}
+use Rattle.command_output.specs.ReportLine.{suppression_line}
+use Rattle.run_command.proofs.line_log.write_each.Given as goal
+
+abbrev pub invariant-loop-suppression : goal.invariant-loop-suppression
+invariant-loop-suppression g l =
+    (l.lost ≡ 0 → Leaves (g.W.Write.contents l.fn.writer) (g.W.Write.contents l.writer) (l.fn.lines ++ flat_map (suppression_line l.config) (take l.suppression-index l.told)) l.lines)
+    × (l.lost ≡ 0 → l.fn.lines ≡ [] → l.lines ≡ [])
