@@ -17,7 +17,7 @@ use std::sync::Arc;
 pub type ResumedChannel = Journaled<SentChannel, FileJournal>;
 
 /// Puts each channel over its journal, by what earlier runs left of its lane.
-pub(crate) fn resumed_posts(
+pub fn resumed_posts(
     alloc: Global,
     folder: &Folder,
     config: &Arc<Config, Global>,
