@@ -11,7 +11,7 @@ _notify_run() {
         esac
     done
     case "$command $before" in
-        "replay --objects" | "replay --zone-file" | "trace --zone-file" | "run --objects" | "run --log" | "run --zone-file" | "who --objects" | "who --zone-file")
+        "replay --objects" | "replay --zone-file" | "trace --zone-file" | "run --objects" | "run --log" | "run --feed" | "run --zone-file" | "who --objects" | "who --zone-file")
             mapfile -t COMPREPLY < <(compgen -f -- "$word")
             return
             ;;
@@ -21,7 +21,7 @@ _notify_run() {
         "") words="replay trace run who -h --help -V --version" ;;
         replay) words="--objects --only --object --contact --json --zone --zone-file -h --help" ;;
         trace) words="--deciders --standbys --queue --tries --zone --zone-file -h --help" ;;
-        run) words="--objects --deciders --queue --tries --timeout --pause --ahead --log --fold --quiet --zone --zone-file -h --help" ;;
+        run) words="--objects --deciders --queue --tries --timeout --pause --ahead --log --fold --quiet --feed --follow --clock --state --in-doubt --from-now --zone --zone-file -h --help" ;;
         who) words="--objects --at --for --down --zone --zone-file -h --help" ;;
     esac
     mapfile -t COMPREPLY < <(compgen -W "$words" -- "$word")

@@ -1,5 +1,6 @@
 -- What the words of a command line ask, and which words there are.
-use Rattle.std.specs.Prelude.{◌≡◌, ℕ, ◌<◌, ◌≤◌, ◌^◌, IfNone, IfSome, Bool, not, ◌||◌, ◌==◌, List, [], ◌∷◌, map, Option, None, Some, pos, true, false, codes, is_some}
+use Rattle.std.specs.Prelude.{◌≡◌, ℕ, ◌<◌, ◌≤◌, ◌^◌, IfNone, IfSome, Bool, not, ◌&&◌, ◌||◌, ◌==◌, List, [], ◌∷◌, map, Option, None, Some, pos, true, false, codes, is_none, is_some, if◌then◌else◌}
+use Rattle.std.specs.Str.{bytes_eq}
 use Rattle.std.specs.List.{list_all}
 use Rattle.std.specs.Option.{option_copied, option_map, option_map_or}
 use Rattle.std.specs.Str.Parse.{digits_value, IsNumeral, without_leading_plus}
@@ -13,9 +14,13 @@ use Rattle.steps.specs.declared.settings.Settings.{Settings}
 use Rattle.steps.specs.Settings.{AreSettings, max_channels}
 use Rattle.clap.specs.declared.builder.action.ArgAction.TheVariants.{Append, SetTrue}
 use Rattle.clap.specs.declared.builder.value_parser.ValueParser.TheVariants.{Signed}
+use Rattle.command_line.specs.declared.words.FeedFault.{FeedFault}
+use Rattle.command_line.specs.declared.words.FeedFault.TheVariants.{Ahead, BadDoubt, NoFeed, NoState}
+use Rattle.command_line.specs.declared.words.FeedWords.{FeedWords}
 use Rattle.command_line.specs.declared.words.LogWords.{LogWords}
 use Rattle.command_line.specs.declared.words.Request.{Request}
 use Rattle.command_line.specs.declared.words.ShownWords.{ShownWords}
+use Rattle.command_line.specs.declared.words.StateWords.{StateWords}
 use Rattle.command_line.specs.declared.words.TryTimes.{TryTimes}
 use Rattle.command_line.specs.declared.words.WhoWords.{WhoWords}
 use Rattle.command_line.specs.declared.words.ZoneWords.{ZoneWords}
@@ -25,14 +30,14 @@ use Rattle.command_line.specs.declared.words.Request.TheVariants.{Replay, Trace,
 abbrev pub request_name : Request → List ℕ
 request_name (Replay objects zone shown) = codes "replay"
 request_name (Trace settings standbys zone) = codes "trace"
-request_name (Run objects settings zone channels times quiet ahead log) = codes "run"
+request_name (Run objects settings zone channels times quiet ahead log feed) = codes "run"
 request_name (Who objects zone asked) = codes "who"
 
 -- in a trace fewer channels stand by than a lane may have
 abbrev pub AreSettingsFit : Request → Type 0
 AreSettingsFit (Replay objects zone shown) = Unit {0}
 AreSettingsFit (Trace settings standbys zone) = standbys < max_channels
-AreSettingsFit (Run objects settings zone channels times quiet ahead log) = Unit {0}
+AreSettingsFit (Run objects settings zone channels times quiet ahead log feed) = Unit {0}
 AreSettingsFit (Who objects zone asked) = Unit {0}
 
 -- the texts that the options of a command hold of the zone
@@ -64,6 +69,19 @@ abbrev pub HoldsAnyNumber : Found → (name : List ℕ) → (number : Option ℕ
 HoldsAnyNumber options name (Some number) = HoldsNumber options name number
 HoldsAnyNumber options name None =
     (number : ℕ) → HoldsNumber options name number → number < 2 ^ 32 → ⊥
+
+-- what the options of `run` hold of what it keeps
+pub record IsStateOf (options : Found) (state : StateWords) : Type 0 where
+  pub folder : option_copied state.folder ≡ first_value options (codes "state")
+  pub in_doubt : option_copied state.in_doubt ≡ first_value options (codes "in-doubt")
+  pub from_now : IsFlag options (codes "from-now") state.from_now
+
+-- what the options of `run` hold of where its feed is read from
+pub record IsFeedOf (options : Found) (feed : FeedWords) : Type 0 where
+  pub file : option_copied feed.file ≡ first_value options (codes "feed")
+  pub follow : IsFlag options (codes "follow") feed.follow
+  pub clock : IsFlag options (codes "clock") feed.clock
+  pub state : IsStateOf options feed.state
 
 -- the numbers that the options of a command hold of a lane
 pub record HoldSettings (options : Found) (settings : Settings) : Type 0 where
@@ -125,7 +143,7 @@ RunLacks options = (deciders : ℕ) → is_some (first_value options (codes "obj
 
 -- What the options of a command hold: of `replay` the file of the object text, if it is given, and which lines are wanted; of
 -- `trace` the settings and how many channels stand by; of `run` the file, the settings, the times, how far ahead a stamp may be, where
--- its report goes, and the channel words; of `who` the file and what is supposed; and of each the zone.
+-- its report goes, where the feed is read from, and the channel words; of `who` the file and what is supposed; and of each the zone.
 abbrev pub IsRequestOf : Found → Request → Type 0
 IsRequestOf options (Replay objects zone shown) =
     (option_copied objects ≡ first_value options (codes "objects")) × IsZoneOf options zone
@@ -134,11 +152,11 @@ IsRequestOf options (Trace settings standbys zone) =
     HoldsNumber options (codes "deciders") settings.deciders
     × HoldsNumber options (codes "standbys") standbys
     × HoldSettings options settings × IsZoneOf options zone
-IsRequestOf options (Run objects settings zone channels times quiet ahead log) =
+IsRequestOf options (Run objects settings zone channels times quiet ahead log feed) =
     (Some objects.now ≡ first_value options (codes "objects"))
     × HoldsNumber options (codes "deciders") settings.deciders × HoldSettings options settings × IsZoneOf options zone
     × HoldTimes options times × IsFlag options (codes "quiet") quiet
-    × HoldsAnyNumber options (codes "ahead") ahead × IsLogOf options log
+    × HoldsAnyNumber options (codes "ahead") ahead × IsLogOf options log × IsFeedOf options feed
     × (option_map (λ words. map (λ word. word.now) words.now) channels
     ≡ option_map raw_values (matched_of options (codes "channel")))
 IsRequestOf options (Who objects zone asked) =
@@ -160,8 +178,32 @@ IsMetWith matches name so = (options : Found)
 abbrev pub request_zone : Request → ZoneWords
 request_zone (Replay objects zone shown) = zone
 request_zone (Trace settings standbys zone) = zone
-request_zone (Run objects settings zone channels times quiet ahead log) = zone
+request_zone (Run objects settings zone channels times quiet ahead log feed) = zone
 request_zone (Who objects zone asked) = zone
+
+-- letters in doubt are given up
+abbrev pub drops_doubt : StateWords → Bool
+drops_doubt state = option_map_or (λ word. bytes_eq word (codes "drop")) (option_copied state.in_doubt) false
+
+-- it says what becomes of them, or is left out
+abbrev pub is_doubt_word : Option (List ℕ) → Bool
+is_doubt_word word = option_map_or (λ w. bytes_eq w (codes "again") || bytes_eq w (codes "drop")) word true
+
+-- The first of these is wrong: it says how a file is read, or what is kept for it, and names none; it says how what is kept is used, and
+-- names no folder; what becomes of letters in doubt is no such word; it keeps what it has done, and limits how far ahead a stamp may be.
+abbrev pub fault_of : FeedWords → (ahead : Option ℕ) → Option FeedFault
+fault_of feed ahead =
+    if is_none feed.file && (feed.follow || feed.clock || is_some feed.state.folder) then Some NoFeed
+    else if is_none feed.state.folder && (is_some feed.state.in_doubt || feed.state.from_now) then Some NoState
+    else if not (is_doubt_word (option_copied feed.state.in_doubt)) then Some BadDoubt
+    else if is_some feed.state.folder && is_some ahead then Some Ahead
+    else None
+
+abbrev pub feed_fault : Request → Option FeedFault
+feed_fault (Replay objects zone shown) = None
+feed_fault (Trace settings standbys zone) = None
+feed_fault (Run objects settings zone channels times quiet ahead log feed) = fault_of feed ahead
+feed_fault (Who objects zone asked) = None
 
 -- it gives a rule and a file
 abbrev pub AreTwo : ZoneWords → Type 0
@@ -184,7 +226,7 @@ has_bad_letters words =
 abbrev pub asks_bad_letters : Request → Bool
 asks_bad_letters (Replay objects zone shown) = has_bad_letters shown
 asks_bad_letters (Trace settings standbys zone) = false
-asks_bad_letters (Run objects settings zone channels times quiet ahead log) = false
+asks_bad_letters (Run objects settings zone channels times quiet ahead log feed) = false
 asks_bad_letters (Who objects zone asked) = false
 
 -- `--NAME NUMBER`, with a number from `least` to `most`, or with `default` where it is left out
@@ -261,20 +303,30 @@ with_try_options app =
     (number_option (codes "timeout") (codes "30") 1 3600))
     (number_option (codes "pause") (codes "1") 0 60)
 
+-- three say where the feed is read from, and how
+abbrev pub with_feed_options : App → App
+with_feed_options app =
+    with_rule (with_rule (with_rule app (text_option (codes "feed"))) (flag_option (codes "follow"))) (flag_option (codes "clock"))
+
+-- three say what is kept, and how it is used
+abbrev pub with_state_options : App → App
+with_state_options app =
+    with_rule (with_rule (with_rule app (text_option (codes "state"))) (text_option (codes "in-doubt"))) (flag_option (codes "from-now"))
+
 -- two say where a run writes its report as it goes, and that lines of it are folded
 abbrev pub with_log_options : App → App
 with_log_options app = with_rule (with_rule app (text_option (codes "log"))) (flag_option (codes "fold"))
 
 -- `run` has the file of the object text, which must be given, how many deciders there are, how many notices a lane's queue holds,
--- these, how far ahead a stamp may be, where its report goes, `--quiet`, and the channel words
+-- these, how far ahead a stamp may be, where its report goes, `--quiet`, where the feed is read from, what is kept, and the channel words
 abbrev pub run_words : App
 run_words =
-    with_rule (with_zone (with_rule (with_log_options (with_rule (with_try_options (with_rule (with_rule (with_rule (new_app (codes "run"))
+    with_rule (with_zone (with_state_options (with_feed_options (with_rule (with_log_options (with_rule (with_try_options (with_rule (with_rule (with_rule (new_app (codes "run"))
     (record (text_option (codes "objects")) { required = true }))
     (number_option (codes "deciders") (codes "2") 1 8))
     (number_option (codes "queue") (codes "64") 1 1024)))
     (bare_number_option (codes "ahead") 0 4294967295)))
-    (flag_option (codes "quiet")))) (word_list (codes "channel"))
+    (flag_option (codes "quiet")))))) (word_list (codes "channel"))
 
 -- `--NAME TEXT`, any number of times
 abbrev pub text_options : List ℕ → Rule

@@ -3,4 +3,6 @@
 
 pub mod words;
 
-pub use words::{Request, ShownWords, WhoWords, ZoneWords, command, request_of};
+pub use words::{
+    FeedFault, FeedWords, Request, ShownWords, StateWords, WhoWords, ZoneWords, command, request_of,
+};

@@ -2,17 +2,19 @@
 
 ghost use Rattle.std.specs.Prelude.{◌≡◌, ◌<◌, ℕ, codes, false, IfNone, IfOk, IfSome, is_some, Some, true};
 ghost use Rattle.std.specs.List.{list_all};
+ghost use Rattle.std.specs.Option.{option_copied};
 ghost use Rattle.clap.specs.Matches.{found_of};
 ghost use Rattle.clap.specs.Words.{app_of, rule_of, subcommand_name_of};
 ghost use Rattle.command_line.specs.Words.{AreSettingsFit, IsAskedBy, IsRequestOf, IsZoneOf};
 ghost use Rattle.command_line.specs.Words.{HoldFitting, HoldSettings, HoldSomeTimes, HoldTimes};
 ghost use Rattle.command_line.specs.Words.{HoldsAnyNumber, HoldsNumber, bare_number_option};
 ghost use Rattle.command_line.specs.Words.{IsMetWith, IsShownOf, RunLacks, flag_option, has_bad_letters};
-ghost use Rattle.command_line.specs.Words.{IsWhoOf, LacksSupposed, WhoLacks, length_option};
+ghost use Rattle.command_line.specs.Words.{IsFeedOf, IsWhoOf, LacksSupposed, WhoLacks, length_option};
 ghost use Rattle.command_line.specs.Words.{IsLogOf, with_log_options};
 ghost use Rattle.command_line.specs.Words.{asks_bad_letters, is_line_letter, is_plain};
+ghost use Rattle.command_line.specs.Words.{IsStateOf, drops_doubt, fault_of, feed_fault, is_doubt_word, with_state_options};
 ghost use Rattle.command_line.specs.Words.{one_word, text_options, who_words, with_supposed};
-ghost use Rattle.command_line.specs.Words.{TraceLacks};
+ghost use Rattle.command_line.specs.Words.{TraceLacks, with_feed_options};
 ghost use Rattle.command_line.specs.Words.{number_option, program_words, replay_words};
 ghost use Rattle.command_line.specs.Words.{request_name, request_zone, run_words, text_option};
 ghost use Rattle.command_line.specs.Words.{trace_words, with_lane_options, with_shown, with_try_options};
@@ -102,8 +104,8 @@ where each list is `event:contact`, separated by commas, or `-`.";
 
 /// What `notify-run run --help` says.
 const RUN: &str = "\
-Reads a feed of events from standard input, and sends what they make due: the messages of
-each notification command go to the channel that a word names for it.
+Reads a feed of events from standard input or FILE, and sends what they make due: the
+messages of each notification command go to the channel that a word names for it.
 
   NAME=mailbox:PATH               appended to the file, which is made if it isn't there
   NAME=pager:HOST:PORT            to the peer at that address, which answers each with OK
@@ -116,12 +118,17 @@ or a program that takes longer than --timeout has failed. Then the next word of 
 command takes over with it, of up to eight; after the last, that and all later messages of
 the command stay undelivered. What fails is said on standard error as it goes, without
 --quiet. With --ahead a line whose stamp is more than so many seconds past this machine's
-clock is refused, since no later message could have an earlier moment. Once the feed is
-over, standard output gets the lines below. With --log they go to that file as they happen,
-each as soon as it is known, and standard output gets the G and Z lines alone; a file that
-is moved away is opened anew. With --fold an S line that only repeats the one before of its
-object isn't written, but the last before another one is, with how many there were. The
-lines are
+clock is refused, since no later message could have an earlier moment.
+
+With --feed and --state a run may be killed at any moment. The next one with the same FILE
+and DIR sends what wasn't sent, and nothing twice but the message that was in hand of each
+command: that has a line `Again: yes`.
+
+Once the feed is over, standard output gets the lines below. With --log they go to that file
+as they happen, each as soon as it is known, and standard output gets the G and Z lines
+alone; a file that is moved away is opened anew. With --fold an S line that only repeats the
+one before of its object isn't written, but the last before another one is, with how many
+there were. The lines are
 
   R;line;fault                                             a refused line of the feed
   S;event;moment;object;kind;state;filter                  what a filter of the object stopped
@@ -134,7 +141,14 @@ and then, for each command that contacts list,
   G;command;n;count                                        of several words: what number n,
                                                            from 0, has taken
   Z;command;why                                            why it was closed: FeedOver, Failed,
-                                                           NoChannel or NoMemory";
+                                                           NoChannel or NoMemory
+
+and with --state, last,
+
+  J;command;earlier;claimed;new;again                      how many messages earlier runs have
+                                                           settled, how many of those were due
+                                                           again, how many were sent now, and
+                                                           how many of these may have been before";
 
 /// What a command line says of the zone of local times: neither, for UTC, or one of the two; both are one too many.
 #[derive(Clone, Copy, Debug, PartialEq, Eq)]
@@ -226,6 +240,98 @@ pub struct LogWords<'a> {
     pub fold: bool,
 }
 
+/// What a command line says of where the feed of a run is read from.
+#[derive(Clone, Copy, Debug, PartialEq, Eq)]
+pub struct FeedWords<'a> {
+    /// The file; none is standard input.
+    pub file: Option<&'a str>,
+    /// Whether it goes on as the file grows.
+    pub follow: bool,
+    /// Whether a line `CLOCK` is added to the file at each full minute.
+    pub clock: bool,
+    pub state: StateWords<'a>,
+}
+
+/// What a command line says of what a run keeps for later runs of its feed.
+#[derive(Clone, Copy, Debug, PartialEq, Eq)]
+pub struct StateWords<'a> {
+    /// The folder in which it is kept; none keeps nothing.
+    pub folder: Option<&'a str>,
+    /// What becomes of letters in doubt: `again`, also where it is left out, or `drop`.
+    pub in_doubt: Option<&'a str>,
+    /// Whether what is due so far and was never handed over is given up.
+    pub from_now: bool,
+}
+
+impl StateWords<'_> {
+    /// Whether letters in doubt are given up.
+    pub fn drops_doubt(self) -> bool
+        ensures { result ≡ drops_doubt self.entry }
+    {
+        match self.in_doubt {
+            None => false,
+            Some(word) => word == "drop",
+        }
+    }
+}
+
+/// Whether a word says what becomes of letters in doubt.
+fn is_doubt_word(word: Option<&str>) -> bool
+    ensures { result ≡ is_doubt_word (option_copied word.entry) }
+{
+    match word {
+        None => true,
+        Some(word) => word == "again" || word == "drop",
+    }
+}
+
+/// What is wrong with what a command line says of the feed of a run.
+#[derive(Clone, Copy, Debug, PartialEq, Eq)]
+pub enum FeedFault {
+    /// It says how a file is read, or what is kept for it, and names none.
+    NoFeed,
+    /// It says how what is kept is used, and names no folder.
+    NoState,
+    /// What becomes of letters in doubt is neither `again` nor `drop`.
+    BadDoubt,
+    /// It keeps what it has done, and limits how far ahead a stamp may be: a later run would read the feed at another time.
+    Ahead,
+}
+
+impl FeedFault {
+    /// What is said of it.
+    pub fn text(self) -> &'static str {
+        match self {
+            FeedFault::NoFeed => "--follow, --clock and --state need --feed",
+            FeedFault::NoState => "--in-doubt and --from-now need --state",
+            FeedFault::BadDoubt => "bad in-doubt",
+            FeedFault::Ahead => "--ahead and --state",
+        }
+    }
+}
+
+impl FeedWords<'_> {
+    /// What is wrong with it, where stamps may be so far ahead.
+    fn fault(self, ahead: Option<u32>) -> Option<FeedFault>
+        ensures { result ≡ fault_of self.entry ahead }
+    {
+        let state = self.state;
+        if self.file.is_none() && (self.follow || self.clock || state.folder.is_some()) {
+            return Some(FeedFault::NoFeed);
+        }
+        if state.folder.is_none() && (state.in_doubt.is_some() || state.from_now) {
+            return Some(FeedFault::NoState);
+        }
+        if !is_doubt_word(state.in_doubt) {
+            return Some(FeedFault::BadDoubt);
+        }
+        if state.folder.is_some() && ahead.is_some() {
+            return Some(FeedFault::Ahead);
+        }
+        None
+    }
+}
+
 /// What the program is asked to do.
 #[derive(Clone, Copy, Debug, PartialEq, Eq)]
 pub enum Request<'m, 'a> {
@@ -255,6 +361,7 @@ pub enum Request<'m, 'a> {
         /// How many seconds past the machine's clock the stamp of a line may be at most, if there is a limit.
         ahead: Option<u32>,
         log: LogWords<'a>,
+        feed: FeedWords<'a>,
     },
     /// Who would be told, of the object text in the file.
     Who {
@@ -284,6 +391,16 @@ impl<'a> Request<'_, 'a> {
         match self {
             Request::Replay { shown, .. } => shown.has_bad_letters(),
             _ => false,
+        }
+    }
+
+    /// What is wrong with what it says of the feed of a run.
+    pub fn feed_fault(self) -> Option<FeedFault>
+        ensures { result ≡ feed_fault self.entry }
+    {
+        match self {
+            Request::Run { feed, ahead, .. } => feed.fault(ahead),
+            _ => None,
         }
     }
 }
@@ -514,6 +631,49 @@ fn ahead_option<'a>(alloc: Global) -> Arg<'a>
         )
 }
 
+/// Adds the options that say where the feed is read from.
+fn with_feed_options<'a>(alloc: Global, command: Command<'a>) -> Result<Command<'a>, AllocError>
+    ensures words { IfOk result (λ command_with.
+        app_of command_with ≡ with_feed_options (app_of command.entry)) }
+{
+    let file = text_option(
+        alloc,
+        "feed",
+        "FILE",
+        "A file that the feed is read from, in place of standard input",
+    );
+    let follow = "Goes on reading FILE as it grows, until the program is ended";
+    let clock = "Adds a line CLOCK to FILE at each full minute, as long as it is read";
+    command
+        .arg(file)?
+        .arg(flag_option(alloc, "follow", follow))?
+        .arg(flag_option(alloc, "clock", clock))
+}
+
+/// Adds the options that say what is kept for later runs of the feed.
+fn with_state_options<'a>(alloc: Global, command: Command<'a>) -> Result<Command<'a>, AllocError>
+    ensures words { IfOk result (λ command_with.
+        app_of command_with ≡ with_state_options (app_of command.entry)) }
+{
+    let folder = text_option(
+        alloc,
+        "state",
+        "DIR",
+        "A folder in which it is written down what was sent, so that a run that follows goes on there",
+    );
+    let doubt = text_option(
+        alloc,
+        "in-doubt",
+        "WHAT",
+        "What becomes of a message that was about to be sent when a run was killed: again, or drop",
+    );
+    let now = "Gives up what is due by FILE as it is and was never sent, and goes on from there";
+    command
+        .arg(folder)?
+        .arg(doubt)?
+        .arg(flag_option(alloc, "from-now", now))
+}
+
 /// Adds the options that say how a run tries a message: how often, how long at most, and after which pause.
 fn with_try_options<'a>(alloc: Global, command: Command<'a>) -> Result<Command<'a>, AllocError>
     ensures words { IfOk result (λ command_with. app_of command_with
@@ -657,7 +817,9 @@ fn run_command<'a>(alloc: Global) -> Result<Command<'a>, AllocError>
     let with_log = with_log_options(alloc, with_ahead)?;
     let quiet = "Says nothing on standard error of what fails as it goes";
     let with_quiet = with_log.arg(flag_option(alloc, "quiet", quiet))?;
-    let with_options = with_zone(alloc, with_quiet)?;
+    let with_feed = with_feed_options(alloc, with_quiet)?;
+    let with_state = with_state_options(alloc, with_feed)?;
+    let with_options = with_zone(alloc, with_state)?;
     with_options.arg(channel_words(alloc))
 }
 
@@ -708,6 +870,17 @@ fn zone_words<'a>(options: &ArgMatches<'a>) -> ZoneWords<'a>
     ZoneWords {
         rule: options.get_str("zone"),
         file: options.get_str("zone-file"),
+    }
+}
+
+/// What the options of `run` say of what it keeps.
+fn state_words<'a>(options: &ArgMatches<'a>) -> StateWords<'a>
+    ensures { IsStateOf (found_of options.now) result }
+{
+    StateWords {
+        folder: options.get_str("state"),
+        in_doubt: options.get_str("in-doubt"),
+        from_now: options.get_flag("from-now"),
     }
 }
 
@@ -782,6 +955,18 @@ fn log_words<'a>(options: &ArgMatches<'a>) -> LogWords<'a>
     }
 }
 
+/// What the options of `run` say of where its feed is read from.
+fn feed_words<'a>(options: &ArgMatches<'a>) -> FeedWords<'a>
+    ensures { IsFeedOf (found_of options.now) result }
+{
+    FeedWords {
+        file: options.get_str("feed"),
+        follow: options.get_flag("follow"),
+        clock: options.get_flag("clock"),
+        state: state_words(options),
+    }
+}
+
 /// What the options of `run` ask.
 fn run_request<'m, 'a>(options: &'m ArgMatches<'a>) -> Option<Request<'m, 'a>>
     ensures named { IfSome result (λ request. request_name request ≡ codes "run") }
@@ -801,6 +986,7 @@ fn run_request<'m, 'a>(options: &'m ArgMatches<'a>) -> Option<Request<'m, 'a>>
         quiet: options.get_flag("quiet"),
         ahead: ahead_of(options),
         log: log_words(options),
+        feed: feed_words(options),
     })
 }
 

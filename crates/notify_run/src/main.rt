@@ -1,12 +1,12 @@
 //! The program `notify-run`: its command line, and how each command ends.
 #![tactic(auto)]
 
-ghost use Rattle.std.specs.Prelude.{◌≡◌, ◌<◌, ◌≤◌, true, IfSome};
+ghost use Rattle.std.specs.Prelude.{◌≡◌, ◌<◌, ◌≤◌, is_some, true, IfSome};
 ghost use Rattle.std.specs.Process.{exit_status};
 ghost use Rattle.clap.specs.Values.{kind_of};
 ghost use Rattle.command_output.specs.Outcome.{outcome_status};
 ghost use Rattle.due_model.specs.Limits.{last_moment};
-ghost use Rattle.command_line.specs.Words.{AreSettingsFit, AreTwo, asks_bad_letters, request_zone};
+ghost use Rattle.command_line.specs.Words.{AreSettingsFit, AreTwo, asks_bad_letters, feed_fault, request_zone};
 ghost use Rattle.notify_run.specs.Refusal.{refusal_status};
 ghost use Rattle.notify_run.specs.Shown.{AreShownBy};
 ghost use Rattle.notify_run.specs.Times.{IsBadLength, IsBadTime};
@@ -14,6 +14,7 @@ ghost use Rattle.notify_run.specs.Zones.{IsBadRule};
 ghost use Rattle.run_devices.specs.Fault.{run_status};
 ghost use Rattle.steps.specs.Settings.{max_channels};
 
+mod feeds;
 mod zones;
 
 use clap::error::ErrorKind;
@@ -21,13 +22,14 @@ use command_line::{Request, ShownWords, WhoWords, command, request_of};
 use command_output::{AnyWriter, CommandFault, Ending, exit_status};
 use due_model::limits::LAST_MOMENT;
 use due_model::zone::Zone;
+use feeds::status_of_feed;
 use given_times::{minutes_given, moment_given};
 use line_forms::Picks;
 use made_feed::Supposed;
 use progress::{ProgressLine, Watcher};
 use replay::{replay_files, replay_in};
 use report_forms::{LineForm, ShownLines, show_files, show_in};
-use run_devices::{LoggedWords, RunFault, RunSettings, do_logged_run, do_run};
+use run_devices::{RunFault, RunSettings};
 use std::alloc::{AllocError, Global};
 use std::env;
 use std::fs::File;
@@ -260,9 +262,13 @@ fn status_of_request<T: Threads + Wait + Clock + Sync>(
     ensures two { AreTwo (request_zone request.entry) → exit_status result ≡ 2 }
     ensures rule { IsBadRule (request_zone request.entry) → exit_status result ≡ 2 }
     ensures letters { asks_bad_letters request.entry ≡ true → exit_status result ≡ 2 }
+    ensures feed { is_some (feed_fault request.entry) ≡ true → exit_status result ≡ 2 }
 {
     if request.asks_bad_letters() {
         return status_of_words(rt, "bad letters");
+    }
+    if let Some(fault) = request.feed_fault() {
+        return status_of_words(rt, fault.text());
     }
     let words = request.zone();
     let zone = match zone_asked(rt, words) {
@@ -287,6 +293,7 @@ fn status_of_request<T: Threads + Wait + Clock + Sync>(
             quiet,
             ahead,
             log,
+            feed,
             ..
         } => {
             let settings = RunSettings {
@@ -296,29 +303,7 @@ fn status_of_request<T: Threads + Wait + Clock + Sync>(
                 quiet,
                 ahead,
             };
-            let feed = AnyReader::new(rt.stdin());
-            let mut writer = AnyWriter::new(rt.stdout());
-            if let Some(file) = log.file {
-                let words = LoggedWords {
-                    objects,
-                    channels,
-                    log: file,
-                    fold: log.fold,
-                };
-                let outcome = do_logged_run(rt, threads, &zone, words, settings, feed, &mut writer);
-                return status_of_run(rt, outcome);
-            }
-            let outcome = do_run(
-                rt,
-                threads,
-                &zone,
-                objects,
-                settings,
-                channels,
-                feed,
-                &mut writer,
-            );
-            return status_of_run(rt, outcome.map(|done| done.ending));
+            return status_of_feed(rt, threads, &zone, objects, settings, channels, log, feed);
         }
     };
     status_of(rt, outcome)

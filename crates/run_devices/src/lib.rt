@@ -13,9 +13,11 @@ pub mod run;
 mod run_log;
 pub mod settings;
 pub mod teller;
+pub mod watched;
 mod watcher;
 
 pub use fault::RunFault;
 pub use logged_run::{LoggedWords, do_logged_run};
 pub use run::do_run;
 pub use settings::RunSettings;
+pub use watched::Watched;

@@ -83,7 +83,7 @@ impl Teller {
     }
 
     /// Says which commands of a site no channel is for, where channels are for these lanes.
-    pub(crate) fn say_unserved(&self, config: &Config, lanes: &[LaneId]) {
+    pub fn say_unserved(&self, config: &Config, lanes: &[LaneId]) {
         for number in 0..=u8::MAX {
             let lane = LaneId(number);
             let is_there = usize::from(number) < config.lanes.len();
