@@ -1,5 +1,5 @@
 -- Lines of a decider's log that are written one by one, and how a run with logs ended.
-use Rattle.std.proofs.Common.{◌≡◌, ◌×◌, ◌⊎◌, inl, inr, ℕ, Bool, false, List, [], ◌++◌, Option, Result, Ok, Err, IfErr, IfOk, IsErrOf, IsOk, OnOk, sym, subst, ◌∙◌}
+use Rattle.std.proofs.Common.{◌≡◌, ◌⊎◌, inl, inr, ℕ, Bool, false, List, [], ◌++◌, Option, Result, Ok, Err, IfErr, IfOk, IsErrOf, IsOk, OnOk, sym, subst, ◌∙◌}
 use Rattle.std.proofs.lemmas.List.{append-nil}
 use Rattle.engine.specs.declared.run_end.RunEnd.{RunEnd}
 use Rattle.command_output.specs.declared.outcome.CommandFault.{CommandFault}

@@ -118,6 +118,25 @@ fn write_line<W: Sink>(
     lines.flush(writer)
 }
 
+/// Writes the line of a suppression by itself. It gives how many lines are lost then, where so many were before, up to the greatest `u64`.
+fn write_next<W: Sink>(
+    lines: &mut Lines,
+    writer: &mut W,
+    config: &Config,
+    suppression: &Suppression,
+    lost: u64,
+) -> u64
+    ensures kept { result ≡ 0 → lost ≡ 0 }
+    ensures written { result ≡ 0 → Leaves (W.contents writer.old) (W.contents writer.new)
+        (lines.old ++ suppression_line config.now suppression.now) lines.new }
+    ensures empty { result ≡ 0 → lines.new ≡ [] }
+{
+    match write_line(lines, writer, config, suppression) {
+        Ok(()) => lost,
+        Err(_) => lost.saturating_add(1),
+    }
+}
+
 /// Writes the line of each suppression by itself, in order. It gives how many were lost, up to the greatest `u64`.
 fn write_each<W: Sink>(
     lines: &mut Lines,
@@ -131,10 +150,7 @@ fn write_each<W: Sink>(
 {
     let mut lost = 0u64;
     for suppression in told {
-        match write_line(lines, writer, config, suppression) {
-            Ok(()) => {}
-            Err(_) => lost = lost.saturating_add(1),
-        }
+        lost = write_next(lines, writer, config, suppression, lost);
     }
     lost
 }
@@ -198,10 +214,7 @@ fn write_step<W: Sink>(
     if matches!(step, Step::Repeated) {
         return lost;
     }
-    if write_line(lines, writer, config, suppression).is_err() {
-        lost = lost.saturating_add(1);
-    }
-    lost
+    write_next(lines, writer, config, suppression, lost)
 }
 
 /// Writes what suppressions give where lines are folded, in order. It gives how many lines were lost, up to the greatest `u64`.

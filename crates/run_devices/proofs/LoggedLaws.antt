@@ -1,5 +1,5 @@
 -- A run with a log, by the lanes of its words.
-use Rattle.std.proofs.Common.{◌≡◌, ◌×◌, ◌%◌, ℕ, Bool, List, length, Option, Result, Ok, Err, IfOk, refl, subst, tt}
+use Rattle.std.proofs.Common.{◌≡◌, ◌%◌, ℕ, Bool, List, length, Option, Result, Ok, Err, IfOk, refl, subst}
 use Rattle.channel_words.specs.Lanes.{channels_for}
 use Rattle.command_output.specs.declared.outcome.CommandFault.{CommandFault}
 use Rattle.command_output.specs.declared.outcome.Ending.{Ending}
