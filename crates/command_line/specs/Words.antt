@@ -51,12 +51,13 @@ pub record IsFlag (options : Found) (name : List ℕ) (flag : Bool) : Type 0 whe
   pub on : one_text options name ≡ Some (codes "true") → flag ≡ true
   pub off : one_text options name ≡ Some (codes "false") → flag ≡ false
 
--- the texts that they hold of which lines of a report are wanted, and whether each is to be JSON
+-- the texts that they hold of which lines of a report are wanted, and whether each is to be JSON, or for people
 pub record IsShownOf (options : Found) (words : ShownWords) : Type 0 where
   pub only : option_copied words.only ≡ first_value options (codes "only")
   pub object : option_copied words.object ≡ first_value options (codes "object")
   pub contact : option_copied words.contact ≡ first_value options (codes "contact")
   pub json : IsFlag options (codes "json") words.json
+  pub pretty : IsFlag options (codes "pretty") words.pretty
 
 -- An option holds the number: what is read of it is the number in decimal digits.
 abbrev pub HoldsNumber : Found → (name : List ℕ) → (number : ℕ) → Type 0
@@ -212,7 +213,18 @@ AreTwo words = (is_some words.rule ≡ true) × (is_some words.file ≡ true)
 -- They ask for the report as it is.
 abbrev pub is_plain : ShownWords → Bool
 is_plain words =
-    not (is_some words.only || is_some words.object || is_some words.contact || words.json)
+    not (is_some words.only || is_some words.object || is_some words.contact || words.json
+    || words.pretty)
+
+-- They ask for two forms of its lines.
+abbrev pub has_two_forms : ShownWords → Bool
+has_two_forms words = words.json && words.pretty
+
+abbrev pub asks_two_forms : Request → Bool
+asks_two_forms (Replay objects zone shown) = has_two_forms shown
+asks_two_forms (Trace settings standbys zone) = false
+asks_two_forms (Run objects settings zone channels times quiet ahead) = false
+asks_two_forms (Who objects zone asked) = false
 
 -- a line of a report begins with this letter: N, S, C or R
 abbrev pub is_line_letter : ℕ → Bool
@@ -272,11 +284,15 @@ abbrev pub with_zone : App → App
 with_zone app =
     with_rule (with_rule app (text_option (codes "zone"))) (text_option (codes "zone-file"))
 
--- four say which lines of a report are wanted, and that each is to be JSON
+-- three say which lines of a report are wanted, and two that each is to be JSON, or for people
+abbrev pub with_picks : App → App
+with_picks app =
+    with_rule (with_rule (with_rule app (text_option (codes "only"))) (text_option (codes "object")))
+    (text_option (codes "contact"))
+
 abbrev pub with_shown : App → App
 with_shown app =
-    with_rule (with_rule (with_rule (with_rule app (text_option (codes "only")))
-    (text_option (codes "object"))) (text_option (codes "contact"))) (flag_option (codes "json"))
+    with_rule (with_rule (with_picks app) (flag_option (codes "json"))) (flag_option (codes "pretty"))
 
 -- `replay` has these, and the file of the object text
 abbrev pub replay_words : App

@@ -11,13 +11,13 @@ ghost use Rattle.command_line.specs.Words.{HoldsAnyNumber, HoldsNumber, bare_num
 ghost use Rattle.command_line.specs.Words.{IsMetWith, IsShownOf, RunLacks, flag_option, has_bad_letters};
 ghost use Rattle.command_line.specs.Words.{IsFeedOf, IsWhoOf, LacksSupposed, WhoLacks, length_option};
 ghost use Rattle.command_line.specs.Words.{IsLogOf, with_log_options};
-ghost use Rattle.command_line.specs.Words.{asks_bad_letters, is_line_letter, is_plain};
+ghost use Rattle.command_line.specs.Words.{asks_bad_letters, asks_two_forms, has_two_forms, is_line_letter, is_plain};
 ghost use Rattle.command_line.specs.Words.{IsStateOf, drops_doubt, fault_of, feed_fault, is_doubt_word, with_state_options};
 ghost use Rattle.command_line.specs.Words.{one_word, text_options, who_words, with_supposed};
 ghost use Rattle.command_line.specs.Words.{TraceLacks, with_feed_options};
 ghost use Rattle.command_line.specs.Words.{number_option, program_words, replay_words};
 ghost use Rattle.command_line.specs.Words.{request_name, request_zone, run_words, text_option};
-ghost use Rattle.command_line.specs.Words.{trace_words, with_lane_options, with_shown, with_try_options};
+ghost use Rattle.command_line.specs.Words.{trace_words, with_lane_options, with_picks, with_shown, with_try_options};
 ghost use Rattle.command_line.specs.Words.{with_zone, word_list};
 
 use clap::{Arg, ArgAction, ArgMatches, Command, value_parser};
@@ -56,7 +56,9 @@ comes, and what an event adds is written before more input is waited for, so tha
 
 --only NC, --object web/http and --contact ann leave out all lines but those that meet
 each condition given; --json writes each line as a JSON object, with the local time
-beside the moment.";
+beside the moment; --pretty writes them for people: local times, names in columns,
+colours on a terminal unless NO_COLOR is set, and of what a filter of an object stops
+in a row the first line, and how often more before the object's next line or the end.";
 
 /// What `notify-run who --help` says.
 const WHO: &str = "\
@@ -67,9 +69,15 @@ a minute, and writes who would be told, a notice a line, in order:
 
 These are the notices of `replay` for a feed that says so. Nothing else is known of the
 site: no problem lasts, nobody has acknowledged one, and there is no downtime. With
---down HOST that host is down first; its own notices stand among the others. A name or a
-state that isn't known stands there as `R;line;fault`, where the lines are the hosts
-that are down, and then the object's.";
+--down HOST that host is down first; its own notices stand among the others.
+
+Then it writes who isn't told of the object, of all whom its lists and its escalations
+name, a contact a line:
+
+  `not told`  contact  why; when they are told, if that is within a week
+
+Why is the filter that refused the contact, or the escalations that leave it out; where
+nothing goes out, the filter of the object.";
 
 /// What `notify-run trace --help` says.
 const TRACE: &str = "\
@@ -160,7 +168,7 @@ pub struct ZoneWords<'a> {
 }
 
 /// What a command line says of a report's lines: which are wanted, those that meet each condition that is given, and
-/// whether each is to be JSON.
+/// whether each is to be JSON, or for people; both are one too many.
 #[derive(Clone, Copy, Debug, PartialEq, Eq)]
 pub struct ShownWords<'a> {
     /// Letters of lines.
@@ -171,6 +179,8 @@ pub struct ShownWords<'a> {
     pub contact: Option<&'a str>,
     /// Whether each line is to be an object of JSON.
     pub json: bool,
+    /// Whether lines are to be written for people.
+    pub pretty: bool,
 }
 
 /// Whether a line of a report begins with this letter.
@@ -193,7 +203,14 @@ impl ShownWords<'_> {
         ensures { result ≡ is_plain self.entry }
     {
         let is_part = self.only.is_some() || self.object.is_some() || self.contact.is_some();
-        !is_part && !self.json
+        !is_part && !self.json && !self.pretty
+    }
+
+    /// Whether two forms of its lines are asked for.
+    pub fn has_two_forms(self) -> bool
+        ensures { result ≡ has_two_forms self.entry }
+    {
+        self.json && self.pretty
     }
 
     /// Whether lines are asked for by letters that aren't all N, S, C or R.
@@ -403,6 +420,16 @@ impl<'a> Request<'_, 'a> {
             _ => None,
         }
     }
+
+    /// Whether it asks for two forms of a report's lines.
+    pub fn asks_two_forms(self) -> bool
+        ensures { result ≡ asks_two_forms self.entry }
+    {
+        match self {
+            Request::Replay { shown, .. } => shown.has_two_forms(),
+            _ => false,
+        }
+    }
 }
 
 /// The option `--NAME` with a text.
@@ -465,10 +492,10 @@ fn replay_command<'a>(alloc: Global) -> Result<Command<'a>, AllocError>
     with_zone(alloc, with_shown)
 }
 
-/// Adds the options that say which lines of a report are wanted, and how they are written.
-fn with_shown<'a>(alloc: Global, command: Command<'a>) -> Result<Command<'a>, AllocError>
+/// Adds the options that say which lines of a report are wanted.
+fn with_picks<'a>(alloc: Global, command: Command<'a>) -> Result<Command<'a>, AllocError>
     ensures words { IfOk result (λ command_with.
-        app_of command_with ≡ with_shown (app_of command.entry)) }
+        app_of command_with ≡ with_picks (app_of command.entry)) }
 {
     let only = text_option(
         alloc,
@@ -488,12 +515,26 @@ fn with_shown<'a>(alloc: Global, command: Command<'a>) -> Result<Command<'a>, Al
         "NAME",
         "Only lines that name this contact",
     );
+    command.arg(only)?.arg(object)?.arg(contact)
+}
+
+/// Adds these, and the options that say how lines are written.
+fn with_shown<'a>(alloc: Global, command: Command<'a>) -> Result<Command<'a>, AllocError>
+    ensures words { IfOk result (λ command_with.
+        app_of command_with ≡ with_shown (app_of command.entry)) }
+{
+    let with_picks = with_picks(alloc, command)?;
     let json = flag_option(
         alloc,
         "json",
         "Each line as a JSON object, with the local time beside the moment",
     );
-    command.arg(only)?.arg(object)?.arg(contact)?.arg(json)
+    let pretty = flag_option(
+        alloc,
+        "pretty",
+        "For people: local times, names in columns, repeated suppressions counted; colours on a terminal",
+    );
+    with_picks.arg(json)?.arg(pretty)
 }
 
 /// The option that says how many deciders there are, and how many where it is left out.
@@ -893,6 +934,7 @@ fn shown_words<'a>(options: &ArgMatches<'a>) -> ShownWords<'a>
         object: options.get_str("object"),
         contact: options.get_str("contact"),
         json: options.get_flag("json"),
+        pretty: options.get_flag("pretty"),
     }
 }
 
