@@ -50,21 +50,25 @@ module _ (cuts : EachCutIsRead) {W : Type 0} (contents : W → Option (List ℕ)
   held_of bytes is (inl none) = (
     [],
     tt,
-    [],
-    append-nil bytes ∙ is
-        ∙ ap (λ p. journal_text a.config a.lane from before ++ (text (body a.config) entries ++ p)) none
-        ∙ sym (all_text []),
+    (
+      [],
+      append-nil bytes ∙ is
+          ∙ ap (λ p. journal_text a.config a.lane from before ++ (text (body a.config) entries ++ p)) none
+          ∙ sym (all_text []),
+    ),
   )
   held_of bytes is (inr piece) = (
     piece.0 ∷ [],
     (piece.1, tt),
-    piece.2.0,
-    ap (λ bs. bs ++ piece.2.0) is
-        ∙ append_assoc (journal_text a.config a.lane from before) (text (body a.config) entries ++ wrote.piece) piece.2.0
-        ∙ ap (λ bs. journal_text a.config a.lane from before ++ bs)
-        (append_assoc (text (body a.config) entries) wrote.piece piece.2.0
-        ∙ ap (λ bs. text (body a.config) entries ++ bs) (piece.2.1 ∙ sym (one_text a.config piece.0)))
-        ∙ sym (all_text (piece.0 ∷ [])),
+    (
+      piece.2.0,
+      ap (λ bs. bs ++ piece.2.0) is
+          ∙ append_assoc (journal_text a.config a.lane from before) (text (body a.config) entries ++ wrote.piece) piece.2.0
+          ∙ ap (λ bs. journal_text a.config a.lane from before ++ bs)
+          (append_assoc (text (body a.config) entries) wrote.piece piece.2.0
+          ∙ ap (λ bs. text (body a.config) entries ++ bs) (piece.2.1 ∙ sym (one_text a.config piece.0)))
+          ∙ sym (all_text (piece.0 ∷ [])),
+    ),
   )
 
   kill_at : (bytes : List ℕ) → bytes ≡ journal_text a.config a.lane from before ++ (text (body a.config) entries ++ wrote.piece)
@@ -74,7 +78,7 @@ module _ (cuts : EachCutIsRead) {W : Type 0} (contents : W → Option (List ℕ)
       let h = held_of bytes is wrote.is_piece in (
         h.0,
         cuts a.config a.lane from (before ++ entries ++ h.0) cut (more h.0 h.1)
-            (prefix_of cut bytes (journal_text a.config a.lane from (before ++ entries ++ h.0)) front (h.2, h.3)),
+            (prefix_of cut bytes (journal_text a.config a.lane from (before ++ entries ++ h.0)) front h.2),
       )
 
   kill_known : (held : Option (List ℕ)) → Appends (Some (journal_text a.config a.lane from before)) held (text (body a.config) entries ++ wrote.piece)

@@ -36,7 +36,7 @@ module _ {W : Type 0} (contents : W → Option (List ℕ)) (a b : Text W) (confi
     each = tt;
     piece = front.1.0;
     bytes = front.1.1;
-    is_piece = inr (e, back, front.0, front.1.2 ∙ is);
+    is_piece = inr (e, back, (front.0, front.1.2 ∙ is));
     whole = λ no. absurd (true≢false (sym broken ∙ no));
     silent = λ was. absurd (true≢false (sym was ∙ open-was));
   }
