@@ -4,5 +4,6 @@
 pub mod words;
 
 pub use words::{
-    FeedFault, FeedWords, Request, ShownWords, StateWords, WhoWords, ZoneWords, command, request_of,
+    FeedFault, FeedWords, LogWords, Request, ShownWords, StateWords, WhoWords, ZoneWords, command,
+    request_of,
 };
