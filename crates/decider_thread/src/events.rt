@@ -40,7 +40,7 @@ fn note<L: DeciderLog>(decider: &mut Decider<'_>, log: &mut L)
     // Unless the log has failed the decider keeps nothing.
     ensures all { L.failed log.new ≡ false → (kept decider.new).log ≡ [] }
 {
-    if log.tell(decider.log()) && log.tell(decider.log()) {
+    if log.tell(decider.log()) {
         decider.clear_log();
     }
 }
