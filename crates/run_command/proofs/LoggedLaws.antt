@@ -1,5 +1,5 @@
 -- Lines of a decider's log that are written one by one, and how a run with logs ended.
-use Rattle.std.proofs.Common.{◌≡◌, ◌⊎◌, inl, inr, ℕ, Bool, false, List, [], ◌++◌, Option, Result, Ok, Err, IfErr, IfOk, IsErrOf, IsOk, OnOk, sym, subst, ◌∙◌}
+use Rattle.std.proofs.Common.{◌≡◌, ◌⊎◌, inl, inr, ℕ, Bool, false, List, [], ◌++◌, Option, Result, Ok, Err, IfErr, IfOk, IsErrOf, IsOk, OnOk, ap, sym, subst, ◌∙◌}
 use Rattle.std.proofs.lemmas.List.{append-nil}
 use Rattle.engine.specs.declared.run_end.RunEnd.{RunEnd}
 use Rattle.command_output.specs.declared.outcome.CommandFault.{CommandFault}
@@ -43,4 +43,4 @@ if_ended run wrote end (Err e) (Ok ending) ran written ended = let never = ended
 pub if_cut : (run front : RunEnd → Type 0) (same : Type 0) (end : RunEnd) (result : Result Ending CommandFault) → run end → (IsErrOf result Output → end.memory ≡ false) → front end
     → IfErr result (λ fault. ((e : RunEnd) × run e × (fault ≡ Output → e.memory ≡ false) × front e) ⊎ ((fault ≡ NoMemory) × same))
 if_cut run front same end (Ok ending) ran memory wrote = tt
-if_cut run front same end (Err fault) ran memory wrote = inl (end, ran, memory, wrote)
+if_cut run front same end (Err fault) ran memory wrote = inl (end, ran, (λ (is : fault ≡ Output). memory (ap (λ (f : CommandFault). Err f) is)), wrote)
