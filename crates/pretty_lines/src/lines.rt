@@ -134,8 +134,8 @@ fn push_front(
     front: Front<'_>,
 ) -> Result<(), AllocError>
     ensures { OnOk result (text.new.items ≡ text.old.items
-        ++ line_front config.now clock.now look front.colour.now front.moment front.object.0
-        front.kind front.state) }
+        ++ line_front config.now clock.now look front.entry.colour.now front.entry.moment front.entry.object.0
+        front.entry.kind front.entry.state) }
 {
     push_paint(text, look.coloured, front.colour)?;
     push_when(alloc, text, config, clock, look, front.moment, front.object)?;

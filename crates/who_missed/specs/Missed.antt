@@ -96,19 +96,18 @@ abbrev pub has_begun : (o until number : ℕ) → List ReportLine → Bool
 has_begun o until number lines =
     list_any (λ line. is_within o until line && comes_to number line) lines
 
--- the object's escalation of this number, counted from 1, begins with a notice
-unfoldable pub begins_text : (number : ℕ) → List ℕ
-begins_text number = codes "escalation " ++ decimal number ++ codes " begins with notice "
+-- the object's escalation of this number, counted from 1, begins with such a notice
+unfoldable pub begins_text : (number first : ℕ) → (rest : List ℕ) → List ℕ
+begins_text number first rest =
+    codes "escalation " ++ decimal number ++ codes " begins with notice " ++ decimal first ++ rest
 
 -- What an escalation has to do with it. One that names the contact hasn't begun, or doesn't match; one that doesn't has begun,
 -- and takes the place of the object's own contacts.
 abbrev pub escalation_text : (named own begun : Bool) → (number first : ℕ) → List ℕ
-escalation_text true own false number first =
-    begins_text number ++ decimal first ++ codes "; "
+escalation_text true own false number first = begins_text number first (codes "; ")
 escalation_text true own true number first =
-    begins_text number ++ decimal first ++ codes " and doesn't match; "
-escalation_text false true true number first =
-    begins_text number ++ decimal first ++ codes " without it; "
+    begins_text number first (codes " and doesn't match; ")
+escalation_text false true true number first = begins_text number first (codes " without it; ")
 escalation_text false own begun number first = []
 
 -- the same of one of the object's escalations, by the lines of a report

@@ -91,14 +91,16 @@ fn push_decimal(text: &mut Vec<u8>, number: u64) -> Result<(), AllocError>
     text.extend_from_slice(buffer.format(number).as_bytes())
 }
 
-/// Adds that an escalation begins with a notice.
-#[tactic(auto, unfolding(crate::specs::Missed::begins_text))]
-fn push_begins(text: &mut Vec<u8>, number: u64) -> Result<(), AllocError>
-    ensures { OnOk result (text.new.items ≡ text.old.items ++ begins_text number) }
+/// Adds which escalation begins with which notice, and more.
+fn push_begins(text: &mut Vec<u8>, number: u64, first: u64, rest: &[u8]) -> Result<(), AllocError>
+    ensures { OnOk result
+        (text.new.items ≡ text.old.items ++ begins_text number first rest.now) }
 {
     text.extend_from_slice(b"escalation ")?;
     push_decimal(text, number)?;
-    text.extend_from_slice(b" begins with notice ")
+    text.extend_from_slice(b" begins with notice ")?;
+    push_decimal(text, first)?;
+    text.extend_from_slice(rest)
 }
 
 /// Adds what an escalation has to do with it that a contact isn't told.
@@ -107,21 +109,18 @@ fn push_escalation(
     named: bool,
     own: bool,
     begun: bool,
-    number: usize,
-    first: u32,
+    number: u64,
+    first: u64,
 ) -> Result<(), AllocError>
     ensures { OnOk result (text.new.items
         ≡ text.old.items ++ escalation_text named own begun number first) }
 {
-    let rest = match (named, own, begun) {
-        (true, _, false) => b"; ".as_slice(),
-        (true, _, true) => b" and doesn't match; ".as_slice(),
-        (false, true, true) => b" without it; ".as_slice(),
-        (false, _, _) => return Ok(()),
-    };
-    push_begins(text, number as u64)?;
-    push_decimal(text, u64::from(first))?;
-    text.extend_from_slice(rest)
+    match (named, own, begun) {
+        (true, _, false) => push_begins(text, number, first, b"; "),
+        (true, _, true) => push_begins(text, number, first, b" and doesn't match; "),
+        (false, true, true) => push_begins(text, number, first, b" without it; "),
+        (false, _, _) => Ok(()),
+    }
 }
 
 /// Adds the same of one of the object's escalations, by the lines of a report. The number counts from 1.
@@ -141,7 +140,8 @@ fn push_escalation_at(
     let named = has(escalation.contacts.as_slice(), contact);
     let own = is_own(config, object, contact);
     let begun = has_begun(object, until, escalation.first, lines);
-    push_escalation(text, named, own, begun, number, escalation.first)
+    let first = u64::from(escalation.first);
+    push_escalation(text, named, own, begun, number as u64, first)
 }
 
 /// Adds the same of the one at an index of the object's escalations.
