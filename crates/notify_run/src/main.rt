@@ -14,10 +14,13 @@ ghost use Rattle.notify_run.specs.Zones.{IsBadRule, zone_fault_status};
 ghost use Rattle.run_devices.specs.Fault.{run_status};
 ghost use Rattle.steps.specs.Settings.{max_channels};
 
+mod diff;
+
 use clap::error::ErrorKind;
 use command_input::zone_of;
 use command_line::{Request, ShownWords, WhoWords, command, request_of};
 use command_output::{AnyWriter, CommandFault, Ending, exit_status};
+use diff::status_of_diff;
 use due_model::limits::LAST_MOMENT;
 use due_model::zone::Zone;
 use given_times::{minutes_given, moment_given};
@@ -295,6 +298,12 @@ fn status_of_request<T: Threads + Wait + Clock + Sync>(
         Request::Who { objects, asked, .. } => {
             return status_of_who(rt, threads, &zone, objects, asked);
         }
+        Request::Diff {
+            objects,
+            changed,
+            json,
+            ..
+        } => return status_of_diff(rt, &zone, objects, changed, json),
         Request::Run {
             objects,
             settings,

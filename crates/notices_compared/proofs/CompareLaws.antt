@@ -1,0 +1,50 @@
+-- From what is written of a feed to what is written of an input.
+use Rattle.std.proofs.Common.{◌≡◌, ℕ, Bool, List, [], ◌++◌, Option, None, Some, Result, IfOk, IfSome, inl, refl, sym, subst}
+use Rattle.std.proofs.lemmas.Result.{IfOk-weaker}
+use Rattle.due_model.specs.declared.config.Config.{Config}
+use Rattle.due_model.specs.declared.zone.Zone.{Zone}
+use Rattle.event_feed.specs.Feed.{Answer, answers, feed_of}
+use Rattle.text_lines.specs.Lines.{pieces}
+use Rattle.text_lines.specs.LineReader.{Reading, to_come}
+use Rattle.written.specs.WrittenLaws.{front_none}
+use Rattle.command_output.specs.declared.outcome.CommandFault.{CommandFault}
+use Rattle.command_output.specs.declared.outcome.Ending.{Ending}
+use Rattle.command_input.specs.InputLaws.{of_input, some_all, some_known}
+use Rattle.replay.specs.Replay.{AreOfFeed}
+use Rattle.paired_feed.specs.PairedLaws.{same_lines}
+use Rattle.report_forms.specs.declared.shown.LineForm.{LineForm}
+use Rattle.notices_compared.specs.Compares.{ComparesFor, ComparesFrontFor}
+use Rattle.notices_compared.specs.Stream.{WritesChanges, WritesChangesFront}
+
+module _ (form : LineForm) (can_fail : Bool) (a b : Config) (zone : Zone) (reading : Reading) (old new : Option (List ℕ)) where
+  -- the answers are of the bytes that are left to be read
+  given_of : (c : Config) (given : List Answer) (bytes : List ℕ) → to_come reading ≡ Some bytes → IfSome (to_come reading) (λ after. AreOfFeed can_fail c after given) → AreOfFeed can_fail c bytes given
+  given_of c given bytes left h = subst (λ (k : Option (List ℕ)). IfSome k (λ after. AreOfFeed can_fail c after given)) left h
+
+  pub compared_of : (r : Result Ending CommandFault) → IfOk r (λ ending. WritesChanges form can_fail a b zone (feed_of reading 0 0 None) 0 ending old new) → (bytes : List ℕ) → to_come reading ≡ Some bytes
+      → IfOk r (λ ending. ComparesFor form can_fail a b bytes zone ending old new)
+  compared_of r h bytes left =
+      IfOk-weaker r (λ ending. WritesChanges form can_fail a b zone (feed_of reading 0 0 None) 0 ending old new) (λ ending. ComparesFor form can_fail a b bytes zone ending old new)
+      (λ ending w. (w.given, w.others, w.table, given_of a w.given bytes left w.first, given_of b w.others bytes left w.second, w.same, w.ending_is, w.writes)) h
+
+  pub front_of : WritesChangesFront form can_fail a b zone (feed_of reading 0 0 None) 0 old new → (bytes : List ℕ) → to_come reading ≡ Some bytes → ComparesFrontFor form can_fail a b bytes zone old new
+  front_of w bytes left = (w.given, w.others, w.table, given_of a w.given bytes left w.first, given_of b w.others bytes left w.second, w.same, w.front)
+
+  -- the same of an input
+  pub compared_of_feed : (known : Option (List ℕ)) → reading ≡ record { line = []; held = []; unread = known; calls = 0 } → (r : Result Ending CommandFault)
+      → IfOk r (λ ending. WritesChanges form can_fail a b zone (feed_of reading 0 0 None) 0 ending old new) → IfSome known (λ bytes. IfOk r (λ ending. ComparesFor form can_fail a b bytes zone ending old new))
+  compared_of_feed known begins r h =
+      some_known known (λ k. to_come reading ≡ k) (λ bytes. IfOk r (λ ending. ComparesFor form can_fail a b bytes zone ending old new)) (of_input known reading (λ k. to_come reading ≡ k) begins refl)
+      (λ bytes left. compared_of r h bytes left)
+
+  pub front_of_feed : (known : Option (List ℕ)) → reading ≡ record { line = []; held = []; unread = known; calls = 0 } → WritesChangesFront form can_fail a b zone (feed_of reading 0 0 None) 0 old new
+      → IfSome known (λ bytes. ComparesFrontFor form can_fail a b bytes zone old new)
+  front_of_feed known begins h =
+      some_known known (λ k. to_come reading ≡ k) (λ bytes. ComparesFrontFor form can_fail a b bytes zone old new) (of_input known reading (λ k. to_come reading ≡ k) begins refl)
+      (λ bytes left. front_of h bytes left)
+
+-- nothing was written
+pub front_of_nothing : (form : LineForm) (can_fail : Bool) (a b : Config) (zone : Zone) (known held : Option (List ℕ)) → IfSome known (λ bytes. ComparesFrontFor form can_fail a b bytes zone held held)
+front_of_nothing form can_fail a b zone known held =
+    some_all known (λ bytes. ComparesFrontFor form can_fail a b bytes zone held held)
+    (λ bytes. (answers a.objects 0 0 (pieces bytes), answers b.objects 0 0 (pieces bytes), [], inl refl, inl refl, same_lines a.objects b.objects 0 0 0 (pieces bytes), front_none held _))

@@ -1,0 +1,5 @@
+pub mod LeftLaws
+pub mod ReportLaws
+pub mod SideLaws
+pub mod StreamLaws
+pub mod CompareLaws
