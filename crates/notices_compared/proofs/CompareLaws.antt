@@ -12,11 +12,11 @@ use Rattle.command_output.specs.declared.outcome.Ending.{Ending}
 use Rattle.command_input.specs.InputLaws.{of_input, some_all, some_known}
 use Rattle.replay.specs.Replay.{AreOfFeed}
 use Rattle.paired_feed.specs.PairedLaws.{same_lines}
-use Rattle.report_forms.specs.declared.shown.LineForm.{LineForm}
+use Rattle.changed_notices.specs.declared.changed.ChangeForm.{ChangeForm}
 use Rattle.notices_compared.specs.Compares.{ComparesFor, ComparesFrontFor}
 use Rattle.notices_compared.specs.Stream.{WritesChanges, WritesChangesFront}
 
-module _ (form : LineForm) (can_fail : Bool) (a b : Config) (zone : Zone) (reading : Reading) (old new : Option (List ℕ)) where
+module _ (form : ChangeForm) (can_fail : Bool) (a b : Config) (zone : Zone) (reading : Reading) (old new : Option (List ℕ)) where
   -- the answers are of the bytes that are left to be read
   given_of : (c : Config) (given : List Answer) (bytes : List ℕ) → to_come reading ≡ Some bytes → IfSome (to_come reading) (λ after. AreOfFeed can_fail c after given) → AreOfFeed can_fail c bytes given
   given_of c given bytes left h = subst (λ (k : Option (List ℕ)). IfSome k (λ after. AreOfFeed can_fail c after given)) left h
@@ -44,7 +44,7 @@ module _ (form : LineForm) (can_fail : Bool) (a b : Config) (zone : Zone) (readi
       (λ bytes left. front_of h bytes left)
 
 -- nothing was written
-pub front_of_nothing : (form : LineForm) (can_fail : Bool) (a b : Config) (zone : Zone) (known held : Option (List ℕ)) → IfSome known (λ bytes. ComparesFrontFor form can_fail a b bytes zone held held)
+pub front_of_nothing : (form : ChangeForm) (can_fail : Bool) (a b : Config) (zone : Zone) (known held : Option (List ℕ)) → IfSome known (λ bytes. ComparesFrontFor form can_fail a b bytes zone held held)
 front_of_nothing form can_fail a b zone known held =
     some_all known (λ bytes. ComparesFrontFor form can_fail a b bytes zone held held)
     (λ bytes. (answers a.objects 0 0 (pieces bytes), answers b.objects 0 0 (pieces bytes), [], inl refl, inl refl, same_lines a.objects b.objects 0 0 0 (pieces bytes), front_none held _))

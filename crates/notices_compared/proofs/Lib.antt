@@ -1,4 +1,3 @@
-pub mod LeftLaws
 pub mod ReportLaws
 pub mod SideLaws
 pub mod StreamLaws

@@ -19,8 +19,8 @@ use Rattle.replay.specs.Report.{ends_short, is_ended}
 use Rattle.paired_feed.specs.declared.paired.PairedLine.{PairedLine}
 use Rattle.paired_feed.specs.Paired.{EndsPair, GivesPair, first_answer, is_cut, last_answers, second_answer, since}
 use Rattle.paired_feed.specs.PairedLaws.{lines_of, some_pair}
-use Rattle.report_forms.specs.declared.shown.LineForm.{LineForm}
-use Rattle.notices_compared.specs.Changed.{changes_of, changes_text}
+use Rattle.changed_notices.specs.declared.changed.ChangeForm.{ChangeForm}
+use Rattle.changed_notices.specs.Changed.{changes_of, changes_text}
 use Rattle.notices_compared.specs.Compares.{AreSameLines, changes_between, ending_of}
 use Rattle.notices_compared.specs.Sides.{Follows, given_notices, line_notices, past_on}
 use Rattle.notices_compared.specs.Stream.{WritesChanges, WritesChangesFront}
@@ -28,7 +28,7 @@ use Rattle.notices_compared.proofs.SideLaws.{follows_more, follows_start, given_
 
 -- ---- the text, line by line
 
-pub changes-append : (form : LineForm) (a b : Config) (zone : Zone) (nss more mss others : List (List Notice)) → length nss ≡ length mss
+pub changes-append : (form : ChangeForm) (a b : Config) (zone : Zone) (nss more mss others : List (List Notice)) → length nss ≡ length mss
     → changes_text form a b zone (nss ++ more) (mss ++ others) ≡ changes_text form a b zone nss mss ++ changes_text form a b zone more others
 changes-append form a b zone [] more [] others e = refl
 changes-append form a b zone [] more (ms ∷ mss) others e = absurd (omega (arith, e))
@@ -38,7 +38,7 @@ changes-append form a b zone (ns ∷ nss) more (ms ∷ mss) others e =
     ∙ sym (append_assoc (changes_of form a b zone ns ms) (changes_text form a b zone nss mss) (changes_text form a b zone more others))
 
 -- the line at which a feed ends changes nothing
-last-text : (form : LineForm) (a b : Config) (zone : Zone) (past past' : List Event) (refused : Option RefusedLine)
+last-text : (form : ChangeForm) (a b : Config) (zone : Zone) (past past' : List Event) (refused : Option RefusedLine)
     → changes_text form a b zone (line_notices a zone past (last_answers refused)) (line_notices b zone past' (last_answers refused)) ≡ []
 last-text form a b zone past past' None = refl
 last-text form a b zone past past' (Some refused) = refl
@@ -46,7 +46,7 @@ last-text form a b zone past past' (Some refused) = refl
 -- ---- how far it has come
 
 -- after these answers by each configuration, the changes of their lines were made
-pub record HasCompared (form : LineForm) (a b : Config) (zone : Zone) (start : Feed) (first : ℕ) (before : Option (List ℕ)) (kept kept' : Kept) (ended ended' : Bool) (now : Feed) (last : ℕ)
+pub record HasCompared (form : ChangeForm) (a b : Config) (zone : Zone) (start : Feed) (first : ℕ) (before : Option (List ℕ)) (kept kept' : Kept) (ended ended' : Bool) (now : Feed) (last : ℕ)
     (after : Option (List ℕ)) (text : List ℕ) : Type 0 where
   pub given : List Answer
   pub others : List Answer
@@ -62,7 +62,7 @@ pub record HasCompared (form : LineForm) (a b : Config) (zone : Zone) (start : F
   pub even : length noticed ≡ length noticed'
   pub leaves : Leaves before after (changes_text form a b zone noticed noticed') text
 
-pub compared_start : (form : LineForm) (a b : Config) (zone : Zone) (start : Feed) (first : ℕ) (before : Option (List ℕ)) (kept kept' : Kept) (ended ended' : Bool) (text : List ℕ) → start.stop ≡ None → Fits kept [] → Fits kept' []
+pub compared_start : (form : ChangeForm) (a b : Config) (zone : Zone) (start : Feed) (first : ℕ) (before : Option (List ℕ)) (kept kept' : Kept) (ended ended' : Bool) (text : List ℕ) → start.stop ≡ None → Fits kept [] → Fits kept' []
     → ended ≡ false → ended' ≡ false → text ≡ [] → HasCompared form a b zone start first before kept kept' ended ended' start first before text
 compared_start form a b zone start first before kept kept' ended ended' text runs fits fits' e f g = record {
   given = [];
@@ -81,7 +81,7 @@ compared_start form a b zone start first before kept kept' ended ended' text run
 }
 
 -- what was held back was written
-pub compared_held : (form : LineForm) (a b : Config) (zone : Zone) (start : Feed) (first : ℕ) (before : Option (List ℕ)) (kept kept' : Kept) (ended ended' : Bool) (now : Feed) (last : ℕ) (mid after : Option (List ℕ)) (text text' : List ℕ)
+pub compared_held : (form : ChangeForm) (a b : Config) (zone : Zone) (start : Feed) (first : ℕ) (before : Option (List ℕ)) (kept kept' : Kept) (ended ended' : Bool) (now : Feed) (last : ℕ) (mid after : Option (List ℕ)) (text text' : List ℕ)
     → HasCompared form a b zone start first before kept kept' ended ended' now last mid text → Leaves mid after text text' → HasCompared form a b zone start first before kept kept' ended ended' now last after text'
 compared_held form a b zone start first before kept kept' ended ended' now last mid after text text' h k = record {
   given = h.given;
@@ -115,13 +115,13 @@ same_both given others more more' e f =
 even_more : (nss mss : List (List Notice)) (ns ms : List Notice) → length nss ≡ length mss → length (nss ++ ns ∷ []) ≡ length (mss ++ ms ∷ [])
 even_more nss mss ns ms e = omega (arith, e, length-append nss (ns ∷ []), length-append mss (ms ∷ []))
 
-step-text : (form : LineForm) (a b : Config) (zone : Zone) (nss mss : List (List Notice)) (ns ms : List Notice) → length nss ≡ length mss
+step-text : (form : ChangeForm) (a b : Config) (zone : Zone) (nss mss : List (List Notice)) (ns ms : List Notice) → length nss ≡ length mss
     → changes_text form a b zone (nss ++ ns ∷ []) (mss ++ ms ∷ []) ≡ changes_text form a b zone nss mss ++ changes_of form a b zone ns ms
 step-text form a b zone nss mss ns ms e =
     changes-append form a b zone nss (ns ∷ []) mss (ms ∷ []) e
     ∙ ap (λ (text : List ℕ). changes_text form a b zone nss mss ++ text) (append-nil (changes_of form a b zone ns ms))
 
-pub compared_on : (form : LineForm) (a b : Config) (zone : Zone) (start : Feed) (first : ℕ) (before : Option (List ℕ)) (kept kept' : Kept) (ended ended' : Bool) (now : Feed) (last : ℕ) (after : Option (List ℕ)) (text : List ℕ)
+pub compared_on : (form : ChangeForm) (a b : Config) (zone : Zone) (start : Feed) (first : ℕ) (before : Option (List ℕ)) (kept kept' : Kept) (ended ended' : Bool) (now : Feed) (last : ℕ) (after : Option (List ℕ)) (text : List ℕ)
     (pair : PairedLine) (new : Feed) (last' : ℕ) (more more' : Kept) (ends ends' : Bool) (text' : List ℕ)
     → HasCompared form a b zone start first before kept kept' ended ended' now last after text → GivesPair a b now last pair new last'
     → Takes a kept ended (first_answer pair) more ends → Takes b kept' ended' (second_answer pair) more' ends'
@@ -152,7 +152,7 @@ compared_on form a b zone start first before kept kept' ended ended' now last af
 -- ---- where it ends
 
 -- the changes after these
-between-more : (form : LineForm) (a b : Config) (zone : Zone) (start start' now now' : Feed) (given others more more' : List Answer) (noticed noticed' : List (List Notice)) (ended ended' : Bool) (past past' : List Event)
+between-more : (form : ChangeForm) (a b : Config) (zone : Zone) (start start' now now' : Feed) (given others more more' : List Answer) (noticed noticed' : List (List Notice)) (ended ended' : Bool) (past past' : List Event)
     → Follows a zone start given noticed ended past now → Follows b zone start' others noticed' ended' past' now' → length noticed ≡ length noticed'
     → changes_between form a b zone (given ++ more) (others ++ more')
     ≡ changes_text form a b zone noticed noticed' ++ changes_text form a b zone (line_notices a zone past more) (line_notices b zone past' more')
@@ -161,7 +161,7 @@ between-more form a b zone start start' now now' given others more more' noticed
     ∙ changes-append form a b zone noticed (line_notices a zone past more) noticed' (line_notices b zone past' more') even
 
 -- a front of what is held back was written, and nothing more will be
-pub compared_cut : (form : LineForm) (can_fail : Bool) (a b : Config) (zone : Zone) (start : Feed) (first : ℕ) (before : Option (List ℕ)) (kept kept' : Kept) (ended ended' : Bool) (now : Feed) (last : ℕ) (mid after : Option (List ℕ)) (text : List ℕ)
+pub compared_cut : (form : ChangeForm) (can_fail : Bool) (a b : Config) (zone : Zone) (start : Feed) (first : ℕ) (before : Option (List ℕ)) (kept kept' : Kept) (ended ended' : Bool) (now : Feed) (last : ℕ) (mid after : Option (List ℕ)) (text : List ℕ)
     → HasCompared form a b zone start first before kept kept' ended ended' now last mid text → WritesFront mid after text → WritesChangesFront form can_fail a b zone start first before after
 compared_cut form can_fail a b zone start first before kept kept' ended ended' now last mid after text h front =
     let more = some_pair can_fail a.objects b.objects now last in
@@ -179,7 +179,7 @@ compared_cut form can_fail a b zone start first before kept kept' ended ended' n
     }
 
 -- the changes of all lines
-whole-text : (form : LineForm) (a b : Config) (zone : Zone) (start start' now now' : Feed) (given others : List Answer) (refused : Option RefusedLine) (noticed noticed' : List (List Notice)) (ended ended' : Bool) (past past' : List Event)
+whole-text : (form : ChangeForm) (a b : Config) (zone : Zone) (start start' now now' : Feed) (given others : List Answer) (refused : Option RefusedLine) (noticed noticed' : List (List Notice)) (ended ended' : Bool) (past past' : List Event)
     → Follows a zone start given noticed ended past now → Follows b zone start' others noticed' ended' past' now' → length noticed ≡ length noticed'
     → changes_between form a b zone (given ++ last_answers refused) (others ++ last_answers refused) ≡ changes_text form a b zone noticed noticed'
 whole-text form a b zone start start' now now' given others refused noticed noticed' ended ended' past past' one two even =
@@ -187,7 +187,7 @@ whole-text form a b zone start start' now now' given others refused noticed noti
     ∙ ap (λ (t : List ℕ). changes_text form a b zone noticed noticed' ++ t) (last-text form a b zone past past' refused) ∙ append-nil (changes_text form a b zone noticed noticed')
 
 -- the feed is over, and a front of what is held back and the table was written
-pub compared_last : (form : LineForm) (can_fail : Bool) (a b : Config) (zone : Zone) (start : Feed) (first : ℕ) (before : Option (List ℕ)) (kept kept' : Kept) (ended ended' : Bool) (now : Feed) (last : ℕ) (mid after : Option (List ℕ)) (text table : List ℕ) (stop : Option Stop)
+pub compared_last : (form : ChangeForm) (can_fail : Bool) (a b : Config) (zone : Zone) (start : Feed) (first : ℕ) (before : Option (List ℕ)) (kept kept' : Kept) (ended ended' : Bool) (now : Feed) (last : ℕ) (mid after : Option (List ℕ)) (text table : List ℕ) (stop : Option Stop)
     → HasCompared form a b zone start first before kept kept' ended ended' now last mid text → EndsPair can_fail a.objects b.objects now last stop → WritesFront mid after (text ++ table) → WritesChangesFront form can_fail a b zone start first before after
 compared_last form can_fail a b zone start first before kept kept' ended ended' now last mid after text table stop h ends front =
     let changes : List ℕ = changes_text form a b zone h.noticed h.noticed' in
@@ -214,7 +214,7 @@ either false true false = refl
 either false false true = refl
 either false false false = refl
 
-pub compared_whole : (form : LineForm) (can_fail : Bool) (a b : Config) (zone : Zone) (start : Feed) (first : ℕ) (before : Option (List ℕ)) (kept kept' : Kept) (ended ended' : Bool) (now : Feed) (last : ℕ) (mid after : Option (List ℕ)) (text table : List ℕ) (stop : Option Stop) (ending : Ending)
+pub compared_whole : (form : ChangeForm) (can_fail : Bool) (a b : Config) (zone : Zone) (start : Feed) (first : ℕ) (before : Option (List ℕ)) (kept kept' : Kept) (ended ended' : Bool) (now : Feed) (last : ℕ) (mid after : Option (List ℕ)) (text table : List ℕ) (stop : Option Stop) (ending : Ending)
     → HasCompared form a b zone start first before kept kept' ended ended' now last mid text → EndsPair can_fail a.objects b.objects now last stop → Leaves mid after (text ++ table) []
     → ending ≡ cond ((ended || ended') || is_cut stop) Short Whole → WritesChanges form can_fail a b zone start first ending before after
 compared_whole form can_fail a b zone start first before kept kept' ended ended' now last mid after text table stop ending h ends leaves is =

@@ -9,8 +9,8 @@ use Rattle.written.specs.Written.{Writes, WritesFront}
 use Rattle.replay.specs.Replay.{AreOfFeed}
 use Rattle.replay.specs.Report.{ends_short}
 use Rattle.paired_feed.specs.PairedLaws.{lines_of}
-use Rattle.report_forms.specs.declared.shown.LineForm.{LineForm}
-use Rattle.notices_compared.specs.Changed.{changes_text}
+use Rattle.changed_notices.specs.declared.changed.ChangeForm.{ChangeForm}
+use Rattle.changed_notices.specs.Changed.{changes_text}
 use Rattle.notices_compared.specs.Sides.{line_notices}
 
 -- the answers are of the same lines
@@ -18,7 +18,7 @@ abbrev pub AreSameLines : List Answer → List Answer → Type 0
 AreSameLines given others = lines_of given ≡ lines_of others
 
 -- the changes from one report of a feed to another, line by line of the feed
-abbrev pub changes_between : LineForm → Config → Config → Zone → (given others : List Answer)
+abbrev pub changes_between : ChangeForm → Config → Config → Zone → (given others : List Answer)
     → List ℕ
 changes_between form a b zone given others =
     changes_text form a b zone (line_notices a zone [] given) (line_notices b zone [] others)
@@ -29,7 +29,7 @@ ending_of given others = if ends_short [] given || ends_short [] others then Sho
 
 -- What was written is the changes from the one report of the feed to the other, and then the table of the contacts, and the
 -- reading ended so.
-abbrev pub ComparesFor : LineForm → (can_fail : Bool) → (a b : Config) → (feed : List ℕ) → Zone
+abbrev pub ComparesFor : ChangeForm → (can_fail : Bool) → (a b : Config) → (feed : List ℕ) → Zone
     → Ending → (old new : Option (List ℕ)) → Type 0
 ComparesFor form can_fail a b feed zone ending old new =
     (given : List Answer) × (others : List Answer) × (table : List ℕ)
@@ -38,7 +38,7 @@ ComparesFor form can_fail a b feed zone ending old new =
     × Writes old new (changes_between form a b zone given others ++ table)
 
 -- what was written is a front of that
-abbrev pub ComparesFrontFor : LineForm → (can_fail : Bool) → (a b : Config) → (feed : List ℕ)
+abbrev pub ComparesFrontFor : ChangeForm → (can_fail : Bool) → (a b : Config) → (feed : List ℕ)
     → Zone → (old new : Option (List ℕ)) → Type 0
 ComparesFrontFor form can_fail a b feed zone old new =
     (given : List Answer) × (others : List Answer) × (table : List ℕ)

@@ -7,20 +7,20 @@ use Rattle.command_output.specs.declared.outcome.CommandFault.{CommandFault}
 use Rattle.command_output.specs.declared.outcome.CommandFault.TheVariants.{Objects, Unreadable, Output, NoMemory}
 use Rattle.command_output.specs.declared.outcome.Ending.{Ending}
 use Rattle.command_input.specs.Objects.{CommandFails, IsTextFault, IsTextOf}
-use Rattle.report_forms.specs.declared.shown.LineForm.{LineForm}
+use Rattle.changed_notices.specs.declared.changed.ChangeForm.{ChangeForm}
 use Rattle.notices_compared.specs.declared.fault.CompareFault.{CompareFault}
 use Rattle.notices_compared.specs.declared.fault.CompareFault.TheVariants.{Command, With, WithUnreadable}
 use Rattle.notices_compared.specs.Compares.{ComparesFor, ComparesFrontFor}
 
 -- What was written is the changes and the table, for the configurations of the two texts, and the reading ended so.
-abbrev pub ComparesOf : LineForm → (can_fail : Bool) → (first second feed : List ℕ) → Zone
+abbrev pub ComparesOf : ChangeForm → (can_fail : Bool) → (first second feed : List ℕ) → Zone
     → Ending → (old new : Option (List ℕ)) → Type 0
 ComparesOf form can_fail first second feed zone ending old new =
     (a : Config) × (b : Config) × IsTextOf a first × IsTextOf b second
     × ComparesFor form can_fail a b feed zone ending old new
 
 -- what was written is a front of that
-abbrev pub ComparesFrontOf : LineForm → (can_fail : Bool) → (first second feed : List ℕ) → Zone
+abbrev pub ComparesFrontOf : ChangeForm → (can_fail : Bool) → (first second feed : List ℕ) → Zone
     → (old new : Option (List ℕ)) → Type 0
 ComparesFrontOf form can_fail first second feed zone old new =
     (a : Config) × (b : Config) × IsTextOf a first × IsTextOf b second
@@ -37,7 +37,7 @@ SecondFails can_fail (Command NoMemory) known = ⊤
 
 -- What a fault says: where a text is refused or can't be read nothing was written, and the first is looked at before the
 -- second; where the output failed what was written is a front, and where memory ran out that, or nothing.
-abbrev pub FailsOf : LineForm → (first_can_fail second_can_fail can_fail : Bool)
+abbrev pub FailsOf : ChangeForm → (first_can_fail second_can_fail can_fail : Bool)
     → (first second feed : List ℕ) → Zone → CompareFault → (old new : Option (List ℕ)) → Type 0
 FailsOf form x y can_fail first second feed zone (Command fault) old new =
     CommandFails x first fault old new

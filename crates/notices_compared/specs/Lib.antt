@@ -1,6 +1,3 @@
-pub mod Names
-pub mod Left
-pub mod Changed
 pub mod Sides
 pub mod Compares
 pub mod Stream

@@ -6,11 +6,11 @@ use Rattle.event_feed.specs.Feed.{Answer, AreGivenBy, Feed}
 use Rattle.command_output.specs.declared.outcome.Ending.{Ending}
 use Rattle.written.specs.Written.{Writes, WritesFront}
 use Rattle.paired_feed.specs.Paired.{since}
-use Rattle.report_forms.specs.declared.shown.LineForm.{LineForm}
+use Rattle.changed_notices.specs.declared.changed.ChangeForm.{ChangeForm}
 use Rattle.notices_compared.specs.Compares.{AreSameLines, changes_between, ending_of}
 
 -- the changes over a feed were written, and a table, and it ended so
-pub record WritesChanges (form : LineForm) (can_fail : Bool) (a b : Config) (zone : Zone)
+pub record WritesChanges (form : ChangeForm) (can_fail : Bool) (a b : Config) (zone : Zone)
     (feed : Feed) (last : ℕ) (ending : Ending) (before after : Option (List ℕ)) : Type 0 where
   pub given : List Answer
   pub others : List Answer
@@ -22,7 +22,7 @@ pub record WritesChanges (form : LineForm) (can_fail : Bool) (a b : Config) (zon
   pub writes : Writes before after (changes_between form a b zone given others ++ table)
 
 -- a front of that was written
-pub record WritesChangesFront (form : LineForm) (can_fail : Bool) (a b : Config) (zone : Zone)
+pub record WritesChangesFront (form : ChangeForm) (can_fail : Bool) (a b : Config) (zone : Zone)
     (feed : Feed) (last : ℕ) (before after : Option (List ℕ)) : Type 0 where
   pub given : List Answer
   pub others : List Answer

@@ -8,20 +8,18 @@ ghost use Rattle.due_model.specs.declared.event.Event.{Event};
 ghost use Rattle.due_model.specs.Accepted.{IsAccepted};
 ghost use Rattle.due_model.specs.Proper.{IsProper};
 ghost use Rattle.decider.specs.Fits.{Fits, core_kept};
-ghost use Rattle.notices_compared.specs.Changed.{changes_of};
+ghost use Rattle.changed_notices.specs.Changed.{changes_of};
 ghost use Rattle.notices_compared.specs.Sides.{given_notices, past_on};
 ghost use Rattle.paired_feed.specs.Paired.{is_cut};
 ghost use Rattle.replay.specs.Report.{is_ended};
 
-use crate::changed::{Form, Given, push_changes};
 use crate::side::Side;
-use crate::table::{ToldBy, push_table};
-use crate::tally::Tallies;
+use changed_notices::{ChangeForm, Form, Given, push_changes};
 use command_output::{CommandFault, Ending};
+use contact_tallies::{Tallies, ToldBy, push_table};
 use due_model::config::Config;
 use due_model::zone::Zone;
 use paired_feed::PairedLine;
-use report_forms::LineForm;
 use std::alloc::{AllocError, Global};
 use text_lines::Stop;
 use zone_times::clock::ZoneClock;
@@ -44,7 +42,7 @@ impl<'a> Comparison<'a> {
         before: &'a Config,
         after: &'a Config,
         zone: &'a Zone,
-        form: LineForm,
+        form: ChangeForm,
     ) -> Result<Comparison<'a>, AllocError>
         requires before { IsAccepted before.now }
         requires after { IsAccepted after.now }
@@ -143,11 +141,11 @@ impl<'a> Comparison<'a> {
     {
         let before = ToldBy {
             config: self.before.config,
-            tallies: self.told_before.contacts.as_slice(),
+            tallies: &self.told_before,
         };
         let after = ToldBy {
             config: self.after.config,
-            tallies: self.told_after.contacts.as_slice(),
+            tallies: &self.told_after,
         };
         let mut table = Vec::new(self.form.alloc);
         push_table(self.form.form, &mut table, before, after)?;

@@ -9,11 +9,11 @@ ghost use Rattle.notices_compared.specs.declared.fault.CompareFault.TheVariants.
 
 use crate::compare;
 use crate::fault::{CompareFault, fault_of_second};
+use changed_notices::ChangeForm;
 use command_input::read_object_file;
 use command_output::{Ending, Sink};
 use due_model::config::Config;
 use due_model::zone::Zone;
-use report_forms::LineForm;
 use std::alloc::Global;
 use text_lines::Input;
 
@@ -26,7 +26,7 @@ pub fn compare_files<O: Input + Drop, S: Input + Drop, R: Input + Drop, W: Sink>
     before: O,
     after: S,
     feed: R,
-    form: LineForm,
+    form: ChangeForm,
     writer: &mut W,
 ) -> Result<Ending, CompareFault>
     ensures changes { IfSome (O.remaining before) (λ first. IfSome (S.remaining after) (λ second.

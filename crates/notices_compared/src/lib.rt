@@ -7,27 +7,22 @@ ghost use Rattle.command_output.specs.Outcome.{IsWriteFault};
 ghost use Rattle.due_model.specs.Accepted.{IsAccepted};
 ghost use Rattle.notices_compared.specs.Compares.{ComparesFor, ComparesFrontFor};
 
-mod changed;
 mod comparison;
 mod fault;
 mod files;
 mod laws;
-mod left;
-mod names;
 mod side;
 mod stream;
-mod table;
-mod tally;
 
+use changed_notices::ChangeForm;
 use command_output::{CommandFault, Ending, Sink};
 use comparison::Comparison;
 use due_model::config::Config;
 use due_model::zone::Zone;
 pub use fault::{CompareFault, compare_status};
 pub use files::compare_files;
-pub use laws::{line_notices_are_the_reports, lost_is_the_difference};
+pub use laws::line_notices_are_the_reports;
 use paired_feed::PairedFeed;
-use report_forms::LineForm;
 use std::alloc::Global;
 use stream::write_changes;
 use text_lines::{Input, LineReader};
@@ -42,7 +37,7 @@ pub fn compare<R: Input + Drop, W: Sink>(
     after: &Config,
     zone: &Zone,
     feed: R,
-    form: LineForm,
+    form: ChangeForm,
     writer: &mut W,
 ) -> Result<Ending, CommandFault>
     requires before { IsAccepted before.now }
@@ -56,7 +51,8 @@ pub fn compare<R: Input + Drop, W: Sink>(
         (W.contents writer.old) (W.contents writer.new)) }
     ensures fault { IfErr result (λ fault. IsWriteFault W.can_fail fault) }
 {
-    let mut feed = PairedFeed::new(LineReader::new(alloc, feed)?);
+    let lines = LineReader::new(alloc, feed)?;
+    let mut paired = PairedFeed::new(lines);
     let mut both = Comparison::new(alloc, before, after, zone, form)?;
-    write_changes(alloc, &mut feed, &mut both, writer)
+    write_changes(alloc, &mut paired, &mut both, writer)
 }

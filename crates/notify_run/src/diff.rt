@@ -4,10 +4,10 @@ ghost use Rattle.std.specs.Prelude.{◌≡◌};
 ghost use Rattle.std.specs.Process.{exit_status};
 ghost use Rattle.notices_compared.specs.Fault.{compare_status};
 
+use changed_notices::ChangeForm;
 use command_output::{AnyWriter, CommandFault, Ending};
 use due_model::zone::Zone;
 use notices_compared::{CompareFault, compare_files, compare_status};
-use report_forms::LineForm;
 use std::fs::File;
 use std::process::ExitCode;
 use text_lines::AnyReader;
@@ -28,7 +28,7 @@ fn do_diff(
     zone: &Zone,
     objects: &str,
     changed: &str,
-    form: LineForm,
+    form: ChangeForm,
 ) -> Result<Ending, CompareFault> {
     let Ok(before) = File::open(rt, objects) else {
         return Err(CompareFault::Command(CommandFault::Unreadable));
@@ -52,9 +52,9 @@ pub(crate) fn status_of_diff(
     json: bool,
 ) -> ExitCode {
     let form = if json {
-        LineForm::Json
+        ChangeForm::Json
     } else {
-        LineForm::Plain
+        ChangeForm::Plain
     };
     status_of_comparison(rt, do_diff(rt, zone, objects, changed, form))
 }

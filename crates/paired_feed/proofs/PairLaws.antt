@@ -1,6 +1,7 @@
 -- What a feed gives by one configuration, from what it gives by another: the same lines answer, and end it alike.
-use Rattle.std.proofs.Common.{◌≡◌, ℕ, suc, ◌+◌, ◌<◌, true, false, cond, ltb, eqb, List, [], ◌∷◌, ◌++◌, length, replicate, Option, None, Some, Bool, IfSome, IsSome, Result, Ok, Err, refl, sym, ap, ap₂, subst, ◌∙◌, inl, inr, arith}
-use Rattle.std.specs.Prelude.{is_some, take_while}
+use Rattle.std.proofs.Common.{◌≡◌, ℕ, zero, suc, ◌+◌, ◌<◌, true, false, cond, ltb, eqb, List, [], ◌∷◌, ◌++◌, length, replicate, take, Option, None, Some, Bool, IfSome, IsSome, Result, Ok, Err, refl, sym, ap, ap₂, subst, ◌∙◌, inl, inr, arith, one-add}
+use Rattle.std.specs.List.{prefix_len}
+use Rattle.std.specs.Prelude.{is_some}
 use Rattle.std.proofs.lemmas.Bool.{ne_eqb, true≢false}
 use Rattle.std.proofs.lemmas.List.Elements.{All-nil}
 use Rattle.due_model.specs.declared.config.Config.{Config}
@@ -51,7 +52,7 @@ goes_on objects from last text others answer more e on = by (is_stopped from tex
         absurd (true≢false (ap (λ (a : Answer). ends_feed a.given) same ∙ on))
 
 replicate-first : (n : ℕ) (text : List ℕ) (others : List (List ℕ)) → HasFirst (replicate n [] ++ text ∷ others)
-replicate-first 0 text others = record { first = text; others = others; are = refl }
+replicate-first zero text others = record { first = text; others = others; are = refl }
 replicate-first (suc n) text others = record { first = []; others = replicate n [] ++ text ∷ others; are = refl }
 
 -- By another configuration the line of a text gives what that says of its objects.
@@ -61,7 +62,7 @@ pub other_next : (a b : List Object) (from before last : ℕ) (n : ℕ) (text : 
     → answers b from last (replicate n [] ++ text ∷ others)
     ≡ record { line = from + n + 1; given = text_reading b last text }
     ∷ answers b (from + n + 1) (moment_after last (text_reading b last text)) others
-other_next a b from before last 0 text others answer more first some on e =
+other_next a b from before last zero text others answer more first some on e =
     let number : from + 0 + 1 ≡ from + 1 = omega arith in
     rw number (text_next b from last text others first (goes_on a from before text others answer more e on) some)
 other_next a b from before last (suc n) text others answer more first some on e =
@@ -109,11 +110,9 @@ last_at a b from before last (text ∷ next ∷ more) answer ends e = by (is_sto
         absurd (true≢false (sym ends ∙ ap (λ (x : Answer). ends_feed x.given) same ∙ reads_on a before text))
 
 -- no answer of a later line is of the first
-from_first : (line number : ℕ) (b : Bool) (given given' : Result Event FeedFault) (more more' : List Answer)
-    → cond b (record { line = number; given = given } ∷ take_while (λ answer. ltb answer.line line) more) [] ≡ []
-    → cond b (record { line = number; given = given' } ∷ take_while (λ answer. ltb answer.line line) more') [] ≡ []
-from_first line number true given given' more more' e = absurd (cc)
-from_first line number false given given' more more' e = refl
+from_first : (b : Bool) (n n' : ℕ) (x y : Answer) (more more' : List Answer) → take (cond b (1 + n) 0) (x ∷ more) ≡ [] → take (cond b (1 + n') 0) (y ∷ more') ≡ []
+from_first true n n' x y more more' e = let some : x ∷ take n more ≡ [] = rw (← one-add) e in absurd (cc)
+from_first false n n' x y more more' e = refl
 
 later_at : (a b : List Object) (from before last : ℕ) (texts : List (List ℕ)) (line : ℕ) → AreFromLine line (answers a from before texts) → AreFromLine line (answers b from last texts)
 later_at a b from before last [] line h = h
@@ -128,7 +127,10 @@ later_at a b from before last (text ∷ next ∷ more) line h = by (is_stopped f
     by true z skipped h = h
     by false true skipped h = skipped h
     by false false skipped h =
-        from_first line (from + 1) (ltb (from + 1) line) (text_reading a before text) (text_reading b last text)
+        from_first (ltb (from + 1) line)
+        (prefix_len (λ (answer : Answer). ltb answer.line line) (answers a (from + 1) (moment_after before (text_reading a before text)) (next ∷ more)))
+        (prefix_len (λ (answer : Answer). ltb answer.line line) (answers b (from + 1) (moment_after last (text_reading b last text)) (next ∷ more)))
+        (record { line = from + 1; given = text_reading a before text }) (record { line = from + 1; given = text_reading b last text })
         (answers a (from + 1) (moment_after before (text_reading a before text)) (next ∷ more))
         (answers b (from + 1) (moment_after last (text_reading b last text)) (next ∷ more)) h
 
@@ -229,8 +231,11 @@ next_by a b old new last line answer given (Some known) None runs goes_on number
 next_by a b old new last line answer given (Some known) (Some after) runs goes_on number on e place =
     next_at a b old new last line answer given known after runs goes_on number on e place
 
-answer_same : (line line' : ℕ) (given given' : Result Event FeedFault) → line ≡ line' → given ≡ given' → record { line = line; given = given } ≡ record { line = line'; given = given' }
-answer_same line line' given given' e f = ap₂ (λ (n : ℕ) (r : Result Event FeedFault). record { line = n; given = r }) e f
+answer_of : ℕ → Result Event FeedFault → Answer
+answer_of line given = record { line = line; given = given }
+
+answer_same : (line line' : ℕ) (given given' : Result Event FeedFault) → line ≡ line' → given ≡ given' → answer_of line given ≡ answer_of line' given'
+answer_same line line' given given' e f = ap₂ answer_of e f
 
 -- both answers of a line
 both : (a b : Config) (old new : Feed) (last last' : ℕ) (first second : Result Event FeedFault) (pair : PairedLine) → old.stop ≡ None → new.stop ≡ None → old.line < new.line
@@ -338,7 +343,7 @@ fault_ends can_fail a b old new last fault stop runs over gives given =
 pub none_ends : (can_fail : Bool) (a b : Config) (old new : Feed) (last : ℕ) → old.stop ≡ None → GivesNone a.objects old new → new.stop ≡ Some InputEnded → EndsPair can_fail a.objects b.objects old last new.stop
 none_ends can_fail a b old new last runs gives over = record {
   refused = None;
-  first = none_given can_fail a.objects old new gives;
+  first = none_given can_fail a.objects old new gives.answers;
   second = none_for_each can_fail a.objects b.objects old new last runs gives.answers;
   ends = tt;
   cut = sym (ap is_cut over);

@@ -38,7 +38,7 @@ same_lines a b from before last (text ∷ next ∷ more) =
         ∷ answers b (from + 1) (moment_after last (text_reading b last text)) (next ∷ more))))
     by true z skipped said = refl
     by false true skipped said = skipped
-    by false false skipped said = ap (λ (lines : List ℕ). from + 1 ∷ lines) said
+    by false false skipped said = ap (λ (lines : List ℕ). (from + 1) ∷ lines) said
 
 -- of a feed that is read
 same_from : (a b : List Object) (feed : Feed) (last : ℕ) (known : List ℕ)

@@ -1,6 +1,0 @@
-use Rattle.std.proofs.Common.{◌≡◌, ◌++◌, take}
-use Rattle.notices_compared.specs.Changed.{changed_lines}
-use Rattle.notices_compared.proofs.changed.push_lines.Given as goal
-
-abbrev pub invariant-loop-notice : goal.invariant-loop-notice
-invariant-loop-notice l = l.text.items ≡ l.fn.text.items ++ changed_lines l.form.form l.sign l.config l.clock (take l.notice-index l.notices)

@@ -1,9 +1,0 @@
-use Rattle.std.proofs.Common.{◌≡◌, length}
-use Rattle.notices_compared.specs.Left.{left_of}
-use Rattle.notices_compared.proofs.left.after_common.Given as goal
-
-abbrev pub invariant-loop-notices : goal.invariant-loop-notices
-invariant-loop-notices l = left_of l.a l.b l.fn.notices l.fn.others ≡ left_of l.a l.b l.notices l.others
-
-abbrev pub decreases-loop-notices : goal.decreases-loop-notices
-decreases-loop-notices l = length l.notices

@@ -1,6 +1,0 @@
-use Rattle.std.proofs.Common.{◌≡◌, drop}
-use Rattle.notices_compared.specs.Left.{left_of}
-use Rattle.notices_compared.proofs.left.left_of.Given as goal
-
-abbrev pub invariant-loop-notice : goal.invariant-loop-notice
-invariant-loop-notice l = left_of l.a l.b (drop l.notice-index l.notices) l.left.items ≡ left_of l.a l.b l.notices l.others
