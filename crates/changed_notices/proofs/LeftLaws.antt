@@ -29,26 +29,28 @@ key_by contact lane name host contact' lane' name' host' e f g h =
 
 key-same : (k l : Key) → same_key k l ≡ true → k ≡ l
 key-same k l e =
-    let p = and_parts (bytes_eq k.contact l.contact) _ e in
-    let q = and_parts (bytes_eq k.lane l.lane) _ p.1 in
-    let r = and_parts (bytes_eq k.name l.name) _ q.1 in
+    let r = and_parts (bytes_eq k.contact l.contact && bytes_eq k.lane l.lane && bytes_eq k.name l.name) (same_host k.host l.host) e in
+    let q = and_parts (bytes_eq k.contact l.contact && bytes_eq k.lane l.lane) (bytes_eq k.name l.name) r.0 in
+    let p = and_parts (bytes_eq k.contact l.contact) (bytes_eq k.lane l.lane) q.0 in
     key_by k.contact k.lane k.name k.host l.contact l.lane l.name l.host
-    ((bytes_eq-Decides k.contact l.contact).0 p.0) ((bytes_eq-Decides k.lane l.lane).0 q.0) ((bytes_eq-Decides k.name l.name).0 r.0) (host-same k.host l.host r.1)
+    ((bytes_eq-Decides k.contact l.contact).0 p.0) ((bytes_eq-Decides k.lane l.lane).0 p.1) ((bytes_eq-Decides k.name l.name).0 q.1) (host-same k.host l.host r.1)
 
 key-own : (k : Key) → same_key k k ≡ true
 key-own k =
-    and_from _ _ ((bytes_eq-Decides k.contact k.contact).1 refl)
-    (and_from _ _ ((bytes_eq-Decides k.lane k.lane).1 refl) (and_from _ _ ((bytes_eq-Decides k.name k.name).1 refl) (host-own k.host)))
+    and_from (bytes_eq k.contact k.contact && bytes_eq k.lane k.lane && bytes_eq k.name k.name) (same_host k.host k.host)
+    (and_from (bytes_eq k.contact k.contact && bytes_eq k.lane k.lane) (bytes_eq k.name k.name)
+    (and_from (bytes_eq k.contact k.contact) (bytes_eq k.lane k.lane) ((bytes_eq-Decides k.contact k.contact).1 refl) ((bytes_eq-Decides k.lane k.lane).1 refl))
+    ((bytes_eq-Decides k.name k.name).1 refl)) (host-own k.host)
 
 -- ---- counting
 
-one : Bool → ℕ
+abbrev one : Bool → ℕ
 one true = 1
 one false = 0
 
 length-cond : (b : Bool) (n : Notice) (ns : List Notice) → length (cond b (n ∷ ns) ns) ≡ one b + length ns
 length-cond true n ns = omega arith
-length-cond false n ns = refl
+length-cond false n ns = omega arith
 
 count-cons : (c : Config) (key : Key) (n : Notice) (ns : List Notice) → count_of c key (n ∷ ns) ≡ one (same_key key (key_of c n)) + count_of c key ns
 count-cons c key n ns = length-cond (same_key key (key_of c n)) n (filter (λ m. same_key key (key_of c m)) ns)
@@ -64,10 +66,10 @@ apart key k l e f g =
 
 -- a notice of another key leaves as many of each
 kept : (b c : Bool) (x y : ℕ) → (b ≡ true → c ≡ true → ⊥) → y ≡ x - one b → one c + y ≡ one c + x - one b
-kept true true x y no e = absurd (no refl refl)
-kept true false x y no e = omega (arith, e)
-kept false true x y no e = omega (arith, e)
-kept false false x y no e = omega (arith, e)
+kept true true x y never e = absurd (never refl refl)
+kept true false x y never e = omega (arith, e)
+kept false true x y never e = omega (arith, e)
+kept false false x y never e = omega (arith, e)
 
 taken : (b : Bool) (x y z : ℕ) → x ≡ one b + y → z ≡ one b → y ≡ x - z
 taken true x y z e f = omega (arith, e, f)
@@ -76,13 +78,14 @@ taken false x y z e f = omega (arith, e, f)
 without-count : (a b : Config) (key : Key) (n : Notice) (ms : List Notice)
     → count_of b key (without_first (is_same a b n) ms) ≡ count_of b key ms - one (same_key key (key_of a n))
 without-count a b key n [] = omega arith
-without-count a b key n (m ∷ ms) = by (is_same a b n m) refl
+without-count a b key n (m ∷ ms) = by (is_same a b n m) refl (without-count a b key n ms)
   where
-    by : (s : Bool) → is_same a b n m ≡ s → count_of b key (cond s ms (m ∷ without_first (is_same a b n) ms)) ≡ count_of b key (m ∷ ms) - one (same_key key (key_of a n))
-    by true e = taken (same_key key (key_of b m)) (count_of b key (m ∷ ms)) (count_of b key ms) (one (same_key key (key_of a n))) (count-cons b key m ms) (one-same key (key_of a n) (key_of b m) e)
-    by false e =
+    by : (s : Bool) → is_same a b n m ≡ s → count_of b key (without_first (is_same a b n) ms) ≡ count_of b key ms - one (same_key key (key_of a n))
+        → count_of b key (cond s ms (m ∷ without_first (is_same a b n) ms)) ≡ count_of b key (m ∷ ms) - one (same_key key (key_of a n))
+    by true e rest = taken (same_key key (key_of b m)) (count_of b key (m ∷ ms)) (count_of b key ms) (one (same_key key (key_of a n))) (count-cons b key m ms) (one-same key (key_of a n) (key_of b m) e)
+    by false e rest =
         count-cons b key m (without_first (is_same a b n) ms)
-        ∙ kept (same_key key (key_of a n)) (same_key key (key_of b m)) (count_of b key ms) _ (apart key (key_of a n) (key_of b m) e) (without-count a b key n ms)
+        ∙ kept (same_key key (key_of a n)) (same_key key (key_of b m)) (count_of b key ms) _ (apart key (key_of a n) (key_of b m) e) rest
         ∙ ap (λ (x : ℕ). x - one (same_key key (key_of a n))) (sym (count-cons b key m ms))
 
 minus : (x y z u w : ℕ) → w ≡ x - y → u ≡ y + z → w - z ≡ x - u
@@ -121,23 +124,31 @@ none-first is (m ∷ ms) h = by (is m) refl (none-first is ms) h
     by false e rest h = ap (λ (xs : List Notice). m ∷ xs) (rest (omega (arith, h)))
 
 -- by the place that is found
-pub place-taken : (is : Notice → Bool) (ms : List Notice) (i : ℕ) → position is ms ≡ Some i → (i < length ms) × (remove ms i ≡ without_first is ms)
-place-taken is ms i e = by (ltb (position_or_len is ms) (length ms)) refl e
+pub place_within : (is : Notice → Bool) (ms : List Notice) (i : ℕ) → position is ms ≡ Some i → i < length ms
+place_within is ms i e = by (ltb (position_or_len is ms) (length ms)) refl e
   where
-    by : (b : Bool) → ltb (position_or_len is ms) (length ms) ≡ b → cond b (Some (position_or_len is ms)) None ≡ Some i → (i < length ms) × (remove ms i ≡ without_first is ms)
+    by : (b : Bool) → ltb (position_or_len is ms) (length ms) ≡ b → cond b (Some (position_or_len is ms)) None ≡ Some i → i < length ms
     by true within f =
         let at : position_or_len is ms ≡ i = cc in
-        let less : position_or_len is ms < length ms = ltb-true _ _ within in
-        (rw (← at) less, rw (← at) (taken-first is ms less))
+        subst (λ (k : ℕ). k < length ms) at (ltb-true _ _ within)
     by false past f = absurd (cc)
 
-pub no-place : (is : Notice → Bool) (ms : List Notice) → position is ms ≡ None → without_first is ms ≡ ms
-no-place is ms e = by (ltb (position_or_len is ms) (length ms)) refl e
+pub place_taken : (is : Notice → Bool) (ms : List Notice) (i : ℕ) → position is ms ≡ Some i → remove ms i ≡ without_first is ms
+place_taken is ms i e = by (ltb (position_or_len is ms) (length ms)) refl e
   where
-    by : (b : Bool) → ltb (position_or_len is ms) (length ms) ≡ b → cond b (Some (position_or_len is ms)) None ≡ None → without_first is ms ≡ ms
+    by : (b : Bool) → ltb (position_or_len is ms) (length ms) ≡ b → cond b (Some (position_or_len is ms)) None ≡ Some i → remove ms i ≡ without_first is ms
+    by true within f =
+        let at : position_or_len is ms ≡ i = cc in
+        subst (λ (k : ℕ). remove ms k ≡ without_first is ms) at (taken-first is ms (ltb-true _ _ within))
+    by false past f = absurd (cc)
+
+pub no_place : (is : Notice → Bool) (ms : List Notice) → position is ms ≡ None → ms ≡ without_first is ms
+no_place is ms e = by (ltb (position_or_len is ms) (length ms)) refl e
+  where
+    by : (b : Bool) → ltb (position_or_len is ms) (length ms) ≡ b → cond b (Some (position_or_len is ms)) None ≡ None → ms ≡ without_first is ms
     by true within f = absurd (cc)
-    by false past f = none-first is ms (ltb-false _ _ past)
+    by false past f = sym (none-first is ms (ltb-false _ _ past))
 
 -- the same pair at the front of both lists goes
-pub same-front : (a b : Config) (n m : Notice) (ns ms : List Notice) → is_same a b n m ≡ true → left_of a b (n ∷ ns) (m ∷ ms) ≡ left_of a b ns ms
-same-front a b n m ns ms e = ap (λ (s : Bool). left_of a b ns (cond s ms (m ∷ without_first (is_same a b n) ms))) e
+pub same_front : (a b : Config) (n m : Notice) (ns ms : List Notice) → is_same a b n m ≡ true → left_of a b (n ∷ ns) (m ∷ ms) ≡ left_of a b ns ms
+same_front a b n m ns ms e = ap (λ (s : Bool). left_of a b ns (cond s ms (m ∷ without_first (is_same a b n) ms))) e

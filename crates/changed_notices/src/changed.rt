@@ -1,6 +1,6 @@
 //! The lines of notices that one of two configurations alone gives.
 
-ghost use Rattle.std.specs.Prelude.{◌≡◌, ◌++◌, OnOk};
+ghost use Rattle.std.specs.Prelude.{◌≡◌, ◌∷◌, ◌++◌, drop, OnOk};
 ghost use Rattle.changed_notices.specs.Changed.{changed_line, changed_lines, changes_of};
 
 use crate::left::left_of;
@@ -27,6 +27,22 @@ pub struct Form {
     pub form: ChangeForm,
 }
 
+/// What stands in a line after so many bytes.
+fn after(line: &[u8], count: usize) -> &[u8]
+    ensures { result.now ≡ drop count line.now }
+{
+    line.get(count..).unwrap_or(&[])
+}
+
+/// Adds what stands before a letter, a sign in its place, and what follows.
+fn push_signed(text: &mut Vec<u8>, front: &[u8], sign: u8, rest: &[u8]) -> Result<(), AllocError>
+    ensures { OnOk result (text.new.items ≡ text.old.items ++ front.now ++ sign ∷ rest.now) }
+{
+    text.extend_from_slice(front)?;
+    text.push(sign)?;
+    text.extend_from_slice(rest)
+}
+
 /// Adds a notice's line of a report, with a sign in place of its letter.
 fn push_changed(
     form: Form,
@@ -44,14 +60,11 @@ fn push_changed(
     match form.form {
         ChangeForm::Plain => {
             push_plain(&mut line, config, &told)?;
-            text.push(sign)?;
-            text.extend_from_slice(line.get(1..).unwrap_or(&[]))
+            push_signed(text, b"", sign, after(&line, 1))
         }
         ChangeForm::Json => {
             push_json(form.alloc, &mut line, config, clock, &told)?;
-            text.extend_from_slice(b"{\"letter\":\"")?;
-            text.push(sign)?;
-            text.extend_from_slice(line.get(12..).unwrap_or(&[]))
+            push_signed(text, b"{\"letter\":\"", sign, after(&line, 12))
         }
     }
 }
@@ -96,8 +109,8 @@ pub fn push_changes(
     given: Given<'_>,
 ) -> Result<(), AllocError>
     ensures { OnOk result (text.new.items ≡ text.old.items
-        ++ changes_of form.form given.a.now given.b.now clock.now
-        given.before.now given.after.now) }
+        ++ changes_of form.form given.entry.a.now given.entry.b.now clock.now
+        given.entry.before.now given.entry.after.now) }
 {
     let Given {
         a,

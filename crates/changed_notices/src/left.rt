@@ -11,6 +11,7 @@ use due_model::notice::Notice;
 use std::alloc::{AllocError, Global};
 
 /// What follows the notices at the front of both lists that are the same in pairs.
+#[tactic(auto, using(crate::proofs::LeftLaws::same_front))]
 fn after_common<'x>(
     a: &Config,
     b: &Config,
@@ -42,6 +43,7 @@ fn place_of(a: &Config, b: &Config, notice: &Notice, others: &[Notice]) -> Optio
 }
 
 /// Takes the first of some notices out that is the same as one of another configuration.
+#[tactic(auto, using(crate::proofs::LeftLaws::place_taken, crate::proofs::LeftLaws::no_place))]
 fn take_out(a: &Config, b: &Config, notice: &Notice, others: &mut Vec<Notice>)
     ensures { others.new.items
         ≡ without_first (is_same a.now b.now notice.now) others.old.items }

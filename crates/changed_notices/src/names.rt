@@ -41,7 +41,7 @@ fn host_of(config: &Config, object: ObjectId) -> Option<ObjectId>
 
 /// Whether two objects are hosts, or services of hosts of one name.
 fn same_host(host: Option<&[u8]>, other: Option<&[u8]>) -> bool
-    ensures { result ≡ same_host (option_copied host) (option_copied other) }
+    ensures { result ≡ same_host (option_copied host.entry) (option_copied other.entry) }
 {
     match (host, other) {
         (None, None) => true,

@@ -11,6 +11,14 @@ use Rattle.text_lines.specs.Lines.{pieces}
 use Rattle.replay.specs.Report.{ends_short, is_ended, past_after}
 use Rattle.notices_compared.specs.Sides.{Follows, given_notices, line_notices, past_on}
 
+pub or_none : (b : Bool) → b ≡ (b || false)
+or_none true = refl
+or_none false = refl
+
+pub or_all : (b : Bool) → true ≡ (b || true)
+or_all true = refl
+or_all false = refl
+
 -- at first nothing was given
 pub follows_start : (c : Config) (zone : Zone) (start : Feed) → start.stop ≡ None → Follows c zone start [] [] false [] start
 follows_start c zone start runs = record {

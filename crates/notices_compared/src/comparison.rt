@@ -18,7 +18,9 @@ use changed_notices::{ChangeForm, Form, Given, push_changes};
 use command_output::{CommandFault, Ending};
 use contact_tallies::{Tallies, ToldBy, push_table};
 use due_model::config::Config;
+use due_model::event::Event;
 use due_model::zone::Zone;
+use event_feed::FeedFault;
 use paired_feed::PairedLine;
 use std::alloc::{AllocError, Global};
 use text_lines::Stop;
@@ -104,9 +106,7 @@ impl<'a> Comparison<'a> {
             (given_notices self.old.after.config.now self.old.after.zone.now past' pair.second)) }
         ensures fault { IfErr result (λ fault. fault ≡ NoMemory) }
     {
-        if let Ok(event) = pair.first {
-            self.clock.move_to(event.moment);
-        }
+        move_clock(&mut self.clock, self.before.config, pair.first);
         self.before.take(pair.first)?;
         self.after.take(pair.second)?;
         self.told_before
@@ -150,6 +150,16 @@ impl<'a> Comparison<'a> {
         let mut table = Vec::new(self.form.alloc);
         push_table(self.form.form, &mut table, before, after)?;
         text.extend_from_slice(table.as_slice())
+    }
+}
+
+/// Tells a clock the moment of an event, if there is one.
+fn move_clock(clock: &mut ZoneClock<'_>, _config: &Config, given: Result<Event, FeedFault>)
+    requires { IfOk given (IsProper _config.now) }
+    ensures { clock.new ≡ clock.old }
+{
+    if let Ok(event) = given {
+        clock.move_to(event.moment);
     }
 }
 

@@ -1,6 +1,6 @@
 //! One of the two configurations: its decider, and the notices of the last line of the feed.
 
-ghost use Rattle.std.specs.Prelude.{◌≡◌, ◌++◌, ◌||◌, [], List, false, IfErr, IfOk, OnOk};
+ghost use Rattle.std.specs.Prelude.{◌≡◌, ◌++◌, ◌||◌, [], List, false, IfErr, IfOk, Ok, OnOk};
 ghost use Rattle.command_output.specs.declared.outcome.CommandFault.TheVariants.{NoMemory};
 ghost use Rattle.due_model.specs.declared.event.Event.{Event};
 ghost use Rattle.due_model.specs.Accepted.{IsAccepted};
@@ -77,12 +77,32 @@ impl<'a> Side<'a> {
         ensures fault { IfErr result (λ fault. fault ≡ NoMemory) }
     {
         self.notices.clear();
-        let Ok(event) = given else {
-            return Ok(());
-        };
+        match given {
+            Ok(event) => self.decide(event),
+            Err(_) => Ok(()),
+        }
+    }
+
+    /// Decides an event. No notices are there yet.
+    fn decide(&mut self, event: Event) -> Result<(), CommandFault>
+        requires proper { IsProper self.old.config.now event }
+        requires fits { (past : List Event) × Fits (core_kept self.old.decider) past }
+        requires empty { self.old.notices.items ≡ [] }
+        ensures config { self.new.config.now ≡ self.old.config.now }
+        ensures zone { self.new.zone.now ≡ self.old.zone.now }
+        ensures fits { OnOk result ((past : List Event) → Fits (core_kept self.old.decider) past
+            → Fits (core_kept self.new.decider) (past_on past (Ok event))) }
+        ensures notices { OnOk result ((past : List Event) → Fits (core_kept self.old.decider) past
+            → self.new.notices.items
+            ≡ given_notices self.old.config.now self.old.zone.now past (Ok event)) }
+        ensures ended { OnOk result ((past : List Event) → Fits (core_kept self.old.decider) past
+            → self.new.ended ≡ (self.old.ended || is_ended past (Ok event))) }
+        ensures fault { IfErr result (λ fault. fault ≡ NoMemory) }
+    {
         match self.decider.decide(event) {
             Ok(()) => {
-                add_notices(&mut self.notices, self.decider.entries())?;
+                let entries = self.decider.entries();
+                add_notices(&mut self.notices, entries)?;
                 Ok(())
             }
             Err(DecideFault::Ended) => {

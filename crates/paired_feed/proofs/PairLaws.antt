@@ -111,7 +111,7 @@ last_at a b from before last (text ∷ next ∷ more) answer ends e = by (is_sto
 
 -- no answer of a later line is of the first
 from_first : (b : Bool) (n n' : ℕ) (x y : Answer) (more more' : List Answer) → take (cond b (1 + n) 0) (x ∷ more) ≡ [] → take (cond b (1 + n') 0) (y ∷ more') ≡ []
-from_first true n n' x y more more' e = let some : x ∷ take n more ≡ [] = rw (← one-add) e in absurd (cc)
+from_first true n n' x y more more' e = let some : take (suc n) (x ∷ more) ≡ [] = rw one-add at e in absurd (cc)
 from_first false n n' x y more more' e = refl
 
 later_at : (a b : List Object) (from before last : ℕ) (texts : List (List ℕ)) (line : ℕ) → AreFromLine line (answers a from before texts) → AreFromLine line (answers b from last texts)
@@ -231,7 +231,7 @@ next_by a b old new last line answer given (Some known) None runs goes_on number
 next_by a b old new last line answer given (Some known) (Some after) runs goes_on number on e place =
     next_at a b old new last line answer given known after runs goes_on number on e place
 
-answer_of : ℕ → Result Event FeedFault → Answer
+abbrev answer_of : ℕ → Result Event FeedFault → Answer
 answer_of line given = record { line = line; given = given }
 
 answer_same : (line line' : ℕ) (given given' : Result Event FeedFault) → line ≡ line' → given ≡ given' → answer_of line given ≡ answer_of line' given'
@@ -311,7 +311,7 @@ fault_pair a b old new last last' fault pair runs goes_on gives number is is' mo
     let place : FaultComesTo a.objects old fault None new = subst (λ s. FaultComesTo a.objects old fault s new) goes_on gives.place in
     both a b old new last last' (Err fault.fault) (other_reading b.objects last new.text (Err fault.fault)) pair runs goes_on gives.line
     (subst (λ (n : ℕ). AnswersNext a.objects old (record { line = n; given = Err fault.fault }) new) gives.number next.0)
-    (fault_passes a.objects old new fault goes_on gives) next.1 (other_on b.objects last new.text fault.fault)
+    (fault_passes a.objects old fault new goes_on gives) next.1 (other_on b.objects last new.text fault.fault)
     (known_weaker old.bytes new.bytes _ _ place
     (λ known after h. subst (λ (n : ℕ). Placed b.objects last old.line known n (other_reading b.objects last new.text (Err fault.fault)) after) gives.number
     (refusal_placed a.objects b.objects last old.line known fault.line fault.fault new.text after h)))

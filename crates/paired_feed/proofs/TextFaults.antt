@@ -62,12 +62,12 @@ by_first f none some (argument ∷ more) = some argument more
 -- what the command of this name reads of its arguments, and after the host
 host-says : (objects : List Object) (name : List ℕ) → Says (arguments_reading objects (command_named name) [])
     → ((host : List ℕ) (more : List (List ℕ)) → Says (arguments_reading objects (command_named name) (host ∷ more))) → (arguments : List (List ℕ)) → Says (arguments_reading objects (command_named name) arguments)
-host-says objects name none some arguments = by_first (λ as. arguments_reading objects (command_named name) as) none some arguments
+host-says objects name none some arguments = by_first (λ more. arguments_reading objects (command_named name) more) none some arguments
 
 service-says : (objects : List Object) (name host : List ℕ) → Says (arguments_reading objects (command_named name) (host ∷ []))
     → ((service : List ℕ) (more : List (List ℕ)) → Says (arguments_reading objects (command_named name) (host ∷ service ∷ more)))
     → (arguments : List (List ℕ)) → Says (arguments_reading objects (command_named name) (host ∷ arguments))
-service-says objects name host none some arguments = by_first (λ as. arguments_reading objects (command_named name) (host ∷ as)) none some arguments
+service-says objects name host none some arguments = by_first (λ more. arguments_reading objects (command_named name) (host ∷ more)) none some arguments
 
 bare-says : (kind : EventKind) (arguments : List (List ℕ)) → Says (bare_reading kind arguments)
 bare-says kind [] = tt
@@ -84,14 +84,14 @@ arguments-says objects name arguments =
     either_says objects arguments (bytes_eq name (codes "CLOCK")) _ _ (bare-says Clock arguments)
     (either_says objects arguments (bytes_eq name (codes "ENABLE_NOTIFICATIONS")) _ _ (bare-says (Program true) arguments)
     (either_says objects arguments (bytes_eq name (codes "DISABLE_NOTIFICATIONS")) _ _ (bare-says (Program false) arguments)
-    (either_says objects arguments (bytes_eq name (codes "HOST_STATE")) _ _ (host-says objects (codes "HOST_STATE") refl (λ host more. last-says objects _ _ host None more) arguments)
-    (either_says objects arguments (bytes_eq name (codes "SERVICE_STATE")) _ _ (host-says objects (codes "SERVICE_STATE") refl (λ host more. service-says objects (codes "SERVICE_STATE") host refl (λ service rest. last-says objects _ _ host (Some service) rest) more) arguments)
-    (either_says objects arguments (bytes_eq name (codes "HOST_DOWNTIME")) _ _ (host-says objects (codes "HOST_DOWNTIME") refl (λ host more. last-says objects _ _ host None more) arguments)
-    (either_says objects arguments (bytes_eq name (codes "SERVICE_DOWNTIME")) _ _ (host-says objects (codes "SERVICE_DOWNTIME") refl (λ host more. service-says objects (codes "SERVICE_DOWNTIME") host refl (λ service rest. last-says objects _ _ host (Some service) rest) more) arguments)
-    (either_says objects arguments (bytes_eq name (codes "HOST_FLAPPING")) _ _ (host-says objects (codes "HOST_FLAPPING") refl (λ host more. last-says objects _ _ host None more) arguments)
-    (either_says objects arguments (bytes_eq name (codes "SERVICE_FLAPPING")) _ _ (host-says objects (codes "SERVICE_FLAPPING") refl (λ host more. service-says objects (codes "SERVICE_FLAPPING") host refl (λ service rest. last-says objects _ _ host (Some service) rest) more) arguments)
-    (either_says objects arguments (bytes_eq name (codes "HOST_ACK")) _ _ (host-says objects (codes "HOST_ACK") refl (λ host more. last-says objects _ _ host None more) arguments)
-    (either_says objects arguments (bytes_eq name (codes "SERVICE_ACK")) _ _ (host-says objects (codes "SERVICE_ACK") refl (λ host more. service-says objects (codes "SERVICE_ACK") host refl (λ service rest. last-says objects _ _ host (Some service) rest) more) arguments)
+    (either_says objects arguments (bytes_eq name (codes "HOST_STATE")) _ _ (host-says objects (codes "HOST_STATE") refl (λ host more. search (last-says)) arguments)
+    (either_says objects arguments (bytes_eq name (codes "SERVICE_STATE")) _ _ (host-says objects (codes "SERVICE_STATE") refl (λ host more. service-says objects (codes "SERVICE_STATE") host refl (λ service rest. search (last-says)) more) arguments)
+    (either_says objects arguments (bytes_eq name (codes "HOST_DOWNTIME")) _ _ (host-says objects (codes "HOST_DOWNTIME") refl (λ host more. search (last-says)) arguments)
+    (either_says objects arguments (bytes_eq name (codes "SERVICE_DOWNTIME")) _ _ (host-says objects (codes "SERVICE_DOWNTIME") refl (λ host more. service-says objects (codes "SERVICE_DOWNTIME") host refl (λ service rest. search (last-says)) more) arguments)
+    (either_says objects arguments (bytes_eq name (codes "HOST_FLAPPING")) _ _ (host-says objects (codes "HOST_FLAPPING") refl (λ host more. search (last-says)) arguments)
+    (either_says objects arguments (bytes_eq name (codes "SERVICE_FLAPPING")) _ _ (host-says objects (codes "SERVICE_FLAPPING") refl (λ host more. service-says objects (codes "SERVICE_FLAPPING") host refl (λ service rest. search (last-says)) more) arguments)
+    (either_says objects arguments (bytes_eq name (codes "HOST_ACK")) _ _ (host-says objects (codes "HOST_ACK") refl (λ host more. search (last-says)) arguments)
+    (either_says objects arguments (bytes_eq name (codes "SERVICE_ACK")) _ _ (host-says objects (codes "SERVICE_ACK") refl (λ host more. service-says objects (codes "SERVICE_ACK") host refl (λ service rest. search (last-says)) more) arguments)
     refl))))))))))
 
 command-says : (objects : List Object) (parts : List (List ℕ)) → Says (command_reading objects parts)
