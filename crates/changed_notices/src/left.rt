@@ -23,9 +23,10 @@ fn after_common<'x>(
 {
     let mut notices = notices;
     let mut others = others;
-    while let (Some((notice, after)), Some((other, later))) =
-        (notices.split_first(), others.split_first())
-    {
+    while let (Some((notice, after)), Some((other, later))) = (
+        notices.split_first(),
+        others.split_first(),
+    ) {
         if !is_same(a, b, notice, other) {
             break;
         }

@@ -33,7 +33,12 @@ pub(crate) fn diff_command<'a>(alloc: Global) -> Result<Command<'a>, AllocError>
     ensures words { IfOk result (λ command. app_of command ≡ diff_words) }
 {
     let objects = text_option(alloc, "objects", "FILE", "The file of object text as it is");
-    let changed = text_option(alloc, "with", "FILE", "The file of object text as it would be");
+    let changed = text_option(
+        alloc,
+        "with",
+        "FILE",
+        "The file of object text as it would be",
+    );
     let json = flag_option(alloc, "json", "Each line as a JSON object");
     let command = Command::new(alloc, "diff")
         .about("What a change of the object text does to the notices of a feed")

@@ -1,5 +1,9 @@
 //! What each contact is told of in all: pages, those at night, and the longest silence of a problem.
 
+ghost use Rattle.std.specs.Prelude.{◌≡◌, ◌≤◌};
+ghost use Rattle.contact_tallies.specs.Night.{is_night};
+ghost use Rattle.due_model.specs.Limits.{last_moment};
+
 use due_model::config::{Config, ContactId, ObjectId};
 use due_model::event::{Event, EventKind};
 use due_model::limits::LAST_MOMENT;
@@ -127,19 +131,19 @@ fn tell(told: &mut Vec<Told>, notice: &Notice) -> Result<u64, AllocError> {
 
 /// The tally with one notice more.
 fn with_notice(tally: Tally, clock: &ZoneClock<'_>, notice: &Notice, silence: u64) -> Tally {
-    let night = u64::from(is_night(clock, notice.moment));
+    let is_of_night = notice.moment <= LAST_MOMENT && is_night(clock, notice.moment);
     Tally {
         pages: tally.pages.saturating_add(1),
-        at_night: tally.at_night.saturating_add(night),
+        at_night: tally.at_night.saturating_add(u64::from(is_of_night)),
         silence: tally.silence.max(silence),
     }
 }
 
 /// Whether it is night by the clock, from 22:00 on and before 07:00.
-fn is_night(clock: &ZoneClock<'_>, moment: u64) -> bool {
-    if moment > LAST_MOMENT {
-        return false;
-    }
+fn is_night(clock: &ZoneClock<'_>, moment: u64) -> bool
+    requires { moment ≤ last_moment }
+    ensures { result ≡ is_night clock.now moment }
+{
     let second = clock.local_time(moment).second;
     second >= NIGHT || second < MORNING
 }

@@ -24,7 +24,6 @@ each_known P Q R S (Some first) None known p q s each = tt
 each_known P Q R S (Some first) (Some second) None p q s each = tt
 each_known P Q R S (Some first) (Some second) (Some bytes) p q s each = each first second bytes p q s
 
-
 module _ (form : ChangeForm) (x y can_fail : Bool) (zone : Zone) (firsts seconds known : Option (List ℕ)) (old new : Option (List ℕ)) where
   -- the first text gives no configuration
   pub first_failed : (fault : CommandFault) → FileFails x fault firsts

@@ -222,9 +222,9 @@ compared_whole form can_fail a b zone start first before kept kept' ended ended'
     let all = whole-text form a b zone start (since start first) now (since now last) h.given h.others ends.refused h.noticed h.noticed' ended ended' h.past h.past' h.one h.two h.even in
     let wrote = leaves_less before mid after (changes ++ table) (text ++ table) [] (leaves_longer before mid changes text table h.leaves) leaves in
     let short : ends_short [] (h.given ++ last_answers ends.refused) ≡ (ended || is_cut stop) =
-        h.one.short (last_answers ends.refused) ∙ ends_so ended h.past ends.refused ends.ends ∙ ap (λ (x : Bool). ended || x) ends.cut in
+    h.one.short (last_answers ends.refused) ∙ ends_so ended h.past ends.refused ends.ends ∙ ap (λ (x : Bool). ended || x) ends.cut in
     let short' : ends_short [] (h.others ++ last_answers ends.refused) ≡ (ended' || is_cut stop) =
-        h.two.short (last_answers ends.refused) ∙ ends_so ended' h.past' ends.refused ends.ends ∙ ap (λ (x : Bool). ended' || x) ends.cut in
+    h.two.short (last_answers ends.refused) ∙ ends_so ended' h.past' ends.refused ends.ends ∙ ap (λ (x : Bool). ended' || x) ends.cut in
     record {
       given = h.given ++ last_answers ends.refused;
       others = h.others ++ last_answers ends.refused;

@@ -70,11 +70,7 @@ impl<'a> Comparison<'a> {
 
     /// Takes what a line of the feed gives by each configuration, and adds what that changes to a text. After `Err`, which is want
     /// of memory, it isn't to be used.
-    pub(crate) fn take(
-        &mut self,
-        pair: PairedLine,
-        text: &mut Vec<u8>,
-    ) -> Result<(), CommandFault>
+    pub(crate) fn take(&mut self, pair: PairedLine, text: &mut Vec<u8>) -> Result<(), CommandFault>
         requires first { IfOk pair.first (IsProper self.old.before.config.now) }
         requires second { IfOk pair.second (IsProper self.old.after.config.now) }
         requires fits_before { (past : List Event) × Fits (core_kept self.old.before.decider) past }

@@ -168,7 +168,7 @@ over_by can_fail a b feed last stop None answer none is ends h = tt
 over_by can_fail a b feed last stop (Some known) answer none is ends h =
     let runs : feed.stop ≡ None = is ∙ none in
     let h' : AreGiven can_fail (answer ∷ []) (answers a feed.line feed.last (pieces known)) feed.line (pieces known) =
-        subst (λ s. AreGiven can_fail (answer ∷ []) (cond (is_some s) [] (answers a feed.line feed.last (pieces known))) feed.line (pieces known)) runs h in
+    subst (λ s. AreGiven can_fail (answer ∷ []) (cond (is_some s) [] (answers a feed.line feed.last (pieces known))) feed.line (pieces known)) runs h in
     subst (λ s. AreGiven can_fail (answer ∷ []) (cond (is_some s) [] (answers b feed.line last (pieces known))) feed.line (pieces known)) (sym runs)
     (over_at can_fail a b feed.line feed.last last (pieces known) answer ends h')
 
@@ -202,23 +202,23 @@ next_at : (a b : List Object) (old new : Feed) (last line : ℕ) (answer : Answe
     → answers_from b (since old last) known ≡ record { line = line; given = given } ∷ answers_from b (since new (moment_after last given)) after
 next_at a b old new last line answer given known after runs goes_on number on e place =
     let e' : answers a old.line old.last (pieces known) ≡ answer ∷ answers_from a new after =
-        subst (λ s. cond (is_some s) [] (answers a old.line old.last (pieces known)) ≡ answer ∷ answers_from a new after) runs e in
+    subst (λ s. cond (is_some s) [] (answers a old.line old.last (pieces known)) ≡ answer ∷ answers_from a new after) runs e in
     let at : answers a old.line old.last (replicate place.next.empty [] ++ place.text ∷ pieces after) ≡ answer ∷ answers_from a new after =
-        ap (λ (texts : List (List ℕ)). answers a old.line old.last texts) (sym place.next.are) ∙ e' in
+    ap (λ (texts : List (List ℕ)). answers a old.line old.last texts) (sym place.next.are) ∙ e' in
     let said : answers b old.line last (pieces known)
-        ≡ record { line = old.line + place.next.empty + 1; given = text_reading b last place.text }
-        ∷ answers b (old.line + place.next.empty + 1) (moment_after last (text_reading b last place.text)) (pieces after) =
-        ap (λ (texts : List (List ℕ)). answers b old.line last texts) place.next.are
-        ∙ other_next a b old.line old.last last place.next.empty place.text (pieces after) answer (answers_from a new after) (slice_split-first is_newline after) place.some on at in
+    ≡ record { line = old.line + place.next.empty + 1; given = text_reading b last place.text }
+    ∷ answers b (old.line + place.next.empty + 1) (moment_after last (text_reading b last place.text)) (pieces after) =
+    ap (λ (texts : List (List ℕ)). answers b old.line last texts) place.next.are
+    ∙ other_next a b old.line old.last last place.next.empty place.text (pieces after) answer (answers_from a new after) (slice_split-first is_newline after) place.some on at in
     let next : answers b old.line last (pieces known) ≡ record { line = line; given = given } ∷ answers b line (moment_after last given) (pieces after) =
-        said
-        ∙ ap (λ n. record { line = n; given = text_reading b last place.text } ∷ answers b n (moment_after last (text_reading b last place.text)) (pieces after)) (sym place.next.number)
-        ∙ ap (λ (r : Result Event FeedFault). record { line = line; given = r } ∷ answers b line (moment_after last r) (pieces after)) place.says in
+    said
+    ∙ ap (λ n. record { line = n; given = text_reading b last place.text } ∷ answers b n (moment_after last (text_reading b last place.text)) (pieces after)) (sym place.next.number)
+    ∙ ap (λ (r : Result Event FeedFault). record { line = line; given = r } ∷ answers b line (moment_after last r) (pieces after)) place.says in
     let start : answers_from b (since old last) known ≡ answers b old.line last (pieces known) =
-        ap (λ s. cond (is_some s) [] (answers b old.line last (pieces known))) runs in
+    ap (λ s. cond (is_some s) [] (answers b old.line last (pieces known))) runs in
     let end : answers b line (moment_after last given) (pieces after) ≡ answers_from b (since new (moment_after last given)) after =
-        ap (λ n. answers b n (moment_after last given) (pieces after)) (sym number)
-        ∙ sym (ap (λ s. cond (is_some s) [] (answers b new.line (moment_after last given) (pieces after))) goes_on) in
+    ap (λ n. answers b n (moment_after last given) (pieces after)) (sym number)
+    ∙ sym (ap (λ s. cond (is_some s) [] (answers b new.line (moment_after last given) (pieces after))) goes_on) in
     start ∙ next ∙ ap (λ (more : List Answer). record { line = line; given = given } ∷ more) end
 
 next_by : (a b : List Object) (old new : Feed) (last line : ℕ) (answer : Answer) (given : Result Event FeedFault) (bytes rest : Option (List ℕ)) → old.stop ≡ None → new.stop ≡ None → new.line ≡ line
@@ -246,7 +246,7 @@ both : (a b : Config) (old new : Feed) (last last' : ℕ) (first second : Result
 both a b old new last last' first second pair runs goes_on later answers lines on on' place number is is' moves =
     let answer : Answer = record { line = new.line; given = first } in
     let next : AnswersNext b.objects (since old last) (record { line = new.line; given = second }) (since new (moment_after last second)) =
-        next_by a.objects b.objects old new last new.line answer second old.bytes new.bytes runs goes_on refl on answers place in
+    next_by a.objects b.objects old new last new.line answer second old.bytes new.bytes runs goes_on refl on answers place in
     record {
       first = subst (λ (x : Answer). AnswersNext a.objects old x new) (sym (answer_same pair.line new.line pair.first first number is)) answers;
       second =

@@ -30,8 +30,8 @@ returns-in_ok-add_notices-in-Ok-clause-notices c = λ past s.
     let set = c.args.self.now.settings in
     let on : is_ended past (Ok c.args.event) ≡ false = ne_eqb (length past) max_events (λ at. ok_is_no_fault _ _ ((c.in-Ok.ensures.ended past s).1 at)) in
     let entries : c.entries-entries.result.now ≡ event_entries c.args.self.now.config.now c.args.self.now.zone.now c.args.event past =
-        c.entries-entries.ensures ∙ c.in-Ok.ensures.all past s (ap (λ (t : Config × Zone × Share). t.2.deciders) set)
-        ∙ ap (λ (t : Config × Zone × Share). event_entries t.0 t.1 c.args.event past) set in
+    c.entries-entries.ensures ∙ c.in-Ok.ensures.all past s (ap (λ (t : Config × Zone × Share). t.2.deciders) set)
+    ∙ ap (λ (t : Config × Zone × Share). event_entries t.0 t.1 c.args.event past) set in
     c.in_ok-add_notices-in-Ok.ensures
     ∙ ap (λ (ns : List Notice). ns ++ notices_in c.entries-entries.result.now) c.requires.empty
     ∙ ap (λ (es : List Entry). notices_in es) entries
