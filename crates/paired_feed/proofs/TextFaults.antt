@@ -1,5 +1,5 @@
 -- The faults of a line that is read: none of them ends the feed, and a line is too long for each configuration or for none.
-use Rattle.std.proofs.Common.{◌≡◌, ℕ, true, false, not, cond, codes, ltb, List, [], ◌∷◌, length, Option, None, Some, Bool, Result, Ok, Err, refl, sym, ap, subst, ◌∙◌}
+use Rattle.std.proofs.Common.{◌≡◌, ℕ, true, false, not, cond, codes, ltb, List, [], ◌∷◌, length, Option, None, Some, Bool, Result, Ok, Err, refl, sym, ap, subst}
 use Rattle.std.specs.Option.{ok_or}
 use Rattle.std.specs.Str.{bytes_eq, is_utf8}
 use Rattle.std.proofs.lemmas.Bool.{true≢false}

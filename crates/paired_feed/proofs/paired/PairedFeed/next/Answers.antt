@@ -1,5 +1,4 @@
 use Rattle.std.proofs.Common.{◌≡◌, Some, sym, ◌∙◌}
-use Rattle.text_lines.specs.declared.line_reader.Stop.TheVariants.{InputEnded}
 use Rattle.paired_feed.proofs.PairLaws.{event_pair, fault_ends, fault_pair, none_ends}
 use Rattle.paired_feed.proofs.paired.PairedFeed.next.Goals as goal
 
