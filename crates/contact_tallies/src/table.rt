@@ -1,5 +1,7 @@
 //! The table at the end of a comparison: a line for each contact of either configuration.
 
+ghost use Rattle.std.specs.Prelude.{◌<◌};
+
 use crate::tally::{Tallies, Tally};
 use changed_notices::ChangeForm;
 use due_model::config::Config;
@@ -33,7 +35,13 @@ fn find(config: &Config, name: &[u8]) -> Option<usize> {
 /// The tally of the contact of this name, or nothing where there is none.
 fn tally_of(told: ToldBy<'_>, name: &[u8]) -> Tally {
     match find(told.config, name) {
-        Some(number) => told.tallies.contacts.get(number).copied().unwrap_or(NONE),
+        Some(number) => told
+            .tallies
+            .contacts
+            .as_slice()
+            .get(number)
+            .copied()
+            .unwrap_or(NONE),
         None => NONE,
     }
 }
@@ -58,16 +66,26 @@ fn push_plain_row(text: &mut Vec<u8>, row: Row<'_>) -> Result<(), AllocError> {
     text.push(b'\n')
 }
 
+/// The hexadecimal digit of a number below 16.
+fn hex(digit: u8) -> u8
+    requires { digit < 16 }
+{
+    if digit < 10 {
+        b'0' + digit
+    } else {
+        b'a' - 10 + digit
+    }
+}
+
 /// Adds a byte of a string of JSON: a quote, a backslash and control characters are escaped.
 fn push_escaped(text: &mut Vec<u8>, byte: u8) -> Result<(), AllocError> {
-    const DIGITS: &[u8; 16] = b"0123456789abcdef";
     if byte == b'"' || byte == b'\\' {
         text.push(b'\\')?;
     }
     if byte < b' ' {
         text.extend_from_slice(b"\\u00")?;
-        text.push(DIGITS[usize::from(byte / 16)])?;
-        return text.push(DIGITS[usize::from(byte % 16)]);
+        text.push(hex(byte / 16))?;
+        return text.push(hex(byte % 16));
     }
     text.push(byte)
 }
@@ -127,7 +145,13 @@ fn push_first(
     a: ToldBy<'_>,
     b: ToldBy<'_>,
 ) -> Result<(), AllocError> {
-    for (contact, tally) in a.config.contacts.as_slice().iter().zip(&a.tallies.contacts) {
+    for (contact, tally) in a
+        .config
+        .contacts
+        .as_slice()
+        .iter()
+        .zip(a.tallies.contacts.as_slice())
+    {
         let row = Row {
             name: contact.name.as_slice(),
             before: *tally,
@@ -145,7 +169,13 @@ fn push_second(
     a: ToldBy<'_>,
     b: ToldBy<'_>,
 ) -> Result<(), AllocError> {
-    for (contact, tally) in b.config.contacts.as_slice().iter().zip(&b.tallies.contacts) {
+    for (contact, tally) in b
+        .config
+        .contacts
+        .as_slice()
+        .iter()
+        .zip(b.tallies.contacts.as_slice())
+    {
         let row = Row {
             name: contact.name.as_slice(),
             before: NONE,
