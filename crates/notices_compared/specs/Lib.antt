@@ -1,3 +1,4 @@
+pub mod Night
 pub mod Sides
 pub mod Compares
 pub mod Stream

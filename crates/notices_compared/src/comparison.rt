@@ -14,9 +14,10 @@ ghost use Rattle.paired_feed.specs.Paired.{is_cut};
 ghost use Rattle.replay.specs.Report.{is_ended};
 
 use crate::side::Side;
+use crate::table::{ToldBy, push_table};
+use crate::tally::Tallies;
 use changed_notices::{ChangeForm, Form, Given, push_changes};
 use command_output::{CommandFault, Ending};
-use contact_tallies::{Tallies, ToldBy, push_table};
 use due_model::config::Config;
 use due_model::event::Event;
 use due_model::zone::Zone;

@@ -13,6 +13,8 @@ mod files;
 mod laws;
 mod side;
 mod stream;
+mod table;
+mod tally;
 
 use changed_notices::ChangeForm;
 use command_output::{CommandFault, Ending, Sink};

@@ -121,14 +121,14 @@ fn push_row(form: ChangeForm, text: &mut Vec<u8>, row: Row<'_>) -> Result<(), Al
 
 /// A configuration and what its contacts were told, by their numbers.
 #[derive(Clone, Copy)]
-pub struct ToldBy<'a> {
-    pub config: &'a Config,
-    pub tallies: &'a Tallies,
+pub(crate) struct ToldBy<'a> {
+    pub(crate) config: &'a Config,
+    pub(crate) tallies: &'a Tallies,
 }
 
 /// Adds the table: the contacts of the first configuration, and then those that the second has beside them. A refused growth is
 /// the only error.
-pub fn push_table(
+pub(crate) fn push_table(
     form: ChangeForm,
     text: &mut Vec<u8>,
     a: ToldBy<'_>,

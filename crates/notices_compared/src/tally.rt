@@ -1,7 +1,7 @@
 //! What each contact is told of in all: pages, those at night, and the longest silence of a problem.
 
 ghost use Rattle.std.specs.Prelude.{◌≡◌, ◌≤◌};
-ghost use Rattle.contact_tallies.specs.Night.{is_night};
+ghost use Rattle.notices_compared.specs.Night.{is_night};
 ghost use Rattle.due_model.specs.Limits.{last_moment};
 
 use due_model::config::{Config, ContactId, ObjectId};
@@ -43,14 +43,14 @@ struct Problem {
 
 /// The tallies of a configuration's contacts, by their numbers.
 #[derive(Drop)]
-pub struct Tallies {
+pub(crate) struct Tallies {
     pub(crate) contacts: Vec<Tally>,
     problems: Vec<Problem>,
 }
 
 impl Tallies {
     /// Nobody was told of anything.
-    pub fn new(alloc: Global, config: &Config) -> Result<Tallies, AllocError> {
+    pub(crate) fn new(alloc: Global, config: &Config) -> Result<Tallies, AllocError> {
         let none = Tally {
             pages: 0,
             at_night: 0,
@@ -67,7 +67,7 @@ impl Tallies {
     }
 
     /// Counts the notices of what a line of the feed gave.
-    pub fn count(
+    pub(crate) fn count(
         &mut self,
         clock: &ZoneClock<'_>,
         given: Result<Event, FeedFault>,
