@@ -3,9 +3,9 @@
 use changed_notices::ChangeForm;
 use command_output::Ending;
 use due_model::zone::Zone;
-use notices_compared::compare_files;
 use std::alloc::AllocError;
 use std::process::Abort;
+use texts_compared::compare_files;
 
 /// Two contacts and a command, before the host of each text.
 const PEOPLE: &str =

@@ -1,5 +1,5 @@
 -- From what is written of a feed to what is written of an input.
-use Rattle.std.proofs.Common.{◌≡◌, ℕ, Bool, List, [], ◌++◌, Option, None, Some, Result, IfOk, IfSome, inl, refl, sym, subst}
+use Rattle.std.proofs.Common.{◌≡◌, ℕ, Bool, List, [], ◌++◌, Option, None, Some, Result, IfOk, IfSome, inl, refl, ap, subst, ◌∙◌}
 use Rattle.std.proofs.lemmas.Result.{IfOk-weaker}
 use Rattle.due_model.specs.declared.config.Config.{Config}
 use Rattle.due_model.specs.declared.zone.Zone.{Zone}
@@ -9,12 +9,25 @@ use Rattle.text_lines.specs.LineReader.{Reading, to_come}
 use Rattle.written.specs.WrittenLaws.{front_none}
 use Rattle.command_output.specs.declared.outcome.CommandFault.{CommandFault}
 use Rattle.command_output.specs.declared.outcome.Ending.{Ending}
-use Rattle.command_input.specs.InputLaws.{of_input, some_all, some_known}
-use Rattle.replay.specs.Replay.{AreOfFeed}
+use Rattle.std.proofs.lemmas.Iterator.Adapters.{option_map_id}
+use Rattle.notices_compared.specs.Past.{AreOfFeed}
 use Rattle.paired_feed.specs.PairedLaws.{same_lines}
 use Rattle.changed_notices.specs.declared.changed.ChangeForm.{ChangeForm}
 use Rattle.notices_compared.specs.Compares.{ComparesFor, ComparesFrontFor}
 use Rattle.notices_compared.specs.Stream.{WritesChanges, WritesChangesFront}
+
+-- what holds of all bytes, and of those that are known
+some_all : (known : Option (List ℕ)) (P : List ℕ → Type 0) → ((bytes : List ℕ) → P bytes) → IfSome known P
+some_all None P f = tt
+some_all (Some bytes) P f = f bytes
+
+some_known : (known : Option (List ℕ)) (P : Option (List ℕ) → Type 0) (Q : List ℕ → Type 0) → P known → ((bytes : List ℕ) → P (Some bytes) → Q bytes) → IfSome known Q
+some_known None P Q h f = tt
+some_known (Some bytes) P Q h f = f bytes h
+
+-- of a reader of which nothing was read yet the bytes to come are those of its input
+of_input : (known : Option (List ℕ)) (start : Reading) (P : Option (List ℕ) → Type 0) → start ≡ record { line = []; held = []; unread = known; calls = 0 } → P (to_come start) → P known
+of_input known start P begins h = subst P (ap (λ (r : Reading). to_come r) begins ∙ option_map_id known) h
 
 module _ (form : ChangeForm) (can_fail : Bool) (a b : Config) (zone : Zone) (reading : Reading) (old new : Option (List ℕ)) where
   -- the answers are of the bytes that are left to be read

@@ -15,7 +15,7 @@ use Rattle.command_output.specs.declared.outcome.Ending.{Ending}
 use Rattle.command_output.specs.declared.outcome.Ending.TheVariants.{Short, Whole}
 use Rattle.written.specs.Written.{Leaves, Writes, WritesFront}
 use Rattle.written.specs.WrittenLaws.{front_less, front_longer, leaves_all, leaves_less, leaves_longer}
-use Rattle.replay.specs.Report.{ends_short, is_ended}
+use Rattle.notices_compared.specs.Past.{ends_short, is_ended}
 use Rattle.paired_feed.specs.declared.paired.PairedLine.{PairedLine}
 use Rattle.paired_feed.specs.Paired.{EndsPair, GivesPair, first_answer, is_cut, last_answers, second_answer, since}
 use Rattle.paired_feed.specs.PairedLaws.{lines_of, some_pair}

@@ -6,8 +6,8 @@ use Rattle.event_feed.specs.Feed.{Answer}
 use Rattle.command_output.specs.declared.outcome.Ending.{Ending}
 use Rattle.command_output.specs.declared.outcome.Ending.TheVariants.{Short, Whole}
 use Rattle.written.specs.Written.{Writes, WritesFront}
-use Rattle.replay.specs.Replay.{AreOfFeed}
-use Rattle.replay.specs.Report.{ends_short}
+use Rattle.notices_compared.specs.Past.{AreOfFeed}
+use Rattle.notices_compared.specs.Past.{ends_short}
 use Rattle.paired_feed.specs.PairedLaws.{lines_of}
 use Rattle.changed_notices.specs.declared.changed.ChangeForm.{ChangeForm}
 use Rattle.changed_notices.specs.Changed.{changes_text}

@@ -1,5 +1,5 @@
 -- What a configuration gives of each line of a feed.
-use Rattle.std.specs.Prelude.{◌≡◌, ℕ, ◌≤◌, Bool, false, ◌||◌, All, List, [], ◌∷◌, ◌++◌, flat_map, None, Result, Ok, Err, if◌then◌else◌}
+use Rattle.std.specs.Prelude.{◌≡◌, ℕ, ◌≤◌, Bool, false, ◌||◌, All, List, [], ◌∷◌, ◌++◌, None, Result, Ok, Err, if◌then◌else◌}
 use Rattle.due_model.specs.declared.config.Config.{Config}
 use Rattle.due_model.specs.declared.event.Event.{Event}
 use Rattle.due_model.specs.declared.notice.Notice.{Notice}
@@ -7,12 +7,8 @@ use Rattle.due_model.specs.declared.zone.Zone.{Zone}
 use Rattle.event_feed.specs.declared.fault.FeedFault.{FeedFault}
 use Rattle.event_feed.specs.Feed.{Answer, Feed, PassesLines, answers_from, ends_feed}
 use Rattle.text_lines.specs.Lines.{Known}
-use Rattle.messages.specs.declared.entries.Entry.TheVariants.{Sent, Withheld}
 use Rattle.messages.specs.Entries.{event_entries, notices_in}
-use Rattle.line_forms.specs.declared.report_line.ReportLine.{ReportLine}
-use Rattle.line_forms.specs.declared.report_line.ReportLine.TheVariants.{Decided, Refused}
-use Rattle.replay.specs.Report.{ends_short, is_ended, past_after}
-use Rattle.report_telling.specs.Lines.{report_lines}
+use Rattle.notices_compared.specs.Past.{ends_short, is_ended, past_after}
 
 -- the notices of an event after a past; a refused line has none
 abbrev pub decided_notices : Config → Zone → List Event → Result Event FeedFault → List Notice
@@ -34,20 +30,6 @@ line_notices c zone past [] = []
 line_notices c zone past (answer ∷ answers) =
     given_notices c zone past answer.given
     ∷ line_notices c zone (past_on past answer.given) answers
-
--- ---- they are those of the report
-
--- the notice of a line of a report: of an N line
-abbrev pub notices_of : ReportLine → List Notice
-notices_of (Decided (Sent n)) = n ∷ []
-notices_of (Decided (Withheld s)) = []
-notices_of (Refused refused) = []
-
--- One after another, the notices of the lines of a feed are those of its report, in order.
-abbrev pub LineNoticesAreTheReports : Type 0
-LineNoticesAreTheReports = (c : Config) (zone : Zone) (given : List Answer)
-    → flat_map (λ ns. ns) (line_notices c zone [] given)
-    ≡ flat_map notices_of (report_lines c zone given)
 
 -- ---- a side under way
 

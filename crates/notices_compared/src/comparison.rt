@@ -11,7 +11,7 @@ ghost use Rattle.decider.specs.Fits.{Fits, core_kept};
 ghost use Rattle.changed_notices.specs.Changed.{changes_of};
 ghost use Rattle.notices_compared.specs.Sides.{given_notices, past_on};
 ghost use Rattle.paired_feed.specs.Paired.{is_cut};
-ghost use Rattle.replay.specs.Report.{is_ended};
+ghost use Rattle.notices_compared.specs.Past.{is_ended};
 
 use crate::side::Side;
 use crate::table::{ToldBy, push_table};

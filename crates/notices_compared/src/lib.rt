@@ -1,4 +1,4 @@
-//! The command `diff`: what a change of a configuration does to the notices of a feed. Two deciders side by side decide its
+//! What a change of a configuration does to the notices of a feed. Two deciders side by side decide its
 //! events; the notices that one of them alone gives are written, and at the end what each contact was told in all.
 #![tactic(auto)]
 
@@ -8,9 +8,6 @@ ghost use Rattle.due_model.specs.Accepted.{IsAccepted};
 ghost use Rattle.notices_compared.specs.Compares.{ComparesFor, ComparesFrontFor};
 
 mod comparison;
-mod fault;
-mod files;
-mod laws;
 mod side;
 mod stream;
 mod table;
@@ -21,9 +18,6 @@ use command_output::{CommandFault, Ending, Sink};
 use comparison::Comparison;
 use due_model::config::Config;
 use due_model::zone::Zone;
-pub use fault::{CompareFault, compare_status};
-pub use files::compare_files;
-pub use laws::line_notices_are_the_reports;
 use paired_feed::PairedFeed;
 use std::alloc::Global;
 use stream::write_changes;

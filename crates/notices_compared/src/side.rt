@@ -8,7 +8,7 @@ ghost use Rattle.due_model.specs.Proper.{IsProper};
 ghost use Rattle.decider.specs.Fits.{Fits, core_kept, settings};
 ghost use Rattle.messages.specs.Entries.{notices_in};
 ghost use Rattle.notices_compared.specs.Sides.{given_notices, past_on};
-ghost use Rattle.replay.specs.Report.{is_ended, whole_share};
+ghost use Rattle.notices_compared.specs.Past.{is_ended, whole_share};
 
 use command_output::CommandFault;
 use decider::{DecideFault, EventDecider, Share};

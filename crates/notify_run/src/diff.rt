@@ -2,15 +2,15 @@
 
 ghost use Rattle.std.specs.Prelude.{◌≡◌};
 ghost use Rattle.std.specs.Process.{exit_status};
-ghost use Rattle.notices_compared.specs.Fault.{compare_status};
+ghost use Rattle.texts_compared.specs.Fault.{compare_status};
 
 use changed_notices::ChangeForm;
 use command_output::{AnyWriter, CommandFault, Ending};
 use due_model::zone::Zone;
-use notices_compared::{CompareFault, compare_files, compare_status};
 use std::fs::File;
 use std::process::ExitCode;
 use text_lines::AnyReader;
+use texts_compared::{CompareFault, compare_files, compare_status};
 
 /// Says on standard error what a comparison failed with, if it did, and gives its exit status.
 fn status_of_comparison<R: Eprint>(rt: &R, outcome: Result<Ending, CompareFault>) -> ExitCode

@@ -11,7 +11,7 @@ use Rattle.decider.specs.declared.share.Share.{Share}
 use Rattle.decider.specs.Fits.{Fits, Kept, core_kept}
 use Rattle.messages.specs.declared.entries.Entry.{Entry}
 use Rattle.messages.specs.Entries.{event_entries, notices_in}
-use Rattle.replay.specs.Report.{is_ended}
+use Rattle.notices_compared.specs.Past.{is_ended}
 use Rattle.notices_compared.proofs.SideLaws.{or_all, or_none}
 use Rattle.notices_compared.proofs.side.Side.decide.Goals as goal
 

@@ -10,11 +10,11 @@ use Rattle.command_output.specs.Outcome.{IsWriteFault}
 use Rattle.command_input.specs.InputLaws.{some_all, some_known, text_failed}
 use Rattle.command_input.specs.Objects.{CommandFails, FileFails, IsFileOf, IsTextOf}
 use Rattle.changed_notices.specs.declared.changed.ChangeForm.{ChangeForm}
-use Rattle.notices_compared.specs.declared.fault.CompareFault.{CompareFault}
-use Rattle.notices_compared.specs.declared.fault.CompareFault.TheVariants.{Command, With, WithUnreadable}
+use Rattle.texts_compared.specs.declared.fault.CompareFault.{CompareFault}
+use Rattle.texts_compared.specs.declared.fault.CompareFault.TheVariants.{Command, With, WithUnreadable}
 use Rattle.notices_compared.specs.Compares.{ComparesFor, ComparesFrontFor}
-use Rattle.notices_compared.specs.Fault.{fault_of_second}
-use Rattle.notices_compared.specs.Files.{ComparesFrontOf, ComparesOf, FailsOf, SecondFails}
+use Rattle.texts_compared.specs.Fault.{fault_of_second}
+use Rattle.texts_compared.specs.Files.{ComparesFrontOf, ComparesOf, FailsOf, SecondFails}
 
 -- of three inputs whose bytes may be known
 each_known : (P : List ℕ → Type 0) (Q : List ℕ → Type 0) (R : List ℕ → List ℕ → List ℕ → Type 0) (S : List ℕ → Type 0) (firsts seconds known : Option (List ℕ)) → IfSome firsts P → IfSome seconds Q → IfSome known S

@@ -1,8 +1,8 @@
 use Rattle.std.proofs.Common.{sym, subst}
-use Rattle.notices_compared.specs.declared.fault.CompareFault.{CompareFault}
-use Rattle.notices_compared.specs.Files.{SecondFails}
-use Rattle.notices_compared.proofs.FileLaws.{second_reads}
-use Rattle.notices_compared.proofs.files.read_second.Goals as goal
+use Rattle.texts_compared.specs.declared.fault.CompareFault.{CompareFault}
+use Rattle.texts_compared.specs.Files.{SecondFails}
+use Rattle.texts_compared.proofs.FileLaws.{second_reads}
+use Rattle.texts_compared.proofs.files.read_second.Goals as goal
 
 pub returns-in-Err-clause-fault : goal.returns-in-Err-clause-fault
 returns-in-Err-clause-fault g c =

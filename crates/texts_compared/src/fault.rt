@@ -1,7 +1,7 @@
 //! Why a comparison was given up.
 
 ghost use Rattle.std.specs.Prelude.{◌≡◌, Some};
-ghost use Rattle.notices_compared.specs.Fault.{compare_fault_status, compare_fault_text, compare_status, fault_of_second};
+ghost use Rattle.texts_compared.specs.Fault.{compare_fault_status, compare_fault_text, compare_status, fault_of_second};
 
 use command_output::{CommandFault, Ending};
 use object_load_faults::fault::LoadFault;
@@ -58,7 +58,7 @@ impl fmt::Display for CompareFault {
 impl Error for CompareFault {}
 
 impl From<CommandFault> for CompareFault {
-    ghost use Rattle.notices_compared.specs.declared.fault.CompareFault.TheVariants.{Command};
+    ghost use Rattle.texts_compared.specs.declared.fault.CompareFault.TheVariants.{Command};
 
     ghost from_gives = { λ fault given. given ≡ Command fault };
 
@@ -69,7 +69,7 @@ impl From<CommandFault> for CompareFault {
 
 impl From<AllocError> for CompareFault {
     ghost use Rattle.command_output.specs.declared.outcome.CommandFault.TheVariants.{NoMemory};
-    ghost use Rattle.notices_compared.specs.declared.fault.CompareFault.TheVariants.{Command};
+    ghost use Rattle.texts_compared.specs.declared.fault.CompareFault.TheVariants.{Command};
 
     ghost from_gives = { λ _ given. given ≡ Command NoMemory };
 

@@ -5,8 +5,8 @@ use Rattle.command_output.specs.declared.outcome.CommandFault.{CommandFault}
 use Rattle.command_output.specs.declared.outcome.CommandFault.TheVariants.{Objects, Unreadable, Output, NoMemory}
 use Rattle.command_output.specs.declared.outcome.Ending.{Ending}
 use Rattle.command_output.specs.Outcome.{ending_status, fault_status, fault_text}
-use Rattle.notices_compared.specs.declared.fault.CompareFault.{CompareFault}
-use Rattle.notices_compared.specs.declared.fault.CompareFault.TheVariants.{Command, With, WithUnreadable}
+use Rattle.texts_compared.specs.declared.fault.CompareFault.{CompareFault}
+use Rattle.texts_compared.specs.declared.fault.CompareFault.TheVariants.{Command, With, WithUnreadable}
 
 abbrev pub compare_fault_text : CompareFault → List ℕ
 compare_fault_text (Command fault) = fault_text fault

@@ -8,8 +8,8 @@ use Rattle.command_output.specs.declared.outcome.CommandFault.TheVariants.{Objec
 use Rattle.command_output.specs.declared.outcome.Ending.{Ending}
 use Rattle.command_input.specs.Objects.{CommandFails, IsTextFault, IsTextOf}
 use Rattle.changed_notices.specs.declared.changed.ChangeForm.{ChangeForm}
-use Rattle.notices_compared.specs.declared.fault.CompareFault.{CompareFault}
-use Rattle.notices_compared.specs.declared.fault.CompareFault.TheVariants.{Command, With, WithUnreadable}
+use Rattle.texts_compared.specs.declared.fault.CompareFault.{CompareFault}
+use Rattle.texts_compared.specs.declared.fault.CompareFault.TheVariants.{Command, With, WithUnreadable}
 use Rattle.notices_compared.specs.Compares.{ComparesFor, ComparesFrontFor}
 
 -- What was written is the changes and the table, for the configurations of the two texts, and the reading ended so.

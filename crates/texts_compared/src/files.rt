@@ -4,16 +4,16 @@ ghost use Rattle.std.specs.Prelude.{◌≡◌, false, IfErr, IfOk, IfSome, IsErr
 ghost use Rattle.command_output.specs.declared.outcome.CommandFault.TheVariants.{Output};
 ghost use Rattle.due_model.specs.Accepted.{IsAccepted};
 ghost use Rattle.command_input.specs.Objects.{IsFileOf};
-ghost use Rattle.notices_compared.specs.Files.{ComparesOf, FailsOf, SecondFails};
-ghost use Rattle.notices_compared.specs.declared.fault.CompareFault.TheVariants.{Command};
+ghost use Rattle.texts_compared.specs.Files.{ComparesOf, FailsOf, SecondFails};
+ghost use Rattle.texts_compared.specs.declared.fault.CompareFault.TheVariants.{Command};
 
-use crate::compare;
 use crate::fault::{CompareFault, fault_of_second};
 use changed_notices::ChangeForm;
 use command_input::read_object_file;
 use command_output::{Ending, Sink};
 use due_model::config::Config;
 use due_model::zone::Zone;
+use notices_compared::compare;
 use std::alloc::Global;
 use text_lines::Input;
 

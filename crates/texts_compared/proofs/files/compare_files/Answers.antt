@@ -1,6 +1,6 @@
 use Rattle.std.proofs.lemmas.Result.{err_from_is_err_and}
-use Rattle.notices_compared.proofs.FileLaws.{compares, fails, first_failed, second_failed}
-use Rattle.notices_compared.proofs.files.compare_files.Goals as goal
+use Rattle.texts_compared.proofs.FileLaws.{compares, fails, first_failed, second_failed}
+use Rattle.texts_compared.proofs.files.compare_files.Goals as goal
 
 pub returns-in_err-first-clause-fault : goal.returns-in_err-first-clause-fault
 returns-in_err-first-clause-fault g c =
