@@ -34,7 +34,7 @@ follows_start c zone start runs = record {
 
 -- whether some event can't be numbered
 or_on : (ended b : Bool) (past past' : List Event) (others : List Answer)
-    → (ended || (b || (false || ends_short past' others))) ≡ ((ended || b) || ends_short (cond b past past') others)
+    → (ended || ((b || false) || ends_short past' others)) ≡ ((ended || b) || ends_short (cond b past past') others)
 or_on true b past past' others = refl
 or_on false true past past' others = refl
 or_on false false past past' others = refl
@@ -64,7 +64,7 @@ follows_more c zone start given noticed ended ended' past now answer new f next 
       ∙ sym (append_assoc noticed (given_notices c zone past answer.given ∷ []) (line_notices c zone (past_on past answer.given) others));
   short = λ others.
       ap (λ (all : List Answer). ends_short [] all) (append_assoc given (answer ∷ []) others) ∙ f.short (answer ∷ others)
-      ∙ ap (λ (x : Bool). ended || (is_ended past answer.given || (x || ends_short (past_after past answer.given) others))) on
+      ∙ ap (λ (x : Bool). ended || ((is_ended past answer.given || x) || ends_short (past_after past answer.given) others)) on
       ∙ or_on ended (is_ended past answer.given) past (past_after past answer.given) others
       ∙ ap (λ (x : Bool). x || ends_short (past_on past answer.given) others) (sym is);
   goes_on = goes_on;

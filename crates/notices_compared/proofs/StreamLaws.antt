@@ -205,7 +205,7 @@ compared_last form can_fail a b zone start first before kept kept' ended ended' 
 -- how it ended
 ends_so : (ended : Bool) (past : List Event) (refused : Option RefusedLine) → IfSome refused (λ r. ends_feed (Err r.fault) ≡ true) → (ended || ends_short past (last_answers refused)) ≡ (ended || is_some refused)
 ends_so ended past None h = refl
-ends_so ended past (Some refused) h = ap (λ (x : Bool). ended || (false || (x || false))) h
+ends_so ended past (Some refused) h = ap (λ (x : Bool). ended || ((false || x) || false)) h
 
 either : (x y z : Bool) → cond ((x || z) || (y || z)) Short Whole ≡ cond ((x || y) || z) Short Whole
 either true y z = refl
