@@ -63,7 +63,7 @@ fn push_plain_row(text: &mut Vec<u8>, row: Row<'_>) -> Result<(), AllocError> {
     push_number(text, ";", row.after.at_night)?;
     push_number(text, ";", row.before.silence)?;
     push_number(text, ";", row.after.silence)?;
-    text.push(b'\n')
+    text.extend_from_slice(b"\n")
 }
 
 /// The hexadecimal digit of a number below 16.
@@ -84,10 +84,9 @@ fn push_escaped(text: &mut Vec<u8>, byte: u8) -> Result<(), AllocError> {
     }
     if byte < b' ' {
         text.extend_from_slice(b"\\u00")?;
-        text.push(hex(byte / 16))?;
-        return text.push(hex(byte % 16));
+        return text.extend_from_slice(&[hex(byte / 16), hex(byte % 16)]);
     }
-    text.push(byte)
+    text.extend_from_slice(&[byte])
 }
 
 /// Adds a name, the bytes of a string of JSON.
