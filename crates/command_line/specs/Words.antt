@@ -24,7 +24,7 @@ use Rattle.command_line.specs.declared.words.StateWords.{StateWords}
 use Rattle.command_line.specs.declared.words.TryTimes.{TryTimes}
 use Rattle.command_line.specs.declared.words.WhoWords.{WhoWords}
 use Rattle.command_line.specs.declared.words.ZoneWords.{ZoneWords}
-use Rattle.command_line.specs.declared.words.Request.TheVariants.{Replay, Trace, Run, Who}
+use Rattle.command_line.specs.declared.words.Request.TheVariants.{Replay, Trace, Run, Who, Diff}
 
 -- the name of the command that is asked for
 abbrev pub request_name : Request → List ℕ
@@ -32,6 +32,7 @@ request_name (Replay objects zone shown) = codes "replay"
 request_name (Trace settings standbys zone) = codes "trace"
 request_name (Run objects settings zone channels times quiet ahead log feed) = codes "run"
 request_name (Who objects zone asked) = codes "who"
+request_name (Diff objects changed zone json) = codes "diff"
 
 -- in a trace fewer channels stand by than a lane may have
 abbrev pub AreSettingsFit : Request → Type 0
@@ -39,6 +40,7 @@ AreSettingsFit (Replay objects zone shown) = Unit {0}
 AreSettingsFit (Trace settings standbys zone) = standbys < max_channels
 AreSettingsFit (Run objects settings zone channels times quiet ahead log feed) = Unit {0}
 AreSettingsFit (Who objects zone asked) = Unit {0}
+AreSettingsFit (Diff objects changed zone json) = Unit {0}
 
 -- the texts that the options of a command hold of the zone
 pub record IsZoneOf (options : Found) (words : ZoneWords) : Type 0 where
@@ -137,6 +139,11 @@ abbrev pub WhoLacks : Found → Type 0
 WhoLacks options =
     is_some (first_value options (codes "objects")) ≡ true → LacksSupposed options
 
+-- The options of `diff` make no request: they lack one of the two files.
+abbrev pub DiffLacks : Found → Type 0
+DiffLacks options = is_some (first_value options (codes "objects")) ≡ true
+    → is_some (first_value options (codes "with")) ≡ true → ⊥
+
 -- The options of `run` make no request: they name no file, or the numbers that they hold are no settings or no times.
 abbrev pub RunLacks : Found → Type 0
 RunLacks options = (deciders : ℕ) → is_some (first_value options (codes "objects")) ≡ true
@@ -144,7 +151,8 @@ RunLacks options = (deciders : ℕ) → is_some (first_value options (codes "obj
 
 -- What the options of a command hold: of `replay` the file of the object text, if it is given, and which lines are wanted; of
 -- `trace` the settings and how many channels stand by; of `run` the file, the settings, the times, how far ahead a stamp may be, where
--- its report goes, where the feed is read from, and the channel words; of `who` the file and what is supposed; and of each the zone.
+-- its report goes, where the feed is read from, and the channel words; of `who` the file and what is supposed; of `diff` the two files,
+-- and whether lines are to be JSON; and of each the zone.
 abbrev pub IsRequestOf : Found → Request → Type 0
 IsRequestOf options (Replay objects zone shown) =
     (option_copied objects ≡ first_value options (codes "objects")) × IsZoneOf options zone
@@ -163,6 +171,10 @@ IsRequestOf options (Run objects settings zone channels times quiet ahead log fe
 IsRequestOf options (Who objects zone asked) =
     (Some objects.now ≡ first_value options (codes "objects")) × IsZoneOf options zone
     × IsWhoOf options asked
+IsRequestOf options (Diff objects changed zone json) =
+    (Some objects.now ≡ first_value options (codes "objects"))
+    × (Some changed.now ≡ first_value options (codes "with")) × IsZoneOf options zone
+    × IsFlag options (codes "json") json
 
 -- it is what the command that was met asks, with its options
 abbrev pub IsAskedBy : ArgMatches → Request → Type 0
@@ -181,6 +193,7 @@ request_zone (Replay objects zone shown) = zone
 request_zone (Trace settings standbys zone) = zone
 request_zone (Run objects settings zone channels times quiet ahead log feed) = zone
 request_zone (Who objects zone asked) = zone
+request_zone (Diff objects changed zone json) = zone
 
 -- letters in doubt are given up
 abbrev pub drops_doubt : StateWords → Bool
@@ -240,6 +253,7 @@ asks_bad_letters (Replay objects zone shown) = has_bad_letters shown
 asks_bad_letters (Trace settings standbys zone) = false
 asks_bad_letters (Run objects settings zone channels times quiet ahead log feed) = false
 asks_bad_letters (Who objects zone asked) = false
+asks_bad_letters (Diff objects changed zone json) = false
 
 -- `--NAME NUMBER`, with a number from `least` to `most`, or with `default` where it is left out
 abbrev pub number_option : (name default : List ℕ) → (least most : ℕ) → Rule
@@ -372,7 +386,14 @@ who_words =
     with_zone (with_supposed (with_rule (new_app (codes "who"))
     (record (text_option (codes "objects")) { required = true })))
 
--- `notify-run` has these four commands, `--version`, no command `help`, and asks for one of the four
+-- `diff` has two files of object text, both of which must be given, and a flag that says that each line is to be JSON
+abbrev pub diff_words : App
+diff_words =
+    with_zone (with_rule (with_rule (with_rule (new_app (codes "diff"))
+    (record (text_option (codes "objects")) { required = true }))
+    (record (text_option (codes "with")) { required = true })) (flag_option (codes "json")))
+
+-- `notify-run` has these five commands, `--version`, no command `help`, and asks for one of the five
 abbrev pub program_words : App
 program_words = record {
   top = record (new_app (codes "notify-run")).top {
@@ -382,5 +403,5 @@ program_words = record {
     subcommand_required = true;
     arg_required_else_help = true;
   };
-  subs = replay_words.top ∷ trace_words.top ∷ run_words.top ∷ who_words.top ∷ [];
+  subs = replay_words.top ∷ trace_words.top ∷ run_words.top ∷ who_words.top ∷ diff_words.top ∷ [];
 }

@@ -1,6 +1,7 @@
 //! The command line: what `notify-run` can be asked, and what its words ask.
 #![tactic(auto)]
 
+mod diff;
 pub mod words;
 
 pub use words::{

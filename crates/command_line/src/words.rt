@@ -11,7 +11,7 @@ ghost use Rattle.command_line.specs.Words.{HoldsAnyNumber, HoldsNumber, bare_num
 ghost use Rattle.command_line.specs.Words.{IsMetWith, IsShownOf, RunLacks, flag_option, has_bad_letters};
 ghost use Rattle.command_line.specs.Words.{IsFeedOf, IsWhoOf, LacksSupposed, WhoLacks, length_option};
 ghost use Rattle.command_line.specs.Words.{IsLogOf, with_log_options};
-ghost use Rattle.command_line.specs.Words.{asks_bad_letters, asks_two_forms, has_two_forms, is_line_letter, is_plain};
+ghost use Rattle.command_line.specs.Words.{DiffLacks, asks_bad_letters, asks_two_forms, has_two_forms, is_line_letter, is_plain};
 ghost use Rattle.command_line.specs.Words.{IsStateOf, drops_doubt, fault_of, feed_fault, is_doubt_word, with_state_options};
 ghost use Rattle.command_line.specs.Words.{one_word, text_options, who_words, with_supposed};
 ghost use Rattle.command_line.specs.Words.{TraceLacks, with_feed_options};
@@ -20,6 +20,7 @@ ghost use Rattle.command_line.specs.Words.{request_name, request_zone, run_words
 ghost use Rattle.command_line.specs.Words.{trace_words, with_lane_options, with_picks, with_shown, with_try_options};
 ghost use Rattle.command_line.specs.Words.{with_zone, word_list};
 
+use crate::diff::{diff_command, diff_request};
 use clap::{Arg, ArgAction, ArgMatches, Command, value_parser};
 use std::alloc::{AllocError, Global};
 use steps::{MAX_CHANNELS, Settings};
@@ -386,6 +387,14 @@ pub enum Request<'m, 'a> {
         zone: ZoneWords<'a>,
         asked: WhoWords<'m, 'a>,
     },
+    /// What a change does to the notices of the feed on standard input: from the object text in one file to that in another.
+    Diff {
+        objects: &'a str,
+        changed: &'a str,
+        zone: ZoneWords<'a>,
+        /// Whether each line is to be an object of JSON.
+        json: bool,
+    },
 }
 
 impl<'a> Request<'_, 'a> {
@@ -398,6 +407,7 @@ impl<'a> Request<'_, 'a> {
             Request::Trace { zone, .. } => zone,
             Request::Run { zone, .. } => zone,
             Request::Who { zone, .. } => zone,
+            Request::Diff { zone, .. } => zone,
         }
     }
 
@@ -433,7 +443,12 @@ impl<'a> Request<'_, 'a> {
 }
 
 /// The option `--NAME` with a text.
-fn text_option<'a>(alloc: Global, name: &'a str, value: &'a str, help: &'a str) -> Arg<'a>
+pub(crate) fn text_option<'a>(
+    alloc: Global,
+    name: &'a str,
+    value: &'a str,
+    help: &'a str,
+) -> Arg<'a>
     ensures rule { rule_of result ≡ text_option name.entry.now }
     ensures local { result.global ≡ false }
 {
@@ -444,7 +459,7 @@ fn text_option<'a>(alloc: Global, name: &'a str, value: &'a str, help: &'a str) 
 }
 
 /// The option `--NAME` without a value.
-fn flag_option<'a>(alloc: Global, name: &'a str, help: &'a str) -> Arg<'a>
+pub(crate) fn flag_option<'a>(alloc: Global, name: &'a str, help: &'a str) -> Arg<'a>
     ensures rule { rule_of result ≡ flag_option name.entry.now }
     ensures local { result.global ≡ false }
 {
@@ -455,7 +470,7 @@ fn flag_option<'a>(alloc: Global, name: &'a str, help: &'a str) -> Arg<'a>
 }
 
 /// Adds the options that say what zone local times are of.
-fn with_zone<'a>(alloc: Global, command: Command<'a>) -> Result<Command<'a>, AllocError>
+pub(crate) fn with_zone<'a>(alloc: Global, command: Command<'a>) -> Result<Command<'a>, AllocError>
     ensures words { IfOk result (λ command_with.
         app_of command_with ≡ with_zone (app_of command.entry)) }
 {
@@ -879,7 +894,8 @@ pub fn command<'a>(alloc: Global) -> Result<Command<'a>, AllocError>
         .subcommand(replay_command(alloc)?)?
         .subcommand(trace_command(alloc)?)?
         .subcommand(run_command(alloc)?)?
-        .subcommand(who_command(alloc)?)
+        .subcommand(who_command(alloc)?)?
+        .subcommand(diff_command(alloc)?)
 }
 
 /// The settings of so many deciders and of the options of a lane. Each option has a default, and its range is that of the
@@ -905,7 +921,7 @@ fn deciders_of(options: &ArgMatches<'_>) -> Option<u8>
 }
 
 /// What the options of a command say of the zone.
-fn zone_words<'a>(options: &ArgMatches<'a>) -> ZoneWords<'a>
+pub(crate) fn zone_words<'a>(options: &ArgMatches<'a>) -> ZoneWords<'a>
     ensures { IsZoneOf (found_of options.now) result }
 {
     ZoneWords {
@@ -1074,12 +1090,15 @@ pub fn request_of<'m, 'a>(matches: &'m ArgMatches<'a>) -> Option<Request<'m, 'a>
         → IsMetWith matches.now (codes "run") RunLacks) }
     ensures who { IfNone result (subcommand_name_of matches.now ≡ Some (codes "who")
         → IsMetWith matches.now (codes "who") WhoLacks) }
+    ensures diff { IfNone result (subcommand_name_of matches.now ≡ Some (codes "diff")
+        → IsMetWith matches.now (codes "diff") DiffLacks) }
 {
     match matches.subcommand() {
         Some(("replay", options)) => Some(replay_request(options)),
         Some(("trace", options)) => trace_request(options),
         Some(("run", options)) => run_request(options),
         Some(("who", options)) => who_request(options),
+        Some(("diff", options)) => diff_request(options),
         _ => None,
     }
 }

@@ -12,6 +12,7 @@ ghost use Rattle.notify_run.specs.Zones.{IsBadRule};
 ghost use Rattle.run_devices.specs.Fault.{run_status};
 ghost use Rattle.steps.specs.Settings.{max_channels};
 
+mod diff;
 mod feeds;
 mod pretty;
 mod who;
@@ -20,6 +21,7 @@ mod zones;
 use clap::error::ErrorKind;
 use command_line::{Request, ShownWords, command, request_of};
 use command_output::{AnyWriter, CommandFault, Ending, exit_status};
+use diff::status_of_diff;
 use due_model::zone::Zone;
 use feeds::status_of_feed;
 use line_forms::Picks;
@@ -235,6 +237,12 @@ fn status_of_request<T: Threads + Wait + Clock + Sync>(
         Request::Who { objects, asked, .. } => {
             return status_of_who(rt, threads, &zone, objects, asked);
         }
+        Request::Diff {
+            objects,
+            changed,
+            json,
+            ..
+        } => return status_of_diff(rt, &zone, objects, changed, json),
         Request::Run {
             objects,
             settings,
