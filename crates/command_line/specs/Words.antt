@@ -11,14 +11,16 @@ use Rattle.clap.specs.Words.{App, Rule, new_app, new_rule, rows_of, subcommand_r
 use Rattle.clap.specs.Words.{with_rule}
 use Rattle.steps.specs.declared.settings.Settings.{Settings}
 use Rattle.steps.specs.Settings.{AreSettings, max_channels}
-use Rattle.clap.specs.declared.builder.action.ArgAction.TheVariants.{Append, SetTrue}
+use Rattle.clap.specs.declared.builder.action.ArgAction.TheVariants.{Append}
 use Rattle.clap.specs.declared.builder.value_parser.ValueParser.TheVariants.{Signed}
+use Rattle.command_line.specs.Check.{check_words, CheckLacks, IsCheckOf}
+pub use Rattle.command_line.specs.Options.{flag_option, IsFlag, text_option}
 use Rattle.command_line.specs.declared.words.Request.{Request}
 use Rattle.command_line.specs.declared.words.ShownWords.{ShownWords}
 use Rattle.command_line.specs.declared.words.TryTimes.{TryTimes}
 use Rattle.command_line.specs.declared.words.WhoWords.{WhoWords}
 use Rattle.command_line.specs.declared.words.ZoneWords.{ZoneWords}
-use Rattle.command_line.specs.declared.words.Request.TheVariants.{Replay, Trace, Run, Who}
+use Rattle.command_line.specs.declared.words.Request.TheVariants.{Replay, Trace, Run, Who, Check}
 
 -- the name of the command that is asked for
 abbrev pub request_name : Request → List ℕ
@@ -26,6 +28,7 @@ request_name (Replay objects zone shown) = codes "replay"
 request_name (Trace settings standbys zone) = codes "trace"
 request_name (Run objects settings zone channels times quiet ahead) = codes "run"
 request_name (Who objects zone asked) = codes "who"
+request_name (Check asked) = codes "check"
 
 -- in a trace fewer channels stand by than a lane may have
 abbrev pub AreSettingsFit : Request → Type 0
@@ -33,17 +36,12 @@ AreSettingsFit (Replay objects zone shown) = Unit {0}
 AreSettingsFit (Trace settings standbys zone) = standbys < max_channels
 AreSettingsFit (Run objects settings zone channels times quiet ahead) = Unit {0}
 AreSettingsFit (Who objects zone asked) = Unit {0}
+AreSettingsFit (Check asked) = Unit {0}
 
 -- the texts that the options of a command hold of the zone
 pub record IsZoneOf (options : Found) (words : ZoneWords) : Type 0 where
   pub rule : option_copied words.rule ≡ first_value options (codes "zone")
   pub file : option_copied words.file ≡ first_value options (codes "zone-file")
-
--- A flag is on where it is given, and off where it isn't.
-pub record IsFlag (options : Found) (name : List ℕ) (flag : Bool) : Type 0 where
-  pub left_out : one_text options name ≡ None → flag ≡ false
-  pub on : one_text options name ≡ Some (codes "true") → flag ≡ true
-  pub off : one_text options name ≡ Some (codes "false") → flag ≡ false
 
 -- the texts that they hold of which lines of a report are wanted, and whether each is to be JSON
 pub record IsShownOf (options : Found) (words : ShownWords) : Type 0 where
@@ -119,7 +117,7 @@ RunLacks options = (deciders : ℕ) → is_some (first_value options (codes "obj
 
 -- What the options of a command hold: of `replay` the file of the object text, if it is given, and which lines are wanted; of
 -- `trace` the settings and how many channels stand by; of `run` the file, the settings, the times, how far ahead a stamp may be,
--- and the channel words; of `who` the file and what is supposed; and of each the zone.
+-- and the channel words; of `who` the file and what is supposed; and of each of these the zone; of `check` the files.
 abbrev pub IsRequestOf : Found → Request → Type 0
 IsRequestOf options (Replay objects zone shown) =
     (option_copied objects ≡ first_value options (codes "objects")) × IsZoneOf options zone
@@ -138,6 +136,7 @@ IsRequestOf options (Run objects settings zone channels times quiet ahead) =
 IsRequestOf options (Who objects zone asked) =
     (Some objects.now ≡ first_value options (codes "objects")) × IsZoneOf options zone
     × IsWhoOf options asked
+IsRequestOf options (Check asked) = IsCheckOf options asked
 
 -- it is what the command that was met asks, with its options
 abbrev pub IsAskedBy : ArgMatches → Request → Type 0
@@ -156,6 +155,7 @@ request_zone (Replay objects zone shown) = zone
 request_zone (Trace settings standbys zone) = zone
 request_zone (Run objects settings zone channels times quiet ahead) = zone
 request_zone (Who objects zone asked) = zone
+request_zone (Check asked) = record { rule = None; file = None }
 
 -- it gives a rule and a file
 abbrev pub AreTwo : ZoneWords → Type 0
@@ -180,6 +180,7 @@ asks_bad_letters (Replay objects zone shown) = has_bad_letters shown
 asks_bad_letters (Trace settings standbys zone) = false
 asks_bad_letters (Run objects settings zone channels times quiet ahead) = false
 asks_bad_letters (Who objects zone asked) = false
+asks_bad_letters (Check asked) = false
 
 -- `--NAME NUMBER`, with a number from `least` to `most`, or with `default` where it is left out
 abbrev pub number_option : (name default : List ℕ) → (least most : ℕ) → Rule
@@ -196,20 +197,6 @@ bare_number_option name least most = record (new_rule name) {
   long = Some name;
   value_names = 1;
   parser = Some (Signed (pos least) (pos most));
-}
-
--- `--NAME TEXT`, which may be left out
-abbrev pub text_option : List ℕ → Rule
-text_option name = record (new_rule name) {
-  long = Some name;
-  value_names = 1;
-}
-
--- `--NAME`, which may be left out
-abbrev pub flag_option : List ℕ → Rule
-flag_option name = record (new_rule name) {
-  long = Some name;
-  action = Some SetTrue;
 }
 
 -- words without an option, of which there may be any number
@@ -294,7 +281,7 @@ who_words =
     with_zone (with_supposed (with_rule (new_app (codes "who"))
     (record (text_option (codes "objects")) { required = true })))
 
--- `notify-run` has these four commands, `--version`, no command `help`, and asks for one of the four
+-- `notify-run` has these five commands, `--version`, no command `help`, and asks for one of the five
 abbrev pub program_words : App
 program_words = record {
   top = record (new_app (codes "notify-run")).top {
@@ -304,5 +291,5 @@ program_words = record {
     subcommand_required = true;
     arg_required_else_help = true;
   };
-  subs = replay_words.top ∷ trace_words.top ∷ run_words.top ∷ who_words.top ∷ [];
+  subs = replay_words.top ∷ trace_words.top ∷ run_words.top ∷ who_words.top ∷ check_words.top ∷ [];
 }

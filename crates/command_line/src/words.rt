@@ -4,6 +4,7 @@ ghost use Rattle.std.specs.Prelude.{◌≡◌, ◌<◌, ℕ, codes, false, IfNon
 ghost use Rattle.std.specs.List.{list_all};
 ghost use Rattle.clap.specs.Matches.{found_of};
 ghost use Rattle.clap.specs.Words.{app_of, rule_of, subcommand_name_of};
+ghost use Rattle.command_line.specs.Check.{CheckLacks};
 ghost use Rattle.command_line.specs.Words.{AreSettingsFit, IsAskedBy, IsRequestOf, IsZoneOf};
 ghost use Rattle.command_line.specs.Words.{HoldFitting, HoldSettings, HoldSomeTimes, HoldTimes};
 ghost use Rattle.command_line.specs.Words.{HoldsAnyNumber, HoldsNumber, bare_number_option};
@@ -17,6 +18,7 @@ ghost use Rattle.command_line.specs.Words.{request_name, request_zone, run_words
 ghost use Rattle.command_line.specs.Words.{trace_words, with_lane_options, with_shown, with_try_options};
 ghost use Rattle.command_line.specs.Words.{with_zone, word_list};
 
+use crate::check::{CheckWords, check_asked, check_command};
 use clap::{Arg, ArgAction, ArgMatches, Command, value_parser};
 use std::alloc::{AllocError, Global};
 use steps::{MAX_CHANNELS, Settings};
@@ -247,6 +249,8 @@ pub enum Request<'m, 'a> {
         zone: ZoneWords<'a>,
         asked: WhoWords<'m, 'a>,
     },
+    /// The faults of the object text in the files.
+    Check { asked: CheckWords<'m, 'a> },
 }
 
 impl<'a> Request<'_, 'a> {
@@ -259,6 +263,10 @@ impl<'a> Request<'_, 'a> {
             Request::Trace { zone, .. } => zone,
             Request::Run { zone, .. } => zone,
             Request::Who { zone, .. } => zone,
+            Request::Check { .. } => ZoneWords {
+                rule: None,
+                file: None,
+            },
         }
     }
 
@@ -274,7 +282,7 @@ impl<'a> Request<'_, 'a> {
 }
 
 /// The option `--NAME` with a text.
-fn text_option<'a>(alloc: Global, name: &'a str, value: &'a str, help: &'a str) -> Arg<'a>
+pub(crate) fn text_option<'a>(alloc: Global, name: &'a str, value: &'a str, help: &'a str) -> Arg<'a>
     ensures rule { rule_of result ≡ text_option name.entry.now }
     ensures local { result.global ≡ false }
 {
@@ -285,7 +293,7 @@ fn text_option<'a>(alloc: Global, name: &'a str, value: &'a str, help: &'a str) 
 }
 
 /// The option `--NAME` without a value.
-fn flag_option<'a>(alloc: Global, name: &'a str, help: &'a str) -> Arg<'a>
+pub(crate) fn flag_option<'a>(alloc: Global, name: &'a str, help: &'a str) -> Arg<'a>
     ensures rule { rule_of result ≡ flag_option name.entry.now }
     ensures local { result.global ≡ false }
 {
@@ -641,7 +649,8 @@ pub fn command<'a>(alloc: Global) -> Result<Command<'a>, AllocError>
         .subcommand(replay_command(alloc)?)?
         .subcommand(trace_command(alloc)?)?
         .subcommand(run_command(alloc)?)?
-        .subcommand(who_command(alloc)?)
+        .subcommand(who_command(alloc)?)?
+        .subcommand(check_command(alloc)?)
 }
 
 /// The settings of so many deciders and of the options of a lane. Each option has a default, and its range is that of the
@@ -786,6 +795,18 @@ fn who_request<'m, 'a>(options: &'m ArgMatches<'a>) -> Option<Request<'m, 'a>>
     })
 }
 
+/// What the options of `check` ask, as a request.
+fn check_request<'m, 'a>(options: &'m ArgMatches<'a>) -> Option<Request<'m, 'a>>
+    ensures named { IfSome result (λ request. request_name request ≡ codes "check") }
+    ensures options { IfSome result (IsRequestOf (found_of options.now)) }
+    ensures settings { IfSome result AreSettingsFit }
+    ensures lacking { IfNone result (CheckLacks (found_of options.now)) }
+{
+    Some(Request::Check {
+        asked: check_asked(options)?,
+    })
+}
+
 /// What a command line that was read asks.
 pub fn request_of<'m, 'a>(matches: &'m ArgMatches<'a>) -> Option<Request<'m, 'a>>
     ensures settings { IfSome result AreSettingsFit }
@@ -800,12 +821,15 @@ pub fn request_of<'m, 'a>(matches: &'m ArgMatches<'a>) -> Option<Request<'m, 'a>
         → IsMetWith matches.now (codes "run") RunLacks) }
     ensures who { IfNone result (subcommand_name_of matches.now ≡ Some (codes "who")
         → IsMetWith matches.now (codes "who") WhoLacks) }
+    ensures check { IfNone result (subcommand_name_of matches.now ≡ Some (codes "check")
+        → IsMetWith matches.now (codes "check") CheckLacks) }
 {
     match matches.subcommand() {
         Some(("replay", options)) => Some(replay_request(options)),
         Some(("trace", options)) => trace_request(options),
         Some(("run", options)) => run_request(options),
         Some(("who", options)) => who_request(options),
+        Some(("check", options)) => check_request(options),
         _ => None,
     }
 }

@@ -14,6 +14,9 @@ ghost use Rattle.notify_run.specs.Zones.{IsBadRule, zone_fault_status};
 ghost use Rattle.run_devices.specs.Fault.{run_status};
 ghost use Rattle.steps.specs.Settings.{max_channels};
 
+mod check;
+
+use check::status_of_check;
 use clap::error::ErrorKind;
 use command_input::zone_of;
 use command_line::{Request, ShownWords, WhoWords, command, request_of};
@@ -325,6 +328,7 @@ fn status_of_request<T: Threads + Wait + Clock + Sync>(
             );
             return status_of_run(rt, outcome.map(|done| done.ending));
         }
+        Request::Check { asked } => return status_of_check(rt, asked),
     };
     status_of(rt, outcome)
 }
