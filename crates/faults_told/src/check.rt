@@ -1,5 +1,9 @@
 //! The check of object text: all faults of the first pass that finds any, told one after another.
 
+ghost use Rattle.std.specs.Prelude.{◌≡◌, ◌<◌, length, true, IfOk, OnOk};
+ghost use Rattle.due_model.specs.declared.config.Config.{Config};
+ghost use Rattle.object_resolve.specs.Text.{IsTextOf};
+
 use crate::forms::{begin, push_count, push_json, push_member};
 use crate::located::Source;
 use crate::telling::{Detail, Telling};
@@ -97,7 +101,9 @@ fn words_of(alloc: Global, config: &Config) -> Result<Vec<u8>, AllocError> {
 }
 
 /// The report of a text without a fault.
-fn sound(alloc: Global, form: Form<'_, '_>, config: &Config) -> Result<Checked, AllocError> {
+fn sound(alloc: Global, form: Form<'_, '_>, config: &Config) -> Result<Checked, AllocError>
+    ensures { IfOk result (λ checked. checked.faults ≡ 0) }
+{
     let words = words_of(alloc, config)?;
     let mut report = Vec::new(alloc);
     push_end(&mut report, form, words.as_slice(), 0)?;
@@ -170,7 +176,9 @@ fn unread(
     text: &[u8],
     number: u64,
     fault: LineFault,
-) -> Result<Checked, AllocError> {
+) -> Result<Checked, AllocError>
+    ensures { IfOk result (λ checked. checked.faults ≡ 1) }
+{
     let mut report = Vec::new(alloc);
     push_line_fault(&mut report, form, line_at(text, number), number, fault)?;
     push_end(&mut report, form, b"no blocks", 1)?;
@@ -178,7 +186,9 @@ fn unread(
 }
 
 /// The report of a text that is too large.
-fn too_large(alloc: Global, form: Form<'_, '_>) -> Result<Checked, AllocError> {
+fn too_large(alloc: Global, form: Form<'_, '_>) -> Result<Checked, AllocError>
+    ensures { IfOk result (λ checked. checked.faults ≡ 1) }
+{
     let mut report = Vec::new(alloc);
     push(&mut report, if form.json { "{\"fault\":\"TooLarge\"}\n" } else { "TooLarge\n" })?;
     push_end(&mut report, form, b"no blocks", 1)?;
@@ -186,7 +196,9 @@ fn too_large(alloc: Global, form: Form<'_, '_>) -> Result<Checked, AllocError> {
 }
 
 /// Whether the block of the fault is among those that have a told fault, and the fault is that one.
-fn is_told(blocks: &[Block], tellings: &[Telling<'_>], line: u64, fault: BlockFault) -> bool {
+fn is_told(blocks: &[Block], tellings: &[Telling<'_>], line: u64, fault: BlockFault) -> bool
+    ensures { result ≡ true → 0 < length tellings.now }
+{
     tellings.iter().any(|telling| match blocks.get(telling.user) {
         Some(block) => block.line == line && telling.fault == fault,
         None => false,
@@ -204,7 +216,9 @@ fn add_answered<'a>(
     tellings: &mut Vec<Telling<'a>>,
     line: u64,
     fault: BlockFault,
-) -> Result<(), AllocError> {
+) -> Result<(), AllocError>
+    ensures { OnOk result (0 < length tellings.new.items) }
+{
     if is_told(blocks, tellings.as_slice(), line, fault) {
         return Ok(());
     }
@@ -303,7 +317,9 @@ fn tell_blocks<'a>(
     blocks: &'a [Block],
     line: u64,
     fault: BlockFault,
-) -> Result<Vec<Telling<'a>>, AllocError> {
+) -> Result<Vec<Telling<'a>>, AllocError>
+    ensures { IfOk result (λ tellings. 0 < length tellings.items) }
+{
     let mut tellings = match fault {
         BlockFault::PeriodLoop | BlockFault::DependencyLoop | BlockFault::TooMany => {
             Vec::new(alloc)
@@ -328,7 +344,9 @@ fn refused(
     blocks: &[Block],
     line: u64,
     fault: BlockFault,
-) -> Result<Checked, AllocError> {
+) -> Result<Checked, AllocError>
+    ensures { IfOk result (λ checked. 0 < checked.faults) }
+{
     let tellings = tell_blocks(alloc, blocks, line, fault)?;
     let mut report = Vec::new(alloc);
     for telling in tellings.as_slice() {
@@ -352,7 +370,9 @@ fn refused_text(
     text: &Vec<u8>,
     line: u64,
     fault: BlockFault,
-) -> Result<Checked, AllocError> {
+) -> Result<Checked, AllocError>
+    ensures { IfOk result (λ checked. 0 < checked.faults) }
+{
     match read(alloc, text) {
         Ok(blocks) => refused(alloc, form, blocks.as_slice(), line, fault),
         Err(_) => Err(AllocError),
@@ -361,7 +381,14 @@ fn refused_text(
 
 /// Checks object text: tells all faults of the first pass that finds any, or that there is none. Of lines that aren't blocks, of
 /// loops of periods and of dependencies, and of limits, the first alone is told.
-pub fn check(alloc: Global, form: Form<'_, '_>, text: Vec<u8>) -> Result<Checked, AllocError> {
+pub fn check(alloc: Global, form: Form<'_, '_>, text: Vec<u8>) -> Result<Checked, AllocError>
+    // A text of which no fault is told has a configuration.
+    ensures sound { IfOk result (λ checked. checked.faults ≡ 0
+        → (config : Config) × IsTextOf config text.items) }
+    // Of a text that has one none is told.
+    ensures faulty { (config : Config) → IsTextOf config text.items
+        → IfOk result (λ checked. checked.faults ≡ 0) }
+{
     let kept = Vec::from_slice(alloc, text.as_slice())?;
     match load(alloc, text) {
         Ok(config) => sound(alloc, form, &config),

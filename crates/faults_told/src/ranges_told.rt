@@ -33,9 +33,10 @@ pub fn first_wrong(text: &[u8]) -> &[u8] {
 /// The number that one or two digits write.
 fn small_number(text: &[u8]) -> Option<u32> {
     match text {
-        [one] if one.is_ascii_digit() => Some(u32::from(*one - b'0')),
+        [one] if one.is_ascii_digit() => Some(u32::from(one.saturating_sub(b'0'))),
         [tens, one] if tens.is_ascii_digit() && one.is_ascii_digit() => {
-            Some(u32::from(*tens - b'0') * 10 + u32::from(*one - b'0'))
+            let high = u32::from(tens.saturating_sub(b'0')) * 10;
+            Some(high + u32::from(one.saturating_sub(b'0')))
         }
         _ => None,
     }
@@ -44,7 +45,8 @@ fn small_number(text: &[u8]) -> Option<u32> {
 /// The minutes from midnight that a time says, if its hours and minutes are digits.
 fn minutes_said(text: &[u8]) -> Option<u32> {
     let (hours, minutes) = split(text, b':');
-    Some(small_number(hours)? * 60 + small_number(minutes?)?)
+    let whole = small_number(hours)?.saturating_mul(60);
+    Some(whole.saturating_add(small_number(minutes?)?))
 }
 
 /// What is wrong with a range that is none.

@@ -1,5 +1,7 @@
 //! The lines that tell a fault.
 
+ghost use Rattle.std.specs.Prelude.{◌≤◌, length};
+
 use crate::blocks_named::{NamedBlock, named};
 use crate::located::{Source, located};
 use crate::telling::{Detail, RangeFault, Telling, kind_word};
@@ -29,16 +31,27 @@ pub(crate) fn push_number(text: &mut Vec<u8>, number: u64) -> Result<(), AllocEr
     Ok(())
 }
 
+/// Whether a character begins with the byte.
+fn begins(byte: u8) -> bool {
+    byte < 0x80 || byte >= 0xC0
+}
+
 /// The end of a front of the value, of 80 bytes at most, that ends with a whole character.
-fn shown_end(value: &[u8]) -> usize {
+fn shown_end(value: &[u8]) -> usize
+    ensures { result ≤ length value.now }
+{
     if value.len() <= SHOWN {
         return value.len();
     }
-    let mut end = SHOWN;
-    while end > 0 && (value[end] & 0xC0) == 0x80 {
-        end -= 1;
+    if begins(value[80]) {
+        80
+    } else if begins(value[79]) {
+        79
+    } else if begins(value[78]) {
+        78
+    } else {
+        77
     }
-    end
 }
 
 /// Adds a value between quotes, of a long one a front.

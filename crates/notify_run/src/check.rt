@@ -5,6 +5,7 @@ use command_output::{AnyWriter, CommandFault};
 use faults_told::check::{Checked, Form, check};
 use faults_told::located::Source;
 use object_load_faults::fault::LoadFault;
+use std::alloc::AllocError;
 use std::fs::File;
 use std::io::Write;
 use std::process::ExitCode;
@@ -31,7 +32,7 @@ fn line_count(text: &[u8]) -> u64 {
 }
 
 /// Adds the text of a file.
-fn add<'a>(texts: &mut Texts<'a>, name: &'a str, text: Vec<u8>) -> Result<(), CommandFault> {
+fn add<'a>(texts: &mut Texts<'a>, name: &'a str, text: Vec<u8>) -> Result<(), AllocError> {
     texts.sources.push(Source {
         name,
         before: texts.lines,
@@ -60,6 +61,17 @@ fn read_file(rt: &HostRuntime, name: &str) -> Result<Vec<u8>, CommandFault> {
         Err(TextFault::TooLarge) => Err(CommandFault::Objects(LoadFault::TooLarge)),
         Err(TextFault::NoMemory) => Err(CommandFault::NoMemory),
     }
+}
+
+/// Reads a file, and adds its text.
+fn add_file<'a>(
+    rt: &HostRuntime,
+    texts: &mut Texts<'a>,
+    name: &'a str,
+) -> Result<(), CommandFault> {
+    let text = read_file(rt, name)?;
+    add(texts, name, text)?;
+    Ok(())
 }
 
 /// Says on standard error what a file failed with.
@@ -99,11 +111,7 @@ pub(crate) fn status_of_check(rt: &HostRuntime, asked: CheckWords<'_, '_>) -> Ex
         lines: 0,
     };
     for name in asked.objects {
-        let added = match read_file(rt, *name) {
-            Ok(text) => add(&mut texts, *name, text),
-            Err(fault) => Err(fault),
-        };
-        if let Err(fault) = added {
+        if let Err(fault) = add_file(rt, &mut texts, *name) {
             say(rt, fault, *name);
             return ExitCode::from(fault.status());
         }

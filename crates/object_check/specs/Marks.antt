@@ -4,7 +4,7 @@ use Rattle.std.specs.Option.{option_map_or}
 use Rattle.object_check.specs.declared.misfits.Misfit.{Misfit}
 use Rattle.object_check.specs.declared.rows.Must.{Must}
 use Rattle.object_check.specs.declared.rows.Must.TheVariants.{Be, Name, HaveWholeLines, HaveDayLines}
-use Rattle.object_check.specs.declared.rows.Must.TheVariants as must
+use Rattle.object_check.specs.declared.rows.Must.TheVariants as musts
 use Rattle.object_check.specs.Misfits.{misfits_in}
 use Rattle.object_check.specs.Rows.{Asked, name_rows, value_rows}
 use Rattle.object_faults.specs.Dated.{has_bad_line, has_other_line, is_bad_line, is_other_line}
@@ -22,7 +22,7 @@ abbrev pub breaks : List Block → (place : ℕ) → BlockKind → Must → (dir
 breaks blocks place kind (Be check) directive = is_broken blocks place check directive
 breaks blocks place kind (Name named reading) directive =
     is_unknown reading (names_in blocks (block_kind named)) blocks directive place
-breaks blocks place kind (must.List side) directive = lacks blocks place kind side
+breaks blocks place kind (musts.List side) directive = lacks blocks place kind side
 breaks blocks place kind HaveWholeLines directive = has_bad_line blocks place
 breaks blocks place kind HaveDayLines directive = has_other_line blocks place
 
@@ -59,7 +59,7 @@ IsColumn blocks row column = (place : ℕ) → slice_index_or column place false
 abbrev pub is_of_value : Must → Bool
 is_of_value (Be check) = true
 is_of_value (Name named reading) = true
-is_of_value (must.List side) = false
+is_of_value (musts.List side) = false
 is_of_value HaveWholeLines = false
 is_of_value HaveDayLines = false
 
@@ -67,7 +67,7 @@ is_of_value HaveDayLines = false
 abbrev pub is_of_lines : Must → Bool
 is_of_lines (Be check) = false
 is_of_lines (Name named reading) = false
-is_of_lines (must.List side) = false
+is_of_lines (musts.List side) = false
 is_of_lines HaveWholeLines = true
 is_of_lines HaveDayLines = true
 
@@ -75,7 +75,7 @@ is_of_lines HaveDayLines = true
 abbrev pub is_unfit_line : Must → (name text : List ℕ) → Bool
 is_unfit_line (Be check) name text = false
 is_unfit_line (Name named reading) name text = false
-is_unfit_line (must.List side) name text = false
+is_unfit_line (musts.List side) name text = false
 is_unfit_line HaveWholeLines name text = is_bad_line name text
 is_unfit_line HaveDayLines name text = is_other_line name text
 

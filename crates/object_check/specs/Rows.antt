@@ -13,7 +13,7 @@ use Rattle.object_reader.specs.declared.block.BlockKind.{BlockKind}
 use Rattle.object_reader.specs.declared.block.BlockKind.TheVariants.{Host, HostGroup, Service, ServiceGroup, Contact, ContactGroup, TimePeriod, Command, HostEscalation, ServiceEscalation, HostDependency, ServiceDependency}
 use Rattle.object_check.specs.declared.rows.Must.{Must}
 use Rattle.object_check.specs.declared.rows.Must.TheVariants.{Be, Name, HaveWholeLines, HaveDayLines}
-use Rattle.object_check.specs.declared.rows.Must.TheVariants as must
+use Rattle.object_check.specs.declared.rows.Must.TheVariants as musts
 
 -- the type of block, what it must be, and the name of the directive
 pub record Asked : Type 0 where
@@ -38,13 +38,13 @@ option_rows = flat_map (λ kind. map
 
 -- what lists hosts or services, on which side, and by which directive first
 abbrev pub side_rows : List Asked
-side_rows = record { kind = Service; must = must.List Masters; directive = codes "host_name" }
-    ∷ record { kind = HostEscalation; must = must.List Masters; directive = codes "host_name" }
-    ∷ record { kind = ServiceEscalation; must = must.List Masters; directive = codes "host_name" }
-    ∷ record { kind = HostDependency; must = must.List Masters; directive = codes "host_name" }
-    ∷ record { kind = ServiceDependency; must = must.List Masters; directive = codes "host_name" }
-    ∷ record { kind = HostDependency; must = must.List Dependents; directive = codes "dependent_host_name" }
-    ∷ record { kind = ServiceDependency; must = must.List Dependents; directive = codes "dependent_host_name" }
+side_rows = record { kind = Service; must = musts.List Masters; directive = codes "host_name" }
+    ∷ record { kind = HostEscalation; must = musts.List Masters; directive = codes "host_name" }
+    ∷ record { kind = ServiceEscalation; must = musts.List Masters; directive = codes "host_name" }
+    ∷ record { kind = HostDependency; must = musts.List Masters; directive = codes "host_name" }
+    ∷ record { kind = ServiceDependency; must = musts.List Masters; directive = codes "host_name" }
+    ∷ record { kind = HostDependency; must = musts.List Dependents; directive = codes "dependent_host_name" }
+    ∷ record { kind = ServiceDependency; must = musts.List Dependents; directive = codes "dependent_host_name" }
     ∷ []
 
 -- What each block must be by itself, in the order of the faults.

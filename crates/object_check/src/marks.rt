@@ -2,10 +2,12 @@
 
 ghost use Rattle.std.specs.Prelude.{◌≡◌, ℕ, ◌<◌, ◌&&◌, ◌==◌, ◌++◌, ◌∷◌, [], List, false, length, map, true};
 ghost use Rattle.std.specs.Prelude.{slice_index_or, IfOk, OnOk};
+ghost use Rattle.object_check.specs.Answered.{AreAnswered, AreAnsweredNames};
 ghost use Rattle.object_check.specs.Marks.{AreColumns, AreFound, IsColumn, breaks, breaks_row};
 ghost use Rattle.object_check.specs.Marks.{is_of_lines, is_of_value, name_misfits, value_misfits};
 ghost use Rattle.object_check.specs.Misfits.{misfits_in};
 ghost use Rattle.object_check.specs.Rows.{said_by};
+ghost use Rattle.object_check.specs.declared.rows.Must.TheVariants as musts;
 ghost use Rattle.object_faults.specs.Faults.{is_registered, lacks};
 ghost use Rattle.object_inheritance.specs.LineSearch.{AreMarks};
 ghost use Rattle.object_inheritance.specs.Templates.{kind_number};
@@ -117,7 +119,7 @@ fn column_of_side<'a>(
 ) -> Result<Vec<bool>, AllocError>
     requires registered { registered.now ≡ map is_registered templates.now }
     ensures { IfOk result (λ column. (directive : List ℕ) → IsColumn templates.now
-        (record { kind = kind; must = must.List side; directive = directive }) column.items) }
+        (record { kind = kind; must = musts.List side; directive = directive }) column.items) }
 {
     let needs = Needs::new(alloc, templates, side)?;
     let blocks = templates.blocks();
@@ -259,7 +261,8 @@ pub fn value_misfits<'a>(
     objects: &NamedObjects<'a>,
 ) -> Result<Vec<Misfit>, AllocError>
     requires { objects.now ≡ templates.now }
-    ensures { IfOk result (λ found. found.items ≡ value_misfits templates.now) }
+    ensures all { IfOk result (λ found. found.items ≡ value_misfits templates.now) }
+    ensures answered { IfOk result (λ found. AreAnswered templates.now found.items) }
 {
     misfits_by(alloc, templates, objects, value_rows())
 }
@@ -273,7 +276,8 @@ pub fn name_misfits<'a>(
     objects: &NamedObjects<'a>,
 ) -> Result<Vec<Misfit>, AllocError>
     requires { objects.now ≡ templates.now }
-    ensures { IfOk result (λ found. found.items ≡ name_misfits templates.now) }
+    ensures all { IfOk result (λ found. found.items ≡ name_misfits templates.now) }
+    ensures answered { IfOk result (λ found. AreAnsweredNames templates.now found.items) }
 {
     misfits_by(alloc, templates, objects, name_rows())
 }
