@@ -1,6 +1,6 @@
 -- The first of all faults is the one that loading answers.
 use Rattle.std.proofs.Common.{◌≡◌, ℕ, zero, suc, ◌+◌, ◌<◌, ◌≤◌, Bool, true, false, cond, ◌&&◌, ◌||◌, List, [], ◌∷◌, ◌++◌, length, map, filter, Option, Some, None, refl, sym, ap, ap₂, subst, ⊎_elim, ◌∙◌, arith}
-use Rattle.std.specs.Prelude.{not, slice_get, ◌==◌}
+use Rattle.std.specs.Prelude.{is_some, not, slice_get, ◌==◌}
 use Rattle.std.specs.List.{flat_map, list_any, range_with_len}
 use Rattle.std.specs.Option.{option_map_or, option_or}
 use Rattle.std.proofs.lemmas.Bool.{cases_lt, false≢true}
@@ -32,6 +32,9 @@ use Rattle.object_reader.specs.declared.block.BlockKind.TheVariants.{Host, HostG
 use Rattle.object_names.specs.Unknown.{HasUnknown}
 use Rattle.object_groups.specs.First.{IsFirst}
 
+no-cons : {X : Type 0} (x : X) (xs : List X) → [] ≡ x ∷ xs → ⊥
+no-cons x xs is = let lengths = ap length is in omega (arith, lengths)
+
 -- ---- the first number that passes
 
 pub record IsHead (p : ℕ → Bool) (from end at : ℕ) : Type 0 where
@@ -41,7 +44,7 @@ pub record IsHead (p : ℕ → Bool) (from end at : ℕ) : Type 0 where
   pub before : (k : ℕ) → from ≤ k → k < at → p k ≡ false
 
 range-head : (p : ℕ → Bool) (from count at : ℕ) (rest : List ℕ) → filter p (range_with_len from count) ≡ at ∷ rest → IsHead p from (from + count) at
-range-head p from zero at rest ()
+range-head p from zero at rest is = absurd (no-cons at rest is)
 range-head p from (suc count) at rest is = by_test (p from) refl is
   where
     by_test : (b : Bool) → p from ≡ b → cond b (from ∷ filter p (range_with_len (from + 1) count)) (filter p (range_with_len (from + 1) count)) ≡ at ∷ rest → IsHead p from (from + suc count) at
@@ -66,7 +69,7 @@ range-none p from zero none k low high = absurd (omega (arith, low, high))
 range-none p from (suc count) none k low high = by_test (p from) refl none
   where
     by_test : (b : Bool) → p from ≡ b → cond b (from ∷ filter p (range_with_len (from + 1) count)) (filter p (range_with_len (from + 1) count)) ≡ [] → p k ≡ false
-    by_test true passes ()
+    by_test true passes some = absurd (no-cons from _ (sym some))
     by_test false fails more = ⊎_elim
         (λ (at_first : k < from + 1). let same : k ≡ from = omega (arith, low, at_first) in ap p same ∙ fails)
         (λ (late : from + 1 ≤ k). range-none p (from + 1) count more k late (omega (arith, high)))
@@ -83,7 +86,7 @@ pub record IsHeadOf (f : ℕ → List Misfit) (from end : ℕ) (misfit : Misfit)
   pub before : (k : ℕ) → from ≤ k → k < at → f k ≡ []
 
 blocks-head : (f : ℕ → List Misfit) (from count : ℕ) (misfit : Misfit) (rest : List Misfit) → flat_map f (range_with_len from count) ≡ misfit ∷ rest → IsHeadOf f from (from + count) misfit
-blocks-head f from zero misfit rest ()
+blocks-head f from zero misfit rest is = absurd (no-cons misfit rest is)
 blocks-head f from (suc count) misfit rest is = by_list (f from) refl is
   where
     by_list : (found : List Misfit) → f from ≡ found → found ++ flat_map f (range_with_len (from + 1) count) ≡ misfit ∷ rest → IsHeadOf f from (from + suc count) misfit
@@ -112,7 +115,7 @@ blocks-none f from zero none k low high = absurd (omega (arith, low, high))
 blocks-none f from (suc count) none k low high = by_list (f from) refl none
   where
     by_list : (found : List Misfit) → f from ≡ found → found ++ flat_map f (range_with_len (from + 1) count) ≡ [] → f k ≡ []
-    by_list (one ∷ others) are ()
+    by_list (one ∷ others) are some = absurd (no-cons one _ (sym some))
     by_list [] is more = ⊎_elim
         (λ (at_first : k < from + 1). let same : k ≡ from = omega (arith, low, at_first) in ap f same ∙ is)
         (λ (late : from + 1 ≤ k). blocks-none f (from + 1) count more k late (omega (arith, high)))
@@ -134,7 +137,7 @@ module _ (b : Asked → Bool) (f : Asked → ValueFault) where
       ∙ first-none rows (λ k low. none (suc k) (omega (arith, low)))
 
   first-at : (rows : List Asked) (at : ℕ) (row : Asked) → slice_get rows at ≡ Some row → b row ≡ true → ((k : ℕ) → k < at → has rows k ≡ false) → first_of (map one rows) ≡ Some (f row)
-  first-at [] at row () is before
+  first-at [] at row here is before = absurd (false≢true (ap is_some here))
   first-at (x ∷ rows) zero row here is before = let same : x ≡ row = cc in
       ap (λ (r : Asked). option_or (cond (b r) (Some (f r)) None) (first_of (map one rows))) same
       ∙ ap (λ (flag : Bool). option_or (cond flag (Some (f row)) None) (first_of (map one rows))) is
@@ -218,7 +221,7 @@ module _ (blocks : List Block) (place : ℕ) where
 
   -- whether a block of the type breaks the row
   abbrev kind_breaks : BlockKind → Asked → Bool
-  kind_breaks kind row = kind_number kind == kind_number row.kind && (true && breaks blocks place row.kind row.must row.directive)
+  kind_breaks kind row = (kind_number kind == kind_number row.kind && true) && breaks blocks place row.kind row.must row.directive
 
   abbrev first_fault : BlockKind → Option ValueFault
   first_fault kind = first_of (map (λ row. cond (kind_breaks kind row) (Some (fault_by row.must)) None) value_rows)
@@ -250,18 +253,18 @@ all-none b f [] none = refl
 all-none b f (row ∷ rows) none =
     ap (λ (flag : Bool). option_or (cond flag (Some (f row)) None) (first_of (map (λ r. cond (b r) (Some (f r)) None) rows))) (none row) ∙ all-none b f rows none
 
-none-left : (a b : Bool) → (a && (false && b)) ≡ false
+none-left : (a b : Bool) → ((a && false) && b) ≡ false
 none-left true b = refl
 none-left false b = refl
 
 module _ (blocks : List Block) (place : ℕ) (block : Block) (here : slice_get blocks place ≡ Some block) where
   abbrev fault_where : Bool → Option ValueFault
-  fault_where registered = first_of (map (λ row. cond (kind_number block.kind == kind_number row.kind && (registered && breaks blocks place row.kind row.must row.directive))
+  fault_where registered = first_of (map (λ row. cond ((kind_number block.kind == kind_number row.kind && registered) && breaks blocks place row.kind row.must row.directive)
       (Some (fault_by row.must)) None) value_rows)
 
   where-registered : (registered : Bool) → fault_where registered ≡ cond registered (value_fault blocks place block.kind) None
   where-registered true = by_kind blocks place block.kind
-  where-registered false = all-none (λ row. kind_number block.kind == kind_number row.kind && (false && breaks blocks place row.kind row.must row.directive))
+  where-registered false = all-none (λ row. (kind_number block.kind == kind_number row.kind && false) && breaks blocks place row.kind row.must row.directive)
       (λ row. fault_by row.must) value_rows (λ row. none-left (kind_number block.kind == kind_number row.kind) (breaks blocks place row.kind row.must row.directive))
 
   -- the first fault by the rows is that of the block
@@ -274,7 +277,7 @@ module _ (blocks : List Block) (place : ℕ) (block : Block) (here : slice_get b
 
 map-none : {X Y : Type 0} (f : X → Y) (xs : List X) → map f xs ≡ [] → xs ≡ []
 map-none f [] is = refl
-map-none f (x ∷ xs) ()
+map-none f (x ∷ xs) is = absurd (no-cons (f x) (map f xs) (sym is))
 
 pub record IsMapped {X Y : Type 0} (f : X → Y) (xs : List X) (y : Y) : Type 0 where
   pub first : X
@@ -283,7 +286,7 @@ pub record IsMapped {X Y : Type 0} (f : X → Y) (xs : List X) (y : Y) : Type 0 
   pub same : f first ≡ y
 
 map-some : {X Y : Type 0} (f : X → Y) (xs : List X) (y : Y) (ys : List Y) → map f xs ≡ y ∷ ys → IsMapped f xs y
-map-some f [] y ys ()
+map-some f [] y ys is = absurd (no-cons y ys is)
 map-some f (x ∷ xs) y ys is = record { first = x; rest = xs; are = refl; same = cc; }
 
 -- ---- the values
@@ -337,8 +340,8 @@ module _ (blocks : List Block) where
 
 module _ (blocks : List Block) (place : ℕ) where
   abbrev any_where : Bool → BlockKind → Bool
-  any_where registered kind = list_any (λ row. kind_number kind == kind_number row.kind
-      && ((not (means_nothing kind) && registered) && breaks blocks place row.kind row.must row.directive)) name_rows
+  any_where registered kind = list_any (λ row. (kind_number kind == kind_number row.kind
+      && (not (means_nothing kind) && registered)) && breaks blocks place row.kind row.must row.directive) name_rows
 
   names-by_kind : (registered : Bool) (kind : BlockKind) → any_where registered kind ≡ (registered && list_any (unknown.is_unknown_by blocks place) (references kind))
   names-by_kind true Host = refl
@@ -388,7 +391,7 @@ or-true true b is = refl
 or-true false b is = is
 
 any-at : (b : Asked → Bool) (rows : List Asked) (at : ℕ) (row : Asked) → slice_get rows at ≡ Some row → b row ≡ true → list_any b rows ≡ true
-any-at b [] at row () is
+any-at b [] at row here is = absurd (false≢true (ap is_some here))
 any-at b (x ∷ rows) zero row here is = let same : x ≡ row = cc in ap (λ (r : Asked). b r || list_any b rows) same ∙ ap (λ (flag : Bool). flag || list_any b rows) is
 any-at b (x ∷ rows) (suc at) row here is = or-true (b x) (list_any b rows) (any-at b rows at row here is)
 

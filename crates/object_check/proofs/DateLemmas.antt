@@ -9,13 +9,14 @@ use Rattle.std.proofs.lemmas.List.{reverse-append}
 use Rattle.std.proofs.lemmas.List.Elements.{All-contains, Contains-append_cases}
 use Rattle.std.proofs.lemmas.Slice.Eq.{bytes_eq-Decides}
 use Rattle.lemmas.proofs.Elements.{at-Contains, Contains-cases, Contains-flat_map, Contains-here, Contains-later, Contains-map, Contains-none}
-use Rattle.object_faults.specs.Columns.{date_at, date_by, date_fault}
+use Rattle.object_check.specs.Marks.{breaks, is_of_lines, is_unfit_line}
+use Rattle.object_check.specs.declared.rows.Must.{Must}
+use Rattle.object_check.specs.declared.rows.Must.TheVariants.{Be, Name, HaveWholeLines, HaveDayLines}
+use Rattle.object_check.specs.declared.rows.Must.TheVariants as musts
+use Rattle.object_reader.specs.declared.block.BlockKind.{BlockKind}
 use Rattle.object_faults.specs.Dated.{directive_names, has_bad_line, has_line, has_other_line, is_bad_line, is_other_line}
-use Rattle.object_faults.specs.declared.fault.ValueFault.{ValueFault}
-use Rattle.object_faults.specs.Faults.{is_registered}
 use Rattle.object_inheritance.specs.DatedLines.{AreLines, dated_line, named}
 use Rattle.object_inheritance.specs.declared.dated_lines.Line.{Line}
-use Rattle.object_inheritance.specs.Kinds.{is_period}
 use Rattle.object_inheritance.specs.Inherited.{first_given, given, given_along, own, sources, value}
 use Rattle.object_reader.specs.declared.block.Block.{Block}
 use Rattle.object_reader.specs.declared.block.Directive.{Directive}
@@ -169,3 +170,13 @@ any-named passes (line ∷ lines) = ap (λ rest. passes line.name.now line.text.
 pub kept-line-is : (passes : List ℕ → List ℕ → Bool) (blocks : List Block) (place : ℕ) (lines : List Line) (flag : Bool) → flag ≡ list_any (λ line. passes line.name.now line.text.now) lines
     → AreLines blocks place (named lines) → flag ≡ list_any (has_line passes blocks place) (directive_names blocks)
 kept-line-is passes blocks place lines flag is are = is ∙ any-named passes lines ∙ line-is passes blocks place (named lines) are
+
+-- a line that isn't what it must be
+pub unfit-lines : (asked : Must) (blocks : List Block) (place : ℕ) (lines : List Line) (flag : Bool) → is_of_lines asked ≡ true
+    → flag ≡ list_any (λ line. is_unfit_line asked line.name.now line.text.now) lines → AreLines blocks place (named lines)
+    → (kind : BlockKind) (directive : List ℕ) → flag ≡ breaks blocks place kind asked directive
+unfit-lines (Be check) blocks place lines flag of is are kind directive = absurd (false≢true of)
+unfit-lines (Name named_kind reading) blocks place lines flag of is are kind directive = absurd (false≢true of)
+unfit-lines (musts.List side) blocks place lines flag of is are kind directive = absurd (false≢true of)
+unfit-lines HaveWholeLines blocks place lines flag of is are kind directive = kept-line-is is_bad_line blocks place lines flag is are
+unfit-lines HaveDayLines blocks place lines flag of is are kind directive = kept-line-is is_other_line blocks place lines flag is are

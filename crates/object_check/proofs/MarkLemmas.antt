@@ -1,15 +1,17 @@
 -- The blocks that have the fault of a row.
-use Rattle.std.proofs.Common.{◌≡◌, ℕ, zero, suc, ◌+◌, ◌<◌, ◌≤◌, Bool, true, false, cond, ◌&&◌, List, [], ◌∷◌, ◌++◌, length, map, replicate, set, take, get_or, Option, Some, None, refl, sym, ap, ap₂, subst, eqb, eqb-true, ⊎_elim, ◌∙◌, arith}
+use Rattle.std.proofs.Common.{◌≡◌, ℕ, zero, suc, ◌+◌, ◌<◌, ◌≤◌, Bool, true, false, cond, ◌&&◌, List, [], ◌∷◌, ◌++◌, length, map, replicate, set, take, get_or, Option, Some, None, refl, sym, ap, ap₂, subst, eqb, eqb-true, ⊎_elim, ◌∙◌, arith, Bor}
 use Rattle.std.specs.Prelude.{◌||◌, IfSome, slice_get, unwrap_or, is_none, ◌==◌}
 use Rattle.std.specs.List.{list_any, range_with_len}
 use Rattle.std.specs.Option.{option_map, option_map_or}
-use Rattle.std.proofs.lemmas.Bool.{cases_lt}
-use Rattle.std.proofs.lemmas.List.{get_or-map}
+use Rattle.std.proofs.lemmas.Bool.{cases_lt, false≢true}
+use Rattle.std.proofs.lemmas.List.{get_or-map, length-append, length-map}
 use Rattle.std.proofs.lemmas.List.FromFn.{get_or-map-range_with_len, length-map-range_with_len, map-range_with_len_more}
 use Rattle.std.proofs.lemmas.Option.{slice_get_read}
 use Rattle.lemmas.proofs.Writes.{at_set}
-use Rattle.object_check.specs.Marks.{AreFound, block_breaks, breaks, breaks_at, IsColumn, is_of_value}
-use Rattle.object_check.specs.Rows.{Asked}
+use Rattle.object_check.specs.Marks.{AreColumns, AreFound, block_breaks, breaks, breaks_at, breaks_row, IsColumn, is_of_value}
+use Rattle.object_check.specs.Misfits.{is_marked_in, misfits_in}
+use Rattle.object_check.specs.Rows.{Asked, said_by}
+use Rattle.object_check.proofs.MisfitLemmas.{misfits-same}
 use Rattle.object_check.specs.declared.rows.Must.{Must}
 use Rattle.object_check.specs.declared.rows.Must.TheVariants.{Be, Name, HaveWholeLines, HaveDayLines}
 use Rattle.object_check.specs.declared.rows.Must.TheVariants as musts
@@ -55,9 +57,9 @@ pub breaks-same : (blocks : List Block) (asked : Must) (directive : List ℕ) (k
     → breaks blocks one kind asked directive ≡ breaks blocks other kind asked directive
 breaks-same blocks (Be check) directive kind one other of same = broken-same blocks check directive one other same
 breaks-same blocks (Name named read) directive kind one other of same = unknown-same blocks named read directive kind one other same
-breaks-same blocks (musts.List side) directive kind one other of same = absurd (let no : false ≡ true = of in search no)
-breaks-same blocks HaveWholeLines directive kind one other of same = absurd (let no : false ≡ true = of in search no)
-breaks-same blocks HaveDayLines directive kind one other of same = absurd (let no : false ≡ true = of in search no)
+breaks-same blocks (musts.List side) directive kind one other of same = absurd (false≢true of)
+breaks-same blocks HaveWholeLines directive kind one other of same = absurd (false≢true of)
+breaks-same blocks HaveDayLines directive kind one other of same = absurd (false≢true of)
 
 module _ (asked : Must) (values : Column) (found : List (Option Bool)) (origin place : ℕ) (unfit : Bool) (of : is_of_value asked ≡ true)
     (same : given values.blocks values.directive origin ≡ given values.blocks values.directive place) (are : AreFound asked values found) where
@@ -132,10 +134,6 @@ any-of_each p f (x ∷ xs) = ap (λ (rest : Bool). p (f x) || rest) (any-of_each
 
 -- ---- the block at a place
 
-and-assoc : (a b c : Bool) → ((a && b) && c) ≡ (a && (b && c))
-and-assoc true b c = refl
-and-assoc false b c = refl
-
 marked-at : (blocks : List Block) (registered : List Bool) (i : ℕ) (x : Block) → registered ≡ map faults.is_registered blocks → i < length blocks → x ≡ get_or blocks i x
     → get_or registered i false ≡ faults.is_registered x
 marked-at blocks registered i x are within is =
@@ -148,5 +146,46 @@ pub unfit-at : (blocks : List Block) (registered : List Bool) (row : Asked) (i :
 unfit-at blocks registered row i x asked unfit are within is asked_is unfit_is =
     at-place blocks row i x unfit (slice_get_read blocks (length blocks) i x refl within is)
     (unfit_is ∙ ap (λ (a : Bool). a && breaks blocks i row.kind row.must row.directive)
-    (asked_is ∙ ap (λ (r : Bool). (kind_number x.kind == kind_number row.kind) && r) (marked-at blocks registered i x are within is))
-    ∙ and-assoc (kind_number x.kind == kind_number row.kind) (faults.is_registered x) (breaks blocks i row.kind row.must row.directive))
+    (asked_is ∙ ap (λ (r : Bool). (kind_number x.kind == kind_number row.kind) && r) (marked-at blocks registered i x are within is)))
+
+-- ---- the rows of a table
+
+-- the faults by the rows of the program are those by the table
+pub of-rows : (blocks : List Block) (rows : List (BlockKind × Must × Bor (List ℕ))) (table : List Asked) → map said_by rows ≡ table
+    → misfits_in (breaks_row blocks (map said_by rows)) (length rows) (length blocks) ≡ misfits_in (breaks_row blocks table) (length table) (length blocks)
+of-rows blocks rows table is =
+    ap₂ (λ (asked : List Asked) (n : ℕ). misfits_in (breaks_row blocks asked) n (length blocks)) is (sym (length-map rows said_by) ∙ ap length is)
+
+-- one column more
+each-more : (blocks : List Block) (rows : List Asked) (columns : List (List Bool)) (column : List Bool) (row : Asked) → length columns ≡ length rows
+    → ((k place : ℕ) → get_or (get_or columns k []) place false ≡ breaks_row blocks rows k place) → IsColumn blocks row column
+    → (k place : ℕ) → get_or (get_or (columns ++ column ∷ []) k []) place false ≡ breaks_row blocks (rows ++ row ∷ []) k place
+each-more blocks [] [] column row long each is zero place = is place
+each-more blocks [] [] column row long each is (suc k) place = refl
+each-more blocks [] (c ∷ columns) column row long each is k place = absurd (omega (arith, long))
+each-more blocks (r ∷ rows) [] column row long each is k place = absurd (omega (arith, long))
+each-more blocks (r ∷ rows) (c ∷ columns) column row long each is zero place = each zero place
+each-more blocks (r ∷ rows) (c ∷ columns) column row long each is (suc k) place =
+    each-more blocks rows columns column row (omega (arith, long)) (λ n at. each (suc n) at) is k place
+
+pub columns-more : (blocks : List Block) (rows : List Asked) (columns : List (List Bool)) (column : List Bool) (row : Asked) → AreColumns blocks rows columns → IsColumn blocks row column
+    → AreColumns blocks (rows ++ row ∷ []) (columns ++ column ∷ [])
+columns-more blocks rows columns column row are is = record {
+  long = length-append columns (column ∷ []) ∙ ap (λ (n : ℕ). n + 1) are.long ∙ sym (length-append rows (row ∷ []));
+  each = each-more blocks rows columns column row are.long are.each is;
+}
+
+pub no-columns : (blocks : List Block) → AreColumns blocks [] []
+no-columns blocks = record { long = refl; each = λ row place. refl }
+
+-- a column without its marks, where it has none
+pub column-left : (blocks : List Block) (row : Asked) (column left : List Bool) → ((place : ℕ) → get_or left place false ≡ get_or column place false) → IsColumn blocks row column
+    → IsColumn blocks row left
+column-left blocks row column left same is = λ place. same place ∙ is place
+
+-- the faults by the columns are those by the rows
+pub by-columns : (blocks : List Block) (rows : List Asked) (columns : List (List Bool)) (n m count : ℕ) → AreColumns blocks rows columns → n ≡ m → length blocks ≡ count
+    → misfits_in (λ row at. is_marked_in columns row at) n count ≡ misfits_in (breaks_row blocks rows) m (length blocks)
+by-columns blocks rows columns n m count are same long =
+    misfits-same (λ row at. is_marked_in columns row at) (breaks_row blocks rows) n count (λ row place. are.each row place)
+    ∙ ap₂ (λ (k l : ℕ). misfits_in (breaks_row blocks rows) k l) same (sym long)

@@ -1,5 +1,5 @@
 -- Faults row by row and block by block.
-use Rattle.std.proofs.Common.{◌≡◌, ℕ, ◌+◌, ◌<◌, ◌≤◌, Bool, true, false, cond, List, [], ◌∷◌, ◌++◌, length, map, filter, get_or, refl, sym, ap, ap₂, ⊎_elim, ◌∙◌, arith}
+use Rattle.std.proofs.Common.{◌≡◌, ℕ, ◌+◌, ◌<◌, ◌≤◌, Bool, true, false, cond, List, [], ◌∷◌, ◌++◌, append_assoc, length, map, filter, get_or, refl, sym, ap, ap₂, ⊎_elim, ◌∙◌, arith}
 use Rattle.std.specs.List.{flat_map, range_with_len}
 use Rattle.std.proofs.lemmas.Bool.{cases_lt}
 use Rattle.std.proofs.lemmas.List.{get_or-map, map-append}
@@ -30,6 +30,20 @@ block-more has rows count =
     ap (flat_map (misfits_at has rows)) (below_more count)
     ∙ flat_map-append (misfits_at has rows) (range_with_len 0 count) (count ∷ [])
     ∙ ap (λ more. misfits_in has rows count ++ more) (append-nil (misfits_at has rows count))
+
+pub push-more : (has : ℕ → ℕ → Bool) (rows place : ℕ) (first old new : List Misfit) (flag : Bool) → old ≡ first ++ misfits_at has rows place
+    → new ≡ old ++ cond flag (misfit place rows ∷ []) [] → flag ≡ has rows place → new ≡ first ++ misfits_at has (rows + 1) place
+push-more has rows place first old new flag before more is =
+    more ∙ ap (λ (xs : List Misfit). xs ++ cond flag (misfit place rows ∷ []) []) before
+    ∙ append_assoc first (misfits_at has rows place) (cond flag (misfit place rows ∷ []) [])
+    ∙ ap (λ (b : Bool). first ++ (misfits_at has rows place ++ cond b (misfit place rows ∷ []) [])) is
+    ∙ ap (λ (xs : List Misfit). first ++ xs) (sym (row-more has rows place))
+
+-- what the column of a row says
+pub marked-in : {C : Type 0} (items : C → List Bool) (columns : List C) (row place : ℕ) (x : C) → row < length columns → x ≡ get_or columns row x
+    → is_marked (items x) place ≡ is_marked_in (map items columns) row place
+marked-in items columns row place x within is =
+    ap (λ (column : List Bool). is_marked column place) (ap items is ∙ sym (get_or-map items columns row x [] within))
 
 -- ---- the same faults
 

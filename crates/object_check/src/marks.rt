@@ -109,6 +109,13 @@ fn column_of_value<'a>(
     Ok(column)
 }
 
+/// Whether the block at the place is asked, and lacks what it must list on the side of the needs.
+fn lacks_if_asked(needs: &Needs<'_>, kind: BlockKind, asked: bool, place: usize) -> bool
+    ensures { result ≡ (asked && lacks needs.now.blocks place kind needs.now.side) }
+{
+    asked && needs.lacks(kind, place)
+}
+
 /// The blocks of the type that lack what they must list on the side.
 fn column_of_side<'a>(
     alloc: Global,
@@ -126,7 +133,8 @@ fn column_of_side<'a>(
     let mut column = Vec::with_capacity(alloc, blocks.len())?;
     for (place, block) in blocks.iter().enumerate() {
         let asked = is_asked(registered, kind, block, place);
-        column.push(asked && needs.lacks(kind, place))?;
+        let lacks = lacks_if_asked(&needs, kind, asked, place);
+        column.push(lacks)?;
     }
     Ok(column)
 }

@@ -7,4 +7,4 @@ use Rattle.object_check.proofs.marks.column_of_side.Given as goal
 -- The blocks so far.
 abbrev pub invariant-loop-place : goal.invariant-loop-place
 invariant-loop-place l = (directive : List ℕ)
-    → l.column.items ≡ map (breaks_at l.templates (record { kind = l.kind; must = musts.List l.side; directive = directive })) (range_with_len 0 l.place)
+    → l.column.items ≡ map (breaks_at l.templates (record { kind = l.kind; must = musts.List l.fn.side; directive = directive })) (range_with_len 0 l.place)
