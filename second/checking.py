@@ -2,7 +2,7 @@
 import re
 from configuration import NAMES, NUMBERS, OTHER_LISTS, OWN_NAME, PERIODS, WITHOUT_ALL, Checked
 from object_text import Refused, read
-from templates import DAYS, criteria_in, entries_of, is_dated, number_in, options_in, ranges_in, rule_in
+from templates import DAYS, Site, criteria_in, entries_of, is_dated, number_in, options_in, ranges_in, rule_in
 
 
 class All(Checked):
@@ -26,19 +26,6 @@ class All(Checked):
         if own is None:
             return inherited or []
         return [(place, number, entry) for number, entry in enumerate(entries_of(own[1:]))] + (inherited or [])
-
-    # ---- templates
-
-    def of_templates(self):
-        for place, block in enumerate(self.blocks):
-            for name in entries_of(self.own(place, "use") or ""):
-                if (block.type, name) not in self.templates:
-                    yield place, "UnknownTemplate", "use", name
-            if self.is_on_template_loop(place):
-                yield place, "TemplateLoop", "use", None
-            name = self.own(place, "name")
-            if name is not None and self.templates[block.type, name] != place:
-                yield place, "Doubled", "name", name
 
     # ---- values
 
@@ -132,8 +119,20 @@ class All(Checked):
         found = {}
         for holder, place, fault, name, value, number in faults:
             found.setdefault((holder, fault, name, number), [value, set()])[1].add(place)
-        return sorted((self.blocks[holder].line, fault, name, value, len(places) - 1)
-                      for (holder, fault, name, number), (value, places) in found.items())
+        return sorted(((self.blocks[holder].line, fault, name, value, len(places) - 1)
+                       for (holder, fault, name, number), (value, places) in found.items()), key=str)
+
+
+def of_templates(site):
+    for place, block in enumerate(site.blocks):
+        for name in entries_of(site.own(place, "use") or ""):
+            if (block.type, name) not in site.templates:
+                yield place, "UnknownTemplate", "use", name
+        if site.is_on_template_loop(place):
+            yield place, "TemplateLoop", "use", None
+        name = site.own(place, "name")
+        if name is not None and site.templates[block.type, name] != place:
+            yield place, "Doubled", "name", name
 
 
 def faults(data):
@@ -143,10 +142,11 @@ def faults(data):
         blocks = read(data)
     except Refused as refused:
         return "lines", str(refused)
-    every = All(blocks)
-    found = sorted((every.blocks[place].line, fault, name, value, 0) for place, fault, name, value in every.of_templates())
+    site = Site(blocks)
+    found = sorted(((site.blocks[place].line, fault, name, value, 0) for place, fault, name, value in of_templates(site)), key=str)
     if found:
         return "templates", found
+    every = All(blocks)
     found = every.folded(every.of_values())
     if found:
         return "values", found

@@ -161,11 +161,7 @@ fn push_block(text: &mut Vec<u8>, block: NamedBlock<'_>) -> Result<(), AllocErro
 /// Adds how many others there are.
 fn push_others(text: &mut Vec<u8>, others: usize) -> Result<(), AllocError> {
     push_number(text, others as u64)?;
-    if others == 1 {
-        push(text, " other uses")
-    } else {
-        push(text, " others use")
-    }
+    push(text, if others == 1 { " other" } else { " others" })
 }
 
 /// Adds the second line of a fault: the block that holds the value, and which blocks have it from there.
@@ -186,6 +182,7 @@ fn push_blocks(
             if telling.others > 0 {
                 push(text, " and ")?;
                 push_others(text, telling.others)?;
+                push(text, " use")?;
             } else {
                 push(text, " uses")?;
             }
@@ -193,6 +190,7 @@ fn push_blocks(
     } else if telling.others > 0 {
         push(text, ", which ")?;
         push_others(text, telling.others)?;
+        push(text, if telling.others == 1 { " uses" } else { " use" })?;
     }
     text.push(b'\n')?;
     Ok(())

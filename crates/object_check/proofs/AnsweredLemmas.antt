@@ -45,16 +45,17 @@ pub record IsHead (p : ℕ → Bool) (from end at : ℕ) : Type 0 where
 
 range-head : (p : ℕ → Bool) (from count at : ℕ) (rest : List ℕ) → filter p (range_with_len from count) ≡ at ∷ rest → IsHead p from (from + count) at
 range-head p from zero at rest is = absurd (no-cons at rest is)
-range-head p from (suc count) at rest is = by_test (p from) refl is
+range-head p from (suc count) at rest is = by_test (p from) refl is (range-head p (from + 1) count at rest)
   where
-    by_test : (b : Bool) → p from ≡ b → cond b (from ∷ filter p (range_with_len (from + 1) count)) (filter p (range_with_len (from + 1) count)) ≡ at ∷ rest → IsHead p from (from + suc count) at
-    by_test true passes here = let same : from ≡ at = cc in record {
+    by_test : (b : Bool) → p from ≡ b → cond b (from ∷ filter p (range_with_len (from + 1) count)) (filter p (range_with_len (from + 1) count)) ≡ at ∷ rest
+        → (filter p (range_with_len (from + 1) count) ≡ at ∷ rest → IsHead p (from + 1) (from + 1 + count) at) → IsHead p from (from + suc count) at
+    by_test true passes here next = let same : from ≡ at = cc in record {
       low = omega (arith, same);
       high = omega (arith, same);
       is = ap p (sym same) ∙ passes;
       before = λ k low early. absurd (omega (arith, same, low, early));
     }
-    by_test false fails later = let more = range-head p (from + 1) count at rest later in record {
+    by_test false fails later next = let more = next later in record {
       low = let l = more.low in omega (arith, l);
       high = let h = more.high in omega (arith, h);
       is = more.is;
@@ -66,13 +67,14 @@ range-head p from (suc count) at rest is = by_test (p from) refl is
 
 range-none : (p : ℕ → Bool) (from count : ℕ) → filter p (range_with_len from count) ≡ [] → (k : ℕ) → from ≤ k → k < from + count → p k ≡ false
 range-none p from zero none k low high = absurd (omega (arith, low, high))
-range-none p from (suc count) none k low high = by_test (p from) refl none
+range-none p from (suc count) none k low high = by_test (p from) refl none (λ empty late. range-none p (from + 1) count empty k late (omega (arith, high)))
   where
-    by_test : (b : Bool) → p from ≡ b → cond b (from ∷ filter p (range_with_len (from + 1) count)) (filter p (range_with_len (from + 1) count)) ≡ [] → p k ≡ false
-    by_test true passes some = absurd (no-cons from _ (sym some))
-    by_test false fails more = ⊎_elim
+    by_test : (b : Bool) → p from ≡ b → cond b (from ∷ filter p (range_with_len (from + 1) count)) (filter p (range_with_len (from + 1) count)) ≡ []
+        → (filter p (range_with_len (from + 1) count) ≡ [] → from + 1 ≤ k → p k ≡ false) → p k ≡ false
+    by_test true passes some next = absurd (no-cons from _ (sym some))
+    by_test false fails more next = ⊎_elim
         (λ (at_first : k < from + 1). let same : k ≡ from = omega (arith, low, at_first) in ap p same ∙ fails)
-        (λ (late : from + 1 ≤ k). range-none p (from + 1) count more k late (omega (arith, high)))
+        (λ (late : from + 1 ≤ k). next more late)
         (cases_lt k (from + 1))
 
 -- ---- the first of the blocks
@@ -87,10 +89,11 @@ pub record IsHeadOf (f : ℕ → List Misfit) (from end : ℕ) (misfit : Misfit)
 
 blocks-head : (f : ℕ → List Misfit) (from count : ℕ) (misfit : Misfit) (rest : List Misfit) → flat_map f (range_with_len from count) ≡ misfit ∷ rest → IsHeadOf f from (from + count) misfit
 blocks-head f from zero misfit rest is = absurd (no-cons misfit rest is)
-blocks-head f from (suc count) misfit rest is = by_list (f from) refl is
+blocks-head f from (suc count) misfit rest is = by_list (f from) refl is (blocks-head f (from + 1) count misfit rest)
   where
-    by_list : (found : List Misfit) → f from ≡ found → found ++ flat_map f (range_with_len (from + 1) count) ≡ misfit ∷ rest → IsHeadOf f from (from + suc count) misfit
-    by_list (one ∷ others) are here = let same : one ≡ misfit = cc in record {
+    by_list : (found : List Misfit) → f from ≡ found → found ++ flat_map f (range_with_len (from + 1) count) ≡ misfit ∷ rest
+        → (flat_map f (range_with_len (from + 1) count) ≡ misfit ∷ rest → IsHeadOf f (from + 1) (from + 1 + count) misfit) → IsHeadOf f from (from + suc count) misfit
+    by_list (one ∷ others) are here next = let same : one ≡ misfit = cc in record {
       at = from;
       low = omega arith;
       high = omega arith;
@@ -98,7 +101,7 @@ blocks-head f from (suc count) misfit rest is = by_list (f from) refl is
       is = are ∙ ap (λ (m : Misfit). m ∷ others) same;
       before = λ k low early. absurd (omega (arith, low, early));
     }
-    by_list [] none later = let more = blocks-head f (from + 1) count misfit rest later in record {
+    by_list [] none later next = let more = next later in record {
       at = more.at;
       low = let l = more.low in omega (arith, l);
       high = let h = more.high in omega (arith, h);
@@ -112,13 +115,14 @@ blocks-head f from (suc count) misfit rest is = by_list (f from) refl is
 
 blocks-none : (f : ℕ → List Misfit) (from count : ℕ) → flat_map f (range_with_len from count) ≡ [] → (k : ℕ) → from ≤ k → k < from + count → f k ≡ []
 blocks-none f from zero none k low high = absurd (omega (arith, low, high))
-blocks-none f from (suc count) none k low high = by_list (f from) refl none
+blocks-none f from (suc count) none k low high = by_list (f from) refl none (λ empty late. blocks-none f (from + 1) count empty k late (omega (arith, high)))
   where
-    by_list : (found : List Misfit) → f from ≡ found → found ++ flat_map f (range_with_len (from + 1) count) ≡ [] → f k ≡ []
-    by_list (one ∷ others) are some = absurd (no-cons one _ (sym some))
-    by_list [] is more = ⊎_elim
+    by_list : (found : List Misfit) → f from ≡ found → found ++ flat_map f (range_with_len (from + 1) count) ≡ []
+        → (flat_map f (range_with_len (from + 1) count) ≡ [] → from + 1 ≤ k → f k ≡ []) → f k ≡ []
+    by_list (one ∷ others) are some next = absurd (no-cons one _ (sym some))
+    by_list [] is more next = ⊎_elim
         (λ (at_first : k < from + 1). let same : k ≡ from = omega (arith, low, at_first) in ap f same ∙ is)
-        (λ (late : from + 1 ≤ k). blocks-none f (from + 1) count more k late (omega (arith, high)))
+        (λ (late : from + 1 ≤ k). next more late)
         (cases_lt k (from + 1))
 
 -- ---- the first of the rows

@@ -4,12 +4,13 @@ use Rattle.std.specs.Prelude.{◌||◌, IfSome, slice_get, unwrap_or, is_none, �
 use Rattle.std.specs.List.{list_any, range_with_len}
 use Rattle.std.specs.Option.{option_map, option_map_or}
 use Rattle.std.proofs.lemmas.Bool.{cases_lt, false≢true}
-use Rattle.std.proofs.lemmas.List.{get_or-map, length-append, length-map}
+use Rattle.std.proofs.lemmas.List.{get_or-map, length-append, length-map, map-append, take_more}
 use Rattle.std.proofs.lemmas.List.FromFn.{get_or-map-range_with_len, length-map-range_with_len, map-range_with_len_more}
 use Rattle.std.proofs.lemmas.Option.{slice_get_read}
 use Rattle.lemmas.proofs.Writes.{at_set}
 use Rattle.object_check.specs.Marks.{AreColumns, AreFound, block_breaks, breaks, breaks_at, breaks_row, IsColumn, is_of_value}
 use Rattle.object_check.specs.Misfits.{is_marked_in, misfits_in}
+use Rattle.object_check.specs.declared.misfits.Misfit.{Misfit}
 use Rattle.object_check.specs.Rows.{Asked, said_by}
 use Rattle.object_check.proofs.MisfitLemmas.{misfits-same}
 use Rattle.object_check.specs.declared.rows.Must.{Must}
@@ -150,42 +151,22 @@ unfit-at blocks registered row i x asked unfit are within is asked_is unfit_is =
 
 -- ---- the rows of a table
 
+-- one row more
+pub columns-step : {C : Type 0} (blocks : List Block) (rows : List (BlockKind × Must × Bor (List ℕ))) (i : ℕ) (d : BlockKind × Must × Bor (List ℕ)) (items : C → List Bool)
+    (old new : List C) (left : C) (column : List Bool) → i < length rows → AreColumns blocks (map said_by (take i rows)) (map items old) → new ≡ old ++ left ∷ []
+    → ((place : ℕ) → get_or (items left) place false ≡ get_or column place false) → IsColumn blocks (said_by (get_or rows i d)) column
+    → AreColumns blocks (map said_by (take (i + 1) rows)) (map items new)
+columns-step {C} blocks rows i d items old new left column within before more same is =
+    let asked : Asked = said_by (get_or rows i d) in
+    let rows_more : map said_by (take (i + 1) rows) ≡ map said_by (take i rows) ++ asked ∷ [] =
+    ap (map said_by) (take_more rows i d within) ∙ map-append said_by (take i rows) (get_or rows i d ∷ []) in
+    let columns_more : map items new ≡ map items old ++ items left ∷ [] = ap (map items) more ∙ map-append items old (left ∷ []) in
+    subst (λ (asked_rows : List Asked). AreColumns blocks asked_rows (map items new)) (sym rows_more)
+    (subst (λ (all : List (List Bool)). AreColumns blocks (map said_by (take i rows) ++ asked ∷ []) all) (sym columns_more)
+    (columns-more blocks (map said_by (take i rows)) (map items old) (items left) asked before (column-left blocks asked column (items left) same is)))
+
 -- the faults by the rows of the program are those by the table
-pub of-rows : (blocks : List Block) (rows : List (BlockKind × Must × Bor (List ℕ))) (table : List Asked) → map said_by rows ≡ table
-    → misfits_in (breaks_row blocks (map said_by rows)) (length rows) (length blocks) ≡ misfits_in (breaks_row blocks table) (length table) (length blocks)
-of-rows blocks rows table is =
-    ap₂ (λ (asked : List Asked) (n : ℕ). misfits_in (breaks_row blocks asked) n (length blocks)) is (sym (length-map rows said_by) ∙ ap length is)
-
--- one column more
-each-more : (blocks : List Block) (rows : List Asked) (columns : List (List Bool)) (column : List Bool) (row : Asked) → length columns ≡ length rows
-    → ((k place : ℕ) → get_or (get_or columns k []) place false ≡ breaks_row blocks rows k place) → IsColumn blocks row column
-    → (k place : ℕ) → get_or (get_or (columns ++ column ∷ []) k []) place false ≡ breaks_row blocks (rows ++ row ∷ []) k place
-each-more blocks [] [] column row long each is zero place = is place
-each-more blocks [] [] column row long each is (suc k) place = refl
-each-more blocks [] (c ∷ columns) column row long each is k place = absurd (omega (arith, long))
-each-more blocks (r ∷ rows) [] column row long each is k place = absurd (omega (arith, long))
-each-more blocks (r ∷ rows) (c ∷ columns) column row long each is zero place = each zero place
-each-more blocks (r ∷ rows) (c ∷ columns) column row long each is (suc k) place =
-    each-more blocks rows columns column row (omega (arith, long)) (λ n at. each (suc n) at) is k place
-
-pub columns-more : (blocks : List Block) (rows : List Asked) (columns : List (List Bool)) (column : List Bool) (row : Asked) → AreColumns blocks rows columns → IsColumn blocks row column
-    → AreColumns blocks (rows ++ row ∷ []) (columns ++ column ∷ [])
-columns-more blocks rows columns column row are is = record {
-  long = length-append columns (column ∷ []) ∙ ap (λ (n : ℕ). n + 1) are.long ∙ sym (length-append rows (row ∷ []));
-  each = each-more blocks rows columns column row are.long are.each is;
-}
-
-pub no-columns : (blocks : List Block) → AreColumns blocks [] []
-no-columns blocks = record { long = refl; each = λ row place. refl }
-
--- a column without its marks, where it has none
-pub column-left : (blocks : List Block) (row : Asked) (column left : List Bool) → ((place : ℕ) → get_or left place false ≡ get_or column place false) → IsColumn blocks row column
-    → IsColumn blocks row left
-column-left blocks row column left same is = λ place. same place ∙ is place
-
--- the faults by the columns are those by the rows
-pub by-columns : (blocks : List Block) (rows : List Asked) (columns : List (List Bool)) (n m count : ℕ) → AreColumns blocks rows columns → n ≡ m → length blocks ≡ count
-    → misfits_in (λ row at. is_marked_in columns row at) n count ≡ misfits_in (breaks_row blocks rows) m (length blocks)
-by-columns blocks rows columns n m count are same long =
-    misfits-same (λ row at. is_marked_in columns row at) (breaks_row blocks rows) n count (λ row place. are.each row place)
-    ∙ ap₂ (λ (k l : ℕ). misfits_in (breaks_row blocks rows) k l) same (sym long)
+pub of-rows : (blocks : List Block) (rows : List (BlockKind × Must × Bor (List ℕ))) (table : List Asked) (found : List Misfit) → map said_by rows ≡ table
+    → found ≡ misfits_in (breaks_row blocks (map said_by rows)) (length rows) (length blocks) → found ≡ misfits_in (breaks_row blocks table) (length table) (length blocks)
+of-rows blocks rows table found is are =
+    are ∙ ap₂ (λ (asked : List Asked) (n : ℕ). misfits_in (breaks_row blocks asked) n (length blocks)) is (sym (length-map rows said_by) ∙ ap length is)

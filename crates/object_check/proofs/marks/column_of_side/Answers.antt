@@ -28,6 +28,6 @@ loop-place-preserved c directive =
     let within : i < length blocks = omega (arith, long, c.loop-place-test.true) in
     let is : x ≡ get_or blocks i x = c.index-blocks-place.is ∙ ap (λ (list : List Block). get_or list i x) c.blocks-blocks.ensures.value in
     column-more (breaks_at blocks row) c.loop-place.column.items c.push.new.self.items i c.lacks_if_asked-lacks.result (c.loop-place.invariant directive) (search rules)
-    (unfit-at blocks c.args.registered.now row i x c.is_asked-asked.result c.lacks_if_asked-lacks.result c.requires within is c.is_asked-asked.ensures
+    (unfit-at blocks c.args.registered.now row i x c.is_asked-asked.result c.lacks_if_asked-lacks.result c.requires.registered within is c.is_asked-asked.ensures
     (c.lacks_if_asked-lacks.ensures
     ∙ ap (λ (n : NeedsOf). c.is_asked-asked.result && lacks n.blocks i c.args.kind n.side) c.in_ok-needs.ensures))

@@ -1,5 +1,5 @@
-use Rattle.std.proofs.Common.{◌≡◌, ◌∙◌, ◌<◌, ◌&&◌, Bool, List, ap, arith, get_or, length, refl, rules, sym, ℕ}
-use Rattle.object_check.specs.Marks.{breaks, breaks_at}
+use Rattle.std.proofs.Common.{◌≡◌, ◌∙◌, ◌<◌, ◌&&◌, Bool, List, ap, arith, get_or, length, refl, rules, subst, sym, ℕ}
+use Rattle.object_check.specs.Marks.{AreFound, breaks, breaks_at}
 use Rattle.object_check.specs.Rows.{Asked}
 use Rattle.object_check.proofs.MarkLemmas.{column-is, column-more, none-found, unfit-at}
 use Rattle.object_check.proofs.marks.column_of_value.Goals as goal
@@ -9,11 +9,16 @@ use Rattle.object_reader.specs.declared.block.Block.{Block}
 pub loop-place-init : goal.loop-place-init
 loop-place-init c = record {
   marked = search rules;
-  found = none-found c.args.must c.values.inside c.in_ok-found.found.items (length c.blocks-blocks.result.now) (c.in_ok-found.ensures.items_if_clones_equal (λ y is. search rules));
+  found = none-found c.args.must (record { blocks = c.args.templates.now; directive = c.args.directive.now }) c.in_ok-found.found.items (length c.blocks-blocks.result.now) (c.in_ok-found.ensures.items_if_clones_equal (λ y is. search rules));
 }
 
 pub is_unfit_if_asked-requires-clause-objects : goal.is_unfit_if_asked-requires-clause-objects
 is_unfit_if_asked-requires-clause-objects c = c.requires.objects ∙ sym (ap (λ (v : Column). v.blocks) c.in_ok-values.ensures)
+
+pub is_unfit_if_asked-requires-clause-found : goal.is_unfit_if_asked-requires-clause-found
+is_unfit_if_asked-requires-clause-found c =
+    let are : c.in_ok-values.values ≡ record { blocks = c.args.templates.now; directive = c.args.directive.now } = search rules in
+    subst (λ (v : Column). AreFound c.args.must v c.loop-place.found.items) (sym are) c.loop-place.invariant.found
 
 pub loop-place-preserved : goal.loop-place-preserved
 loop-place-preserved c =
@@ -21,6 +26,7 @@ loop-place-preserved c =
     let i = c.loop-place.place in
     let x = c.index-blocks-place.result in
     let row : Asked = record { kind = c.args.kind; must = c.args.must; directive = c.args.directive.now } in
+    let are : c.in_ok-values.values ≡ record { blocks = c.args.templates.now; directive = c.args.directive.now } = search rules in
     let long = ap (λ (list : List Block). length list) c.blocks-blocks.ensures.value in
     let within : i < length blocks = omega (arith, long, c.loop-place-test.true) in
     let is : x ≡ get_or blocks i x = c.index-blocks-place.is ∙ ap (λ (list : List Block). get_or list i x) c.blocks-blocks.ensures.value in
@@ -28,8 +34,8 @@ loop-place-preserved c =
       marked = column-more (breaks_at blocks row) c.loop-place.column.items c.push.new.self.items i c.in_ok-unfit.unfit c.loop-place.invariant.marked (search rules)
           (unfit-at blocks c.args.registered.now row i x c.is_asked-asked.result c.in_ok-unfit.unfit c.requires.registered within is c.is_asked-asked.ensures
           (c.in_ok-unfit.ensures.unfit c.args.kind
-          ∙ ap (λ (v : Column). c.is_asked-asked.result && breaks v.blocks i c.args.kind c.args.must v.directive) c.in_ok-values.ensures));
-      found = c.in_ok-unfit.ensures.found;
+          ∙ ap (λ (v : Column). c.is_asked-asked.result && breaks v.blocks i c.args.kind c.args.must v.directive) are));
+      found = subst (λ (v : Column). AreFound c.args.must v c.is_unfit_if_asked.new.found.items) are c.in_ok-unfit.ensures.found;
     }
 
 pub returns : goal.returns

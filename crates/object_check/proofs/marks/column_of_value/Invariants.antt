@@ -7,5 +7,5 @@ use Rattle.object_check.proofs.marks.column_of_value.Given as goal
 abbrev pub invariant-loop-place : goal.invariant-loop-place
 invariant-loop-place l = record {
   marked : l.column.items ≡ map (breaks_at l.templates (record { kind = l.kind; must = l.must; directive = l.directive })) (range_with_len 0 l.place);
-  found : AreFound l.must l.values-inside l.found.items;
+  found : AreFound l.must (record { blocks = l.templates; directive = l.directive }) l.found.items;
 }

@@ -10,7 +10,7 @@ pub returns : goal.returns
 returns c =
     let columns = c.in_ok-columns.columns.items in
     let rows = c.args.rows.now in
-    let long = ap (λ (list : List Block). length list) c.blocks.ensures.value in
+    let long = ap (λ (list : List Block). length list) c.blocks-2.ensures.value in
     IfOk-weaker c.misfits_in.result _ _
     (λ found is. is ∙ rw c.as_slice.ensures.value (by-columns c.args.templates.now (map said_by rows) (map (λ column. column.items) columns) (length columns) (length rows) _
     c.in_ok-columns.ensures (sym (length-map columns (λ column. column.items)) ∙ c.in_ok-columns.ensures.long ∙ length-map rows said_by) (sym long)))
