@@ -55,11 +55,7 @@ pub(crate) fn check_command<'a>(alloc: Global) -> Result<Command<'a>, AllocError
         .about("All faults of object text, each with its file, line, directive and value")
         .long_about(CHECK)
         .arg(objects_option(alloc))?
-        .arg(flag_option(
-            alloc,
-            "json",
-            "Each fault as a JSON object",
-        ))
+        .arg(flag_option(alloc, "json", "Each fault as a JSON object"))
 }
 
 /// What the options of `check` ask.

@@ -250,7 +250,9 @@ pub enum Request<'m, 'a> {
         asked: WhoWords<'m, 'a>,
     },
     /// The faults of the object text in the files.
-    Check { asked: CheckWords<'m, 'a> },
+    Check {
+        asked: CheckWords<'m, 'a>,
+    },
 }
 
 impl<'a> Request<'_, 'a> {
@@ -282,7 +284,12 @@ impl<'a> Request<'_, 'a> {
 }
 
 /// The option `--NAME` with a text.
-pub(crate) fn text_option<'a>(alloc: Global, name: &'a str, value: &'a str, help: &'a str) -> Arg<'a>
+pub(crate) fn text_option<'a>(
+    alloc: Global,
+    name: &'a str,
+    value: &'a str,
+    help: &'a str,
+) -> Arg<'a>
     ensures rule { rule_of result ≡ text_option name.entry.now }
     ensures local { result.global ≡ false }
 {

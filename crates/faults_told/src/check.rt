@@ -94,9 +94,19 @@ fn words_of(alloc: Global, config: &Config) -> Result<Vec<u8>, AllocError> {
     push(&mut words, ", ")?;
     push_some(&mut words, config.periods.len(), "period", "periods")?;
     push(&mut words, ", ")?;
-    push_some(&mut words, config.escalations.len(), "escalation", "escalations")?;
+    push_some(
+        &mut words,
+        config.escalations.len(),
+        "escalation",
+        "escalations",
+    )?;
     push(&mut words, ", ")?;
-    push_some(&mut words, config.dependencies.len(), "dependency", "dependencies")?;
+    push_some(
+        &mut words,
+        config.dependencies.len(),
+        "dependency",
+        "dependencies",
+    )?;
     Ok(words)
 }
 
@@ -190,7 +200,14 @@ fn too_large(alloc: Global, form: Form<'_, '_>) -> Result<Checked, AllocError>
     ensures { IfOk result (λ checked. checked.faults ≡ 1) }
 {
     let mut report = Vec::new(alloc);
-    push(&mut report, if form.json { "{\"fault\":\"TooLarge\"}\n" } else { "TooLarge\n" })?;
+    push(
+        &mut report,
+        if form.json {
+            "{\"fault\":\"TooLarge\"}\n"
+        } else {
+            "TooLarge\n"
+        },
+    )?;
     push_end(&mut report, form, b"no blocks", 1)?;
     Ok(Checked { report, faults: 1 })
 }
@@ -207,7 +224,10 @@ fn is_told(blocks: &[Block], tellings: &[Telling<'_>], line: u64, fault: BlockFa
 
 /// The place of the block of which the `define` is at the line.
 fn place_at(blocks: &[Block], line: u64) -> usize {
-    blocks.iter().position(|block| block.line == line).unwrap_or(0)
+    blocks
+        .iter()
+        .position(|block| block.line == line)
+        .unwrap_or(0)
 }
 
 /// Adds the fault that loading answers, where it isn't told.
@@ -290,7 +310,12 @@ fn tell_names<'a>(
     let mut tellings = tell_misfits(alloc, templates, objects, misfits.as_slice(), name_rows())?;
     for kind in NAMED {
         let directive = object_groups::objects::name_directive(kind.block_kind());
-        add_doubled_of(templates.blocks(), objects.objects(kind), directive, &mut tellings)?;
+        add_doubled_of(
+            templates.blocks(),
+            objects.objects(kind),
+            directive,
+            &mut tellings,
+        )?;
     }
     tellings.sort_by_key(|telling| telling.holder)?;
     Ok(tellings)

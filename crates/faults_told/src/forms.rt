@@ -56,7 +56,11 @@ pub(crate) fn push_count(text: &mut Vec<u8>, name: &str, number: u64) -> Result<
 }
 
 /// Adds the members that say where a line stands, and the brace before them.
-pub(crate) fn begin(text: &mut Vec<u8>, sources: &[Source<'_>], line: u64) -> Result<(), AllocError> {
+pub(crate) fn begin(
+    text: &mut Vec<u8>,
+    sources: &[Source<'_>],
+    line: u64,
+) -> Result<(), AllocError> {
     let (file, number) = located(sources, line);
     push(text, "{\"file\":")?;
     push_string(text, file.as_bytes())?;

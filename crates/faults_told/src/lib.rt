@@ -10,7 +10,7 @@ pub mod near;
 pub mod ranges_told;
 pub mod telling;
 pub mod template_faults;
-pub mod text_forms;
-pub mod values_told;
 #[cfg(test)]
 mod tests;
+pub mod text_forms;
+pub mod values_told;

@@ -141,15 +141,14 @@ fn is_wrong_entry<'a>(must: Must, names: &Names<'a>, entry: &'a [u8]) -> bool {
 type Told<'a> = IndexMap<(usize, usize), Telling<'a>>;
 
 /// Adds what is told of a value, where it isn't told yet; else only the blocks that have it.
-fn add<'a>(
-    told: &mut Told<'a>,
-    number: usize,
-    telling: Telling<'a>,
-) -> Result<(), AllocError> {
+fn add<'a>(told: &mut Told<'a>, number: usize, telling: Telling<'a>) -> Result<(), AllocError> {
     let key = (telling.holder, number);
     match told.get_mut(&key) {
         Some(before) => {
-            before.others = before.others.saturating_add(telling.others).saturating_add(1);
+            before.others = before
+                .others
+                .saturating_add(telling.others)
+                .saturating_add(1);
             before.user = before.user.min(telling.user);
         }
         None => {
@@ -428,7 +427,15 @@ pub fn tell_misfits<'a>(
     let mut tellings = Vec::new(alloc);
     for (number, row) in rows.iter().enumerate() {
         if has_row(misfits, number) {
-            add_row(alloc, templates, objects, misfits, number, *row, &mut tellings)?;
+            add_row(
+                alloc,
+                templates,
+                objects,
+                misfits,
+                number,
+                *row,
+                &mut tellings,
+            )?;
         }
     }
     tellings.sort_by_key(|telling| telling.holder)?;

@@ -291,7 +291,7 @@ pub record IsMapped {X Y : Type 0} (f : X → Y) (xs : List X) (y : Y) : Type 0 
 
 map-some : {X Y : Type 0} (f : X → Y) (xs : List X) (y : Y) (ys : List Y) → map f xs ≡ y ∷ ys → IsMapped f xs y
 map-some f [] y ys is = absurd (no-cons y ys is)
-map-some f (x ∷ xs) y ys is = record { first = x; rest = xs; are = refl; same = cc; }
+map-some f (x ∷ xs) y ys is = record { first = x; rest = xs; are = refl; same = cc }
 
 -- ---- the values
 

@@ -151,6 +151,42 @@ unfit-at blocks registered row i x asked unfit are within is asked_is unfit_is =
 
 -- ---- the rows of a table
 
+-- one column more
+each-more : (blocks : List Block) (rows : List Asked) (columns : List (List Bool)) (column : List Bool) (row : Asked) → length columns ≡ length rows
+    → ((k place : ℕ) → get_or (get_or columns k []) place false ≡ breaks_row blocks rows k place) → IsColumn blocks row column
+    → (k place : ℕ) → get_or (get_or (columns ++ column ∷ []) k []) place false ≡ breaks_row blocks (rows ++ row ∷ []) k place
+each-more blocks [] [] column row long each is zero place = is place
+each-more blocks [] [] column row long each is (suc k) place = refl
+each-more blocks [] (c ∷ columns) column row long each is k place = absurd (omega (arith, long))
+each-more blocks (r ∷ rows) [] column row long each is k place = absurd (omega (arith, long))
+each-more blocks (r ∷ rows) (c ∷ columns) column row long each is zero place = each zero place
+each-more blocks (r ∷ rows) (c ∷ columns) column row long each is (suc k) place =
+    each-more blocks rows columns column row (omega (arith, long)) (λ n at. each (suc n) at) is k place
+
+columns-more : (blocks : List Block) (rows : List Asked) (columns : List (List Bool)) (column : List Bool) (row : Asked) → AreColumns blocks rows columns → IsColumn blocks row column
+    → AreColumns blocks (rows ++ row ∷ []) (columns ++ column ∷ [])
+columns-more blocks rows columns column row are is = record {
+  long = length-append columns (column ∷ []) ∙ ap (λ (n : ℕ). n + 1) are.long ∙ sym (length-append rows (row ∷ []));
+  each = each-more blocks rows columns column row are.long are.each is;
+}
+
+pub no-columns : (blocks : List Block) → AreColumns blocks [] []
+no-columns blocks = record { long = refl; each = λ row place. refl }
+
+-- a column without its marks, where it has none
+column-left : (blocks : List Block) (row : Asked) (column left : List Bool) → ((place : ℕ) → get_or left place false ≡ get_or column place false) → IsColumn blocks row column
+    → IsColumn blocks row left
+column-left blocks row column left same is = λ place. same place ∙ is place
+
+-- the faults by the columns are those by the rows
+pub by-columns : {C : Type 0} (blocks : List Block) (rows : List (BlockKind × Must × Bor (List ℕ))) (items : C → List Bool) (columns kept : List C) (count : ℕ)
+    → AreColumns blocks (map said_by rows) (map items columns) → kept ≡ columns → length blocks ≡ count
+    → misfits_in (λ row at. is_marked_in (map items kept) row at) (length kept) count ≡ misfits_in (breaks_row blocks (map said_by rows)) (length rows) (length blocks)
+by-columns {C} blocks rows items columns kept count are same long =
+    ap (λ (all : List C). misfits_in (λ row at. is_marked_in (map items all) row at) (length all) count) same
+    ∙ misfits-same (λ row at. is_marked_in (map items columns) row at) (breaks_row blocks (map said_by rows)) (length columns) count (λ row place. are.each row place)
+    ∙ ap₂ (λ (k l : ℕ). misfits_in (breaks_row blocks (map said_by rows)) k l) (sym (length-map columns items) ∙ are.long ∙ length-map rows said_by) (sym long)
+
 -- one row more
 pub columns-step : {C : Type 0} (blocks : List Block) (rows : List (BlockKind × Must × Bor (List ℕ))) (i : ℕ) (d : BlockKind × Must × Bor (List ℕ)) (items : C → List Bool)
     (old new : List C) (left : C) (column : List Bool) → i < length rows → AreColumns blocks (map said_by (take i rows)) (map items old) → new ≡ old ++ left ∷ []

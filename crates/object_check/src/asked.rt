@@ -139,7 +139,13 @@ fn is_unfit<'a>(
     match must {
         Must::Be(check) => is_broken(alloc, values, check, place),
         Must::Name(named, reading) => {
-            is_unknown(alloc, values, reading, objects.objects(named).names(), place)
+            is_unknown(
+                alloc,
+                values,
+                reading,
+                objects.objects(named).names(),
+                place,
+            )
         }
         Must::List(_) | Must::HaveWholeLines | Must::HaveDayLines => Ok(false),
     }

@@ -102,8 +102,7 @@ fn column_of_value<'a>(
     let mut column = Vec::with_capacity(alloc, blocks.len())?;
     for (place, block) in blocks.iter().enumerate() {
         let asked = is_asked(registered, kind, block, place);
-        let unfit =
-            is_unfit_if_asked(alloc, &values, objects, must, &mut found, asked, place)?;
+        let unfit = is_unfit_if_asked(alloc, &values, objects, must, &mut found, asked, place)?;
         column.push(unfit)?;
     }
     Ok(column)

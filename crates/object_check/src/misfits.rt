@@ -28,12 +28,7 @@ pub(crate) fn is_marked(column: &[bool], place: usize) -> bool
 }
 
 /// Adds a row, where the block has that fault.
-fn push_row(
-    found: &mut Vec<Misfit>,
-    has: bool,
-    place: usize,
-    row: usize,
-) -> Result<(), AllocError>
+fn push_row(found: &mut Vec<Misfit>, has: bool, place: usize, row: usize) -> Result<(), AllocError>
     ensures { OnOk result (found.new.items ≡ found.old.items
         ++ (if has then record { place = place; row = row } ∷ [] else [])) }
 {
