@@ -1,5 +1,5 @@
 -- The first of all faults is the one that loading answers.
-use Rattle.std.proofs.Common.{◌≡◌, ℕ, zero, suc, ◌+◌, ◌<◌, ◌≤◌, Bool, true, false, cond, ◌&&◌, ◌||◌, List, [], ◌∷◌, ◌++◌, length, map, filter, Option, Some, None, refl, sym, ap, ap₂, subst, ⊎_elim, ◌∙◌, arith}
+use Rattle.std.proofs.Common.{◌≡◌, ℕ, zero, suc, ◌+◌, ◌<◌, ◌≤◌, Bool, true, false, cond, ◌&&◌, ◌||◌, List, [], ◌∷◌, ◌++◌, length, map, filter, Option, Some, None, refl, sym, ap, subst, ⊎_elim, ◌∙◌, arith}
 use Rattle.std.specs.Prelude.{is_some, not, slice_get, ◌==◌}
 use Rattle.std.specs.List.{flat_map, list_any, range_with_len}
 use Rattle.std.specs.Option.{option_map_or, option_or}
@@ -8,7 +8,7 @@ use Rattle.std.proofs.lemmas.Option.{slice_get_within}
 use Rattle.lemmas.proofs.Lists.{at-within, some_at}
 use Rattle.object_check.specs.Answered.{AreAnswered, AreAnsweredNames, fault_by, IsAnswered}
 use Rattle.object_check.specs.Marks.{block_breaks, breaks, breaks_at, breaks_row, name_misfits, value_misfits}
-use Rattle.object_check.specs.Misfits.{misfits_at, misfits_in}
+use Rattle.object_check.specs.Misfits.{misfits_at}
 use Rattle.object_check.specs.Rows.{Asked, name_rows, value_rows}
 use Rattle.object_check.specs.declared.misfits.Misfit.{Misfit}
 use Rattle.object_faults.specs.Columns.{first_of}
@@ -23,8 +23,7 @@ use Rattle.object_faults.specs.declared.fault.ValueFault.TheVariants.{MissingDir
 use Rattle.object_faults.specs.declared.needs.Side.TheVariants.{Masters, Dependents}
 use Rattle.object_inheritance.specs.Kinds.{is_period, means_nothing}
 use Rattle.object_inheritance.specs.Templates.{kind_number}
-use Rattle.object_names.specs.declared.references.Reference.{Reference}
-use Rattle.object_names.specs.References.{directive_of, named_of, reading_of, references}
+use Rattle.object_names.specs.References.{references}
 use Rattle.object_names.specs.Unknown as unknown
 use Rattle.object_reader.specs.declared.block.Block.{Block}
 use Rattle.object_reader.specs.declared.block.BlockKind.{BlockKind}

@@ -1,6 +1,6 @@
 -- The lines of dates that are found are those of the definition.
-use Rattle.std.proofs.Common.{◌≡◌, ℕ, zero, suc, Bool, true, false, not, cond, List, [], ◌∷◌, ◌++◌, length, map, reverse, Option, Some, None, refl, sym, ap, subst, ⊎_elim, ◌⊎◌, inl, inr, ◌∙◌}
-use Rattle.std.specs.Prelude.{All, Contains, find, is_some, slice_get, ◌||◌, ◌&&◌}
+use Rattle.std.proofs.Common.{◌≡◌, ℕ, zero, suc, Bool, true, false, cond, List, [], ◌∷◌, ◌++◌, length, map, reverse, Option, Some, None, refl, sym, ap, subst, ⊎_elim, ◌⊎◌, inl, inr, ◌∙◌}
+use Rattle.std.specs.Prelude.{Contains, find, is_some, slice_get, ◌||◌}
 use Rattle.std.specs.List.{list_any}
 use Rattle.std.specs.Option.{option_and_then, option_map, option_map_or, option_to_list}
 use Rattle.std.specs.Str.{bytes_eq}
@@ -14,7 +14,7 @@ use Rattle.object_check.specs.declared.rows.Must.{Must}
 use Rattle.object_check.specs.declared.rows.Must.TheVariants.{Be, Name, HaveWholeLines, HaveDayLines}
 use Rattle.object_check.specs.declared.rows.Must.TheVariants as musts
 use Rattle.object_reader.specs.declared.block.BlockKind.{BlockKind}
-use Rattle.object_faults.specs.Dated.{directive_names, has_bad_line, has_line, has_other_line, is_bad_line, is_other_line}
+use Rattle.object_faults.specs.Dated.{directive_names, has_line, is_bad_line, is_other_line}
 use Rattle.object_inheritance.specs.DatedLines.{AreLines, dated_line, named}
 use Rattle.object_inheritance.specs.declared.dated_lines.Line.{Line}
 use Rattle.object_inheritance.specs.Inherited.{first_given, given, given_along, own, sources, value}

@@ -1,5 +1,5 @@
 -- The first of all faults is the one that loading answers.
-use Rattle.std.specs.Prelude.{◌≡◌, ℕ, List, [], ◌∷◌, None, Some, slice_get}
+use Rattle.std.specs.Prelude.{◌≡◌, List, [], ◌∷◌, None, Some, slice_get}
 use Rattle.object_check.specs.declared.misfits.Misfit.{Misfit}
 use Rattle.object_check.specs.declared.rows.Must.{Must}
 use Rattle.object_check.specs.declared.rows.Must.TheVariants.{Be, Name, HaveWholeLines, HaveDayLines}

@@ -2,9 +2,7 @@
 -- Service Dependencies"): the tables of the faults and of the names, one after another, each type of block after another.
 use Rattle.std.proofs.Common.{Bor}
 use Rattle.std.specs.Prelude.{ℕ, List, [], ◌∷◌, ◌++◌, codes, flat_map, map}
-use Rattle.object_faults.specs.declared.column.Check.{Check}
 use Rattle.object_faults.specs.declared.column.Check.TheVariants.{Given, Number, Ranges, Zero, Names}
-use Rattle.object_faults.specs.declared.needs.Side.{Side}
 use Rattle.object_faults.specs.declared.needs.Side.TheVariants.{Masters, Dependents}
 use Rattle.object_faults.specs.Tables.{name_lists, names, numbers, option_lists, range_lines, zeros}
 use Rattle.object_names.specs.declared.references.Reference.{Reference}

@@ -1,5 +1,5 @@
 use Rattle.std.proofs.Common.{arith}
-use Rattle.object_check.proofs.MarkLemmas.{found-before, found-now}
+use Rattle.object_check.proofs.MarkLemmas.{found-now}
 use Rattle.object_check.proofs.asked.is_unfit_once.Goals as goal
 
 pub returns-then-origin-len-clause-found : goal.returns-then-origin-len-clause-found

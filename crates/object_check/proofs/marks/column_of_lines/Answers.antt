@@ -1,5 +1,5 @@
-use Rattle.std.proofs.Common.{◌≡◌, ◌∙◌, ◌<◌, ◌&&◌, Bool, List, ap, arith, get_or, length, refl, rules, sym, ℕ}
-use Rattle.object_check.specs.Marks.{breaks, breaks_at}
+use Rattle.std.proofs.Common.{◌≡◌, ◌∙◌, ◌<◌, List, ap, arith, get_or, length, rules}
+use Rattle.object_check.specs.Marks.{breaks_at}
 use Rattle.object_check.specs.Rows.{Asked}
 use Rattle.object_check.proofs.MarkLemmas.{column-is, column-more, unfit-at}
 use Rattle.object_check.proofs.marks.column_of_lines.Goals as goal

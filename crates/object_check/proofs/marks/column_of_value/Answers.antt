@@ -1,4 +1,4 @@
-use Rattle.std.proofs.Common.{◌≡◌, ◌∙◌, ◌<◌, ◌&&◌, Bool, List, ap, arith, get_or, length, refl, rules, subst, sym, ℕ}
+use Rattle.std.proofs.Common.{◌≡◌, ◌∙◌, ◌<◌, ◌&&◌, List, ap, arith, get_or, length, rules, subst, sym}
 use Rattle.object_check.specs.Marks.{AreFound, breaks, breaks_at}
 use Rattle.object_check.specs.Rows.{Asked}
 use Rattle.object_check.proofs.MarkLemmas.{column-is, column-more, none-found, unfit-at}

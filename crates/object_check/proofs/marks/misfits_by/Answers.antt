@@ -1,4 +1,4 @@
-use Rattle.std.proofs.Common.{◌≡◌, ◌∙◌, ap, length, map, List, sym}
+use Rattle.std.proofs.Common.{◌∙◌, ap, length, List, sym}
 use Rattle.std.proofs.lemmas.Result.{IfOk-weaker}
 use Rattle.object_check.proofs.MarkLemmas.{by-columns}
 use Rattle.object_reader.specs.declared.block.Block.{Block}

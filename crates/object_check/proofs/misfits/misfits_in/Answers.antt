@@ -1,5 +1,5 @@
-use Rattle.std.proofs.Common.{◌≡◌, ◌∙◌, ◌++◌, List, ap, length, map, sym}
-use Rattle.object_check.specs.Misfits.{is_marked_in, misfits_at, misfits_in}
+use Rattle.std.proofs.Common.{◌∙◌, ◌++◌, List, ap, length, map, sym}
+use Rattle.object_check.specs.Misfits.{is_marked_in, misfits_at}
 use Rattle.object_check.specs.declared.misfits.Misfit.{Misfit}
 use Rattle.object_check.proofs.MisfitLemmas.{block-more}
 use Rattle.object_check.proofs.misfits.misfits_in.Goals as goal

@@ -1,4 +1,4 @@
-use Rattle.std.proofs.Common.{◌≡◌, ◌∙◌, Bool, List, ap, map}
+use Rattle.std.proofs.Common.{◌∙◌, Bool, List, ap, map}
 use Rattle.object_check.specs.Misfits.{is_marked, is_marked_in}
 use Rattle.object_check.proofs.MisfitLemmas.{marked-in, push-more}
 use Rattle.object_check.proofs.misfits.push_misfits.Goals as goal
