@@ -29,7 +29,7 @@ fn hex(digit: u8) -> u8 {
 }
 
 /// Adds bytes as a string.
-pub(crate) fn push_string(text: &mut Vec<u8>, bytes: &[u8]) -> Result<(), AllocError> {
+pub fn push_string(text: &mut Vec<u8>, bytes: &[u8]) -> Result<(), AllocError> {
     text.push(b'"')?;
     for byte in bytes {
         push_escaped(text, *byte)?;
@@ -39,7 +39,7 @@ pub(crate) fn push_string(text: &mut Vec<u8>, bytes: &[u8]) -> Result<(), AllocE
 }
 
 /// Adds a member with a string.
-pub(crate) fn push_member(text: &mut Vec<u8>, name: &str, value: &[u8]) -> Result<(), AllocError> {
+pub fn push_member(text: &mut Vec<u8>, name: &str, value: &[u8]) -> Result<(), AllocError> {
     text.push(b',')?;
     push_string(text, name.as_bytes())?;
     text.push(b':')?;
@@ -47,7 +47,7 @@ pub(crate) fn push_member(text: &mut Vec<u8>, name: &str, value: &[u8]) -> Resul
 }
 
 /// Adds a member with a number.
-pub(crate) fn push_count(text: &mut Vec<u8>, name: &str, number: u64) -> Result<(), AllocError> {
+pub fn push_count(text: &mut Vec<u8>, name: &str, number: u64) -> Result<(), AllocError> {
     text.push(b',')?;
     push_string(text, name.as_bytes())?;
     text.push(b':')?;
@@ -56,11 +56,7 @@ pub(crate) fn push_count(text: &mut Vec<u8>, name: &str, number: u64) -> Result<
 }
 
 /// Adds the members that say where a line stands, and the brace before them.
-pub(crate) fn begin(
-    text: &mut Vec<u8>,
-    sources: &[Source<'_>],
-    line: u64,
-) -> Result<(), AllocError> {
+pub fn begin(text: &mut Vec<u8>, sources: &[Source<'_>], line: u64) -> Result<(), AllocError> {
     let (file, number) = located(sources, line);
     push(text, "{\"file\":")?;
     push_string(text, file.as_bytes())?;

@@ -3,14 +3,11 @@
 #![tactic(auto)]
 
 pub mod blocks_named;
-pub mod check;
 pub mod forms;
 pub mod located;
 pub mod near;
 pub mod ranges_told;
 pub mod telling;
 pub mod template_faults;
-#[cfg(test)]
-mod tests;
 pub mod text_forms;
 pub mod values_told;

@@ -13,12 +13,12 @@ use std::alloc::AllocError;
 const SHOWN: usize = 80;
 
 /// Adds a text.
-pub(crate) fn push(text: &mut Vec<u8>, more: &str) -> Result<(), AllocError> {
+pub fn push(text: &mut Vec<u8>, more: &str) -> Result<(), AllocError> {
     text.extend_from_slice(more.as_bytes())
 }
 
 /// Adds a number, with a comma before each three digits.
-pub(crate) fn push_number(text: &mut Vec<u8>, number: u64) -> Result<(), AllocError> {
+pub fn push_number(text: &mut Vec<u8>, number: u64) -> Result<(), AllocError> {
     let mut buffer = Buffer::new();
     let digits = buffer.format(number).as_bytes();
     for (at, digit) in digits.iter().enumerate() {
@@ -55,7 +55,7 @@ fn shown_end(value: &[u8]) -> usize
 }
 
 /// Adds a value between quotes, of a long one a front.
-pub(crate) fn push_value(text: &mut Vec<u8>, value: &[u8]) -> Result<(), AllocError> {
+pub fn push_value(text: &mut Vec<u8>, value: &[u8]) -> Result<(), AllocError> {
     let end = shown_end(value);
     text.push(b'"')?;
     text.extend_from_slice(&value[..end])?;
@@ -76,7 +76,7 @@ fn push_range(text: &mut Vec<u8>, fault: RangeFault) -> Result<(), AllocError> {
 }
 
 /// Adds what is wrong, where the value is this.
-pub(crate) fn push_detail(
+pub fn push_detail(
     text: &mut Vec<u8>,
     telling: &Telling<'_>,
     kind: &str,
@@ -197,11 +197,7 @@ fn push_blocks(
 }
 
 /// Adds the place of a line: `FILE:LINE: `.
-pub(crate) fn push_place(
-    text: &mut Vec<u8>,
-    sources: &[Source<'_>],
-    line: u64,
-) -> Result<(), AllocError> {
+pub fn push_place(text: &mut Vec<u8>, sources: &[Source<'_>], line: u64) -> Result<(), AllocError> {
     let (file, number) = located(sources, line);
     push(text, file)?;
     text.push(b':')?;

@@ -2,9 +2,9 @@
 
 use command_line::CheckWords;
 use command_output::{AnyWriter, CommandFault};
-use faults_told::check::{Checked, Form, check};
 use faults_told::located::Source;
 use object_load_faults::fault::LoadFault;
+use site_check::{Checked, Form, check};
 use std::alloc::AllocError;
 use std::fs::File;
 use std::io::Write;

@@ -4,13 +4,13 @@ ghost use Rattle.std.specs.Prelude.{◌≡◌, ◌<◌, length, true, IfOk, OnOk
 ghost use Rattle.due_model.specs.declared.config.Config.{Config};
 ghost use Rattle.object_resolve.specs.Text.{IsTextOf};
 
-use crate::forms::{begin, push_count, push_json, push_member};
-use crate::located::Source;
-use crate::telling::{Detail, Telling};
-use crate::template_faults::{add_near_templates, tell_templates};
-use crate::text_forms::{push, push_number, push_place, push_telling, push_value};
-use crate::values_told::{add_near, tell_misfits};
 use due_model::config::Config;
+use faults_told::forms::{begin, push_count, push_json, push_member, push_string};
+use faults_told::located::Source;
+use faults_told::telling::{Detail, Telling};
+use faults_told::template_faults::{add_near_templates, tell_templates};
+use faults_told::text_forms::{push, push_number, push_place, push_telling, push_value};
+use faults_told::values_told::{add_near, tell_misfits};
 use object_check::marks::{name_misfits, value_misfits};
 use object_check::rows::{name_rows, value_rows};
 use object_groups::objects::Objects;
@@ -57,7 +57,7 @@ fn push_end(
 ) -> Result<(), AllocError> {
     if form.json {
         push(text, "{\"checked\":")?;
-        crate::forms::push_string(text, checked)?;
+        push_string(text, checked)?;
         push_count(text, "faults", faults)?;
         push_count(text, "warnings", 0)?;
         return push(text, "}\n");

@@ -1,5 +1,5 @@
-use crate::check::{Form, check};
-use crate::located::Source;
+use crate::{Form, check};
+use faults_told::located::Source;
 use std::alloc::AllocError;
 
 /// A template with an interval that isn't a number, and two hosts that use it.
