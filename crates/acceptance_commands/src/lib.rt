@@ -3,7 +3,9 @@
 #![tactic(auto)]
 
 #[cfg(test)]
-mod objects;
+mod comparisons;
+#[cfg(test)]
+mod pretty;
 #[cfg(test)]
 mod replays;
 #[cfg(test)]

@@ -1,7 +1,6 @@
 //! The lines of a report that are wanted, over readers and writers in memory.
 
-use crate::objects::OBJECTS;
-use acceptance_inputs::texts::input;
+use acceptance_inputs::texts::{BASE, input};
 use command_output::{CommandFault, Ending};
 use due_model::zone::Zone;
 use line_forms::Picks;
@@ -106,7 +105,7 @@ fn of_one_input(rt: HostRuntime) -> Result<(), Fail> {
 #[test]
 fn of_two_inputs(rt: HostRuntime) -> Result<(), Fail> {
     let alloc = rt.alloc();
-    let objects = OBJECTS.as_bytes();
+    let objects = BASE.as_bytes();
     shows_files(
         &rt,
         alloc,

@@ -1,5 +1,6 @@
 -- What the words of a command line ask, and which words there are.
-use Rattle.std.specs.Prelude.{◌≡◌, ℕ, ◌<◌, ◌≤◌, ◌^◌, IfNone, IfSome, Bool, not, ◌&&◌, ◌||◌, ◌==◌, List, [], ◌∷◌, map, Option, None, Some, pos, true, false, codes, is_none, is_some}
+use Rattle.std.specs.Prelude.{◌≡◌, ℕ, ◌<◌, ◌≤◌, ◌^◌, IfNone, IfSome, Bool, not, ◌&&◌, ◌||◌, ◌==◌, List, [], ◌∷◌, map, Option, None, Some, pos, true, false, codes, is_none, is_some, if◌then◌else◌}
+use Rattle.std.specs.Str.{bytes_eq}
 use Rattle.std.specs.List.{list_all}
 use Rattle.std.specs.Option.{option_copied, option_map, option_map_or}
 use Rattle.std.specs.Str.Parse.{digits_value, IsNumeral, without_leading_plus}
@@ -13,27 +14,33 @@ use Rattle.steps.specs.declared.settings.Settings.{Settings}
 use Rattle.steps.specs.Settings.{AreSettings, max_channels}
 use Rattle.clap.specs.declared.builder.action.ArgAction.TheVariants.{Append, SetTrue}
 use Rattle.clap.specs.declared.builder.value_parser.ValueParser.TheVariants.{Signed}
+use Rattle.command_line.specs.declared.words.FeedFault.{FeedFault}
+use Rattle.command_line.specs.declared.words.FeedFault.TheVariants.{Ahead, BadDoubt, NoFeed, NoState}
 use Rattle.command_line.specs.declared.words.FeedWords.{FeedWords}
+use Rattle.command_line.specs.declared.words.LogWords.{LogWords}
 use Rattle.command_line.specs.declared.words.Request.{Request}
 use Rattle.command_line.specs.declared.words.ShownWords.{ShownWords}
+use Rattle.command_line.specs.declared.words.StateWords.{StateWords}
 use Rattle.command_line.specs.declared.words.TryTimes.{TryTimes}
 use Rattle.command_line.specs.declared.words.WhoWords.{WhoWords}
 use Rattle.command_line.specs.declared.words.ZoneWords.{ZoneWords}
-use Rattle.command_line.specs.declared.words.Request.TheVariants.{Replay, Trace, Run, Who}
+use Rattle.command_line.specs.declared.words.Request.TheVariants.{Replay, Trace, Run, Who, Diff}
 
 -- the name of the command that is asked for
 abbrev pub request_name : Request → List ℕ
 request_name (Replay objects zone shown) = codes "replay"
 request_name (Trace settings standbys zone) = codes "trace"
-request_name (Run objects settings zone channels times quiet ahead feed) = codes "run"
+request_name (Run objects settings zone channels times quiet ahead log feed) = codes "run"
 request_name (Who objects zone asked) = codes "who"
+request_name (Diff objects changed zone json) = codes "diff"
 
 -- in a trace fewer channels stand by than a lane may have
 abbrev pub AreSettingsFit : Request → Type 0
 AreSettingsFit (Replay objects zone shown) = Unit {0}
 AreSettingsFit (Trace settings standbys zone) = standbys < max_channels
-AreSettingsFit (Run objects settings zone channels times quiet ahead feed) = Unit {0}
+AreSettingsFit (Run objects settings zone channels times quiet ahead log feed) = Unit {0}
 AreSettingsFit (Who objects zone asked) = Unit {0}
+AreSettingsFit (Diff objects changed zone json) = Unit {0}
 
 -- the texts that the options of a command hold of the zone
 pub record IsZoneOf (options : Found) (words : ZoneWords) : Type 0 where
@@ -46,12 +53,13 @@ pub record IsFlag (options : Found) (name : List ℕ) (flag : Bool) : Type 0 whe
   pub on : one_text options name ≡ Some (codes "true") → flag ≡ true
   pub off : one_text options name ≡ Some (codes "false") → flag ≡ false
 
--- the texts that they hold of which lines of a report are wanted, and whether each is to be JSON
+-- the texts that they hold of which lines of a report are wanted, and whether each is to be JSON, or for people
 pub record IsShownOf (options : Found) (words : ShownWords) : Type 0 where
   pub only : option_copied words.only ≡ first_value options (codes "only")
   pub object : option_copied words.object ≡ first_value options (codes "object")
   pub contact : option_copied words.contact ≡ first_value options (codes "contact")
   pub json : IsFlag options (codes "json") words.json
+  pub pretty : IsFlag options (codes "pretty") words.pretty
 
 -- An option holds the number: what is read of it is the number in decimal digits.
 abbrev pub HoldsNumber : Found → (name : List ℕ) → (number : ℕ) → Type 0
@@ -65,11 +73,18 @@ HoldsAnyNumber options name (Some number) = HoldsNumber options name number
 HoldsAnyNumber options name None =
     (number : ℕ) → HoldsNumber options name number → number < 2 ^ 32 → ⊥
 
+-- what the options of `run` hold of what it keeps
+pub record IsStateOf (options : Found) (state : StateWords) : Type 0 where
+  pub folder : option_copied state.folder ≡ first_value options (codes "state")
+  pub in_doubt : option_copied state.in_doubt ≡ first_value options (codes "in-doubt")
+  pub from_now : IsFlag options (codes "from-now") state.from_now
+
 -- what the options of `run` hold of where its feed is read from
 pub record IsFeedOf (options : Found) (feed : FeedWords) : Type 0 where
   pub file : option_copied feed.file ≡ first_value options (codes "feed")
   pub follow : IsFlag options (codes "follow") feed.follow
   pub clock : IsFlag options (codes "clock") feed.clock
+  pub state : IsStateOf options feed.state
 
 -- the numbers that the options of a command hold of a lane
 pub record HoldSettings (options : Found) (settings : Settings) : Type 0 where
@@ -87,6 +102,11 @@ abbrev pub TraceLacks : Found → Type 0
 TraceLacks options = (deciders standbys : ℕ) → HoldsNumber options (codes "deciders") deciders
     → HoldsNumber options (codes "standbys") standbys → standbys < max_channels
     → HoldFitting options deciders → ⊥
+
+-- the file that the options of `run` hold of a log, and whether its lines are folded
+pub record IsLogOf (options : Found) (words : LogWords) : Type 0 where
+  pub file : option_copied words.file ≡ first_value options (codes "log")
+  pub fold : IsFlag options (codes "fold") words.fold
 
 -- the seconds that the options of `run` hold
 pub record HoldTimes (options : Found) (times : TryTimes) : Type 0 where
@@ -119,14 +139,20 @@ abbrev pub WhoLacks : Found → Type 0
 WhoLacks options =
     is_some (first_value options (codes "objects")) ≡ true → LacksSupposed options
 
+-- The options of `diff` make no request: they lack one of the two files.
+abbrev pub DiffLacks : Found → Type 0
+DiffLacks options = is_some (first_value options (codes "objects")) ≡ true
+    → is_some (first_value options (codes "with")) ≡ true → ⊥
+
 -- The options of `run` make no request: they name no file, or the numbers that they hold are no settings or no times.
 abbrev pub RunLacks : Found → Type 0
 RunLacks options = (deciders : ℕ) → is_some (first_value options (codes "objects")) ≡ true
     → HoldsNumber options (codes "deciders") deciders → HoldFitting options deciders → HoldSomeTimes options → ⊥
 
 -- What the options of a command hold: of `replay` the file of the object text, if it is given, and which lines are wanted; of
--- `trace` the settings and how many channels stand by; of `run` the file, the settings, the times, how far ahead a stamp may be,
--- where the feed is read from, and the channel words; of `who` the file and what is supposed; and of each the zone.
+-- `trace` the settings and how many channels stand by; of `run` the file, the settings, the times, how far ahead a stamp may be, where
+-- its report goes, where the feed is read from, and the channel words; of `who` the file and what is supposed; of `diff` the two files,
+-- and whether lines are to be JSON; and of each the zone.
 abbrev pub IsRequestOf : Found → Request → Type 0
 IsRequestOf options (Replay objects zone shown) =
     (option_copied objects ≡ first_value options (codes "objects")) × IsZoneOf options zone
@@ -135,16 +161,20 @@ IsRequestOf options (Trace settings standbys zone) =
     HoldsNumber options (codes "deciders") settings.deciders
     × HoldsNumber options (codes "standbys") standbys
     × HoldSettings options settings × IsZoneOf options zone
-IsRequestOf options (Run objects settings zone channels times quiet ahead feed) =
+IsRequestOf options (Run objects settings zone channels times quiet ahead log feed) =
     (Some objects.now ≡ first_value options (codes "objects"))
     × HoldsNumber options (codes "deciders") settings.deciders × HoldSettings options settings × IsZoneOf options zone
     × HoldTimes options times × IsFlag options (codes "quiet") quiet
-    × HoldsAnyNumber options (codes "ahead") ahead × IsFeedOf options feed
+    × HoldsAnyNumber options (codes "ahead") ahead × IsLogOf options log × IsFeedOf options feed
     × (option_map (λ words. map (λ word. word.now) words.now) channels
     ≡ option_map raw_values (matched_of options (codes "channel")))
 IsRequestOf options (Who objects zone asked) =
     (Some objects.now ≡ first_value options (codes "objects")) × IsZoneOf options zone
     × IsWhoOf options asked
+IsRequestOf options (Diff objects changed zone json) =
+    (Some objects.now ≡ first_value options (codes "objects"))
+    × (Some changed.now ≡ first_value options (codes "with")) × IsZoneOf options zone
+    × IsFlag options (codes "json") json
 
 -- it is what the command that was met asks, with its options
 abbrev pub IsAskedBy : ArgMatches → Request → Type 0
@@ -161,15 +191,33 @@ IsMetWith matches name so = (options : Found)
 abbrev pub request_zone : Request → ZoneWords
 request_zone (Replay objects zone shown) = zone
 request_zone (Trace settings standbys zone) = zone
-request_zone (Run objects settings zone channels times quiet ahead feed) = zone
+request_zone (Run objects settings zone channels times quiet ahead log feed) = zone
 request_zone (Who objects zone asked) = zone
+request_zone (Diff objects changed zone json) = zone
 
--- it says how a file is read as the feed, and names none
-abbrev pub lacks_feed : Request → Bool
-lacks_feed (Replay objects zone shown) = false
-lacks_feed (Trace settings standbys zone) = false
-lacks_feed (Run objects settings zone channels times quiet ahead feed) = is_none feed.file && (feed.follow || feed.clock)
-lacks_feed (Who objects zone asked) = false
+-- letters in doubt are given up
+abbrev pub drops_doubt : StateWords → Bool
+drops_doubt state = option_map_or (λ word. bytes_eq word (codes "drop")) (option_copied state.in_doubt) false
+
+-- it says what becomes of them, or is left out
+abbrev pub is_doubt_word : Option (List ℕ) → Bool
+is_doubt_word word = option_map_or (λ w. bytes_eq w (codes "again") || bytes_eq w (codes "drop")) word true
+
+-- The first of these is wrong: it says how a file is read, or what is kept for it, and names none; it says how what is kept is used, and
+-- names no folder; what becomes of letters in doubt is no such word; it keeps what it has done, and limits how far ahead a stamp may be.
+abbrev pub fault_of : FeedWords → (ahead : Option ℕ) → Option FeedFault
+fault_of feed ahead =
+    if is_none feed.file && (feed.follow || feed.clock || is_some feed.state.folder) then Some NoFeed
+    else if is_none feed.state.folder && (is_some feed.state.in_doubt || feed.state.from_now) then Some NoState
+    else if not (is_doubt_word (option_copied feed.state.in_doubt)) then Some BadDoubt
+    else if is_some feed.state.folder && is_some ahead then Some Ahead
+    else None
+
+abbrev pub feed_fault : Request → Option FeedFault
+feed_fault (Replay objects zone shown) = None
+feed_fault (Trace settings standbys zone) = None
+feed_fault (Run objects settings zone channels times quiet ahead log feed) = fault_of feed ahead
+feed_fault (Who objects zone asked) = None
 
 -- it gives a rule and a file
 abbrev pub AreTwo : ZoneWords → Type 0
@@ -178,7 +226,18 @@ AreTwo words = (is_some words.rule ≡ true) × (is_some words.file ≡ true)
 -- They ask for the report as it is.
 abbrev pub is_plain : ShownWords → Bool
 is_plain words =
-    not (is_some words.only || is_some words.object || is_some words.contact || words.json)
+    not (is_some words.only || is_some words.object || is_some words.contact || words.json
+    || words.pretty)
+
+-- They ask for two forms of its lines.
+abbrev pub has_two_forms : ShownWords → Bool
+has_two_forms words = words.json && words.pretty
+
+abbrev pub asks_two_forms : Request → Bool
+asks_two_forms (Replay objects zone shown) = has_two_forms shown
+asks_two_forms (Trace settings standbys zone) = false
+asks_two_forms (Run objects settings zone channels times quiet ahead) = false
+asks_two_forms (Who objects zone asked) = false
 
 -- a line of a report begins with this letter: N, S, C or R
 abbrev pub is_line_letter : ℕ → Bool
@@ -192,8 +251,9 @@ has_bad_letters words =
 abbrev pub asks_bad_letters : Request → Bool
 asks_bad_letters (Replay objects zone shown) = has_bad_letters shown
 asks_bad_letters (Trace settings standbys zone) = false
-asks_bad_letters (Run objects settings zone channels times quiet ahead feed) = false
+asks_bad_letters (Run objects settings zone channels times quiet ahead log feed) = false
 asks_bad_letters (Who objects zone asked) = false
+asks_bad_letters (Diff objects changed zone json) = false
 
 -- `--NAME NUMBER`, with a number from `least` to `most`, or with `default` where it is left out
 abbrev pub number_option : (name default : List ℕ) → (least most : ℕ) → Rule
@@ -238,11 +298,15 @@ abbrev pub with_zone : App → App
 with_zone app =
     with_rule (with_rule app (text_option (codes "zone"))) (text_option (codes "zone-file"))
 
--- four say which lines of a report are wanted, and that each is to be JSON
+-- three say which lines of a report are wanted, and two that each is to be JSON, or for people
+abbrev pub with_picks : App → App
+with_picks app =
+    with_rule (with_rule (with_rule app (text_option (codes "only"))) (text_option (codes "object")))
+    (text_option (codes "contact"))
+
 abbrev pub with_shown : App → App
 with_shown app =
-    with_rule (with_rule (with_rule (with_rule app (text_option (codes "only")))
-    (text_option (codes "object"))) (text_option (codes "contact"))) (flag_option (codes "json"))
+    with_rule (with_rule (with_picks app) (flag_option (codes "json"))) (flag_option (codes "pretty"))
 
 -- `replay` has these, and the file of the object text
 abbrev pub replay_words : App
@@ -274,16 +338,25 @@ abbrev pub with_feed_options : App → App
 with_feed_options app =
     with_rule (with_rule (with_rule app (text_option (codes "feed"))) (flag_option (codes "follow"))) (flag_option (codes "clock"))
 
+-- three say what is kept, and how it is used
+abbrev pub with_state_options : App → App
+with_state_options app =
+    with_rule (with_rule (with_rule app (text_option (codes "state"))) (text_option (codes "in-doubt"))) (flag_option (codes "from-now"))
+
+-- two say where a run writes its report as it goes, and that lines of it are folded
+abbrev pub with_log_options : App → App
+with_log_options app = with_rule (with_rule app (text_option (codes "log"))) (flag_option (codes "fold"))
+
 -- `run` has the file of the object text, which must be given, how many deciders there are, how many notices a lane's queue holds,
--- these, how far ahead a stamp may be, `--quiet`, where the feed is read from, and the channel words
+-- these, how far ahead a stamp may be, where its report goes, `--quiet`, where the feed is read from, what is kept, and the channel words
 abbrev pub run_words : App
 run_words =
-    with_rule (with_zone (with_feed_options (with_rule (with_rule (with_try_options (with_rule (with_rule (with_rule (new_app (codes "run"))
+    with_rule (with_zone (with_state_options (with_feed_options (with_rule (with_log_options (with_rule (with_try_options (with_rule (with_rule (with_rule (new_app (codes "run"))
     (record (text_option (codes "objects")) { required = true }))
     (number_option (codes "deciders") (codes "2") 1 8))
     (number_option (codes "queue") (codes "64") 1 1024)))
-    (bare_number_option (codes "ahead") 0 4294967295))
-    (flag_option (codes "quiet"))))) (word_list (codes "channel"))
+    (bare_number_option (codes "ahead") 0 4294967295)))
+    (flag_option (codes "quiet")))))) (word_list (codes "channel"))
 
 -- `--NAME TEXT`, any number of times
 abbrev pub text_options : List ℕ → Rule
@@ -313,7 +386,14 @@ who_words =
     with_zone (with_supposed (with_rule (new_app (codes "who"))
     (record (text_option (codes "objects")) { required = true })))
 
--- `notify-run` has these four commands, `--version`, no command `help`, and asks for one of the four
+-- `diff` has two files of object text, both of which must be given, and a flag that says that each line is to be JSON
+abbrev pub diff_words : App
+diff_words =
+    with_zone (with_rule (with_rule (with_rule (new_app (codes "diff"))
+    (record (text_option (codes "objects")) { required = true }))
+    (record (text_option (codes "with")) { required = true })) (flag_option (codes "json")))
+
+-- `notify-run` has these five commands, `--version`, no command `help`, and asks for one of the five
 abbrev pub program_words : App
 program_words = record {
   top = record (new_app (codes "notify-run")).top {
@@ -323,5 +403,5 @@ program_words = record {
     subcommand_required = true;
     arg_required_else_help = true;
   };
-  subs = replay_words.top ∷ trace_words.top ∷ run_words.top ∷ who_words.top ∷ [];
+  subs = replay_words.top ∷ trace_words.top ∷ run_words.top ∷ who_words.top ∷ diff_words.top ∷ [];
 }

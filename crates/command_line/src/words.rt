@@ -2,6 +2,7 @@
 
 ghost use Rattle.std.specs.Prelude.{◌≡◌, ◌<◌, ℕ, codes, false, IfNone, IfOk, IfSome, is_some, Some, true};
 ghost use Rattle.std.specs.List.{list_all};
+ghost use Rattle.std.specs.Option.{option_copied};
 ghost use Rattle.clap.specs.Matches.{found_of};
 ghost use Rattle.clap.specs.Words.{app_of, rule_of, subcommand_name_of};
 ghost use Rattle.command_line.specs.Words.{AreSettingsFit, IsAskedBy, IsRequestOf, IsZoneOf};
@@ -9,14 +10,17 @@ ghost use Rattle.command_line.specs.Words.{HoldFitting, HoldSettings, HoldSomeTi
 ghost use Rattle.command_line.specs.Words.{HoldsAnyNumber, HoldsNumber, bare_number_option};
 ghost use Rattle.command_line.specs.Words.{IsMetWith, IsShownOf, RunLacks, flag_option, has_bad_letters};
 ghost use Rattle.command_line.specs.Words.{IsFeedOf, IsWhoOf, LacksSupposed, WhoLacks, length_option};
-ghost use Rattle.command_line.specs.Words.{asks_bad_letters, is_line_letter, is_plain, lacks_feed};
+ghost use Rattle.command_line.specs.Words.{IsLogOf, with_log_options};
+ghost use Rattle.command_line.specs.Words.{DiffLacks, asks_bad_letters, asks_two_forms, has_two_forms, is_line_letter, is_plain};
+ghost use Rattle.command_line.specs.Words.{IsStateOf, drops_doubt, fault_of, feed_fault, is_doubt_word, with_state_options};
 ghost use Rattle.command_line.specs.Words.{one_word, text_options, who_words, with_supposed};
 ghost use Rattle.command_line.specs.Words.{TraceLacks, with_feed_options};
 ghost use Rattle.command_line.specs.Words.{number_option, program_words, replay_words};
 ghost use Rattle.command_line.specs.Words.{request_name, request_zone, run_words, text_option};
-ghost use Rattle.command_line.specs.Words.{trace_words, with_lane_options, with_shown, with_try_options};
+ghost use Rattle.command_line.specs.Words.{trace_words, with_lane_options, with_picks, with_shown, with_try_options};
 ghost use Rattle.command_line.specs.Words.{with_zone, word_list};
 
+use crate::diff::{diff_command, diff_request};
 use clap::{Arg, ArgAction, ArgMatches, Command, value_parser};
 use std::alloc::{AllocError, Global};
 use steps::{MAX_CHANNELS, Settings};
@@ -53,7 +57,9 @@ comes, and what an event adds is written before more input is waited for, so tha
 
 --only NC, --object web/http and --contact ann leave out all lines but those that meet
 each condition given; --json writes each line as a JSON object, with the local time
-beside the moment.";
+beside the moment; --pretty writes them for people: local times, names in columns,
+colours on a terminal unless NO_COLOR is set, and of what a filter of an object stops
+in a row the first line, and how often more before the object's next line or the end.";
 
 /// What `notify-run who --help` says.
 const WHO: &str = "\
@@ -64,9 +70,15 @@ a minute, and writes who would be told, a notice a line, in order:
 
 These are the notices of `replay` for a feed that says so. Nothing else is known of the
 site: no problem lasts, nobody has acknowledged one, and there is no downtime. With
---down HOST that host is down first; its own notices stand among the others. A name or a
-state that isn't known stands there as `R;line;fault`, where the lines are the hosts
-that are down, and then the object's.";
+--down HOST that host is down first; its own notices stand among the others.
+
+Then it writes who isn't told of the object, of all whom its lists and its escalations
+name, a contact a line:
+
+  `not told`  contact  why; when they are told, if that is within a week
+
+Why is the filter that refused the contact, or the escalations that leave it out; where
+nothing goes out, the filter of the object.";
 
 /// What `notify-run trace --help` says.
 const TRACE: &str = "\
@@ -115,8 +127,17 @@ or a program that takes longer than --timeout has failed. Then the next word of 
 command takes over with it, of up to eight; after the last, that and all later messages of
 the command stay undelivered. What fails is said on standard error as it goes, without
 --quiet. With --ahead a line whose stamp is more than so many seconds past this machine's
-clock is refused, since no later message could have an earlier moment. Once the feed is
-over, standard output gets
+clock is refused, since no later message could have an earlier moment.
+
+With --feed and --state a run may be killed at any moment. The next one with the same FILE
+and DIR sends what wasn't sent, and nothing twice but the message that was in hand of each
+command: that has a line `Again: yes`.
+
+Once the feed is over, standard output gets the lines below. With --log they go to that file
+as they happen, each as soon as it is known, and standard output gets the G and Z lines
+alone; a file that is moved away is opened anew. With --fold an S line that only repeats the
+one before of its object isn't written, but the last before another one is, with how many
+there were. The lines are
 
   R;line;fault                                             a refused line of the feed
   S;event;moment;object;kind;state;filter                  what a filter of the object stopped
@@ -129,7 +150,14 @@ and then, for each command that contacts list,
   G;command;n;count                                        of several words: what number n,
                                                            from 0, has taken
   Z;command;why                                            why it was closed: FeedOver, Failed,
-                                                           NoChannel or NoMemory";
+                                                           NoChannel or NoMemory
+
+and with --state, last,
+
+  J;command;earlier;claimed;new;again                      how many messages earlier runs have
+                                                           settled, how many of those were due
+                                                           again, how many were sent now, and
+                                                           how many of these may have been before";
 
 /// What a command line says of the zone of local times: neither, for UTC, or one of the two; both are one too many.
 #[derive(Clone, Copy, Debug, PartialEq, Eq)]
@@ -141,7 +169,7 @@ pub struct ZoneWords<'a> {
 }
 
 /// What a command line says of a report's lines: which are wanted, those that meet each condition that is given, and
-/// whether each is to be JSON.
+/// whether each is to be JSON, or for people; both are one too many.
 #[derive(Clone, Copy, Debug, PartialEq, Eq)]
 pub struct ShownWords<'a> {
     /// Letters of lines.
@@ -152,6 +180,8 @@ pub struct ShownWords<'a> {
     pub contact: Option<&'a str>,
     /// Whether each line is to be an object of JSON.
     pub json: bool,
+    /// Whether lines are to be written for people.
+    pub pretty: bool,
 }
 
 /// Whether a line of a report begins with this letter.
@@ -174,7 +204,14 @@ impl ShownWords<'_> {
         ensures { result ≡ is_plain self.entry }
     {
         let is_part = self.only.is_some() || self.object.is_some() || self.contact.is_some();
-        !is_part && !self.json
+        !is_part && !self.json && !self.pretty
+    }
+
+    /// Whether two forms of its lines are asked for.
+    pub fn has_two_forms(self) -> bool
+        ensures { result ≡ has_two_forms self.entry }
+    {
+        self.json && self.pretty
     }
 
     /// Whether lines are asked for by letters that aren't all N, S, C or R.
@@ -212,6 +249,15 @@ pub struct TryTimes {
     pub pause: u8,
 }
 
+/// Where a run writes its report as it goes.
+#[derive(Clone, Copy, Debug, PartialEq, Eq)]
+pub struct LogWords<'a> {
+    /// The file, if there is one.
+    pub file: Option<&'a str>,
+    /// Whether lines that repeat the one before are folded.
+    pub fold: bool,
+}
+
 /// What a command line says of where the feed of a run is read from.
 #[derive(Clone, Copy, Debug, PartialEq, Eq)]
 pub struct FeedWords<'a> {
@@ -221,6 +267,87 @@ pub struct FeedWords<'a> {
     pub follow: bool,
     /// Whether a line `CLOCK` is added to the file at each full minute.
     pub clock: bool,
+    pub state: StateWords<'a>,
+}
+
+/// What a command line says of what a run keeps for later runs of its feed.
+#[derive(Clone, Copy, Debug, PartialEq, Eq)]
+pub struct StateWords<'a> {
+    /// The folder in which it is kept; none keeps nothing.
+    pub folder: Option<&'a str>,
+    /// What becomes of letters in doubt: `again`, also where it is left out, or `drop`.
+    pub in_doubt: Option<&'a str>,
+    /// Whether what is due so far and was never handed over is given up.
+    pub from_now: bool,
+}
+
+impl StateWords<'_> {
+    /// Whether letters in doubt are given up.
+    pub fn drops_doubt(self) -> bool
+        ensures { result ≡ drops_doubt self.entry }
+    {
+        match self.in_doubt {
+            None => false,
+            Some(word) => word == "drop",
+        }
+    }
+}
+
+/// Whether a word says what becomes of letters in doubt.
+fn is_doubt_word(word: Option<&str>) -> bool
+    ensures { result ≡ is_doubt_word (option_copied word.entry) }
+{
+    match word {
+        None => true,
+        Some(word) => word == "again" || word == "drop",
+    }
+}
+
+/// What is wrong with what a command line says of the feed of a run.
+#[derive(Clone, Copy, Debug, PartialEq, Eq)]
+pub enum FeedFault {
+    /// It says how a file is read, or what is kept for it, and names none.
+    NoFeed,
+    /// It says how what is kept is used, and names no folder.
+    NoState,
+    /// What becomes of letters in doubt is neither `again` nor `drop`.
+    BadDoubt,
+    /// It keeps what it has done, and limits how far ahead a stamp may be: a later run would read the feed at another time.
+    Ahead,
+}
+
+impl FeedFault {
+    /// What is said of it.
+    pub fn text(self) -> &'static str {
+        match self {
+            FeedFault::NoFeed => "--follow, --clock and --state need --feed",
+            FeedFault::NoState => "--in-doubt and --from-now need --state",
+            FeedFault::BadDoubt => "bad in-doubt",
+            FeedFault::Ahead => "--ahead and --state",
+        }
+    }
+}
+
+impl FeedWords<'_> {
+    /// What is wrong with it, where stamps may be so far ahead.
+    fn fault(self, ahead: Option<u32>) -> Option<FeedFault>
+        ensures { result ≡ fault_of self.entry ahead }
+    {
+        let state = self.state;
+        if self.file.is_none() && (self.follow || self.clock || state.folder.is_some()) {
+            return Some(FeedFault::NoFeed);
+        }
+        if state.folder.is_none() && (state.in_doubt.is_some() || state.from_now) {
+            return Some(FeedFault::NoState);
+        }
+        if !is_doubt_word(state.in_doubt) {
+            return Some(FeedFault::BadDoubt);
+        }
+        if state.folder.is_some() && ahead.is_some() {
+            return Some(FeedFault::Ahead);
+        }
+        None
+    }
 }
 
 /// What the program is asked to do.
@@ -251,6 +378,7 @@ pub enum Request<'m, 'a> {
         quiet: bool,
         /// How many seconds past the machine's clock the stamp of a line may be at most, if there is a limit.
         ahead: Option<u32>,
+        log: LogWords<'a>,
         feed: FeedWords<'a>,
     },
     /// Who would be told, of the object text in the file.
@@ -258,6 +386,14 @@ pub enum Request<'m, 'a> {
         objects: &'a str,
         zone: ZoneWords<'a>,
         asked: WhoWords<'m, 'a>,
+    },
+    /// What a change does to the notices of the feed on standard input: from the object text in one file to that in another.
+    Diff {
+        objects: &'a str,
+        changed: &'a str,
+        zone: ZoneWords<'a>,
+        /// Whether each line is to be an object of JSON.
+        json: bool,
     },
 }
 
@@ -271,6 +407,7 @@ impl<'a> Request<'_, 'a> {
             Request::Trace { zone, .. } => zone,
             Request::Run { zone, .. } => zone,
             Request::Who { zone, .. } => zone,
+            Request::Diff { zone, .. } => zone,
         }
     }
 
@@ -284,19 +421,34 @@ impl<'a> Request<'_, 'a> {
         }
     }
 
-    /// Whether it says how a file is read as the feed, and names none.
-    pub fn lacks_feed(self) -> bool
-        ensures { result ≡ lacks_feed self.entry }
+    /// What is wrong with what it says of the feed of a run.
+    pub fn feed_fault(self) -> Option<FeedFault>
+        ensures { result ≡ feed_fault self.entry }
     {
         match self {
-            Request::Run { feed, .. } => feed.file.is_none() && (feed.follow || feed.clock),
+            Request::Run { feed, ahead, .. } => feed.fault(ahead),
+            _ => None,
+        }
+    }
+
+    /// Whether it asks for two forms of a report's lines.
+    pub fn asks_two_forms(self) -> bool
+        ensures { result ≡ asks_two_forms self.entry }
+    {
+        match self {
+            Request::Replay { shown, .. } => shown.has_two_forms(),
             _ => false,
         }
     }
 }
 
 /// The option `--NAME` with a text.
-fn text_option<'a>(alloc: Global, name: &'a str, value: &'a str, help: &'a str) -> Arg<'a>
+pub(crate) fn text_option<'a>(
+    alloc: Global,
+    name: &'a str,
+    value: &'a str,
+    help: &'a str,
+) -> Arg<'a>
     ensures rule { rule_of result ≡ text_option name.entry.now }
     ensures local { result.global ≡ false }
 {
@@ -307,7 +459,7 @@ fn text_option<'a>(alloc: Global, name: &'a str, value: &'a str, help: &'a str) 
 }
 
 /// The option `--NAME` without a value.
-fn flag_option<'a>(alloc: Global, name: &'a str, help: &'a str) -> Arg<'a>
+pub(crate) fn flag_option<'a>(alloc: Global, name: &'a str, help: &'a str) -> Arg<'a>
     ensures rule { rule_of result ≡ flag_option name.entry.now }
     ensures local { result.global ≡ false }
 {
@@ -318,7 +470,7 @@ fn flag_option<'a>(alloc: Global, name: &'a str, help: &'a str) -> Arg<'a>
 }
 
 /// Adds the options that say what zone local times are of.
-fn with_zone<'a>(alloc: Global, command: Command<'a>) -> Result<Command<'a>, AllocError>
+pub(crate) fn with_zone<'a>(alloc: Global, command: Command<'a>) -> Result<Command<'a>, AllocError>
     ensures words { IfOk result (λ command_with.
         app_of command_with ≡ with_zone (app_of command.entry)) }
 {
@@ -355,10 +507,10 @@ fn replay_command<'a>(alloc: Global) -> Result<Command<'a>, AllocError>
     with_zone(alloc, with_shown)
 }
 
-/// Adds the options that say which lines of a report are wanted, and how they are written.
-fn with_shown<'a>(alloc: Global, command: Command<'a>) -> Result<Command<'a>, AllocError>
+/// Adds the options that say which lines of a report are wanted.
+fn with_picks<'a>(alloc: Global, command: Command<'a>) -> Result<Command<'a>, AllocError>
     ensures words { IfOk result (λ command_with.
-        app_of command_with ≡ with_shown (app_of command.entry)) }
+        app_of command_with ≡ with_picks (app_of command.entry)) }
 {
     let only = text_option(
         alloc,
@@ -378,12 +530,26 @@ fn with_shown<'a>(alloc: Global, command: Command<'a>) -> Result<Command<'a>, Al
         "NAME",
         "Only lines that name this contact",
     );
+    command.arg(only)?.arg(object)?.arg(contact)
+}
+
+/// Adds these, and the options that say how lines are written.
+fn with_shown<'a>(alloc: Global, command: Command<'a>) -> Result<Command<'a>, AllocError>
+    ensures words { IfOk result (λ command_with.
+        app_of command_with ≡ with_shown (app_of command.entry)) }
+{
+    let with_picks = with_picks(alloc, command)?;
     let json = flag_option(
         alloc,
         "json",
         "Each line as a JSON object, with the local time beside the moment",
     );
-    command.arg(only)?.arg(object)?.arg(contact)?.arg(json)
+    let pretty = flag_option(
+        alloc,
+        "pretty",
+        "For people: local times, names in columns, repeated suppressions counted; colours on a terminal",
+    );
+    with_picks.arg(json)?.arg(pretty)
 }
 
 /// The option that says how many deciders there are, and how many where it is left out.
@@ -540,6 +706,30 @@ fn with_feed_options<'a>(alloc: Global, command: Command<'a>) -> Result<Command<
         .arg(flag_option(alloc, "clock", clock))
 }
 
+/// Adds the options that say what is kept for later runs of the feed.
+fn with_state_options<'a>(alloc: Global, command: Command<'a>) -> Result<Command<'a>, AllocError>
+    ensures words { IfOk result (λ command_with.
+        app_of command_with ≡ with_state_options (app_of command.entry)) }
+{
+    let folder = text_option(
+        alloc,
+        "state",
+        "DIR",
+        "A folder in which it is written down what was sent, so that a run that follows goes on there",
+    );
+    let doubt = text_option(
+        alloc,
+        "in-doubt",
+        "WHAT",
+        "What becomes of a message that was about to be sent when a run was killed: again, or drop",
+    );
+    let now = "Gives up what is due by FILE as it is and was never sent, and goes on from there";
+    command
+        .arg(folder)?
+        .arg(doubt)?
+        .arg(flag_option(alloc, "from-now", now))
+}
+
 /// Adds the options that say how a run tries a message: how often, how long at most, and after which pause.
 fn with_try_options<'a>(alloc: Global, command: Command<'a>) -> Result<Command<'a>, AllocError>
     ensures words { IfOk result (λ command_with. app_of command_with
@@ -647,6 +837,25 @@ fn channel_words<'a>(alloc: Global) -> Arg<'a>
         .help("Where the messages of a command go: NAME=KIND:..")
 }
 
+/// Adds the options that say where a run writes its report as it goes.
+fn with_log_options<'a>(alloc: Global, command: Command<'a>) -> Result<Command<'a>, AllocError>
+    ensures words { IfOk result (λ command_with.
+        app_of command_with ≡ with_log_options (app_of command.entry)) }
+{
+    let log = text_option(
+        alloc,
+        "log",
+        "FILE",
+        "Writes the report to this file as it goes, one line at a time",
+    );
+    let fold = flag_option(
+        alloc,
+        "fold",
+        "Leaves out S lines of the log that repeat the one before of their object",
+    );
+    command.arg(log)?.arg(fold)
+}
+
 /// The command `run`, its options and its words.
 fn run_command<'a>(alloc: Global) -> Result<Command<'a>, AllocError>
     ensures words { IfOk result (λ command. app_of command ≡ run_words) }
@@ -661,10 +870,12 @@ fn run_command<'a>(alloc: Global) -> Result<Command<'a>, AllocError>
     let with_queue = command.arg(queue_option(alloc, queue))?;
     let with_tries = with_try_options(alloc, with_queue)?;
     let with_ahead = with_tries.arg(ahead_option(alloc))?;
+    let with_log = with_log_options(alloc, with_ahead)?;
     let quiet = "Says nothing on standard error of what fails as it goes";
-    let with_quiet = with_ahead.arg(flag_option(alloc, "quiet", quiet))?;
+    let with_quiet = with_log.arg(flag_option(alloc, "quiet", quiet))?;
     let with_feed = with_feed_options(alloc, with_quiet)?;
-    let with_options = with_zone(alloc, with_feed)?;
+    let with_state = with_state_options(alloc, with_feed)?;
+    let with_options = with_zone(alloc, with_state)?;
     with_options.arg(channel_words(alloc))
 }
 
@@ -683,7 +894,8 @@ pub fn command<'a>(alloc: Global) -> Result<Command<'a>, AllocError>
         .subcommand(replay_command(alloc)?)?
         .subcommand(trace_command(alloc)?)?
         .subcommand(run_command(alloc)?)?
-        .subcommand(who_command(alloc)?)
+        .subcommand(who_command(alloc)?)?
+        .subcommand(diff_command(alloc)?)
 }
 
 /// The settings of so many deciders and of the options of a lane. Each option has a default, and its range is that of the
@@ -709,12 +921,23 @@ fn deciders_of(options: &ArgMatches<'_>) -> Option<u8>
 }
 
 /// What the options of a command say of the zone.
-fn zone_words<'a>(options: &ArgMatches<'a>) -> ZoneWords<'a>
+pub(crate) fn zone_words<'a>(options: &ArgMatches<'a>) -> ZoneWords<'a>
     ensures { IsZoneOf (found_of options.now) result }
 {
     ZoneWords {
         rule: options.get_str("zone"),
         file: options.get_str("zone-file"),
+    }
+}
+
+/// What the options of `run` say of what it keeps.
+fn state_words<'a>(options: &ArgMatches<'a>) -> StateWords<'a>
+    ensures { IsStateOf (found_of options.now) result }
+{
+    StateWords {
+        folder: options.get_str("state"),
+        in_doubt: options.get_str("in-doubt"),
+        from_now: options.get_flag("from-now"),
     }
 }
 
@@ -727,6 +950,7 @@ fn shown_words<'a>(options: &ArgMatches<'a>) -> ShownWords<'a>
         object: options.get_str("object"),
         contact: options.get_str("contact"),
         json: options.get_flag("json"),
+        pretty: options.get_flag("pretty"),
     }
 }
 
@@ -779,6 +1003,16 @@ fn ahead_of(options: &ArgMatches<'_>) -> Option<u32>
     options.get_one::<u32>("ahead")
 }
 
+/// What the options of `run` say of where its report goes as it goes.
+fn log_words<'a>(options: &ArgMatches<'a>) -> LogWords<'a>
+    ensures { IsLogOf (found_of options.now) result }
+{
+    LogWords {
+        file: options.get_str("log"),
+        fold: options.get_flag("fold"),
+    }
+}
+
 /// What the options of `run` say of where its feed is read from.
 fn feed_words<'a>(options: &ArgMatches<'a>) -> FeedWords<'a>
     ensures { IsFeedOf (found_of options.now) result }
@@ -787,6 +1021,7 @@ fn feed_words<'a>(options: &ArgMatches<'a>) -> FeedWords<'a>
         file: options.get_str("feed"),
         follow: options.get_flag("follow"),
         clock: options.get_flag("clock"),
+        state: state_words(options),
     }
 }
 
@@ -808,6 +1043,7 @@ fn run_request<'m, 'a>(options: &'m ArgMatches<'a>) -> Option<Request<'m, 'a>>
         times,
         quiet: options.get_flag("quiet"),
         ahead: ahead_of(options),
+        log: log_words(options),
         feed: feed_words(options),
     })
 }
@@ -854,12 +1090,15 @@ pub fn request_of<'m, 'a>(matches: &'m ArgMatches<'a>) -> Option<Request<'m, 'a>
         → IsMetWith matches.now (codes "run") RunLacks) }
     ensures who { IfNone result (subcommand_name_of matches.now ≡ Some (codes "who")
         → IsMetWith matches.now (codes "who") WhoLacks) }
+    ensures diff { IfNone result (subcommand_name_of matches.now ≡ Some (codes "diff")
+        → IsMetWith matches.now (codes "diff") DiffLacks) }
 {
     match matches.subcommand() {
         Some(("replay", options)) => Some(replay_request(options)),
         Some(("trace", options)) => trace_request(options),
         Some(("run", options)) => run_request(options),
         Some(("who", options)) => who_request(options),
+        Some(("diff", options)) => diff_request(options),
         _ => None,
     }
 }

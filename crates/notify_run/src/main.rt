@@ -1,31 +1,31 @@
 //! The program `notify-run`: its command line, and how each command ends.
 #![tactic(auto)]
 
-ghost use Rattle.std.specs.Prelude.{◌≡◌, ◌<◌, ◌≤◌, true, IfSome, None};
+ghost use Rattle.std.specs.Prelude.{◌≡◌, ◌<◌, is_some, true};
 ghost use Rattle.std.specs.Process.{exit_status};
 ghost use Rattle.clap.specs.Values.{kind_of};
 ghost use Rattle.command_output.specs.Outcome.{outcome_status};
-ghost use Rattle.due_model.specs.Limits.{last_moment};
-ghost use Rattle.command_line.specs.Words.{AreSettingsFit, AreTwo, asks_bad_letters, lacks_feed, request_zone};
+ghost use Rattle.command_line.specs.Words.{AreSettingsFit, AreTwo, asks_bad_letters, asks_two_forms, feed_fault, request_zone};
 ghost use Rattle.notify_run.specs.Refusal.{refusal_status};
-ghost use Rattle.notify_run.specs.Shown.{AreShownBy};
-ghost use Rattle.notify_run.specs.Times.{IsBadLength, IsBadTime, IsNoMoment};
+ghost use Rattle.notify_run.specs.Shown.{ArePickedBy, AreShownBy};
 ghost use Rattle.notify_run.specs.Zones.{IsBadRule};
 ghost use Rattle.run_devices.specs.Fault.{run_status};
 ghost use Rattle.steps.specs.Settings.{max_channels};
 
+mod diff;
 mod feeds;
+mod pretty;
+mod who;
 mod zones;
 
 use clap::error::ErrorKind;
-use command_line::{Request, ShownWords, WhoWords, command, request_of};
+use command_line::{Request, ShownWords, command, request_of};
 use command_output::{AnyWriter, CommandFault, Ending, exit_status};
-use due_model::limits::LAST_MOMENT;
+use diff::status_of_diff;
 use due_model::zone::Zone;
 use feeds::status_of_feed;
-use given_times::{minutes_given, moment_given};
 use line_forms::Picks;
-use made_feed::Supposed;
+use pretty::pretty_through;
 use progress::{ProgressLine, Watcher};
 use replay::{replay_files, replay_in};
 use report_forms::{LineForm, ShownLines, show_files, show_in};
@@ -37,11 +37,11 @@ use std::io::IsTerminal;
 use std::process::ExitCode;
 use std::sync::Wait;
 use std::thread::Threads;
-use std::time::{Clock, SystemTime, UNIX_EPOCH};
+use std::time::Clock;
 use steps::Settings;
 use text_lines::AnyReader;
 use trace::trace_in;
-use who_told::{object_parts, who};
+use who::status_of_who;
 use zones::{status_of_zone, zone_asked};
 
 /// Says on standard error what a command failed with, if it did, and gives its exit status.
@@ -87,6 +87,8 @@ fn do_replay(
     let mut line = ProgressLine::new(rt, rt.stderr().is_terminal());
     let outcome = if words.is_plain() {
         replay_through(rt, zone, objects, &mut line)
+    } else if words.pretty {
+        pretty_through(rt, zone, objects, picks_of(words), &mut line)
     } else {
         let shown = shown_lines(rt.alloc(), words);
         show_through(rt, zone, objects, shown, &mut line)
@@ -115,20 +117,27 @@ fn replay_through<P: Watcher>(
     replay_files(alloc, zone, objects, input, &mut writer, watcher)
 }
 
+/// Which lines are wanted.
+fn picks_of(words: ShownWords<'_>) -> Picks<'_>
+    ensures { ArePickedBy words result }
+{
+    Picks {
+        only: words.only,
+        object: words.object,
+        contact: words.contact,
+    }
+}
+
 /// Which lines are wanted, and how they are written.
 fn shown_lines(alloc: Global, words: ShownWords<'_>) -> ShownLines<'_>
-    ensures { AreShownBy words.entry result }
+    ensures { AreShownBy words result }
 {
     let form = if words.json {
         LineForm::Json
     } else {
         LineForm::Plain
     };
-    let picks = Picks {
-        only: words.only,
-        object: words.object,
-        contact: words.contact,
-    };
+    let picks = picks_of(words);
     ShownLines { alloc, picks, form }
 }
 
@@ -167,100 +176,12 @@ fn do_trace(
     trace_in(rt.alloc(), zone, settings, standbys, input, &mut writer)
 }
 
-/// The moment of a clock, in seconds since the epoch.
-fn moment_of<T: Clock>(clock: &T) -> Option<u64>
-    ensures { IfSome result (λ moment. moment ≤ last_moment) }
-{
-    let now = SystemTime::now(clock).ok()?;
-    let since = now.duration_since(UNIX_EPOCH).ok()?;
-    Some(since.as_secs().min(LAST_MOMENT))
-}
-
 /// Says on standard error what is wrong of a command line, and gives the exit status.
 fn status_of_words<R: Eprint>(rt: &R, fault: &str) -> ExitCode
     ensures { exit_status result ≡ 2 }
 {
     let _ = rt.eprintln(format_args!("usage: {fault}"));
     ExitCode::from(2)
-}
-
-/// What is supposed by these words.
-fn supposed_of<'a>(
-    down: &'a [&'a str],
-    host: &'a str,
-    service: Option<&'a str>,
-    state: &'a str,
-    moment: u64,
-    minutes: u32,
-) -> Supposed<'a>
-    ensures moment { result.moment ≡ moment }
-    ensures minutes { result.minutes ≡ minutes }
-{
-    Supposed {
-        down,
-        host,
-        service,
-        state,
-        moment,
-        minutes,
-    }
-}
-
-/// Writes who would be told of what is asked, from the moment on, for so many minutes.
-fn do_who(
-    rt: &HostRuntime,
-    zone: &Zone,
-    objects: &str,
-    asked: WhoWords<'_, '_>,
-    moment: u64,
-    minutes: u16,
-) -> Result<Ending, CommandFault>
-    requires { moment ≤ last_moment }
-{
-    let Ok(file) = File::open(rt, objects) else {
-        return Err(CommandFault::Unreadable);
-    };
-    let (host, service) = object_parts(asked.object);
-    let down = asked.down.unwrap_or(&[]);
-    let minutes = u32::from(minutes);
-    let supposed = supposed_of(down, host, service, asked.state, moment, minutes);
-    let objects = AnyReader::new(file);
-    let mut writer = AnyWriter::new(rt.stdout());
-    who(rt.alloc(), zone, objects, &supposed, &mut writer)
-}
-
-/// The moment that a text says, or that of a clock. None where the text says none.
-fn begin_of<T: Clock>(clock: &T, zone: &Zone, at: Option<&str>) -> Option<u64>
-    ensures within { IfSome result (λ moment. moment ≤ last_moment) }
-    ensures bad { IsNoMoment zone.now at.entry → result ≡ None }
-{
-    let Some(text) = at else {
-        return moment_of(clock);
-    };
-    match moment_given(zone, text) {
-        Some(moment) => Some(moment),
-        None => None,
-    }
-}
-
-/// Writes who would be told of what is asked, and gives the exit status. Its times are looked at before anything else.
-fn status_of_who<T: Clock>(
-    rt: &HostRuntime,
-    clock: &T,
-    zone: &Zone,
-    objects: &str,
-    asked: WhoWords<'_, '_>,
-) -> ExitCode
-    ensures time { IsBadTime zone.now asked.entry → exit_status result ≡ 2 }
-    ensures length { IsBadLength asked.entry → exit_status result ≡ 2 }
-{
-    let Some(moment) = begin_of(clock, zone, asked.at) else {
-        return status_of_words(rt, "bad time");
-    };
-    match minutes_given(asked.lasting) {
-        Some(minutes) => status_of(rt, do_who(rt, zone, objects, asked, moment, minutes)),
-        None => status_of_words(rt, "bad length"),
-    }
 }
 
 /// Says on standard error what a run failed with, if it did, and gives its exit status.
@@ -277,7 +198,7 @@ fn status_of_run<R: Eprint>(rt: &R, outcome: Result<Ending, RunFault<'_>>) -> Ex
     }
 }
 
-/// Does what is asked, and gives the exit status. Letters of lines are looked at before the zone is read, and that before
+/// Does what is asked, and gives the exit status. Letters and forms of lines are looked at before the zone is read, and that before
 /// anything else. The handle is of the machine, and again
 /// that by which threads are started.
 fn status_of_request<T: Threads + Wait + Clock + Sync>(
@@ -289,13 +210,17 @@ fn status_of_request<T: Threads + Wait + Clock + Sync>(
     ensures two { AreTwo (request_zone request.entry) → exit_status result ≡ 2 }
     ensures rule { IsBadRule (request_zone request.entry) → exit_status result ≡ 2 }
     ensures letters { asks_bad_letters request.entry ≡ true → exit_status result ≡ 2 }
-    ensures feed { lacks_feed request.entry ≡ true → exit_status result ≡ 2 }
+    ensures feed { is_some (feed_fault request.entry) ≡ true → exit_status result ≡ 2 }
+    ensures forms { asks_two_forms request.entry ≡ true → exit_status result ≡ 2 }
 {
     if request.asks_bad_letters() {
         return status_of_words(rt, "bad letters");
     }
-    if request.lacks_feed() {
-        return status_of_words(rt, "--follow and --clock need --feed");
+    if let Some(fault) = request.feed_fault() {
+        return status_of_words(rt, fault.text());
+    }
+    if request.asks_two_forms() {
+        return status_of_words(rt, "two forms");
     }
     let words = request.zone();
     let zone = match zone_asked(rt, words) {
@@ -312,6 +237,12 @@ fn status_of_request<T: Threads + Wait + Clock + Sync>(
         Request::Who { objects, asked, .. } => {
             return status_of_who(rt, threads, &zone, objects, asked);
         }
+        Request::Diff {
+            objects,
+            changed,
+            json,
+            ..
+        } => return status_of_diff(rt, &zone, objects, changed, json),
         Request::Run {
             objects,
             settings,
@@ -319,6 +250,7 @@ fn status_of_request<T: Threads + Wait + Clock + Sync>(
             times,
             quiet,
             ahead,
+            log,
             feed,
             ..
         } => {
@@ -329,7 +261,7 @@ fn status_of_request<T: Threads + Wait + Clock + Sync>(
                 quiet,
                 ahead,
             };
-            return status_of_feed(rt, threads, &zone, objects, settings, channels, feed);
+            return status_of_feed(rt, threads, &zone, objects, settings, channels, log, feed);
         }
     };
     status_of(rt, outcome)

@@ -1,2 +1,3 @@
+mod LoggedLaws
 mod PostLaws
 mod PauseLaws

@@ -1,5 +1,5 @@
 -- What a run is that was done.
-use Rattle.std.specs.Prelude.{◌≡◌, ℕ, Bool, List, map, Option}
+use Rattle.std.specs.Prelude.{◌≡◌, ℕ, Bool, true, false, List, map, Option}
 use Rattle.channel.specs.Channels.{Account, Offer}
 use Rattle.channel_words.specs.Lanes.{channels_for}
 use Rattle.command_output.specs.declared.outcome.Ending.{Ending}
@@ -8,7 +8,12 @@ use Rattle.due_model.specs.declared.config.LaneId.{LaneId}
 use Rattle.due_model.specs.declared.zone.Zone.{Zone}
 use Rattle.engine.specs.declared.post.Post.{Post}
 use Rattle.engine.specs.Lanes.{AreTold, channels_on}
-use Rattle.run_command.specs.Report.{WritesReport}
+use Rattle.engine.specs.declared.run_end.RunEnd.{RunEnd}
+use Rattle.engine.specs.Feed.{NoneIsAhead, ahead_in}
+use Rattle.engine.specs.Run.{IsReadOf, IsRunAfter}
+use Rattle.due_model.specs.declared.notice.Suppression.{Suppression}
+use Rattle.run_command.specs.Report.{WritesReport, ending_of, ends_text}
+use Rattle.written.specs.Written.{Writes}
 use Rattle.run_devices.specs.Channels.{Opened, asked_from}
 use Rattle.run_devices.specs.Fault.{AreRight}
 
@@ -49,3 +54,24 @@ pub record IsDone {C V : Type 0} (account : C → Account) (offered : C → List
   pub posted : map (λ post. post.lane) posts ≡ lanes
   pub right : AreOpened texts config lanes (map (λ post. opened post.channel) posts)
   pub report : WritesRun account offered items can_fail is_open config zone tries posts given_back known ending before after
+
+-- The ends of the lanes of a run of the feed were written, with channels on these lanes, and nothing else. Of each object the deciders told
+-- their logs what comes before the run's own log.
+abbrev pub RunsLogged : (can_fail is_open : Bool) → Config → Zone → (lanes : List LaneId) → (known : Option (List ℕ)) → Ending
+    → (before after : Option (List ℕ)) → Type 0
+RunsLogged can_fail is_open c zone lanes known ending before after =
+    (end : RunEnd) × (told : (object : ℕ) → List Suppression)
+    × IsRunAfter c zone (channels_for lanes) end.events.items end.memory end.lanes.items told end.log.items
+    × IsReadOf (ahead_in end.refused.items) can_fail c known end.memory end.events.items end.refused.items end.cut
+    × (is_open ≡ true → NoneIsAhead end.refused.items)
+    × (end.memory ≡ false) × (ending ≡ ending_of end)
+    × Writes before after (ends_text c end.lanes.items)
+
+-- All checks of the words of these texts went well, and a run of the feed was done, by an accepted configuration, with channels on the lanes
+-- that the words name.
+pub record IsLogged (texts : List (List ℕ)) (can_fail is_open : Bool) (zone : Zone) (known : Option (List ℕ)) (ending : Ending)
+    (before after : Option (List ℕ)) : Type 0 where
+  pub config : Config
+  pub lanes : List LaneId
+  pub right : AreRight texts config lanes
+  pub report : RunsLogged can_fail is_open config zone lanes known ending before after

@@ -5,15 +5,16 @@ ghost use Rattle.std.specs.Option.{option_map};
 ghost use Rattle.channel_words.specs.Lanes.{channels_for, names_of};
 ghost use Rattle.due_model.specs.Accepted.{IsAccepted};
 ghost use Rattle.run_devices.specs.Channels.{numbered_from, opened};
-ghost use Rattle.run_devices.specs.Done.{AreOpened, IsDone, RunsWith};
+ghost use Rattle.run_devices.specs.Done.{AreOpened, IsDone, RunsWith, WritesRun};
 ghost use Rattle.run_devices.specs.Fault.{AreChecked, ChecksFail, IsCommandFault, RunFails};
 
 use crate::channels::{OpenedChannel, open_channels};
-use crate::counted::{CountedChannel, CountingGate};
+use crate::counted::CountedChannel;
 use crate::fault::RunFault;
 use crate::horizon::ClockHorizon;
 use crate::settings::RunSettings;
 use crate::teller::{Teller, teller_of};
+use crate::watched::Watched;
 use crate::watcher::RunWatcher;
 use channel::Channel;
 use channel_words::{ChannelWord, lanes_of, read_words};
@@ -77,7 +78,7 @@ pub fn do_run<'a, T: Threads + Wait + Clock + Sync, R: Input + Drop, W: Sink>(
 }
 
 /// The configuration of the object text, the lanes that words name, and their channels, one for each in order.
-fn open_words<'a>(
+pub(crate) fn open_words<'a>(
     rt: &HostRuntime,
     objects: &str,
     channels: Option<&[&'a str]>,
@@ -103,7 +104,7 @@ fn open_words<'a>(
 }
 
 /// The texts of the channel words, which may be none.
-fn texts_of<'m, 'a>(channels: Option<&'m [&'a str]>) -> &'m [&'a str]
+pub fn texts_of<'m, 'a>(channels: Option<&'m [&'a str]>) -> &'m [&'a str]
     ensures { result.now ≡ unwrap_or (option_map (λ given. given.now) channels.entry) [] }
 {
     match channels {
@@ -114,7 +115,7 @@ fn texts_of<'m, 'a>(channels: Option<&'m [&'a str]>) -> &'m [&'a str]
 
 /// The configuration of object text, and the lanes that words name by it, one for each in order. The shape of the words
 /// was right.
-fn checked<'a, O: Input + Drop>(
+pub fn checked<'a, O: Input + Drop>(
     alloc: Global,
     objects: O,
     words: &[ChannelWord<'a>],
@@ -131,7 +132,7 @@ fn checked<'a, O: Input + Drop>(
 
 /// The posts of these channels, one each on these lanes in order. Each channel is numbered by its place, counts what it takes, and says
 /// where it failed for good. A refused growth is the only error.
-fn posts_of(
+pub fn posts_of(
     alloc: Global,
     config: &Config,
     lanes: &[LaneId],
@@ -156,13 +157,58 @@ fn posts_of(
 }
 
 /// What a run counts by, and who shows it. A refused growth is the only error.
-fn watch<'r, T: Threads>(
+pub(crate) fn watch<'r, T: Threads>(
     rt: &'r HostRuntime,
     threads: &'r T,
 ) -> Result<(Arc<Counts, Global>, RunWatcher<'r, T>), AllocError> {
     let counts = Arc::new(rt.alloc(), Counts::new())?;
     let watcher = RunWatcher::new(rt, threads, Arc::try_clone(&counts)?);
     Ok((counts, watcher))
+}
+
+/// Reads a feed, with these posts, where of several for one lane the first serves and each other where the one before has failed. What is
+/// counted is shown until it is over. The channels come back, lane by lane.
+pub fn run_posts<C: Channel, T: Threads + Wait + Clock + Sync, R: Input + Drop, W: Sink>(
+    watched: Watched<'_, T>,
+    config: &Config,
+    zone: &Zone,
+    settings: RunSettings,
+    posts: Vec<Post<C>>,
+    feed: R,
+    writer: &mut W,
+) -> Result<(Ending, Vec<Vec<C>>), CommandFault>
+    requires accepted { IsAccepted config.now }
+    requires few { (l : ℕ) → channels_for (map (λ post. post.lane) posts.items) l ≤ 8 }
+    ensures report { IfOk result (λ done. WritesRun C.account C.offered (λ cs. cs.items)
+        R.can_fail (is_none settings.ahead) config.now zone.now settings.settings.tries posts.items done.1.items
+        (R.remaining feed) done.0 (W.contents writer.old) (W.contents writer.new)) }
+{
+    let alloc = watched.rt.alloc();
+    let closers = Closers::new(alloc, config.lanes.len() as u8)?;
+    let gate = watched.gate(settings.pause)?;
+    let rt = *watched.rt;
+    let mut watcher = watched.watcher;
+    let (outcome, channels) = run(
+        watched.threads,
+        alloc,
+        config,
+        zone,
+        settings.settings,
+        posts,
+        LimitedFeed {
+            reader: feed,
+            horizon: ClockHorizon {
+                rt,
+                ahead: settings.ahead,
+            },
+        },
+        writer,
+        &closers,
+        &gate,
+        &mut watcher,
+    );
+    watcher.finish();
+    Ok((outcome?, channels))
 }
 
 /// Reads a feed, with channels for these lanes, one each in order, where of several for one lane the first serves and each other
@@ -188,40 +234,16 @@ fn run_through<'a, T: Threads + Wait + Clock + Sync, R: Input + Drop, W: Sink>(
         (R.remaining feed) done.ending (W.contents writer.old) (W.contents writer.new)) }
     ensures fault { IfErr result IsCommandFault }
 {
-    let alloc = rt.alloc();
-    let (counts, mut watcher) = watch(rt, threads)?;
-    let closers = Closers::new(alloc, config.lanes.len() as u8)?;
-    let teller = Arc::new(
-        alloc,
-        Teller::new(rt, Arc::try_clone(&counts)?, settings.quiet),
-    )?;
-    let gate = CountingGate::new(
-        Arc::try_clone(&counts)?,
-        Arc::try_clone(&teller)?,
-        settings.pause,
-    );
-    let posts = posts_of(alloc, config, lanes, channels, &counts, &teller)?;
-    teller.say_unserved(config, lanes);
-    let (outcome, channels) = run(
-        threads,
-        alloc,
+    let watched = Watched::new(rt, threads, settings.quiet)?;
+    let posts = posts_of(
+        rt.alloc(),
         config,
-        zone,
-        settings.settings,
-        posts,
-        LimitedFeed {
-            reader: feed,
-            horizon: ClockHorizon {
-                rt: *rt,
-                ahead: settings.ahead,
-            },
-        },
-        writer,
-        &closers,
-        &gate,
-        &mut watcher,
-    );
-    watcher.finish();
-    let ending = outcome?;
+        lanes,
+        channels,
+        &watched.counts,
+        &watched.teller,
+    )?;
+    watched.teller.say_unserved(config, lanes);
+    let (ending, channels) = run_posts(watched, config, zone, settings, posts, feed, writer)?;
     Ok(RunDone { ending, channels })
 }

@@ -43,7 +43,7 @@ impl Teller {
     }
 
     /// Says a line.
-    fn say(&self, text: &str) {
+    pub(crate) fn say(&self, text: &str) {
         if self.is_quiet {
             return;
         }
@@ -83,7 +83,7 @@ impl Teller {
     }
 
     /// Says which commands of a site no channel is for, where channels are for these lanes.
-    pub(crate) fn say_unserved(&self, config: &Config, lanes: &[LaneId]) {
+    pub fn say_unserved(&self, config: &Config, lanes: &[LaneId]) {
         for number in 0..=u8::MAX {
             let lane = LaneId(number);
             let is_there = usize::from(number) < config.lanes.len();

@@ -1,60 +1,139 @@
--- From what is told of a report to the table of it.
-use Rattle.std.proofs.Common.{◌≡◌, ℕ, Bool, false, List, [], ◌∷◌, ◌++◌, flat_map, Option, Result, Ok, Err, None, Some, IfErr, IfOk, IfSome, refl, ap, subst, ◌∙◌, inl, inr}
+-- From what is told of a report to the table of it, and to who is missing there.
+use Rattle.std.proofs.Common.{◌≡◌, ℕ, ◌+◌, ◌*◌, Bool, true, false, ◌||◌, List, [], ◌∷◌, ◌++◌, flat_map, Option, Result, Ok, Err, None, Some, IfErr, IfOk, IfSome, OnErr, refl, sym, ap, subst, ◌∙◌, inl, inr, append_assoc}
 use Rattle.std.proofs.lemmas.List.{append-nil}
 use Rattle.due_model.specs.declared.config.Config.{Config}
 use Rattle.due_model.specs.declared.zone.Zone.{Zone}
-use Rattle.event_feed.specs.Feed.{Answer}
-use Rattle.command_output.specs.declared.outcome.CommandFault.{CommandFault}
-use Rattle.command_output.specs.declared.outcome.CommandFault.TheVariants.{Objects, Unreadable, Output, NoMemory}
+use Rattle.event_feed.specs.Feed.{Answer, answers}
+use Rattle.text_lines.specs.Lines.{pieces}
+use Rattle.command_input.specs.Objects.{IsTextOf}
+use Rattle.command_output.specs.declared.outcome.CommandFault.TheVariants as command
 use Rattle.command_output.specs.declared.outcome.Ending.{Ending}
 use Rattle.written.specs.Written.{Writes, WritesFront}
+use Rattle.written.specs.WrittenLaws.{appends_more, front_longer, front_next}
 use Rattle.replay.specs.Replay.{AreOfFeed}
 use Rattle.line_forms.specs.declared.report_line.ReportLine.{ReportLine}
 use Rattle.made_feed.specs.declared.Supposed.{Supposed}
 use Rattle.report_telling.specs.Lines.{report_lines}
 use Rattle.report_telling.specs.Tells as tells
-use Rattle.report_telling.specs.Told.{Form, form_of, told_all, told_report}
+use Rattle.report_telling.specs.Told.{Form, after_all, form_of, told_all, told_report}
+use Rattle.who_told.specs.declared.missed.Missed.{Missed}
+use Rattle.who_missed.specs.Missed.{missed_text}
+use Rattle.std.specs.List.{list_any}
+use Rattle.std.specs.Option.{option_copied}
+use Rattle.who_told.specs.declared.fault.WhoFault.{WhoFault}
+use Rattle.who_told.specs.declared.fault.WhoFault.TheVariants as fault
 use Rattle.who_told.specs.declared.rows.Rows.{Rows}
-use Rattle.who_told.specs.Who.{FailsOf, TellsWho, TellsWhoFront, row_text, supposed_feed, table_text}
+use Rattle.who_told.specs.Who.{FailsFor, FailsOf, TellsBoth, TellsBothFront, TellsMissing, TellsMissingFront, TellsTable, TellsTableFront, has_row, missing_text, nobody_text, row_text, supposed_feed, table_text, week_feed}
 
--- the form of the teller of rows
-abbrev pub form_at : Config → Zone → Form Rows
-form_at c zone = form_of (λ rows config z line. row_text config z line) (λ rows config z line. rows) (λ rows config z. []) c zone
+-- ---- the teller of rows
 
-all_told : (rows : Rows) (c : Config) (zone : Zone) (lines : List ReportLine) → told_all (form_at c zone) rows lines ≡ flat_map (row_text c zone) lines
+abbrev pub rows_at : Config → Zone → Form Rows
+rows_at c zone =
+    form_of (λ rows config z line. row_text config z line) (λ rows config z line. record rows { has_rows = rows.has_rows || has_row line })
+    (λ rows config z. nobody_text rows.has_rows) c zone
+
+all_told : (rows : Rows) (c : Config) (zone : Zone) (lines : List ReportLine) → told_all (rows_at c zone) rows lines ≡ flat_map (row_text c zone) lines
 all_told rows c zone [] = refl
-all_told rows c zone (line ∷ lines) = ap (λ (text : List ℕ). row_text c zone line ++ text) (all_told rows c zone lines)
+all_told rows c zone (line ∷ lines) = ap (λ (text : List ℕ). row_text c zone line ++ text) (all_told (record rows { has_rows = rows.has_rows || has_row line }) c zone lines)
 
-pub report_told : (rows : Rows) (c : Config) (zone : Zone) (given : List Answer) → told_report (form_at c zone) rows (report_lines c zone given) ≡ table_text c zone given
-report_told rows c zone given = append-nil (told_all (form_at c zone) rows (report_lines c zone given)) ∙ all_told rows c zone (report_lines c zone given)
+or_nothing : (a : Bool) → (a || false) ≡ a
+or_nothing true = refl
+or_nothing false = refl
 
-module _ (s : Supposed) (rows : Rows) (feed : List ℕ) (is : feed ≡ supposed_feed s) (objects : List ℕ) (zone : Zone) (old new : Option (List ℕ)) where
-  -- what is told is the table
-  pub tells_who : (ending : Ending) → tells.TellsOf form_at rows false objects feed zone ending old new → TellsWho s objects zone ending old new
-  tells_who ending h =
-      (h.0, h.1, h.2, subst (λ bytes. AreOfFeed false h.0 bytes h.1) is h.3, h.4, subst (λ text. Writes old new text) (report_told rows h.0 zone h.1) h.5)
+or_more : (a b d : Bool) → ((a || b) || d) ≡ (a || (b || d))
+or_more true b d = refl
+or_more false b d = refl
 
-  tells_front : tells.TellsFrontOf form_at rows false objects feed zone old new → TellsWhoFront s objects zone old new
-  tells_front h = (h.0, h.1, h.2, subst (λ bytes. AreOfFeed false h.0 bytes h.1) is h.3, subst (λ text. WritesFront old new text) (report_told rows h.0 zone h.1) h.4)
+-- whether there was a row
+all_seen : (rows : Rows) (c : Config) (zone : Zone) (lines : List ReportLine)
+    → (after_all (rows_at c zone) rows lines).has_rows ≡ (rows.has_rows || list_any has_row lines)
+all_seen rows c zone [] = sym (or_nothing rows.has_rows)
+all_seen rows c zone (line ∷ lines) =
+    all_seen (record rows { has_rows = rows.has_rows || has_row line }) c zone lines ∙ or_more rows.has_rows (has_row line) (list_any has_row lines)
 
-  -- and so is a fault
-  pub fails_who : (text_can_fail : Bool) (fault : CommandFault) → tells.FailsOf form_at rows text_can_fail false objects feed zone fault old new → FailsOf s text_can_fail objects zone fault old new
-  fails_who text_can_fail (Objects fault) h = h
-  fails_who text_can_fail Unreadable h = h
-  fails_who text_can_fail Output h = tells_front h
-  fails_who text_can_fail NoMemory (inl h) = inl h
-  fails_who text_can_fail NoMemory (inr h) = inr (tells_front h)
+report_told : (rows : Rows) (c : Config) (zone : Zone) (given : List Answer) → rows.has_rows ≡ false
+    → told_report (rows_at c zone) rows (report_lines c zone given) ≡ table_text c zone given
+report_told rows c zone given none =
+    let lines = report_lines c zone given in
+    ap (λ (text : List ℕ). text ++ nobody_text (after_all (rows_at c zone) rows lines).has_rows) (all_told rows c zone lines)
+    ∙ ap (λ (b : Bool). flat_map (row_text c zone) lines ++ nobody_text b) (all_seen rows c zone lines ∙ ap (λ (b : Bool). b || list_any has_row lines) none)
 
--- ---- of an input whose bytes may be known
+module _ (s : Supposed) (rows : Rows) (feed : List ℕ) (is : feed ≡ supposed_feed s) (c : Config) (zone : Zone) (none : rows.has_rows ≡ false) (old new : Option (List ℕ)) where
+  pub tells_table : (ending : Ending) → tells.TellsFor rows_at rows false c feed zone ending old new → TellsTable s c zone ending old new
+  tells_table ending h =
+      (h.0, subst (λ bytes. AreOfFeed false c bytes h.0) is h.1, h.2, subst (λ text. Writes old new text) (report_told rows c zone h.0 none) h.3)
 
-pub some_shown : {X : Type 0} (known : Option X) (P Q : X → Type 0) → ((x : X) → P x → Q x) → IfSome known P → IfSome known Q
-some_shown None P Q f h = tt
-some_shown (Some x) P Q f h = f x h
+  pub tells_table_front : tells.TellsFrontFor rows_at rows false c feed zone old new → TellsTableFront s c zone old new
+  tells_table_front h = (h.0, subst (λ bytes. AreOfFeed false c bytes h.0) is h.1, subst (λ text. WritesFront old new text) (report_told rows c zone h.0 none) h.2)
 
-pub ok_shown : (r : Result Ending CommandFault) (P Q : Ending → Type 0) → ((ending : Ending) → P ending → Q ending) → IfOk r P → IfOk r Q
-ok_shown (Ok ending) P Q f h = f ending h
-ok_shown (Err fault) P Q f h = tt
+-- ---- the teller of who is missing
 
-pub err_shown : (r : Result Ending CommandFault) (P Q : CommandFault → Type 0) → ((fault : CommandFault) → P fault → Q fault) → IfErr r P → IfErr r Q
-err_shown (Ok ending) P Q f h = tt
-err_shown (Err fault) P Q f h = f fault h
+abbrev pub missed_at : Config → Zone → Form Missed
+missed_at c zone =
+    form_of (λ m config z line. []) (λ m config z line. record m { lines = m.lines ++ line ∷ [] })
+    (λ m config z. missed_text config z m.host.now (option_copied m.service) m.until m.lines) c zone
+
+nothing_told : (m : Missed) (c : Config) (zone : Zone) (lines : List ReportLine) → told_all (missed_at c zone) m lines ≡ []
+nothing_told m c zone [] = refl
+nothing_told m c zone (line ∷ lines) = nothing_told (record m { lines = m.lines ++ line ∷ [] }) c zone lines
+
+all_kept : (m : Missed) (c : Config) (zone : Zone) (lines : List ReportLine) → after_all (missed_at c zone) m lines ≡ record m { lines = m.lines ++ lines }
+all_kept m c zone [] = ap (λ (xs : List ReportLine). record m { lines = xs }) (sym (append-nil m.lines))
+all_kept m c zone (line ∷ lines) =
+    all_kept (record m { lines = m.lines ++ line ∷ [] }) c zone lines ∙ ap (λ (xs : List ReportLine). record m { lines = xs }) (append_assoc m.lines (line ∷ []) lines)
+
+missed_told : (m : Missed) (c : Config) (zone : Zone) (lines : List ReportLine) → m.lines ≡ []
+    → told_report (missed_at c zone) m lines ≡ missed_text c zone m.host.now (option_copied m.service) m.until lines
+missed_told m c zone lines none =
+    ap (λ (text : List ℕ). text ++ (missed_at c zone).ended (after_all (missed_at c zone) m lines)) (nothing_told m c zone lines)
+    ∙ ap (λ (x : Missed). (missed_at c zone).ended x) (all_kept m c zone lines)
+    ∙ ap (λ (xs : List ReportLine). missed_text c zone m.host.now (option_copied m.service) m.until (xs ++ lines)) none
+
+-- equal parts
+pub same_missing : (c : Config) (zone : Zone) (host host' : List ℕ) (service service' : Option (List ℕ)) (until until' : ℕ) → host ≡ host' → service ≡ service' → until ≡ until' → (lines : List ReportLine)
+    → missed_text c zone host service until lines ≡ missed_text c zone host' service' until' lines
+same_missing c zone host host' service service' until until' e f h lines =
+    ap (λ (x : List ℕ). missed_text c zone x service until lines) e ∙ ap (λ (x : Option (List ℕ)). missed_text c zone host' x until lines) f
+    ∙ ap (λ (x : ℕ). missed_text c zone host' service' x lines) h
+
+module _ (s : Supposed) (m : Missed) (feed : List ℕ) (is : feed ≡ week_feed s) (c : Config) (zone : Zone) (none : m.lines ≡ [])
+    (same : (lines : List ReportLine) → missed_text c zone m.host.now (option_copied m.service) m.until lines ≡ missed_text c zone s.host.now (option_copied s.service) (s.moment + 60 * s.minutes) lines)
+    (old new : Option (List ℕ)) where
+  pub tells_missing : (ending : Ending) → tells.TellsFor missed_at m false c feed zone ending old new → TellsMissing s c zone old new
+  tells_missing ending h = (
+    h.0,
+    subst (λ bytes. AreOfFeed false c bytes h.0) is h.1,
+    subst (λ text. Writes old new text) (missed_told m c zone (report_lines c zone h.0) none ∙ same (report_lines c zone h.0)) h.3,
+  )
+
+  pub tells_missing_front : tells.TellsFrontFor missed_at m false c feed zone old new → TellsMissingFront s c zone old new
+  tells_missing_front h = (
+    h.0,
+    subst (λ bytes. AreOfFeed false c bytes h.0) is h.1,
+    subst (λ text. WritesFront old new text) (missed_told m c zone (report_lines c zone h.0) none ∙ same (report_lines c zone h.0)) h.2,
+  )
+
+-- ---- the one and then the other
+
+module _ (s : Supposed) (c : Config) (zone : Zone) where
+  pub both_told : (ending : Ending) (old mid new : Option (List ℕ)) → TellsTable s c zone ending old mid → TellsMissing s c zone mid new → TellsBoth s c zone ending old new
+  both_told ending old mid new h k = (h.0, k.0, h.1, k.1, h.2, appends_more old mid new (table_text c zone h.0) (missing_text c zone s k.0) h.3 k.2)
+
+  pub table_cut : (old new : Option (List ℕ)) → TellsTableFront s c zone old new → TellsBothFront s c zone old new
+  table_cut old new h =
+      let later = answers c.objects 0 0 (pieces (week_feed s)) in
+      (h.0, later, h.1, inl refl, front_longer old new (table_text c zone h.0) (missing_text c zone s later) h.2)
+
+  pub missing_cut : (ending : Ending) (old mid new : Option (List ℕ)) → TellsTable s c zone ending old mid → TellsMissingFront s c zone mid new → TellsBothFront s c zone old new
+  missing_cut ending old mid new h k =
+      (h.0, k.0, h.1, k.1, front_next old mid new (table_text c zone h.0) (missing_text c zone s k.0) (table_text c zone h.0, h.3, append-nil (table_text c zone h.0)) k.2)
+
+-- ---- where all names are known
+
+module _ (s : Supposed) (objects : List ℕ) (c : Config) (zone : Zone) (can_fail text_can_fail : Bool) (old new : Option (List ℕ)) (of : IsTextOf c objects) where
+  pub known_failed : (fault : WhoFault) → FailsFor can_fail s c zone fault old new → FailsOf s text_can_fail objects zone fault old new
+  known_failed (fault.Unknown unknown) h = (c, of, h.0, h.1)
+  known_failed (fault.Command (command.Objects fault)) h = absurd h.0
+  known_failed (fault.Command command.Unreadable) h = absurd h.0
+  known_failed (fault.Command command.Output) h = (c, of, h.1)
+  known_failed (fault.Command command.NoMemory) h = inr (c, of, h.1)

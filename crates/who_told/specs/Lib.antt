@@ -1,2 +1,4 @@
 pub mod Names
+pub mod Unknown
+pub mod Fault
 pub mod Who

@@ -1,7 +1,7 @@
 //! The teller that writes a row for each notice.
 
-ghost use Rattle.std.specs.Prelude.{◌≡◌, ◌++◌, OnOk};
-ghost use Rattle.who_told.specs.Who.{notice_row, row_text, when_text, whom_text};
+ghost use Rattle.std.specs.Prelude.{◌≡◌, ◌++◌, false, OnOk};
+ghost use Rattle.who_told.specs.Who.{has_row, notice_row, row_text, when_text, whom_text};
 
 use due_model::config::Config;
 use due_model::notice::Notice;
@@ -13,19 +13,31 @@ use report_telling::Teller;
 use std::alloc::AllocError;
 use zone_times::clock::ZoneClock;
 
-/// Writes a row for each notice, and what is refused of the feed.
+/// Writes a row for each notice, and what is refused of the feed; that nobody is told, where there is no row.
 #[derive(Clone, Copy, Drop)]
-pub struct Rows;
+pub struct Rows {
+    /// Whether there was a row.
+    has_rows: bool,
+}
+
+impl Rows {
+    /// One that was told no line yet.
+    pub(crate) fn new() -> Rows
+        ensures { result.has_rows ≡ false }
+    {
+        Rows { has_rows: false }
+    }
+}
 
 impl Teller for Rows {
-    ghost use Rattle.std.specs.Prelude.{[]};
-    ghost use Rattle.who_told.specs.Who.{row_text};
+    ghost use Rattle.std.specs.Prelude.{◌||◌};
+    ghost use Rattle.who_told.specs.Who.{has_row, nobody_text, row_text};
 
     ghost told = { λ _ config zone line. row_text config zone line };
 
-    ghost after = { λ rows _ _ _. rows };
+    ghost after = { λ rows _ _ line. record rows { has_rows = rows.has_rows || has_row line } };
 
-    ghost ended = { λ _ _ _. [] };
+    ghost ended = { λ rows _ _. nobody_text rows.has_rows };
 
     fn tell(
         &mut self,
@@ -34,6 +46,7 @@ impl Teller for Rows {
         line: &ReportLine,
         text: &mut Vec<u8>,
     ) -> Result<(), AllocError> {
+        self.has_rows = self.has_rows || has_row(line);
         push_row(text, config, clock, line)
     }
 
@@ -41,10 +54,20 @@ impl Teller for Rows {
         &mut self,
         _config: &Config,
         _clock: &ZoneClock<'_>,
-        _text: &mut Vec<u8>,
+        text: &mut Vec<u8>,
     ) -> Result<(), AllocError> {
-        Ok(())
+        if self.has_rows {
+            return Ok(());
+        }
+        text.extend_from_slice(b"nobody is told\n")
     }
+}
+
+/// Whether a line of the report has a row.
+fn has_row(line: &ReportLine) -> bool
+    ensures { result ≡ has_row line.now }
+{
+    !matches!(line, ReportLine::Decided(Entry::Withheld(_)))
 }
 
 /// Adds what is written of a line of the report.

@@ -35,7 +35,10 @@ returns c =
     let who_is = c.in_ok-who_command.ensures.words in
     let run_added = c.in_ok-subcommand-3.ensures.shape (third_is_false _ _ _ _ (ap (λ (a : App). a.top.is_plain) run_is))
     ∙ ap₂ with_subcommand trace_added (ap (λ (a : App). a.top) run_is) in
+    let diff_is = c.in_ok-diff_command.ensures.words in
+    let who_added = c.in_ok-subcommand-4.ensures.shape (third_is_false _ _ _ _ (ap (λ (a : App). a.top.is_plain) who_is))
+    ∙ ap₂ with_subcommand run_added (ap (λ (a : App). a.top) who_is) in
     record {
-      words = IfOk-weaker c.subcommand-4.result _ _ (λ r h. h.shape (third_is_false _ _ _ _ (ap (λ (a : App). a.top.is_plain) who_is))
-          ∙ ap₂ with_subcommand run_added (ap (λ (a : App). a.top) who_is)) c.subcommand-4.ensures;
+      words = IfOk-weaker c.subcommand-5.result _ _ (λ r h. h.shape (third_is_false _ _ _ _ (ap (λ (a : App). a.top.is_plain) diff_is))
+          ∙ ap₂ with_subcommand who_added (ap (λ (a : App). a.top) diff_is)) c.subcommand-5.ensures;
     }

@@ -1,6 +1,6 @@
 use Rattle.std.proofs.Common.{List, Some, codes, ap, sym, ℕ, ◌∙◌}
 use Rattle.clap.specs.Matches.{found_of}
-use Rattle.command_line.specs.Words.{RunLacks, TraceLacks, WhoLacks}
+use Rattle.command_line.specs.Words.{DiffLacks, RunLacks, TraceLacks, WhoLacks}
 use Rattle.command_line.proofs.RequestLemmas.{is-asked, none-asked, some-asked}
 use Rattle.command_line.proofs.words.request_of.Goals as goal
 
@@ -45,3 +45,15 @@ returns-in-Some-who-default-clause-who c =
     let met = c.in-Some-who-default in
     none-asked c.args.matches.now (found_of met.options.now) (codes "who") c.who_request.result WhoLacks (ap (λ (n : List ℕ). Some n) (sym met.is-who) ∙ met.ensures.name) met.ensures.rows
     c.who_request.ensures.lacking
+
+pub returns-in-Some-diff-default-clause-asked : goal.returns-in-Some-diff-default-clause-asked
+returns-in-Some-diff-default-clause-asked c =
+    let met = c.in-Some-diff-default in
+    some-asked c.args.matches.now (found_of met.options.now) (codes "diff") c.diff_request.result (ap (λ (n : List ℕ). Some n) (sym met.is-diff) ∙ met.ensures.name) met.ensures.rows
+    c.diff_request.ensures.named c.diff_request.ensures.options
+
+pub returns-in-Some-diff-default-clause-diff : goal.returns-in-Some-diff-default-clause-diff
+returns-in-Some-diff-default-clause-diff c =
+    let met = c.in-Some-diff-default in
+    none-asked c.args.matches.now (found_of met.options.now) (codes "diff") c.diff_request.result DiffLacks (ap (λ (n : List ℕ). Some n) (sym met.is-diff) ∙ met.ensures.name) met.ensures.rows
+    c.diff_request.ensures.lacking

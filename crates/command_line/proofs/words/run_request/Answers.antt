@@ -16,7 +16,7 @@ returns-clause-options c =
     let options = found_of c.args.options.now in
     let objects : Some c.in_ok-objects.objects.now ≡ first_value options (codes "objects") = search rules in
     let deciders = subst (HoldsNumber options (codes "deciders")) (sym c.in_ok-settings_of.ensures.deciders) c.in_ok-deciders.ensures.held in
-    (objects, deciders, c.in_ok-settings_of.ensures.held, c.zone_words.ensures, c.in_ok-times.ensures.held, record { left_out = c.get_flag.ensures.none; on = c.get_flag.ensures.value; off = c.get_flag.ensures.other }, c.ahead_of.ensures, c.feed_words.ensures, c.get_strs.ensures)
+    (objects, deciders, c.in_ok-settings_of.ensures.held, c.zone_words.ensures, c.in_ok-times.ensures.held, record { left_out = c.get_flag.ensures.none; on = c.get_flag.ensures.value; off = c.get_flag.ensures.other }, c.ahead_of.ensures, c.log_words.ensures, c.feed_words.ensures, c.get_strs.ensures)
 
 -- no number of deciders is held that settings can have
 pub returns-in_err-deciders-clause-lacking : goal.returns-in_err-deciders-clause-lacking

@@ -1,0 +1,125 @@
+//! The lines of notices that one of two configurations alone gives.
+
+ghost use Rattle.std.specs.Prelude.{◌≡◌, ◌∷◌, ◌++◌, drop, OnOk};
+ghost use Rattle.changed_notices.specs.Changed.{changed_line, changed_lines, changes_of};
+
+use crate::left::left_of;
+use due_model::config::Config;
+use due_model::notice::Notice;
+use line_forms::{ReportLine, push_json, push_plain};
+use messages::entries::Entry;
+use std::alloc::{AllocError, Global};
+use zone_times::clock::ZoneClock;
+
+/// How lines of changes are written.
+#[derive(Clone, Copy, Debug, PartialEq, Eq)]
+pub enum ChangeForm {
+    /// As `replay` writes a notice.
+    Plain,
+    /// As an object of JSON.
+    Json,
+}
+
+/// How lines of changes are written, and where they are made.
+#[derive(Clone, Copy)]
+pub struct Form {
+    pub alloc: Global,
+    pub form: ChangeForm,
+}
+
+/// What stands in a line after so many bytes.
+fn after(line: &[u8], count: usize) -> &[u8]
+    ensures { result.now ≡ drop count line.now }
+{
+    line.get(count..).unwrap_or(&[])
+}
+
+/// Adds what stands before a letter, a sign in its place, and what follows.
+fn push_signed(text: &mut Vec<u8>, front: &[u8], sign: u8, rest: &[u8]) -> Result<(), AllocError>
+    ensures { OnOk result (text.new.items ≡ text.old.items ++ front.now ++ sign ∷ rest.now) }
+{
+    text.extend_from_slice(front)?;
+    text.push(sign)?;
+    text.extend_from_slice(rest)
+}
+
+/// Adds a notice's line of a report, with a sign in place of its letter.
+fn push_changed(
+    form: Form,
+    text: &mut Vec<u8>,
+    sign: u8,
+    config: &Config,
+    clock: &ZoneClock<'_>,
+    notice: &Notice,
+) -> Result<(), AllocError>
+    ensures { OnOk result (text.new.items
+        ≡ text.old.items ++ changed_line form.form sign config.now clock.now notice.now) }
+{
+    let mut line = Vec::new(form.alloc);
+    let told = ReportLine::Decided(Entry::Sent(*notice));
+    match form.form {
+        ChangeForm::Plain => {
+            push_plain(&mut line, config, &told)?;
+            push_signed(text, b"", sign, after(&line, 1))
+        }
+        ChangeForm::Json => {
+            push_json(form.alloc, &mut line, config, clock, &told)?;
+            push_signed(text, b"{\"letter\":\"", sign, after(&line, 12))
+        }
+    }
+}
+
+/// Adds the lines of notices.
+fn push_lines(
+    form: Form,
+    text: &mut Vec<u8>,
+    sign: u8,
+    config: &Config,
+    clock: &ZoneClock<'_>,
+    notices: &[Notice],
+) -> Result<(), AllocError>
+    ensures { OnOk result (text.new.items
+        ≡ text.old.items ++ changed_lines form.form sign config.now clock.now notices.now) }
+{
+    for notice in notices {
+        push_changed(form, text, sign, config, clock, notice)?;
+    }
+    Ok(())
+}
+
+/// What two configurations give of a line of the feed.
+#[derive(Clone, Copy)]
+pub struct Given<'a> {
+    /// The first.
+    pub a: &'a Config,
+    /// The second.
+    pub b: &'a Config,
+    /// The notices by the first.
+    pub before: &'a [Notice],
+    /// Those by the second.
+    pub after: &'a [Notice],
+}
+
+/// Adds the lines of the notices that one of two configurations alone gives: after a minus those of the first, after a plus those
+/// of the second. A refused growth is the only error.
+pub fn push_changes(
+    form: Form,
+    text: &mut Vec<u8>,
+    clock: &ZoneClock<'_>,
+    given: Given<'_>,
+) -> Result<(), AllocError>
+    ensures { OnOk result (text.new.items ≡ text.old.items
+        ++ changes_of form.form given.entry.a.now given.entry.b.now clock.now
+        given.entry.before.now given.entry.after.now) }
+{
+    let Given {
+        a,
+        b,
+        before,
+        after,
+    } = given;
+    let lost = left_of(form.alloc, b, a, after, before)?;
+    push_lines(form, text, b'-', a, clock, lost.as_slice())?;
+    let gained = left_of(form.alloc, a, b, before, after)?;
+    push_lines(form, text, b'+', b, clock, gained.as_slice())
+}

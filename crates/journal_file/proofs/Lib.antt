@@ -1,0 +1,2 @@
+pub mod KillLaws
+pub mod WroteLaws

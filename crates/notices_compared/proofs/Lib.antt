@@ -1,0 +1,3 @@
+pub mod SideLaws
+pub mod StreamLaws
+pub mod CompareLaws

@@ -1,0 +1,168 @@
+//! Two configurations side by side: what each line of a feed changes.
+
+ghost use Rattle.std.specs.Prelude.{◌≡◌, ◌++◌, ◌||◌, ℕ, List, [], false, IfErr, IfOk, OnOk};
+ghost use Rattle.std.specs.Prelude.{if◌then◌else◌};
+ghost use Rattle.command_output.specs.declared.outcome.CommandFault.TheVariants.{NoMemory};
+ghost use Rattle.command_output.specs.declared.outcome.Ending.TheVariants.{Short, Whole};
+ghost use Rattle.due_model.specs.declared.event.Event.{Event};
+ghost use Rattle.due_model.specs.Accepted.{IsAccepted};
+ghost use Rattle.due_model.specs.Proper.{IsProper};
+ghost use Rattle.decider.specs.Fits.{Fits, core_kept};
+ghost use Rattle.changed_notices.specs.Changed.{changes_of};
+ghost use Rattle.notices_compared.specs.Sides.{given_notices, past_on};
+ghost use Rattle.paired_feed.specs.Paired.{is_cut};
+ghost use Rattle.notices_compared.specs.Past.{is_ended};
+
+use crate::side::Side;
+use crate::table::{ToldBy, push_table};
+use crate::tally::Tallies;
+use changed_notices::{ChangeForm, Form, Given, push_changes};
+use command_output::{CommandFault, Ending};
+use due_model::config::Config;
+use due_model::event::Event;
+use due_model::zone::Zone;
+use event_feed::FeedFault;
+use paired_feed::PairedLine;
+use std::alloc::{AllocError, Global};
+use text_lines::Stop;
+use zone_times::clock::ZoneClock;
+
+/// Two deciders side by side, and what their contacts were told.
+#[derive(Drop)]
+pub(crate) struct Comparison<'a> {
+    pub(crate) form: Form,
+    pub(crate) before: Side<'a>,
+    pub(crate) after: Side<'a>,
+    pub(crate) clock: ZoneClock<'a>,
+    told_before: Tallies,
+    told_after: Tallies,
+}
+
+impl<'a> Comparison<'a> {
+    /// Nothing of a feed was taken yet. A refused growth is the only error.
+    pub(crate) fn new(
+        alloc: Global,
+        before: &'a Config,
+        after: &'a Config,
+        zone: &'a Zone,
+        form: ChangeForm,
+    ) -> Result<Comparison<'a>, AllocError>
+        requires before { IsAccepted before.now }
+        requires after { IsAccepted after.now }
+        ensures form { IfOk result (λ both. both.form.form ≡ form) }
+        ensures before { IfOk result (λ both. both.before.config.now ≡ before.now) }
+        ensures after { IfOk result (λ both. both.after.config.now ≡ after.now) }
+        ensures zones { IfOk result (λ both. (both.clock ≡ zone.now)
+            × (both.before.zone.now ≡ zone.now) × (both.after.zone.now ≡ zone.now)) }
+        ensures fits_before { IfOk result (λ both. Fits (core_kept both.before.decider) []) }
+        ensures fits_after { IfOk result (λ both. Fits (core_kept both.after.decider) []) }
+        ensures ended { IfOk result (λ both.
+            (both.before.ended ≡ false) × (both.after.ended ≡ false)) }
+    {
+        Ok(Comparison {
+            form: Form { alloc, form },
+            before: Side::new(alloc, before, zone)?,
+            after: Side::new(alloc, after, zone)?,
+            clock: ZoneClock::new(zone),
+            told_before: Tallies::new(alloc, before)?,
+            told_after: Tallies::new(alloc, after)?,
+        })
+    }
+
+    /// Takes what a line of the feed gives by each configuration, and adds what that changes to a text. After `Err`, which is want
+    /// of memory, it isn't to be used.
+    pub(crate) fn take(&mut self, pair: PairedLine, text: &mut Vec<u8>) -> Result<(), CommandFault>
+        requires first { IfOk pair.first (IsProper self.old.before.config.now) }
+        requires second { IfOk pair.second (IsProper self.old.after.config.now) }
+        requires fits_before { (past : List Event) × Fits (core_kept self.old.before.decider) past }
+        requires fits_after { (past : List Event) × Fits (core_kept self.old.after.decider) past }
+        ensures form { self.new.form ≡ self.old.form }
+        ensures configs { (self.new.before.config.now ≡ self.old.before.config.now)
+            × (self.new.after.config.now ≡ self.old.after.config.now) }
+        ensures zones { (self.new.clock ≡ self.old.clock)
+            × (self.new.before.zone.now ≡ self.old.before.zone.now)
+            × (self.new.after.zone.now ≡ self.old.after.zone.now) }
+        ensures fits_before { OnOk result ((past : List Event)
+            → Fits (core_kept self.old.before.decider) past
+            → Fits (core_kept self.new.before.decider) (past_on past pair.first)) }
+        ensures fits_after { OnOk result ((past : List Event)
+            → Fits (core_kept self.old.after.decider) past
+            → Fits (core_kept self.new.after.decider) (past_on past pair.second)) }
+        ensures ended_before { OnOk result ((past : List Event)
+            → Fits (core_kept self.old.before.decider) past
+            → self.new.before.ended ≡ (self.old.before.ended || is_ended past pair.first)) }
+        ensures ended_after { OnOk result ((past : List Event)
+            → Fits (core_kept self.old.after.decider) past
+            → self.new.after.ended ≡ (self.old.after.ended || is_ended past pair.second)) }
+        ensures text { OnOk result ((past past' : List Event)
+            → Fits (core_kept self.old.before.decider) past
+            → Fits (core_kept self.old.after.decider) past'
+            → text.new.items ≡ text.old.items ++ changes_of self.old.form.form
+            self.old.before.config.now self.old.after.config.now self.old.clock
+            (given_notices self.old.before.config.now self.old.before.zone.now past pair.first)
+            (given_notices self.old.after.config.now self.old.after.zone.now past' pair.second)) }
+        ensures fault { IfErr result (λ fault. fault ≡ NoMemory) }
+    {
+        move_clock(&mut self.clock, self.before.config, pair.first);
+        self.before.take(pair.first)?;
+        self.after.take(pair.second)?;
+        self.told_before
+            .count(&self.clock, pair.first, self.before.notices.as_slice())?;
+        self.told_after
+            .count(&self.clock, pair.second, self.after.notices.as_slice())?;
+        let given = Given {
+            a: self.before.config,
+            b: self.after.config,
+            before: self.before.notices.as_slice(),
+            after: self.after.notices.as_slice(),
+        };
+        push_changes(self.form, text, &self.clock, given)?;
+        Ok(())
+    }
+
+    /// How the reading ended, where the feed did for this reason.
+    pub(crate) fn ending(&self, stop: Option<Stop>) -> Ending
+        ensures { result ≡ (if (self.now.before.ended || self.now.after.ended) || is_cut stop
+            then Short else Whole) }
+    {
+        if self.before.ended || self.after.ended || is_cut(stop) {
+            Ending::Short
+        } else {
+            Ending::Whole
+        }
+    }
+
+    /// Adds the table of the contacts. A refused growth is the only error.
+    pub(crate) fn push_table(&self, text: &mut Vec<u8>) -> Result<(), AllocError>
+        ensures { OnOk result ((table : List ℕ) × (text.new.items ≡ text.old.items ++ table)) }
+    {
+        let before = ToldBy {
+            config: self.before.config,
+            tallies: &self.told_before,
+        };
+        let after = ToldBy {
+            config: self.after.config,
+            tallies: &self.told_after,
+        };
+        let mut table = Vec::new(self.form.alloc);
+        push_table(self.form.form, &mut table, before, after)?;
+        text.extend_from_slice(table.as_slice())
+    }
+}
+
+/// Tells a clock the moment of an event, if there is one.
+fn move_clock(clock: &mut ZoneClock<'_>, _config: &Config, given: Result<Event, FeedFault>)
+    requires { IfOk given (IsProper _config.now) }
+    ensures { clock.new ≡ clock.old }
+{
+    if let Ok(event) = given {
+        clock.move_to(event.moment);
+    }
+}
+
+/// Whether a feed ended before its input.
+fn is_cut(stop: Option<Stop>) -> bool
+    ensures { result ≡ is_cut stop }
+{
+    !matches!(stop, Some(Stop::InputEnded))
+}

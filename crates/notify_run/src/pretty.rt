@@ -1,0 +1,53 @@
+//! A report for people, on standard output.
+
+use command_output::{AnyWriter, CommandFault, Ending};
+use due_model::zone::Zone;
+use line_forms::Picks;
+use progress::Watcher;
+use report_pretty::{pretty_files, pretty_in};
+use std::env::{self, VarError};
+use std::fs::File;
+use std::io::IsTerminal;
+use text_lines::AnyReader;
+
+/// Whether standard output takes colours: it is a terminal, and the variable NO_COLOR isn't set, or is empty.
+fn has_colours(rt: &HostRuntime) -> bool {
+    if !rt.stdout().is_terminal() {
+        return false;
+    }
+    match env::var(rt, "NO_COLOR") {
+        Err(VarError::NotPresent) => true,
+        Ok(value) => value.is_empty(),
+        Err(_) => false,
+    }
+}
+
+/// Writes the lines that are wanted for people, where somebody watches.
+pub(crate) fn pretty_through<P: Watcher>(
+    rt: &HostRuntime,
+    zone: &Zone,
+    objects: Option<&str>,
+    picks: Picks<'_>,
+    watcher: &mut P,
+) -> Result<Ending, CommandFault> {
+    let (alloc, coloured) = (rt.alloc(), has_colours(rt));
+    let input = AnyReader::new(rt.stdin());
+    let mut writer = AnyWriter::new(rt.stdout());
+    let Some(path) = objects else {
+        return pretty_in(alloc, zone, input, picks, coloured, &mut writer, watcher);
+    };
+    let Ok(file) = File::open(rt, path) else {
+        return Err(CommandFault::Unreadable);
+    };
+    let objects = AnyReader::new(file);
+    pretty_files(
+        alloc,
+        zone,
+        objects,
+        input,
+        picks,
+        coloured,
+        &mut writer,
+        watcher,
+    )
+}

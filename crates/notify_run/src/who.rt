@@ -1,0 +1,94 @@
+//! The command `who`: what it supposes, and how it ends.
+
+ghost use Rattle.std.specs.Prelude.{◌≡◌, ◌≤◌, IfSome};
+ghost use Rattle.std.specs.Process.{exit_status};
+ghost use Rattle.due_model.specs.Limits.{last_moment};
+ghost use Rattle.notify_run.specs.Times.{IsBadLength, IsBadTime};
+ghost use Rattle.who_told.specs.Fault.{who_status};
+
+use crate::{status_of, status_of_words};
+use command_line::WhoWords;
+use command_output::{AnyWriter, CommandFault, Ending};
+use due_model::limits::LAST_MOMENT;
+use due_model::zone::Zone;
+use given_times::{minutes_given, moment_given};
+use made_feed::Supposed;
+use std::fs::File;
+use std::process::ExitCode;
+use std::time::{Clock, SystemTime, UNIX_EPOCH};
+use text_lines::AnyReader;
+use who_told::{WhoFault, object_parts, who};
+
+/// The moment of a clock, in seconds since the epoch.
+fn moment_of<T: Clock>(clock: &T) -> Option<u64>
+    ensures { IfSome result (λ moment. moment ≤ last_moment) }
+{
+    let now = SystemTime::now(clock).ok()?;
+    let since = now.duration_since(UNIX_EPOCH).ok()?;
+    Some(since.as_secs().min(LAST_MOMENT))
+}
+
+/// Says on standard error what it failed with, if it did, and gives its exit status.
+fn status_of_told<R: Eprint>(rt: &R, outcome: Result<Ending, WhoFault<'_>>) -> ExitCode
+    ensures { exit_status result ≡ who_status outcome.entry }
+{
+    match outcome {
+        Ok(ending) => status_of(rt, Ok(ending)),
+        Err(fault) => {
+            let _ = rt.eprintln(format_args!("{fault}"));
+            ExitCode::from(fault.status())
+        }
+    }
+}
+
+/// Writes who would be told of what is asked, from the moment on, for so many minutes.
+fn do_who<'a>(
+    rt: &HostRuntime,
+    zone: &Zone,
+    objects: &str,
+    asked: WhoWords<'a, 'a>,
+    moment: u64,
+    minutes: u16,
+) -> Result<Ending, WhoFault<'a>>
+    requires { moment ≤ last_moment }
+{
+    let Ok(file) = File::open(rt, objects) else {
+        return Err(WhoFault::Command(CommandFault::Unreadable));
+    };
+    let (host, service) = object_parts(asked.object);
+    let supposed = Supposed {
+        down: asked.down.unwrap_or(&[]),
+        host,
+        service,
+        state: asked.state,
+        moment,
+        minutes: u32::from(minutes),
+    };
+    let objects = AnyReader::new(file);
+    let mut writer = AnyWriter::new(rt.stdout());
+    who(rt.alloc(), zone, objects, &supposed, &mut writer)
+}
+
+/// Writes who would be told of what is asked, and gives the exit status. Its times are looked at before anything else.
+pub(crate) fn status_of_who<T: Clock>(
+    rt: &HostRuntime,
+    clock: &T,
+    zone: &Zone,
+    objects: &str,
+    asked: WhoWords<'_, '_>,
+) -> ExitCode
+    ensures time { IsBadTime zone.now asked.entry → exit_status result ≡ 2 }
+    ensures length { IsBadLength asked.entry → exit_status result ≡ 2 }
+{
+    let begin = match asked.at {
+        Some(text) => moment_given(zone, text),
+        None => moment_of(clock),
+    };
+    let Some(moment) = begin else {
+        return status_of_words(rt, "bad time");
+    };
+    match minutes_given(asked.lasting) {
+        Some(minutes) => { status_of_told(rt, do_who(rt, zone, objects, asked, moment, minutes)) }
+        None => status_of_words(rt, "bad length"),
+    }
+}

@@ -1,0 +1,2 @@
+pub mod TextFaults
+pub mod PairLaws

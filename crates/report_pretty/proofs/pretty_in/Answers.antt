@@ -1,0 +1,28 @@
+use Rattle.std.proofs.Common.{inl}
+use Rattle.std.proofs.lemmas.Result.{IfErr-weaker, IfOk-weaker, err_from_is_err_and}
+use Rattle.written.specs.WrittenLaws.{keeps_same}
+use Rattle.command_input.specs.InputLaws.{some_all}
+use Rattle.command_input.specs.Objects.{feed_in, objects_in}
+use Rattle.report_pretty.proofs.PrettyLaws.{fails, is_pretty, some_shown}
+use Rattle.report_pretty.proofs.pretty_in.Goals as goal
+
+pub returns-in_err-pretty-clause-fault : goal.returns-in_err-pretty-clause-fault
+returns-in_err-pretty-clause-fault g c =
+    let p = err_from_is_err_and c.from_residual.result c.from_residual.ensures.1 in
+    rw (p.1, p.2) (some_all (g.R.Read.remaining c.args.reader) _ (λ bytes. inl (keeps_same (g.W.Write.contents c.args.writer.now))))
+
+pub returns-clause-report : goal.returns-clause-report
+returns-clause-report g c =
+    let n = c.in_ok-pretty.ensures in
+    some_shown (g.R.Read.remaining c.args.reader) _ _
+    (λ bytes h. IfOk-weaker c.tell_in.result _ _
+    (λ ending told. is_pretty c.in_ok-pretty.pretty c.args.picks c.args.coloured n.picks n.coloured n.widths n.runs g.R.Input.can_fail (objects_in bytes) (feed_in bytes) c.args.zone.now ending _ _ told) h)
+    c.tell_in.ensures.report
+
+pub returns-clause-fault : goal.returns-clause-fault
+returns-clause-fault g c =
+    let n = c.in_ok-pretty.ensures in
+    some_shown (g.R.Read.remaining c.args.reader) _ _
+    (λ bytes h. IfErr-weaker c.tell_in.result _ _
+    (λ fault told. fails c.in_ok-pretty.pretty c.args.picks c.args.coloured n.picks n.coloured n.widths n.runs g.R.Input.can_fail g.R.Input.can_fail (objects_in bytes) (feed_in bytes) c.args.zone.now fault _ _ told) h)
+    c.tell_in.ensures.fault

@@ -1,0 +1,2 @@
+pub mod Pretty
+pub mod Teller

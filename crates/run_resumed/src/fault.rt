@@ -1,0 +1,190 @@
+//! What a run that goes on is given up for.
+
+ghost use Rattle.std.specs.Prelude.{◌≡◌, IfOk};
+ghost use Rattle.run_resumed.specs.Fault.{resume_status};
+
+use channel_words::ChannelFault;
+use command_output::{CommandFault, exit_status};
+use due_model::config::Config;
+use due_model::notice::Notice;
+use earlier_runs::Change;
+use journal_folder::{Folder, FolderFault, journal_path};
+use journal_text::entry::Entry;
+use journal_text::journal::JournalFault;
+use journal_text::writing::line_of;
+use notice_text::texts::lane_name;
+use run_devices::RunFault;
+use std::alloc::{AllocError, AllocFailed, Global};
+use std::io::Eprint;
+
+/// Why a run that goes on was given up: as any run, or for its journals, which was said on standard error.
+#[derive(Clone, Copy, Debug)]
+pub enum ResumeFault<'a> {
+    Run(RunFault<'a>),
+    State,
+}
+
+impl ResumeFault<'_> {
+    /// The exit status: that of a run, or 1.
+    pub fn status(self) -> u8
+        ensures { result ≡ resume_status self.entry }
+    {
+        match self {
+            ResumeFault::Run(RunFault::Command(fault)) => exit_status(Err(fault)),
+            ResumeFault::Run(RunFault::Channel(fault)) => fault.status(),
+            ResumeFault::State => 1,
+        }
+    }
+}
+
+impl<'a> From<RunFault<'a>> for ResumeFault<'a> {
+    ghost use Rattle.run_resumed.specs.declared.fault.ResumeFault.TheVariants.{Run};
+
+    ghost from_gives = { λ fault given. given ≡ Run fault };
+
+    fn from(fault: RunFault<'a>) -> ResumeFault<'a> {
+        ResumeFault::Run(fault)
+    }
+}
+
+impl<'a> From<ChannelFault<'a>> for ResumeFault<'a> {
+    ghost use Rattle.run_devices.specs.declared.fault.RunFault.TheVariants.{Channel};
+    ghost use Rattle.run_resumed.specs.declared.fault.ResumeFault.TheVariants.{Run};
+
+    ghost from_gives = { λ fault given. given ≡ Run (Channel fault) };
+
+    fn from(fault: ChannelFault<'a>) -> ResumeFault<'a> {
+        ResumeFault::Run(RunFault::Channel(fault))
+    }
+}
+
+impl From<CommandFault> for ResumeFault<'_> {
+    ghost use Rattle.run_devices.specs.declared.fault.RunFault.TheVariants.{Command};
+    ghost use Rattle.run_resumed.specs.declared.fault.ResumeFault.TheVariants.{Run};
+
+    ghost from_gives = { λ fault given. given ≡ Run (Command fault) };
+
+    fn from(fault: CommandFault) -> Self {
+        ResumeFault::Run(RunFault::Command(fault))
+    }
+}
+
+impl From<AllocError> for ResumeFault<'_> {
+    ghost use Rattle.command_output.specs.declared.outcome.CommandFault.TheVariants.{NoMemory};
+    ghost use Rattle.run_devices.specs.declared.fault.RunFault.TheVariants.{Command};
+    ghost use Rattle.run_resumed.specs.declared.fault.ResumeFault.TheVariants.{Run};
+
+    ghost from_gives = { λ _ given. given ≡ Run (Command NoMemory) };
+
+    fn from(_error: AllocError) -> Self {
+        ResumeFault::Run(RunFault::Command(CommandFault::NoMemory))
+    }
+}
+
+impl<T: Drop> From<AllocFailed<T>> for ResumeFault<'_> {
+    ghost use Rattle.command_output.specs.declared.outcome.CommandFault.TheVariants.{NoMemory};
+    ghost use Rattle.run_devices.specs.declared.fault.RunFault.TheVariants.{Command};
+    ghost use Rattle.run_resumed.specs.declared.fault.ResumeFault.TheVariants.{Run};
+
+    ghost from_gives = { λ _ given. given ≡ Run (Command NoMemory) };
+
+    fn from(_error: AllocFailed<T>) -> Self {
+        ResumeFault::Run(RunFault::Command(CommandFault::NoMemory))
+    }
+}
+
+/// Says on standard error why the journals of a folder can't be had.
+pub(crate) fn told<'a, R: Eprint>(
+    rt: &R,
+    alloc: Global,
+    folder: &str,
+    config: &Config,
+    fault: FolderFault,
+) -> ResumeFault<'a> {
+    if fault == FolderFault::NoMemory {
+        return ResumeFault::Run(RunFault::Command(CommandFault::NoMemory));
+    }
+    if say(rt, alloc, folder, config, fault).is_err() {
+        return ResumeFault::Run(RunFault::Command(CommandFault::NoMemory));
+    }
+    ResumeFault::State
+}
+
+/// Says it, but for want of memory.
+fn say<R: Eprint>(
+    rt: &R,
+    alloc: Global,
+    folder: &str,
+    config: &Config,
+    fault: FolderFault,
+) -> Result<(), AllocError> {
+    let _ = match fault {
+        FolderFault::NoMemory => Ok(()),
+        FolderFault::NotOpened => rt.eprintln(format_args!("state: {folder}: not opened")),
+        FolderFault::Locked => rt.eprintln(format_args!("state: {folder}: another run has it")),
+        FolderFault::NotRead(lane, number, JournalFault::Line(line)) => {
+            let path = journal_path(alloc, folder, config, lane, number)?;
+            let path = path.as_str();
+            rt.eprintln(format_args!(
+                "state: {path}: line {line}: no line of this command's journal, or it names what isn't there"
+            ))
+        }
+        FolderFault::NotRead(lane, number, _) => {
+            let path = journal_path(alloc, folder, config, lane, number)?;
+            let path = path.as_str();
+            rt.eprintln(format_args!("state: {path}: unreadable"))
+        }
+        FolderFault::NotWritten(lane, number) => {
+            let path = journal_path(alloc, folder, config, lane, number)?;
+            let path = path.as_str();
+            rt.eprintln(format_args!("state: {path}: can't be written"))
+        }
+    };
+    Ok(())
+}
+
+/// Says on standard error what has changed since letters were sent, and what can be done.
+pub(crate) fn say_change<R: Eprint>(
+    rt: &R,
+    alloc: Global,
+    path: &str,
+    folder: &Folder,
+    config: &Config,
+    change: Change,
+) -> Result<(), AllocError> {
+    match change {
+        Change::Differs(notice) => say_difference(rt, alloc, path, folder, config, &notice)?,
+        Change::Gone(lane, count) => {
+            let name = std::str::from_utf8(lane_name(config, lane)).unwrap_or("");
+            let _ = rt.eprintln(format_args!(
+                "state: {path}: {name}: {count} of its letters aren't due any more"
+            ));
+        }
+    }
+    let _ = rt.eprintln(
+        "state: the feed or the object files have changed: run with those that were, or give up what is due so far by --from-now",
+    );
+    Ok(())
+}
+
+/// Says which line of a journal isn't what is due now, and what is.
+fn say_difference<R: Eprint>(
+    rt: &R,
+    alloc: Global,
+    path: &str,
+    folder: &Folder,
+    config: &Config,
+    notice: &Notice,
+) -> Result<(), AllocError> {
+    if let Some((number, line)) = folder.find_settled(config, notice)? {
+        let path = journal_path(alloc, path, config, notice.lane, number)?;
+        let (path, text, line) = (path.as_str(), line.text.as_str(), line.number);
+        let _ = rt.eprintln(format_args!("state: {path}: line {line} is {text}"));
+    }
+    if let Some(line) = line_of(alloc, config, notice.lane, Entry::Taken(*notice))? {
+        let text = std::str::from_utf8(line.as_slice()).unwrap_or("");
+        let text = text.trim_end();
+        let _ = rt.eprintln(format_args!("state: there it would be {text}"));
+    }
+    Ok(())
+}
