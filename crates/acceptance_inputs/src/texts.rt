@@ -5,7 +5,7 @@ ghost use Rattle.std.specs.Prelude.{◌≡◌, ◌++◌, IfOk, codes, string_byt
 use std::alloc::{AllocError, Global};
 
 /// One host, its contact and a command.
-const BASE: &str = "\
+pub const BASE: &str = "\
 define command{
  command_name mail
  command_line /usr/bin/true

@@ -1,8 +1,8 @@
 -- What a fault of object text says of the bytes that were read.
 use Rattle.std.proofs.Common.{◌≡◌, ℕ, Bool, List, Option, ◌⊎◌, None, Some, IfSome, inl, inr, sym, subst}
 use Rattle.due_model.specs.declared.config.Config.{Config}
-use Rattle.object_load_faults.specs.declared.fault.LoadFault.{LoadFault}
-use Rattle.object_load_faults.specs.declared.fault.LoadFault.TheVariants as load
+use Rattle.object_faults.specs.declared.load_fault.LoadFault.{LoadFault}
+use Rattle.object_faults.specs.declared.load_fault.LoadFault.TheVariants as load
 use Rattle.object_resolve.specs.Text.{IsTextFault}
 use Rattle.text_lines.specs.Lines.{Known}
 use Rattle.command_output.specs.Outcome.{fault_of}

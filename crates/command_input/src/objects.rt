@@ -11,7 +11,7 @@ ghost use Rattle.text_lines.specs.Text.{mark_length, text_limit};
 
 use command_output::CommandFault;
 use due_model::config::Config;
-use object_load_faults::fault::LoadFault;
+use object_faults::load_fault::LoadFault;
 use object_resolve::load;
 use std::alloc::Global;
 use text_lines::{Input, LineReader, TextFault};

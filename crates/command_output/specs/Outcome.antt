@@ -1,8 +1,8 @@
 -- How a command ends: the text of what it fails with, and the exit status.
 use Rattle.std.specs.Prelude.{◌≡◌, ℕ, Bool, true, List, codes, ◌++◌, Result, Ok, Err}
-use Rattle.object_load_faults.specs.declared.fault.LoadFault.{LoadFault}
-use Rattle.object_load_faults.specs.declared.fault.LoadFault.TheVariants as load
-use Rattle.object_load_faults.specs.Fault.{fault_text as load_text}
+use Rattle.object_faults.specs.declared.load_fault.LoadFault.{LoadFault}
+use Rattle.object_faults.specs.declared.load_fault.LoadFault.TheVariants as load
+use Rattle.object_faults.specs.LoadFaults.{fault_text as load_text}
 use Rattle.command_output.specs.declared.outcome.CommandFault.{CommandFault}
 use Rattle.command_output.specs.declared.outcome.CommandFault.TheVariants.{Objects, Unreadable, Output, NoMemory}
 use Rattle.command_output.specs.declared.outcome.Ending.{Ending}

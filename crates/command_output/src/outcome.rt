@@ -5,7 +5,7 @@ ghost use Rattle.command_output.specs.Outcome.{ending_status, fault_of, fault_st
 ghost use Rattle.command_output.specs.Outcome.{outcome_status};
 
 use crate::output::OutputFailed;
-use object_load_faults::fault::LoadFault;
+use object_faults::load_fault::LoadFault;
 use std::alloc::AllocError;
 use std::error::Error;
 use std::fmt;

@@ -6,14 +6,14 @@ use Rattle.due_model.specs.Options.{every_letter}
 use Rattle.due_model.specs.declared.config.Contact as model
 use Rattle.object_contacts.specs.Contacts.{IsContactOf}
 use Rattle.object_contacts.specs.Lanes.{AreLanes, NamesLane}
-use Rattle.object_readings.specs.Plain.{plain_letters, plain_number, plain_period}
+use Rattle.object_listing.specs.Plain.{plain_letters, plain_number, plain_period}
 use Rattle.object_contacts.specs.Laws.{IsPlainContact, PlainContactHasItsOwn}
 use Rattle.object_groups.specs.Objects.{list_at, names_in}
 use Rattle.object_inheritance.specs.Inherited.{name_of, own, own_entries}
 use Rattle.object_inheritance.specs.Laws.{PlainBlockHasItsOwn, PlainListHasItsOwn}
 use Rattle.object_reader.specs.declared.block.Block.{Block}
 use Rattle.object_reader.specs.declared.block.BlockKind.TheVariants.{Command, TimePeriod}
-use Rattle.object_readings.specs.Readings.{is_on, letters_at, period_at, period_named}
+use Rattle.object_listing.specs.Readings.{is_on, letters_at, period_at, period_named}
 use Rattle.object_values.specs.Options.{options_in}
 use Rattle.object_values.specs.Values.{number_in}
 use Rattle.object_values.specs.declared.options.OptionKind.{OptionKind}

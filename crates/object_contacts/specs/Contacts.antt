@@ -11,7 +11,7 @@ use Rattle.object_contacts.specs.declared.contacts.ContactValues.{ContactValues}
 use Rattle.object_groups.specs.Objects.{list_at, name_at, names_in, objects_in}
 use Rattle.object_reader.specs.declared.block.Block.{Block}
 use Rattle.object_reader.specs.declared.block.BlockKind.TheVariants.{Command, Contact, TimePeriod}
-use Rattle.object_readings.specs.Readings.{is_on, letters_at, period_at}
+use Rattle.object_listing.specs.Readings.{is_on, letters_at, period_at}
 use Rattle.object_values.specs.declared.options.OptionKind.{OptionKind}
 use Rattle.object_values.specs.declared.options.OptionKind.TheVariants.{Host, Service}
 

@@ -11,7 +11,7 @@ use Rattle.object_groups.specs.Objects.{names_in}
 use Rattle.object_inheritance.specs.Inherited.{name_of, own, own_entries}
 use Rattle.object_reader.specs.declared.block.Block.{Block}
 use Rattle.object_reader.specs.declared.block.BlockKind.TheVariants.{Command, TimePeriod}
-use Rattle.object_readings.specs.Plain.{plain_letters, plain_list, plain_number, plain_period}
+use Rattle.object_listing.specs.Plain.{plain_letters, plain_list, plain_number, plain_period}
 use Rattle.object_values.specs.Options.{options_in}
 use Rattle.object_values.specs.Values.{number_in}
 use Rattle.object_values.specs.declared.options.OptionKind.{OptionKind}

@@ -19,7 +19,7 @@ use object_groups::names::Names;
 use object_groups::objects::{Objects, list_at};
 use object_inheritance::inherited::Values;
 use object_inheritance::templates::Templates;
-use object_readings::readings::{is_on, letters_at, period_at};
+use object_listing::readings::{is_on, letters_at, period_at};
 use object_values::options::OptionKind;
 use std::alloc::{AllocError, Global};
 

@@ -12,7 +12,7 @@ use Rattle.object_reached.specs.declared.roles.Role.TheVariants.{Dependent, Mast
 use Rattle.object_reached.specs.Reached.{SpeaksOf}
 use Rattle.object_reader.specs.declared.block.Block.{Block}
 use Rattle.object_reader.specs.declared.block.BlockKind.TheVariants.{HostDependency, ServiceDependency}
-use Rattle.object_readings.specs.Readings.{own_states}
+use Rattle.object_listing.specs.Readings.{own_states}
 use Rattle.object_values.specs.declared.options.CriteriaKind.TheVariants.{OfHosts, OfServices}
 use Rattle.object_dependencies.specs.Pairs.{ArePairs, DependsAt, IsBefore, kept_states, Pair, paired}
 use Rattle.object_dependencies.proofs.PairLemmas.{ordered-from}

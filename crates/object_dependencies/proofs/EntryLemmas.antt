@@ -12,7 +12,7 @@ use Rattle.due_model.specs.declared.config.PeriodId.{PeriodId}
 use Rattle.due_model.specs.declared.state.StateSet.{StateSet}
 use Rattle.object_inheritance.specs.Columns.{Column}
 use Rattle.object_reader.specs.declared.block.Block.{Block}
-use Rattle.object_readings.specs.Readings.{is_on, period_at}
+use Rattle.object_listing.specs.Readings.{is_on, period_at}
 use Rattle.object_values.specs.Options.{no_state}
 use Rattle.object_dependencies.specs.declared.entries.Terms.{Terms}
 use Rattle.object_dependencies.specs.Entries.{entries_at, entries_in, entry_of, terms_at}

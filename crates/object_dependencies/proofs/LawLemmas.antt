@@ -12,8 +12,8 @@ use Rattle.object_inheritance.specs.Inherited.{name}
 use Rattle.object_reached.specs.declared.roles.Role.TheVariants.{Dependent, Master}
 use Rattle.object_reached.specs.Laws.{SpokenAreObjects}
 use Rattle.object_reader.specs.declared.block.Block.{Block}
-use Rattle.object_readings.specs.Readings.{period_named}
-use Rattle.object_readings.specs.ReadingLaws.{period-few}
+use Rattle.object_listing.specs.Readings.{period_named}
+use Rattle.object_listing.specs.ReadingLaws.{period-few}
 use Rattle.object_dependencies.specs.Entries.{AreDependencies, entries_at, entry_of, terms_at}
 use Rattle.object_dependencies.specs.Laws.{DependenciesFit, NoLoopIsLeft}
 use Rattle.object_dependencies.specs.Loops.{Depends}

@@ -3,7 +3,7 @@ use Rattle.std.specs.Prelude.{◌≡◌, ℕ, false, List, [], codes, length, ma
 use Rattle.std.specs.List.{range_with_len}
 use Rattle.due_model.specs.declared.config.Dependency.{Dependency}
 use Rattle.object_reader.specs.declared.block.Block.{Block}
-use Rattle.object_readings.specs.Readings.{is_on, period_at}
+use Rattle.object_listing.specs.Readings.{is_on, period_at}
 use Rattle.object_values.specs.Options.{no_state}
 use Rattle.object_dependencies.specs.declared.entries.Terms.{Terms}
 use Rattle.object_dependencies.specs.Pairs.{ArePairsBelow, kept_states, Pair}

@@ -8,7 +8,7 @@ use Rattle.object_reached.specs.declared.roles.Role.TheVariants.{Dependent, Mast
 use Rattle.object_reached.specs.Reached.{ReachedOf, SpeaksOf}
 use Rattle.object_reader.specs.declared.block.Block.{Block}
 use Rattle.object_reader.specs.declared.block.BlockKind.TheVariants.{Host, HostDependency, Service, ServiceDependency}
-use Rattle.object_readings.specs.Readings.{own_states}
+use Rattle.object_listing.specs.Readings.{own_states}
 use Rattle.object_services.specs.Limits.{AreHostLists}
 use Rattle.object_services.specs.Numbers.{pairs_of}
 use Rattle.object_services.specs.Numbers as services

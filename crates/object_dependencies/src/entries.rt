@@ -15,7 +15,7 @@ use due_model::state::StateSet;
 use object_groups::names::Names;
 use object_inheritance::inherited::Values;
 use object_inheritance::templates::Templates;
-use object_readings::readings::{is_on, period_at};
+use object_listing::readings::{is_on, period_at};
 use std::alloc::{AllocError, Global};
 
 /// What all dependencies of one block have in common.

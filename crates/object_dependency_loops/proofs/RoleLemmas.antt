@@ -33,7 +33,7 @@ use Rattle.object_reached.specs.Roles.{directives_of, host_kind, service_kind}
 use Rattle.object_reader.specs.declared.block.Block.{Block}
 use Rattle.object_reader.specs.declared.block.BlockKind.{BlockKind}
 use Rattle.object_reader.specs.declared.block.BlockKind.TheVariants.{Host, HostDependency, HostGroup, ServiceDependency, ServiceGroup}
-use Rattle.object_readings.specs.Readings.{own_states}
+use Rattle.object_listing.specs.Readings.{own_states}
 use Rattle.object_service_groups.specs.Laws.{MembersAreServices}
 use Rattle.object_values.specs.declared.options.CriteriaKind.TheVariants.{OfHosts, OfServices}
 use Rattle.object_dependency_loops.specs.declared.base.Firsts.{Firsts}

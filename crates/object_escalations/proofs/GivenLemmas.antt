@@ -18,7 +18,7 @@ use Rattle.object_inheritance.specs.Columns.{Column}
 use Rattle.object_listing.specs.Listing.{AreThose, contact_directives, gives_neither, IsListed}
 use Rattle.object_reader.specs.declared.block.Block.{Block}
 use Rattle.object_reader.specs.declared.block.BlockKind.TheVariants.{HostEscalation}
-use Rattle.object_readings.specs.Readings.{letters_at}
+use Rattle.object_listing.specs.Readings.{letters_at}
 use Rattle.object_values.specs.declared.options.OptionKind.{OptionKind}
 use Rattle.object_values.specs.declared.options.OptionKind.TheVariants as lists
 

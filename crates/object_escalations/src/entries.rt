@@ -6,7 +6,7 @@ ghost use Rattle.object_escalations.specs.Entries.{AddsEntries, AreEntriesOf, As
 ghost use Rattle.object_escalations.specs.Entries.{origins_at};
 ghost use Rattle.object_escalations.specs.Given.{AddsTaken, contacts_of, IsTaken, list_kind};
 ghost use Rattle.object_listing.specs.Contacts.{IsAsked};
-ghost use Rattle.object_readings.specs.Periods.{ArePeriods};
+ghost use Rattle.object_listing.specs.Periods.{ArePeriods};
 
 use crate::escalated::EscalatedObjects;
 use crate::given::{Given, Tables};

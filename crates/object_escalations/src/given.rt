@@ -3,7 +3,7 @@
 ghost use Rattle.std.specs.Prelude.{◌≡◌, IfOk};
 ghost use Rattle.object_escalations.specs.Given.{AreFilters, AreTimes, IsGiven};
 ghost use Rattle.object_listing.specs.Contacts.{IsAsked};
-ghost use Rattle.object_readings.specs.Periods.{ArePeriods};
+ghost use Rattle.object_listing.specs.Periods.{ArePeriods};
 
 use due_model::config::{ContactId, PeriodId};
 use due_model::options::OptionLetters;
@@ -11,8 +11,8 @@ use object_groups::names::Names;
 use object_inheritance::inherited::{Values, values_of};
 use object_inheritance::templates::Templates;
 use object_listing::contacts::ContactListing;
+use object_listing::readings::{letters_at, number_at, own_number, own_period};
 use object_reader::block::Block;
-use object_readings::readings::{letters_at, number_at, own_number, own_period};
 use object_values::options::OptionKind;
 use std::alloc::{AllocError, Global};
 use std::marker::Model;

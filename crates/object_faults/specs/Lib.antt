@@ -5,3 +5,4 @@ pub mod Lists
 pub mod Columns
 pub mod Known
 pub mod Needs
+pub mod LoadFaults

@@ -9,4 +9,5 @@ mod dates;
 pub mod fault;
 mod first;
 pub mod lists;
+pub mod load_fault;
 pub mod needs;

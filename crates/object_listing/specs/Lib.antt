@@ -2,3 +2,7 @@ pub mod Listing
 pub mod Contacts
 pub mod Laws
 pub mod ListingLaws
+pub mod Readings
+pub mod Plain
+pub mod Periods
+pub mod ReadingLaws

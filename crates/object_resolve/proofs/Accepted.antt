@@ -25,7 +25,7 @@ use Rattle.object_contacts.specs.Contacts.{AreRightsOf, IsContactOf}
 use Rattle.object_contacts.specs.Lanes.{lane_of, NamesLane}
 use Rattle.object_contacts.specs.declared.rights.RightsKind.{RightsKind}
 use Rattle.object_contacts.specs.declared.rights.RightsKind.TheVariants.{OfHosts, OfServices}
-use Rattle.object_readings.specs.ReadingLaws.{period-few}
+use Rattle.object_listing.specs.ReadingLaws.{period-few}
 use Rattle.object_dependencies.specs.Laws as dependencies
 use Rattle.object_dependencies.specs.Limits.{GiveDependencies}
 use Rattle.object_escalations.specs.Entries as entries
@@ -40,7 +40,7 @@ use Rattle.object_periods.specs.Laws.{NoLoopIsLeft, PeriodsFit}
 use Rattle.object_periods.specs.Loops.{IsLoopedAt}
 use Rattle.object_reader.specs.declared.block.Block.{Block}
 use Rattle.object_reader.specs.declared.block.BlockKind.TheVariants.{Command, Contact, Host, Service, TimePeriod}
-use Rattle.object_readings.specs.Readings.{period_named}
+use Rattle.object_listing.specs.Readings.{period_named}
 use Rattle.object_resolve.specs.Config.{command_at, IsConfigOf}
 use Rattle.object_resolve.specs.First.{IsNowhere}
 use Rattle.object_resolve.specs.Limits.{AreFewDependencies, AreFewEscalations, AreWithin}

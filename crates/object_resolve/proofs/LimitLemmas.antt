@@ -29,9 +29,9 @@ use Rattle.object_resolve.specs.Fault.{IsAmong, IsOfPlace}
 use Rattle.object_resolve.specs.First.{IsNowhere}
 use Rattle.object_resolve.specs.Limits.{AreFewDependencies, AreFewEscalations, AreFewOthers, AreWithin, IsOneOver, IsOver, PassesDependencies, PassesEscalations, PassesLanes, PassesOther, PassesRest}
 use Rattle.object_resolve.specs.Resolve.{IsDependencyLooped, IsFirstDependencyLooped, IsFirstOver, IsLoopedOrOver}
-use Rattle.object_load_faults.specs.declared.fault.BlockFault.TheVariants.{DependencyLoop, TooMany}
-use Rattle.object_load_faults.specs.declared.fault.LoadFault.{LoadFault}
-use Rattle.object_load_faults.specs.declared.fault.LoadFault.TheVariants as load
+use Rattle.object_faults.specs.declared.load_fault.BlockFault.TheVariants.{DependencyLoop, TooMany}
+use Rattle.object_faults.specs.declared.load_fault.LoadFault.{LoadFault}
+use Rattle.object_faults.specs.declared.load_fault.LoadFault.TheVariants as load
 use Rattle.object_resolve.proofs.CountLemmas.{one-passes, within-nowhere}
 use Rattle.object_resolve.proofs.NameLemmas.{either-first}
 use Rattle.object_groups.specs.ObjectLaws.{names-long}

@@ -16,9 +16,9 @@ use Rattle.object_reader.specs.declared.block.Block.{Block}
 use Rattle.object_reader.specs.declared.block.BlockKind.TheVariants.{Service, ServiceGroup}
 use Rattle.object_resolve.specs.Fault.{IsAmong, IsOfPlace}
 use Rattle.object_resolve.specs.Names.{GivesDoubledService, IsDoubledAt, IsFirstMisnamed, IsMisnamed, IsNameFault, IsUnknownAt}
-use Rattle.object_load_faults.specs.declared.fault.BlockFault.{BlockFault}
-use Rattle.object_load_faults.specs.declared.fault.BlockFault.TheVariants.{Doubled, UnknownName}
-use Rattle.object_load_faults.specs.declared.fault.LoadFault.{LoadFault}
+use Rattle.object_faults.specs.declared.load_fault.BlockFault.{BlockFault}
+use Rattle.object_faults.specs.declared.load_fault.BlockFault.TheVariants.{Doubled, UnknownName}
+use Rattle.object_faults.specs.declared.load_fault.LoadFault.{LoadFault}
 use Rattle.object_resolve.proofs.PlaceLemmas.{lower-before, object-within}
 use Rattle.object_services.specs.Doubled as services
 

@@ -11,9 +11,9 @@ use Rattle.object_periods.specs.Loops.{IsLoopedAt}
 use Rattle.object_resolve.specs.Fault.{IsAmong}
 use Rattle.object_resolve.specs.Names.{IsFirstMisnamed, IsMisnamed}
 use Rattle.object_resolve.specs.Resolve.{IsFirstLooped, IsLoopedOrOver, IsMistemplated, IsMisvalued, IsRefusal, IsResolved, IsUnfit}
-use Rattle.object_load_faults.specs.declared.fault.LoadFault.{LoadFault}
-use Rattle.object_load_faults.specs.declared.fault.LoadFault.TheVariants as load
-use Rattle.object_load_faults.specs.declared.fault.BlockFault.{BlockFault}
+use Rattle.object_faults.specs.declared.load_fault.LoadFault.{LoadFault}
+use Rattle.object_faults.specs.declared.load_fault.LoadFault.TheVariants as load
+use Rattle.object_faults.specs.declared.load_fault.BlockFault.{BlockFault}
 use Rattle.object_resolve.proofs.LimitLemmas.{over-nowhere}
 use Rattle.object_services.specs.Laws.{WithinPassesNowhere}
 

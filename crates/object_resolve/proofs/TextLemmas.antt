@@ -7,9 +7,9 @@ use Rattle.object_reader.specs.declared.fault.ReadFault.{ReadFault}
 use Rattle.object_reader.specs.declared.fault.ReadFault.TheVariants as read
 use Rattle.object_reader.specs.Blocks.{Gives}
 use Rattle.object_reader.specs.Grammar.{IsObjectText, IsRefused}
-use Rattle.object_load_faults.specs.declared.fault.LoadFault.{LoadFault}
-use Rattle.object_load_faults.specs.declared.fault.LoadFault.TheVariants as load
-use Rattle.object_load_faults.specs.Fault.{of_read}
+use Rattle.object_faults.specs.declared.load_fault.LoadFault.{LoadFault}
+use Rattle.object_faults.specs.declared.load_fault.LoadFault.TheVariants as load
+use Rattle.object_faults.specs.LoadFaults.{of_read}
 use Rattle.object_resolve.specs.Fault.{IsAmong}
 use Rattle.object_resolve.specs.Laws.{ResolvedIsUnrefused}
 use Rattle.object_resolve.specs.Resolve.{IsRefusal, IsResolved}

@@ -1,8 +1,8 @@
 -- Where a fault is: which block has it.
 use Rattle.std.specs.Prelude.{◌≡◌, ℕ, List, Some, slice_get}
-use Rattle.object_load_faults.specs.declared.fault.BlockFault.{BlockFault}
-use Rattle.object_load_faults.specs.declared.fault.LoadFault.{LoadFault}
-use Rattle.object_load_faults.specs.declared.fault.LoadFault.TheVariants as load
+use Rattle.object_faults.specs.declared.load_fault.BlockFault.{BlockFault}
+use Rattle.object_faults.specs.declared.load_fault.LoadFault.{LoadFault}
+use Rattle.object_faults.specs.declared.load_fault.LoadFault.TheVariants as load
 use Rattle.object_reader.specs.declared.block.Block.{Block}
 
 -- the fault of the block that stands at the place, with its line

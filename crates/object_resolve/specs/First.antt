@@ -2,7 +2,7 @@
 use Rattle.std.specs.Prelude.{◌≡◌, ℕ, List, Some, slice_get}
 use Rattle.object_groups.specs.First.{IsFirst}
 use Rattle.object_reader.specs.declared.block.Block.{Block}
-use Rattle.object_load_faults.specs.declared.fault.BlockFault.{BlockFault}
+use Rattle.object_faults.specs.declared.load_fault.BlockFault.{BlockFault}
 
 -- it is said of no place
 abbrev pub IsNowhere : (P : ℕ → Type 0) → Type 0

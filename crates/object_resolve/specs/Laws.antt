@@ -4,7 +4,7 @@ use Rattle.due_model.specs.Accepted.{IsAccepted}
 use Rattle.due_model.specs.declared.config.Config.{Config}
 use Rattle.object_reader.specs.declared.block.Block.{Block}
 use Rattle.object_resolve.specs.Resolve.{IsRefusal, IsResolved}
-use Rattle.object_load_faults.specs.declared.fault.BlockFault.{BlockFault}
+use Rattle.object_faults.specs.declared.load_fault.BlockFault.{BlockFault}
 
 -- A configuration that blocks give is accepted.
 abbrev pub ResolvedIsAccepted : Type 0

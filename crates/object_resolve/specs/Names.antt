@@ -5,8 +5,8 @@ use Rattle.object_names.specs.Unknown.{HasUnknown}
 use Rattle.object_pairs.specs.Members.{HasUnknownMember}
 use Rattle.object_reader.specs.declared.block.Block.{Block}
 use Rattle.object_resolve.specs.First.{IsFirstAt}
-use Rattle.object_load_faults.specs.declared.fault.BlockFault.{BlockFault}
-use Rattle.object_load_faults.specs.declared.fault.BlockFault.TheVariants.{Doubled, UnknownName}
+use Rattle.object_faults.specs.declared.load_fault.BlockFault.{BlockFault}
+use Rattle.object_faults.specs.declared.load_fault.BlockFault.TheVariants.{Doubled, UnknownName}
 use Rattle.object_services.specs.Doubled as services
 use Rattle.object_unknown_services.specs.Unknown.{HasUnknownService}
 

@@ -19,7 +19,7 @@ use Rattle.object_reader.specs.declared.block.Block.{Block}
 use Rattle.object_reader.specs.declared.block.BlockKind.{BlockKind}
 use Rattle.object_reader.specs.declared.block.BlockKind.TheVariants.{Command, Contact, Host, Service, TimePeriod}
 use Rattle.object_resolve.specs.Config.{IsConfigOf}
-use Rattle.object_readings.specs.Plain.{plain_list}
+use Rattle.object_listing.specs.Plain.{plain_list}
 use Rattle.object_settings.specs.Laws.{IsPlainHost, IsPlainService}
 use Rattle.object_settings.specs.Settings.{host_origins, Origin, service_origins}
 use Rattle.object_values.specs.Ranges.{weekdays}

@@ -12,12 +12,12 @@ use Rattle.object_periods.specs.Loops.{IsLoopedAt}
 use Rattle.object_reader.specs.declared.block.Block.{Block}
 use Rattle.object_reader.specs.declared.block.BlockKind.TheVariants.{Service}
 use Rattle.object_resolve.specs.Config.{IsConfigOf}
-use Rattle.object_load_faults.specs.Fault.{of_template, of_value}
+use Rattle.object_faults.specs.LoadFaults.{of_template, of_value}
 use Rattle.object_resolve.specs.First.{IsFault, IsNowhere}
 use Rattle.object_resolve.specs.Limits.{AreWithin, IsOver}
 use Rattle.object_resolve.specs.Names.{IsFirstMisnamed, IsMisnamed}
-use Rattle.object_load_faults.specs.declared.fault.BlockFault.{BlockFault}
-use Rattle.object_load_faults.specs.declared.fault.BlockFault.TheVariants.{DependencyLoop, PeriodLoop, TooMany}
+use Rattle.object_faults.specs.declared.load_fault.BlockFault.{BlockFault}
+use Rattle.object_faults.specs.declared.load_fault.BlockFault.TheVariants.{DependencyLoop, PeriodLoop, TooMany}
 use Rattle.object_services.specs.Limits.{AreHostLists, AreWithinLimit}
 
 -- ---- loops of dependencies

@@ -4,8 +4,8 @@ use Rattle.due_model.specs.declared.config.Config.{Config}
 use Rattle.object_reader.specs.declared.block.Block.{Block}
 use Rattle.object_reader.specs.declared.fault.ReadFault.TheVariants as read
 use Rattle.object_reader.specs.Grammar.{IsObjectText, IsRefused}
-use Rattle.object_load_faults.specs.declared.fault.LoadFault.{LoadFault}
-use Rattle.object_load_faults.specs.declared.fault.LoadFault.TheVariants as load
+use Rattle.object_faults.specs.declared.load_fault.LoadFault.{LoadFault}
+use Rattle.object_faults.specs.declared.load_fault.LoadFault.TheVariants as load
 use Rattle.object_resolve.specs.Resolve.{IsRefusal, IsResolved}
 
 -- the text is blocks, and they give this configuration

@@ -3,7 +3,7 @@
 ghost use Rattle.std.specs.Prelude.{◌<◌, length};
 ghost use Rattle.object_resolve.specs.Fault.{IsOfPlace};
 
-use object_load_faults::fault::{BlockFault, LoadFault};
+use object_faults::load_fault::{BlockFault, LoadFault};
 use object_reader::block::Block;
 
 /// The fault of the block at the place.

@@ -11,9 +11,9 @@ ghost use Rattle.object_resolve.specs.Tables.{AreTables};
 
 use crate::fault::of_place;
 use crate::tables::{Tables, place_of};
+use object_faults::load_fault::{BlockFault, LoadFault};
 use object_groups::first::lower;
 use object_inheritance::templates::Templates;
-use object_load_faults::fault::{BlockFault, LoadFault};
 use object_names::doubled::first_doubled as first_doubled_object;
 use object_names::unknown::first_unknown as first_unknown_name;
 use object_pairs::unknown::first_unknown_member;

@@ -8,14 +8,14 @@ ghost use Rattle.object_reader.specs.Grammar.{IsObjectText, IsRefused};
 ghost use Rattle.object_reader.specs.declared.block.Block.{Block};
 ghost use Rattle.object_reader.specs.declared.fault.ReadFault.{ReadFault};
 ghost use Rattle.object_resolve.specs.Text.{IsTextFault, IsTextOf};
-ghost use Rattle.object_load_faults.specs.declared.fault.LoadFault.{LoadFault};
-ghost use Rattle.object_load_faults.specs.declared.fault.LoadFault.TheVariants.{NoMemory};
+ghost use Rattle.object_faults.specs.declared.load_fault.LoadFault.{LoadFault};
+ghost use Rattle.object_faults.specs.declared.load_fault.LoadFault.TheVariants.{NoMemory};
 
 use crate::laws::{accept_resolved, resolve_no_refused};
 use crate::resolve::resolve;
 use due_model::config::Config;
 use due_model::sequence::Sequence;
-use object_load_faults::fault::LoadFault;
+use object_faults::load_fault::LoadFault;
 use object_reader::block::Block;
 use object_reader::fault::ReadFault;
 use object_reader::reading::read;

@@ -13,8 +13,8 @@ use Rattle.object_inheritance.specs.Laws.{PlainBlockHasItsOwn, PlainListHasItsOw
 use Rattle.object_listing.specs.Listing.{AreThose, contact_directives, gives_neither, IsListed}
 use Rattle.object_reader.specs.declared.block.Block.{Block}
 use Rattle.object_reader.specs.declared.block.BlockKind.TheVariants.{Contact, ContactGroup, TimePeriod}
-use Rattle.object_readings.specs.Readings.{is_on, letters_at, own_number, own_period, period_named}
-use Rattle.object_readings.specs.Plain.{plain_letters, plain_list, plain_number, plain_period}
+use Rattle.object_listing.specs.Readings.{is_on, letters_at, own_number, own_period, period_named}
+use Rattle.object_listing.specs.Plain.{plain_letters, plain_list, plain_number, plain_period}
 use Rattle.object_settings.specs.Laws.{IsPlain, PlainHostHasItsOwn, PlainServiceHasItsOwn}
 use Rattle.object_settings.specs.Settings.{host_place}
 use Rattle.object_values.specs.Options.{options_in}

@@ -13,7 +13,7 @@ use Rattle.object_listing.specs.Laws.{ListedAreObjects}
 use Rattle.object_listing.specs.Listing.{AreThose, contact_directives, gives_neither, host_directives, IsListed}
 use Rattle.object_reader.specs.declared.block.Block.{Block}
 use Rattle.object_reader.specs.declared.block.BlockKind.TheVariants.{Host, Service, TimePeriod}
-use Rattle.object_readings.specs.Readings.{own_number, own_period}
+use Rattle.object_listing.specs.Readings.{own_number, own_period}
 use Rattle.object_services.specs.Hosts.{AreHosts}
 use Rattle.object_settings.specs.Own.{contacts_of, IsOwn, IsHostTaken, IsOwnOfHost, IsServiceTaken, IsTaken}
 use Rattle.object_settings.specs.Settings.{contacts_from, HasSettings, host_place, IsHostOf, IsServiceOf}

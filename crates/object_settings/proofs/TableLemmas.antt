@@ -8,7 +8,7 @@ use Rattle.lemmas.proofs.Writes.{at_set}
 use Rattle.object_inheritance.specs.Columns.{Column}
 use Rattle.object_inheritance.specs.Inherited.{given}
 use Rattle.object_reader.specs.declared.block.Block.{Block}
-use Rattle.object_readings.specs.Readings.{letters_at}
+use Rattle.object_listing.specs.Readings.{letters_at}
 use Rattle.object_settings.specs.Own.{AreRead}
 use Rattle.object_values.specs.Options.{options_in}
 use Rattle.object_values.specs.declared.options.OptionKind.{OptionKind}

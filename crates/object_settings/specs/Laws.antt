@@ -10,7 +10,7 @@ use Rattle.object_inheritance.specs.Inherited.{own}
 use Rattle.object_listing.specs.Listing.{AreThose}
 use Rattle.object_reader.specs.declared.block.Block.{Block}
 use Rattle.object_reader.specs.declared.block.BlockKind.TheVariants.{Contact}
-use Rattle.object_readings.specs.Plain.{plain_letters, plain_list, plain_number, plain_period}
+use Rattle.object_listing.specs.Plain.{plain_letters, plain_list, plain_number, plain_period}
 use Rattle.object_settings.specs.Settings.{host_place, IsHostOf, IsServiceOf}
 use Rattle.object_values.specs.declared.options.OptionKind.TheVariants as lists
 

@@ -10,7 +10,7 @@ use Rattle.object_inheritance.specs.Columns.{Column}
 use Rattle.object_listing.specs.Listing.{AreThose, contact_directives, gives_neither, IsListed}
 use Rattle.object_reader.specs.declared.block.Block.{Block}
 use Rattle.object_reader.specs.declared.block.BlockKind.TheVariants.{Host, TimePeriod}
-use Rattle.object_readings.specs.Readings.{is_on, letters_at, number_at, own_number, own_period}
+use Rattle.object_listing.specs.Readings.{is_on, letters_at, number_at, own_number, own_period}
 use Rattle.object_settings.specs.declared.own.Own.{Own}
 use Rattle.object_settings.specs.declared.tables.Filters.{Filters}
 use Rattle.object_settings.specs.declared.tables.Times.{Times}

@@ -10,7 +10,7 @@ use Rattle.object_listing.specs.Contacts.{IsAsked}
 use Rattle.object_listing.specs.Listing.{AreThose, contact_directives, gives_neither, IsListed}
 use Rattle.object_reader.specs.declared.block.Block.{Block}
 use Rattle.object_reader.specs.declared.block.BlockKind.TheVariants.{Host, Service, TimePeriod}
-use Rattle.object_readings.specs.Readings.{is_on, letters_at, number_at, own_number, own_period, period_at}
+use Rattle.object_listing.specs.Readings.{is_on, letters_at, number_at, own_number, own_period, period_at}
 use Rattle.object_values.specs.declared.options.OptionKind.{OptionKind}
 use Rattle.object_values.specs.declared.options.OptionKind.TheVariants as lists
 

@@ -10,7 +10,7 @@ ghost use Rattle.object_groups.specs.Objects.{name_at, names_in, objects_in};
 ghost use Rattle.object_listing.specs.Contacts.{IsAsked};
 ghost use Rattle.object_reader.specs.declared.block.BlockKind.TheVariants.{Host, Service};
 ghost use Rattle.object_reader.specs.declared.block.BlockKind.TheVariants.{TimePeriod};
-ghost use Rattle.object_readings.specs.Periods.{ArePeriods};
+ghost use Rattle.object_listing.specs.Periods.{ArePeriods};
 ghost use Rattle.object_services.specs.Hosts.{AreHosts};
 ghost use Rattle.object_services.specs.Limits.{AreHostLists};
 ghost use Rattle.object_settings.specs.Own.{AddsObjects, AddsServices, AreRead, IsHostTaken};

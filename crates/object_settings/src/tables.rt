@@ -2,8 +2,8 @@
 
 ghost use Rattle.std.specs.Prelude.{◌≡◌, IfOk};
 ghost use Rattle.object_listing.specs.Contacts.{IsAsked};
-ghost use Rattle.object_readings.specs.Periods.{ArePeriods};
-ghost use Rattle.object_readings.specs.Readings.{letters_at};
+ghost use Rattle.object_listing.specs.Periods.{ArePeriods};
+ghost use Rattle.object_listing.specs.Readings.{letters_at};
 ghost use Rattle.object_settings.specs.Own.{AreFilters, AreRead, AreTimes, IsOwn, options_of};
 
 use crate::own::Own;
@@ -12,8 +12,8 @@ use object_groups::names::Names;
 use object_inheritance::inherited::{Values, values_of};
 use object_inheritance::templates::Templates;
 use object_listing::contacts::ContactListing;
+use object_listing::readings::{is_on, letters_at, number_at, own_number, own_period};
 use object_reader::block::Block;
-use object_readings::readings::{is_on, letters_at, number_at, own_number, own_period};
 use object_values::options::OptionKind;
 use std::alloc::{AllocError, Global};
 use std::marker::Model;

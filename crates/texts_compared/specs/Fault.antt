@@ -1,6 +1,6 @@
 -- Why a comparison was given up: its text and the exit status.
 use Rattle.std.specs.Prelude.{ℕ, List, codes, ◌++◌, Result, Ok, Err}
-use Rattle.object_load_faults.specs.Fault.{fault_text as load_text}
+use Rattle.object_faults.specs.LoadFaults.{fault_text as load_text}
 use Rattle.command_output.specs.declared.outcome.CommandFault.{CommandFault}
 use Rattle.command_output.specs.declared.outcome.CommandFault.TheVariants.{Objects, Unreadable, Output, NoMemory}
 use Rattle.command_output.specs.declared.outcome.Ending.{Ending}

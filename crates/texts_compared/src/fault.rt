@@ -4,7 +4,7 @@ ghost use Rattle.std.specs.Prelude.{◌≡◌, Some};
 ghost use Rattle.texts_compared.specs.Fault.{compare_fault_status, compare_fault_text, compare_status, fault_of_second};
 
 use command_output::{CommandFault, Ending};
-use object_load_faults::fault::LoadFault;
+use object_faults::load_fault::LoadFault;
 use std::alloc::AllocError;
 use std::error::Error;
 use std::fmt;

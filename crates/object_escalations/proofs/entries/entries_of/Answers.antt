@@ -1,7 +1,7 @@
 use Rattle.std.proofs.Common.{◌<◌, List, length, subst, sym, ℕ}
 use Rattle.object_escalations.specs.Entries.{AddsEntries, origins_at}
 use Rattle.object_reader.specs.declared.block.Block.{Block}
-use Rattle.object_readings.specs.Periods.{ArePeriods}
+use Rattle.object_listing.specs.Periods.{ArePeriods}
 use Rattle.object_escalations.proofs.GivenLemmas.{entries-more}
 use Rattle.object_escalations.proofs.entries.entries_of.Goals as goal
 

@@ -3,7 +3,7 @@ use Rattle.std.specs.Prelude.{ℕ, List, IfNone, IfSome, Option}
 use Rattle.object_dependencies.specs.Loops.{HasNoDependencyLoop, IsFirstLooped}
 use Rattle.object_reader.specs.declared.block.Block.{Block}
 use Rattle.object_resolve.specs.Fault.{IsOfPlace}
-use Rattle.object_load_faults.specs.declared.fault.BlockFault.TheVariants.{DependencyLoop}
+use Rattle.object_faults.specs.declared.load_fault.BlockFault.TheVariants.{DependencyLoop}
 use Rattle.object_resolve.proofs.LimitLemmas.{looped-first, looped-none, looped-refused}
 use Rattle.object_resolve.proofs.dependencies.check_dependency_loops.Goals as goal
 

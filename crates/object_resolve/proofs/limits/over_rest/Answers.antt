@@ -4,7 +4,7 @@ use Rattle.object_groups.specs.First.{IsFirst}
 use Rattle.object_reader.specs.declared.block.Block.{Block}
 use Rattle.object_resolve.specs.Fault.{IsAmong, IsOfPlace}
 use Rattle.object_resolve.specs.Limits.{AreCounted, PassesRest}
-use Rattle.object_load_faults.specs.declared.fault.BlockFault.TheVariants.{TooMany}
+use Rattle.object_faults.specs.declared.load_fault.BlockFault.TheVariants.{TooMany}
 use Rattle.object_resolve.proofs.LimitLemmas.{few-escalations, no-escalations, over-first, over-refused, over-within}
 use Rattle.object_resolve.specs.Resolve.{IsFirstOver}
 use Rattle.object_resolve.proofs.limits.over_rest.Goals as goal

@@ -5,7 +5,7 @@ use Rattle.object_listing.specs.Contacts.{AskedContacts, IsAsked}
 use Rattle.object_listing.specs.Listing.{AreThose, contact_directives, gives_neither, IsListed}
 use Rattle.object_reader.specs.declared.block.Block.{Block}
 use Rattle.object_reader.specs.declared.block.BlockKind.TheVariants.{TimePeriod}
-use Rattle.object_readings.specs.Readings.{letters_at, number_at, own_number, own_period}
+use Rattle.object_listing.specs.Readings.{letters_at, number_at, own_number, own_period}
 use Rattle.object_escalations.proofs.GivenLemmas.{read-are}
 use Rattle.object_escalations.proofs.given.Tables.given_at.Goals as goal
 

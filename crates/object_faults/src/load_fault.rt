@@ -1,11 +1,11 @@
 //! The faults, and the texts that a program prints of them.
 
 ghost use Rattle.std.specs.Prelude.{◌≡◌, Some};
-ghost use Rattle.object_load_faults.specs.Fault.{fault_name, fault_text, of_inherited, of_read};
-ghost use Rattle.object_load_faults.specs.Fault.{of_template, of_value, of_values};
-ghost use Rattle.object_load_faults.specs.declared.fault.LoadFault.TheVariants.{NoMemory};
+ghost use Rattle.object_faults.specs.LoadFaults.{fault_name, fault_text, of_inherited, of_read};
+ghost use Rattle.object_faults.specs.LoadFaults.{of_template, of_value, of_values};
+ghost use Rattle.object_faults.specs.declared.load_fault.LoadFault.TheVariants.{NoMemory};
 
-use object_faults::fault::{PassFault, ValueFault};
+use crate::fault::{PassFault, ValueFault};
 use object_inheritance::templates::{InheritanceFault, TemplateFault};
 use object_reader::fault::{LineFault, ReadFault};
 use std::alloc::AllocError;

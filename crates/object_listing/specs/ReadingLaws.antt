@@ -6,7 +6,7 @@ use Rattle.std.specs.Str.{bytes_eq}
 use Rattle.lemmas.proofs.Searches.{position-within}
 use Rattle.object_groups.specs.Names.{number_of}
 use Rattle.object_inheritance.specs.Inherited.{name}
-use Rattle.object_readings.specs.Readings.{period_named, period_of}
+use Rattle.object_listing.specs.Readings.{period_named, period_of}
 
 -- a period by its name is there
 pub period-few : (periods : List (List ℕ)) (text : List ℕ) → IfSome (period_named periods text) (λ p. p.0 < length periods)

@@ -12,10 +12,10 @@ use Rattle.object_inheritance.specs.declared.templates.TemplateFault.TheVariants
 use Rattle.object_reader.specs.Fault as reader
 use Rattle.object_reader.specs.declared.fault.ReadFault.{ReadFault}
 use Rattle.object_reader.specs.declared.fault.ReadFault.TheVariants as read
-use Rattle.object_load_faults.specs.declared.fault.BlockFault.{BlockFault}
-use Rattle.object_load_faults.specs.declared.fault.BlockFault.TheVariants.{UnknownTemplate, TemplateLoop, Doubled, MissingDirective, BadNumber, BadOption, BadRange, Volatile, Exclusion, DatedException, UnknownName, PeriodLoop, DependencyLoop, TooMany}
-use Rattle.object_load_faults.specs.declared.fault.LoadFault.{LoadFault}
-use Rattle.object_load_faults.specs.declared.fault.LoadFault.TheVariants as load
+use Rattle.object_faults.specs.declared.load_fault.BlockFault.{BlockFault}
+use Rattle.object_faults.specs.declared.load_fault.BlockFault.TheVariants.{UnknownTemplate, TemplateLoop, Doubled, MissingDirective, BadNumber, BadOption, BadRange, Volatile, Exclusion, DatedException, UnknownName, PeriodLoop, DependencyLoop, TooMany}
+use Rattle.object_faults.specs.declared.load_fault.LoadFault.{LoadFault}
+use Rattle.object_faults.specs.declared.load_fault.LoadFault.TheVariants as load
 
 -- ---- texts
 

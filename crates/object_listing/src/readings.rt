@@ -2,9 +2,9 @@
 
 ghost use Rattle.std.specs.Prelude.{◌≡◌, ◌≤◌, length};
 ghost use Rattle.due_model.specs.Limits.{max_periods};
-ghost use Rattle.object_readings.specs.Readings.{is_on, letters_at, number_at, own_number};
-ghost use Rattle.object_readings.specs.Readings.{own_period};
-ghost use Rattle.object_readings.specs.Readings.{own_states, period_at, period_named};
+ghost use Rattle.object_listing.specs.Readings.{is_on, letters_at, number_at, own_number};
+ghost use Rattle.object_listing.specs.Readings.{own_period};
+ghost use Rattle.object_listing.specs.Readings.{own_states, period_at, period_named};
 
 use due_model::config::PeriodId;
 use due_model::options::OptionLetters;

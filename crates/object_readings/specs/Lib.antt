@@ -1,4 +1,0 @@
-pub mod Readings
-pub mod ReadingLaws
-pub mod Periods
-pub mod Plain
