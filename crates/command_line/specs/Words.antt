@@ -107,6 +107,7 @@ TraceLacks options = (deciders standbys : ℕ) → HoldsNumber options (codes "d
 pub record IsLogOf (options : Found) (words : LogWords) : Type 0 where
   pub file : option_copied words.file ≡ first_value options (codes "log")
   pub fold : IsFlag options (codes "fold") words.fold
+  pub metrics : option_copied words.metrics ≡ first_value options (codes "metrics")
 
 -- the seconds that the options of `run` hold
 pub record HoldTimes (options : Found) (times : TryTimes) : Type 0 where
@@ -343,9 +344,10 @@ abbrev pub with_state_options : App → App
 with_state_options app =
     with_rule (with_rule (with_rule app (text_option (codes "state"))) (text_option (codes "in-doubt"))) (flag_option (codes "from-now"))
 
--- two say where a run writes its report as it goes, and that lines of it are folded
+-- where a run writes its report as it goes, that lines of it are folded, and where it writes its counts
 abbrev pub with_log_options : App → App
-with_log_options app = with_rule (with_rule app (text_option (codes "log"))) (flag_option (codes "fold"))
+with_log_options app =
+    with_rule (with_rule (with_rule app (text_option (codes "log"))) (flag_option (codes "fold"))) (text_option (codes "metrics"))
 
 -- `run` has the file of the object text, which must be given, how many deciders there are, how many notices a lane's queue holds,
 -- these, how far ahead a stamp may be, where its report goes, `--quiet`, where the feed is read from, what is kept, and the channel words

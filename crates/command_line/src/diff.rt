@@ -6,7 +6,8 @@ ghost use Rattle.clap.specs.Words.{app_of};
 ghost use Rattle.command_line.specs.Words.{AreSettingsFit, DiffLacks, IsRequestOf, diff_words};
 ghost use Rattle.command_line.specs.Words.{request_name};
 
-use crate::words::{Request, flag_option, text_option, with_zone, zone_words};
+use crate::options::{flag_option, text_option, with_zone, zone_words};
+use crate::words::Request;
 use clap::{ArgMatches, Command};
 use std::alloc::{AllocError, Global};
 

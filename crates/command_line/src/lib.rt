@@ -1,10 +1,16 @@
 //! The command line: what `notify-run` can be asked, and what its words ask.
 #![tactic(auto)]
 
+mod asked;
 mod diff;
+mod options;
+mod replay;
+mod run;
+mod trace;
+mod who;
 pub mod words;
 
+pub use asked::{command, request_of};
 pub use words::{
-    FeedFault, FeedWords, LogWords, Request, ShownWords, StateWords, WhoWords, ZoneWords, command,
-    request_of,
+    FeedFault, FeedWords, LogWords, Request, ShownWords, StateWords, WhoWords, ZoneWords,
 };

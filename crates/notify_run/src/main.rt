@@ -119,7 +119,7 @@ fn replay_through<P: Watcher>(
 
 /// Which lines are wanted.
 fn picks_of(words: ShownWords<'_>) -> Picks<'_>
-    ensures { ArePickedBy words result }
+    ensures { ArePickedBy words.entry result }
 {
     Picks {
         only: words.only,
@@ -130,7 +130,7 @@ fn picks_of(words: ShownWords<'_>) -> Picks<'_>
 
 /// Which lines are wanted, and how they are written.
 fn shown_lines(alloc: Global, words: ShownWords<'_>) -> ShownLines<'_>
-    ensures { AreShownBy words result }
+    ensures { AreShownBy words.entry result }
 {
     let form = if words.json {
         LineForm::Json

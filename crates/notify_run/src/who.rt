@@ -1,9 +1,9 @@
 //! The command `who`: what it supposes, and how it ends.
 
-ghost use Rattle.std.specs.Prelude.{◌≡◌, ◌≤◌, IfSome};
+ghost use Rattle.std.specs.Prelude.{◌≡◌, ◌≤◌, IfSome, None};
 ghost use Rattle.std.specs.Process.{exit_status};
 ghost use Rattle.due_model.specs.Limits.{last_moment};
-ghost use Rattle.notify_run.specs.Times.{IsBadLength, IsBadTime};
+ghost use Rattle.notify_run.specs.Times.{IsBadLength, IsBadTime, IsNoMoment};
 ghost use Rattle.who_told.specs.Fault.{who_status};
 
 use crate::{status_of, status_of_words};
@@ -26,6 +26,42 @@ fn moment_of<T: Clock>(clock: &T) -> Option<u64>
     let now = SystemTime::now(clock).ok()?;
     let since = now.duration_since(UNIX_EPOCH).ok()?;
     Some(since.as_secs().min(LAST_MOMENT))
+}
+
+/// The moment that a text says, or that of a clock. None where the text says none.
+fn begin_of<T: Clock>(clock: &T, zone: &Zone, at: Option<&str>) -> Option<u64>
+    ensures within { IfSome result (λ moment. moment ≤ last_moment) }
+    ensures bad { IsNoMoment zone.now at.entry → result ≡ None }
+{
+    let Some(text) = at else {
+        return moment_of(clock);
+    };
+    match moment_given(zone, text) {
+        Some(moment) => Some(moment),
+        None => None,
+    }
+}
+
+/// What is supposed by these words.
+fn supposed_of<'a>(
+    down: &'a [&'a str],
+    host: &'a str,
+    service: Option<&'a str>,
+    state: &'a str,
+    moment: u64,
+    minutes: u32,
+) -> Supposed<'a>
+    ensures moment { result.moment ≡ moment }
+    ensures minutes { result.minutes ≡ minutes }
+{
+    Supposed {
+        down,
+        host,
+        service,
+        state,
+        moment,
+        minutes,
+    }
 }
 
 /// Says on standard error what it failed with, if it did, and gives its exit status.
@@ -56,14 +92,9 @@ fn do_who<'a>(
         return Err(WhoFault::Command(CommandFault::Unreadable));
     };
     let (host, service) = object_parts(asked.object);
-    let supposed = Supposed {
-        down: asked.down.unwrap_or(&[]),
-        host,
-        service,
-        state: asked.state,
-        moment,
-        minutes: u32::from(minutes),
-    };
+    let down = asked.down.unwrap_or(&[]);
+    let minutes = u32::from(minutes);
+    let supposed = supposed_of(down, host, service, asked.state, moment, minutes);
     let objects = AnyReader::new(file);
     let mut writer = AnyWriter::new(rt.stdout());
     who(rt.alloc(), zone, objects, &supposed, &mut writer)
@@ -80,15 +111,11 @@ pub(crate) fn status_of_who<T: Clock>(
     ensures time { IsBadTime zone.now asked.entry → exit_status result ≡ 2 }
     ensures length { IsBadLength asked.entry → exit_status result ≡ 2 }
 {
-    let begin = match asked.at {
-        Some(text) => moment_given(zone, text),
-        None => moment_of(clock),
-    };
-    let Some(moment) = begin else {
+    let Some(moment) = begin_of(clock, zone, asked.at) else {
         return status_of_words(rt, "bad time");
     };
     match minutes_given(asked.lasting) {
-        Some(minutes) => { status_of_told(rt, do_who(rt, zone, objects, asked, moment, minutes)) }
+        Some(minutes) => status_of_told(rt, do_who(rt, zone, objects, asked, moment, minutes)),
         None => status_of_words(rt, "bad length"),
     }
 }

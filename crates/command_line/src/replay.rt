@@ -1,0 +1,121 @@
+//! The words of `replay`.
+
+ghost use Rattle.std.specs.Prelude.{◌≡◌, codes, IfOk};
+ghost use Rattle.clap.specs.Matches.{found_of};
+ghost use Rattle.clap.specs.Words.{app_of};
+ghost use Rattle.command_line.specs.Words.{IsRequestOf, IsShownOf, replay_words, request_name, with_picks};
+ghost use Rattle.command_line.specs.Words.{with_shown};
+
+use crate::options::{flag_option, text_option, with_zone, zone_words};
+use crate::words::{Request, ShownWords};
+use clap::{ArgMatches, Command};
+use std::alloc::{AllocError, Global};
+
+/// What `notify-run replay --help` says.
+const REPLAY: &str = "\
+Reads object text, a line `%events` and a feed of events from standard input (with
+`--objects`, object text from that file, and from standard input the feed alone), and
+writes to standard output what would have been sent, line by line of the feed:
+
+  N;event;moment;object;kind;state;number;contact;lane     a notice
+  S;event;moment;object;kind;state;filter                  what a filter of the object stopped
+  C;event;moment;object;kind;state;number;contact;filter   a contact that was refused
+  R;line;fault                                             a refused line of the feed
+
+Time periods are of local times: UTC, unless a zone is given. The feed is read as it
+comes, and what an event adds is written before more input is waited for, so that
+`tail -f feed | notify-run replay --objects FILE` follows a feed.
+
+--only NC, --object web/http and --contact ann leave out all lines but those that meet
+each condition given; --json writes each line as a JSON object, with the local time
+beside the moment; --pretty writes them for people: local times, names in columns,
+colours on a terminal unless NO_COLOR is set, and of what a filter of an object stops
+in a row the first line, and how often more before the object's next line or the end.";
+
+/// The command `replay` and its options.
+pub(crate) fn replay_command<'a>(alloc: Global) -> Result<Command<'a>, AllocError>
+    ensures words { IfOk result (λ command. app_of command ≡ replay_words) }
+{
+    let objects = text_option(
+        alloc,
+        "objects",
+        "FILE",
+        "A file of object text; standard input is then the feed alone",
+    );
+    let command = Command::new(alloc, "replay")
+        .about("What would have been sent, from object text and a feed of events")
+        .long_about(REPLAY)
+        .arg(objects)?;
+    let with_shown = with_shown(alloc, command)?;
+    with_zone(alloc, with_shown)
+}
+
+/// Adds the options that say which lines of a report are wanted.
+fn with_picks<'a>(alloc: Global, command: Command<'a>) -> Result<Command<'a>, AllocError>
+    ensures words { IfOk result (λ command_with.
+        app_of command_with ≡ with_picks (app_of command.entry)) }
+{
+    let only = text_option(
+        alloc,
+        "only",
+        "LETTERS",
+        "Only lines of these letters: N, S, C, R",
+    );
+    let object = text_option(
+        alloc,
+        "object",
+        "NAME",
+        "Only lines of this HOST or HOST/SERVICE",
+    );
+    let contact = text_option(
+        alloc,
+        "contact",
+        "NAME",
+        "Only lines that name this contact",
+    );
+    command.arg(only)?.arg(object)?.arg(contact)
+}
+
+/// Adds these, and the options that say how lines are written.
+fn with_shown<'a>(alloc: Global, command: Command<'a>) -> Result<Command<'a>, AllocError>
+    ensures words { IfOk result (λ command_with.
+        app_of command_with ≡ with_shown (app_of command.entry)) }
+{
+    let with_picks = with_picks(alloc, command)?;
+    let json = flag_option(
+        alloc,
+        "json",
+        "Each line as a JSON object, with the local time beside the moment",
+    );
+    let pretty = flag_option(
+        alloc,
+        "pretty",
+        "For people: local times, names in columns, repeated suppressions counted; colours on a terminal",
+    );
+    with_picks.arg(json)?.arg(pretty)
+}
+
+/// What the options of a command say of which lines of a report are wanted.
+fn shown_words<'a>(options: &ArgMatches<'a>) -> ShownWords<'a>
+    ensures { IsShownOf (found_of options.now) result }
+{
+    ShownWords {
+        only: options.get_str("only"),
+        object: options.get_str("object"),
+        contact: options.get_str("contact"),
+        json: options.get_flag("json"),
+        pretty: options.get_flag("pretty"),
+    }
+}
+
+/// What the options of `replay` ask.
+pub(crate) fn replay_request<'m, 'a>(options: &'m ArgMatches<'a>) -> Request<'m, 'a>
+    ensures named { request_name result ≡ codes "replay" }
+    ensures options { IsRequestOf (found_of options.now) result }
+{
+    Request::Replay {
+        objects: options.get_str("objects"),
+        zone: zone_words(options),
+        shown: shown_words(options),
+    }
+}
