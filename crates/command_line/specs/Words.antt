@@ -219,6 +219,7 @@ feed_fault (Replay objects zone shown) = None
 feed_fault (Trace settings standbys zone) = None
 feed_fault (Run objects settings zone channels times quiet ahead log feed) = fault_of feed ahead
 feed_fault (Who objects zone asked) = None
+feed_fault (Diff objects changed zone json) = None
 
 -- it gives a rule and a file
 abbrev pub AreTwo : ZoneWords → Type 0
@@ -237,8 +238,9 @@ has_two_forms words = words.json && words.pretty
 abbrev pub asks_two_forms : Request → Bool
 asks_two_forms (Replay objects zone shown) = has_two_forms shown
 asks_two_forms (Trace settings standbys zone) = false
-asks_two_forms (Run objects settings zone channels times quiet ahead) = false
+asks_two_forms (Run objects settings zone channels times quiet ahead log feed) = false
 asks_two_forms (Who objects zone asked) = false
+asks_two_forms (Diff objects changed zone json) = false
 
 -- a line of a report begins with this letter: N, S, C or R
 abbrev pub is_line_letter : ℕ → Bool
