@@ -6,4 +6,7 @@ mod missed;
 mod named;
 mod reasons;
 
+pub use lines::{refuses, tells};
 pub use missed::push_missed;
+pub use named::{has_command, is_named};
+pub use reasons::push_escalations;

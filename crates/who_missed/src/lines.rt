@@ -37,7 +37,7 @@ pub(crate) fn is_later(object: ObjectId, contact: ContactId, until: u64, line: &
 }
 
 /// Whether it is a notice to a contact.
-pub(crate) fn tells(contact: ContactId, line: &ReportLine) -> bool
+pub fn tells(contact: ContactId, line: &ReportLine) -> bool
     ensures { result ≡ tells contact.0 line.now }
 {
     match line {
@@ -47,7 +47,7 @@ pub(crate) fn tells(contact: ContactId, line: &ReportLine) -> bool
 }
 
 /// Whether a filter of the contact stopped it.
-pub(crate) fn refuses(contact: ContactId, line: &ReportLine) -> bool
+pub fn refuses(contact: ContactId, line: &ReportLine) -> bool
     ensures { result ≡ refuses contact.0 line.now }
 {
     match line {

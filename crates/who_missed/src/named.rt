@@ -48,7 +48,7 @@ pub(crate) fn is_in_escalations(config: &Config, object: ObjectId, contact: Cont
 }
 
 /// Whether the configuration names a contact for an object.
-pub(crate) fn is_named(config: &Config, object: ObjectId, contact: ContactId) -> bool
+pub fn is_named(config: &Config, object: ObjectId, contact: ContactId) -> bool
     ensures { result ≡ is_named config.now object.0 contact.0 }
 {
     if usize::from(contact.0) >= config.contacts.len() {
@@ -69,7 +69,7 @@ fn rights_for<'a>(object: &Object, contact: &'a Contact) -> &'a Rights
 }
 
 /// Whether a contact has a command for such an object.
-pub(crate) fn has_command(config: &Config, object: ObjectId, contact: ContactId) -> bool
+pub fn has_command(config: &Config, object: ObjectId, contact: ContactId) -> bool
     ensures { result ≡ has_command config.now object.0 contact.0 }
 {
     let Some(object) = config.objects.as_slice().get(usize::from(object.0)) else {

@@ -177,7 +177,7 @@ fn push_escalation_of(
 }
 
 /// Adds the same of all of the object's escalations, in their order.
-fn push_escalations(
+pub fn push_escalations(
     text: &mut Vec<u8>,
     config: &Config,
     object: ObjectId,

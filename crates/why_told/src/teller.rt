@@ -1,0 +1,115 @@
+//! The teller that writes of an object's attempts what became of each.
+
+ghost use Rattle.std.specs.Prelude.{◌≡◌, ◌&&◌, false, IfOk};
+ghost use Rattle.why_told.specs.Attempts.{nothing_open};
+ghost use Rattle.why_told.specs.Teller.{is_between, is_of};
+
+use crate::attempts::Open;
+use crate::text::{push_close, push_line};
+use due_model::config::Config;
+use line_forms::{Picks, ReportLine};
+use messages::entries::Entry;
+use report_telling::Teller;
+use std::alloc::{AllocError, Global};
+use zone_times::clock::ZoneClock;
+
+/// What is asked of a report: why each message about an object went to whom it did, and to nobody else.
+#[derive(Clone, Copy, Debug)]
+pub struct Asked<'a> {
+    /// The object: `host` or `host/service`.
+    pub object: &'a str,
+    /// The contact of which it is asked; none is each.
+    pub contact: Option<&'a str>,
+    /// The first moment, in seconds since the epoch.
+    pub from: u64,
+    /// The last moment.
+    pub to: u64,
+}
+
+/// Writes of each attempt on an object its filters, and whom it goes to.
+#[derive(Drop)]
+pub struct Reasons<'a> {
+    alloc: Global,
+    asked: Asked<'a>,
+    open: Open,
+}
+
+impl<'a> Reasons<'a> {
+    /// One that was told no line yet.
+    pub(crate) fn new(alloc: Global, asked: Asked<'a>) -> Reasons<'a>
+        ensures asked { result.asked ≡ asked }
+        ensures open { result.open ≡ nothing_open }
+    {
+        Reasons {
+            alloc,
+            asked,
+            open: Open::new(alloc),
+        }
+    }
+}
+
+/// Whether a line is of a moment from one up to another.
+fn is_between(from: u64, to: u64, line: &ReportLine) -> bool
+    ensures { result ≡ is_between from to line.now }
+{
+    match line {
+        ReportLine::Decided(Entry::Sent(notice)) => from <= notice.moment && notice.moment <= to,
+        ReportLine::Decided(Entry::Withheld(withheld)) => {
+            from <= withheld.moment && withheld.moment <= to
+        }
+        ReportLine::Refused(_) => false,
+    }
+}
+
+/// Whether a line of a report is of what is asked. A refused growth is the only error.
+fn is_of(
+    alloc: Global,
+    asked: Asked<'_>,
+    config: &Config,
+    line: &ReportLine,
+) -> Result<bool, AllocError>
+    ensures { IfOk result (λ is. is ≡ is_of asked.entry config.now line.now) }
+{
+    if !is_between(asked.from, asked.to, line) {
+        return Ok(false);
+    }
+    let picks = Picks {
+        only: None,
+        object: Some(asked.object),
+        contact: None,
+    };
+    picks.is_picked(alloc, config, line)
+}
+
+impl Teller for Reasons<'_> {
+    ghost use Rattle.why_told.specs.Teller.{after_told, ended_text, told_line};
+
+    ghost told = { λ reasons config zone line. told_line reasons config zone line };
+
+    ghost after = { λ reasons config _ line. after_told reasons config line };
+
+    ghost ended = { λ reasons config zone. ended_text reasons config zone };
+
+    fn tell(
+        &mut self,
+        config: &Config,
+        clock: &ZoneClock<'_>,
+        line: &ReportLine,
+        text: &mut Vec<u8>,
+    ) -> Result<(), AllocError> {
+        if !is_of(self.alloc, self.asked, config, line)? {
+            return Ok(());
+        }
+        push_line(text, config, clock, self.asked.contact, &self.open, line)?;
+        self.open.go_on(line)
+    }
+
+    fn end(
+        &mut self,
+        config: &Config,
+        clock: &ZoneClock<'_>,
+        text: &mut Vec<u8>,
+    ) -> Result<(), AllocError> {
+        push_close(text, config, clock, self.asked.contact, &self.open)
+    }
+}

@@ -1,0 +1,295 @@
+//! The filters of an object and of a contact, each with the value of the configuration that it goes by.
+
+ghost use Rattle.std.specs.Prelude.{◌≡◌, ◌≤◌, ◌<◌, ◌++◌, decimal, flat_map, OnOk};
+ghost use Rattle.std.specs.List.{range_with_len};
+ghost use Rattle.due_model.specs.Due.{rights_for};
+ghost use Rattle.why_told.specs.Values.{contact_filter_text, contact_value, filter_at, filter_text};
+ghost use Rattle.why_told.specs.Values.{letter_text, letters_text, passed_at, passed_text, period_name, period_text};
+ghost use Rattle.why_told.specs.Values.{place_of, right_of, value_of};
+
+use due_model::config::{Config, Contact, ContactId, Object, ObjectId, PeriodId, Rights};
+use due_model::notice::Filter;
+use due_model::options::OptionLetters;
+use itoa::Buffer;
+use notice_text::names::filter_name;
+use std::alloc::AllocError;
+
+/// How many filters of an object are tried before this one; before those of a contact all of them are.
+pub(crate) fn place_of(filter: Filter) -> usize
+    ensures { result ≡ place_of filter }
+{
+    match filter {
+        Filter::Program => 0,
+        Filter::Disabled => 1,
+        Filter::Downtime => 2,
+        Filter::Flapping => 3,
+        Filter::Options => 4,
+        Filter::NoProblem => 5,
+        Filter::Period => 6,
+        Filter::Dependency => 7,
+        Filter::Acknowledged => 8,
+        Filter::FirstDelay => 9,
+        Filter::Interval => 10,
+        Filter::ContactDisabled => 11,
+        Filter::ContactOptions => 11,
+        Filter::ContactPeriod => 11,
+    }
+}
+
+/// The filter of an object at a place.
+fn filter_at(place: usize) -> Filter
+    ensures { result ≡ filter_at place }
+{
+    if place == 0 {
+        Filter::Program
+    } else if place == 1 {
+        Filter::Disabled
+    } else if place == 2 {
+        Filter::Downtime
+    } else if place == 3 {
+        Filter::Flapping
+    } else if place == 4 {
+        Filter::Options
+    } else if place == 5 {
+        Filter::NoProblem
+    } else if place == 6 {
+        Filter::Period
+    } else if place == 7 {
+        Filter::Dependency
+    } else if place == 8 {
+        Filter::Acknowledged
+    } else if place == 9 {
+        Filter::FirstDelay
+    } else {
+        Filter::Interval
+    }
+}
+
+/// Adds a number in decimal digits.
+pub(crate) fn push_decimal(text: &mut Vec<u8>, number: u64) -> Result<(), AllocError>
+    ensures { OnOk result (text.new.items ≡ text.old.items ++ decimal number) }
+{
+    let mut buffer = Buffer::new();
+    text.extend_from_slice(buffer.format(number).as_bytes())
+}
+
+/// Adds a letter, where it is in the set.
+fn push_letter(text: &mut Vec<u8>, given: bool, letter: &[u8]) -> Result<(), AllocError>
+    ensures { OnOk result (text.new.items ≡ text.old.items ++ letter_text given letter.now) }
+{
+    if given {
+        text.extend_from_slice(letter)
+    } else {
+        Ok(())
+    }
+}
+
+/// Adds the letters of a set.
+#[tactic(auto, unfolding(crate::specs::Values::letters_text))]
+fn push_letters(text: &mut Vec<u8>, letters: OptionLetters) -> Result<(), AllocError>
+    ensures { OnOk result (text.new.items ≡ text.old.items ++ letters_text letters) }
+{
+    push_letter(text, letters.down, b" d")?;
+    push_letter(text, letters.unreachable, b" u")?;
+    push_letter(text, letters.warning, b" w")?;
+    push_letter(text, letters.unknown, b" u")?;
+    push_letter(text, letters.critical, b" c")?;
+    push_letter(text, letters.recovery, b" r")?;
+    push_letter(text, letters.flapping, b" f")?;
+    push_letter(text, letters.downtime, b" s")
+}
+
+/// The name of a period; empty for a number that no period has.
+fn period_name(config: &Config, period: PeriodId) -> &[u8]
+    ensures { result.now ≡ period_name config.now period.0 }
+{
+    match config.periods.as_slice().get(usize::from(period.0)) {
+        Some(period) => period.name.as_slice(),
+        None => b"",
+    }
+}
+
+/// Adds the name of a period, or that there is none.
+fn push_period(
+    text: &mut Vec<u8>,
+    config: &Config,
+    period: Option<PeriodId>,
+) -> Result<(), AllocError>
+    ensures { OnOk result (text.new.items ≡ text.old.items ++ period_text config.now period) }
+{
+    match period {
+        None => text.extend_from_slice(b" none"),
+        Some(period) => {
+            text.extend_from_slice(b" ")?;
+            text.extend_from_slice(period_name(config, period))
+        }
+    }
+}
+
+/// Adds what an object has for a filter.
+fn push_value(
+    text: &mut Vec<u8>,
+    config: &Config,
+    object: &Object,
+    filter: Filter,
+) -> Result<(), AllocError>
+    ensures { OnOk result
+        (text.new.items ≡ text.old.items ++ value_of config.now object.now filter) }
+{
+    match filter {
+        Filter::Options => {
+            text.extend_from_slice(b" notification_options")?;
+            push_letters(text, object.options)
+        }
+        Filter::Period => {
+            text.extend_from_slice(b" notification_period")?;
+            push_period(text, config, object.period)
+        }
+        Filter::FirstDelay => {
+            text.extend_from_slice(b" first_notification_delay ")?;
+            push_decimal(text, u64::from(object.delay))
+        }
+        Filter::Interval => {
+            text.extend_from_slice(b" notification_interval ")?;
+            push_decimal(text, u64::from(object.interval))
+        }
+        _ => Ok(()),
+    }
+}
+
+/// Adds a filter of an object, with its value.
+pub(crate) fn push_filter(
+    text: &mut Vec<u8>,
+    config: &Config,
+    object: ObjectId,
+    filter: Filter,
+) -> Result<(), AllocError>
+    ensures { OnOk result
+        (text.new.items ≡ text.old.items ++ filter_text config.now object.0 filter) }
+{
+    text.extend_from_slice(filter_name(filter).as_bytes())?;
+    match config.objects.as_slice().get(usize::from(object.0)) {
+        Some(object) => push_value(text, config, object, filter),
+        None => Ok(()),
+    }
+}
+
+/// Adds what a contact has for a filter.
+fn push_right(
+    text: &mut Vec<u8>,
+    config: &Config,
+    rights: &Rights,
+    filter: Filter,
+) -> Result<(), AllocError>
+    ensures { OnOk result
+        (text.new.items ≡ text.old.items ++ right_of config.now rights.now filter) }
+{
+    match filter {
+        Filter::ContactOptions => {
+            text.extend_from_slice(b" notification_options")?;
+            push_letters(text, rights.options)
+        }
+        Filter::ContactPeriod => {
+            text.extend_from_slice(b" notification_period")?;
+            push_period(text, config, rights.period)
+        }
+        _ => Ok(()),
+    }
+}
+
+/// What a contact is notified of, for the kind of an object.
+fn rights_for<'a>(object: &Object, contact: &'a Contact) -> &'a Rights
+    ensures { result.now ≡ rights_for object.now contact.now }
+{
+    if object.host.is_some() {
+        &contact.services
+    } else {
+        &contact.hosts
+    }
+}
+
+/// Adds what a contact has for a filter, for such an object.
+fn push_contact_value(
+    text: &mut Vec<u8>,
+    config: &Config,
+    object: ObjectId,
+    contact: ContactId,
+    filter: Filter,
+) -> Result<(), AllocError>
+    ensures { OnOk result (text.new.items
+        ≡ text.old.items ++ contact_value config.now object.0 contact.0 filter) }
+{
+    let Some(object) = config.objects.as_slice().get(usize::from(object.0)) else {
+        return Ok(());
+    };
+    match config.contacts.as_slice().get(usize::from(contact.0)) {
+        Some(contact) => push_right(text, config, rights_for(object, contact), filter),
+        None => Ok(()),
+    }
+}
+
+/// Adds a filter of a contact, with its value.
+pub(crate) fn push_contact_filter(
+    text: &mut Vec<u8>,
+    config: &Config,
+    object: ObjectId,
+    contact: ContactId,
+    filter: Filter,
+) -> Result<(), AllocError>
+    ensures { OnOk result (text.new.items
+        ≡ text.old.items ++ contact_filter_text config.now object.0 contact.0 filter) }
+{
+    text.extend_from_slice(filter_name(filter).as_bytes())?;
+    push_contact_value(text, config, object, contact, filter)
+}
+
+/// Adds the filter of an object at a place, after a comma where it isn't the first.
+fn push_passed_at(
+    text: &mut Vec<u8>,
+    config: &Config,
+    object: ObjectId,
+    place: usize,
+) -> Result<(), AllocError>
+    ensures { OnOk result
+        (text.new.items ≡ text.old.items ++ passed_at config.now object.0 place) }
+{
+    if place == 0 {
+        text.extend_from_slice(b"    passed       ")?;
+    } else {
+        text.extend_from_slice(b", ")?;
+    }
+    push_filter(text, config, object, filter_at(place))
+}
+
+/// Adds the first filters of an object.
+fn push_first_passed(
+    text: &mut Vec<u8>,
+    config: &Config,
+    object: ObjectId,
+    count: usize,
+) -> Result<(), AllocError>
+    ensures { OnOk result (text.new.items ≡ text.old.items
+        ++ flat_map (passed_at config.now object.0) (range_with_len 0 count)) }
+{
+    for place in 0..count {
+        push_passed_at(text, config, object, place)?;
+    }
+    Ok(())
+}
+
+/// Adds those that passed: the first ones, so many.
+pub(crate) fn push_passed(
+    text: &mut Vec<u8>,
+    config: &Config,
+    object: ObjectId,
+    count: usize,
+) -> Result<(), AllocError>
+    ensures { OnOk result
+        (text.new.items ≡ text.old.items ++ passed_text config.now object.0 count) }
+{
+    if count == 0 {
+        return Ok(());
+    }
+    push_first_passed(text, config, object, count)?;
+    text.extend_from_slice(b"\n")
+}
