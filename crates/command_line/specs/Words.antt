@@ -24,7 +24,7 @@ use Rattle.command_line.specs.declared.words.StateWords.{StateWords}
 use Rattle.command_line.specs.declared.words.TryTimes.{TryTimes}
 use Rattle.command_line.specs.declared.words.WhoWords.{WhoWords}
 use Rattle.command_line.specs.declared.words.ZoneWords.{ZoneWords}
-use Rattle.command_line.specs.declared.words.Request.TheVariants.{Replay, Trace, Run, Who, Diff}
+use Rattle.command_line.specs.declared.words.Request.TheVariants.{Replay, Trace, Run, Who, Diff, Why}
 
 -- the name of the command that is asked for
 abbrev pub request_name : Request → List ℕ
@@ -33,6 +33,7 @@ request_name (Trace settings standbys zone) = codes "trace"
 request_name (Run objects settings zone channels times quiet ahead log feed) = codes "run"
 request_name (Who objects zone asked) = codes "who"
 request_name (Diff objects changed zone json) = codes "diff"
+request_name (Why objects zone asked) = codes "why"
 
 -- in a trace fewer channels stand by than a lane may have
 abbrev pub AreSettingsFit : Request → Type 0
@@ -41,6 +42,7 @@ AreSettingsFit (Trace settings standbys zone) = standbys < max_channels
 AreSettingsFit (Run objects settings zone channels times quiet ahead log feed) = Unit {0}
 AreSettingsFit (Who objects zone asked) = Unit {0}
 AreSettingsFit (Diff objects changed zone json) = Unit {0}
+AreSettingsFit (Why objects zone asked) = Unit {0}
 
 -- the texts that the options of a command hold of the zone
 pub record IsZoneOf (options : Found) (words : ZoneWords) : Type 0 where
@@ -145,6 +147,10 @@ abbrev pub DiffLacks : Found → Type 0
 DiffLacks options = is_some (first_value options (codes "objects")) ≡ true
     → is_some (first_value options (codes "with")) ≡ true → ⊥
 
+-- The options of `why` make no request: they name no file, or no object.
+abbrev pub WhyLacks : Found → Type 0
+WhyLacks options = is_some (first_value options (codes "objects")) ≡ true → LacksWhy options
+
 -- The options of `run` make no request: they name no file, or the numbers that they hold are no settings or no times.
 abbrev pub RunLacks : Found → Type 0
 RunLacks options = (deciders : ℕ) → is_some (first_value options (codes "objects")) ≡ true
@@ -176,6 +182,9 @@ IsRequestOf options (Diff objects changed zone json) =
     (Some objects.now ≡ first_value options (codes "objects"))
     × (Some changed.now ≡ first_value options (codes "with")) × IsZoneOf options zone
     × IsFlag options (codes "json") json
+IsRequestOf options (Why objects zone asked) =
+    (Some objects.now ≡ first_value options (codes "objects")) × IsZoneOf options zone
+    × IsWhyOf options asked
 
 -- it is what the command that was met asks, with its options
 abbrev pub IsAskedBy : ArgMatches → Request → Type 0
@@ -195,6 +204,7 @@ request_zone (Trace settings standbys zone) = zone
 request_zone (Run objects settings zone channels times quiet ahead log feed) = zone
 request_zone (Who objects zone asked) = zone
 request_zone (Diff objects changed zone json) = zone
+request_zone (Why objects zone asked) = zone
 
 -- letters in doubt are given up
 abbrev pub drops_doubt : StateWords → Bool
@@ -220,6 +230,7 @@ feed_fault (Trace settings standbys zone) = None
 feed_fault (Run objects settings zone channels times quiet ahead log feed) = fault_of feed ahead
 feed_fault (Who objects zone asked) = None
 feed_fault (Diff objects changed zone json) = None
+feed_fault (Why objects zone asked) = None
 
 -- it gives a rule and a file
 abbrev pub AreTwo : ZoneWords → Type 0
@@ -241,6 +252,7 @@ asks_two_forms (Trace settings standbys zone) = false
 asks_two_forms (Run objects settings zone channels times quiet ahead log feed) = false
 asks_two_forms (Who objects zone asked) = false
 asks_two_forms (Diff objects changed zone json) = false
+asks_two_forms (Why objects zone asked) = false
 
 -- a line of a report begins with this letter: N, S, C or R
 abbrev pub is_line_letter : ℕ → Bool
@@ -257,6 +269,7 @@ asks_bad_letters (Trace settings standbys zone) = false
 asks_bad_letters (Run objects settings zone channels times quiet ahead log feed) = false
 asks_bad_letters (Who objects zone asked) = false
 asks_bad_letters (Diff objects changed zone json) = false
+asks_bad_letters (Why objects zone asked) = false
 
 -- `--NAME NUMBER`, with a number from `least` to `most`, or with `default` where it is left out
 abbrev pub number_option : (name default : List ℕ) → (least most : ℕ) → Rule
@@ -397,7 +410,7 @@ diff_words =
     (record (text_option (codes "objects")) { required = true }))
     (record (text_option (codes "with")) { required = true })) (flag_option (codes "json")))
 
--- `notify-run` has these five commands, `--version`, no command `help`, and asks for one of the five
+-- `notify-run` has these commands, `--version`, no command `help`, and asks for one of them
 abbrev pub program_words : App
 program_words = record {
   top = record (new_app (codes "notify-run")).top {
@@ -407,5 +420,5 @@ program_words = record {
     subcommand_required = true;
     arg_required_else_help = true;
   };
-  subs = replay_words.top ∷ trace_words.top ∷ run_words.top ∷ who_words.top ∷ diff_words.top ∷ [];
+  subs = replay_words.top ∷ trace_words.top ∷ run_words.top ∷ who_words.top ∷ diff_words.top ∷ why_words.top ∷ [];
 }

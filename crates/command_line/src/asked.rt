@@ -3,13 +3,14 @@
 ghost use Rattle.std.specs.Prelude.{◌≡◌, codes, IfNone, IfOk, IfSome, is_some, Some, true};
 ghost use Rattle.clap.specs.Words.{app_of, subcommand_name_of};
 ghost use Rattle.command_line.specs.Words.{AreSettingsFit, IsAskedBy, IsMetWith, RunLacks, WhoLacks};
-ghost use Rattle.command_line.specs.Words.{DiffLacks, TraceLacks, program_words, request_name};
+ghost use Rattle.command_line.specs.Words.{DiffLacks, TraceLacks, WhyLacks, program_words, request_name};
 
 use crate::diff::{diff_command, diff_request};
 use crate::replay::{replay_command, replay_request};
 use crate::run::{run_command, run_request};
 use crate::trace::{trace_command, trace_request};
 use crate::who::{who_command, who_request};
+use crate::why::{why_command, why_request};
 use crate::words::Request;
 use clap::{ArgMatches, Command};
 use std::alloc::{AllocError, Global};
@@ -45,7 +46,8 @@ pub fn command<'a>(alloc: Global) -> Result<Command<'a>, AllocError>
         .subcommand(trace_command(alloc)?)?
         .subcommand(run_command(alloc)?)?
         .subcommand(who_command(alloc)?)?
-        .subcommand(diff_command(alloc)?)
+        .subcommand(diff_command(alloc)?)?
+        .subcommand(why_command(alloc)?)
 }
 
 /// What a command line that was read asks.
@@ -64,6 +66,8 @@ pub fn request_of<'m, 'a>(matches: &'m ArgMatches<'a>) -> Option<Request<'m, 'a>
         → IsMetWith matches.now (codes "who") WhoLacks) }
     ensures diff { IfNone result (subcommand_name_of matches.now ≡ Some (codes "diff")
         → IsMetWith matches.now (codes "diff") DiffLacks) }
+    ensures why { IfNone result (subcommand_name_of matches.now ≡ Some (codes "why")
+        → IsMetWith matches.now (codes "why") WhyLacks) }
 {
     match matches.subcommand() {
         Some(("replay", options)) => Some(replay_request(options)),
@@ -71,6 +75,7 @@ pub fn request_of<'m, 'a>(matches: &'m ArgMatches<'a>) -> Option<Request<'m, 'a>
         Some(("run", options)) => run_request(options),
         Some(("who", options)) => who_request(options),
         Some(("diff", options)) => diff_request(options),
+        Some(("why", options)) => why_request(options),
         _ => None,
     }
 }

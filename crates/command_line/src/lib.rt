@@ -8,9 +8,11 @@ mod replay;
 mod run;
 mod trace;
 mod who;
+pub mod why;
 pub mod words;
 
 pub use asked::{command, request_of};
+pub use why::WhyWords;
 pub use words::{
     FeedFault, FeedWords, LogWords, Request, ShownWords, StateWords, WhoWords, ZoneWords,
 };

@@ -7,6 +7,7 @@ ghost use Rattle.command_line.specs.Words.{has_bad_letters, asks_bad_letters, as
 ghost use Rattle.command_line.specs.Words.{is_line_letter, is_plain, drops_doubt, fault_of, feed_fault};
 ghost use Rattle.command_line.specs.Words.{is_doubt_word, request_zone};
 
+use crate::why::WhyWords;
 use steps::Settings;
 
 /// What a command line says of the zone of local times: neither, for UTC, or one of the two; both are one too many.
@@ -247,6 +248,12 @@ pub enum Request<'m, 'a> {
         /// Whether each line is to be an object of JSON.
         json: bool,
     },
+    /// Why each message about an object went to whom it did, by the object text in the file and the feed on standard input.
+    Why {
+        objects: &'a str,
+        zone: ZoneWords<'a>,
+        asked: WhyWords<'a>,
+    },
 }
 
 impl<'a> Request<'_, 'a> {
@@ -260,6 +267,7 @@ impl<'a> Request<'_, 'a> {
             Request::Run { zone, .. } => zone,
             Request::Who { zone, .. } => zone,
             Request::Diff { zone, .. } => zone,
+            Request::Why { zone, .. } => zone,
         }
     }
 

@@ -16,6 +16,7 @@ mod diff;
 mod feeds;
 mod pretty;
 mod who;
+mod why;
 mod zones;
 
 use clap::error::ErrorKind;
@@ -42,6 +43,7 @@ use steps::Settings;
 use text_lines::AnyReader;
 use trace::trace_in;
 use who::status_of_who;
+use why::status_of_why;
 use zones::{status_of_zone, zone_asked};
 
 /// Says on standard error what a command failed with, if it did, and gives its exit status.
@@ -243,6 +245,7 @@ fn status_of_request<T: Threads + Wait + Clock + Sync>(
             json,
             ..
         } => return status_of_diff(rt, &zone, objects, changed, json),
+        Request::Why { objects, asked, .. } => return status_of_why(rt, &zone, objects, asked),
         Request::Run {
             objects,
             settings,

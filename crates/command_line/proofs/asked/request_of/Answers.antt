@@ -1,6 +1,6 @@
 use Rattle.std.proofs.Common.{List, Some, codes, ap, sym, ℕ, ◌∙◌}
 use Rattle.clap.specs.Matches.{found_of}
-use Rattle.command_line.specs.Words.{DiffLacks, RunLacks, TraceLacks, WhoLacks}
+use Rattle.command_line.specs.Words.{DiffLacks, RunLacks, TraceLacks, WhoLacks, WhyLacks}
 use Rattle.command_line.proofs.RequestLemmas.{is-asked, none-asked, some-asked}
 use Rattle.command_line.proofs.asked.request_of.Goals as goal
 
@@ -57,3 +57,15 @@ returns-in-Some-diff-default-clause-diff c =
     let met = c.in-Some-diff-default in
     none-asked c.args.matches.now (found_of met.options.now) (codes "diff") c.diff_request.result DiffLacks (ap (λ (n : List ℕ). Some n) (sym met.is-diff) ∙ met.ensures.name) met.ensures.rows
     c.diff_request.ensures.lacking
+
+pub returns-in-Some-why-default-clause-asked : goal.returns-in-Some-why-default-clause-asked
+returns-in-Some-why-default-clause-asked c =
+    let met = c.in-Some-why-default in
+    some-asked c.args.matches.now (found_of met.options.now) (codes "why") c.why_request.result (ap (λ (n : List ℕ). Some n) (sym met.is-why) ∙ met.ensures.name) met.ensures.rows
+    c.why_request.ensures.named c.why_request.ensures.options
+
+pub returns-in-Some-why-default-clause-why : goal.returns-in-Some-why-default-clause-why
+returns-in-Some-why-default-clause-why c =
+    let met = c.in-Some-why-default in
+    none-asked c.args.matches.now (found_of met.options.now) (codes "why") c.why_request.result WhyLacks (ap (λ (n : List ℕ). Some n) (sym met.is-why) ∙ met.ensures.name) met.ensures.rows
+    c.why_request.ensures.lacking
