@@ -12,8 +12,10 @@ use Rattle.clap.specs.Words.{App, Rule, new_app, new_rule, rows_of, subcommand_r
 use Rattle.clap.specs.Words.{with_rule}
 use Rattle.steps.specs.declared.settings.Settings.{Settings}
 use Rattle.steps.specs.Settings.{AreSettings, max_channels}
-use Rattle.clap.specs.declared.builder.action.ArgAction.TheVariants.{Append, SetTrue}
+use Rattle.clap.specs.declared.builder.action.ArgAction.TheVariants.{Append}
 use Rattle.clap.specs.declared.builder.value_parser.ValueParser.TheVariants.{Signed}
+use Rattle.command_line.specs.Why.{IsWhyOf, LacksWhy, why_words}
+pub use Rattle.command_line.specs.Options.{flag_option, IsFlag, text_option, with_zone}
 use Rattle.command_line.specs.declared.words.FeedFault.{FeedFault}
 use Rattle.command_line.specs.declared.words.FeedFault.TheVariants.{Ahead, BadDoubt, NoFeed, NoState}
 use Rattle.command_line.specs.declared.words.FeedWords.{FeedWords}
@@ -48,12 +50,6 @@ AreSettingsFit (Why objects zone asked) = Unit {0}
 pub record IsZoneOf (options : Found) (words : ZoneWords) : Type 0 where
   pub rule : option_copied words.rule ≡ first_value options (codes "zone")
   pub file : option_copied words.file ≡ first_value options (codes "zone-file")
-
--- A flag is on where it is given, and off where it isn't.
-pub record IsFlag (options : Found) (name : List ℕ) (flag : Bool) : Type 0 where
-  pub left_out : one_text options name ≡ None → flag ≡ false
-  pub on : one_text options name ≡ Some (codes "true") → flag ≡ true
-  pub off : one_text options name ≡ Some (codes "false") → flag ≡ false
 
 -- the texts that they hold of which lines of a report are wanted, and whether each is to be JSON, or for people
 pub record IsShownOf (options : Found) (words : ShownWords) : Type 0 where
@@ -288,31 +284,12 @@ bare_number_option name least most = record (new_rule name) {
   parser = Some (Signed (pos least) (pos most));
 }
 
--- `--NAME TEXT`, which may be left out
-abbrev pub text_option : List ℕ → Rule
-text_option name = record (new_rule name) {
-  long = Some name;
-  value_names = 1;
-}
-
--- `--NAME`, which may be left out
-abbrev pub flag_option : List ℕ → Rule
-flag_option name = record (new_rule name) {
-  long = Some name;
-  action = Some SetTrue;
-}
-
 -- words without an option, of which there may be any number
 abbrev pub word_list : List ℕ → Rule
 word_list name = record (new_rule name) {
   range = Some (record { start_inclusive = 1; end_inclusive = usize_max });
   value_names = 1;
 }
-
--- beside its other options a command has two by which a zone is given
-abbrev pub with_zone : App → App
-with_zone app =
-    with_rule (with_rule app (text_option (codes "zone"))) (text_option (codes "zone-file"))
 
 -- three say which lines of a report are wanted, and two that each is to be JSON, or for people
 abbrev pub with_picks : App → App
