@@ -1,5 +1,5 @@
 -- The filters by their places, and the values of the configuration that they go by.
-use Rattle.std.specs.Prelude.{ℕ, ◌==◌, Bool, List, [], ◌++◌, codes, decimal, flat_map, slice_get, Option, None, Some, if◌then◌else◌}
+use Rattle.std.specs.Prelude.{ℕ, ◌==◌, Bool, List, [], ◌++◌, codes, decimal, flat_map, is_some, slice_get, Option, None, Some, if◌then◌else◌}
 use Rattle.std.specs.List.{range_with_len}
 use Rattle.std.specs.Option.{option_map_or}
 use Rattle.due_model.specs.declared.config.Config.{Config}
@@ -44,13 +44,26 @@ filter_at place =
 abbrev pub letter_text : Bool → List ℕ → List ℕ
 letter_text given letter = if given then letter else []
 
--- the letters of a set
-unfoldable pub letters_text : OptionLetters → List ℕ
-letters_text letters =
+-- the letters of a set that are of problems of services, or of hosts
+unfoldable pub service_letters : OptionLetters → List ℕ
+service_letters letters =
+    letter_text letters.warning (codes " w") ++ letter_text letters.unknown (codes " u")
+    ++ letter_text letters.critical (codes " c")
+
+unfoldable pub host_letters : OptionLetters → List ℕ
+host_letters letters =
     letter_text letters.down (codes " d") ++ letter_text letters.unreachable (codes " u")
-    ++ letter_text letters.warning (codes " w") ++ letter_text letters.unknown (codes " u")
-    ++ letter_text letters.critical (codes " c") ++ letter_text letters.recovery (codes " r")
-    ++ letter_text letters.flapping (codes " f") ++ letter_text letters.downtime (codes " s")
+
+-- those of other kinds
+unfoldable pub other_letters : OptionLetters → List ℕ
+other_letters letters =
+    letter_text letters.recovery (codes " r") ++ letter_text letters.flapping (codes " f")
+    ++ letter_text letters.downtime (codes " s")
+
+-- the letters of a set that such an object can have
+abbrev pub letters_text : (service : Bool) → OptionLetters → List ℕ
+letters_text service letters =
+    (if service then service_letters letters else host_letters letters) ++ other_letters letters
 
 -- the name of a period
 abbrev pub period_name : Config → (p : ℕ) → List ℕ
@@ -64,7 +77,8 @@ period_text c (Some period) =
 
 -- what the object has for a filter, after the filter's name
 abbrev pub value_of : Config → Object → Filter → List ℕ
-value_of c object Options = codes " notification_options" ++ letters_text object.options
+value_of c object Options =
+    codes " notification_options" ++ letters_text (is_some object.host) object.options
 value_of c object Period = codes " notification_period" ++ period_text c object.period
 value_of c object FirstDelay = codes " first_notification_delay " ++ decimal object.delay
 value_of c object Interval = codes " notification_interval " ++ decimal object.interval
@@ -77,16 +91,18 @@ filter_text c o filter =
     ++ option_map_or (λ object. value_of c object filter) (slice_get c.objects o) []
 
 -- what a contact has for a filter, for such an object
-abbrev pub right_of : Config → Rights → Filter → List ℕ
-right_of c rights ContactOptions = codes " notification_options" ++ letters_text rights.options
-right_of c rights ContactPeriod = codes " notification_period" ++ period_text c rights.period
-right_of c rights filter = []
+abbrev pub right_of : Config → (service : Bool) → Rights → Filter → List ℕ
+right_of c service rights ContactOptions =
+    codes " notification_options" ++ letters_text service rights.options
+right_of c service rights ContactPeriod =
+    codes " notification_period" ++ period_text c rights.period
+right_of c service rights filter = []
 
 abbrev pub contact_value : Config → (o k : ℕ) → Filter → List ℕ
 contact_value c o k filter =
     option_map_or
     (λ object.
-    option_map_or (λ contact. right_of c (rights_for object contact) filter)
+    option_map_or (λ contact. right_of c (is_some object.host) (rights_for object contact) filter)
     (slice_get c.contacts k) [])
     (slice_get c.objects o) []
 

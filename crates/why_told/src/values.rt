@@ -1,10 +1,10 @@
 //! The filters of an object and of a contact, each with the value of the configuration that it goes by.
 
-ghost use Rattle.std.specs.Prelude.{◌≡◌, ◌≤◌, ◌<◌, ◌++◌, decimal, flat_map, OnOk};
+ghost use Rattle.std.specs.Prelude.{◌≡◌, ◌++◌, decimal, flat_map, is_some, OnOk};
 ghost use Rattle.std.specs.List.{range_with_len};
 ghost use Rattle.due_model.specs.Due.{rights_for};
 ghost use Rattle.why_told.specs.Values.{contact_filter_text, contact_value, filter_at, filter_text};
-ghost use Rattle.why_told.specs.Values.{letter_text, letters_text, passed_at, passed_text, period_name, period_text};
+ghost use Rattle.why_told.specs.Values.{host_letters, letter_text, letters_text, other_letters, passed_at, passed_text, period_name, period_text, service_letters};
 ghost use Rattle.why_told.specs.Values.{place_of, right_of, value_of};
 
 use due_model::config::{Config, Contact, ContactId, Object, ObjectId, PeriodId, Rights};
@@ -84,19 +84,45 @@ fn push_letter(text: &mut Vec<u8>, given: bool, letter: &[u8]) -> Result<(), All
     }
 }
 
-/// Adds the letters of a set.
-#[tactic(auto, unfolding(crate::specs::Values::letters_text))]
-fn push_letters(text: &mut Vec<u8>, letters: OptionLetters) -> Result<(), AllocError>
-    ensures { OnOk result (text.new.items ≡ text.old.items ++ letters_text letters) }
+/// Adds the letters of a set that are of problems of services.
+#[tactic(auto, unfolding(crate::specs::Values::service_letters))]
+fn push_service_letters(text: &mut Vec<u8>, letters: OptionLetters) -> Result<(), AllocError>
+    ensures { OnOk result (text.new.items ≡ text.old.items ++ service_letters letters) }
 {
-    push_letter(text, letters.down, b" d")?;
-    push_letter(text, letters.unreachable, b" u")?;
     push_letter(text, letters.warning, b" w")?;
     push_letter(text, letters.unknown, b" u")?;
-    push_letter(text, letters.critical, b" c")?;
+    push_letter(text, letters.critical, b" c")
+}
+
+/// Adds those of problems of hosts.
+#[tactic(auto, unfolding(crate::specs::Values::host_letters))]
+fn push_host_letters(text: &mut Vec<u8>, letters: OptionLetters) -> Result<(), AllocError>
+    ensures { OnOk result (text.new.items ≡ text.old.items ++ host_letters letters) }
+{
+    push_letter(text, letters.down, b" d")?;
+    push_letter(text, letters.unreachable, b" u")
+}
+
+/// Adds those of other kinds.
+#[tactic(auto, unfolding(crate::specs::Values::other_letters))]
+fn push_other_letters(text: &mut Vec<u8>, letters: OptionLetters) -> Result<(), AllocError>
+    ensures { OnOk result (text.new.items ≡ text.old.items ++ other_letters letters) }
+{
     push_letter(text, letters.recovery, b" r")?;
     push_letter(text, letters.flapping, b" f")?;
     push_letter(text, letters.downtime, b" s")
+}
+
+/// Adds the letters of a set that such an object can have.
+fn push_letters(text: &mut Vec<u8>, service: bool, letters: OptionLetters) -> Result<(), AllocError>
+    ensures { OnOk result (text.new.items ≡ text.old.items ++ letters_text service letters) }
+{
+    if service {
+        push_service_letters(text, letters)?;
+    } else {
+        push_host_letters(text, letters)?;
+    }
+    push_other_letters(text, letters)
 }
 
 /// The name of a period; empty for a number that no period has.
@@ -139,7 +165,7 @@ fn push_value(
     match filter {
         Filter::Options => {
             text.extend_from_slice(b" notification_options")?;
-            push_letters(text, object.options)
+            push_letters(text, object.host.is_some(), object.options)
         }
         Filter::Period => {
             text.extend_from_slice(b" notification_period")?;
@@ -178,16 +204,17 @@ pub(crate) fn push_filter(
 fn push_right(
     text: &mut Vec<u8>,
     config: &Config,
+    service: bool,
     rights: &Rights,
     filter: Filter,
 ) -> Result<(), AllocError>
     ensures { OnOk result
-        (text.new.items ≡ text.old.items ++ right_of config.now rights.now filter) }
+        (text.new.items ≡ text.old.items ++ right_of config.now service rights.now filter) }
 {
     match filter {
         Filter::ContactOptions => {
             text.extend_from_slice(b" notification_options")?;
-            push_letters(text, rights.options)
+            push_letters(text, service, rights.options)
         }
         Filter::ContactPeriod => {
             text.extend_from_slice(b" notification_period")?;
@@ -223,7 +250,10 @@ fn push_contact_value(
         return Ok(());
     };
     match config.contacts.as_slice().get(usize::from(contact.0)) {
-        Some(contact) => push_right(text, config, rights_for(object, contact), filter),
+        Some(contact) => {
+            let service = object.host.is_some();
+            push_right(text, config, service, rights_for(object, contact), filter)
+        }
         None => Ok(()),
     }
 }
