@@ -13,7 +13,7 @@ class Reasons:
         self.object, self.text, self.row, self.attempt = configuration.objects[number], "", [], []
 
     def period(self, number):
-        return "none" if number is None else self.configuration.period_names[number]
+        return "none" if number is None else list(self.configuration.period_numbers)[number]
 
     def letters(self, options):
         return "".join(f" {letter}" for letter in LETTERS[self.object.kind] + "rfs" if letter in options)
