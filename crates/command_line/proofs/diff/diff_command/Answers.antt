@@ -20,5 +20,5 @@ returns c =
     let two : app_of c.in_ok-arg-2.field-0 ≡ with_rule (with_rule (new_app (codes "diff")) (record (text_option (codes "objects")) { required = true })) (record (text_option (codes "with")) { required = true }) =
     c.in_ok-arg-2.ensures.shape changed_local ∙ ap₂ with_rule one changed in
     let three : app_of c.in_ok-command.command ≡ with_rule (with_rule (with_rule (new_app (codes "diff")) (record (text_option (codes "objects")) { required = true })) (record (text_option (codes "with")) { required = true })) (flag_option (codes "json")) =
-    c.in_ok-command.ensures.shape c.flag_option.ensures.local ∙ ap₂ with_rule two c.flag_option.ensures.rule in
+    c.in_ok-command.ensures.shape c.flag_option-json.ensures.local ∙ ap₂ with_rule two c.flag_option-json.ensures.rule in
     record { words = IfOk-weaker c.with_zone.result _ _ (λ r h. h ∙ ap with_zone three) c.with_zone.ensures.words }

@@ -11,8 +11,8 @@ pub returns : goal.returns
 returns c =
     let bare : app_of c.long_about.result ≡ new_app (codes "why") = ap app_of_fields c.long_about.ensures ∙ ap app_of_fields c.about.ensures ∙ c.new.ensures.app in
     let objects : rule_of c.required.result ≡ record (text_option (codes "objects")) { required = true } =
-    ap rule_of c.required.ensures ∙ ap (λ (r : Rule). record r { required = true }) c.text_option.ensures.rule in
-    let local = ap is_global c.required.ensures ∙ c.text_option.ensures.local in
+    ap rule_of c.required.ensures ∙ ap (λ (r : Rule). record r { required = true }) c.text_option-objects.ensures.rule in
+    let local = ap is_global c.required.ensures ∙ c.text_option-objects.ensures.local in
     let added : app_of c.in_ok-arg.field-0 ≡ with_rule (new_app (codes "why")) (record (text_option (codes "objects")) { required = true }) =
     c.in_ok-arg.ensures.shape local ∙ ap₂ with_rule bare objects in
     let named : app_of c.in_ok-command.command ≡ with_rule (with_rule (new_app (codes "why")) (record (text_option (codes "objects")) { required = true })) asked_object =
