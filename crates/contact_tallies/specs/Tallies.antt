@@ -1,5 +1,6 @@
 -- What the contacts of a configuration were told, by their numbers.
-use Rattle.std.specs.Prelude.{◌≡◌, ℕ, ◌+◌, ◌<◌, ◌&&◌, min, max, nat_le, nat_lt, List, length, slice_get, slice_index_or, slice_set, Some, if◌then◌else◌}
+use Rattle.std.specs.Prelude.{◌≡◌, ℕ, ◌+◌, ◌<◌, ◌&&◌, min, max, nat_le, nat_lt, List, length, map, slice_get, slice_index_or, slice_set, Some, if◌then◌else◌}
+use Rattle.std.specs.List.{range_with_len}
 use Rattle.due_model.specs.declared.notice.Notice.{Notice}
 use Rattle.due_model.specs.declared.zone.Zone.{Zone}
 use Rattle.contact_tallies.specs.declared.tallies.Tallies.{Tallies}
@@ -16,6 +17,10 @@ tally_of zone past k = record {
   at_night = counted (is_night_page zone k) past;
   silence = longest past k;
 }
+
+-- what the contacts of these numbers were
+abbrev pub tallies_of : Zone → List Mark → (count : ℕ) → List Tally
+tallies_of zone past count = map (tally_of zone past) (range_with_len 0 count)
 
 -- what nobody was told
 abbrev pub no_tally : Tally

@@ -1,6 +1,6 @@
 //! When contacts were last told of the problems of objects.
 
-ghost use Rattle.std.specs.Prelude.{◌≡◌, ◌==◌, [], find, replicate, slice_set, IfOk, OnOk};
+ghost use Rattle.std.specs.Prelude.{◌≡◌, ◌<◌, ◌==◌, [], find, replicate, slice_set, IfOk, OnOk};
 ghost use Rattle.contact_tallies.specs.Heard.{heard, no_problems, told_after, told_of, without};
 
 use due_model::config::{ContactId, ObjectId};
@@ -133,7 +133,8 @@ impl Problems {
 
     /// When a contact was last told of the problem of an object.
     pub(crate) fn heard(&self, object: ObjectId, contact: ContactId) -> Option<u64>
-        ensures { result ≡ heard (told_of self.now object.0) contact.0 }
+        ensures value { result ≡ heard (told_of self.now object.0) contact.0 }
+        ensures within { object.0 < 65536 }
     {
         self.problems[usize::from(object.0)].heard(contact)
     }
@@ -148,7 +149,8 @@ impl Problems {
 
     /// The problem of an object is over.
     pub(crate) fn end(&mut self, object: ObjectId)
-        ensures { self.new ≡ slice_set self.old object.0 [] }
+        ensures value { self.new ≡ slice_set self.old object.0 [] }
+        ensures within { object.0 < 65536 }
     {
         self.problems[usize::from(object.0)].end();
     }

@@ -1,12 +1,12 @@
 //! The tallies of a configuration's contacts.
 
-ghost use Rattle.std.specs.Prelude.{◌≡◌, ◌∷◌, ◌≤◌, ℕ, List, [], replicate, slice_get, IfOk, OnOk};
+ghost use Rattle.std.specs.Prelude.{◌≡◌, ◌<◌, ◌≤◌, ◌∷◌, ℕ, List, [], replicate, IfOk, OnOk};
 ghost use Rattle.due_model.specs.declared.zone.Zone.{Zone};
 ghost use Rattle.due_model.specs.Limits.{last_moment};
 ghost use Rattle.contact_tallies.specs.Marks.{Given, Mark, is_night, is_of_problem, marks_after};
 ghost use Rattle.contact_tallies.specs.Marks.{recovered, since};
-ghost use Rattle.contact_tallies.specs.Tallies.{AreTallies, counted_in, no_tally, silence_in, told_by};
-ghost use Rattle.contact_tallies.specs.Tallies.{with_notice};
+ghost use Rattle.contact_tallies.specs.Tallies.{AreTallies, counted_in, no_tally, silence_in, tallies_of};
+ghost use Rattle.contact_tallies.specs.Tallies.{told_by, with_notice};
 
 use crate::heard::{Problems, Told};
 use due_model::config::ObjectId;
@@ -77,10 +77,12 @@ fn since(moment: u64, earlier: Option<u64>) -> u64
 
 /// How long the contact of a notice had heard nothing of the problem that it is about.
 fn silence_in(problems: &Problems, notice: &Notice) -> u64
-    ensures { result ≡ silence_in problems.now notice.now }
+    ensures value { result ≡ silence_in problems.now notice.now }
+    ensures within { notice.now.object.0 < 65536 }
 {
+    let last = problems.heard(notice.object, notice.contact);
     if is_of_problem(notice.kind) {
-        since(notice.moment, problems.heard(notice.object, notice.contact))
+        since(notice.moment, last)
     } else {
         0
     }
@@ -137,11 +139,12 @@ impl Tallies {
         })
     }
 
-    /// The tally of the contact of a number, if there is one.
-    pub fn get(&self, contact: usize) -> Option<Tally>
-        ensures { result ≡ slice_get self.now.contacts.items contact }
+    /// The tallies, by the numbers of the contacts.
+    pub fn contacts(&self) -> &[Tally]
+        ensures { (zone : Zone) (count : ℕ) (past : List Mark)
+            → AreTallies zone count past self.now → result.now ≡ tallies_of zone past count }
     {
-        self.contacts.as_slice().get(contact).copied()
+        self.contacts.as_slice()
     }
 
     /// Counts the notices that a line of the feed gives, and ends the problem of which its event says so. A refused growth is the
@@ -159,10 +162,13 @@ impl Tallies {
         for notice in notices {
             self.count_notice(clock, notice)?;
         }
-        if let Some(object) = recovered(event) {
-            self.problems.end(object);
+        match recovered(event) {
+            Some(object) => {
+                self.problems.end(object);
+                Ok(())
+            }
+            None => Ok(()),
         }
-        Ok(())
     }
 
     /// Counts a notice.
