@@ -85,11 +85,7 @@ fn push_string(text: &mut Vec<u8>, bytes: &[u8]) -> Result<(), AllocError>
 
 /// Adds the numbers of a line of text.
 #[tactic(auto, unfolding(crate::specs::Rows::plain_numbers))]
-fn push_plain_numbers(
-    text: &mut Vec<u8>,
-    before: &Tally,
-    after: &Tally,
-) -> Result<(), AllocError>
+fn push_plain_numbers(text: &mut Vec<u8>, before: &Tally, after: &Tally) -> Result<(), AllocError>
     ensures { OnOk result (text.new.items ≡ text.old.items ++ plain_numbers before.now after.now) }
 {
     push_pair(text, b";", before.pages, b";", after.pages)?;
@@ -102,9 +98,27 @@ fn push_plain_numbers(
 fn push_json_numbers(text: &mut Vec<u8>, before: &Tally, after: &Tally) -> Result<(), AllocError>
     ensures { OnOk result (text.new.items ≡ text.old.items ++ json_numbers before.now after.now) }
 {
-    push_pair(text, b",\"before\":", before.pages, b",\"after\":", after.pages)?;
-    push_pair(text, b",\"night_before\":", before.at_night, b",\"night_after\":", after.at_night)?;
-    push_pair(text, b",\"silence_before\":", before.silence, b",\"silence_after\":", after.silence)
+    push_pair(
+        text,
+        b",\"before\":",
+        before.pages,
+        b",\"after\":",
+        after.pages,
+    )?;
+    push_pair(
+        text,
+        b",\"night_before\":",
+        before.at_night,
+        b",\"night_after\":",
+        after.at_night,
+    )?;
+    push_pair(
+        text,
+        b",\"silence_before\":",
+        before.silence,
+        b",\"silence_after\":",
+        after.silence,
+    )
 }
 
 /// Adds a line of text.

@@ -68,7 +68,13 @@ fn push_first(
     match a.contacts.get(number) {
         Some(contact) => {
             let name = contact.name.as_slice();
-            push_row(form, text, name, &told_at(a.tallies, number), &told_to(b, name))
+            push_row(
+                form,
+                text,
+                name,
+                &told_at(a.tallies, number),
+                &told_to(b, name),
+            )
         }
         None => Ok(()),
     }

@@ -118,13 +118,13 @@ counted_each : (zone : Zone) (n : Notice) (silence : ℕ) (tallies : List Tally)
     → ((k : ℕ) → k < count → slice_get tallies k ≡ Some (tally_of zone past k)) → silence ≡ silence_before past n
     → (k : ℕ) → k < count → slice_get (counted_in zone n silence tallies) k ≡ Some (tally_of zone (Given n ∷ past) k)
 counted_each zone n silence tallies count past long each is k h = elim (eqb_tells n.contact.0 k) [
-    | inl t ↦ counted-here zone n silence tallies k t.1 (omega (arith, long, h))
-        ∙ ap (λ (x : ℕ). Some (with_notice zone n x (slice_index_or tallies k no_tally))) is
-        ∙ ap (λ (x : Tally). Some (with_notice zone n (silence_before past n) x)) (get_or_from_slice_get tallies k (tally_of zone past k) no_tally (each k h))
-        ∙ ap (λ (x : Tally). Some x) (tally_more zone n past k t.0)
-    | inr t ↦ set-there (nat_lt n.contact.0 (length tallies)) tallies n.contact.0 k (with_notice zone n silence (slice_index_or tallies n.contact.0 no_tally)) (λ e. t.1 (sym e))
-        ∙ each k h ∙ ap (λ (x : Tally). Some x) (sym (tally_same zone n past k t.0))
-  ]
+  | inl t ↦ counted-here zone n silence tallies k t.1 (omega (arith, long, h))
+      ∙ ap (λ (x : ℕ). Some (with_notice zone n x (slice_index_or tallies k no_tally))) is
+      ∙ ap (λ (x : Tally). Some (with_notice zone n (silence_before past n) x)) (get_or_from_slice_get tallies k (tally_of zone past k) no_tally (each k h))
+      ∙ ap (λ (x : Tally). Some x) (tally_more zone n past k t.0)
+  | inr t ↦ set-there (nat_lt n.contact.0 (length tallies)) tallies n.contact.0 k (with_notice zone n silence (slice_index_or tallies n.contact.0 no_tally)) (λ e. t.1 (sym e))
+      ∙ each k h ∙ ap (λ (x : Tally). Some x) (sym (tally_same zone n past k t.0))
+]
 
 -- ---- the problems
 
@@ -134,23 +134,23 @@ told-each : (b : Bool) (problems : List (List Told)) (p : ℕ) (one : Told) (pas
     ≡ cond (b && (eqb p o && eqb one.contact.0 k)) (Some one.moment) (last_told past o k)
 told-each false problems p one past long within each o k h = each o k h
 told-each true problems p one past long within each o k h = elim (eqb_tells p o) [
-    | inl t ↦ ap (λ (xs : List Told). heard xs k) (get_or-set_at problems p o (told_after (told_of problems p) one) [] (sym t.1) (omega (arith, long, within)))
-        ∙ heard_after (told_of problems p) one k
-        ∙ ap (λ (x : Option ℕ). cond (eqb one.contact.0 k) (Some one.moment) x) (each p k within ∙ ap (λ (q : ℕ). last_told past q k) t.1)
-        ∙ sym (ap (λ (x : Bool). cond (x && eqb one.contact.0 k) (Some one.moment) (last_told past o k)) t.0)
-    | inr t ↦ ap (λ (xs : List Told). heard xs k) (get_or-set_other problems p o (told_after (told_of problems p) one) [] (λ e. t.1 (sym e)))
-        ∙ each o k h ∙ sym (ap (λ (x : Bool). cond (x && eqb one.contact.0 k) (Some one.moment) (last_told past o k)) t.0)
-  ]
+  | inl t ↦ ap (λ (xs : List Told). heard xs k) (get_or-set_at problems p o (told_after (told_of problems p) one) [] (sym t.1) (omega (arith, long, within)))
+      ∙ heard_after (told_of problems p) one k
+      ∙ ap (λ (x : Option ℕ). cond (eqb one.contact.0 k) (Some one.moment) x) (each p k within ∙ ap (λ (q : ℕ). last_told past q k) t.1)
+      ∙ sym (ap (λ (x : Bool). cond (x && eqb one.contact.0 k) (Some one.moment) (last_told past o k)) t.0)
+  | inr t ↦ ap (λ (xs : List Told). heard xs k) (get_or-set_other problems p o (told_after (told_of problems p) one) [] (λ e. t.1 (sym e)))
+      ∙ each o k h ∙ sym (ap (λ (x : Bool). cond (x && eqb one.contact.0 k) (Some one.moment) (last_told past o k)) t.0)
+]
 
 ends-each : (problems : List (List Told)) (p : ℕ) (past : List Mark) → length problems ≡ 65536 → p < 65536
     → ((o k : ℕ) → o < 65536 → heard (told_of problems o) k ≡ last_told past o k) → (o k : ℕ) → o < 65536
     → heard (told_of (slice_set problems p []) o) k ≡ cond (eqb p o) None (last_told past o k)
 ends-each problems p past long within each o k h = elim (eqb_tells p o) [
-    | inl t ↦ ap (λ (xs : List Told). heard xs k) (get_or-set_at problems p o [] [] (sym t.1) (omega (arith, long, within)))
-        ∙ sym (ap (λ (x : Bool). cond x None (last_told past o k)) t.0)
-    | inr t ↦ ap (λ (xs : List Told). heard xs k) (get_or-set_other problems p o [] [] (λ e. t.1 (sym e)))
-        ∙ each o k h ∙ sym (ap (λ (x : Bool). cond x None (last_told past o k)) t.0)
-  ]
+  | inl t ↦ ap (λ (xs : List Told). heard xs k) (get_or-set_at problems p o [] [] (sym t.1) (omega (arith, long, within)))
+      ∙ sym (ap (λ (x : Bool). cond x None (last_told past o k)) t.0)
+  | inr t ↦ ap (λ (xs : List Told). heard xs k) (get_or-set_other problems p o [] [] (λ e. t.1 (sym e)))
+      ∙ each o k h ∙ sym (ap (λ (x : Bool). cond x None (last_told past o k)) t.0)
+]
 
 -- ---- the tallies
 

@@ -24,7 +24,7 @@ tallies_of zone past count = map (tally_of zone past) (range_with_len 0 count)
 
 -- what nobody was told
 abbrev pub no_tally : Tally
-no_tally = record { pages = 0; at_night = 0; silence = 0; }
+no_tally = record { pages = 0; at_night = 0; silence = 0 }
 
 -- The tallies are those of so many contacts after what was given.
 pub record AreTallies (zone : Zone) (count : ℕ) (past : List Mark) (tallies : Tallies) : Type 0 where
@@ -58,7 +58,7 @@ abbrev pub counted_in : Zone → Notice → (silence : ℕ) → List Tally → L
 counted_in zone n silence tallies =
     if nat_lt n.contact.0 (length tallies)
     then slice_set tallies n.contact.0
-        (with_notice zone n silence (slice_index_or tallies n.contact.0 no_tally))
+    (with_notice zone n silence (slice_index_or tallies n.contact.0 no_tally))
     else tallies
 
 -- and who was told of the problems
@@ -66,5 +66,5 @@ abbrev pub told_by : List (List Told) → Notice → List (List Told)
 told_by problems n =
     if is_of_problem n.kind
     then slice_set problems n.object.0
-        (told_after (told_of problems n.object.0) (record { contact = n.contact; moment = n.moment }))
+    (told_after (told_of problems n.object.0) (record { contact = n.contact; moment = n.moment }))
     else problems

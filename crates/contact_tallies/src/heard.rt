@@ -36,9 +36,7 @@ impl Model for Problem {
 fn found(told: &[Told], contact: ContactId) -> Option<Told>
     ensures { result ≡ find (λ one. one.contact.0 == contact.0) told.now }
 {
-    told.iter()
-        .copied()
-        .find(|one| one.contact.0 == contact.0)
+    told.iter().copied().find(|one| one.contact.0 == contact.0)
 }
 
 /// When a contact was last told.

@@ -101,12 +101,7 @@ fn with_notice(tally: Tally, clock: &ZoneClock<'_>, notice: &Notice, silence: u6
 }
 
 /// Counts a notice, where its contact is one of so many.
-fn add_notice(
-    contacts: &mut Vec<Tally>,
-    clock: &ZoneClock<'_>,
-    notice: &Notice,
-    silence: u64,
-)
+fn add_notice(contacts: &mut Vec<Tally>, clock: &ZoneClock<'_>, notice: &Notice, silence: u64)
     ensures { contacts.new.items
         ≡ counted_in clock.now notice.now silence contacts.old.items }
 {

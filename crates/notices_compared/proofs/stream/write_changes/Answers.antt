@@ -41,7 +41,7 @@ loop-feed-preserved g c =
       clock = c.take.ensures.zones.0 ∙ inv.clock;
       zone_before = c.take.ensures.zones.1 ∙ inv.zone_before;
       zone_after = c.take.ensures.zones.2 ∙ inv.zone_after;
-      compared = compared_on _ _ _ _ _ _ _ _ _ _ _ _ _ _ _ _ _ _ _ _ _ _ _ _ _ _ _ held gives (record { fits = took.fits_before; ended_is = took.ended_before; tallied = rw (inv.before, inv.clock, inv.zone_before) at took.told_before }) 
+      compared = compared_on _ _ _ _ _ _ _ _ _ _ _ _ _ _ _ _ _ _ _ _ _ _ _ _ _ _ _ held gives (record { fits = took.fits_before; ended_is = took.ended_before; tallied = rw (inv.before, inv.clock, inv.zone_before) at took.told_before })
           (record { fits = took.fits_after; ended_is = took.ended_after; tallied = rw (inv.after, inv.clock, inv.zone_after) at took.told_after })
           (λ past past' s s'. rw (inv.form, inv.before, inv.after, inv.clock, inv.zone_before, inv.zone_after) at (took.text past past' s s'));
     }
