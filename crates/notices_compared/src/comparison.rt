@@ -128,7 +128,8 @@ impl<'a> Comparison<'a> {
         move_clock(&mut self.clock, self.before.config, pair.first);
         self.before.take(pair.first)?;
         self.after.take(pair.second)?;
-        let (first, second) = (event_of(pair.first), event_of(pair.second));
+        let first = event_of(pair.first);
+        let second = event_of(pair.second);
         self.told_before
             .count(&self.clock, first, self.before.notices.as_slice())?;
         self.told_after
