@@ -38,10 +38,10 @@ module _ (form : ChangeForm) (can_fail : Bool) (a b : Config) (zone : Zone) (rea
       → IfOk r (λ ending. ComparesFor form can_fail a b bytes zone ending old new)
   compared_of r h bytes left =
       IfOk-weaker r (λ ending. WritesChanges form can_fail a b zone (feed_of reading 0 0 None) 0 ending old new) (λ ending. ComparesFor form can_fail a b bytes zone ending old new)
-      (λ ending w. (w.given, w.others, w.table, given_of a w.given bytes left w.first, given_of b w.others bytes left w.second, w.same, w.ending_is, w.writes)) h
+      (λ ending w. (w.given, w.others, given_of a w.given bytes left w.first, given_of b w.others bytes left w.second, w.same, w.ending_is, w.writes)) h
 
   pub front_of : WritesChangesFront form can_fail a b zone (feed_of reading 0 0 None) 0 old new → (bytes : List ℕ) → to_come reading ≡ Some bytes → ComparesFrontFor form can_fail a b bytes zone old new
-  front_of w bytes left = (w.given, w.others, w.table, given_of a w.given bytes left w.first, given_of b w.others bytes left w.second, w.same, w.front)
+  front_of w bytes left = (w.given, w.others, given_of a w.given bytes left w.first, given_of b w.others bytes left w.second, w.same, w.front)
 
   -- the same of an input
   pub compared_of_feed : (known : Option (List ℕ)) → reading ≡ record { line = []; held = []; unread = known; calls = 0 } → (r : Result Ending CommandFault)
@@ -60,4 +60,4 @@ module _ (form : ChangeForm) (can_fail : Bool) (a b : Config) (zone : Zone) (rea
 pub front_of_nothing : (form : ChangeForm) (can_fail : Bool) (a b : Config) (zone : Zone) (known held : Option (List ℕ)) → IfSome known (λ bytes. ComparesFrontFor form can_fail a b bytes zone held held)
 front_of_nothing form can_fail a b zone known held =
     some_all known (λ bytes. ComparesFrontFor form can_fail a b bytes zone held held)
-    (λ bytes. (answers a.objects 0 0 (pieces bytes), answers b.objects 0 0 (pieces bytes), [], inl refl, inl refl, same_lines a.objects b.objects 0 0 0 (pieces bytes), front_none held _))
+    (λ bytes. (answers a.objects 0 0 (pieces bytes), answers b.objects 0 0 (pieces bytes), inl refl, inl refl, same_lines a.objects b.objects 0 0 0 (pieces bytes), front_none held _))

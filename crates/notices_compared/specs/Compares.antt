@@ -12,6 +12,7 @@ use Rattle.paired_feed.specs.PairedLaws.{lines_of}
 use Rattle.changed_notices.specs.declared.changed.ChangeForm.{ChangeForm}
 use Rattle.changed_notices.specs.Changed.{changes_text}
 use Rattle.notices_compared.specs.Sides.{line_notices}
+use Rattle.notices_compared.specs.Told.{table_between}
 
 -- the answers are of the same lines
 abbrev pub AreSameLines : List Answer → List Answer → Type 0
@@ -32,16 +33,18 @@ ending_of given others = if ends_short [] given || ends_short [] others then Sho
 abbrev pub ComparesFor : ChangeForm → (can_fail : Bool) → (a b : Config) → (feed : List ℕ) → Zone
     → Ending → (old new : Option (List ℕ)) → Type 0
 ComparesFor form can_fail a b feed zone ending old new =
-    (given : List Answer) × (others : List Answer) × (table : List ℕ)
+    (given : List Answer) × (others : List Answer)
     × AreOfFeed can_fail a feed given × AreOfFeed can_fail b feed others
     × AreSameLines given others × (ending ≡ ending_of given others)
-    × Writes old new (changes_between form a b zone given others ++ table)
+    × Writes old new (changes_between form a b zone given others
+    ++ table_between form a b zone given others)
 
 -- what was written is a front of that
 abbrev pub ComparesFrontFor : ChangeForm → (can_fail : Bool) → (a b : Config) → (feed : List ℕ)
     → Zone → (old new : Option (List ℕ)) → Type 0
 ComparesFrontFor form can_fail a b feed zone old new =
-    (given : List Answer) × (others : List Answer) × (table : List ℕ)
+    (given : List Answer) × (others : List Answer)
     × AreOfFeed can_fail a feed given × AreOfFeed can_fail b feed others
     × AreSameLines given others
-    × WritesFront old new (changes_between form a b zone given others ++ table)
+    × WritesFront old new (changes_between form a b zone given others
+    ++ table_between form a b zone given others)

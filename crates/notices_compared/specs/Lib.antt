@@ -1,5 +1,5 @@
 pub mod Past
-pub mod Night
 pub mod Sides
+pub mod Told
 pub mod Compares
 pub mod Stream

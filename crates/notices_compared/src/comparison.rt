@@ -1,10 +1,13 @@
 //! Two configurations side by side: what each line of a feed changes.
 
-ghost use Rattle.std.specs.Prelude.{◌≡◌, ◌++◌, ◌||◌, ℕ, List, [], false, IfErr, IfOk, OnOk};
+ghost use Rattle.std.specs.Prelude.{◌≡◌, ◌++◌, ◌||◌, List, [], false, length, IfErr, IfOk, OnOk};
 ghost use Rattle.std.specs.Prelude.{if◌then◌else◌};
 ghost use Rattle.command_output.specs.declared.outcome.CommandFault.TheVariants.{NoMemory};
 ghost use Rattle.command_output.specs.declared.outcome.Ending.TheVariants.{Short, Whole};
+ghost use Rattle.contact_tallies.specs.Marks.{Mark};
+ghost use Rattle.contact_tallies.specs.Tallies.{AreTallies};
 ghost use Rattle.due_model.specs.declared.event.Event.{Event};
+ghost use Rattle.due_model.specs.declared.zone.Zone.{Zone};
 ghost use Rattle.due_model.specs.Accepted.{IsAccepted};
 ghost use Rattle.due_model.specs.Proper.{IsProper};
 ghost use Rattle.decider.specs.Fits.{Fits, core_kept};
@@ -12,12 +15,13 @@ ghost use Rattle.changed_notices.specs.Changed.{changes_of};
 ghost use Rattle.notices_compared.specs.Sides.{given_notices, past_on};
 ghost use Rattle.paired_feed.specs.Paired.{is_cut};
 ghost use Rattle.notices_compared.specs.Past.{is_ended};
+ghost use Rattle.notices_compared.specs.Told.{event_of, marks_on_line, table_of};
 
 use crate::side::Side;
-use crate::table::{ToldBy, push_table};
-use crate::tally::Tallies;
 use changed_notices::{ChangeForm, Form, Given, push_changes};
 use command_output::{CommandFault, Ending};
+use contact_table::{ToldBy, push_table};
+use contact_tallies::Tallies;
 use due_model::config::Config;
 use due_model::event::Event;
 use due_model::zone::Zone;
@@ -34,8 +38,8 @@ pub(crate) struct Comparison<'a> {
     pub(crate) before: Side<'a>,
     pub(crate) after: Side<'a>,
     pub(crate) clock: ZoneClock<'a>,
-    told_before: Tallies,
-    told_after: Tallies,
+    pub(crate) told_before: Tallies,
+    pub(crate) told_after: Tallies,
 }
 
 impl<'a> Comparison<'a> {
@@ -58,14 +62,18 @@ impl<'a> Comparison<'a> {
         ensures fits_after { IfOk result (λ both. Fits (core_kept both.after.decider) []) }
         ensures ended { IfOk result (λ both.
             (both.before.ended ≡ false) × (both.after.ended ≡ false)) }
+        ensures told_before { IfOk result (λ both. (zone : Zone)
+            → AreTallies zone (length before.now.contacts) [] both.told_before) }
+        ensures told_after { IfOk result (λ both. (zone : Zone)
+            → AreTallies zone (length after.now.contacts) [] both.told_after) }
     {
         Ok(Comparison {
             form: Form { alloc, form },
             before: Side::new(alloc, before, zone)?,
             after: Side::new(alloc, after, zone)?,
             clock: ZoneClock::new(zone),
-            told_before: Tallies::new(alloc, before)?,
-            told_after: Tallies::new(alloc, after)?,
+            told_before: Tallies::new(alloc, before.contacts.len())?,
+            told_after: Tallies::new(alloc, after.contacts.len())?,
         })
     }
 
@@ -94,6 +102,20 @@ impl<'a> Comparison<'a> {
         ensures ended_after { OnOk result ((past : List Event)
             → Fits (core_kept self.old.after.decider) past
             → self.new.after.ended ≡ (self.old.after.ended || is_ended past pair.second)) }
+        ensures told_before { OnOk result ((past : List Event) (marks : List Mark)
+            → Fits (core_kept self.old.before.decider) past
+            → AreTallies self.old.clock (length self.old.before.config.now.contacts) marks
+            self.old.told_before
+            → AreTallies self.old.clock (length self.old.before.config.now.contacts)
+            (marks_on_line self.old.before.config.now self.old.before.zone.now past marks pair.first)
+            self.new.told_before) }
+        ensures told_after { OnOk result ((past : List Event) (marks : List Mark)
+            → Fits (core_kept self.old.after.decider) past
+            → AreTallies self.old.clock (length self.old.after.config.now.contacts) marks
+            self.old.told_after
+            → AreTallies self.old.clock (length self.old.after.config.now.contacts)
+            (marks_on_line self.old.after.config.now self.old.after.zone.now past marks pair.second)
+            self.new.told_after) }
         ensures text { OnOk result ((past past' : List Event)
             → Fits (core_kept self.old.before.decider) past
             → Fits (core_kept self.old.after.decider) past'
@@ -106,10 +128,12 @@ impl<'a> Comparison<'a> {
         move_clock(&mut self.clock, self.before.config, pair.first);
         self.before.take(pair.first)?;
         self.after.take(pair.second)?;
+        let first = event_of(pair.first);
+        let second = event_of(pair.second);
         self.told_before
-            .count(&self.clock, pair.first, self.before.notices.as_slice())?;
+            .count(&self.clock, first, self.before.notices.as_slice())?;
         self.told_after
-            .count(&self.clock, pair.second, self.after.notices.as_slice())?;
+            .count(&self.clock, second, self.after.notices.as_slice())?;
         let given = Given {
             a: self.before.config,
             b: self.after.config,
@@ -134,19 +158,23 @@ impl<'a> Comparison<'a> {
 
     /// Adds the table of the contacts. A refused growth is the only error.
     pub(crate) fn push_table(&self, text: &mut Vec<u8>) -> Result<(), AllocError>
-        ensures { OnOk result ((table : List ℕ) × (text.new.items ≡ text.old.items ++ table)) }
+        ensures { OnOk result ((marks others : List Mark)
+            → AreTallies self.now.clock (length self.now.before.config.now.contacts) marks
+            self.now.told_before
+            → AreTallies self.now.clock (length self.now.after.config.now.contacts) others
+            self.now.told_after
+            → text.new.items ≡ text.old.items ++ table_of self.now.form.form
+            self.now.before.config.now self.now.after.config.now self.now.clock marks others) }
     {
         let before = ToldBy {
-            config: self.before.config,
-            tallies: &self.told_before,
+            contacts: self.before.config.contacts.as_slice(),
+            tallies: self.told_before.contacts(),
         };
         let after = ToldBy {
-            config: self.after.config,
-            tallies: &self.told_after,
+            contacts: self.after.config.contacts.as_slice(),
+            tallies: self.told_after.contacts(),
         };
-        let mut table = Vec::new(self.form.alloc);
-        push_table(self.form.form, &mut table, before, after)?;
-        text.extend_from_slice(table.as_slice())
+        push_table(self.form.form, text, before, after)
     }
 }
 
@@ -157,6 +185,16 @@ fn move_clock(clock: &mut ZoneClock<'_>, _config: &Config, given: Result<Event, 
 {
     if let Ok(event) = given {
         clock.move_to(event.moment);
+    }
+}
+
+/// The event of a line that isn't refused.
+fn event_of(given: Result<Event, FeedFault>) -> Option<Event>
+    ensures { result ≡ event_of given }
+{
+    match given {
+        Ok(event) => Some(event),
+        Err(_) => None,
     }
 }
 

@@ -10,8 +10,6 @@ ghost use Rattle.notices_compared.specs.Compares.{ComparesFor, ComparesFrontFor}
 mod comparison;
 mod side;
 mod stream;
-mod table;
-mod tally;
 
 use changed_notices::ChangeForm;
 use command_output::{CommandFault, Ending, Sink};
@@ -25,7 +23,7 @@ use text_lines::{Input, LineReader};
 
 /// Writes what the change from one configuration to another does to the notices of a feed: for each of its lines, after a minus
 /// the notices that the first alone gives, and after a plus those that the second alone gives; once the feed is over, the table of
-/// the contacts. What a line adds is written before the reader is called for more. A line of the feed that a configuration
+/// the contacts: how many messages each was told, how many at night, and the longest silence of a problem, by each. What a line adds is written before the reader is called for more. A line of the feed that a configuration
 /// refuses gives no notice by it. Where the output fails or memory runs out, a front of that was written.
 pub fn compare<R: Input + Drop, W: Sink>(
     alloc: Global,

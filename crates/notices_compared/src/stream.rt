@@ -1,7 +1,8 @@
 //! A comparison over a feed, as it comes.
 
-ghost use Rattle.std.specs.Prelude.{◌≡◌, ◌++◌, ℕ, List, [], false, None, IfErr, IfOk, OnOk};
+ghost use Rattle.std.specs.Prelude.{◌≡◌, [], false, length, None, IfErr, IfOk, OnOk};
 ghost use Rattle.command_output.specs.Outcome.{IsWriteFault};
+ghost use Rattle.contact_tallies.specs.Tallies.{AreTallies};
 ghost use Rattle.decider.specs.Fits.{Fits, core_kept};
 ghost use Rattle.notices_compared.specs.Stream.{WritesChanges, WritesChangesFront};
 ghost use Rattle.text_lines.specs.Lines.{has_line};
@@ -29,6 +30,10 @@ pub(crate) fn write_changes<R: Input + Drop, W: Sink>(
     requires fits_before { Fits (core_kept both.old.before.decider) [] }
     requires fits_after { Fits (core_kept both.old.after.decider) [] }
     requires ended { (both.old.before.ended ≡ false) × (both.old.after.ended ≡ false) }
+    requires told_before { AreTallies both.old.clock
+        (length both.old.before.config.now.contacts) [] both.old.told_before }
+    requires told_after { AreTallies both.old.clock
+        (length both.old.after.config.now.contacts) [] both.old.told_after }
     ensures ok { IfOk result (λ ending. WritesChanges both.old.form.form R.can_fail
         both.old.before.config.now both.old.after.config.now both.old.clock
         feed.old.feeder feed.old.last ending (W.contents writer.old) (W.contents writer.new)) }

@@ -100,7 +100,8 @@ fn push_begins(text: &mut Vec<u8>, number: u64, first: u64, rest: &[u8]) -> Resu
     push_decimal(text, number)?;
     text.extend_from_slice(b" begins with notice ")?;
     push_decimal(text, first)?;
-    text.extend_from_slice(rest)
+    text.extend_from_slice(rest)?;
+    Ok(())
 }
 
 /// Adds what an escalation has to do with it that a contact isn't told.

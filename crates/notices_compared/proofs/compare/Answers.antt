@@ -1,4 +1,6 @@
-use Rattle.std.proofs.Common.{ap, sym, ◌∙◌}
+use Rattle.std.proofs.Common.{[], length, ap, subst, sym, ◌∙◌}
+use Rattle.contact_tallies.specs.Tallies.{AreTallies}
+use Rattle.due_model.specs.declared.config.Config.{Config}
 use Rattle.event_feed.specs.Feed.{Feed}
 use Rattle.notices_compared.proofs.CompareLaws.{compared_of_feed, front_of_feed, front_of_nothing}
 use Rattle.notices_compared.proofs.compare.Goals as goal
@@ -9,6 +11,16 @@ write_changes-requires-clause-goes_on g c = ap (λ (feed : Feed). feed.stop) c.n
 pub write_changes-requires-clause-zones : goal.write_changes-requires-clause-zones
 write_changes-requires-clause-zones g c =
     (c.in_ok-both.ensures.zones.1 ∙ sym c.in_ok-both.ensures.zones.0, c.in_ok-both.ensures.zones.2 ∙ sym c.in_ok-both.ensures.zones.0)
+
+pub write_changes-requires-clause-told_before : goal.write_changes-requires-clause-told_before
+write_changes-requires-clause-told_before g c =
+    let both = c.in_ok-both.both in
+    subst (λ (config : Config). AreTallies both.clock (length config.contacts) [] both.told_before) (sym c.in_ok-both.ensures.before) (c.in_ok-both.ensures.told_before both.clock)
+
+pub write_changes-requires-clause-told_after : goal.write_changes-requires-clause-told_after
+write_changes-requires-clause-told_after g c =
+    let both = c.in_ok-both.both in
+    subst (λ (config : Config). AreTallies both.clock (length config.contacts) [] both.told_after) (sym c.in_ok-both.ensures.after) (c.in_ok-both.ensures.told_after both.clock)
 
 pub returns-in_err-lines-clause-front : goal.returns-in_err-lines-clause-front
 returns-in_err-lines-clause-front g c =

@@ -15,8 +15,8 @@ loop-feed-init g c = record {
   zone_before = c.requires.zones.0;
   zone_after = c.requires.zones.1;
   compared = compared_start c.args.both.now.form.form c.args.both.now.before.config.now c.args.both.now.after.config.now c.args.both.now.clock c.args.feed.now.feeder c.args.feed.now.last (g.W.Write.contents c.args.writer.now)
-      (core_kept c.args.both.now.before.decider) (core_kept c.args.both.now.after.decider) c.args.both.now.before.ended c.args.both.now.after.ended c.new-text.result.items
-      c.requires.goes_on c.requires.fits_before c.requires.fits_after c.requires.ended.0 c.requires.ended.1 c.new-text.ensures.items;
+      (core_kept c.args.both.now.before.decider) (core_kept c.args.both.now.after.decider) c.args.both.now.before.ended c.args.both.now.after.ended c.args.both.now.told_before c.args.both.now.told_after c.new-text.result.items
+      c.requires.goes_on c.requires.fits_before c.requires.fits_after c.requires.ended.0 c.requires.ended.1 c.requires.told_before c.requires.told_after c.new-text.ensures.items;
 }
 
 pub next-requires-clause-goes_on : goal.next-requires-clause-goes_on
@@ -31,7 +31,7 @@ take-requires-clause-fits_after g c = (c.loop-feed.invariant.compared.past', c.l
 pub loop-feed-preserved : goal.loop-feed-preserved
 loop-feed-preserved g c =
     let inv = c.loop-feed.invariant in
-    let held = compared_held _ _ _ _ _ _ _ _ _ _ _ _ _ _ _ _ _ inv.compared c.in_ok-write_before_wait.ensures.ok in
+    let held = compared_held _ _ _ _ _ _ _ _ _ _ _ _ _ _ _ _ _ _ _ inv.compared c.in_ok-write_before_wait.ensures.ok in
     let gives = rw (inv.before, inv.after) at c.in-Some.ensures.line in
     let took = c.in_ok-take-in-Some.ensures in
     record {
@@ -41,7 +41,8 @@ loop-feed-preserved g c =
       clock = c.take.ensures.zones.0 ∙ inv.clock;
       zone_before = c.take.ensures.zones.1 ∙ inv.zone_before;
       zone_after = c.take.ensures.zones.2 ∙ inv.zone_after;
-      compared = compared_on _ _ _ _ _ _ _ _ _ _ _ _ _ _ _ _ _ _ _ _ _ _ _ held gives (record { fits = took.fits_before; ended_is = took.ended_before }) (record { fits = took.fits_after; ended_is = took.ended_after })
+      compared = compared_on _ _ _ _ _ _ _ _ _ _ _ _ _ _ _ _ _ _ _ _ _ _ _ _ _ _ _ held gives (record { fits = took.fits_before; ended_is = took.ended_before; tallied = rw (inv.before, inv.clock, inv.zone_before) at took.told_before })
+          (record { fits = took.fits_after; ended_is = took.ended_after; tallied = rw (inv.after, inv.clock, inv.zone_after) at took.told_after })
           (λ past past' s s'. rw (inv.form, inv.before, inv.after, inv.clock, inv.zone_before, inv.zone_after) at (took.text past past' s s'));
     }
 
@@ -52,39 +53,39 @@ loop-feed-smaller g c =
     omega (arith, less, limit)
 
 pub returns-in_err-write_before_wait-clause-front : goal.returns-in_err-write_before_wait-clause-front
-returns-in_err-write_before_wait-clause-front g c = compared_cut _ g.R.Input.can_fail _ _ _ _ _ _ _ _ _ _ _ _ _ _ _ c.loop-feed.invariant.compared c.in_err-write_before_wait.ensures.front
+returns-in_err-write_before_wait-clause-front g c = compared_cut _ g.R.Input.can_fail _ _ _ _ _ _ _ _ _ _ _ _ _ _ _ _ _ c.loop-feed.invariant.compared c.in_err-write_before_wait.ensures.front
 
 pub returns-in_err-take-in-Some-clause-front : goal.returns-in_err-take-in-Some-clause-front
 returns-in_err-take-in-Some-clause-front g c =
-    let held = compared_held _ _ _ _ _ _ _ _ _ _ _ _ _ _ _ _ _ c.loop-feed.invariant.compared c.in_ok-write_before_wait.ensures.ok in
-    compared_cut _ g.R.Input.can_fail _ _ _ _ _ _ _ _ _ _ _ _ _ _ _ held (front_none _ _)
+    let held = compared_held _ _ _ _ _ _ _ _ _ _ _ _ _ _ _ _ _ _ _ c.loop-feed.invariant.compared c.in_ok-write_before_wait.ensures.ok in
+    compared_cut _ g.R.Input.can_fail _ _ _ _ _ _ _ _ _ _ _ _ _ _ _ _ _ held (front_none _ _)
 
 pub returns-in_err-push_table-in-None-clause-front : goal.returns-in_err-push_table-in-None-clause-front
 returns-in_err-push_table-in-None-clause-front g c =
-    let held = compared_held _ _ _ _ _ _ _ _ _ _ _ _ _ _ _ _ _ c.loop-feed.invariant.compared c.in_ok-write_before_wait.ensures.ok in
-    compared_cut _ g.R.Input.can_fail _ _ _ _ _ _ _ _ _ _ _ _ _ _ _ held (front_none _ _)
+    let held = compared_held _ _ _ _ _ _ _ _ _ _ _ _ _ _ _ _ _ _ _ c.loop-feed.invariant.compared c.in_ok-write_before_wait.ensures.ok in
+    compared_cut _ g.R.Input.can_fail _ _ _ _ _ _ _ _ _ _ _ _ _ _ _ _ _ held (front_none _ _)
 
 pub returns-in_err-write_all-in-None-clause-front : goal.returns-in_err-write_all-in-None-clause-front
 returns-in_err-write_all-in-None-clause-front g c =
     let inv = c.loop-feed.invariant in
-    let held = compared_held _ _ _ _ _ _ _ _ _ _ _ _ _ _ _ _ _ inv.compared c.in_ok-write_before_wait.ensures.ok in
+    let held = compared_held _ _ _ _ _ _ _ _ _ _ _ _ _ _ _ _ _ _ _ inv.compared c.in_ok-write_before_wait.ensures.ok in
     let ends = rw (inv.before, inv.after) at c.in-None.ensures.over in
-    let table = c.in_ok-push_table-in-None.ensures in
-    compared_last _ g.R.Input.can_fail _ _ _ _ _ _ _ _ _ _ _ _ _ _ _ table.0 _ held ends (rw table.1 at c.write_all.ensures.front)
+    let adds = rw (inv.form, inv.before, inv.after, inv.clock) at c.in_ok-push_table-in-None.ensures in
+    compared_last _ g.R.Input.can_fail _ _ _ _ _ _ _ _ _ _ _ _ _ _ _ _ _ c.push_table.new.text.items _ held ends adds c.write_all.ensures.front
 
 pub returns-in-None-clause-front : goal.returns-in-None-clause-front
 returns-in-None-clause-front g c =
     let inv = c.loop-feed.invariant in
-    let held = compared_held _ _ _ _ _ _ _ _ _ _ _ _ _ _ _ _ _ inv.compared c.in_ok-write_before_wait.ensures.ok in
+    let held = compared_held _ _ _ _ _ _ _ _ _ _ _ _ _ _ _ _ _ _ _ inv.compared c.in_ok-write_before_wait.ensures.ok in
     let ends = rw (inv.before, inv.after) at c.in-None.ensures.over in
-    let table = c.in_ok-push_table-in-None.ensures in
-    compared_last _ g.R.Input.can_fail _ _ _ _ _ _ _ _ _ _ _ _ _ _ _ table.0 _ held ends (rw table.1 at c.write_all.ensures.front)
+    let adds = rw (inv.form, inv.before, inv.after, inv.clock) at c.in_ok-push_table-in-None.ensures in
+    compared_last _ g.R.Input.can_fail _ _ _ _ _ _ _ _ _ _ _ _ _ _ _ _ _ c.push_table.new.text.items _ held ends adds c.write_all.ensures.front
 
 pub returns-in-None-clause-ok : goal.returns-in-None-clause-ok
 returns-in-None-clause-ok g c =
     let inv = c.loop-feed.invariant in
-    let held = compared_held _ _ _ _ _ _ _ _ _ _ _ _ _ _ _ _ _ inv.compared c.in_ok-write_before_wait.ensures.ok in
+    let held = compared_held _ _ _ _ _ _ _ _ _ _ _ _ _ _ _ _ _ _ _ inv.compared c.in_ok-write_before_wait.ensures.ok in
     let ends = rw (inv.before, inv.after) at c.in-None.ensures.over in
-    let table = c.in_ok-push_table-in-None.ensures in
-    let all = rw (table.1, c.write_all.ensures.empty) at c.in_ok-write_all-in-None.ensures.ok in
-    compared_whole _ g.R.Input.can_fail _ _ _ _ _ _ _ _ _ _ _ _ _ _ _ table.0 _ _ held ends all (rw c.stop.ensures at c.ending.ensures)
+    let adds = rw (inv.form, inv.before, inv.after, inv.clock) at c.in_ok-push_table-in-None.ensures in
+    let all = rw c.write_all.ensures.empty at c.in_ok-write_all-in-None.ensures.ok in
+    compared_whole _ g.R.Input.can_fail _ _ _ _ _ _ _ _ _ _ _ _ _ _ _ _ _ c.push_table.new.text.items _ _ held ends adds all (rw c.stop.ensures at c.ending.ensures)

@@ -13,7 +13,7 @@ invariant-loop-feed g l = record {
   zone_before : l.both.before.zone.now ≡ l.fn.both.clock;
   zone_after : l.both.after.zone.now ≡ l.fn.both.clock;
   compared : HasCompared l.fn.both.form.form l.fn.both.before.config.now l.fn.both.after.config.now l.fn.both.clock l.fn.feed.feeder l.fn.feed.last (g.W.Write.contents l.fn.writer)
-      (core_kept l.both.before.decider) (core_kept l.both.after.decider) l.both.before.ended l.both.after.ended l.feed.feeder l.feed.last (g.W.Write.contents l.writer) l.text.items;
+      (core_kept l.both.before.decider) (core_kept l.both.after.decider) l.both.before.ended l.both.after.ended l.both.told_before l.both.told_after l.feed.feeder l.feed.last (g.W.Write.contents l.writer) l.text.items;
 }
 
 abbrev pub decreases-loop-feed : goal.decreases-loop-feed
