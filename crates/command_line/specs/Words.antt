@@ -16,13 +16,10 @@ use Rattle.clap.specs.declared.builder.action.ArgAction.TheVariants.{Append}
 use Rattle.clap.specs.declared.builder.value_parser.ValueParser.TheVariants.{Signed}
 use Rattle.command_line.specs.Why.{IsWhyOf, LacksWhy, why_words}
 pub use Rattle.command_line.specs.Options.{flag_option, IsFlag, text_option, with_zone}
-use Rattle.command_line.specs.declared.words.FeedFault.{FeedFault}
-use Rattle.command_line.specs.declared.words.FeedFault.TheVariants.{Ahead, BadDoubt, NoFeed, NoState}
 use Rattle.command_line.specs.declared.words.FeedWords.{FeedWords}
 use Rattle.command_line.specs.declared.words.LogWords.{LogWords}
 use Rattle.command_line.specs.declared.words.Request.{Request}
 use Rattle.command_line.specs.declared.words.ShownWords.{ShownWords}
-use Rattle.command_line.specs.declared.words.StateWords.{StateWords}
 use Rattle.command_line.specs.declared.words.TryTimes.{TryTimes}
 use Rattle.command_line.specs.declared.words.WhoWords.{WhoWords}
 use Rattle.command_line.specs.declared.words.ZoneWords.{ZoneWords}
@@ -71,18 +68,11 @@ HoldsAnyNumber options name (Some number) = HoldsNumber options name number
 HoldsAnyNumber options name None =
     (number : ℕ) → HoldsNumber options name number → number < 2 ^ 32 → ⊥
 
--- what the options of `run` hold of what it keeps
-pub record IsStateOf (options : Found) (state : StateWords) : Type 0 where
-  pub folder : option_copied state.folder ≡ first_value options (codes "state")
-  pub in_doubt : option_copied state.in_doubt ≡ first_value options (codes "in-doubt")
-  pub from_now : IsFlag options (codes "from-now") state.from_now
-
 -- what the options of `run` hold of where its feed is read from
 pub record IsFeedOf (options : Found) (feed : FeedWords) : Type 0 where
   pub file : option_copied feed.file ≡ first_value options (codes "feed")
   pub follow : IsFlag options (codes "follow") feed.follow
   pub clock : IsFlag options (codes "clock") feed.clock
-  pub state : IsStateOf options feed.state
 
 -- the numbers that the options of a command hold of a lane
 pub record HoldSettings (options : Found) (settings : Settings) : Type 0 where
@@ -105,7 +95,6 @@ TraceLacks options = (deciders standbys : ℕ) → HoldsNumber options (codes "d
 pub record IsLogOf (options : Found) (words : LogWords) : Type 0 where
   pub file : option_copied words.file ≡ first_value options (codes "log")
   pub fold : IsFlag options (codes "fold") words.fold
-  pub metrics : option_copied words.metrics ≡ first_value options (codes "metrics")
 
 -- the seconds that the options of `run` hold
 pub record HoldTimes (options : Found) (times : TryTimes) : Type 0 where
@@ -202,31 +191,15 @@ request_zone (Who objects zone asked) = zone
 request_zone (Diff objects changed zone json) = zone
 request_zone (Why objects zone asked) = zone
 
--- letters in doubt are given up
-abbrev pub drops_doubt : StateWords → Bool
-drops_doubt state = option_map_or (λ word. bytes_eq word (codes "drop")) (option_copied state.in_doubt) false
-
--- it says what becomes of them, or is left out
-abbrev pub is_doubt_word : Option (List ℕ) → Bool
-is_doubt_word word = option_map_or (λ w. bytes_eq w (codes "again") || bytes_eq w (codes "drop")) word true
-
--- The first of these is wrong: it says how a file is read, or what is kept for it, and names none; it says how what is kept is used, and
--- names no folder; what becomes of letters in doubt is no such word; it keeps what it has done, and limits how far ahead a stamp may be.
-abbrev pub fault_of : FeedWords → (ahead : Option ℕ) → Option FeedFault
-fault_of feed ahead =
-    if is_none feed.file && (feed.follow || feed.clock || is_some feed.state.folder) then Some NoFeed
-    else if is_none feed.state.folder && (is_some feed.state.in_doubt || feed.state.from_now) then Some NoState
-    else if not (is_doubt_word (option_copied feed.state.in_doubt)) then Some BadDoubt
-    else if is_some feed.state.folder && is_some ahead then Some Ahead
-    else None
-
-abbrev pub feed_fault : Request → Option FeedFault
-feed_fault (Replay objects zone shown) = None
-feed_fault (Trace settings standbys zone) = None
-feed_fault (Run objects settings zone channels times quiet ahead log feed) = fault_of feed ahead
-feed_fault (Who objects zone asked) = None
-feed_fault (Diff objects changed zone json) = None
-feed_fault (Why objects zone asked) = None
+-- it says how a file is read as the feed, and names none
+abbrev pub lacks_feed : Request → Bool
+lacks_feed (Replay objects zone shown) = false
+lacks_feed (Trace settings standbys zone) = false
+lacks_feed (Run objects settings zone channels times quiet ahead log feed) =
+    is_none feed.file && (feed.follow || feed.clock)
+lacks_feed (Who objects zone asked) = false
+lacks_feed (Diff objects changed zone json) = false
+lacks_feed (Why objects zone asked) = false
 
 -- it gives a rule and a file
 abbrev pub AreTwo : ZoneWords → Type 0
@@ -331,26 +304,20 @@ abbrev pub with_feed_options : App → App
 with_feed_options app =
     with_rule (with_rule (with_rule app (text_option (codes "feed"))) (flag_option (codes "follow"))) (flag_option (codes "clock"))
 
--- three say what is kept, and how it is used
-abbrev pub with_state_options : App → App
-with_state_options app =
-    with_rule (with_rule (with_rule app (text_option (codes "state"))) (text_option (codes "in-doubt"))) (flag_option (codes "from-now"))
-
--- where a run writes its report as it goes, that lines of it are folded, and where it writes its counts
+-- two say where a run writes its report as it goes, and that lines of it are folded
 abbrev pub with_log_options : App → App
-with_log_options app =
-    with_rule (with_rule (with_rule app (text_option (codes "log"))) (flag_option (codes "fold"))) (text_option (codes "metrics"))
+with_log_options app = with_rule (with_rule app (text_option (codes "log"))) (flag_option (codes "fold"))
 
 -- `run` has the file of the object text, which must be given, how many deciders there are, how many notices a lane's queue holds,
--- these, how far ahead a stamp may be, where its report goes, `--quiet`, where the feed is read from, what is kept, and the channel words
+-- these, how far ahead a stamp may be, where its report goes, `--quiet`, where the feed is read from, and the channel words
 abbrev pub run_words : App
 run_words =
-    with_rule (with_zone (with_state_options (with_feed_options (with_rule (with_log_options (with_rule (with_try_options (with_rule (with_rule (with_rule (new_app (codes "run"))
+    with_rule (with_zone (with_feed_options (with_rule (with_log_options (with_rule (with_try_options (with_rule (with_rule (with_rule (new_app (codes "run"))
     (record (text_option (codes "objects")) { required = true }))
     (number_option (codes "deciders") (codes "2") 1 8))
     (number_option (codes "queue") (codes "64") 1 1024)))
     (bare_number_option (codes "ahead") 0 4294967295)))
-    (flag_option (codes "quiet")))))) (word_list (codes "channel"))
+    (flag_option (codes "quiet"))))) (word_list (codes "channel"))
 
 -- `--NAME TEXT`, any number of times
 abbrev pub text_options : List ℕ → Rule

@@ -13,6 +13,4 @@ pub mod words;
 
 pub use asked::{command, request_of};
 pub use why::WhyWords;
-pub use words::{
-    FeedFault, FeedWords, LogWords, Request, ShownWords, StateWords, WhoWords, ZoneWords,
-};
+pub use words::{FeedWords, LogWords, Request, ShownWords, WhoWords, ZoneWords};

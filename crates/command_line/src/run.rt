@@ -5,7 +5,7 @@ ghost use Rattle.clap.specs.Matches.{found_of};
 ghost use Rattle.clap.specs.Words.{app_of, rule_of};
 ghost use Rattle.command_line.specs.Words.{AreSettingsFit, IsRequestOf, HoldSomeTimes, HoldTimes};
 ghost use Rattle.command_line.specs.Words.{HoldsAnyNumber, bare_number_option, RunLacks, IsFeedOf, IsLogOf};
-ghost use Rattle.command_line.specs.Words.{with_log_options, IsStateOf, with_state_options};
+ghost use Rattle.command_line.specs.Words.{with_log_options};
 ghost use Rattle.command_line.specs.Words.{with_feed_options, number_option, request_name, run_words};
 ghost use Rattle.command_line.specs.Words.{with_try_options, word_list};
 
@@ -13,7 +13,7 @@ use crate::options::{
     deciders_of, deciders_option, flag_option, queue_option, settings_of, text_option, with_zone,
     zone_words,
 };
-use crate::words::{FeedWords, LogWords, Request, StateWords, TryTimes};
+use crate::words::{FeedWords, LogWords, Request, TryTimes};
 use clap::{Arg, ArgMatches, Command, value_parser};
 use std::alloc::{AllocError, Global};
 
@@ -34,10 +34,6 @@ command takes over with it, of up to eight; after the last, that and all later m
 the command stay undelivered. What fails is said on standard error as it goes, without
 --quiet. With --ahead a line whose stamp is more than so many seconds past this machine's
 clock is refused, since no later message could have an earlier moment.
-
-With --feed and --state a run may be killed at any moment. The next one with the same FILE
-and DIR sends what wasn't sent, and nothing twice but the message that was in hand of each
-command: that has a line `Again: yes`.
 
 Once the feed is over, standard output gets the lines below. With --log they go to that file
 as they happen, each as soon as it is known, and standard output gets the G and Z lines
@@ -139,30 +135,6 @@ fn with_feed_options<'a>(alloc: Global, command: Command<'a>) -> Result<Command<
         .arg(flag_option(alloc, "clock", clock))
 }
 
-/// Adds the options that say what is kept for later runs of the feed.
-fn with_state_options<'a>(alloc: Global, command: Command<'a>) -> Result<Command<'a>, AllocError>
-    ensures words { IfOk result (λ command_with.
-        app_of command_with ≡ with_state_options (app_of command.entry)) }
-{
-    let folder = text_option(
-        alloc,
-        "state",
-        "DIR",
-        "A folder in which it is written down what was sent, so that a run that follows goes on there",
-    );
-    let doubt = text_option(
-        alloc,
-        "in-doubt",
-        "WHAT",
-        "What becomes of a message that was about to be sent when a run was killed: again, or drop",
-    );
-    let now = "Gives up what is due by FILE as it is and was never sent, and goes on from there";
-    command
-        .arg(folder)?
-        .arg(doubt)?
-        .arg(flag_option(alloc, "from-now", now))
-}
-
 /// Adds the options that say how a run tries a message: how often, how long at most, and after which pause.
 fn with_try_options<'a>(alloc: Global, command: Command<'a>) -> Result<Command<'a>, AllocError>
     ensures words { IfOk result (λ command_with. app_of command_with
@@ -185,7 +157,7 @@ fn channel_words<'a>(alloc: Global) -> Arg<'a>
         .help("Where the messages of a command go: NAME=KIND:..")
 }
 
-/// Adds the options that say where a run writes its report, and its counts, as it goes.
+/// Adds the options that say where a run writes its report as it goes.
 fn with_log_options<'a>(alloc: Global, command: Command<'a>) -> Result<Command<'a>, AllocError>
     ensures words { IfOk result (λ command_with.
         app_of command_with ≡ with_log_options (app_of command.entry)) }
@@ -201,13 +173,7 @@ fn with_log_options<'a>(alloc: Global, command: Command<'a>) -> Result<Command<'
         "fold",
         "Leaves out S lines of the log that repeat the one before of their object",
     );
-    let metrics = text_option(
-        alloc,
-        "metrics",
-        "FILE",
-        "Writes its counts to this file each 15 seconds, as Prometheus reads them",
-    );
-    command.arg(log)?.arg(fold)?.arg(metrics)
+    command.arg(log)?.arg(fold)
 }
 
 /// The command `run`, its options and its words.
@@ -228,20 +194,8 @@ pub(crate) fn run_command<'a>(alloc: Global) -> Result<Command<'a>, AllocError>
     let quiet = "Says nothing on standard error of what fails as it goes";
     let with_quiet = with_log.arg(flag_option(alloc, "quiet", quiet))?;
     let with_feed = with_feed_options(alloc, with_quiet)?;
-    let with_state = with_state_options(alloc, with_feed)?;
-    let with_options = with_zone(alloc, with_state)?;
+    let with_options = with_zone(alloc, with_feed)?;
     with_options.arg(channel_words(alloc))
-}
-
-/// What the options of `run` say of what it keeps.
-fn state_words<'a>(options: &ArgMatches<'a>) -> StateWords<'a>
-    ensures { IsStateOf (found_of options.now) result }
-{
-    StateWords {
-        folder: options.get_str("state"),
-        in_doubt: options.get_str("in-doubt"),
-        from_now: options.get_flag("from-now"),
-    }
 }
 
 /// What the options of `run` say of how long it waits. Each has a default, and its range is that of its type or less.
@@ -269,7 +223,6 @@ fn log_words<'a>(options: &ArgMatches<'a>) -> LogWords<'a>
     LogWords {
         file: options.get_str("log"),
         fold: options.get_flag("fold"),
-        metrics: options.get_str("metrics"),
     }
 }
 
@@ -281,7 +234,6 @@ fn feed_words<'a>(options: &ArgMatches<'a>) -> FeedWords<'a>
         file: options.get_str("feed"),
         follow: options.get_flag("follow"),
         clock: options.get_flag("clock"),
-        state: state_words(options),
     }
 }
 

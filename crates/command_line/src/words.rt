@@ -4,8 +4,8 @@ ghost use Rattle.std.specs.Prelude.{◌≡◌};
 ghost use Rattle.std.specs.List.{list_all};
 ghost use Rattle.std.specs.Option.{option_copied};
 ghost use Rattle.command_line.specs.Words.{has_bad_letters, asks_bad_letters, asks_two_forms, has_two_forms};
-ghost use Rattle.command_line.specs.Words.{is_line_letter, is_plain, drops_doubt, fault_of, feed_fault};
-ghost use Rattle.command_line.specs.Words.{is_doubt_word, request_zone};
+ghost use Rattle.command_line.specs.Words.{is_line_letter, is_plain, lacks_feed};
+ghost use Rattle.command_line.specs.Words.{request_zone};
 
 use crate::why::WhyWords;
 use steps::Settings;
@@ -100,15 +100,13 @@ pub struct TryTimes {
     pub pause: u8,
 }
 
-/// Where a run writes its report, and its counts, as it goes.
+/// Where a run writes its report as it goes.
 #[derive(Clone, Copy, Debug, PartialEq, Eq)]
 pub struct LogWords<'a> {
-    /// The file of the report, if there is one.
+    /// The file, if there is one.
     pub file: Option<&'a str>,
     /// Whether lines that repeat the one before are folded.
     pub fold: bool,
-    /// The file of its counts, if there is one.
-    pub metrics: Option<&'a str>,
 }
 
 /// What a command line says of where the feed of a run is read from.
@@ -120,87 +118,6 @@ pub struct FeedWords<'a> {
     pub follow: bool,
     /// Whether a line `CLOCK` is added to the file at each full minute.
     pub clock: bool,
-    pub state: StateWords<'a>,
-}
-
-/// What a command line says of what a run keeps for later runs of its feed.
-#[derive(Clone, Copy, Debug, PartialEq, Eq)]
-pub struct StateWords<'a> {
-    /// The folder in which it is kept; none keeps nothing.
-    pub folder: Option<&'a str>,
-    /// What becomes of letters in doubt: `again`, also where it is left out, or `drop`.
-    pub in_doubt: Option<&'a str>,
-    /// Whether what is due so far and was never handed over is given up.
-    pub from_now: bool,
-}
-
-impl StateWords<'_> {
-    /// Whether letters in doubt are given up.
-    pub fn drops_doubt(self) -> bool
-        ensures { result ≡ drops_doubt self.entry }
-    {
-        match self.in_doubt {
-            None => false,
-            Some(word) => word == "drop",
-        }
-    }
-}
-
-/// Whether a word says what becomes of letters in doubt.
-fn is_doubt_word(word: Option<&str>) -> bool
-    ensures { result ≡ is_doubt_word (option_copied word.entry) }
-{
-    match word {
-        None => true,
-        Some(word) => word == "again" || word == "drop",
-    }
-}
-
-/// What is wrong with what a command line says of the feed of a run.
-#[derive(Clone, Copy, Debug, PartialEq, Eq)]
-pub enum FeedFault {
-    /// It says how a file is read, or what is kept for it, and names none.
-    NoFeed,
-    /// It says how what is kept is used, and names no folder.
-    NoState,
-    /// What becomes of letters in doubt is neither `again` nor `drop`.
-    BadDoubt,
-    /// It keeps what it has done, and limits how far ahead a stamp may be: a later run would read the feed at another time.
-    Ahead,
-}
-
-impl FeedFault {
-    /// What is said of it.
-    pub fn text(self) -> &'static str {
-        match self {
-            FeedFault::NoFeed => "--follow, --clock and --state need --feed",
-            FeedFault::NoState => "--in-doubt and --from-now need --state",
-            FeedFault::BadDoubt => "bad in-doubt",
-            FeedFault::Ahead => "--ahead and --state",
-        }
-    }
-}
-
-impl FeedWords<'_> {
-    /// What is wrong with it, where stamps may be so far ahead.
-    fn fault(self, ahead: Option<u32>) -> Option<FeedFault>
-        ensures { result ≡ fault_of self.entry ahead }
-    {
-        let state = self.state;
-        if self.file.is_none() && (self.follow || self.clock || state.folder.is_some()) {
-            return Some(FeedFault::NoFeed);
-        }
-        if state.folder.is_none() && (state.in_doubt.is_some() || state.from_now) {
-            return Some(FeedFault::NoState);
-        }
-        if !is_doubt_word(state.in_doubt) {
-            return Some(FeedFault::BadDoubt);
-        }
-        if state.folder.is_some() && ahead.is_some() {
-            return Some(FeedFault::Ahead);
-        }
-        None
-    }
 }
 
 /// What the program is asked to do.
@@ -281,13 +198,13 @@ impl<'a> Request<'_, 'a> {
         }
     }
 
-    /// What is wrong with what it says of the feed of a run.
-    pub fn feed_fault(self) -> Option<FeedFault>
-        ensures { result ≡ feed_fault self.entry }
+    /// Whether it says how a file is read as the feed, and names none.
+    pub fn lacks_feed(self) -> bool
+        ensures { result ≡ lacks_feed self.entry }
     {
         match self {
-            Request::Run { feed, ahead, .. } => feed.fault(ahead),
-            _ => None,
+            Request::Run { feed, .. } => feed.file.is_none() && (feed.follow || feed.clock),
+            _ => false,
         }
     }
 
