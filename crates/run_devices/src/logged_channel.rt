@@ -8,20 +8,19 @@ use crate::run_log::{RunLog, SharedLog};
 use channel::letter::Letter;
 use channel::{Channel, Fault, Kind, Receipt};
 use std::alloc::{AllocError, Global};
-use std::sync::Wait;
 
 /// A channel that hands all to another, and writes the `T` line of each letter that this has taken to a log.
 #[derive(Drop)]
-pub struct LoggedChannel<'t, C: Channel, T: Wait + Sync> {
+pub struct LoggedChannel<C: Channel> {
     channel: C,
-    log: SharedLog<'t, T>,
+    log: SharedLog,
     /// The name of its command.
     lane: Vec<u8>,
 }
 
-impl<'t, C: Channel, T: Wait + Sync> LoggedChannel<'t, C, T> {
+impl<C: Channel> LoggedChannel<C> {
     /// This channel, which is for a command.
-    pub(crate) fn new(channel: C, log: SharedLog<'t, T>, lane: Vec<u8>) -> LoggedChannel<'t, C, T>
+    pub(crate) fn new(channel: C, log: SharedLog, lane: Vec<u8>) -> LoggedChannel<C>
         ensures { result.channel ≡ channel }
     {
         LoggedChannel { channel, log, lane }
@@ -29,7 +28,7 @@ impl<'t, C: Channel, T: Wait + Sync> LoggedChannel<'t, C, T> {
 }
 
 /// Writes the line of a letter that was taken.
-fn log_taken<T: Wait>(log: &RunLog<'_, T>, lane: &[u8], letter: &Letter) {
+fn log_taken(log: &RunLog, lane: &[u8], letter: &Letter) {
     match taken_line(log.alloc(), lane, letter) {
         Ok(line) => {
             log.append(line.as_slice());
@@ -73,7 +72,7 @@ fn line_of(text: &[u8], place: usize) -> &[u8] {
     }
 }
 
-impl<C: Channel, T: Wait + Sync> Channel for LoggedChannel<'_, C, T> {
+impl<C: Channel> Channel for LoggedChannel<C> {
     ghost account = { λ s. C.account s.channel };
 
     ghost room = { λ s. C.room s.channel };

@@ -6,29 +6,28 @@ use command_output::OutputLine;
 use due_model::config::{Config, LaneId};
 use due_model::notice::Notice;
 use engine::{Gate, Why};
-use std::sync::Wait;
 use std::time::Duration;
 
 /// A gate that does what another does, and writes the `R`, `U`, `G` and `Z` lines to a log as they happen.
 #[derive(Drop)]
-pub(crate) struct LoggedGate<'c, 't, T: Wait> {
+pub(crate) struct LoggedGate<'c> {
     inner: CountingGate,
     config: &'c Config,
-    log: SharedLog<'t, T>,
+    log: SharedLog,
 }
 
-impl<'c, 't, T: Wait> LoggedGate<'c, 't, T> {
+impl<'c> LoggedGate<'c> {
     /// This gate, beside a log.
     pub(crate) fn new(
         inner: CountingGate,
         config: &'c Config,
-        log: SharedLog<'t, T>,
-    ) -> LoggedGate<'c, 't, T> {
+        log: SharedLog,
+    ) -> LoggedGate<'c> {
         LoggedGate { inner, config, log }
     }
 }
 
-impl<T: Wait> Gate for LoggedGate<'_, '_, T> {
+impl Gate for LoggedGate<'_> {
     fn admit(&self, lane: LaneId, notice: &Notice) -> bool {
         self.inner.admit(lane, notice)
     }

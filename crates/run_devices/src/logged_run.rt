@@ -31,10 +31,10 @@ use std::time::Clock;
 use text_lines::Input;
 
 /// A channel of a run with a log.
-type SentChannel<'t, T> = LoggedChannel<'t, CountedChannel<OpenedChannel>, T>;
+type SentChannel = LoggedChannel<CountedChannel<OpenedChannel>>;
 
 /// What the log of a decider is.
-type DeciderLines<'c, 't, T> = LineLog<'c, AnyWriter<LogWriter<'t, T>>>;
+type DeciderLines<'c> = LineLog<'c, AnyWriter<LogWriter>>;
 
 /// What a run with a log is asked.
 #[derive(Clone, Copy, Debug)]
@@ -108,7 +108,7 @@ fn log_through<'a, T: Threads + Wait + Clock + Sync, R: Input + Drop, W: Sink>(
     requires accepted { IsAccepted site.config.now }
     requires each { length channels.items ≡ length lanes.now }
     requires few { (l : ℕ) → channels_for lanes.now l ≤ 8 }
-    ensures report { IfOk result (λ ending. RunsLogged R.can_fail (is_none site.settings.ahead)
+    ensures report { IfOk result (λ ending. RunsLogged R.can_fail (is_none site.entry.settings.ahead)
         site.entry.config.now site.entry.zone.now lanes.now (R.remaining feed) ending
         (W.contents writer.old) (W.contents writer.new)) }
     ensures fault { IfErr result IsCommandFault }
@@ -120,7 +120,7 @@ fn log_through<'a, T: Threads + Wait + Clock + Sync, R: Input + Drop, W: Sink>(
         alloc,
         Teller::new(rt, Arc::try_clone(&counts)?, site.settings.quiet),
     )?;
-    let log = opened_log(rt, threads, site.log, &teller)?;
+    let log = opened_log(rt, site.log, &teller)?;
     let counting = CountingGate::new(
         Arc::try_clone(&counts)?,
         Arc::try_clone(&teller)?,
@@ -166,15 +166,14 @@ fn log_through<'a, T: Threads + Wait + Clock + Sync, R: Input + Drop, W: Sink>(
 }
 
 /// The log in the file at a path.
-fn opened_log<'t, 'a, T: Wait>(
+fn opened_log<'a>(
     rt: &HostRuntime,
-    threads: &'t T,
     path: &str,
     teller: &Arc<Teller, Global>,
-) -> Result<SharedLog<'t, T>, RunFault<'a>>
+) -> Result<SharedLog, RunFault<'a>>
     ensures { IfErr result IsCommandFault }
 {
-    match RunLog::open(rt, threads, path, Arc::try_clone(teller)?)? {
+    match RunLog::open(rt, path, Arc::try_clone(teller)?)? {
         Some(log) => Ok(log),
         None => {
             let _ = rt.eprintln(format_args!("notify-run: log: {path} can't be opened"));
@@ -184,13 +183,13 @@ fn opened_log<'t, 'a, T: Wait>(
 }
 
 /// A log for each decider, of which all write there. A refused growth is the only error.
-fn decider_lines<'c, 't, T: Wait>(
+fn decider_lines<'c>(
     alloc: Global,
     config: &'c Config,
     deciders: u8,
     fold: bool,
-    log: &SharedLog<'t, T>,
-) -> Result<Vec<DeciderLines<'c, 't, T>>, AllocError>
+    log: &SharedLog,
+) -> Result<Vec<DeciderLines<'c>>, AllocError>
     ensures { IfOk result (λ logs. length logs.items ≡ deciders) }
 {
     let mut logs = Vec::with_capacity(alloc, usize::from(deciders))?;
@@ -206,12 +205,12 @@ fn decider_lines<'c, 't, T: Wait>(
 }
 
 /// These posts, of which each channel writes to the log what it has taken. A refused growth is the only error.
-fn logged_posts<'t, T: Wait + Sync>(
+fn logged_posts(
     alloc: Global,
     config: &Config,
     posts: Vec<Post<CountedChannel<OpenedChannel>>>,
-    log: &SharedLog<'t, T>,
-) -> Result<Vec<Post<SentChannel<'t, T>>>, AllocError>
+    log: &SharedLog,
+) -> Result<Vec<Post<SentChannel>>, AllocError>
     ensures { IfOk result (λ logged.
         map (λ post. post.lane) logged.items ≡ map (λ post. post.lane) posts.items) }
 {
@@ -227,9 +226,9 @@ fn logged_posts<'t, T: Wait + Sync>(
 }
 
 /// How a run ended, where no line of its log was lost. How many were is said on standard error.
-fn whole_log<'a, T: Wait>(
+fn whole_log<'a>(
     rt: &HostRuntime,
-    log: &RunLog<'_, T>,
+    log: &RunLog,
     outcome: Result<Ending, CommandFault>,
 ) -> Result<Ending, RunFault<'a>>
     ensures ok { IfOk result (λ ending. outcome ≡ Ok ending) }

@@ -2,21 +2,21 @@
 
 use crate::rotated_file::RotatedFile;
 use crate::teller::Teller;
-use command_output::{AnyWriter, Lines, OutputLine};
+use command_output::{CommandFault, Lines, OutputLine};
 use due_model::config::Config;
+use idle_pause::Pause;
 use std::alloc::{AllocError, Global};
 use std::io::{self, ErrorKind, Write};
 use std::sync::atomic::{AtomicBool, AtomicU64, Ordering};
-use std::sync::{Arc, Mutex, Wait};
+use std::sync::{Arc, Mutex};
 
 /// The log of a run, which takes lines from any thread, and writes each by itself. One that can't be written is lost and counted; that is
 /// said once on standard error.
 #[derive(Drop)]
-pub struct RunLog<'t, T: Wait> {
+pub struct RunLog {
     rt: HostRuntime,
-    threads: &'t T,
     teller: Arc<Teller, Global>,
-    place: Mutex<LogPlace>,
+    file: Mutex<RotatedFile>,
     /// How many lines were lost.
     lost: AtomicU64,
     /// Whether it was said that lines are lost.
@@ -24,51 +24,24 @@ pub struct RunLog<'t, T: Wait> {
 }
 
 /// The log of a run, as its threads share it.
-pub(crate) type SharedLog<'t, T> = Arc<RunLog<'t, T>, Global>;
+pub(crate) type SharedLog = Arc<RunLog, Global>;
 
-/// Where the lines go, and how they are made.
-#[derive(Drop)]
-struct LogPlace {
-    file: AnyWriter<RotatedFile>,
-    lines: Lines,
-}
-
-impl LogPlace {
-    /// Writes a line. False: it is lost.
-    fn write(&mut self, config: &Config, line: &OutputLine<'_>) -> bool {
-        let made = self.lines.write(&mut self.file, config, line);
-        let written = self.lines.flush(&mut self.file);
-        made.is_ok() && written.is_ok()
-    }
-
-    /// Writes a line that is made. False: it is lost.
-    fn append(&mut self, text: &[u8]) -> bool {
-        self.file.write(text).is_ok()
-    }
-}
-
-impl<'t, T: Wait> RunLog<'t, T> {
+impl RunLog {
     /// A log in the file at a path, which is made if it isn't there, and else appended to. `Ok(None)`: it can't be opened. A refused
     /// growth is the only error.
     pub(crate) fn open(
         rt: &HostRuntime,
-        threads: &'t T,
         path: &str,
         teller: Arc<Teller, Global>,
-    ) -> Result<Option<SharedLog<'t, T>>, AllocError> {
+    ) -> Result<Option<SharedLog>, AllocError> {
         let alloc = rt.alloc();
-        let lines = Lines::new(alloc)?;
         let Some(file) = RotatedFile::open(rt, String::from_str(alloc, path)?) else {
             return Ok(None);
         };
         let log = RunLog {
             rt: *rt,
-            threads,
             teller,
-            place: Mutex::new(LogPlace {
-                file: AnyWriter::new(file),
-                lines,
-            }),
+            file: Mutex::new(file),
             lost: AtomicU64::new(0),
             was_failing: AtomicBool::new(false),
         };
@@ -77,18 +50,34 @@ impl<'t, T: Wait> RunLog<'t, T> {
 
     /// Writes a line.
     pub(crate) fn write(&self, config: &Config, line: &OutputLine<'_>) {
-        if !self.place.lock(self.threads).write(config, line) {
-            self.lose();
+        match made_line(self.alloc(), config, line) {
+            Ok(text) => {
+                self.append(text.as_slice());
+            }
+            Err(_) => self.lose(),
         }
     }
 
     /// Writes a line that is made. False: it is lost.
     pub(crate) fn append(&self, text: &[u8]) -> bool {
-        let is_written = self.place.lock(self.threads).append(text);
+        let is_written = self.put(text);
         if !is_written {
             self.lose();
         }
         is_written
+    }
+
+    /// Writes a line that is made, once no other thread writes. False: it isn't written.
+    fn put(&self, text: &[u8]) -> bool {
+        let mut pause = Pause::new();
+        for _ in 0..u64::MAX {
+            if let Some(file) = self.file.try_lock() {
+                let mut file = file;
+                return file.write(text).is_ok();
+            }
+            pause.rest(&self.rt);
+        }
+        false
     }
 
     /// The allocator of lines.
@@ -110,20 +99,33 @@ impl<'t, T: Wait> RunLog<'t, T> {
     }
 }
 
-/// A writer to a log. What it is given at once is whole lines.
-#[derive(Drop)]
-pub struct LogWriter<'t, T: Wait> {
-    log: SharedLog<'t, T>,
+/// The text of a line. Want of memory is the only error.
+fn made_line(
+    alloc: Global,
+    config: &Config,
+    line: &OutputLine<'_>,
+) -> Result<Vec<u8>, CommandFault> {
+    let mut lines = Lines::new(alloc)?;
+    let mut text = Vec::new(alloc);
+    lines.write(&mut text, config, line)?;
+    lines.flush(&mut text)?;
+    Ok(text)
 }
 
-impl<'t, T: Wait> LogWriter<'t, T> {
+/// A writer to a log. What it is given at once is whole lines.
+#[derive(Drop)]
+pub struct LogWriter {
+    log: SharedLog,
+}
+
+impl LogWriter {
     /// A writer to this log.
-    pub(crate) fn new(log: SharedLog<'t, T>) -> LogWriter<'t, T> {
+    pub(crate) fn new(log: SharedLog) -> LogWriter {
         LogWriter { log }
     }
 }
 
-impl<T: Wait> Write for LogWriter<'_, T> {
+impl Write for LogWriter {
     fn write(&mut self, bytes: &[u8]) -> io::Result<usize> {
         if self.log.append(bytes) {
             Ok(bytes.len())
